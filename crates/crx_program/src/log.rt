@@ -174,8 +174,8 @@ impl<S: Sink> Sink for Logged<S> {
     ) };
 }
 
-/// Opens the file of a name for reading. This call and [`open_to_write`] alone make a device that has a name, which is that of the file that
-/// they ask the machine for.
+/// Opens the file of a name for reading. This call and [`open_to_write`] alone make a device that has a name: the one that they were given,
+/// and hand on to the machine.
 pub fn open_to_read<H: Files>(files: &H, name: &str) -> io::Result<Logged<Std<H::File>>>
     ensures name { IfOk result (λ device. device.opening.name.bytes ≡ name.now) }
     ensures log { IfOk result (λ device. device.log.bytes ≡ []) }

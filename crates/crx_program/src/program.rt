@@ -4,7 +4,7 @@ ghost use Rattle.std.specs.Prelude.{◌≡◌, ◌⊎◌, IfOk, None, is_some, m
 ghost use Rattle.std.specs.Option.{option_map_or};
 ghost use Rattle.crx_options.specs.meaning.Choices.{choices_of, is_date};
 ghost use Rattle.crx_command.specs.meaning.Planning.{Help, Refusal, Refused, Run, plan_of};
-ghost use Rattle.crx_program.specs.meaning.Jobs.{IsChosen, IsJobDone, IsFiltered, IsFilteredFrom, IsFilteredInto, IsFilteredToFile, IsMadeBy, IsNotBegun};
+ghost use Rattle.crx_program.specs.meaning.Jobs.{IsChosen, IsJobDone, IsJobEnded, IsFiltered, IsFilteredFrom, IsFilteredInto, IsFilteredToFile, IsMadeBy, IsNotBegun};
 ghost use Rattle.crx_program.specs.meaning.Program.{IsHelped, IsRefused, IsShown, at_start};
 ghost use Rattle.crx_runs.specs.meaning.Spans.{span, reader_span};
 
@@ -23,7 +23,7 @@ use std::alloc::{AllocError, Global};
 use std::fs::OpenOptions;
 use std::io;
 use std::io::{BufWriter, ErrorKind, Write};
-use std::rt::Files;
+use std::rt::{Clock, Files};
 
 /// A file that is read, as a device that knows its name and what its reads gave.
 pub type SourceFile<F> = Logged<Std<F>>;
@@ -42,7 +42,30 @@ pub struct Ended<F: Write + Drop> {
     pub target: Option<TargetFile<F>>,
 }
 
+/// Hands on what a buffer still holds. A run that ended since a message couldn't be written hasn't flushed what it wrote before. After a
+/// write that failed nothing is written here.
+pub(crate) fn hand_on<F: Write + Drop>(device: TargetFile<F>) {
+    let mut buffer = device.into_inner().into_inner();
+    let _ = buffer.flush();
+    let _ = buffer.into_parts();
+}
+
 impl<F: Write + Drop> Ended<F> {
+    /// Hands on what the buffer of the output file still holds, closes the files, and answers the exit status.
+    fn close(self) -> u8
+        ensures status { result ≡ self.status }
+    {
+        let Ended {
+            status,
+            source: _,
+            target,
+        } = self;
+        if let Some(file) = target {
+            hand_on(file);
+        }
+        status
+    }
+
     /// A run that opened no file.
     fn without_files(status: u8) -> Ended<F>
         ensures status { result.status ≡ status }
@@ -254,9 +277,8 @@ fn show_help<W: Sink, M: Sink>(text: &Word, output: &mut W, messages: &mut M) ->
     }
 }
 
-/// Does what the arguments ask for, and answers the exit status and the devices of the files that it opened; the arguments come without
-/// the program's name. `input` and `output` stand for standard input and standard output, and `moment` is what the clock gave: the default
-/// date is its own, and empty where there is none.
+/// Does what the arguments ask for, at the moment that the clock gives, and answers the exit status; the arguments come without the
+/// program's name. `input` and `output` stand for standard input and standard output.
 ///
 /// A run's status is that of its filter: 0 where no message was written, 1 where an error ended it, and
 /// 2 where there were warnings alone or, for `check`, where the file isn't standard. Help is written to
@@ -267,7 +289,37 @@ fn show_help<W: Sink, M: Sink>(text: &Word, output: &mut W, messages: &mut M) ->
 ///
 /// The default date is made first, where one is needed; then the input file is opened, then the output
 /// file is made.
-pub fn run<H: Files, R: Source, W: Sink, M: Sink>(
+pub fn run<H: Files + Clock, R: Source, W: Sink, M: Sink>(
+    rt: &H,
+    alloc: Global,
+    words: Vec<String>,
+    input: &mut R,
+    output: &mut W,
+    messages: &mut M,
+) -> u8
+    ensures refused { (refusal : Refusal) → plan_of (map string_bytes words.items) ≡ Refused refusal
+        → IsRefused (span M.Sink messages.old messages.new) refusal result
+        × (input.new ≡ input.old) × (output.new ≡ output.old) }
+    ensures help { plan_of (map string_bytes words.items) ≡ Help
+        → IsHelped (span W.Sink output.old output.new) (span M.Sink messages.old messages.new) result
+        × (input.new ≡ input.old) }
+    ensures input { (job : Job) → plan_of (map string_bytes words.items) ≡ Run job
+        → is_some job.source ≡ true → input.new ≡ input.old }
+    ensures output { (job : Job) → plan_of (map string_bytes words.items) ≡ Run job
+        → is_some job.target ≡ true → output.new ≡ output.old }
+    ensures done { (job : Job) → plan_of (map string_bytes words.items) ≡ Run job
+        → IsJobEnded ⟦<SourceFile<H::File> as Source>⟧ ⟦<TargetFile<H::File> as Sink>⟧ job
+        (reader_span R.Source input.old input.new) (span W.Sink output.old output.new)
+        (span M.Sink messages.old messages.new) result
+        (λ target. (input.new ≡ input.old) × (output.new ≡ output.old) × (target ≡ None)) }
+{
+    let moment = Timestamp::now(rt).ok();
+    run_with_files(rt, alloc, moment, words, input, output, messages).close()
+}
+
+/// Does the same at a moment that is given, and answers the devices of the files that it opened too (see [`run`]). The default date is
+/// that of the moment, and empty where there is none.
+pub fn run_with_files<H: Files, R: Source, W: Sink, M: Sink>(
     rt: &H,
     alloc: Global,
     moment: Option<Timestamp>,
@@ -278,10 +330,10 @@ pub fn run<H: Files, R: Source, W: Sink, M: Sink>(
 ) -> Ended<H::File>
     ensures refused { (refusal : Refusal) → plan_of (map string_bytes words.items) ≡ Refused refusal
         → IsRefused (span M.Sink messages.old messages.new) refusal result.status
-        × (input.new ≡ input.old) × (output.new ≡ output.old) }
+        × (input.new ≡ input.old) × (output.new ≡ output.old) × (result.source ≡ None) × (result.target ≡ None) }
     ensures help { plan_of (map string_bytes words.items) ≡ Help
         → IsHelped (span W.Sink output.old output.new) (span M.Sink messages.old messages.new) result.status
-        × (input.new ≡ input.old) }
+        × (input.new ≡ input.old) × (result.source ≡ None) × (result.target ≡ None) }
     ensures input { (job : Job) → plan_of (map string_bytes words.items) ≡ Run job
         → is_some job.source ≡ true → input.new ≡ input.old }
     ensures output { (job : Job) → plan_of (map string_bytes words.items) ≡ Run job

@@ -8,7 +8,7 @@ ghost use Rattle.crx_program.specs.meaning.Streams.{FromUnused, IsExact, IsPrefi
 ghost use Rattle.crx_runs.specs.meaning.Spans.{reader_span, span};
 
 use crate::log::Logged;
-use crate::program::{SourceFile, TargetFile, run};
+use crate::program::{SourceFile, TargetFile, hand_on, run_with_files};
 use crx_command::job::Job;
 use crx_lines::{Sink, Source, Std};
 use crx_runs::UntilFailure;
@@ -37,7 +37,7 @@ pub struct Whole<I, O: Write + Drop, E, F: Write + Drop> {
     pub target: Option<TargetFile<F>>,
 }
 
-/// Does what the arguments ask for, over standard streams (see [`run`]), and hands these back.
+/// Does what the arguments ask for, over standard streams (see [`run`](crate::program::run)), and hands these back.
 pub fn run_over<H: Files, I: Read, O: Write + Drop, E: Write>(
     rt: &H,
     alloc: Global,
@@ -50,12 +50,13 @@ pub fn run_over<H: Files, I: Read, O: Write + Drop, E: Write>(
     ensures refused { (refusal : Refusal) → plan_of (map string_bytes words.items) ≡ Refused refusal
         → FromUnused stderr (λ messages.
         IsRefused (span ⟦<Logged<Std<E>> as Sink>⟧ messages result.messages) refusal result.status)
-        × (result.input.log.bytes ≡ []) × (result.output.log.bytes ≡ []) }
+        × (result.input.log.bytes ≡ []) × (result.output.log.bytes ≡ []) × (result.source ≡ None)
+        × (result.target ≡ None) }
     ensures help { plan_of (map string_bytes words.items) ≡ Help
         → FromUnused stdout (λ output. FromUnused stderr (λ messages.
         IsHelped (span ⟦<OutputDevice<O> as Sink>⟧ output result.output)
         (span ⟦<Logged<Std<E>> as Sink>⟧ messages result.messages) result.status))
-        × (result.input.log.bytes ≡ []) }
+        × (result.input.log.bytes ≡ []) × (result.source ≡ None) × (result.target ≡ None) }
     ensures done { (job : Job) → plan_of (map string_bytes words.items) ≡ Run job
         → FromUnused stdin (λ input. FromUnused stdout (λ output.
         FromUnused stderr (λ messages.
@@ -72,7 +73,7 @@ pub fn run_over<H: Files, I: Read, O: Write + Drop, E: Write>(
     let mut input = Logged::new(Std::new(stdin));
     let mut output = Logged::new(Std::new(stdout));
     let mut messages = Logged::new(Std::new(stderr));
-    let ended = run(
+    let ended = run_with_files(
         rt,
         alloc,
         moment,
@@ -89,14 +90,6 @@ pub fn run_over<H: Files, I: Read, O: Write + Drop, E: Write>(
         source: ended.source,
         target: ended.target,
     }
-}
-
-/// Hands on what a buffer still holds. A run that ended since a message couldn't be written hasn't flushed what it wrote before. After a
-/// write that failed nothing is written here.
-fn hand_on<O: Write + Drop>(device: OutputDevice<O>) {
-    let mut buffer = device.into_inner().into_inner();
-    let _ = buffer.flush();
-    let _ = buffer.into_parts();
 }
 
 impl<I: Drop, O: Write + Drop, E: Drop, F: Write + Drop> Whole<I, O, E, F> {

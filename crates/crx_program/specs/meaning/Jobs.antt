@@ -160,3 +160,10 @@ abbrev pub IsJobDone : {F G : Type 0} → SourceGhosts (Logged (Std F)) → Sink
 IsJobDone sources sink moment job source target input output messages status untouched =
     IsBegun sources sink moment job source target input output messages status
     ⊎ IsNotBegun job messages status untouched
+
+-- a job, done or not begun, at some moment and through some devices of the files that it names
+abbrev pub IsJobEnded : {F G : Type 0} → SourceGhosts (Logged (Std F)) → SinkGhosts (Logged G) → Job
+    → Input → Device → Device → ℕ → (Option (Logged G) → Type 0) → Type 0
+IsJobEnded {F = F} {G = G} sources sink job input output messages status untouched =
+    (moment : Option Timestamp) × (source : Option (Logged (Std F))) × (target : Option (Logged G))
+    × IsJobDone sources sink moment job source target input output messages status (untouched target)

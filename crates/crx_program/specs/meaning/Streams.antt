@@ -64,7 +64,8 @@ IsExact moment job whole = (given : List ℕ) × (written : List ℕ)
     × WritesTook job.target job.force whole.target whole.output written × IsFlushedLast whole.target whole.output
     × IsAllOf moment job given written whole.messages.log.bytes whole.status
 
--- the run wrote a prefix of what is defined for what it read; or it read and wrote nothing
+-- the run wrote a prefix of what is defined for what it read; or no filter ran: standard input
+-- gave nothing, standard output took nothing, and no output file is handed back
 abbrev pub IsPrefix : {I O E F : Type 0} → Option Timestamp → Job → Whole I O E F → Type 0
 IsPrefix moment job whole =
     ((given : List ℕ) × (written : List ℕ) × ReadsGave job.source whole.source whole.input given

@@ -5,20 +5,22 @@ use Rattle.crx_program.proofs.streams.run_over.Goals as goal
 
 pub returns-clause-refused : goal.returns-clause-refused
 returns-clause-refused g c = λ refusal e.
-    let refused = c.run-ended.ensures.refused refusal e in (
+    let refused = c.run_with_files-ended.ensures.refused refusal e in (
       (
         c.new-messages.result,
         (fresh c.args.stderr c.new-3.result c.new-messages.result c.new-messages.ensures.inner c.new-messages.ensures.log
             c.new-3.ensures.inner c.new-3.ensures.failures c.new-3.ensures.ends c.new-3.ensures.flushes),
         refused.0,
       ),
-      same_log c.new-input.result c.run-ended.new.input refused.1 c.new-input.ensures.log,
-      same_log c.new-output.result c.run-ended.new.output refused.2 c.new-output.ensures.log,
+      same_log c.new-input.result c.run_with_files-ended.new.input refused.1 c.new-input.ensures.log,
+      same_log c.new-output.result c.run_with_files-ended.new.output refused.2 c.new-output.ensures.log,
+      refused.3,
+      refused.4,
     )
 
 pub returns-clause-help : goal.returns-clause-help
 returns-clause-help g c = λ e.
-    let helped = c.run-ended.ensures.help e in (
+    let helped = c.run_with_files-ended.ensures.help e in (
       (
         c.new-output.result,
         (fresh c.args.stdout c.new-2.result c.new-output.result c.new-output.ensures.inner c.new-output.ensures.log
@@ -30,7 +32,9 @@ returns-clause-help g c = λ e.
           helped.0,
         ),
       ),
-      same_log c.new-input.result c.run-ended.new.input helped.1 c.new-input.ensures.log,
+      same_log c.new-input.result c.run_with_files-ended.new.input helped.1 c.new-input.ensures.log,
+      helped.2,
+      helped.3,
     )
 
 pub returns-clause-done : goal.returns-clause-done
@@ -46,7 +50,7 @@ returns-clause-done g c = λ job e. (
       c.new-messages.result,
       (fresh c.args.stderr c.new-3.result c.new-messages.result c.new-messages.ensures.inner c.new-messages.ensures.log
           c.new-3.ensures.inner c.new-3.ensures.failures c.new-3.ensures.ends c.new-3.ensures.flushes),
-      c.run-ended.ensures.done job e,
+      c.run_with_files-ended.ensures.done job e,
     ),
   ),
 )
@@ -56,21 +60,21 @@ returns-clause-exact g c = λ job e well.
     exact_run g.H.File.Read.remaining
     (writer_contents (λ (w : UntilFailure g.row.H-File.Denot). g.H.File.Write.contents w.inner)) g.I.Read.remaining
     (writer_contents (λ (w : UntilFailure g.row.O.Denot). g.O.Write.contents w.inner)) g.E.Write.contents
-    c.args.moment job c.run-ended.result.source c.run-ended.result.target
-    c.new-input.result c.run-ended.new.input c.new-output.result c.run-ended.new.output
-    c.new-messages.result c.run-ended.new.messages
+    c.args.moment job c.run_with_files-ended.result.source c.run_with_files-ended.result.target
+    c.new-input.result c.run_with_files-ended.new.input c.new-output.result c.run_with_files-ended.new.output
+    c.new-messages.result c.run_with_files-ended.new.messages
     c.new-input.ensures.log c.new-output.ensures.log c.new-messages.ensures.log
-    (c.run-ended.ensures.input job e) (c.run-ended.ensures.output job e) c.run-ended.result.status
-    _ (c.run-ended.ensures.done job e) well
+    (c.run_with_files-ended.ensures.input job e) (c.run_with_files-ended.ensures.output job e) c.run_with_files-ended.result.status
+    _ (c.run_with_files-ended.ensures.done job e) well
 
 pub returns-clause-front : goal.returns-clause-front
 returns-clause-front g c = λ job e.
     front_run g.H.File.Read.remaining
     (writer_contents (λ (w : UntilFailure g.row.H-File.Denot). g.H.File.Write.contents w.inner)) g.I.Read.remaining
     (writer_contents (λ (w : UntilFailure g.row.O.Denot). g.O.Write.contents w.inner)) g.E.Write.contents
-    c.args.moment job c.run-ended.result.source c.run-ended.result.target
-    c.new-input.result c.run-ended.new.input c.new-output.result c.run-ended.new.output
-    c.new-messages.result c.run-ended.new.messages
+    c.args.moment job c.run_with_files-ended.result.source c.run_with_files-ended.result.target
+    c.new-input.result c.run_with_files-ended.new.input c.new-output.result c.run_with_files-ended.new.output
+    c.new-messages.result c.run_with_files-ended.new.messages
     c.new-input.ensures.log c.new-output.ensures.log c.new-messages.ensures.log
-    (c.run-ended.ensures.input job e) (c.run-ended.ensures.output job e) c.run-ended.result.status
-    (c.run-ended.ensures.done job e)
+    (c.run_with_files-ended.ensures.input job e) (c.run_with_files-ended.ensures.output job e) c.run_with_files-ended.result.status
+    (c.run_with_files-ended.ensures.done job e)
