@@ -1,15 +1,19 @@
 //! The program's arguments and its standard streams.
 
-ghost use Rattle.std.specs.Prelude.{◌≡◌, map, string_bytes};
-ghost use Rattle.crx_command.specs.meaning.Planning.{Run, plan_of};
-ghost use Rattle.crx_program.specs.meaning.Streams.{IsExact, IsPrefix};
+ghost use Rattle.std.specs.Prelude.{◌≡◌, [], None, map, string_bytes};
+ghost use Rattle.crx_command.specs.meaning.Planning.{Help, Refusal, Refused, Run, plan_of};
+ghost use Rattle.crx_program.specs.meaning.Jobs.{IsJobDone};
+ghost use Rattle.crx_program.specs.meaning.Program.{IsHelped, IsRefused};
+ghost use Rattle.crx_program.specs.meaning.Streams.{FromUnused, IsExact, IsPrefix};
+ghost use Rattle.crx_runs.specs.meaning.Spans.{reader_span, span};
 
 use crate::{Job, UsageFault, Word};
 use crx_faults::Fault;
-use crx_lines::Std;
-use crx_program::log::OUTPUT_BUFFER;
+use crx_lines::{Sink, Source, Std};
+use crx_program::log::{Logged, OUTPUT_BUFFER};
+use crx_program::program::{SourceFile, TargetFile};
 use crx_program::refusal::{refuse, report_at_start};
-use crx_program::streams::{Whole, run_over};
+use crx_program::streams::{OutputDevice, Whole, run_over};
 use crx_runs::UntilFailure;
 use jiff::Timestamp;
 use std::alloc::Global;
@@ -38,27 +42,38 @@ fn words_given(rt: &HostRuntime) -> Result<Vec<String>, UsageFault> {
     }
 }
 
-/// Does what the arguments ask for, over the standard streams (see [`run`](crate::run)), and hands these back.
+/// Does what the arguments ask for, over the standard streams (see [`run_over`]), and hands these back.
 pub fn run_streams(
     rt: &HostRuntime,
     moment: Option<Timestamp>,
     words: Vec<String>,
+    stdin: Stdin,
     stdout: BufWriter<UntilFailure<Stdout>>,
+    stderr: Stderr,
 ) -> Whole<Stdin, Stdout, Stderr, File>
+    ensures refused { (refusal : Refusal) → plan_of (map string_bytes words.items) ≡ Refused refusal
+        → FromUnused stderr (λ messages.
+        IsRefused (span ⟦<Logged<Std<Stderr>> as Sink>⟧ messages result.messages) refusal result.status)
+        × (result.input.log.bytes ≡ []) × (result.output.log.bytes ≡ []) × (result.source ≡ None)
+        × (result.target ≡ None) }
+    ensures help { plan_of (map string_bytes words.items) ≡ Help
+        → FromUnused stdout (λ output. FromUnused stderr (λ messages.
+        IsHelped (span ⟦<OutputDevice<Stdout> as Sink>⟧ output result.output)
+        (span ⟦<Logged<Std<Stderr>> as Sink>⟧ messages result.messages) result.status))
+        × (result.input.log.bytes ≡ []) × (result.source ≡ None) × (result.target ≡ None) }
+    ensures done { (job : Job) → plan_of (map string_bytes words.items) ≡ Run job
+        → FromUnused stdin (λ input. FromUnused stdout (λ output. FromUnused stderr (λ messages.
+        IsJobDone ⟦<SourceFile<File> as Source>⟧ ⟦<TargetFile<File> as Sink>⟧
+        moment job result.source result.target (reader_span ⟦<Logged<Std<Stdin>> as Source>⟧ input result.input)
+        (span ⟦<OutputDevice<Stdout> as Sink>⟧ output result.output)
+        (span ⟦<Logged<Std<Stderr>> as Sink>⟧ messages result.messages) result.status
+        ((result.input ≡ input) × (result.output ≡ output) × (result.target ≡ None))))) }
     ensures exact { (job : Job) → plan_of (map string_bytes words.items) ≡ Run job
         → (result.status ≡ 1 → ⊥) → IsExact moment job result }
     ensures front { (job : Job) → plan_of (map string_bytes words.items) ≡ Run job
         → IsPrefix moment job result }
 {
-    run_over(
-        rt,
-        rt.alloc(),
-        moment,
-        words,
-        rt.stdin(),
-        stdout,
-        rt.stderr(),
-    )
+    run_over(rt, rt.alloc(), moment, words, stdin, stdout, stderr)
 }
 
 /// Does what the arguments ask for, over the standard streams, and answers the exit status. The output goes through a buffer.
@@ -86,5 +101,6 @@ pub fn run_host(rt: &HostRuntime) -> ExitCode {
         return ExitCode::from(report_at_start(&mut messages, Fault::OutOfMemory));
     };
     let moment = Timestamp::now(rt).ok();
-    ExitCode::from(run_streams(rt, moment, words, buffer).close())
+    let whole = run_streams(rt, moment, words, rt.stdin(), buffer, rt.stderr());
+    ExitCode::from(whole.close())
 }
