@@ -78,7 +78,7 @@ CHAPTERS = (
     Chapter(
         "Arguments",
         "What the arguments of the program ask for, what is done, and what is shown where nothing is run.",
-        (("crx_program::run_over", "*"), ("crx_program::run", "*")),
+        (("rnxcmp::run_streams", "*"), ("crx_program::run", "*")),
     ),
     Chapter(
         "The library for C",
