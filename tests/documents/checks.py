@@ -65,6 +65,12 @@ def clauses_found():
     return wrong
 
 
+def clauses_without_names():
+    """The public functions that have a clause (`ensures`) without a name."""
+    functions = [it for crate in crates() for it in public_functions(crate)]
+    return [f"{it.name}: a clause without a name" for it in functions if any(clause.kind == "ensures" and clause.name == "_" for clause in it.clauses)]
+
+
 def contracts():
     """The clauses (`ensures`) of each public function: under its name, and under that of its type and it."""
     found = {}
@@ -273,6 +279,7 @@ def checks(program):
     yield "modules of tests", modules
     yield "made pages", made_pages
     yield "clauses of the sources", clauses_found
+    yield "clauses of public functions", clauses_without_names
     yield "chapters", chapters
     yield "docs/pictures", pictures
     yield "docs/pictures/epoch.txt", lambda: example(program)
