@@ -180,9 +180,10 @@ int rnxcmp_check(const void *input, size_t input_length, void *output, size_t ou
  *     }
  *
  * What was taken in all, and then what is ready, is what the call over the whole input gives: the texts of the lines so far, and after
- * the end all of both texts, with the same status, `code` and `line`. After RNXCMP_OUTPUT_LIMIT and RNXCMP_INPUT_TOO_LONG it is what the
- * first lines make, and after RNXCMP_OUT_OF_MEMORY a prefix of it; the message of RNXCMP_INPUT_TOO_LONG comes after the others, and that
- * of RNXCMP_OUT_OF_MEMORY may. It never has more than `max_output` bytes of output (0: no limit).
+ * the end all of both texts, with the status, `code` and `line` that such a call answers where its room is large enough. After
+ * RNXCMP_OUTPUT_LIMIT and RNXCMP_INPUT_TOO_LONG it is what the first lines make, and after RNXCMP_OUT_OF_MEMORY a prefix of it; the message
+ * of RNXCMP_INPUT_TOO_LONG comes after the others, and that of RNXCMP_OUT_OF_MEMORY may. It never has more than `max_output` bytes of
+ * output (0: no limit).
  *
  * What a handle keeps is bounded, whatever was fed: of the last line at most 8194 bytes, as long as it has no line end (a longer one is
  * too long, whatever follows); what the run needs of earlier lines; and what was made and not taken, which is less than RNXCMP_READY
