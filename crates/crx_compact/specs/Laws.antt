@@ -10,11 +10,11 @@ use Rattle.crx_rinex.specs.meaning.Observations.{Epoch}
 use Rattle.crx_header.specs.meaning.ObservationTypes.{Count}
 use Rattle.crx_faults.specs.declared.limits.TheConstants.{WRITTEN_ORDER, TYPES_LIMIT}
 use Rattle.crx_rinex.specs.meaning.Epochs.{IsWholeEpoch}
-use Rattle.crx_arcs.specs.meaning.Differences.{code_at}
-use Rattle.crx_history.specs.meaning.Compaction.{Marked, since_full, run_of, arc_of, clock_arc, compact_epoch}
-use Rattle.crx_history.specs.meaning.Compaction.{epoch_line}
-use Rattle.crx_history.specs.Tails.{Tail, tail_of, IsBoundedTail}
-use Rattle.crx_history.specs.Steps.{no_tail, lines_after_tail, tail_after}
+use Rattle.crx_compact.specs.meaning.Differences.{code_at}
+use Rattle.crx_compact.specs.meaning.Compaction.{Marked, since_full, run_of, arc_of, clock_arc, compact_epoch}
+use Rattle.crx_compact.specs.meaning.Compaction.{epoch_line}
+use Rattle.crx_compact.specs.Tails.{Tail, tail_of, IsBoundedTail}
+use Rattle.crx_compact.specs.Steps.{no_tail, lines_after_tail, tail_after}
 use Rattle.crx_header.specs.meaning.EpochColumns.{begins_epoch, is_event_line}
 
 -- marks laid over one another by patching line after line, the newest last

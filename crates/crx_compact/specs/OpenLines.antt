@@ -6,15 +6,15 @@ use Rattle.crx_columns.specs.meaning.Columns.{columns}
 use Rattle.crx_faults.specs.declared.limits.TheConstants.{HEAD_WIDTH}
 use Rattle.crx_faults.specs.declared.fault.Fault.TheVariants.{NotAnEpoch}
 use Rattle.crx_rinex.specs.meaning.Observations.{Row, Epoch}
-use Rattle.crx_history.specs.meaning.EpochText.{Satellite}
-use Rattle.crx_history.specs.Tails.{RowTail, Tail}
-use Rattle.crx_history.specs.OpenEpochs.{HeldClock, OpenRawEpoch, RawStep, Going, Faulty, whole_or_awaiting, line_step}
-use Rattle.crx_history.specs.OpenEpochs.{ColumnsState, Idle, Reading}
-use Rattle.crx_history.specs.HeldRows.{HeldRow, HaveRows}
-use Rattle.crx_history.specs.ShownRows.{shown_epoch}
+use Rattle.crx_compact.specs.meaning.EpochText.{Satellite}
+use Rattle.crx_compact.specs.Tails.{RowTail, Tail}
+use Rattle.crx_compact.specs.OpenEpochs.{HeldClock, OpenRawEpoch, RawStep, Going, Faulty, whole_or_awaiting, line_step}
+use Rattle.crx_compact.specs.OpenEpochs.{ColumnsState, Idle, Reading}
+use Rattle.crx_compact.specs.HeldRows.{HeldRow, HaveRows}
+use Rattle.crx_compact.specs.ShownRows.{shown_epoch}
 use Rattle.crx_compact.specs.declared.incoming.Stage.{Stage}
 use Rattle.crx_compact.specs.declared.incoming.Stage.TheVariants.{Unbegun, Clock, Rows}
-use Rattle.crx_history.specs.RowsSoFar.{AreAnnounced, AreRowsSoFar}
+use Rattle.crx_compact.specs.RowsSoFar.{AreAnnounced, AreRowsSoFar}
 
 -- an open epoch, but for the tail that its lines are read after
 pub record OpenLines : Type 0 where

@@ -4,10 +4,10 @@ use Rattle.crx_faults.specs.meaning.Seen.{ReadLine}
 use Rattle.crx_rinex.specs.meaning.Observations.{Epoch}
 use Rattle.crx_header.specs.meaning.ObservationTypes.{Count}
 use Rattle.crx_rinex.specs.meaning.Places.{Here}
-use Rattle.crx_history.specs.meaning.Expansion.{RawEpoch}
-use Rattle.crx_history.specs.meaning.CompactPlaces.{ReadEpoch, epoch_at}
-use Rattle.crx_history.specs.Tails.{tail_left}
-use Rattle.crx_history.specs.OpenEpochs.{OpenRawEpoch, open_raw_with, ColumnsState, Idle, Reading}
+use Rattle.crx_compact.specs.meaning.Expansion.{RawEpoch}
+use Rattle.crx_compact.specs.meaning.CompactPlaces.{ReadEpoch, epoch_at}
+use Rattle.crx_compact.specs.Tails.{tail_left}
+use Rattle.crx_compact.specs.OpenEpochs.{OpenRawEpoch, open_raw_with, ColumnsState, Idle, Reading}
 
 -- an epoch whose lines have come in part: these lines, by these counts of types, after the raw epochs accepted since
 -- the reader's state was last emptied

@@ -11,17 +11,17 @@ use Rattle.crx_header.specs.ObservationTypes.{AreCounts}
 use Rattle.crx_rinex.specs.meaning.Places.{Place, Here, Wrong, Wanted, then_place}
 use Rattle.crx_faults.specs.declared.limits.TheConstants.{WRITTEN_ORDER, ORDER_LIMIT}
 use Rattle.crx_rinex.specs.meaning.Epochs.{IsWholeEpoch}
-use Rattle.crx_arcs.specs.meaning.Differences.{code_at}
-use Rattle.crx_history.specs.meaning.Compaction.{Marked, since_full, run_of, clock_arc, codes_of, indicators_before}
-use Rattle.crx_history.specs.meaning.Compaction.{epoch_line, compact_epoch}
-use Rattle.crx_history.specs.meaning.Expansion.{RawRow, RawEpoch, block_of, raw_row_named}
-use Rattle.crx_history.specs.Expansion.{epoch_from}
-use Rattle.crx_history.specs.meaning.CompactPlaces.{ReadEpoch, epoch_at}
-use Rattle.crx_history.specs.Tails.{Tail, IsBoundedTail, tail_of, tail_of_block, tail_left, tail_or_nothing}
-use Rattle.crx_history.specs.Steps.{raw_tail_after}
-use Rattle.crx_history.specs.OpenEpochs.{epoch_after, OpenRawEpoch, IsBoundedOpen, IsBoundedStep, first_step, next_step}
-use Rattle.crx_history.specs.OpenEpochs.{placed_as, held_after, place_of_step, place_by_steps, open_raw_after}
-use Rattle.crx_history.specs.OpenEpochs.{open_raw_with}
+use Rattle.crx_compact.specs.meaning.Differences.{code_at}
+use Rattle.crx_compact.specs.meaning.Compaction.{Marked, since_full, run_of, clock_arc, codes_of, indicators_before}
+use Rattle.crx_compact.specs.meaning.Compaction.{epoch_line, compact_epoch}
+use Rattle.crx_compact.specs.meaning.Expansion.{RawRow, RawEpoch, block_of, raw_row_named}
+use Rattle.crx_compact.specs.Expansion.{epoch_from}
+use Rattle.crx_compact.specs.meaning.CompactPlaces.{ReadEpoch, epoch_at}
+use Rattle.crx_compact.specs.Tails.{Tail, IsBoundedTail, tail_of, tail_of_block, tail_left, tail_or_nothing}
+use Rattle.crx_compact.specs.Steps.{raw_tail_after}
+use Rattle.crx_compact.specs.OpenEpochs.{epoch_after, OpenRawEpoch, IsBoundedOpen, IsBoundedStep, first_step, next_step}
+use Rattle.crx_compact.specs.OpenEpochs.{placed_as, held_after, place_of_step, place_by_steps, open_raw_after}
+use Rattle.crx_compact.specs.OpenEpochs.{open_raw_with}
 use Rattle.crx_compact.specs.Laws.{AreWhole}
 
 -- ---- reading what was written

@@ -6,7 +6,7 @@ ghost use Rattle.std.specs.Io.BufRead.{Rests};
 ghost use Rattle.std.specs.Option.{option_copied};
 ghost use Rattle.crx_compact.specs.contracts.coded.Coded.{the_row};
 
-use crx_history::lines::Lines;
+use crate::lines::Lines;
 use crx_rinex::Epoch;
 use std::marker::Model;
 

@@ -7,24 +7,24 @@ ghost use Rattle.std.specs.Prelude.{◌⊎◌};
 ghost use Rattle.crx_faults.specs.meaning.Seen.{Content, ReadLine};
 ghost use Rattle.crx_header.specs.meaning.ObservationTypes.{Count};
 ghost use Rattle.crx_rinex.specs.meaning.Places.{Wrong};
-ghost use Rattle.crx_history.specs.meaning.Expansion.{RawEpoch};
-ghost use Rattle.crx_history.specs.meaning.CompactPlaces.{epoch_at};
+ghost use Rattle.crx_compact.specs.meaning.Expansion.{RawEpoch};
+ghost use Rattle.crx_compact.specs.meaning.CompactPlaces.{epoch_at};
 ghost use Rattle.crx_compact.specs.ReadBlocks.{HasReadTo, IsReading};
 ghost use Rattle.crx_faults.specs.declared.limits.TheConstants.{LINE_LIMIT};
 ghost use Rattle.crx_header.specs.meaning.EpochColumns.{begins_epoch, is_event_line};
-ghost use Rattle.crx_history.specs.OpenEpochs.{awaits_row, is_faulty, is_idle, makes_epoch, tail_held, first_step, step_in, Faulty, HasMade, HasPrintedLines};
-ghost use Rattle.crx_history.specs.OpenEpochs.ColumnsState.{Idle};
-ghost use Rattle.crx_history.specs.meaning.Compaction.{Marked, compact_epoch};
-ghost use Rattle.crx_history.specs.Tails.{tail_left, tail_or_nothing};
-ghost use Rattle.crx_history.specs.Steps.{lines_after_tail, no_tail, tail_after, tail_written_after};
+ghost use Rattle.crx_compact.specs.OpenEpochs.{awaits_row, is_faulty, is_idle, makes_epoch, tail_held, first_step, step_in, Faulty, HasMade, HasPrintedLines};
+ghost use Rattle.crx_compact.specs.OpenEpochs.ColumnsState.{Idle};
+ghost use Rattle.crx_compact.specs.meaning.Compaction.{Marked, compact_epoch};
+ghost use Rattle.crx_compact.specs.Tails.{tail_left, tail_or_nothing};
+ghost use Rattle.crx_compact.specs.Steps.{lines_after_tail, no_tail, tail_after, tail_written_after};
 
 use crate::coded::Coded;
 use crate::expanded_lines::ExpandedLines;
 use crate::incoming::Incoming;
 use crx_faults::Fault;
 use crx_header::Types;
-use crx_history::kept::KeptEpoch;
-use crx_history::lines::Lines;
+use crate::kept::KeptEpoch;
+use crate::lines::Lines;
 use crx_rinex::{Epoch, begins_epoch};
 use crx_text::Text;
 use std::alloc::{AllocError, Global};
@@ -49,9 +49,9 @@ pub struct Columns {
 
 impl Model for Columns {
     ghost use Rattle.std.specs.Prelude.{Some, None, ◌≡◌, if◌then◌else◌, false};
-    ghost use Rattle.crx_history.specs.OpenEpochs.{ColumnsState};
+    ghost use Rattle.crx_compact.specs.OpenEpochs.{ColumnsState};
     ghost use Rattle.crx_compact.specs.OpenLines.{columns_state, have_all_come};
-    ghost use Rattle.crx_history.specs.Steps.{no_tail};
+    ghost use Rattle.crx_compact.specs.Steps.{no_tail};
 
     ghost Value = { ColumnsState };
 

@@ -9,12 +9,12 @@ ghost use Rattle.crx_columns.specs.meaning.Columns.{columns};
 ghost use Rattle.crx_header.specs.meaning.EpochColumns.{epoch_count};
 ghost use Rattle.crx_rinex.specs.meaning.Printing.{printed_epoch, printed_row};
 ghost use Rattle.crx_faults.specs.meaning.Lines.{lines_text};
-ghost use Rattle.crx_history.specs.ShownRows.{shown_epoch, shown_row};
+ghost use Rattle.crx_compact.specs.ShownRows.{shown_epoch, shown_row};
 ghost use Rattle.crx_compact.specs.contracts.expanded_lines.CopiedLine.{the_row as row_of_copied};
 ghost use Rattle.crx_compact.specs.contracts.expanded_lines.ExpandedLines.{the_row};
 
-use crx_history::kept::KeptEpoch;
-use crx_history::lines::Lines;
+use crate::kept::KeptEpoch;
+use crate::lines::Lines;
 use crx_text::Text;
 use std::alloc::{AllocError, Global};
 use std::marker::Model;

@@ -3,9 +3,9 @@
 ghost use Rattle.std.specs.Option.{option_copied};
 ghost use Rattle.std.specs.Prelude.{slice_get, ◌≡◌, ◌≤◌, ◌<◌, ◌⊎◌, None, Some, Ok, Err, length, is_some, false, true, OnOk, OnErr, IfOk, IfErr, IfSome, []};
 ghost use Rattle.crx_faults.specs.declared.limits.TheConstants.{LINE_LIMIT};
-ghost use Rattle.crx_history.specs.Tails.{Tail};
-ghost use Rattle.crx_history.specs.OpenEpochs.{opened_raw, is_faulty, Whole, Faulty};
-ghost use Rattle.crx_history.specs.HeldRows.{row_after, HasRow, IsNextRow};
+ghost use Rattle.crx_compact.specs.Tails.{Tail};
+ghost use Rattle.crx_compact.specs.OpenEpochs.{opened_raw, is_faulty, Whole, Faulty};
+ghost use Rattle.crx_compact.specs.HeldRows.{row_after, HasRow, IsNextRow};
 ghost use Rattle.std.specs.Result.{is_ok};
 ghost use Rattle.crx_header.specs.meaning.EpochColumns.{begins_epoch};
 ghost use Rattle.crx_rinex.specs.meaning.Printing.{printed_epoch};
@@ -14,8 +14,8 @@ ghost use Rattle.crx_compact.specs.OpenLines.{open_raw, made_of, step_after, epo
 use crate::expanded_lines::ExpandedLines;
 use crx_faults::Fault;
 use crx_header::Types;
-use crx_history::awaited::{AwaitedSatellite, AwaitedSatellites};
-use crx_history::kept::KeptEpoch;
+use crate::awaited::{AwaitedSatellite, AwaitedSatellites};
+use crate::kept::KeptEpoch;
 use crx_rinex::{Epoch, begins_epoch};
 use crx_text::Text;
 use std::alloc::{AllocError, Global};

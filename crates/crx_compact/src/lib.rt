@@ -1,15 +1,24 @@
-//! Compact RINEX both ways: epochs to compact lines and back, the lines that each direction has ready, and the laws that join the two.
+//! Compact RINEX both ways: arcs and the cells of a satellite line, the history that each epoch's lines are made and read after, epochs to
+//! compact lines and back, the lines that each direction has ready, and the laws that join the two. What the compact text of epochs is, and
+//! what it means, is defined here.
 #![tactic(auto)]
 
+pub mod arc;
+pub mod awaited;
+pub mod cells;
 pub mod coded;
 pub mod columns;
 pub mod expanded_lines;
+pub mod held;
 mod incoming;
+pub mod kept;
 pub mod laws;
+pub mod lines;
 pub mod ready_lines;
+mod refusals;
+pub mod same;
 
+pub use arc::{ClockArc, ObsArc};
 pub use coded::Coded;
 pub use columns::Columns;
-pub use crx_arcs::{ClockArc, ObsArc, arc};
-pub use crx_history::lines;
 pub use expanded_lines::ExpandedLines;

@@ -3,16 +3,16 @@
 ghost use Rattle.std.specs.Prelude.{◌≡◌, ◌≤◌, ◌++◌, ◌∷◌, ◌↔◌, if◌then◌else◌, [], drop, length, slice_get, is_some, IfOk, IfSome, IsSome, IsTrue, OnOk, OnErr, Some, true};
 ghost use Rattle.crx_faults.specs.declared.limits.TheConstants.{DATE_LIMIT, LINE_LIMIT};
 ghost use Rattle.crx_rinex.specs.Epochs.{is_full_epoch};
-ghost use Rattle.crx_history.specs.OpenEpochs.{is_idle, tail_held};
-ghost use Rattle.crx_history.specs.OpenEpochs.ColumnsState.{Idle};
-ghost use Rattle.crx_history.specs.Steps.{lines_after_tail, tail_after, tail_written_after};
+ghost use Rattle.crx_compact.specs.OpenEpochs.{is_idle, tail_held};
+ghost use Rattle.crx_compact.specs.OpenEpochs.ColumnsState.{Idle};
+ghost use Rattle.crx_compact.specs.Steps.{lines_after_tail, tail_after, tail_written_after};
 ghost use Rattle.crx_header.specs.meaning.CompactHeader.{program_line, lines_before_header};
 ghost use Rattle.crx_faults.specs.meaning.Lines.{lines_text};
 
 use crate::columns::Columns;
 use crx_columns::appending::append;
 use crx_header::crinex::{CRINEX_PROGRAM, CRINEX_PROGRAM_LABEL, CRINEX_VERSION_LINE};
-use crx_history::lines::Lines;
+use crate::lines::Lines;
 use crx_options::options::in_columns;
 use crx_rinex::Epoch;
 use crx_text::Text;

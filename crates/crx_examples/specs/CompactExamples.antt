@@ -2,14 +2,14 @@
 use Rattle.std.specs.Prelude.{ℕ, ◌+◌, ℤ, pos, neg_ℤ, true, false, List, [], ◌∷◌, ◌++◌, map, reverse, Option, Some, None}
 use Rattle.std.specs.Prelude.{codes}
 use Rattle.crx_rinex.specs.meaning.Observations.{Row, Epoch}
-use Rattle.crx_history.specs.meaning.Compaction.{Marked}
+use Rattle.crx_compact.specs.meaning.Compaction.{Marked}
 use Rattle.crx_header.specs.meaning.ObservationTypes.{Count}
 use Rattle.crx_laws.specs.Examples.{one_type}
 use Rattle.crx_rinex.specs.meaning.Places.{Place}
 use Rattle.crx_faults.specs.meaning.Seen.{ReadLine, Content}
-use Rattle.crx_history.specs.meaning.CompactPlaces.{ReadEpoch}
-use Rattle.crx_history.specs.Steps.{no_tail}
-use Rattle.crx_history.specs.OpenEpochs.{OpenRawEpoch, placed_as}
+use Rattle.crx_compact.specs.meaning.CompactPlaces.{ReadEpoch}
+use Rattle.crx_compact.specs.Steps.{no_tail}
+use Rattle.crx_compact.specs.OpenEpochs.{OpenRawEpoch, placed_as}
 use Rattle.crx_compact.specs.ReadingLaws.{epochs_at, TypedEpoch}
 
 -- columns 1 to 41 of the epoch at second s of 2024-01-01, with n satellites

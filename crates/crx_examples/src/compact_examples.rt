@@ -8,8 +8,8 @@ ghost use Rattle.crx_examples.specs.CompactExamples.{head_at, full_line, epoch_o
 ghost use Rattle.crx_faults.specs.meaning.Seen.{Content, Overlong};
 ghost use Rattle.crx_rinex.specs.meaning.Places.{Here, Wrong, Wanted};
 ghost use Rattle.crx_header.specs.ObservationTypes.{AreCounts};
-ghost use Rattle.crx_history.specs.OpenEpochs.{open_raw_with, first_step, state_after, tail_held};
-ghost use Rattle.crx_history.specs.OpenEpochs.RawStep.{Faulty};
+ghost use Rattle.crx_compact.specs.OpenEpochs.{open_raw_with, first_step, state_after, tail_held};
+ghost use Rattle.crx_compact.specs.OpenEpochs.RawStep.{Faulty};
 ghost use Rattle.crx_compact.specs.ReadingLaws.{text_lines, raws_of, AreWholeByTypes, HasSingleLines, HasPrintableMarks};
 
 /// Up to the fourth value the differences of order 1 and 2 are written, from then on those of order 3.

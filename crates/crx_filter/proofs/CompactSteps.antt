@@ -8,13 +8,13 @@ use Rattle.crx_faults.specs.declared.fault.Fault.{Fault}
 use Rattle.crx_columns.specs.Texts.{patched}
 use Rattle.crx_header.specs.meaning.ObservationTypes.{Count}
 use Rattle.crx_header.specs.meaning.EpochColumns.{begins_epoch, is_event_line}
-use Rattle.crx_history.specs.meaning.EpochText.{Satellite}
-use Rattle.crx_history.specs.Tails.{Tail}
-use Rattle.crx_history.specs.meaning.CompactPlaces.{satellites_of_line}
-use Rattle.crx_arcs.specs.meaning.Sequences.{and_then}
-use Rattle.crx_history.specs.OpenEpochs.{ColumnsState, RawStep, Going, Whole, Faulty, HasMade, first_step, opened_raw}
-use Rattle.crx_history.specs.OpenEpochs.{opening, tail_for_line, is_idle}
-use Rattle.crx_history.specs.HeldRows.{past_of_tail}
+use Rattle.crx_compact.specs.meaning.EpochText.{Satellite}
+use Rattle.crx_compact.specs.Tails.{Tail}
+use Rattle.crx_compact.specs.meaning.CompactPlaces.{satellites_of_line}
+use Rattle.crx_compact.specs.meaning.Sequences.{and_then}
+use Rattle.crx_compact.specs.OpenEpochs.{ColumnsState, RawStep, Going, Whole, Faulty, HasMade, first_step, opened_raw}
+use Rattle.crx_compact.specs.OpenEpochs.{opening, tail_for_line, is_idle}
+use Rattle.crx_compact.specs.HeldRows.{past_of_tail}
 use Rattle.crx_reading.specs.RinexStages.{is_rinex_stage as is_consistent_in_rinex}
 use Rattle.crx_reading.specs.CompactStages.{is_compact_stage, wants_line, wants_lines}
 use Rattle.crx_filter.specs.CompactReaders.{RefusesCompactLine}

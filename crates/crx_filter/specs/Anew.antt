@@ -3,7 +3,7 @@
 use Rattle.std.specs.Prelude.{◌≡◌, ℕ, zero, suc, Bool, true, false, ◌&&◌, List, [], ◌∷◌, ◌++◌, if◌then◌else◌}
 use Rattle.crx_faults.specs.meaning.Seen.{ReadLine, Content, Overlong}
 use Rattle.crx_header.specs.meaning.EpochColumns.{begins_epoch, is_event_line}
-use Rattle.crx_history.specs.meaning.CompactPlaces.{ReadEpoch}
+use Rattle.crx_compact.specs.meaning.CompactPlaces.{ReadEpoch}
 use Rattle.crx_reading.specs.meaning.Items.{Item, header_has_ended, records_announced, records_left, types_in_force}
 use Rattle.crx_reading.specs.meaning.Reading.{Reading, Stop, reading_from}
 use Rattle.crx_reading.specs.meaning.Expanded.{compact_place}

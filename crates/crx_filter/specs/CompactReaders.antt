@@ -3,8 +3,8 @@ use Rattle.std.specs.Prelude.{◌≡◌, ◌⊎◌, ℕ, ◌+◌, Bool, true, fa
 use Rattle.crx_faults.specs.meaning.Seen.{Content}
 use Rattle.crx_faults.specs.declared.fault.Fault.{Fault}
 use Rattle.crx_faults.specs.declared.fault.Fault.TheVariants.{OutOfMemory}
-use Rattle.crx_history.specs.OpenEpochs.{OpenRawEpoch, HeldEpoch, tail_held}
-use Rattle.crx_history.specs.Tails.{Tail}
+use Rattle.crx_compact.specs.OpenEpochs.{OpenRawEpoch, HeldEpoch, tail_held}
+use Rattle.crx_compact.specs.Tails.{Tail}
 use Rattle.crx_options.specs.meaning.Choices.{Choices}
 use Rattle.crx_reading.specs.ExpansionByLine.{expansion, is_good_beginning, is_last_row}
 use Rattle.crx_header.specs.meaning.ObservationTypes.{Count}

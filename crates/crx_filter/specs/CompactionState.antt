@@ -1,6 +1,6 @@
 -- What a compaction is seen as between two lines.
 use Rattle.crx_rinex.specs.meaning.EpochPlaces.{OpenEpoch}
-use Rattle.crx_history.specs.OpenEpochs.{tail_held}
+use Rattle.crx_compact.specs.OpenEpochs.{tail_held}
 use Rattle.crx_reading.specs.CompactionByLine.{Written}
 use Rattle.crx_reading.specs.LineByLine.{Seen}
 use Rattle.crx_reading.specs.RinexReaders.{reader_phase}

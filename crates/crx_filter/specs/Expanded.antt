@@ -2,7 +2,7 @@
 use Rattle.crx_reading.specs.meaning.Directions.{compact_reading}
 use Rattle.std.specs.Prelude.{ℕ, List}
 use Rattle.crx_faults.specs.meaning.Seen.{ReadLine}
-use Rattle.crx_history.specs.meaning.CompactPlaces.{ReadEpoch}
+use Rattle.crx_compact.specs.meaning.CompactPlaces.{ReadEpoch}
 use Rattle.crx_options.specs.meaning.Choices.{Choices}
 use Rattle.crx_reading.specs.meaning.Items.{Item}
 use Rattle.crx_faults.specs.meaning.Lines.{lines_text}

@@ -4,8 +4,8 @@ use Rattle.crx_faults.specs.meaning.Lines.{InputLine}
 use Rattle.crx_faults.specs.meaning.Seen.{ReadLine}
 use Rattle.crx_faults.specs.declared.fault.At.{At}
 use Rattle.crx_faults.specs.declared.fault.Fault.{Fault}
-use Rattle.crx_history.specs.OpenEpochs.{OpenRawEpoch}
-use Rattle.crx_history.specs.Tails.{Tail}
+use Rattle.crx_compact.specs.OpenEpochs.{OpenRawEpoch}
+use Rattle.crx_compact.specs.Tails.{Tail}
 use Rattle.crx_reading.specs.ExpansionByLine.{expansion, expansion_seen}
 use Rattle.crx_filter.specs.EngineLines.{HasTaken}
 use Rattle.crx_runs.specs.Engines.{Awaited}

@@ -22,7 +22,7 @@ use Rattle.crx_reading.specs.meaning.Written.{warnings_in}
 use Rattle.crx_reading.specs.LineByLine.{Direction, Seen, Step, Answer, Quiet, Ready, Notice, Failed, seen_next}
 use Rattle.crx_reading.specs.LineByLine.{seen_end}
 use Rattle.crx_rinex.specs.meaning.Observations.{Epoch}
-use Rattle.crx_history.specs.meaning.CompactPlaces.{ReadEpoch}
+use Rattle.crx_compact.specs.meaning.CompactPlaces.{ReadEpoch}
 use Rattle.crx_filter.specs.Compacted.{compaction_so_far}
 pub use Rattle.crx_filter.specs.meaning.UnitsAndText.{IsInPlace}
 use Rattle.crx_reading.specs.meaning.Directions.{rinex_reading}

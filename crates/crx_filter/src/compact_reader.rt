@@ -3,8 +3,8 @@
 ghost use Rattle.std.specs.Prelude.{◌≡◌, ◌≢◌, ◌≤◌, ℕ, if◌then◌else◌, [], None, true, false, length, IfOk, IfErr, OnErr, OnOk};
 ghost use Rattle.crx_faults.specs.declared.limits.TheConstants.{LINE_LIMIT};
 ghost use Rattle.crx_faults.specs.meaning.Seen.{Content};
-ghost use Rattle.crx_history.specs.OpenEpochs.{is_idle, tail_held};
-ghost use Rattle.crx_history.specs.OpenEpochs.ColumnsState.{Idle};
+ghost use Rattle.crx_compact.specs.OpenEpochs.{is_idle, tail_held};
+ghost use Rattle.crx_compact.specs.OpenEpochs.ColumnsState.{Idle};
 ghost use Rattle.crx_options.specs.meaning.Choices.{Choices};
 ghost use Rattle.crx_reading.specs.CompactStages.{is_compact_stage, open_in, wants_lines};
 ghost use Rattle.crx_reading.specs.Stages.{is_ended, is_settled, seen_stage};

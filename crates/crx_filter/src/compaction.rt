@@ -2,7 +2,7 @@
 
 ghost use Rattle.std.specs.Prelude.{◌≡◌, ◌≤◌, true};
 ghost use Rattle.crx_faults.specs.declared.limits.TheConstants.{INPUT_LIMIT};
-ghost use Rattle.crx_history.specs.OpenEpochs.{is_idle};
+ghost use Rattle.crx_compact.specs.OpenEpochs.{is_idle};
 ghost use Rattle.crx_reading.specs.meaning.Compacted.{is_at_every};
 
 use crate::settled::{Settled, after_end, after_fault};

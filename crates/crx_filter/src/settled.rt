@@ -2,7 +2,7 @@
 
 ghost use Rattle.std.specs.Prelude.{◌≡◌, ◌+◌, ◌<◌, ◌≤◌, Option, true, false, IfErr, Err};
 ghost use Rattle.crx_rinex.specs.meaning.EpochPlaces.{OpenEpoch};
-ghost use Rattle.crx_history.specs.OpenEpochs.{OpenRawEpoch};
+ghost use Rattle.crx_compact.specs.OpenEpochs.{OpenRawEpoch};
 ghost use Rattle.crx_faults.specs.declared.limits.TheConstants.{INPUT_LIMIT};
 ghost use Rattle.crx_reading.specs.LineByLine.{fault_at_end_in};
 ghost use Rattle.crx_faults.specs.meaning.Faults.{is_skippable};

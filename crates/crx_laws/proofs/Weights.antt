@@ -19,8 +19,8 @@ use Rattle.crx_rinex.specs.meaning.Units.{Unit as FileUnit, HeaderLine, EventLin
 use Rattle.crx_compact.specs.ReadingLaws.{IsGood}
 use Rattle.crx_compact.proofs.soundness.Soundness.{EpochFacts, epoch-facts}
 use Rattle.crx_header.specs.meaning.ObservationTypes.{Count}
-use Rattle.crx_history.specs.meaning.CompactPlaces.{ReadRow, ReadEpoch, epoch_at}
-use Rattle.crx_history.specs.meaning.Expansion.{RawEpoch}
+use Rattle.crx_compact.specs.meaning.CompactPlaces.{ReadRow, ReadEpoch, epoch_at}
+use Rattle.crx_compact.specs.meaning.Expansion.{RawEpoch}
 use Rattle.crx_options.specs.meaning.Choices.{Choices}
 use Rattle.crx_reading.specs.meaning.Items.{Item, Accepted, is_at_start, records_count_types, types_in_force}
 use Rattle.crx_reading.specs.meaning.UnitPlaces.{unless_wrong, types_fault, header_line_fault, header_line}

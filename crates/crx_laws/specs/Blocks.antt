@@ -9,7 +9,7 @@ use Rattle.crx_faults.specs.declared.fault.At.{At}
 use Rattle.crx_faults.specs.declared.fault.Fault.{Fault}
 use Rattle.crx_filter.specs.Anew.{starts_anew}
 use Rattle.crx_filter.specs.meaning.Stretches.{read_of_file, IsReadWhole}
-use Rattle.crx_history.specs.meaning.CompactPlaces.{ReadEpoch}
+use Rattle.crx_compact.specs.meaning.CompactPlaces.{ReadEpoch}
 use Rattle.crx_options.specs.meaning.Choices.{Choices}
 use Rattle.crx_rinex.specs.meaning.Observations.{Epoch}
 use Rattle.crx_reading.specs.meaning.Compacted.{compacted}

@@ -6,7 +6,7 @@ use Rattle.crx_faults.specs.declared.fault.Fault.{Fault}
 use Rattle.crx_header.specs.meaning.EpochColumns.{is_event_line}
 use Rattle.crx_rinex.specs.meaning.Observations.{Epoch}
 use Rattle.crx_rinex.specs.meaning.Places.{Place, Here, Wrong, Wanted}
-use Rattle.crx_history.specs.OpenEpochs.{ColumnsState, HeldEpoch, Idle}
+use Rattle.crx_compact.specs.OpenEpochs.{ColumnsState, HeldEpoch, Idle}
 
 -- a line that may be read as one of an observation epoch
 pub record IsReadable (line : List ℕ) : Type 0 where

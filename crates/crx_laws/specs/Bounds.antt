@@ -9,9 +9,9 @@ use Rattle.crx_rinex.specs.meaning.Units.{Unit as FileUnit, HeaderLine, EventLin
 use Rattle.crx_rinex.specs.meaning.EpochPlaces.{OpenEpoch}
 use Rattle.crx_header.specs.ObservationTypes.{AreCounts}
 use Rattle.crx_header.specs.meaning.ObservationTypes.{system_letters}
-use Rattle.crx_history.specs.Tails.{Tail, IsBoundedTail}
-use Rattle.crx_history.specs.meaning.CompactPlaces.{ReadEpoch}
-use Rattle.crx_history.specs.OpenEpochs.{OpenRawEpoch, IsBoundedOpen}
+use Rattle.crx_compact.specs.Tails.{Tail, IsBoundedTail}
+use Rattle.crx_compact.specs.meaning.CompactPlaces.{ReadEpoch}
+use Rattle.crx_compact.specs.OpenEpochs.{OpenRawEpoch, IsBoundedOpen}
 use Rattle.crx_options.specs.meaning.Choices.{Choices, is_date}
 use Rattle.crx_reading.specs.meaning.Items.{Item, Accepted, Warned}
 use Rattle.crx_reading.specs.meaning.Compacted.{compact_unit}

@@ -4,10 +4,10 @@ ghost use Rattle.std.specs.Prelude.{◌≡◌, ◌↔◌, true, ℕ, ℤ, List, 
 ghost use Rattle.crx_text.specs.declared.code.Code.{Code};
 ghost use Rattle.crx_text.specs.meaning.Numbers.{IsWithin};
 ghost use Rattle.crx_rinex.specs.meaning.Epochs.{are_different};
-ghost use Rattle.crx_history.specs.meaning.Compaction.{Marked};
-ghost use Rattle.crx_arcs.specs.meaning.ArcValues.{is_within};
-ghost use Rattle.crx_history.specs.meaning.Expansion.{overlaid};
-ghost use Rattle.crx_arcs.specs.ArcLaws.{Inverts, CodesByTail, ValuesByTail, CodesOfValues, ValuesOfCodes};
+ghost use Rattle.crx_compact.specs.meaning.Compaction.{Marked};
+ghost use Rattle.crx_compact.specs.meaning.ArcValues.{is_within};
+ghost use Rattle.crx_compact.specs.meaning.Expansion.{overlaid};
+ghost use Rattle.crx_compact.specs.ArcLaws.{Inverts, CodesByTail, ValuesByTail, CodesOfValues, ValuesOfCodes};
 ghost use Rattle.crx_compact.specs.Laws.{PatchesBack, patched_in_turn, EpochByTail, ArePrintable, AreShort, AllLinesCanStand, WrittenAreBounded};
 
 /// From the codes of an arc, of any order, comes its newest value.

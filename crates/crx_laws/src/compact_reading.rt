@@ -3,13 +3,13 @@
 ghost use Rattle.std.specs.Prelude.{◌≡◌, ◌∷◌, [], true, ℕ, List, Option};
 ghost use Rattle.crx_faults.specs.meaning.Seen.{ReadLine};
 ghost use Rattle.crx_header.specs.meaning.ObservationTypes.{Count};
-ghost use Rattle.crx_history.specs.meaning.Expansion.{RawEpoch};
+ghost use Rattle.crx_compact.specs.meaning.Expansion.{RawEpoch};
 ghost use Rattle.crx_compact.specs.ReadingLaws.{EachReadsBack, ReadsBack, ReadsSoundly, HasSingleLines, RawByTail, TailDecides, StepsAgree, WantedWhereOpen, StepsFromOpen, Forgets, OneTail, ReadsWholeEpochs, StepsReadBack, ReadsWholeLists, ReadAreBounded};
 ghost use Rattle.crx_rinex.specs.Steady.{IsSteady};
 ghost use Rattle.crx_header.specs.meaning.EpochColumns.{begins_epoch};
-ghost use Rattle.crx_history.specs.meaning.CompactPlaces.{epoch_at};
-ghost use Rattle.crx_history.specs.OpenEpochs.{epoch_after};
-ghost use Rattle.crx_history.specs.Tails.{Tail};
+ghost use Rattle.crx_compact.specs.meaning.CompactPlaces.{epoch_at};
+ghost use Rattle.crx_compact.specs.OpenEpochs.{epoch_after};
+ghost use Rattle.crx_compact.specs.Tails.{Tail};
 
 /// The compact lines of an epoch read as that epoch, whatever lines follow, and hand on the block for the next one.
 pub fn reading_an_epoch()

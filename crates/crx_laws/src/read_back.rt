@@ -2,12 +2,12 @@
 
 ghost use Rattle.std.specs.Prelude.{◌≡◌, ◌⊎◌, ◌↔◌, ◌∷◌, List, Some, true, false, map, IfOk, IfErr, IsTrue};
 ghost use Rattle.crx_faults.specs.meaning.Seen.{Content};
-ghost use Rattle.crx_history.specs.meaning.Compaction.{Marked, compact_epoch, since_full};
+ghost use Rattle.crx_compact.specs.meaning.Compaction.{Marked, compact_epoch, since_full};
 ghost use Rattle.crx_compact.specs.Laws.{AreWhole};
 ghost use Rattle.crx_laws.specs.BorrowedLines.{AreReadable, HasGiven, IsReadable, IsFaultAt};
-ghost use Rattle.crx_history.specs.OpenEpochs.{is_idle, place_by_steps, tail_held};
-ghost use Rattle.crx_history.specs.OpenEpochs.ColumnsState.{Idle};
-ghost use Rattle.crx_history.specs.Tails.{tail_or_nothing};
+ghost use Rattle.crx_compact.specs.OpenEpochs.{is_idle, place_by_steps, tail_held};
+ghost use Rattle.crx_compact.specs.OpenEpochs.ColumnsState.{Idle};
+ghost use Rattle.crx_compact.specs.Tails.{tail_or_nothing};
 
 use crx_compact::{Coded, Columns};
 use crx_faults::Fault;

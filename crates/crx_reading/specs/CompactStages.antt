@@ -1,8 +1,8 @@
 -- The epoch that a reader of compact text holds open.
 use Rattle.std.specs.Prelude.{Bool, true, false, List, [], ◌∷◌, Option, Some, None}
-use Rattle.crx_history.specs.meaning.EpochText.{Satellite}
-use Rattle.crx_history.specs.OpenEpochs.{OpenRawEpoch, HeldClock, ColumnsState, is_idle}
-use Rattle.crx_history.specs.OpenEpochs.ColumnsState.{Idle, Reading}
+use Rattle.crx_compact.specs.meaning.EpochText.{Satellite}
+use Rattle.crx_compact.specs.OpenEpochs.{OpenRawEpoch, HeldClock, ColumnsState, is_idle}
+use Rattle.crx_compact.specs.OpenEpochs.ColumnsState.{Idle, Reading}
 use Rattle.crx_reading.specs.declared.stage.Stage.{Stage}
 use Rattle.crx_reading.specs.declared.stage.Stage.TheVariants.{FirstLines, Header, Between, Event, Open, Looking}
 use Rattle.crx_reading.specs.declared.stage.Stage.TheVariants.{Closed}

@@ -10,8 +10,8 @@ use Rattle.crx_header.specs.meaning.ObservationTypes.{Count}
 use Rattle.crx_rinex.specs.meaning.EpochPlaces.{OpenEpoch, Beginning, EventBegins, EpochBegins, beginning_of, opened}
 use Rattle.crx_rinex.specs.meaning.EpochPlaces.{next_row}
 use Rattle.crx_rinex.specs.EpochPlaces.{EpochStep, Going, Whole, Faulty, whole_or_going, epoch_step, open_with}
-use Rattle.crx_history.specs.Tails.{Tail, tail_or_nothing}
-use Rattle.crx_history.specs.Steps.{lines_after_tail, tail_after, tail_written_after}
+use Rattle.crx_compact.specs.Tails.{Tail, tail_or_nothing}
+use Rattle.crx_compact.specs.Steps.{lines_after_tail, tail_after, tail_written_after}
 use Rattle.crx_options.specs.meaning.Choices.{Choices}
 use Rattle.crx_reading.specs.meaning.Items.{Item, types_in_force}
 use Rattle.crx_reading.specs.LineByLine.{Phase, InHeader, InEpoch, Seen, Made, Completes, Moves, Fails, Repeats}

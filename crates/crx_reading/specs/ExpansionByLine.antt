@@ -7,10 +7,10 @@ use Rattle.crx_rinex.specs.meaning.Places.{Here, Wrong, Wanted}
 use Rattle.crx_rinex.specs.meaning.Units.{Unit, HeaderLine, EventLine, EventRecord, Observation, printed_unit}
 use Rattle.crx_header.specs.meaning.ObservationTypes.{Count}
 use Rattle.crx_rinex.specs.meaning.Observations.{Epoch}
-use Rattle.crx_history.specs.meaning.CompactPlaces.{ReadEpoch}
-use Rattle.crx_history.specs.Tails.{Tail, tail_left}
-use Rattle.crx_history.specs.OpenEpochs.{OpenRawEpoch, HeldEpoch, RawStep, Going, Whole, Faulty, first_step, next_step}
-use Rattle.crx_history.specs.OpenEpochs.{is_faulty, makes_epoch, open_raw_with}
+use Rattle.crx_compact.specs.meaning.CompactPlaces.{ReadEpoch}
+use Rattle.crx_compact.specs.Tails.{Tail, tail_left}
+use Rattle.crx_compact.specs.OpenEpochs.{OpenRawEpoch, HeldEpoch, RawStep, Going, Whole, Faulty, first_step, next_step}
+use Rattle.crx_compact.specs.OpenEpochs.{is_faulty, makes_epoch, open_raw_with}
 use Rattle.crx_options.specs.meaning.Choices.{Choices}
 use Rattle.crx_reading.specs.meaning.Items.{Item, types_in_force}
 use Rattle.crx_reading.specs.LineByLine.{Phase, InFirstLines, InEpoch, Seen, Made, Completes, Moves, Fails}

@@ -2,7 +2,7 @@
 
 ghost use Rattle.std.specs.Prelude.{◌≡◌, List, Option, Bool, true, false, if◌then◌else◌};
 ghost use Rattle.crx_rinex.specs.meaning.EpochPlaces.{OpenEpoch};
-ghost use Rattle.crx_history.specs.OpenEpochs.{OpenRawEpoch};
+ghost use Rattle.crx_compact.specs.OpenEpochs.{OpenRawEpoch};
 ghost use Rattle.crx_reading.specs.LineByLine.{is_in_epoch, may_skip, with_records_left, InHeader, BetweenUnits};
 ghost use Rattle.crx_reading.specs.meaning.Items.{counts_types};
 ghost use Rattle.crx_reading.specs.Stages.{seen_stage, is_held, is_settled};

@@ -1,7 +1,7 @@
 //! Epochs to compact lines and back by the calls of [`Columns`], one epoch after another as files have them, with memory at hand.
 
 ghost use Rattle.std.specs.Prelude.{◌≡◌, None};
-ghost use Rattle.crx_history.specs.OpenEpochs.ColumnsState.{Idle};
+ghost use Rattle.crx_compact.specs.OpenEpochs.ColumnsState.{Idle};
 
 use crate::owned::Owned;
 use crate::rinex::{ONE_TYPE, TWO_TYPES, types_of};

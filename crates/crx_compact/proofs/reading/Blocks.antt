@@ -8,12 +8,12 @@ use Rattle.crx_faults.specs.declared.fault.Fault.TheVariants.{OutOfMemory}
 use Rattle.crx_rinex.specs.meaning.Observations.{Epoch}
 use Rattle.crx_header.specs.meaning.ObservationTypes.{Count}
 use Rattle.crx_rinex.specs.meaning.Places.{Place, Here, Wrong, Wanted}
-use Rattle.crx_history.specs.meaning.Expansion.{RawEpoch}
-use Rattle.crx_history.specs.meaning.CompactPlaces.{epoch_at}
-use Rattle.crx_history.specs.Tails.{Tail, tail_left}
-use Rattle.crx_history.specs.OpenEpochs.{ColumnsState, HasMade, HeldEpoch, Idle, RawStep, Faulty, Going}
-use Rattle.crx_history.specs.OpenEpochs.{Whole, epoch_after, first_step, held_after, next_step}
-use Rattle.crx_history.specs.OpenEpochs.{place_of_step, placed_as, step_in}
+use Rattle.crx_compact.specs.meaning.Expansion.{RawEpoch}
+use Rattle.crx_compact.specs.meaning.CompactPlaces.{epoch_at}
+use Rattle.crx_compact.specs.Tails.{Tail, tail_left}
+use Rattle.crx_compact.specs.OpenEpochs.{ColumnsState, HasMade, HeldEpoch, Idle, RawStep, Faulty, Going}
+use Rattle.crx_compact.specs.OpenEpochs.{Whole, epoch_after, first_step, held_after, next_step}
+use Rattle.crx_compact.specs.OpenEpochs.{place_of_step, placed_as, step_in}
 use Rattle.crx_compact.specs.ReadBlocks.{HasReadTo, IsReading}
 use Rattle.crx_compact.proofs.soundness.Soundness.{reads-soundly}
 use Rattle.crx_compact.proofs.reading.RawTailing.{place-by_tail, left-by_tail}

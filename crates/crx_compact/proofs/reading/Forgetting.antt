@@ -7,16 +7,16 @@ use Rattle.crx_faults.specs.declared.fault.Fault.TheVariants.{NotAnEpoch}
 use Rattle.crx_header.specs.meaning.ObservationTypes.{Count}
 use Rattle.crx_rinex.specs.meaning.Places.{Place, Here, then_place, one_line, first_line}
 use Rattle.crx_header.specs.meaning.EpochColumns.{begins_epoch}
-use Rattle.crx_history.specs.meaning.Expansion.{RawEpoch, block_of}
-use Rattle.crx_history.specs.meaning.Past.{Past, past_of_block, past_of_epochs, past_of_line}
-use Rattle.crx_history.specs.meaning.CompactPlaces.{satellites_of_line, BegunEpoch, epoch_begun}
-use Rattle.crx_arcs.specs.meaning.Cells.{ReadCell}
-use Rattle.crx_history.specs.meaning.CompactPlaces.{clock_line_read, rows_read, ReadEpoch, epoch_of_rows}
-use Rattle.crx_history.specs.meaning.CompactPlaces.{epoch_after_line, epoch_at}
+use Rattle.crx_compact.specs.meaning.Expansion.{RawEpoch, block_of}
+use Rattle.crx_compact.specs.meaning.Past.{Past, past_of_block, past_of_epochs, past_of_line}
+use Rattle.crx_compact.specs.meaning.CompactPlaces.{satellites_of_line, BegunEpoch, epoch_begun}
+use Rattle.crx_compact.specs.meaning.Cells.{ReadCell}
+use Rattle.crx_compact.specs.meaning.CompactPlaces.{clock_line_read, rows_read, ReadEpoch, epoch_of_rows}
+use Rattle.crx_compact.specs.meaning.CompactPlaces.{epoch_after_line, epoch_at}
 use Rattle.crx_compact.specs.ReadingLaws.{Forgets}
 use Rattle.crx_compact.proofs.soundness.Soundness.{thing_here, Comes, then-comes}
-use Rattle.crx_history.proofs.Results.{no-err, ok-same, Follows}
-use Rattle.crx_history.proofs.Results.{and_then-ok}
+use Rattle.crx_compact.proofs.Results.{no-err, ok-same, Follows}
+use Rattle.crx_compact.proofs.Results.{and_then-ok}
 
 begun-line : (types : List Count) (line : List ℕ) (past : Option Past) (begun : BegunEpoch)
     → epoch_begun types line past ≡ Ok begun → begun.line ≡ line

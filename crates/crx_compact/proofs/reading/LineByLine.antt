@@ -10,23 +10,23 @@ use Rattle.crx_faults.specs.meaning.Seen.{ReadLine, Content, Overlong}
 use Rattle.crx_faults.specs.declared.fault.Fault.{Fault}
 use Rattle.crx_header.specs.meaning.ObservationTypes.{Count}
 use Rattle.crx_rinex.specs.meaning.Places.{Place, Here, Wrong, Wanted, then_place, after_lines, one_line}
-use Rattle.crx_arcs.specs.meaning.Sequences.{and_then}
-use Rattle.crx_history.specs.meaning.EpochText.{Satellite}
-use Rattle.crx_history.specs.meaning.Expansion.{RawRow}
-use Rattle.crx_history.specs.meaning.CompactPlaces.{BegunEpoch, epoch_begun, satellites_of_line}
-use Rattle.crx_arcs.specs.meaning.Cells.{ReadCell}
-use Rattle.crx_history.specs.meaning.CompactPlaces.{clock_line_read, ReadRow, satellite_line_read, rows_read}
-use Rattle.crx_history.specs.meaning.CompactPlaces.{epoch_of_rows, epoch_after_line}
-use Rattle.crx_history.specs.Tails.{Tail}
-use Rattle.crx_history.specs.Steps.{tail_named, raw_row_tail_after}
-use Rattle.crx_history.specs.HeldRows.{past_of_tail, HeldRow}
-use Rattle.crx_history.specs.OpenEpochs.{tail_for_line, epoch_after, HeldClock, HeldEpoch}
-use Rattle.crx_history.specs.OpenEpochs.{OpenRawEpoch, RawStep, opened_raw, opening, first_step, whole_epoch}
-use Rattle.crx_history.specs.OpenEpochs.{whole_or_awaiting, held_clock, raw_step_with_clock}
-use Rattle.crx_history.specs.HeldRows.{held_row}
-use Rattle.crx_history.specs.OpenEpochs.{raw_step_with_row, next_step, placed_as, held_after, place_of_step}
-use Rattle.crx_history.specs.OpenEpochs.{place_of_steps, open_raw_after}
-use Rattle.crx_history.specs.OpenEpochs.RawStep.{Going, Whole, Faulty}
+use Rattle.crx_compact.specs.meaning.Sequences.{and_then}
+use Rattle.crx_compact.specs.meaning.EpochText.{Satellite}
+use Rattle.crx_compact.specs.meaning.Expansion.{RawRow}
+use Rattle.crx_compact.specs.meaning.CompactPlaces.{BegunEpoch, epoch_begun, satellites_of_line}
+use Rattle.crx_compact.specs.meaning.Cells.{ReadCell}
+use Rattle.crx_compact.specs.meaning.CompactPlaces.{clock_line_read, ReadRow, satellite_line_read, rows_read}
+use Rattle.crx_compact.specs.meaning.CompactPlaces.{epoch_of_rows, epoch_after_line}
+use Rattle.crx_compact.specs.Tails.{Tail}
+use Rattle.crx_compact.specs.Steps.{tail_named, raw_row_tail_after}
+use Rattle.crx_compact.specs.HeldRows.{past_of_tail, HeldRow}
+use Rattle.crx_compact.specs.OpenEpochs.{tail_for_line, epoch_after, HeldClock, HeldEpoch}
+use Rattle.crx_compact.specs.OpenEpochs.{OpenRawEpoch, RawStep, opened_raw, opening, first_step, whole_epoch}
+use Rattle.crx_compact.specs.OpenEpochs.{whole_or_awaiting, held_clock, raw_step_with_clock}
+use Rattle.crx_compact.specs.HeldRows.{held_row}
+use Rattle.crx_compact.specs.OpenEpochs.{raw_step_with_row, next_step, placed_as, held_after, place_of_step}
+use Rattle.crx_compact.specs.OpenEpochs.{place_of_steps, open_raw_after}
+use Rattle.crx_compact.specs.OpenEpochs.RawStep.{Going, Whole, Faulty}
 use Rattle.crx_compact.specs.ReadingLaws.{is_wanted, StepsAgree, WantedWhereOpen, StepsFromOpen}
 
 -- ---- the satellite lines

@@ -9,21 +9,21 @@ use Rattle.crx_faults.specs.declared.fault.Fault.{Fault}
 use Rattle.crx_faults.specs.declared.fault.Fault.TheVariants.{BadField, BadFlags, OutOfMemory, OutOfRange, Truncated}
 use Rattle.crx_faults.specs.declared.limits.TheConstants.{OBSERVATION_WIDTH}
 use Rattle.crx_header.specs.meaning.EpochColumns.{begins_epoch}
-use Rattle.crx_arcs.specs.meaning.Sequences.{and_then, before_all}
-use Rattle.crx_history.specs.meaning.EpochText.{Satellite}
-use Rattle.crx_arcs.specs.meaning.ArcValues.{in_range, is_within}
-use Rattle.crx_arcs.specs.meaning.Cells.{ReadCell, cell_read, cells_read, cells_of}
-use Rattle.crx_history.specs.meaning.CompactPlaces.{ReadRow, are_marks}
-use Rattle.crx_arcs.specs.meaning.Cells.{after_cells}
-use Rattle.crx_history.specs.meaning.CompactPlaces.{row_of_cells}
-use Rattle.crx_history.proofs.Marks.{row_of_line, row_with_marks}
-use Rattle.crx_history.specs.meaning.CompactPlaces.{satellite_line_read}
-use Rattle.crx_history.specs.HeldRows.{HeldRow, held_row, past_of_tail}
-use Rattle.crx_history.specs.HeldRows.{row_after}
-use Rattle.crx_history.specs.Steps.{cell_of_tail, tail_named}
-use Rattle.crx_arcs.specs.ArcSteps.{value_of_code}
-use Rattle.crx_arcs.specs.ArcTails.{ArcTail}
-use Rattle.crx_history.specs.Tails.{Tail}
+use Rattle.crx_compact.specs.meaning.Sequences.{and_then, before_all}
+use Rattle.crx_compact.specs.meaning.EpochText.{Satellite}
+use Rattle.crx_compact.specs.meaning.ArcValues.{in_range, is_within}
+use Rattle.crx_compact.specs.meaning.Cells.{ReadCell, cell_read, cells_read, cells_of}
+use Rattle.crx_compact.specs.meaning.CompactPlaces.{ReadRow, are_marks}
+use Rattle.crx_compact.specs.meaning.Cells.{after_cells}
+use Rattle.crx_compact.specs.meaning.CompactPlaces.{row_of_cells}
+use Rattle.crx_compact.proofs.Marks.{row_of_line, row_with_marks}
+use Rattle.crx_compact.specs.meaning.CompactPlaces.{satellite_line_read}
+use Rattle.crx_compact.specs.HeldRows.{HeldRow, held_row, past_of_tail}
+use Rattle.crx_compact.specs.HeldRows.{row_after}
+use Rattle.crx_compact.specs.Steps.{cell_of_tail, tail_named}
+use Rattle.crx_compact.specs.ArcSteps.{value_of_code}
+use Rattle.crx_compact.specs.ArcTails.{ArcTail}
+use Rattle.crx_compact.specs.Tails.{Tail}
 
 abbrev fault_in : {X : Type 0} → Result X Fault → Fault
 fault_in (Ok x) = Truncated

@@ -11,33 +11,33 @@ use Rattle.crx_rinex.specs.meaning.Printing.{printed_epoch}
 use Rattle.crx_rinex.specs.Epochs.{with_row}
 use Rattle.crx_header.specs.meaning.Satellites.{are_apart}
 use Rattle.crx_header.proofs.Apart.{apart-fewer, apart-map}
-use Rattle.crx_arcs.specs.meaning.Cells.{ReadCell}
-use Rattle.crx_arcs.specs.ArcTails.{ArcTail}
-use Rattle.crx_history.specs.Tails.{RowTail, Tail}
-use Rattle.crx_history.specs.HeldRows.{row_after, AreApart, HaveRows, held_row, HeldRow, past_of_tail, IsNextRow}
-use Rattle.crx_history.specs.Steps.{no_tail, tail_written_after}
+use Rattle.crx_compact.specs.meaning.Cells.{ReadCell}
+use Rattle.crx_compact.specs.ArcTails.{ArcTail}
+use Rattle.crx_compact.specs.Tails.{RowTail, Tail}
+use Rattle.crx_compact.specs.HeldRows.{row_after, AreApart, HaveRows, held_row, HeldRow, past_of_tail, IsNextRow}
+use Rattle.crx_compact.specs.Steps.{no_tail, tail_written_after}
 use Rattle.crx_faults.specs.meaning.Seen.{Content}
-use Rattle.crx_history.specs.OpenEpochs.{ColumnsState, Faulty, HasMade, HasPrintedLines, first_step, is_idle, line_step, opened_raw}
-use Rattle.crx_history.specs.OpenEpochs.{step_in, tail_for_line, tail_held, Idle, HeldClock, OpenRawEpoch, RawStep}
-use Rattle.crx_history.specs.OpenEpochs.{Whole, raw_step_with_clock, whole_or_awaiting}
+use Rattle.crx_compact.specs.OpenEpochs.{ColumnsState, Faulty, HasMade, HasPrintedLines, first_step, is_idle, line_step, opened_raw}
+use Rattle.crx_compact.specs.OpenEpochs.{step_in, tail_for_line, tail_held, Idle, HeldClock, OpenRawEpoch, RawStep}
+use Rattle.crx_compact.specs.OpenEpochs.{Whole, raw_step_with_clock, whole_or_awaiting}
 use Rattle.crx_compact.specs.OpenLines.{columns_state, epoch_so_far, have_all_come, rows_so_far, step_after}
 use Rattle.crx_compact.specs.OpenLines.{AreLinesSoFar, lines_so_far, OpenLines, held_rows, made_of, open_raw}
-use Rattle.crx_history.specs.RowsSoFar.{AreAnnounced, AreRowsSoFar, HasClock}
+use Rattle.crx_compact.specs.RowsSoFar.{AreAnnounced, AreRowsSoFar, HasClock}
 use Rattle.crx_compact.specs.declared.incoming.Stage.{Stage}
 use Rattle.crx_compact.specs.declared.incoming.Stage.TheVariants.{Unbegun, Clock, Rows}
-use Rattle.crx_history.specs.ShownRows.{shown_epoch, shown_row}
-use Rattle.crx_arcs.specs.ArcSteps.{shown_value}
+use Rattle.crx_compact.specs.ShownRows.{shown_epoch, shown_row}
+use Rattle.crx_compact.specs.ArcSteps.{shown_value}
 use Rattle.crx_compact.proofs.reading.StepsByCode.{row-ok}
 use Rattle.crx_compact.proofs.soundness.Soundness.{line-facts}
-use Rattle.crx_history.proofs.Results.{and_then-ok, ok-same}
-use Rattle.crx_history.specs.meaning.CompactPlaces.{clock_line_read, satellite_line_read}
+use Rattle.crx_compact.proofs.Results.{and_then-ok, ok-same}
+use Rattle.crx_compact.specs.meaning.CompactPlaces.{clock_line_read, satellite_line_read}
 use Rattle.std.proofs.Math.ListN.{drop_of_length-le}
 use Rattle.crx_columns.specs.meaning.Columns.{columns}
 use Rattle.crx_faults.specs.declared.limits.TheConstants.{HEAD_WIDTH}
 use Rattle.crx_rinex.specs.meaning.Observations.{Row, Epoch}
 use Rattle.crx_header.specs.meaning.ObservationTypes.{Count}
-use Rattle.crx_history.specs.meaning.EpochText.{Satellite}
-use Rattle.crx_history.proofs.Making.{taken_more}
+use Rattle.crx_compact.specs.meaning.EpochText.{Satellite}
+use Rattle.crx_compact.proofs.Making.{taken_more}
 
 -- ---- rows with what is left
 

@@ -12,27 +12,27 @@ use Rattle.crx_text.specs.declared.code.Code.TheVariants.{Missing}
 use Rattle.crx_faults.specs.declared.limits.TheConstants.{OBSERVATION_WIDTH, CLOCK_WIDTH}
 use Rattle.crx_header.specs.meaning.ObservationTypes.{Count}
 use Rattle.crx_columns.specs.meaning.EachPlace.{each_place}
-use Rattle.crx_arcs.specs.meaning.Sequences.{stretch}
+use Rattle.crx_compact.specs.meaning.Sequences.{stretch}
 use Rattle.crx_header.specs.meaning.EpochColumns.{begins_epoch}
-use Rattle.crx_history.specs.meaning.Expansion.{RawRow, RawEpoch, block_of, overlaid, raw_row_named, raw_run_of}
-use Rattle.crx_history.specs.meaning.Expansion.{marks_of, code_in}
-use Rattle.crx_arcs.specs.meaning.ArcValues.{since_start, value_of}
-use Rattle.crx_history.specs.meaning.Past.{Past, past_of_block, past_of_epochs, past_of_line}
-use Rattle.crx_history.specs.meaning.CompactPlaces.{epoch_against, epoch_at}
-use Rattle.crx_history.specs.Tails.{RowTail, Tail, raw_row_tail, tail_of_block, tail_left}
-use Rattle.crx_arcs.specs.ArcTails.{started_tail}
-use Rattle.crx_history.specs.Steps.{no_tail, tail_named, cell_of_tail, flags_of_tail, flags_held, raw_row_tail_after}
-use Rattle.crx_history.specs.Steps.{raw_tail_after}
-use Rattle.crx_arcs.specs.ArcSteps.{value_of_code, arc_of_code}
-use Rattle.crx_history.specs.HeldRows.{past_of_tail}
-use Rattle.crx_history.specs.OpenEpochs.{tail_for_line, epoch_after}
+use Rattle.crx_compact.specs.meaning.Expansion.{RawRow, RawEpoch, block_of, overlaid, raw_row_named, raw_run_of}
+use Rattle.crx_compact.specs.meaning.Expansion.{marks_of, code_in}
+use Rattle.crx_compact.specs.meaning.ArcValues.{since_start, value_of}
+use Rattle.crx_compact.specs.meaning.Past.{Past, past_of_block, past_of_epochs, past_of_line}
+use Rattle.crx_compact.specs.meaning.CompactPlaces.{epoch_against, epoch_at}
+use Rattle.crx_compact.specs.Tails.{RowTail, Tail, raw_row_tail, tail_of_block, tail_left}
+use Rattle.crx_compact.specs.ArcTails.{started_tail}
+use Rattle.crx_compact.specs.Steps.{no_tail, tail_named, cell_of_tail, flags_of_tail, flags_held, raw_row_tail_after}
+use Rattle.crx_compact.specs.Steps.{raw_tail_after}
+use Rattle.crx_compact.specs.ArcSteps.{value_of_code, arc_of_code}
+use Rattle.crx_compact.specs.HeldRows.{past_of_tail}
+use Rattle.crx_compact.specs.OpenEpochs.{tail_for_line, epoch_after}
 use Rattle.crx_compact.specs.ReadingLaws.{HasSingleLines, RawByTail}
 use Rattle.crx_columns.proofs.EachPlace.{each_place-same, index-each_place}
 use Rattle.crx_compact.proofs.Lists.{mapped-same}
 use Rattle.crx_compact.proofs.wayback.Overlays.{overlaid-patched}
 use Rattle.crx_compact.proofs.wayback.Cuts.{overlaid-take}
 use Rattle.crx_compact.proofs.wayback.Runs.{named-made}
-use Rattle.crx_arcs.proofs.arcs.OneMore.{value-next, number-next}
+use Rattle.crx_compact.proofs.arcs.OneMore.{value-next, number-next}
 
 -- ---- what a tail holds of a satellite
 

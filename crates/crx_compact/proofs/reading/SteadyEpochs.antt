@@ -4,10 +4,10 @@ use Rattle.crx_header.specs.meaning.ObservationTypes.{Count}
 use Rattle.crx_rinex.specs.meaning.Places.{Here, then_place, first_line}
 use Rattle.crx_rinex.specs.Steady.{IsSteady}
 use Rattle.crx_rinex.proofs.Steady.{steady-here, steady-first_line, steady-then}
-use Rattle.crx_history.specs.meaning.EpochText.{Satellite}
-use Rattle.crx_history.specs.meaning.Past.{Past}
-use Rattle.crx_history.specs.meaning.CompactPlaces.{BegunEpoch, epoch_begun, clock_line_read, satellite_line_read}
-use Rattle.crx_history.specs.meaning.CompactPlaces.{rows_read, epoch_of_rows, epoch_after_line, epoch_against}
+use Rattle.crx_compact.specs.meaning.EpochText.{Satellite}
+use Rattle.crx_compact.specs.meaning.Past.{Past}
+use Rattle.crx_compact.specs.meaning.CompactPlaces.{BegunEpoch, epoch_begun, clock_line_read, satellite_line_read}
+use Rattle.crx_compact.specs.meaning.CompactPlaces.{rows_read, epoch_of_rows, epoch_after_line, epoch_against}
 
 pub steady-rows_read : (past : Past) (satellites : List Satellite) → IsSteady (rows_read past satellites)
 steady-rows_read past [] = steady-here []

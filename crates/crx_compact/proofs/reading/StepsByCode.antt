@@ -1,14 +1,14 @@
 -- What a line makes of an open epoch, by what was read of it.
 use Rattle.std.specs.Prelude.{◌≡◌, ℕ, List, [], ◌∷◌, ◌++◌, Some, Result, Ok, Err}
 use Rattle.crx_faults.specs.declared.fault.Fault.{Fault}
-use Rattle.crx_history.specs.meaning.EpochText.{Satellite}
-use Rattle.crx_history.specs.meaning.CompactPlaces.{ReadRow, satellite_line_read}
-use Rattle.crx_history.specs.OpenEpochs.{HeldClock, OpenRawEpoch, whole_or_awaiting}
-use Rattle.crx_history.specs.HeldRows.{HeldRow, held_row}
-use Rattle.crx_history.specs.OpenEpochs.{line_step, raw_step_with_row}
-use Rattle.crx_history.specs.HeldRows.{past_of_tail}
-use Rattle.crx_arcs.specs.meaning.Sequences.{and_then}
-use Rattle.crx_history.specs.HeldRows.{row_after}
+use Rattle.crx_compact.specs.meaning.EpochText.{Satellite}
+use Rattle.crx_compact.specs.meaning.CompactPlaces.{ReadRow, satellite_line_read}
+use Rattle.crx_compact.specs.OpenEpochs.{HeldClock, OpenRawEpoch, whole_or_awaiting}
+use Rattle.crx_compact.specs.HeldRows.{HeldRow, held_row}
+use Rattle.crx_compact.specs.OpenEpochs.{line_step, raw_step_with_row}
+use Rattle.crx_compact.specs.HeldRows.{past_of_tail}
+use Rattle.crx_compact.specs.meaning.Sequences.{and_then}
+use Rattle.crx_compact.specs.HeldRows.{row_after}
 
 -- a satellite line
 row-step : (begun : OpenRawEpoch)

@@ -24,25 +24,25 @@ use Rattle.crx_faults.specs.declared.fault.Fault.{Fault}
 use Rattle.crx_faults.specs.declared.fault.Fault.TheVariants.{NoArc}
 use Rattle.crx_faults.specs.declared.limits.TheConstants.{OBSERVATION_WIDTH, CLOCK_WIDTH}
 use Rattle.crx_columns.specs.meaning.Texts.{is_kept, is_printable}
-use Rattle.crx_arcs.specs.meaning.Sequences.{stretch}
-use Rattle.crx_history.specs.meaning.EpochText.{Satellite}
-use Rattle.crx_history.specs.meaning.Expansion.{RawRow, RawEpoch, block_of, latest_mark, shown, overlaid}
-use Rattle.crx_arcs.specs.meaning.ArcValues.{Started}
-use Rattle.crx_history.specs.meaning.Expansion.{raw_row_named, raw_run_of, marks_of, code_in}
-use Rattle.crx_arcs.specs.meaning.ArcValues.{since_start}
-use Rattle.crx_arcs.specs.meaning.ArcValues.{value_since, value_of}
-use Rattle.crx_history.specs.meaning.Past.{Past, past_of_block}
-use Rattle.crx_arcs.specs.meaning.Cells.{ReadCell}
-use Rattle.crx_history.specs.meaning.CompactPlaces.{ReadRow, ReadEpoch}
+use Rattle.crx_compact.specs.meaning.Sequences.{stretch}
+use Rattle.crx_compact.specs.meaning.EpochText.{Satellite}
+use Rattle.crx_compact.specs.meaning.Expansion.{RawRow, RawEpoch, block_of, latest_mark, shown, overlaid}
+use Rattle.crx_compact.specs.meaning.ArcValues.{Started}
+use Rattle.crx_compact.specs.meaning.Expansion.{raw_row_named, raw_run_of, marks_of, code_in}
+use Rattle.crx_compact.specs.meaning.ArcValues.{since_start}
+use Rattle.crx_compact.specs.meaning.ArcValues.{value_since, value_of}
+use Rattle.crx_compact.specs.meaning.Past.{Past, past_of_block}
+use Rattle.crx_compact.specs.meaning.Cells.{ReadCell}
+use Rattle.crx_compact.specs.meaning.CompactPlaces.{ReadRow, ReadEpoch}
 use Rattle.crx_compact.specs.ReadingLaws.{HasPrintableMarks, IsGood, ReadsWholeEpochs}
 use Rattle.crx_columns.proofs.EachPlace.{each_place-all, length-each_place}
 use Rattle.crx_compact.proofs.Lists.{all-from}
 use Rattle.crx_compact.proofs.wayback.Overlays.{at-overlaid}
 use Rattle.crx_columns.proofs.Characters.{length-columns, list_all-from_at}
-use Rattle.crx_history.proofs.Characters.{all-take, list_all-at, list_all-append}
-use Rattle.crx_history.proofs.Results.{no-err, ok-same}
+use Rattle.crx_compact.proofs.Characters.{all-take, list_all-at, list_all-append}
+use Rattle.crx_compact.proofs.Results.{no-err, ok-same}
 use Rattle.crx_compact.proofs.soundness.Soundness.{AreReadCells, RowFacts, Paired}
-use Rattle.crx_history.proofs.EpochLines.{names_of, differ}
+use Rattle.crx_compact.proofs.EpochLines.{names_of, differ}
 use Rattle.crx_compact.proofs.soundness.Soundness.{block_for, epoch-facts}
 
 -- ---- columns

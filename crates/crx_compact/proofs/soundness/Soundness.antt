@@ -17,23 +17,23 @@ use Rattle.crx_faults.specs.declared.fault.Fault.{Fault}
 use Rattle.crx_faults.specs.declared.fault.Fault.TheVariants.{NotAnEpoch, BadClock, BadField, BadFlags}
 use Rattle.crx_faults.specs.declared.fault.Fault.TheVariants.{Truncated}
 use Rattle.crx_columns.specs.meaning.EachPlace.{each_place}
-use Rattle.crx_arcs.specs.meaning.Sequences.{and_then, before_all}
-use Rattle.crx_history.specs.Expansion.{all_ok, text_of, row_from, rows_from, epoch_of_block, epoch_from}
+use Rattle.crx_compact.specs.meaning.Sequences.{and_then, before_all}
+use Rattle.crx_compact.specs.Expansion.{all_ok, text_of, row_from, rows_from, epoch_of_block, epoch_from}
 use Rattle.crx_header.specs.meaning.EpochColumns.{begins_epoch}
-use Rattle.crx_history.specs.meaning.EpochText.{Satellite}
-use Rattle.crx_history.specs.meaning.Expansion.{RawRow, RawEpoch, block_of, raw_row_named, raw_run_of, marks_of}
-use Rattle.crx_history.specs.meaning.Past.{Past, past_of_block, past_of_epochs, past_of_line}
+use Rattle.crx_compact.specs.meaning.EpochText.{Satellite}
+use Rattle.crx_compact.specs.meaning.Expansion.{RawRow, RawEpoch, block_of, raw_row_named, raw_run_of, marks_of}
+use Rattle.crx_compact.specs.meaning.Past.{Past, past_of_block, past_of_epochs, past_of_line}
 use Rattle.crx_compact.proofs.wayback.Cuts.{columns-cut}
-use Rattle.crx_history.specs.meaning.CompactPlaces.{satellites_of_line, BegunEpoch, epoch_begun, clock_line_read}
-use Rattle.crx_history.specs.meaning.CompactPlaces.{are_marks, ReadRow, row_of_cells}
-use Rattle.crx_history.specs.meaning.CompactPlaces.{satellite_line_read, rows_read, ReadEpoch, epoch_of_rows}
-use Rattle.crx_history.specs.meaning.CompactPlaces.{epoch_after_line, epoch_at}
-use Rattle.crx_arcs.specs.meaning.Cells.{ReadCell, cell_read, cells_read, cells_of, after_cells}
+use Rattle.crx_compact.specs.meaning.CompactPlaces.{satellites_of_line, BegunEpoch, epoch_begun, clock_line_read}
+use Rattle.crx_compact.specs.meaning.CompactPlaces.{are_marks, ReadRow, row_of_cells}
+use Rattle.crx_compact.specs.meaning.CompactPlaces.{satellite_line_read, rows_read, ReadEpoch, epoch_of_rows}
+use Rattle.crx_compact.specs.meaning.CompactPlaces.{epoch_after_line, epoch_at}
+use Rattle.crx_compact.specs.meaning.Cells.{ReadCell, cell_read, cells_read, cells_of, after_cells}
 use Rattle.crx_compact.specs.ReadingLaws.{HasSingleLines, ReadsSoundly}
-use Rattle.crx_history.proofs.Identifiers.{each-own}
-use Rattle.crx_history.proofs.Results.{no-err, ok-same, Follows, and_then-ok, if-err, if-true, before-ok}
-use Rattle.crx_history.proofs.Marks.{row_with_marks, row_of_line, cells-count, texts-count}
-use Rattle.crx_history.proofs.EpochLines.{differ, names_of, LineFacts, line-facts_of}
+use Rattle.crx_compact.proofs.Identifiers.{each-own}
+use Rattle.crx_compact.proofs.Results.{no-err, ok-same, Follows, and_then-ok, if-err, if-true, before-ok}
+use Rattle.crx_compact.proofs.Marks.{row_with_marks, row_of_line, cells-count, texts-count}
+use Rattle.crx_compact.proofs.EpochLines.{differ, names_of, LineFacts, line-facts_of}
 
 -- ---- good answers come from good answers
 

@@ -6,8 +6,8 @@ use Rattle.std.proofs.lemmas.List.{append_assoc}
 use Rattle.crx_columns.specs.meaning.Columns.{without_end_blanks}
 use Rattle.crx_text.specs.declared.code.Code.{Code}
 use Rattle.crx_text.specs.meaning.Codes.{code_text, first_cell, after_cell}
-use Rattle.crx_arcs.specs.meaning.Cells.{cell_text}
-use Rattle.crx_arcs.specs.meaning.Cells.{cells_of, after_cells}
+use Rattle.crx_compact.specs.meaning.Cells.{cell_text}
+use Rattle.crx_compact.specs.meaning.Cells.{cells_of, after_cells}
 use Rattle.crx_compact.proofs.wayback.CodeTexts.{is_code_character}
 
 -- ---- blanks at a line's end do not change its cells

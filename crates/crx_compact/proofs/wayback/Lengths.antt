@@ -15,11 +15,11 @@ use Rattle.crx_rinex.specs.meaning.Observations.{Row, Epoch, value_in}
 use Rattle.crx_text.specs.declared.code.Code.{Code}
 use Rattle.crx_faults.specs.declared.limits.TheConstants.{WRITTEN_ORDER, DIGITS_LIMIT, TYPES_LIMIT, SATELLITES_LIMIT}
 use Rattle.crx_faults.specs.declared.limits.TheConstants.{OBSERVATION_WIDTH, CLOCK_WIDTH}
-use Rattle.crx_arcs.specs.meaning.Differences.{difference, code_at}
-use Rattle.crx_history.specs.meaning.Compaction.{Marked, epoch_text, since_full, arc_of, clock_arc}
-use Rattle.crx_history.specs.meaning.Compaction.{newest_text, indicators_before, codes_of, satellite_line}
-use Rattle.crx_arcs.specs.meaning.Cells.{cell_text}
-use Rattle.crx_history.specs.meaning.Compaction.{compact_epoch}
+use Rattle.crx_compact.specs.meaning.Differences.{difference, code_at}
+use Rattle.crx_compact.specs.meaning.Compaction.{Marked, epoch_text, since_full, arc_of, clock_arc}
+use Rattle.crx_compact.specs.meaning.Compaction.{newest_text, indicators_before, codes_of, satellite_line}
+use Rattle.crx_compact.specs.meaning.Cells.{cell_text}
+use Rattle.crx_compact.specs.meaning.Compaction.{compact_epoch}
 use Rattle.crx_header.specs.meaning.ObservationTypes.{Count}
 use Rattle.crx_text.specs.meaning.Numbers.{IsWithin}
 use Rattle.crx_compact.specs.Laws.{AreWhole}
@@ -27,8 +27,8 @@ use Rattle.crx_columns.proofs.EachPlace.{each_place-all, length-each_place}
 use Rattle.crx_rinex.specs.meaning.Epochs.{IsWholeEpoch}
 use Rattle.crx_compact.proofs.wayback.Writable.{IsTypedRow, typed-rows}
 use Rattle.crx_compact.proofs.wayback.CodeTexts.{order-text}
-use Rattle.crx_arcs.proofs.arcs.Bounds.{IsNear, doubled, doubled-more, difference-near, near-more}
-use Rattle.crx_arcs.proofs.arcs.Bounds.{ten-more}
+use Rattle.crx_compact.proofs.arcs.Bounds.{IsNear, doubled, doubled-more, difference-near, near-more}
+use Rattle.crx_compact.proofs.arcs.Bounds.{ten-more}
 use Rattle.crx_compact.proofs.wayback.Runs.{marked}
 use Rattle.crx_compact.proofs.wayback.Rows.{IsRowOf, clocks-fit, lines-each, near-all, stretch-within, values-fit}
 use Rattle.crx_compact.proofs.wayback.Facts.{length-text}

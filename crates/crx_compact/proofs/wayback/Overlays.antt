@@ -5,11 +5,11 @@ use Rattle.crx_columns.specs.meaning.Columns.{is_blank, without_end_blanks}
 use Rattle.crx_columns.specs.meaning.Texts.{by_position, mark_of, text_difference}
 use Rattle.crx_columns.specs.Texts.{character_of, patched}
 use Rattle.crx_columns.specs.meaning.EachPlace.{each_place}
-use Rattle.crx_history.specs.meaning.Expansion.{latest_mark, shown, longest, overlaid}
+use Rattle.crx_compact.specs.meaning.Expansion.{latest_mark, shown, longest, overlaid}
 use Rattle.crx_compact.specs.Laws.{patched_in_turn}
 use Rattle.crx_columns.proofs.Characters.{at, at-without_end_blanks}
 use Rattle.crx_columns.proofs.EachPlace.{index-each_place}
-use Rattle.crx_history.proofs.Characters.{same_characters, at-by_position}
+use Rattle.crx_compact.proofs.Characters.{same_characters, at-by_position}
 
 -- ---- patch after difference
 

@@ -18,20 +18,20 @@ use Rattle.crx_text.specs.declared.code.Code.{Code}
 use Rattle.crx_faults.specs.declared.fault.Fault.{Fault}
 use Rattle.crx_faults.specs.declared.fault.Fault.TheVariants.{BadEpoch}
 use Rattle.crx_faults.specs.declared.limits.TheConstants.{WRITTEN_ORDER, CLOCK_WIDTH}
-use Rattle.crx_arcs.specs.meaning.Sequences.{back_to, and_then}
-use Rattle.crx_arcs.specs.meaning.Differences.{code_at}
-use Rattle.crx_history.specs.meaning.Compaction.{Marked, epoch_text, row_named, since_full, run_of, clock_arc}
-use Rattle.crx_history.specs.meaning.Compaction.{newest_text, satellite_line, epoch_line, compact_epoch}
+use Rattle.crx_compact.specs.meaning.Sequences.{back_to, and_then}
+use Rattle.crx_compact.specs.meaning.Differences.{code_at}
+use Rattle.crx_compact.specs.meaning.Compaction.{Marked, epoch_text, row_named, since_full, run_of, clock_arc}
+use Rattle.crx_compact.specs.meaning.Compaction.{newest_text, satellite_line, epoch_line, compact_epoch}
 use Rattle.crx_header.specs.meaning.EpochColumns.{begins_epoch, epoch_count}
-use Rattle.crx_history.specs.meaning.EpochText.{names_in, Satellite, satellites_named}
-use Rattle.crx_history.specs.meaning.Expansion.{RawEpoch, block_of, raw_run_of, overlaid}
-use Rattle.crx_arcs.specs.meaning.ArcValues.{value_of}
-use Rattle.crx_history.specs.meaning.Past.{Past, past_of_block, past_of_epochs, past_of_line}
-use Rattle.crx_history.specs.meaning.CompactPlaces.{satellites_of_text, satellites_of_line}
-use Rattle.crx_history.specs.meaning.CompactPlaces.{BegunEpoch, epoch_begun, clock_line_read}
-use Rattle.crx_arcs.specs.meaning.Cells.{ReadCell}
-use Rattle.crx_history.specs.meaning.CompactPlaces.{ReadRow, satellite_line_read, rows_read, ReadEpoch, epoch_of_rows}
-use Rattle.crx_history.specs.meaning.CompactPlaces.{epoch_at}
+use Rattle.crx_compact.specs.meaning.EpochText.{names_in, Satellite, satellites_named}
+use Rattle.crx_compact.specs.meaning.Expansion.{RawEpoch, block_of, raw_run_of, overlaid}
+use Rattle.crx_compact.specs.meaning.ArcValues.{value_of}
+use Rattle.crx_compact.specs.meaning.Past.{Past, past_of_block, past_of_epochs, past_of_line}
+use Rattle.crx_compact.specs.meaning.CompactPlaces.{satellites_of_text, satellites_of_line}
+use Rattle.crx_compact.specs.meaning.CompactPlaces.{BegunEpoch, epoch_begun, clock_line_read}
+use Rattle.crx_compact.specs.meaning.Cells.{ReadCell}
+use Rattle.crx_compact.specs.meaning.CompactPlaces.{ReadRow, satellite_line_read, rows_read, ReadEpoch, epoch_of_rows}
+use Rattle.crx_compact.specs.meaning.CompactPlaces.{epoch_at}
 use Rattle.crx_rinex.specs.meaning.Epochs.{IsWholeEpoch}
 use Rattle.crx_compact.specs.ReadingLaws.{EpochReadsBack, raw_row, raw_of, raws_of, read_of, lines_of_epoch}
 use Rattle.crx_compact.specs.ReadingLaws.{EachReadsBack, text_lines, epochs_at, marked_of, counts_of, reads_of}
@@ -47,8 +47,8 @@ use Rattle.crx_compact.proofs.wayback.Runs.{runs-read, clocks-read, value-back, 
 use Rattle.crx_compact.proofs.wayback.Facts.{text-kept, text-head, text-begins, length-text, text-names, names-read}
 use Rattle.crx_compact.proofs.wayback.Facts.{satellites_of_rows, satellites-good, unmarked, difference-printable}
 use Rattle.crx_compact.proofs.wayback.Rows.{run-begins, rows-of_run, clock-printable, satellite_of, row-read}
-use Rattle.crx_history.proofs.Identifiers.{each-own, none-earlier}
-use Rattle.crx_history.proofs.EpochLines.{satellites_counted}
+use Rattle.crx_compact.proofs.Identifiers.{each-own, none-earlier}
+use Rattle.crx_compact.proofs.EpochLines.{satellites_counted}
 use Rattle.crx_columns.proofs.Characters.{at, at-without_end_blanks, columns-are}
 
 -- ---- the epochs of a block

@@ -21,18 +21,18 @@ use Rattle.crx_text.specs.declared.code.Code.TheVariants.{Missing}
 use Rattle.crx_faults.specs.declared.fault.Fault.{Fault}
 use Rattle.crx_faults.specs.declared.limits.TheConstants.{WRITTEN_ORDER, OBSERVATION_WIDTH, CLOCK_WIDTH}
 use Rattle.crx_columns.specs.meaning.EachPlace.{each_place}
-use Rattle.crx_arcs.specs.meaning.Sequences.{back_to, stretch}
-use Rattle.crx_arcs.specs.meaning.Differences.{code_at}
-use Rattle.crx_history.specs.meaning.Compaction.{Marked, run_of, since_full, row_named, arc_of}
-use Rattle.crx_history.specs.meaning.Compaction.{indicators_before, codes_of, satellite_line}
-use Rattle.crx_arcs.specs.meaning.Cells.{cell_text}
-use Rattle.crx_history.specs.meaning.EpochText.{Satellite}
-use Rattle.crx_history.specs.meaning.Expansion.{RawEpoch, raw_run_of, code_in}
-use Rattle.crx_arcs.specs.meaning.ArcValues.{value_of}
-use Rattle.crx_history.specs.meaning.Past.{Past, past_of_block}
-use Rattle.crx_arcs.specs.meaning.Cells.{ReadCell, cells_read, cells_of, after_cells}
-use Rattle.crx_history.specs.meaning.CompactPlaces.{are_marks, row_of_cells}
-use Rattle.crx_history.specs.meaning.CompactPlaces.{satellite_line_read}
+use Rattle.crx_compact.specs.meaning.Sequences.{back_to, stretch}
+use Rattle.crx_compact.specs.meaning.Differences.{code_at}
+use Rattle.crx_compact.specs.meaning.Compaction.{Marked, run_of, since_full, row_named, arc_of}
+use Rattle.crx_compact.specs.meaning.Compaction.{indicators_before, codes_of, satellite_line}
+use Rattle.crx_compact.specs.meaning.Cells.{cell_text}
+use Rattle.crx_compact.specs.meaning.EpochText.{Satellite}
+use Rattle.crx_compact.specs.meaning.Expansion.{RawEpoch, raw_run_of, code_in}
+use Rattle.crx_compact.specs.meaning.ArcValues.{value_of}
+use Rattle.crx_compact.specs.meaning.Past.{Past, past_of_block}
+use Rattle.crx_compact.specs.meaning.Cells.{ReadCell, cells_read, cells_of, after_cells}
+use Rattle.crx_compact.specs.meaning.CompactPlaces.{are_marks, row_of_cells}
+use Rattle.crx_compact.specs.meaning.CompactPlaces.{satellite_line_read}
 use Rattle.crx_compact.specs.Laws.{AreWhole, CodesFit}
 use Rattle.crx_columns.proofs.EachPlace.{each_place-all, index-each_place, length-each_place, map-each_place}
 use Rattle.crx_compact.proofs.Lists.{all-from}
@@ -44,8 +44,8 @@ use Rattle.crx_compact.proofs.wayback.CodeTexts.{is_code_character, code-charact
 use Rattle.crx_compact.proofs.wayback.Cells.{AreWritten, cells-written, marks-written, one_cell}
 use Rattle.crx_compact.proofs.wayback.Overlays.{at_past}
 use Rattle.crx_compact.proofs.wayback.Runs.{raw_run, codes-read, marked, rows_before, value-back, HasFlags, marks-new}
-use Rattle.crx_history.proofs.Characters.{bytes_eq-is}
-use Rattle.crx_arcs.proofs.arcs.Bounds.{IsNear, near-within, code-printable}
+use Rattle.crx_compact.proofs.Characters.{bytes_eq-is}
+use Rattle.crx_compact.proofs.arcs.Bounds.{IsNear, near-within, code-printable}
 use Rattle.crx_compact.proofs.wayback.Facts.{unmarked, at-difference, difference-printable, trimmed-again}
 use Rattle.crx_columns.proofs.Characters.{at, at-drop, at-without_end_blanks, columns-are, list_all-from_at}
 

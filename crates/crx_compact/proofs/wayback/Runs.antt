@@ -13,20 +13,20 @@ use Rattle.crx_rinex.specs.meaning.Observations.{Row, Epoch, value_in}
 use Rattle.crx_text.specs.declared.code.Code.{Code}
 use Rattle.crx_text.specs.declared.code.Code.TheVariants.{Missing}
 use Rattle.crx_faults.specs.declared.limits.TheConstants.{WRITTEN_ORDER}
-use Rattle.crx_arcs.specs.meaning.Sequences.{back_to, named, stretch}
-use Rattle.crx_arcs.specs.meaning.Differences.{code_at}
-use Rattle.crx_history.specs.meaning.Compaction.{Marked, epoch_text, row_named, since_full, run_of, arc_of, clock_arc}
-use Rattle.crx_history.specs.meaning.Compaction.{codes_of, indicators_before, newest_text}
-use Rattle.crx_history.specs.meaning.Expansion.{RawRow, RawEpoch, block_of, raw_row_named, raw_run_of, marks_of}
-use Rattle.crx_history.specs.meaning.Expansion.{code_in, overlaid}
-use Rattle.crx_arcs.specs.meaning.ArcValues.{since_start, value_since, value_of}
-use Rattle.crx_arcs.specs.ArcLaws.{codes_of_arc}
+use Rattle.crx_compact.specs.meaning.Sequences.{back_to, named, stretch}
+use Rattle.crx_compact.specs.meaning.Differences.{code_at}
+use Rattle.crx_compact.specs.meaning.Compaction.{Marked, epoch_text, row_named, since_full, run_of, arc_of, clock_arc}
+use Rattle.crx_compact.specs.meaning.Compaction.{codes_of, indicators_before, newest_text}
+use Rattle.crx_compact.specs.meaning.Expansion.{RawRow, RawEpoch, block_of, raw_row_named, raw_run_of, marks_of}
+use Rattle.crx_compact.specs.meaning.Expansion.{code_in, overlaid}
+use Rattle.crx_compact.specs.meaning.ArcValues.{since_start, value_since, value_of}
+use Rattle.crx_compact.specs.ArcLaws.{codes_of_arc}
 use Rattle.crx_columns.proofs.EachPlace.{index-each_place, length-each_place}
 use Rattle.crx_text.specs.meaning.Numbers.{IsMissingOrWithin}
-use Rattle.crx_arcs.proofs.arcs.Bounds.{within-is}
+use Rattle.crx_compact.proofs.arcs.Bounds.{within-is}
 use Rattle.crx_compact.specs.ReadingLaws.{raw_row, raw_of, raws_of}
-use Rattle.crx_arcs.proofs.arcs.Inversion.{value-numbers, started-codes}
-use Rattle.crx_history.proofs.Characters.{at-by_position, same_characters, bytes_eq-is}
+use Rattle.crx_compact.proofs.arcs.Inversion.{value-numbers, started-codes}
+use Rattle.crx_compact.proofs.Characters.{at-by_position, same_characters, bytes_eq-is}
 use Rattle.crx_compact.proofs.wayback.Overlays.{character-mark, overlaid-patched}
 use Rattle.crx_compact.proofs.wayback.Cuts.{overlaid-take, trimmed-within}
 use Rattle.crx_columns.proofs.Characters.{at, at-without_end_blanks}

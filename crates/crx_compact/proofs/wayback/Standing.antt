@@ -12,10 +12,10 @@ use Rattle.crx_faults.specs.declared.limits.TheConstants.{WRITTEN_ORDER}
 use Rattle.crx_rinex.specs.meaning.Observations.{Row, Epoch}
 use Rattle.crx_header.specs.meaning.ObservationTypes.{Count}
 use Rattle.crx_header.specs.meaning.EpochColumns.{begins_epoch, is_event_flag, is_event_line, is_observation_flag}
-use Rattle.crx_history.specs.meaning.Compaction.{Marked, epoch_text, since_full, run_of, arc_of, clock_arc, newest_text}
-use Rattle.crx_history.specs.meaning.Compaction.{indicators_before, codes_of, satellite_line, epoch_line}
-use Rattle.crx_arcs.specs.meaning.Cells.{cell_text}
-use Rattle.crx_arcs.specs.meaning.Differences.{code_at}
+use Rattle.crx_compact.specs.meaning.Compaction.{Marked, epoch_text, since_full, run_of, arc_of, clock_arc, newest_text}
+use Rattle.crx_compact.specs.meaning.Compaction.{indicators_before, codes_of, satellite_line, epoch_line}
+use Rattle.crx_compact.specs.meaning.Cells.{cell_text}
+use Rattle.crx_compact.specs.meaning.Differences.{code_at}
 use Rattle.crx_compact.specs.Laws.{AreWhole, has_no_epochs, LinesCanStand}
 use Rattle.crx_columns.proofs.EachPlace.{length-each_place}
 use Rattle.crx_rinex.specs.meaning.Epochs.{IsWholeEpoch}
@@ -24,7 +24,7 @@ use Rattle.crx_compact.proofs.wayback.Writable.{IsTypedRow, typed-rows}
 use Rattle.crx_compact.proofs.wayback.CodeTexts.{is_code_character, code-characters}
 use Rattle.crx_compact.proofs.wayback.Cells.{AreWritten}
 use Rattle.crx_compact.proofs.wayback.Runs.{marked, begins_full, begins_later}
-use Rattle.crx_history.proofs.Characters.{list_all-at, list_all-append}
+use Rattle.crx_compact.proofs.Characters.{list_all-at, list_all-append}
 use Rattle.crx_compact.proofs.wayback.Facts.{head_tests, text-kept, text-head}
 use Rattle.crx_compact.proofs.wayback.Facts.{text-begins, at-difference, difference-printable}
 use Rattle.crx_compact.proofs.wayback.Rows.{IsRowOf, clock-printable, line-begins, lines-each, written-codes}

@@ -8,23 +8,23 @@ use Rattle.crx_columns.specs.meaning.Columns.{without_end_blanks}
 use Rattle.crx_columns.specs.meaning.Texts.{text_difference}
 use Rattle.crx_rinex.specs.meaning.Observations.{Row, Epoch, value_in}
 use Rattle.crx_faults.specs.declared.limits.TheConstants.{WRITTEN_ORDER}
-use Rattle.crx_arcs.specs.meaning.Sequences.{back_to, stretch}
-use Rattle.crx_arcs.specs.meaning.Differences.{code_at}
-use Rattle.crx_history.specs.meaning.Compaction.{Marked, epoch_text, row_named, run_of, arc_of, newest_text}
-use Rattle.crx_history.specs.meaning.Compaction.{indicators_before, satellite_line}
-use Rattle.crx_history.specs.Tails.{RowTail, Tail, row_tail, tail_of}
-use Rattle.crx_arcs.specs.ArcTails.{arc_tail}
-use Rattle.crx_history.specs.Steps.{no_tail, tail_named, cell_of_tail, flags_of_tail, row_line_in, row_tail_in}
-use Rattle.crx_arcs.specs.ArcSteps.{code_of_value, arc_of_value}
+use Rattle.crx_compact.specs.meaning.Sequences.{back_to, stretch}
+use Rattle.crx_compact.specs.meaning.Differences.{code_at}
+use Rattle.crx_compact.specs.meaning.Compaction.{Marked, epoch_text, row_named, run_of, arc_of, newest_text}
+use Rattle.crx_compact.specs.meaning.Compaction.{indicators_before, satellite_line}
+use Rattle.crx_compact.specs.Tails.{RowTail, Tail, row_tail, tail_of}
+use Rattle.crx_compact.specs.ArcTails.{arc_tail}
+use Rattle.crx_compact.specs.Steps.{no_tail, tail_named, cell_of_tail, flags_of_tail, row_line_in, row_tail_in}
+use Rattle.crx_compact.specs.ArcSteps.{code_of_value, arc_of_value}
 use Rattle.crx_compact.specs.Laws.{EpochByTail}
 use Rattle.crx_columns.proofs.EachPlace.{each_place-same, index-each_place}
 use Rattle.crx_rinex.specs.meaning.Epochs.{are_different}
 use Rattle.crx_compact.proofs.Lists.{mapped-same}
 use Rattle.crx_compact.proofs.wayback.Runs.{marked, named-made, rows_before}
 use Rattle.crx_compact.proofs.wayback.Rows.{run-begins}
-use Rattle.crx_history.proofs.SoundTexts.{before-trimmed}
-use Rattle.crx_history.proofs.Identifiers.{each-own}
-use Rattle.crx_arcs.proofs.arcs.OneMore.{code-next, arc-next}
+use Rattle.crx_compact.proofs.SoundTexts.{before-trimmed}
+use Rattle.crx_compact.proofs.Identifiers.{each-own}
+use Rattle.crx_compact.proofs.arcs.OneMore.{code-next, arc-next}
 
 -- ---- what a tail holds of a satellite
 

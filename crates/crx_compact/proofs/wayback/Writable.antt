@@ -10,7 +10,7 @@ use Rattle.crx_columns.specs.meaning.Texts.{is_kept}
 use Rattle.crx_rinex.specs.meaning.SatelliteLines.{IsSoundRow, HasItsTypes}
 use Rattle.crx_rinex.specs.meaning.Epochs.{IsWholeEpoch}
 use Rattle.crx_header.specs.meaning.EpochColumns.{epoch_count}
-use Rattle.crx_history.proofs.Characters.{name-kept}
+use Rattle.crx_compact.proofs.Characters.{name-kept}
 use Rattle.crx_rinex.proofs.ReadingBack.{name-length}
 
 -- ---- rows

@@ -13,7 +13,7 @@ use Rattle.crx_faults.specs.declared.fault.Fault.TheVariants.{Truncated}
 use Rattle.crx_header.specs.meaning.EpochColumns.{begins_epoch, is_event_flag, is_event_line}
 use Rattle.crx_rinex.specs.meaning.Places.{Place, Here, Wrong, Wanted, one_line}
 use Rattle.crx_rinex.specs.meaning.Units.{Unit as FileUnit, Observation}
-use Rattle.crx_history.specs.meaning.CompactPlaces.{ReadEpoch, epoch_at}
+use Rattle.crx_compact.specs.meaning.CompactPlaces.{ReadEpoch, epoch_at}
 use Rattle.crx_reading.specs.meaning.Items.{Item, Accepted, Warned, records_left, types_in_force}
 use Rattle.crx_reading.specs.meaning.Reading.{Reading, AtLines, Looking, is_skipped, looked_for, reading_within}
 use Rattle.crx_reading.specs.meaning.Reading.{reading_from}

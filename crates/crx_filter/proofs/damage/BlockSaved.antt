@@ -8,7 +8,7 @@ use Rattle.crx_faults.specs.declared.fault.At.{At}
 use Rattle.crx_rinex.specs.meaning.Observations.{Epoch}
 use Rattle.crx_header.specs.meaning.EpochColumns.{begins_epoch, is_event_line}
 use Rattle.crx_rinex.specs.meaning.Units.{Observation}
-use Rattle.crx_history.specs.meaning.CompactPlaces.{ReadEpoch}
+use Rattle.crx_compact.specs.meaning.CompactPlaces.{ReadEpoch}
 use Rattle.crx_options.specs.meaning.Choices.{Choices}
 use Rattle.crx_reading.specs.meaning.Items.{Item, Accepted, Warned, header_has_ended, records_announced, records_left}
 use Rattle.crx_reading.specs.meaning.Items.{types_in_force}

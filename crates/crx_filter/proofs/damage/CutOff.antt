@@ -12,14 +12,14 @@ use Rattle.crx_header.specs.meaning.ObservationTypes.{Count}
 use Rattle.crx_rinex.specs.meaning.Places.{Place, Here, Wrong, Wanted, after_lines, then_place, one_line, first_line}
 use Rattle.crx_rinex.specs.Steady.{IsSteady, Remains}
 use Rattle.crx_rinex.proofs.Steady.{steady-first_line}
-use Rattle.crx_history.proofs.Marks.{row_of_line}
-use Rattle.crx_history.specs.meaning.EpochText.{Satellite}
-use Rattle.crx_history.specs.meaning.Expansion.{RawEpoch}
-use Rattle.crx_history.specs.meaning.Past.{Past, past_of_line}
-use Rattle.crx_history.specs.meaning.CompactPlaces.{BegunEpoch, ReadEpoch, epoch_begun, clock_line_read}
-use Rattle.crx_arcs.specs.meaning.Cells.{cell_read}
-use Rattle.crx_history.specs.meaning.CompactPlaces.{satellite_line_read, rows_read, epoch_of_rows}
-use Rattle.crx_history.specs.meaning.CompactPlaces.{epoch_after_line, epoch_at}
+use Rattle.crx_compact.proofs.Marks.{row_of_line}
+use Rattle.crx_compact.specs.meaning.EpochText.{Satellite}
+use Rattle.crx_compact.specs.meaning.Expansion.{RawEpoch}
+use Rattle.crx_compact.specs.meaning.Past.{Past, past_of_line}
+use Rattle.crx_compact.specs.meaning.CompactPlaces.{BegunEpoch, ReadEpoch, epoch_begun, clock_line_read}
+use Rattle.crx_compact.specs.meaning.Cells.{cell_read}
+use Rattle.crx_compact.specs.meaning.CompactPlaces.{satellite_line_read, rows_read, epoch_of_rows}
+use Rattle.crx_compact.specs.meaning.CompactPlaces.{epoch_after_line, epoch_at}
 use Rattle.crx_compact.proofs.reading.SteadyEpochs.{steady-rows_read}
 use Rattle.crx_filter.proofs.following.Lines.{one_line-decided}
 

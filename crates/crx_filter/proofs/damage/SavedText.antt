@@ -8,7 +8,7 @@ use Rattle.crx_rinex.specs.meaning.Observations.{Epoch}
 use Rattle.crx_rinex.specs.meaning.Epochs.{IsWholeEpoch}
 use Rattle.crx_rinex.specs.meaning.Printing.{printed_epoch}
 use Rattle.crx_rinex.specs.meaning.Units.{HeaderLine, EventLine, EventRecord, Observation}
-use Rattle.crx_history.specs.meaning.CompactPlaces.{ReadEpoch}
+use Rattle.crx_compact.specs.meaning.CompactPlaces.{ReadEpoch}
 use Rattle.crx_compact.specs.ReadingLaws.{IsGood}
 use Rattle.crx_reading.specs.meaning.Items.{Item, Accepted, Warned, ends_header, header_has_ended, records_left}
 use Rattle.crx_reading.specs.meaning.Items.{types_in_force}

@@ -11,7 +11,7 @@ use Rattle.crx_rinex.specs.meaning.Observations.{Epoch}
 use Rattle.crx_header.specs.meaning.EpochColumns.{begins_epoch, is_event_flag, is_event_line}
 use Rattle.crx_rinex.specs.meaning.Places.{Here}
 use Rattle.crx_rinex.specs.meaning.Units.{HeaderLine, EventLine, EventRecord, Observation}
-use Rattle.crx_history.specs.meaning.Compaction.{Marked, compact_epoch, epoch_line}
+use Rattle.crx_compact.specs.meaning.Compaction.{Marked, compact_epoch, epoch_line}
 use Rattle.crx_compact.specs.Laws.{LinesCanStand, has_no_epochs}
 use Rattle.crx_options.specs.meaning.Choices.{Choices}
 use Rattle.crx_reading.specs.meaning.Items.{Item, Accepted, Warned, ends_header, header_has_ended, records_announced}

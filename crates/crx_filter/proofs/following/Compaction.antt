@@ -5,10 +5,10 @@ use Rattle.crx_rinex.specs.meaning.Observations.{Epoch}
 use Rattle.crx_rinex.specs.meaning.Units.{HeaderLine, EventLine, EventRecord, Observation}
 use Rattle.crx_rinex.specs.meaning.EpochPlaces.{epoch_place}
 use Rattle.crx_rinex.proofs.SoundEpochs.{sound-epoch_place}
-use Rattle.crx_history.specs.meaning.Compaction.{Marked}
+use Rattle.crx_compact.specs.meaning.Compaction.{Marked}
 use Rattle.crx_compact.specs.Laws.{tail_before}
-use Rattle.crx_history.specs.Tails.{Tail}
-use Rattle.crx_history.specs.Steps.{no_tail, lines_after_tail, tail_after, tail_written_after}
+use Rattle.crx_compact.specs.Tails.{Tail}
+use Rattle.crx_compact.specs.Steps.{no_tail, lines_after_tail, tail_after, tail_written_after}
 use Rattle.crx_compact.proofs.wayback.Tailing.{epoch-by_tail}
 use Rattle.crx_options.specs.meaning.Choices.{Choices}
 use Rattle.crx_reading.specs.meaning.Items.{Item, Accepted, Warned, types_in_force}

@@ -7,9 +7,9 @@ use Rattle.crx_faults.specs.declared.fault.Fault.{Fault}
 use Rattle.crx_faults.specs.declared.fault.Fault.TheVariants.{LineTooLong}
 use Rattle.crx_rinex.specs.meaning.Places.{Place, Here, Wrong, Wanted}
 use Rattle.crx_rinex.specs.Steady.{Remains}
-use Rattle.crx_history.specs.meaning.CompactPlaces.{ReadEpoch}
-use Rattle.crx_history.specs.OpenEpochs.{OpenRawEpoch}
-use Rattle.crx_history.specs.Tails.{Tail}
+use Rattle.crx_compact.specs.meaning.CompactPlaces.{ReadEpoch}
+use Rattle.crx_compact.specs.OpenEpochs.{OpenRawEpoch}
+use Rattle.crx_compact.specs.Tails.{Tail}
 use Rattle.crx_options.specs.meaning.Choices.{Choices}
 use Rattle.crx_reading.specs.meaning.Reading.{Reading, AtFault, AtLines, reading_from}
 use Rattle.crx_filter.specs.Laws.{IsFollowed, IsExpandedOn, Fed, fed, fed_once}

@@ -10,12 +10,12 @@ use Rattle.crx_header.specs.meaning.EpochColumns.{is_event_line, records_in}
 use Rattle.crx_rinex.specs.meaning.Printing.{printed_epoch}
 use Rattle.crx_rinex.specs.meaning.Places.{Place, Here, Wrong, Wanted, one_line}
 use Rattle.crx_rinex.specs.meaning.Units.{Unit as FileUnit, EventLine}
-use Rattle.crx_history.specs.meaning.Expansion.{RawEpoch}
-use Rattle.crx_history.specs.meaning.CompactPlaces.{ReadEpoch, epoch_at}
-use Rattle.crx_history.specs.Tails.{Tail, tail_left}
-use Rattle.crx_history.specs.OpenEpochs.{epoch_after, OpenRawEpoch, HeldEpoch, RawStep, Going, Whole, Faulty}
-use Rattle.crx_history.specs.OpenEpochs.{first_step, next_step, placed_as, held_after, place_of_step, place_of_steps}
-use Rattle.crx_history.specs.OpenEpochs.{open_raw_after, open_raw_with}
+use Rattle.crx_compact.specs.meaning.Expansion.{RawEpoch}
+use Rattle.crx_compact.specs.meaning.CompactPlaces.{ReadEpoch, epoch_at}
+use Rattle.crx_compact.specs.Tails.{Tail, tail_left}
+use Rattle.crx_compact.specs.OpenEpochs.{epoch_after, OpenRawEpoch, HeldEpoch, RawStep, Going, Whole, Faulty}
+use Rattle.crx_compact.specs.OpenEpochs.{first_step, next_step, placed_as, held_after, place_of_step, place_of_steps}
+use Rattle.crx_compact.specs.OpenEpochs.{open_raw_after, open_raw_with}
 use Rattle.crx_compact.specs.ReadingLaws.{is_wanted}
 use Rattle.crx_compact.proofs.soundness.Soundness.{reads-soundly}
 use Rattle.crx_compact.proofs.reading.RawTailing.{place-by_tail, left-by_tail}

@@ -5,7 +5,7 @@ use Rattle.crx_faults.specs.meaning.Lines.{InputLine}
 use Rattle.crx_faults.specs.meaning.Seen.{ReadLine, seen}
 use Rattle.crx_faults.specs.declared.fault.At.{At}
 use Rattle.crx_rinex.specs.meaning.Observations.{Epoch}
-use Rattle.crx_history.specs.meaning.CompactPlaces.{ReadEpoch}
+use Rattle.crx_compact.specs.meaning.CompactPlaces.{ReadEpoch}
 use Rattle.crx_options.specs.meaning.Choices.{Choices}
 use Rattle.crx_reading.specs.meaning.Reading.{WholeReading}
 use Rattle.crx_faults.specs.meaning.Lines.{lines_text}

@@ -6,15 +6,15 @@ use Rattle.std.proofs.lemmas.Option.{none-some}
 use Rattle.crx_faults.specs.meaning.Seen.{ReadLine, Content, Overlong}
 use Rattle.crx_faults.specs.declared.fault.Fault.{Fault}
 use Rattle.crx_header.specs.meaning.ObservationTypes.{Count}
-use Rattle.crx_history.specs.meaning.CompactPlaces.{ReadEpoch, satellites_of_line}
-use Rattle.crx_history.specs.meaning.EpochText.{Satellite}
-use Rattle.crx_history.specs.OpenEpochs.{OpenRawEpoch, RawStep, Going, Whole, Faulty, first_step, is_faulty}
-use Rattle.crx_history.specs.OpenEpochs.{makes_epoch}
-use Rattle.crx_history.specs.OpenEpochs.{next_step}
-use Rattle.crx_history.specs.OpenEpochs.{open_raw_after, open_raw_with, opened_raw, opening, tail_for_line}
-use Rattle.crx_history.specs.HeldRows.{past_of_tail}
-use Rattle.crx_history.specs.Tails.{Tail}
-use Rattle.crx_arcs.specs.meaning.Sequences.{and_then}
+use Rattle.crx_compact.specs.meaning.CompactPlaces.{ReadEpoch, satellites_of_line}
+use Rattle.crx_compact.specs.meaning.EpochText.{Satellite}
+use Rattle.crx_compact.specs.OpenEpochs.{OpenRawEpoch, RawStep, Going, Whole, Faulty, first_step, is_faulty}
+use Rattle.crx_compact.specs.OpenEpochs.{makes_epoch}
+use Rattle.crx_compact.specs.OpenEpochs.{next_step}
+use Rattle.crx_compact.specs.OpenEpochs.{open_raw_after, open_raw_with, opened_raw, opening, tail_for_line}
+use Rattle.crx_compact.specs.HeldRows.{past_of_tail}
+use Rattle.crx_compact.specs.Tails.{Tail}
+use Rattle.crx_compact.specs.meaning.Sequences.{and_then}
 use Rattle.crx_columns.specs.Texts.{patched}
 use Rattle.crx_options.specs.meaning.Choices.{Choices}
 use Rattle.crx_reading.specs.meaning.Items.{Item, types_in_force}

@@ -3,8 +3,8 @@ use Rattle.std.proofs.Common.{ℕ, ◌≡◌, Bool, true, false, List, [], ◌�
 use Rattle.crx_faults.specs.meaning.Seen.{ReadLine}
 use Rattle.crx_rinex.specs.meaning.Observations.{Epoch}
 use Rattle.crx_rinex.specs.meaning.Units.{Unit as FileUnit, HeaderLine, EventLine, EventRecord, Observation}
-use Rattle.crx_history.specs.OpenEpochs.{HeldEpoch, OpenRawEpoch}
-use Rattle.crx_history.specs.Tails.{Tail}
+use Rattle.crx_compact.specs.OpenEpochs.{HeldEpoch, OpenRawEpoch}
+use Rattle.crx_compact.specs.Tails.{Tail}
 use Rattle.crx_rinex.specs.meaning.EpochPlaces.{OpenEpoch}
 use Rattle.crx_reading.specs.LineByLine.{Seen, Made, Completes, Moves, Fails, Repeats, Direction, Step, is_skipped_in}
 use Rattle.crx_reading.specs.LineByLine.{made_in, step_of_made}

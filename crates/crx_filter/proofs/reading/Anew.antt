@@ -13,9 +13,9 @@ use Rattle.crx_header.specs.ObservationTypes.{with_line}
 use Rattle.crx_rinex.specs.meaning.Places.{Place, Here, Wrong, Wanted, one_line, first_line}
 use Rattle.crx_rinex.specs.meaning.Units.{Unit as FileUnit, HeaderLine, EventLine, EventRecord, Observation}
 use Rattle.crx_header.proofs.Counts.{types_of-push}
-use Rattle.crx_history.specs.meaning.Expansion.{RawEpoch, block_of}
-use Rattle.crx_history.specs.meaning.Past.{Past, past_of_block, past_of_epochs}
-use Rattle.crx_history.specs.meaning.CompactPlaces.{ReadEpoch, epoch_at}
+use Rattle.crx_compact.specs.meaning.Expansion.{RawEpoch, block_of}
+use Rattle.crx_compact.specs.meaning.Past.{Past, past_of_block, past_of_epochs}
+use Rattle.crx_compact.specs.meaning.CompactPlaces.{ReadEpoch, epoch_at}
 use Rattle.crx_compact.proofs.reading.Forgetting.{forgets}
 use Rattle.crx_reading.specs.meaning.Items.{Item, Accepted, Warned, header_has_ended, records_announced, records_left}
 use Rattle.crx_reading.specs.meaning.Items.{records_count_types, declaring_lines, types_in_force}

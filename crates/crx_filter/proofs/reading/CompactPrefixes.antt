@@ -4,7 +4,7 @@ use Rattle.std.proofs.lemmas.List.{drop-append-le}
 use Rattle.crx_faults.specs.meaning.Seen.{ReadLine}
 use Rattle.crx_rinex.specs.meaning.Places.{Place, Here, Wrong, Wanted}
 use Rattle.crx_rinex.specs.Steady.{Remains}
-use Rattle.crx_history.specs.meaning.CompactPlaces.{ReadEpoch}
+use Rattle.crx_compact.specs.meaning.CompactPlaces.{ReadEpoch}
 use Rattle.crx_options.specs.meaning.Choices.{Choices}
 use Rattle.crx_reading.specs.meaning.Items.{Item}
 use Rattle.crx_reading.specs.meaning.Reading.{reading_from, whole_reading}

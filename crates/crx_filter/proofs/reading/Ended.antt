@@ -6,9 +6,9 @@ use Rattle.crx_faults.specs.meaning.Seen.{ReadLine}
 use Rattle.crx_rinex.specs.meaning.Observations.{Epoch}
 use Rattle.crx_rinex.specs.meaning.Places.{Place, Here, Wrong, Wanted}
 use Rattle.crx_rinex.specs.Steady.{Remains}
-use Rattle.crx_history.specs.meaning.CompactPlaces.{ReadEpoch}
-use Rattle.crx_history.specs.OpenEpochs.{OpenRawEpoch}
-use Rattle.crx_history.specs.Tails.{Tail}
+use Rattle.crx_compact.specs.meaning.CompactPlaces.{ReadEpoch}
+use Rattle.crx_compact.specs.OpenEpochs.{OpenRawEpoch}
+use Rattle.crx_compact.specs.Tails.{Tail}
 use Rattle.crx_options.specs.meaning.Choices.{Choices}
 use Rattle.crx_reading.specs.meaning.Reading.{Reading, WholeReading, reading_from, ended_reading}
 use Rattle.crx_faults.specs.meaning.Faults.{is_skippable}

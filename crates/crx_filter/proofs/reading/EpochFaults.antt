@@ -17,24 +17,24 @@ use Rattle.crx_header.specs.meaning.EpochColumns.{epoch_count, begins_epoch}
 use Rattle.crx_header.specs.meaning.ObservationTypes.{Count}
 use Rattle.crx_rinex.specs.meaning.Places.{Place, Here, Wrong, Wanted, after_lines, then_place, one_line, first_line}
 use Rattle.crx_header.specs.meaning.Satellites.{types_of_satellite}
-use Rattle.crx_history.specs.meaning.CompactPlaces.{BegunEpoch, satellites_of_text}
-use Rattle.crx_history.specs.meaning.CompactPlaces.{satellites_of_line, epoch_begun, clock_line_read}
-use Rattle.crx_arcs.specs.meaning.Cells.{cell_read}
-use Rattle.crx_arcs.specs.meaning.Cells.{cells_of, after_cells, cells_read}
-use Rattle.crx_history.specs.meaning.CompactPlaces.{are_marks, row_of_cells}
-use Rattle.crx_history.specs.meaning.CompactPlaces.{satellite_line_read, rows_read}
-use Rattle.crx_history.specs.meaning.CompactPlaces.{epoch_of_rows, epoch_after_line, epoch_at}
-use Rattle.crx_arcs.specs.meaning.Differences.{value_at}
-use Rattle.crx_history.specs.meaning.EpochText.{Satellite, satellite_before, satellites_named, names_in}
+use Rattle.crx_compact.specs.meaning.CompactPlaces.{BegunEpoch, satellites_of_text}
+use Rattle.crx_compact.specs.meaning.CompactPlaces.{satellites_of_line, epoch_begun, clock_line_read}
+use Rattle.crx_compact.specs.meaning.Cells.{cell_read}
+use Rattle.crx_compact.specs.meaning.Cells.{cells_of, after_cells, cells_read}
+use Rattle.crx_compact.specs.meaning.CompactPlaces.{are_marks, row_of_cells}
+use Rattle.crx_compact.specs.meaning.CompactPlaces.{satellite_line_read, rows_read}
+use Rattle.crx_compact.specs.meaning.CompactPlaces.{epoch_of_rows, epoch_after_line, epoch_at}
+use Rattle.crx_compact.specs.meaning.Differences.{value_at}
+use Rattle.crx_compact.specs.meaning.EpochText.{Satellite, satellite_before, satellites_named, names_in}
 use Rattle.crx_columns.specs.meaning.Texts.{is_printable}
-use Rattle.crx_history.specs.meaning.Expansion.{RawEpoch}
-use Rattle.crx_arcs.specs.meaning.ArcValues.{Started, is_within, value_since, value_of, since_start}
-use Rattle.crx_history.specs.meaning.Expansion.{block_of, code_in, raw_run_of}
-use Rattle.crx_history.specs.meaning.Past.{Past, past_of_block, past_of_epochs, past_of_line}
-use Rattle.crx_arcs.specs.meaning.Sequences.{and_then, before_all}
+use Rattle.crx_compact.specs.meaning.Expansion.{RawEpoch}
+use Rattle.crx_compact.specs.meaning.ArcValues.{Started, is_within, value_since, value_of, since_start}
+use Rattle.crx_compact.specs.meaning.Expansion.{block_of, code_in, raw_run_of}
+use Rattle.crx_compact.specs.meaning.Past.{Past, past_of_block, past_of_epochs, past_of_line}
+use Rattle.crx_compact.specs.meaning.Sequences.{and_then, before_all}
 use Rattle.crx_faults.specs.meaning.Faults.{is_skippable}
-use Rattle.crx_history.proofs.EpochLines.{satellites_counted}
-use Rattle.crx_history.proofs.Marks.{row_with_marks, row_of_line}
+use Rattle.crx_compact.proofs.EpochLines.{satellites_counted}
+use Rattle.crx_compact.proofs.Marks.{row_with_marks, row_of_line}
 use Rattle.crx_filter.proofs.reading.WhatStands.{chosen}
 
 -- ---- results and places whose faults pass a test

@@ -8,11 +8,11 @@ use Rattle.crx_rinex.specs.Steady.{IsSteady, Remains, IsDecidedAfter}
 use Rattle.crx_header.specs.meaning.EpochColumns.{is_event_line}
 use Rattle.crx_header.specs.meaning.ObservationTypes.{Count}
 use Rattle.crx_rinex.proofs.Steady.{steady-here, steady-first_line, steady-then}
-use Rattle.crx_history.specs.meaning.Expansion.{RawEpoch}
-use Rattle.crx_history.specs.meaning.Past.{past_of_line}
-use Rattle.crx_history.specs.meaning.CompactPlaces.{ReadEpoch, epoch_begun}
-use Rattle.crx_history.specs.meaning.CompactPlaces.{epoch_after_line}
-use Rattle.crx_history.specs.meaning.CompactPlaces.{epoch_at}
+use Rattle.crx_compact.specs.meaning.Expansion.{RawEpoch}
+use Rattle.crx_compact.specs.meaning.Past.{past_of_line}
+use Rattle.crx_compact.specs.meaning.CompactPlaces.{ReadEpoch, epoch_begun}
+use Rattle.crx_compact.specs.meaning.CompactPlaces.{epoch_after_line}
+use Rattle.crx_compact.specs.meaning.CompactPlaces.{epoch_at}
 use Rattle.crx_reading.specs.meaning.Items.{Item, types_in_force}
 use Rattle.crx_reading.specs.meaning.Expanded.{raws_kept, event_line, as_observation, compact_epoch_place}
 use Rattle.crx_reading.specs.meaning.Expanded.{compact_place}

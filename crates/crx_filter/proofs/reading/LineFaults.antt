@@ -31,8 +31,8 @@ use Rattle.crx_header.specs.meaning.Satellites.{types_of_satellite}
 use Rattle.crx_rinex.specs.meaning.SatelliteLines.{values_in, flags_in, row_with, row_of_types}
 use Rattle.crx_rinex.specs.meaning.SatelliteLines.{row_of}
 use Rattle.crx_rinex.specs.meaning.Units.{Unit as FileUnit, HeaderLine, EventRecord, Observation}
-use Rattle.crx_history.specs.meaning.CompactPlaces.{ReadEpoch, epoch_at}
-use Rattle.crx_history.specs.meaning.Expansion.{RawEpoch}
+use Rattle.crx_compact.specs.meaning.CompactPlaces.{ReadEpoch, epoch_at}
+use Rattle.crx_compact.specs.meaning.Expansion.{RawEpoch}
 use Rattle.crx_header.specs.declared.crinex.TheConstants.{CRINEX_VERSION, CRINEX_VERSION_LABEL, CRINEX_PROGRAM_LABEL}
 use Rattle.crx_reading.specs.meaning.Items.{Item, is_at_start, records_count_types}
 use Rattle.crx_reading.specs.meaning.Items.{types_in_force}

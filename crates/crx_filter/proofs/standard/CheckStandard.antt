@@ -5,7 +5,7 @@ use Rattle.std.specs.List.{list_all}
 use Rattle.std.specs.Str.{bytes_eq}
 use Rattle.std.proofs.lemmas.Option.{none-some}
 use Rattle.std.proofs.lemmas.Bool.{and_parts}
-use Rattle.crx_history.proofs.Characters.{bytes_eq-same, bytes_eq-is}
+use Rattle.crx_compact.proofs.Characters.{bytes_eq-same, bytes_eq-is}
 use Rattle.crx_faults.specs.meaning.Lines.{InputLine, lines_of}
 use Rattle.crx_options.specs.meaning.Choices.{Choices}
 use Rattle.crx_runs.specs.meaning.Results.{FilterResult}

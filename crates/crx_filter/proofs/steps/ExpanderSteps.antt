@@ -3,9 +3,9 @@ use Rattle.std.proofs.Common.{Bool, ◌≡◌, inl, inr, ℕ, ◌+◌, true, fal
 use Rattle.std.proofs.Common.{[], Option, Some, None, Result, Err, refl, sym}
 use Rattle.std.proofs.Common.{ap, ◌∙◌, if◌then◌else◌, true≢false}
 use Rattle.crx_header.specs.meaning.ObservationTypes.{Count}
-use Rattle.crx_history.specs.OpenEpochs.{OpenRawEpoch, ColumnsState}
-use Rattle.crx_history.specs.Tails.{Tail}
-use Rattle.crx_history.specs.OpenEpochs.ColumnsState.{Idle, Reading}
+use Rattle.crx_compact.specs.OpenEpochs.{OpenRawEpoch, ColumnsState}
+use Rattle.crx_compact.specs.Tails.{Tail}
+use Rattle.crx_compact.specs.OpenEpochs.ColumnsState.{Idle, Reading}
 use Rattle.crx_faults.specs.meaning.Seen.{Content, Overlong}
 use Rattle.crx_faults.specs.declared.fault.At.{At}
 use Rattle.crx_faults.specs.declared.fault.Fault.{Fault}

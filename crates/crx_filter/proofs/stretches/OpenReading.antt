@@ -13,7 +13,7 @@ use Rattle.crx_faults.specs.declared.fault.Fault.{Fault}
 use Rattle.crx_header.specs.meaning.EpochColumns.{begins_epoch, is_event_line}
 use Rattle.crx_rinex.specs.meaning.Places.{Here, Wrong, Wanted}
 use Rattle.crx_rinex.specs.meaning.Units.{Unit as FileUnit, HeaderLine, EventLine, EventRecord, Observation}
-use Rattle.crx_history.specs.meaning.CompactPlaces.{ReadEpoch, epoch_at}
+use Rattle.crx_compact.specs.meaning.CompactPlaces.{ReadEpoch, epoch_at}
 use Rattle.crx_reading.specs.meaning.Items.{Item, Accepted, Warned, types_in_force}
 use Rattle.crx_reading.specs.meaning.Reading.{Reading, AtLines, Looking, is_skipped, can_go_on, looked_for}
 use Rattle.crx_reading.specs.meaning.Reading.{reading_within, reading_from}

@@ -8,7 +8,7 @@ use Rattle.crx_faults.specs.meaning.Lines.{lines_of, lines_text}
 use Rattle.crx_faults.specs.meaning.Seen.{ReadLine, Content, seen}
 use Rattle.crx_header.specs.meaning.CompactHeader.{version_line, program_line}
 use Rattle.crx_rinex.specs.meaning.Observations.{Epoch}
-use Rattle.crx_history.specs.meaning.CompactPlaces.{ReadEpoch}
+use Rattle.crx_compact.specs.meaning.CompactPlaces.{ReadEpoch}
 use Rattle.crx_options.specs.meaning.Choices.{Choices, is_date}
 use Rattle.crx_reading.specs.meaning.Items.{Item, is_at_start, records_left}
 use Rattle.crx_reading.specs.meaning.Reading.{Reading, AtLines, reading_from, ended_reading}

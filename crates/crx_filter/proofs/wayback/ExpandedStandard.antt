@@ -23,8 +23,8 @@ use Rattle.crx_rinex.specs.meaning.Places.{Place, Here, Wrong, Wanted, first_lin
 use Rattle.crx_rinex.specs.meaning.Printing.{printed_epoch}
 use Rattle.crx_rinex.specs.meaning.Units.{Unit as FileUnit, HeaderLine, EventLine, EventRecord, Observation}
 use Rattle.crx_rinex.specs.meaning.Units.{printed_unit}
-use Rattle.crx_history.specs.meaning.CompactPlaces.{ReadEpoch, epoch_at}
-use Rattle.crx_history.specs.meaning.Expansion.{RawEpoch}
+use Rattle.crx_compact.specs.meaning.CompactPlaces.{ReadEpoch, epoch_at}
+use Rattle.crx_compact.specs.meaning.Expansion.{RawEpoch}
 use Rattle.crx_compact.specs.ReadingLaws.{IsGood}
 use Rattle.crx_options.specs.meaning.Choices.{Choices}
 use Rattle.crx_reading.specs.meaning.Expanded.{compact_place, compact_epoch_place, event_line, as_observation, raws_kept}

@@ -7,8 +7,8 @@ use Rattle.crx_faults.specs.meaning.Seen.{ReadLine}
 use Rattle.crx_header.specs.meaning.ObservationTypes.{Count}
 use Rattle.crx_rinex.specs.meaning.Places.{Place, Here, Wrong, Wanted}
 use Rattle.crx_rinex.specs.meaning.Units.{Unit as FileUnit, HeaderLine, EventLine, EventRecord, Observation}
-use Rattle.crx_history.specs.meaning.Expansion.{RawEpoch}
-use Rattle.crx_history.specs.meaning.CompactPlaces.{ReadEpoch, epoch_at}
+use Rattle.crx_compact.specs.meaning.Expansion.{RawEpoch}
+use Rattle.crx_compact.specs.meaning.CompactPlaces.{ReadEpoch, epoch_at}
 use Rattle.crx_compact.specs.ReadingLaws.{HasPrintableMarks, IsGood}
 use Rattle.crx_compact.proofs.soundness.Goodness.{reads-whole}
 use Rattle.crx_reading.specs.meaning.Items.{Item, Accepted, Warned, is_at_start}

@@ -10,9 +10,9 @@ use Rattle.crx_rinex.specs.meaning.Places.{Here}
 use Rattle.crx_rinex.specs.meaning.Units.{Unit as FileUnit, HeaderLine, EventLine, EventRecord, Observation}
 use Rattle.crx_header.specs.meaning.EpochColumns.{is_event_line, records_in}
 use Rattle.crx_header.specs.meaning.ObservationTypes.{Count}
-use Rattle.crx_history.specs.meaning.Compaction.{Marked, since_full, run_of, satellite_line, compact_epoch, epoch_line}
-use Rattle.crx_history.specs.meaning.Expansion.{RawEpoch, block_of}
-use Rattle.crx_history.specs.meaning.CompactPlaces.{ReadEpoch, epoch_at}
+use Rattle.crx_compact.specs.meaning.Compaction.{Marked, since_full, run_of, satellite_line, compact_epoch, epoch_line}
+use Rattle.crx_compact.specs.meaning.Expansion.{RawEpoch, block_of}
+use Rattle.crx_compact.specs.meaning.CompactPlaces.{ReadEpoch, epoch_at}
 use Rattle.crx_compact.specs.Laws.{AreWhole, LinesCanStand}
 use Rattle.crx_compact.specs.ReadingLaws.{raws_of, read_of, lines_of_epoch, EpochReadsBack}
 use Rattle.crx_compact.proofs.wayback.Reading.{each-reads_back}

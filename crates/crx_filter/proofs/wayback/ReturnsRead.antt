@@ -10,8 +10,8 @@ use Rattle.crx_rinex.specs.meaning.EpochLines.{HeadLine, EventHead, EpochHead, h
 use Rattle.crx_rinex.specs.meaning.EpochPlaces.{opened, begun_by, rest_at, unit_begun, epoch_place}
 use Rattle.crx_rinex.specs.meaning.Places.{Place, Here, Wrong, Wanted, after_lines, then_place, one_line, first_line}
 use Rattle.crx_rinex.specs.meaning.Units.{Unit as FileUnit, HeaderLine, EventLine, EventRecord, Observation}
-use Rattle.crx_history.specs.meaning.Expansion.{RawEpoch}
-use Rattle.crx_history.specs.meaning.CompactPlaces.{ReadEpoch, epoch_at}
+use Rattle.crx_compact.specs.meaning.Expansion.{RawEpoch}
+use Rattle.crx_compact.specs.meaning.CompactPlaces.{ReadEpoch, epoch_at}
 use Rattle.crx_reading.specs.meaning.Items.{Item, Accepted, Warned, is_at_start}
 use Rattle.crx_reading.specs.meaning.Items.{records_count_types, types_in_force}
 use Rattle.crx_reading.specs.meaning.UnitPlaces.{unless_wrong, types_fault, header_line_fault, header_line}

@@ -10,7 +10,7 @@ use Rattle.crx_header.specs.meaning.Header.{is_end_of_header}
 use Rattle.crx_header.specs.meaning.ObservationTypes.{types_of}
 use Rattle.crx_rinex.specs.meaning.Places.{Wrong}
 use Rattle.crx_rinex.specs.meaning.Units.{HeaderLine, EventLine, EventRecord, Observation, printed_unit}
-use Rattle.crx_history.specs.meaning.CompactPlaces.{ReadEpoch}
+use Rattle.crx_compact.specs.meaning.CompactPlaces.{ReadEpoch}
 use Rattle.crx_reading.specs.meaning.Items.{Item, Accepted, Warned, is_at_start, header_has_ended}
 use Rattle.crx_reading.specs.meaning.Items.{records_left}
 use Rattle.crx_reading.specs.meaning.Items.{records_count_types, declaring_lines, types_in_force}

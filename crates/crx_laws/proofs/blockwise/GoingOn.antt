@@ -13,7 +13,7 @@ use Rattle.crx_faults.specs.declared.fault.Fault.{Fault}
 use Rattle.crx_header.specs.meaning.EpochColumns.{begins_epoch, is_event_line}
 use Rattle.crx_rinex.specs.meaning.Places.{Place, Here, Wrong, Wanted, one_line}
 use Rattle.crx_rinex.specs.Steady.{Remains}
-use Rattle.crx_history.specs.meaning.CompactPlaces.{ReadEpoch, epoch_at}
+use Rattle.crx_compact.specs.meaning.CompactPlaces.{ReadEpoch, epoch_at}
 use Rattle.crx_options.specs.meaning.Choices.{Choices}
 use Rattle.crx_reading.specs.meaning.Items.{Item, header_has_ended, records_announced, records_left}
 use Rattle.crx_reading.specs.meaning.Items.{types_in_force}

@@ -5,7 +5,7 @@ use Rattle.std.proofs.lemmas.List.{append_cancel_right}
 use Rattle.crx_faults.specs.meaning.Lines.{lines_of, lines_text}
 use Rattle.crx_faults.specs.meaning.Seen.{Content, seen}
 use Rattle.crx_header.specs.meaning.CompactHeader.{version_line, program_line}
-use Rattle.crx_history.specs.meaning.CompactPlaces.{ReadEpoch}
+use Rattle.crx_compact.specs.meaning.CompactPlaces.{ReadEpoch}
 use Rattle.crx_options.specs.meaning.Choices.{Choices, is_date}
 use Rattle.crx_rinex.specs.meaning.Observations.{Epoch}
 use Rattle.crx_reading.specs.meaning.Items.{Item, header_has_ended, records_left}

@@ -15,17 +15,17 @@ use Rattle.crx_rinex.specs.meaning.Units.{HeaderLine, EventLine, EventRecord, Ob
 use Rattle.crx_rinex.specs.meaning.EpochPlaces.{OpenEpoch}
 use Rattle.crx_header.proofs.Counts.{systems_few}
 use Rattle.crx_laws.proofs.OpenSound.{IsOpenSoundly, open-sound}
-use Rattle.crx_history.specs.meaning.CompactPlaces.{ReadEpoch, epoch_at}
-use Rattle.crx_history.specs.meaning.Expansion.{RawEpoch}
-use Rattle.crx_history.specs.Tails.{Tail, IsBoundedTail, tail_left}
-use Rattle.crx_history.specs.OpenEpochs.{OpenRawEpoch, IsBoundedOpen, epoch_after, first_step, held_after, placed_as}
-use Rattle.crx_history.specs.OpenEpochs.{place_by_steps, open_raw_with}
+use Rattle.crx_compact.specs.meaning.CompactPlaces.{ReadEpoch, epoch_at}
+use Rattle.crx_compact.specs.meaning.Expansion.{RawEpoch}
+use Rattle.crx_compact.specs.Tails.{Tail, IsBoundedTail, tail_left}
+use Rattle.crx_compact.specs.OpenEpochs.{OpenRawEpoch, IsBoundedOpen, epoch_after, first_step, held_after, placed_as}
+use Rattle.crx_compact.specs.OpenEpochs.{place_by_steps, open_raw_with}
 use Rattle.crx_laws.proofs.soundness.BoundedTails.{written-bounded}
 use Rattle.crx_laws.proofs.soundness.BoundedReading.{read-bounded, open-bounded, place-bounded, OfHeld}
 use Rattle.crx_compact.proofs.reading.LineByLine.{steps-agree}
 use Rattle.crx_compact.proofs.reading.RawTailing.{place-by_tail, left-by_tail}
 use Rattle.crx_compact.proofs.soundness.Soundness.{reads-soundly}
-use Rattle.crx_history.proofs.Characters.{length-is}
+use Rattle.crx_compact.proofs.Characters.{length-is}
 use Rattle.crx_options.specs.meaning.Choices.{Choices}
 use Rattle.crx_reading.specs.meaning.Items.{Item, Accepted, Warned, header_has_ended, records_left, records_count_types}
 use Rattle.crx_reading.specs.meaning.Items.{types_in_force}

@@ -6,7 +6,7 @@ use Rattle.crx_faults.specs.meaning.Seen.{ReadLine, Content, Overlong}
 use Rattle.crx_faults.specs.declared.limits.TheConstants.{LINE_LIMIT}
 use Rattle.crx_rinex.specs.meaning.Observations.{Row, Epoch}
 use Rattle.crx_rinex.specs.meaning.Units.{Unit as FileUnit, HeaderLine, EventLine, EventRecord, Observation}
-use Rattle.crx_history.specs.meaning.Compaction.{Marked, run_of, satellite_line}
+use Rattle.crx_compact.specs.meaning.Compaction.{Marked, run_of, satellite_line}
 use Rattle.crx_compact.proofs.wayback.Lengths.{lines-short}
 use Rattle.crx_options.specs.meaning.Choices.{Choices, is_date}
 use Rattle.crx_reading.specs.meaning.Items.{Item, Accepted, Warned, is_at_start, types_in_force}

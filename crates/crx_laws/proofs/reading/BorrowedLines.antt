@@ -9,12 +9,12 @@ use Rattle.crx_faults.specs.declared.fault.Fault.TheVariants.{OutOfMemory}
 use Rattle.crx_rinex.specs.meaning.Observations.{Epoch}
 use Rattle.crx_header.specs.meaning.ObservationTypes.{Count}
 use Rattle.crx_rinex.specs.meaning.Places.{Place, Here, Wrong, Wanted}
-use Rattle.crx_history.specs.meaning.Compaction.{Marked, compact_epoch, since_full}
+use Rattle.crx_compact.specs.meaning.Compaction.{Marked, compact_epoch, since_full}
 use Rattle.crx_compact.specs.Laws.{AreWhole}
 use Rattle.crx_laws.specs.BorrowedLines.{AreReadable, HasGiven, IsFaultAt}
-use Rattle.crx_history.specs.Tails.{Tail, tail_of, tail_or_nothing}
-use Rattle.crx_history.specs.OpenEpochs.{ColumnsState, Faulty, Going, HasMade, HeldEpoch, Idle, OpenRawEpoch, RawStep}
-use Rattle.crx_history.specs.OpenEpochs.{Reading, Whole, first_step, is_idle, place_by_steps, place_of_steps, step_in}
+use Rattle.crx_compact.specs.Tails.{Tail, tail_of, tail_or_nothing}
+use Rattle.crx_compact.specs.OpenEpochs.{ColumnsState, Faulty, Going, HasMade, HeldEpoch, Idle, OpenRawEpoch, RawStep}
+use Rattle.crx_compact.specs.OpenEpochs.{Reading, Whole, first_step, is_idle, place_by_steps, place_of_steps, step_in}
 use Rattle.crx_laws.proofs.wayback.BackByLines.{steps-read_back}
 use Rattle.crx_compact.proofs.wayback.Lengths.{lines-short}
 use Rattle.crx_compact.proofs.wayback.Standing.{lines-stand}

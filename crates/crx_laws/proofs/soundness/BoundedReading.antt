@@ -23,36 +23,36 @@ use Rattle.crx_header.specs.meaning.ObservationTypes.{Count, IsAllowedCount}
 use Rattle.crx_header.specs.ObservationTypes.{AreCounts}
 use Rattle.crx_header.proofs.Counts.{allowed_of}
 use Rattle.crx_rinex.proofs.Rows.{satellites_few}
-use Rattle.crx_arcs.specs.meaning.Sequences.{and_then, named}
+use Rattle.crx_compact.specs.meaning.Sequences.{and_then, named}
 use Rattle.crx_header.specs.meaning.EpochColumns.{begins_epoch}
-use Rattle.crx_history.specs.meaning.EpochText.{Satellite}
-use Rattle.crx_history.specs.meaning.Expansion.{RawRow, code_in}
-use Rattle.crx_arcs.specs.meaning.Cells.{ReadCell, cell_read}
-use Rattle.crx_history.specs.meaning.CompactPlaces.{ReadRow}
-use Rattle.crx_history.specs.meaning.CompactPlaces.{clock_line_read}
-use Rattle.crx_history.specs.meaning.CompactPlaces.{satellite_line_read, satellites_of_line}
-use Rattle.crx_arcs.specs.ArcTails.{ArcTail, IsBoundedArc}
-use Rattle.crx_history.specs.Tails.{RowTail, Tail, IsBoundedRowTail, IsBoundedTail}
-use Rattle.crx_history.specs.Steps.{tail_named, cell_of_tail, flags_of_tail}
-use Rattle.crx_arcs.specs.ArcSteps.{onto_sum, differences_by}
-use Rattle.crx_arcs.specs.ArcSteps.{arc_of_code}
-use Rattle.crx_history.specs.HeldRows.{past_of_tail, HeldRow}
-use Rattle.crx_history.specs.OpenEpochs.{tail_for_line, HeldClock, HeldEpoch, OpenRawEpoch}
-use Rattle.crx_history.specs.OpenEpochs.{RawStep, Going, Whole, Faulty, opened_raw, opening, first_step}
-use Rattle.crx_history.specs.OpenEpochs.{whole_or_awaiting, held_clock, raw_step_with_clock}
-use Rattle.crx_history.specs.HeldRows.{held_row}
-use Rattle.crx_history.specs.OpenEpochs.{raw_step_with_row, line_step, next_step, place_of_steps, open_raw_after}
-use Rattle.crx_history.specs.OpenEpochs.{IsBoundedAwaited, IsBoundedHeld, IsBoundedOpen, IsBoundedStep}
+use Rattle.crx_compact.specs.meaning.EpochText.{Satellite}
+use Rattle.crx_compact.specs.meaning.Expansion.{RawRow, code_in}
+use Rattle.crx_compact.specs.meaning.Cells.{ReadCell, cell_read}
+use Rattle.crx_compact.specs.meaning.CompactPlaces.{ReadRow}
+use Rattle.crx_compact.specs.meaning.CompactPlaces.{clock_line_read}
+use Rattle.crx_compact.specs.meaning.CompactPlaces.{satellite_line_read, satellites_of_line}
+use Rattle.crx_compact.specs.ArcTails.{ArcTail, IsBoundedArc}
+use Rattle.crx_compact.specs.Tails.{RowTail, Tail, IsBoundedRowTail, IsBoundedTail}
+use Rattle.crx_compact.specs.Steps.{tail_named, cell_of_tail, flags_of_tail}
+use Rattle.crx_compact.specs.ArcSteps.{onto_sum, differences_by}
+use Rattle.crx_compact.specs.ArcSteps.{arc_of_code}
+use Rattle.crx_compact.specs.HeldRows.{past_of_tail, HeldRow}
+use Rattle.crx_compact.specs.OpenEpochs.{tail_for_line, HeldClock, HeldEpoch, OpenRawEpoch}
+use Rattle.crx_compact.specs.OpenEpochs.{RawStep, Going, Whole, Faulty, opened_raw, opening, first_step}
+use Rattle.crx_compact.specs.OpenEpochs.{whole_or_awaiting, held_clock, raw_step_with_clock}
+use Rattle.crx_compact.specs.HeldRows.{held_row}
+use Rattle.crx_compact.specs.OpenEpochs.{raw_step_with_row, line_step, next_step, place_of_steps, open_raw_after}
+use Rattle.crx_compact.specs.OpenEpochs.{IsBoundedAwaited, IsBoundedHeld, IsBoundedOpen, IsBoundedStep}
 use Rattle.crx_compact.specs.ReadingLaws.{ReadAreBounded}
 use Rattle.crx_columns.proofs.EachPlace.{each_place-all, length-each_place}
-use Rattle.crx_history.proofs.Characters.{same_characters}
-use Rattle.crx_history.proofs.SoundTexts.{length-held}
-use Rattle.crx_history.proofs.Characters.{list_all-at}
+use Rattle.crx_compact.proofs.Characters.{same_characters}
+use Rattle.crx_compact.proofs.SoundTexts.{length-held}
+use Rattle.crx_compact.proofs.Characters.{list_all-at}
 use Rattle.crx_compact.proofs.soundness.Goodness.{typed-parts}
 use Rattle.crx_compact.proofs.soundness.Soundness.{AreReadCells, IsReadCell, RowFacts, line-facts, read-cell}
-use Rattle.crx_history.proofs.Results.{if-err}
-use Rattle.crx_history.proofs.EpochLines.{line-facts_of}
-use Rattle.crx_history.proofs.EpochLines.{names_of}
+use Rattle.crx_compact.proofs.Results.{if-err}
+use Rattle.crx_compact.proofs.EpochLines.{line-facts_of}
+use Rattle.crx_compact.proofs.EpochLines.{names_of}
 
 -- ---- orders of codes that are read
 

@@ -6,10 +6,10 @@ use Rattle.std.proofs.lemmas.List.{length-map}
 use Rattle.crx_faults.specs.declared.limits.TheConstants.{WRITTEN_ORDER}
 use Rattle.crx_rinex.specs.meaning.Observations.{Row}
 use Rattle.crx_header.specs.meaning.ObservationTypes.{Count}
-use Rattle.crx_arcs.specs.meaning.Differences.{difference}
-use Rattle.crx_history.specs.meaning.Compaction.{Marked, epoch_text, run_of, arc_of, clock_arc}
-use Rattle.crx_arcs.specs.ArcTails.{ArcTail, arc_tail, IsBoundedArc}
-use Rattle.crx_history.specs.Tails.{row_tail, IsBoundedRowTail}
+use Rattle.crx_compact.specs.meaning.Differences.{difference}
+use Rattle.crx_compact.specs.meaning.Compaction.{Marked, epoch_text, run_of, arc_of, clock_arc}
+use Rattle.crx_compact.specs.ArcTails.{ArcTail, arc_tail, IsBoundedArc}
+use Rattle.crx_compact.specs.Tails.{row_tail, IsBoundedRowTail}
 use Rattle.crx_compact.specs.Laws.{WrittenAreBounded}
 use Rattle.crx_columns.proofs.EachPlace.{each_place-all, length-each_place}
 use Rattle.crx_compact.proofs.wayback.Lengths.{few-satellites, text-short}

@@ -5,7 +5,7 @@ use Rattle.std.proofs.Common.{ap, subst}
 use Rattle.crx_faults.specs.meaning.Seen.{ReadLine}
 use Rattle.crx_header.specs.meaning.ObservationTypes.{Count}
 use Rattle.crx_rinex.specs.meaning.Places.{Place, Here, then_place}
-use Rattle.crx_history.specs.meaning.CompactPlaces.{ReadEpoch, epoch_at}
+use Rattle.crx_compact.specs.meaning.CompactPlaces.{ReadEpoch, epoch_at}
 use Rattle.crx_compact.specs.ReadingLaws.{epochs_at, HasPrintableMarks, AreGood, ReadsWholeLists}
 use Rattle.crx_compact.proofs.soundness.Soundness.{thing_here, then-comes}
 use Rattle.crx_compact.proofs.soundness.Goodness.{reads-whole}

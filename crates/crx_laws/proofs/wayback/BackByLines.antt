@@ -7,13 +7,13 @@ use Rattle.crx_faults.specs.meaning.Seen.{ReadLine}
 use Rattle.crx_rinex.specs.meaning.Observations.{Epoch}
 use Rattle.crx_header.specs.meaning.ObservationTypes.{Count}
 use Rattle.crx_rinex.specs.meaning.Places.{Place, Here}
-use Rattle.crx_history.specs.meaning.Compaction.{Marked, epoch_text, since_full, epoch_line}
+use Rattle.crx_compact.specs.meaning.Compaction.{Marked, epoch_text, since_full, epoch_line}
 use Rattle.crx_header.specs.meaning.EpochColumns.{begins_epoch}
-use Rattle.crx_history.specs.Tails.{Tail, tail_of, tail_or_nothing, tail_left}
-use Rattle.crx_history.specs.Steps.{no_tail}
-use Rattle.crx_history.specs.OpenEpochs.{tail_for_line, epoch_after, HeldEpoch, held_after}
-use Rattle.crx_history.specs.OpenEpochs.{placed_as, place_by_steps}
-use Rattle.crx_history.specs.meaning.CompactPlaces.{epoch_at}
+use Rattle.crx_compact.specs.Tails.{Tail, tail_of, tail_or_nothing, tail_left}
+use Rattle.crx_compact.specs.Steps.{no_tail}
+use Rattle.crx_compact.specs.OpenEpochs.{tail_for_line, epoch_after, HeldEpoch, held_after}
+use Rattle.crx_compact.specs.OpenEpochs.{placed_as, place_by_steps}
+use Rattle.crx_compact.specs.meaning.CompactPlaces.{epoch_at}
 use Rattle.crx_compact.specs.Laws.{AreWhole}
 use Rattle.crx_compact.specs.ReadingLaws.{raw_of, raws_of, read_of, lines_of_epoch, StepsReadBack}
 use Rattle.crx_compact.proofs.wayback.Runs.{marked, begins_full}

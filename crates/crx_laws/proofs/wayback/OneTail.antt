@@ -7,23 +7,23 @@ use Rattle.crx_columns.specs.meaning.Columns.{without_end_blanks}
 use Rattle.crx_faults.specs.declared.limits.TheConstants.{WRITTEN_ORDER}
 use Rattle.crx_rinex.specs.meaning.Observations.{Row, Epoch, value_in}
 use Rattle.crx_header.specs.meaning.ObservationTypes.{Count}
-use Rattle.crx_arcs.specs.meaning.Sequences.{stretch}
-use Rattle.crx_arcs.specs.meaning.Differences.{code_at}
-use Rattle.crx_history.specs.meaning.Compaction.{epoch_text, Marked, row_named, since_full, run_of, arc_of}
-use Rattle.crx_history.specs.meaning.Compaction.{codes_of}
-use Rattle.crx_history.specs.meaning.Expansion.{RawRow, RawEpoch, overlaid, raw_run_of, code_in}
-use Rattle.crx_arcs.specs.meaning.ArcValues.{since_start}
-use Rattle.crx_history.specs.Tails.{RowTail, row_tail, row_tails, tail_of, raw_row_tail}
-use Rattle.crx_arcs.specs.ArcTails.{arc_tail, values_of, started_tail}
-use Rattle.crx_history.specs.Tails.{raw_row_tails, tail_of_block}
+use Rattle.crx_compact.specs.meaning.Sequences.{stretch}
+use Rattle.crx_compact.specs.meaning.Differences.{code_at}
+use Rattle.crx_compact.specs.meaning.Compaction.{epoch_text, Marked, row_named, since_full, run_of, arc_of}
+use Rattle.crx_compact.specs.meaning.Compaction.{codes_of}
+use Rattle.crx_compact.specs.meaning.Expansion.{RawRow, RawEpoch, overlaid, raw_run_of, code_in}
+use Rattle.crx_compact.specs.meaning.ArcValues.{since_start}
+use Rattle.crx_compact.specs.Tails.{RowTail, row_tail, row_tails, tail_of, raw_row_tail}
+use Rattle.crx_compact.specs.ArcTails.{arc_tail, values_of, started_tail}
+use Rattle.crx_compact.specs.Tails.{raw_row_tails, tail_of_block}
 use Rattle.crx_compact.specs.ReadingLaws.{raw_row, OneTail}
 use Rattle.crx_compact.specs.Laws.{AreWhole}
 use Rattle.crx_columns.proofs.EachPlace.{each_place-same, length-each_place}
-use Rattle.crx_arcs.proofs.arcs.Inversion.{numbers_of, value-numbers, started-codes}
+use Rattle.crx_compact.proofs.arcs.Inversion.{numbers_of, value-numbers, started-codes}
 use Rattle.crx_compact.proofs.Lists.{mapped-same}
 use Rattle.crx_compact.proofs.wayback.Runs.{raw_block, marked, block-raws, raw_run, runs-read, codes_of_values}
 use Rattle.crx_compact.proofs.wayback.Runs.{clocks-read, codes-read, started-values, text-read, marks-read, rows_before}
-use Rattle.crx_history.proofs.Identifiers.{each-own}
+use Rattle.crx_compact.proofs.Identifiers.{each-own}
 use Rattle.crx_compact.proofs.wayback.Rows.{IsRowOf, run-begins, rows-of_run, flags-run}
 use Rattle.crx_compact.proofs.wayback.Reading.{epochs-begin, epochs-unmarked}
 

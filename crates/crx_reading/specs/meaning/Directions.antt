@@ -6,7 +6,7 @@ use Rattle.crx_faults.specs.declared.fault.At.{At}
 use Rattle.crx_rinex.specs.meaning.Observations.{Epoch}
 use Rattle.crx_rinex.specs.meaning.Places.{Here, Wrong, Wanted}
 use Rattle.crx_rinex.specs.meaning.Units.{Unit}
-use Rattle.crx_history.specs.meaning.CompactPlaces.{ReadEpoch}
+use Rattle.crx_compact.specs.meaning.CompactPlaces.{ReadEpoch}
 use Rattle.crx_options.specs.meaning.Choices.{Choices}
 use Rattle.crx_reading.specs.meaning.Items.{Item}
 use Rattle.crx_reading.specs.meaning.Reading.{Reading, AtFault, AtLines, fault_of_stop, reading_from}

@@ -14,8 +14,8 @@ use Rattle.crx_header.specs.meaning.EpochColumns.{is_event_line, records_in}
 use Rattle.crx_header.specs.meaning.ObservationTypes.{Count, is_types_line}
 use Rattle.crx_rinex.specs.meaning.Places.{Place, Here, Wrong, Wanted, then_place, first_line, one_line}
 use Rattle.crx_rinex.specs.meaning.Units.{Unit, HeaderLine, EventLine, EventRecord, Observation, printed_unit}
-use Rattle.crx_history.specs.meaning.Expansion.{RawEpoch}
-use Rattle.crx_history.specs.meaning.CompactPlaces.{ReadEpoch, epoch_at}
+use Rattle.crx_compact.specs.meaning.Expansion.{RawEpoch}
+use Rattle.crx_compact.specs.meaning.CompactPlaces.{ReadEpoch, epoch_at}
 use Rattle.crx_header.specs.declared.crinex.TheConstants.{CRINEX_VERSION, CRINEX_VERSION_LABEL, CRINEX_PROGRAM_LABEL}
 use Rattle.crx_options.specs.meaning.Choices.{Choices}
 use Rattle.crx_reading.specs.meaning.Items.{Item, Accepted, Warned, types_in_force, records_count_types}

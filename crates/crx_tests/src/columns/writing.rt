@@ -4,7 +4,7 @@ use super::cases::{Table, both_forms, both_ways};
 use super::*;
 use crate::expecting::expect_at;
 use crx_compact::Coded;
-use crx_history::lines::Lines;
+use crx_compact::lines::Lines;
 use std::process::Abort;
 use std::test::Fail;
 

@@ -3,7 +3,7 @@
 ghost use Rattle.std.specs.Prelude.{◌≡◌, ◌≤◌, false, length, true};
 ghost use Rattle.crx_faults.specs.declared.limits.TheConstants.{CLOCK_WIDTH, LINE_LIMIT, OBSERVATION_WIDTH};
 ghost use Rattle.crx_header.specs.meaning.EpochColumns.{is_event_line};
-ghost use Rattle.crx_history.specs.OpenEpochs.{is_idle};
+ghost use Rattle.crx_compact.specs.OpenEpochs.{is_idle};
 ghost use Rattle.crx_rinex.specs.Epochs.{is_full_epoch};
 ghost use Rattle.crx_text.specs.Codes.{IsPrintable};
 ghost use Rattle.crx_text.specs.meaning.Numbers.{IsMissingOrWithin};

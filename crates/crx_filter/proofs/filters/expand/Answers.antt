@@ -1,6 +1,6 @@
 use Rattle.std.proofs.Common.{◌≡◌, ℕ, List, [], Option, ap}
-use Rattle.crx_history.specs.OpenEpochs.{OpenRawEpoch}
-use Rattle.crx_history.specs.Tails.{Tail}
+use Rattle.crx_compact.specs.OpenEpochs.{OpenRawEpoch}
+use Rattle.crx_compact.specs.Tails.{Tail}
 use Rattle.crx_reading.specs.ExpansionByLine.{expansion_seen}
 use Rattle.crx_filter.specs.meaning.Lossless.{BringsBackWhatPasses}
 use Rattle.crx_filter.specs.meaning.UnitsAndText.{ReadsUnits}

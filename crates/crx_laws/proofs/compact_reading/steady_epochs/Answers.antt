@@ -1,7 +1,7 @@
-use Rattle.crx_history.specs.meaning.Past.{past_of_line}
+use Rattle.crx_compact.specs.meaning.Past.{past_of_line}
 use Rattle.std.specs.Option.{option_map}
-use Rattle.crx_history.specs.HeldRows.{past_of_tail}
-use Rattle.crx_history.specs.OpenEpochs.{tail_for_line}
+use Rattle.crx_compact.specs.HeldRows.{past_of_tail}
+use Rattle.crx_compact.specs.OpenEpochs.{tail_for_line}
 use Rattle.crx_compact.proofs.reading.SteadyEpochs.{steady-epoch_against}
 use Rattle.crx_laws.proofs.compact_reading.steady_epochs.Goals as goal
 

@@ -1,4 +1,4 @@
-use Rattle.crx_history.specs.OpenEpochs.{tail_held}
+use Rattle.crx_compact.specs.OpenEpochs.{tail_held}
 use Rattle.crx_laws.proofs.reading.BorrowedLines.{back-given, back-refused}
 use Rattle.crx_laws.proofs.read_back.read_back.Goals as goal
 

@@ -3,7 +3,7 @@ use Rattle.std.proofs.Common.{ap, subst, Option}
 use Rattle.crx_faults.specs.meaning.Seen.{Content}
 use Rattle.crx_rinex.specs.meaning.Observations.{Epoch}
 use Rattle.crx_compact.specs.Coded.{CodedEpoch}
-use Rattle.crx_history.specs.OpenEpochs.{HasMade, step_in, tail_held}
+use Rattle.crx_compact.specs.OpenEpochs.{HasMade, step_in, tail_held}
 use Rattle.crx_laws.proofs.reading.BorrowedLines.{midway-begun, midway-idle, midway-more, midway-over, midway-stands}
 use Rattle.crx_laws.proofs.reading.BorrowedLines.{midway-whole}
 use Rattle.crx_laws.proofs.read_back.read_coded.Goals as goal

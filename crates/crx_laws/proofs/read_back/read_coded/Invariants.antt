@@ -1,7 +1,7 @@
 use Rattle.std.proofs.Common.{map, length}
 use Rattle.crx_faults.specs.meaning.Seen.{Content}
 use Rattle.crx_laws.proofs.reading.BorrowedLines.{IsMidway}
-use Rattle.crx_history.specs.OpenEpochs.{place_by_steps, tail_held}
+use Rattle.crx_compact.specs.OpenEpochs.{place_by_steps, tail_held}
 use Rattle.crx_laws.proofs.read_back.read_coded.Given as goal
 
 abbrev pub invariant-loop-line : goal.invariant-loop-line

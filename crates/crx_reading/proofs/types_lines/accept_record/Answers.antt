@@ -7,7 +7,7 @@ use Rattle.crx_faults.specs.declared.fault.Fault.TheVariants.{OutOfMemory}
 use Rattle.crx_header.specs.meaning.ObservationTypes.{count_of_types_line}
 use Rattle.crx_reading.specs.meaning.UnitPlaces.{types_fault}
 use Rattle.crx_reading.proofs.TypesLines.{Bad, RefusedAs, refused-types}
-use Rattle.crx_history.proofs.Marks.{if-err}
+use Rattle.crx_compact.proofs.Marks.{if-err}
 use Rattle.crx_reading.proofs.types_lines.accept_record.Goals as goal
 
 counted-refused : (counted : Bool) (line : List ℕ) (fault : Fault)

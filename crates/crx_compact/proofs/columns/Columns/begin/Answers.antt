@@ -1,4 +1,4 @@
-use Rattle.crx_history.specs.OpenEpochs.{tail_held}
+use Rattle.crx_compact.specs.OpenEpochs.{tail_held}
 use Rattle.crx_compact.proofs.reading.Blocks.{begun-block, begun-refused}
 use Rattle.crx_compact.proofs.columns.Columns.begin.Goals as goal
 

@@ -1,9 +1,9 @@
 use Rattle.std.proofs.Common.{ap, ◌∙◌, sym, subst, ◌≡◌, Bool, not, Option, Some, None, Ok}
 use Rattle.std.proofs.Common.{if◌then◌else◌}
 use Rattle.std.specs.Prelude.{IfSome}
-use Rattle.crx_history.specs.Tails.{Tail}
-use Rattle.crx_history.specs.Steps.{no_tail}
-use Rattle.crx_history.specs.OpenEpochs.{is_idle, opened_raw, tail_held, tail_for_line}
+use Rattle.crx_compact.specs.Tails.{Tail}
+use Rattle.crx_compact.specs.Steps.{no_tail}
+use Rattle.crx_compact.specs.OpenEpochs.{is_idle, opened_raw, tail_held, tail_for_line}
 use Rattle.crx_compact.specs.OpenLines.{OpenLines, columns_state, open_raw}
 use Rattle.crx_compact.proofs.reading.Opening.{begun-state, state-idle}
 use Rattle.crx_compact.proofs.columns.Columns.begin_next.Goals as goal

@@ -1,9 +1,9 @@
 use Rattle.std.proofs.Common.{ap, ◌∙◌, Some}
 use Rattle.crx_compact.specs.Coded.{CodedEpoch}
-use Rattle.crx_history.specs.OpenEpochs.{ColumnsState, tail_held}
-use Rattle.crx_history.specs.OpenEpochs.ColumnsState.{Idle}
-use Rattle.crx_history.specs.Tails.{Tail}
-use Rattle.crx_history.proofs.Marks.{if-ok, on-ok}
+use Rattle.crx_compact.specs.OpenEpochs.{ColumnsState, tail_held}
+use Rattle.crx_compact.specs.OpenEpochs.ColumnsState.{Idle}
+use Rattle.crx_compact.specs.Tails.{Tail}
+use Rattle.crx_compact.proofs.Marks.{if-ok, on-ok}
 use Rattle.crx_compact.proofs.wayback.Encoding.{lines-coded, tail-coded}
 use Rattle.crx_compact.proofs.columns.Columns.encode.Goals as goal
 

@@ -1,9 +1,9 @@
 use Rattle.std.proofs.Common.{◌≡◌, ◌∙◌, ap, not, ◌&&◌, Option, Some, None}
 use Rattle.std.proofs.Common.{◌++◌, if◌then◌else◌}
 use Rattle.std.proofs.lemmas.Result.{err_from_is_err_and}
-use Rattle.crx_history.specs.Tails.{Tail}
-use Rattle.crx_history.specs.Steps.{lines_after_tail, tail_after}
-use Rattle.crx_history.specs.OpenEpochs.{ColumnsState, Idle, is_idle}
+use Rattle.crx_compact.specs.Tails.{Tail}
+use Rattle.crx_compact.specs.Steps.{lines_after_tail, tail_after}
+use Rattle.crx_compact.specs.OpenEpochs.{ColumnsState, Idle, is_idle}
 use Rattle.crx_compact.specs.OpenLines.{columns_state, OpenLines}
 use Rattle.crx_compact.proofs.reading.Opening.{state-idle, written-after}
 use Rattle.crx_compact.proofs.columns.Columns.encode_into.Goals as goal

@@ -1,8 +1,8 @@
 use Rattle.std.proofs.Common.{◌≡◌, ◌∙◌, ◌++◌, sym, ap, true, false, true≢false, List, ℕ, Some, Result, Ok, Err}
 use Rattle.std.specs.Prelude.{is_err, OnErr, OnOk}
-use Rattle.crx_history.specs.Steps.{lines_after_tail, tail_after, tail_written_after}
+use Rattle.crx_compact.specs.Steps.{lines_after_tail, tail_after, tail_written_after}
 use Rattle.crx_compact.specs.Coded.{CodedEpoch}
-use Rattle.crx_history.specs.OpenEpochs.{ColumnsState, Idle, tail_held}
+use Rattle.crx_compact.specs.OpenEpochs.{ColumnsState, Idle, tail_held}
 use Rattle.crx_compact.proofs.columns.Columns.encode_next.Goals as goal
 
 -- what is said of a refusal holds after one, and what is said of a good result after one

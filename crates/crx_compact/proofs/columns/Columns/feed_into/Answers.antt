@@ -1,7 +1,7 @@
 use Rattle.std.proofs.Common.{◌∙◌, sym, subst, true, List, ℕ, Option, Some, None, if◌then◌else◌}
 use Rattle.crx_faults.specs.meaning.Seen.{Content}
-use Rattle.crx_history.specs.Tails.{Tail}
-use Rattle.crx_history.specs.OpenEpochs.{HasPrintedLines, step_in}
+use Rattle.crx_compact.specs.Tails.{Tail}
+use Rattle.crx_compact.specs.OpenEpochs.{HasPrintedLines, step_in}
 use Rattle.crx_compact.specs.OpenLines.{OpenLines, columns_state}
 use Rattle.crx_compact.proofs.reading.Opening.{line-made, still-made, whole-printed}
 use Rattle.crx_compact.proofs.columns.Columns.feed_into.Goals as goal

@@ -1,7 +1,7 @@
 use Rattle.std.proofs.Common.{◌∙◌, sym, subst, Option, Some, None, if◌then◌else◌}
 use Rattle.crx_faults.specs.meaning.Seen.{Content}
-use Rattle.crx_history.specs.Tails.{Tail}
-use Rattle.crx_history.specs.OpenEpochs.{HasMade, step_in}
+use Rattle.crx_compact.specs.Tails.{Tail}
+use Rattle.crx_compact.specs.OpenEpochs.{HasMade, step_in}
 use Rattle.crx_compact.specs.OpenLines.{OpenLines, columns_state}
 use Rattle.crx_compact.proofs.reading.Opening.{line-made, still-made, whole-made}
 use Rattle.crx_compact.proofs.columns.Columns.feed_next.Goals as goal

@@ -1,6 +1,6 @@
 use Rattle.std.proofs.Common.{◌≡◌, ◌++◌, ◌∷◌, [], List, ℕ, map, take, sym, ap, ◌∙◌, rules}
 use Rattle.crx_rinex.specs.meaning.Printing.{printed_epoch, printed_row}
-use Rattle.crx_history.specs.ShownRows.{shown_epoch, shown_row}
+use Rattle.crx_compact.specs.ShownRows.{shown_epoch, shown_row}
 use Rattle.crx_compact.proofs.ReadyParts.{first-empty, second-empty}
 use Rattle.crx_compact.proofs.expanded_lines.ExpandedLines.print.Goals as goal
 

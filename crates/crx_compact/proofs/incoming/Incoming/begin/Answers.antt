@@ -1,13 +1,13 @@
 use Rattle.std.proofs.Common.{◌≡◌, ◌⊎◌, inl, inr, true, refl, List, ℕ, Result, Ok, Err, ap, subst, sym, rules}
-use Rattle.crx_history.specs.meaning.EpochText.{Satellite}
-use Rattle.crx_history.specs.HeldRows.{HaveRows}
-use Rattle.crx_history.specs.RowsSoFar.{AreAnnounced}
-use Rattle.crx_history.specs.Tails.{Tail}
+use Rattle.crx_compact.specs.meaning.EpochText.{Satellite}
+use Rattle.crx_compact.specs.HeldRows.{HaveRows}
+use Rattle.crx_compact.specs.RowsSoFar.{AreAnnounced}
+use Rattle.crx_compact.specs.Tails.{Tail}
 use Rattle.std.specs.Result.{is_ok}
 use Rattle.crx_faults.specs.declared.fault.Fault.{Fault}
 use Rattle.crx_faults.specs.declared.fault.Fault.TheVariants.{OutOfMemory}
-use Rattle.crx_arcs.specs.meaning.Sequences.{and_then}
-use Rattle.crx_history.proofs.EpochLines.{announced}
+use Rattle.crx_compact.specs.meaning.Sequences.{and_then}
+use Rattle.crx_compact.proofs.EpochLines.{announced}
 use Rattle.crx_compact.proofs.incoming.Incoming.begin.Goals as goal
 
 pub invariant_of-self-in-Ok-read_epoch_line : goal.invariant_of-self-in-Ok-read_epoch_line

@@ -1,10 +1,10 @@
 use Rattle.std.proofs.Common.{◌≡◌, List, ℕ, length, sym, ap, ◌∙◌, subst, arith}
 use Rattle.crx_rinex.specs.meaning.Observations.{Epoch}
-use Rattle.crx_history.specs.meaning.EpochText.{Satellite}
-use Rattle.crx_history.specs.RowsSoFar.{AreRowsSoFar}
+use Rattle.crx_compact.specs.meaning.EpochText.{Satellite}
+use Rattle.crx_compact.specs.RowsSoFar.{AreRowsSoFar}
 use Rattle.crx_compact.specs.OpenLines.{epoch_so_far}
-use Rattle.crx_history.specs.ShownRows.{shown_epoch}
-use Rattle.crx_history.proofs.Marks.{if-ok, on-err}
+use Rattle.crx_compact.specs.ShownRows.{shown_epoch}
+use Rattle.crx_compact.proofs.Marks.{if-ok, on-err}
 use Rattle.crx_compact.proofs.reading.Opening.{all-read}
 use Rattle.crx_compact.proofs.incoming.Incoming.epoch.Goals as goal
 

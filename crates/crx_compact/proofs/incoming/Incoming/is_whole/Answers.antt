@@ -1,8 +1,8 @@
 use Rattle.std.proofs.Common.{◌≡◌, ◌∙◌, sym, ap, false, refl, List, ℕ, Option, length, drop, arith}
 use Rattle.std.specs.Prelude.{leb, ◌==◌}
 use Rattle.std.proofs.lemmas.List.{length-drop}
-use Rattle.crx_history.specs.meaning.EpochText.{Satellite}
-use Rattle.crx_history.specs.Tails.{Tail}
+use Rattle.crx_compact.specs.meaning.EpochText.{Satellite}
+use Rattle.crx_compact.specs.Tails.{Tail}
 use Rattle.crx_compact.specs.OpenLines.{OpenLines, have_all_come, lines_so_far}
 use Rattle.crx_compact.specs.declared.incoming.Stage.{Stage}
 use Rattle.crx_compact.specs.declared.incoming.Stage.TheVariants.{Unbegun, Clock, Rows}

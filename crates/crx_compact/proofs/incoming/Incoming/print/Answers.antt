@@ -2,7 +2,7 @@ use Rattle.std.proofs.Common.{◌≡◌, ℕ, length, sym, ap, ◌∙◌, arith}
 use Rattle.crx_rinex.specs.meaning.Observations.{Epoch}
 use Rattle.crx_rinex.specs.meaning.Printing.{printed_epoch}
 use Rattle.crx_compact.specs.OpenLines.{epoch_so_far}
-use Rattle.crx_history.proofs.Marks.{on-err, on-ok}
+use Rattle.crx_compact.proofs.Marks.{on-err, on-ok}
 use Rattle.crx_compact.proofs.reading.Opening.{all-read}
 use Rattle.crx_compact.proofs.incoming.Incoming.print.Goals as goal
 

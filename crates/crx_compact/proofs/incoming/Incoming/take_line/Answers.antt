@@ -1,18 +1,18 @@
 use Rattle.std.proofs.Common.{◌+◌, ap, ◌∙◌, sym, subst, ◌≡◌, Option, Some, None, List}
 use Rattle.std.specs.Prelude.{slice_get}
 use Rattle.std.proofs.lemmas.Result.{err_from_is_err_and}
-use Rattle.crx_history.specs.meaning.EpochText.{Satellite}
-use Rattle.crx_history.specs.OpenEpochs.{RawStep}
+use Rattle.crx_compact.specs.meaning.EpochText.{Satellite}
+use Rattle.crx_compact.specs.OpenEpochs.{RawStep}
 use Rattle.crx_compact.specs.OpenLines.{OpenLines, AreLinesSoFar, HaveRowsAt, lines_so_far, made_of, step_after}
 use Rattle.crx_compact.specs.declared.incoming.Stage.{Stage}
 use Rattle.crx_compact.specs.declared.incoming.Stage.TheVariants.{Clock, Rows}
-use Rattle.crx_history.specs.ShownRows.{shown_epoch}
+use Rattle.crx_compact.specs.ShownRows.{shown_epoch}
 use Rattle.crx_compact.proofs.reading.Opening.{after-clock, all-taken, clock-refused, clock-taken, no-rows, row-refused, row-shown, row-taken, rows-more}
-use Rattle.crx_history.proofs.RoomForRows.{has-row, rows-kept}
+use Rattle.crx_compact.proofs.RoomForRows.{has-row, rows-kept}
 use Rattle.crx_compact.proofs.reading.NoMemory.{no-memory-at-row}
-use Rattle.crx_history.specs.HeldRows.{HaveRows}
-use Rattle.crx_history.specs.Tails.{RowTail, Tail}
-use Rattle.crx_arcs.specs.ArcTails.{ArcTail}
+use Rattle.crx_compact.specs.HeldRows.{HaveRows}
+use Rattle.crx_compact.specs.Tails.{RowTail, Tail}
+use Rattle.crx_compact.specs.ArcTails.{ArcTail}
 use Rattle.crx_compact.proofs.incoming.Incoming.take_line.Goals as goal
 
 pub returns-in_default-clause-ok : goal.returns-in_default-clause-ok

@@ -1,5 +1,5 @@
 use Rattle.std.proofs.Common.{None}
-use Rattle.crx_history.specs.OpenEpochs.{tail_held}
+use Rattle.crx_compact.specs.OpenEpochs.{tail_held}
 use Rattle.crx_filter.proofs.CompactSteps.{idle-stage, begun-wants}
 use Rattle.crx_filter.proofs.compact_reader.CompactReader.begin.Goals as goal
 

@@ -1,5 +1,5 @@
 use Rattle.std.proofs.Common.{None, ap}
-use Rattle.crx_history.specs.OpenEpochs.{is_idle}
+use Rattle.crx_compact.specs.OpenEpochs.{is_idle}
 use Rattle.crx_filter.proofs.CompactSteps.{idle-stage}
 use Rattle.crx_filter.proofs.compact_reader.CompactReader.header_line.Goals as goal
 

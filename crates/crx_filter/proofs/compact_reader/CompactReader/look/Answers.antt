@@ -1,7 +1,7 @@
 use Rattle.std.proofs.Common.{sym, subst}
 use Rattle.std.specs.Prelude.{IfErr}
 use Rattle.crx_faults.specs.meaning.Seen.{Content}
-use Rattle.crx_history.specs.OpenEpochs.{tail_held}
+use Rattle.crx_compact.specs.OpenEpochs.{tail_held}
 use Rattle.crx_filter.specs.CompactReaders.{RefusesCompactLine}
 use Rattle.crx_reading.specs.CompactStages.{open_in}
 use Rattle.crx_reading.specs.Stages.{seen_stage}

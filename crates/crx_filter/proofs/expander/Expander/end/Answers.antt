@@ -1,7 +1,7 @@
 use Rattle.std.proofs.Common.{◌≡◌, List, ℕ, Option, None, refl, sym, ap, ◌∙◌}
 use Rattle.crx_faults.specs.declared.fault.At.{At}
-use Rattle.crx_history.specs.OpenEpochs.{OpenRawEpoch, tail_held}
-use Rattle.crx_history.specs.Tails.{Tail}
+use Rattle.crx_compact.specs.OpenEpochs.{OpenRawEpoch, tail_held}
+use Rattle.crx_compact.specs.Tails.{Tail}
 use Rattle.crx_reading.specs.CompactStages.{open_in}
 use Rattle.crx_filter.specs.EngineSteps.{step_made}
 use Rattle.crx_filter.specs.CompactReaders.{seen_in, compact_reader_state}

@@ -1,6 +1,6 @@
 use Rattle.std.proofs.Common.{Bool, ℕ, [], Option, None, sym, ap, subst, ◌∙◌, if◌then◌else◌}
-use Rattle.crx_history.specs.OpenEpochs.{OpenRawEpoch, tail_held}
-use Rattle.crx_history.specs.Tails.{Tail}
+use Rattle.crx_compact.specs.OpenEpochs.{OpenRawEpoch, tail_held}
+use Rattle.crx_compact.specs.Tails.{Tail}
 use Rattle.crx_faults.specs.meaning.Seen.{ReadLine}
 use Rattle.crx_reading.specs.CompactStages.{open_in}
 use Rattle.crx_reading.specs.LineByLine.{Seen}

@@ -1,6 +1,6 @@
 use Rattle.std.proofs.Common.{rules, List, ℕ, refl, sym, ap, ◌∙◌}
 use Rattle.crx_faults.specs.meaning.Seen.{Overlong}
-use Rattle.crx_history.specs.OpenEpochs.{tail_held}
+use Rattle.crx_compact.specs.OpenEpochs.{tail_held}
 use Rattle.crx_reading.specs.CompactStages.{open_in}
 use Rattle.crx_filter.specs.EngineSteps.{step_made}
 use Rattle.crx_reading.specs.ExpansionByLine.{expansion}

@@ -1,4 +1,0 @@
-pub mod arcs
-pub mod CellsRead
-pub mod PlaceByPlace
-pub mod SameTexts

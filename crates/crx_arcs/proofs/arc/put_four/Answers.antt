@@ -1,7 +1,0 @@
-use Rattle.crx_arcs.proofs.arcs.Running.{same-bits, set-four}
-use Rattle.crx_arcs.proofs.arc.put_four.Goals as goal
-
-pub returns : goal.returns
-returns c =
-    rw (same-bits _ c.ranges.value, same-bits _ c.ranges.first, same-bits _ c.ranges.second, same-bits _ c.ranges.third)
-    (set-four c.args.differences.now _ _ _ _ c.requires)

@@ -1,8 +1,0 @@
-use Rattle.crx_arcs.specs.meaning.Differences.{newest}
-use Rattle.crx_arcs.specs.ArcSteps.{differences_by}
-use Rattle.crx_arcs.proofs.arcs.Running.{Summed}
-use Rattle.crx_arcs.proofs.arc.value_after.Given as goal
-
-abbrev pub invariant-loop-difference : goal.invariant-loop-difference
-invariant-loop-difference l = Summed l.difference-index
-    (newest (differences_by l.number l.differences)) l.value l.differences

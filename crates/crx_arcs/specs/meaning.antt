@@ -1,5 +1,0 @@
--- What has to be believed: the definitions that the promises stand on. docs/READING.md gives their order.
-pub mod Sequences
-pub mod Differences
-pub mod ArcValues
-pub mod Cells

@@ -1,0 +1,240 @@
+-- The cells of a line, read from left to right.
+use Rattle.std.specs.Prelude.{◌≡◌, ◌≤◌, ◌<◌, refl, ℕ, suc, ◌+◌, ◌-◌, ℤ, List, [], ◌∷◌, ◌++◌, length, map, take}
+use Rattle.std.specs.Prelude.{drop, slice_index_or, slice_set, Bool, true, false, Option, Some, None, Result, Ok, Err, if◌then◌else◌}
+use Rattle.std.proofs.Common.{sym, ◌∙◌, ap, arith, length-append, true≢false}
+use Rattle.std.proofs.lemmas.List.{drop-drop, length-drop, length-map, length-set, take_more_set, map-append}
+use Rattle.crx_text.specs.meaning.Codes.{code_of, first_cell, after_cell}
+use Rattle.crx_text.specs.declared.code.Code.{Code}
+use Rattle.crx_faults.specs.declared.fault.Fault.{Fault}
+use Rattle.crx_faults.specs.declared.fault.Fault.TheVariants.{BadField, OutOfRange}
+use Rattle.crx_compact.specs.meaning.Sequences.{and_then, before_all}
+use Rattle.crx_compact.specs.meaning.Cells.{ReadCell, cell_read, cells_read, cells_of, after_cells}
+use Rattle.crx_compact.specs.ArcTails.{ArcTail}
+use Rattle.crx_compact.specs.ArcSteps.{arc_after_number, arc_of_code, value_of_code, value_of_tail}
+use Rattle.crx_compact.specs.ArcSteps.{shown_value}
+use Rattle.crx_compact.specs.meaning.ArcValues.{in_range, is_within}
+use Rattle.crx_text.specs.declared.code.Code.TheVariants.{Missing, Start, Step}
+use Rattle.crx_faults.specs.declared.limits.TheConstants.{OBSERVATION_WIDTH}
+use Rattle.crx_compact.specs.Cells.{value_at_place, arcs_of_codes, CellsAreRead, IsCellRead}
+
+-- some cells before those of a good result
+abbrev pub onto : List ReadCell → Result (List ReadCell) Fault → Result (List ReadCell) Fault
+onto [] r = r
+onto (c ∷ cs) r = before_all c (onto cs r)
+
+onto-ok : (cs : List ReadCell) → onto cs (Ok []) ≡ Ok cs
+onto-ok [] = refl
+onto-ok (c ∷ cs) = ap (before_all c) (onto-ok cs)
+
+onto-err : (cs : List ReadCell) (fault : Fault) → onto cs (Err fault) ≡ Err fault
+onto-err [] fault = refl
+onto-err (c ∷ cs) fault = ap (before_all c) (onto-err cs fault)
+
+onto-more : (cs : List ReadCell) (c : ReadCell) (r : Result (List ReadCell) Fault)
+    → onto (cs ++ c ∷ []) r ≡ onto cs (before_all c r)
+onto-more [] c r = refl
+onto-more (d ∷ ds) c r = ap (before_all d) (onto-more ds c r)
+
+-- ---- the same values at each place read the same
+
+abbrev Values : Type 0
+Values = ℕ → Code → Result (Option ℤ) Fault
+
+cell-same : (f g : Code → Result (Option ℤ) Fault)
+    → ((c : Code) → f c ≡ g c) → (code : Option Code) → cell_read BadField f code ≡ cell_read BadField g code
+cell-same f g h None = refl
+cell-same f g h (Some code) = ap {B = Result ReadCell Fault}
+    (λ r. and_then r (λ value. Ok (record { code = code; value = value }))) (h code)
+
+pub cells-same : (f g : Values) → ((place : ℕ) (c : Code) → f place c ≡ g place c)
+    → (texts : List (List ℕ)) → cells_read f texts ≡ cells_read g texts
+cells-same f g h [] = refl
+cells-same f g h (text ∷ texts) =
+    ap {B = Result (List ReadCell) Fault}
+    (λ r. and_then r (λ cell. before_all cell (cells_read (λ place. f (suc place)) texts)))
+    (cell-same (f 0) (g 0) (h 0) (code_of text))
+    ∙ ap {B = Result (List ReadCell) Fault}
+    (λ r. and_then (cell_read BadField (g 0) (code_of text)) (λ cell. before_all cell r))
+    (cells-same (λ place. f (suc place)) (λ place. g (suc place)) (λ place c. h (suc place) c) texts)
+
+-- ---- one cell more
+
+arcs-more : (before : List (Option ArcTail)) (codes : List Code) (code : Code)
+    → arcs_of_codes before (codes ++ code ∷ [])
+    ≡ arcs_of_codes before codes ++ arc_of_code code (slice_index_or before (length codes) None) ∷ []
+arcs-more before [] code = refl
+arcs-more [] (c ∷ cs) code = ap {B = List (Option ArcTail)} (λ r. arc_of_code c None ∷ r) (arcs-more [] cs code)
+arcs-more (b ∷ bs) (c ∷ cs) code = ap {B = List (Option ArcTail)} (λ r. arc_of_code c b ∷ r) (arcs-more bs cs code)
+
+-- the value that a code gives is the one that the arc after it shows
+abbrev ok-value : Result (Option ℤ) Fault → Option ℤ
+ok-value (Ok value) = value
+ok-value (Err fault) = None
+
+abbrev is-ok-value : Result (Option ℤ) Fault → Bool
+is-ok-value (Ok value) = true
+is-ok-value (Err fault) = false
+
+in-columns : (width : ℕ) (number : ℤ) (value : Option ℤ) → in_range width number ≡ Ok value → Some number ≡ value
+in-columns width number value e = by_range (is_within width number) refl
+  where
+    by_range : (b : Bool) → is_within width number ≡ b → Some number ≡ value
+    by_range true is = ap ok-value (sym (ap {B = Result (Option ℤ) Fault}
+        (λ c. if c then Ok (Some number) else Err OutOfRange) is) ∙ e)
+    by_range false is = absurd (true≢false (sym (ap is-ok-value (sym (ap {B = Result (Option ℤ) Fault}
+        (λ c. if c then Ok (Some number) else Err OutOfRange) is) ∙ e))))
+
+pub shown-code : (width : ℕ) (code : Code) (arc : Option ArcTail) (value : Option ℤ)
+    → value_of_code width code arc ≡ Ok value → shown_value (arc_of_code code arc) ≡ value
+shown-code width Missing arc value e = ap ok-value e
+shown-code width (Start order number) arc value e = in-columns width number value e
+shown-code width (Step number) None value e = absurd (true≢false (sym (ap is-ok-value e)))
+shown-code width (Step number) (Some arc) value e =
+    in-columns width (value_of_tail (arc_after_number number arc)) value e
+
+abbrev codes_in : List ReadCell → List Code
+codes_in cells = map (λ (c : ReadCell). c.code) cells
+
+abbrev values_in : List ReadCell → List (Option ℤ)
+values_in cells = map (λ (c : ReadCell). c.value) cells
+
+-- the cells up to a place are read
+pub record ReadSoFar (before : List (Option ArcTail))
+    (count : ℕ) (line : List ℕ) (k at : ℕ) (arcs : List (Option ArcTail)) : Type 0 where
+  pub cells : List ReadCell
+  pub counted : length cells ≡ k
+  pub so_far : cells_read (value_at_place before) (cells_of count line)
+      ≡ onto cells (cells_read (λ p. value_at_place before (k + p)) (cells_of (count - k) (drop at line)))
+  pub marks : after_cells count line ≡ after_cells (count - k) (drop at line)
+  pub within : at ≤ length line
+  pub left : arcs ≡ arcs_of_codes before (map (λ (c : ReadCell). c.code) cells)
+  pub shown : map shown_value arcs ≡ map (λ (c : ReadCell). c.value) cells
+
+-- what stands at a place: the text of its cell, and the rest
+at-next : (before : List (Option ArcTail)) (count : ℕ) (line : List ℕ)
+    (k at : ℕ) (arcs : List (Option ArcTail)) (s : ReadSoFar before count line k at arcs)
+    → k < count → (code : Option Code) → code_of (first_cell (drop at line)) ≡ code
+    → cells_read (value_at_place before) (cells_of count line)
+    ≡ onto s.cells (and_then (cell_read BadField (value_at_place before k) code) (λ cell.
+    before_all cell (cells_read (λ p. value_at_place before (k + 1 + p))
+    (cells_of (count - (k + 1)) (after_cell (drop at line))))))
+at-next before count line k at arcs s h code e =
+    let n : ℕ = count - (k + 1) in
+    let more : count - k ≡ suc n = omega arith in
+    let here : k + 0 ≡ k = omega arith in
+    let rest : List (List ℕ) = cells_of n (after_cell (drop at line)) in
+    s.so_far
+    ∙ ap (λ m. onto s.cells (cells_read (λ p. value_at_place before (k + p)) (cells_of m (drop at line)))) more
+    ∙ ap (λ m. onto s.cells (and_then (cell_read BadField (value_at_place before m) (code_of (first_cell
+    (drop at line)))) (λ cell. before_all cell (cells_read (λ p. value_at_place before (k + suc p)) rest)))) here
+    ∙ ap (λ (r : Result (List ReadCell) Fault). onto s.cells (and_then (cell_read BadField
+    (value_at_place before k) (code_of (first_cell (drop at line)))) (λ cell. before_all cell r)))
+    (cells-same (λ p. value_at_place before (k + suc p))
+    (λ p. value_at_place before (k + 1 + p)) (λ p c. ap (λ m. value_at_place before m c) (omega arith)) rest)
+    ∙ ap (λ (o : Option Code). onto s.cells (and_then (cell_read BadField (value_at_place before k) o)
+    (λ cell. before_all cell (cells_read (λ p. value_at_place before (k + 1 + p)) rest)))) e
+
+-- a fault of the next cell is that of them all
+pub read-refused : (before : List (Option ArcTail))
+    (count : ℕ) (line : List ℕ) (k at : ℕ) (arcs : List (Option ArcTail)) (fault : Fault)
+    → ReadSoFar before count line k at arcs
+    → k < count → cell_read BadField (value_at_place before k) (code_of (first_cell (drop at line))) ≡ Err fault
+    → cells_read (value_at_place before) (cells_of count line) ≡ Err fault
+read-refused before count line k at arcs fault s h e =
+    let rest : Result (List ReadCell) Fault =
+    cells_read (λ p. value_at_place before (k + 1 + p)) (cells_of (count - (k + 1)) (after_cell (drop at line))) in
+    at-next before count line k at arcs s h (code_of (first_cell (drop at line))) refl
+    ∙ ap (λ (r : Result ReadCell Fault). onto s.cells (and_then r (λ cell. before_all cell rest))) e
+    ∙ onto-err s.cells fault
+
+pub read-more : (before : List (Option ArcTail)) (count : ℕ) (line : List ℕ) (k at at' : ℕ)
+    (arcs arcs' : List (Option ArcTail)) (code : Code) (value : Option ℤ) (arc : Option ArcTail)
+    → ReadSoFar before count line k at arcs
+    → k < count → code_of (first_cell (drop at line)) ≡ Some code → value_at_place before k code ≡ Ok value
+    → after_cell (drop at line) ≡ drop at' line → at' ≤ length line
+    → arc ≡ arc_of_code code (slice_index_or before k None)
+    → arcs' ≡ arcs ++ arc ∷ [] → ReadSoFar before count line (k + 1) at' arcs'
+read-more before count line k at at' arcs arcs' code value arc s h e v t w a l =
+    let n : ℕ = count - (k + 1) in
+    let c : ReadCell = record { code = code; value = value } in
+    let more : count - k ≡ suc n = omega arith in
+    let rest : Result (List ReadCell) Fault =
+    cells_read (λ p. value_at_place before (k + 1 + p)) (cells_of n (after_cell (drop at line))) in
+    record {
+      cells = s.cells ++ c ∷ [];
+      counted = let count' : length s.cells ≡ k = s.counted in omega (arith, length-append s.cells (c ∷ []), count');
+      so_far =
+          at-next before count line k at arcs s h (Some code) e
+          ∙ ap (λ (q : Result (Option ℤ) Fault). onto s.cells
+          (and_then (and_then q (λ x. Ok (record { code = code; value = x }))) (λ cell. before_all cell rest))) v
+          ∙ sym (onto-more s.cells c rest)
+          ∙ ap (λ text. onto (s.cells ++ c ∷ [])
+          (cells_read (λ p. value_at_place before (k + 1 + p)) (cells_of n text))) t;
+      marks = s.marks ∙ ap (λ m. after_cells m (drop at line)) more ∙ ap (after_cells n) t;
+      within = w;
+      left =
+          l ∙ ap (λ xs. xs ++ arc ∷ []) s.left
+          ∙ ap {B = List (Option ArcTail)} (λ x. arcs_of_codes before (codes_in s.cells) ++ x ∷ []) (a
+          ∙ ap (λ m. arc_of_code code (slice_index_or before m None)) (sym s.counted
+          ∙ sym (length-map s.cells (λ (q : ReadCell). q.code))))
+          ∙ sym (arcs-more before (codes_in s.cells) code)
+          ∙ ap (arcs_of_codes before) (sym (map-append (λ (q : ReadCell). q.code) s.cells (c ∷ [])));
+      shown =
+          ap (map shown_value) l ∙ map-append shown_value arcs (arc ∷ [])
+          ∙ ap (λ vs. vs ++ shown_value arc ∷ []) s.shown
+          ∙ ap {B = List (Option ℤ)} (λ x. values_in s.cells ++ x ∷ []) (ap shown_value a
+          ∙ shown-code OBSERVATION_WIDTH code (slice_index_or before k None) value v)
+          ∙ sym (map-append (λ (q : ReadCell). q.value) s.cells (c ∷ []));
+    }
+
+-- the next cell, with its arc in its place among others
+pub read-cell : (before : List (Option ArcTail)) (count : ℕ) (line : List ℕ)
+    (k at at' : ℕ) (arcs arcs' made : List (Option ArcTail)) (taken : ℕ)
+    → ReadSoFar before count line k at (take k arcs) → k < count → length arcs ≡ count
+    → IsCellRead before k (drop at line) arcs made taken
+    → arcs' ≡ made → at' ≡ at + taken
+    → ReadSoFar before count line (k + 1) at' (take (k + 1) arcs') × (length arcs' ≡ count)
+read-cell before count line k at at' arcs arcs' made taken s h counted read made_is at_is =
+    let arc : Option ArcTail = arc_of_code read.code (slice_index_or before k None) in
+    let within : taken ≤ length (drop at line) = read.within in
+    let here : at ≤ length line = s.within in
+    let left : arcs' ≡ slice_set arcs k arc = made_is ∙ read.left in (
+      read-more before count line k at at'
+          (take k arcs) (take (k + 1) arcs') read.code read.value arc s h read.formed read.given
+          (sym read.after ∙ drop-drop taken at line ∙ ap (λ n. drop n line) (sym at_is))
+          (omega (arith, within, here, at_is, length-drop at line))
+          refl
+          (ap (take (k + 1)) left ∙ take_more_set arcs k arc (omega (arith, counted, h))),
+      ap length left ∙ length-set arcs k arc ∙ counted,
+    )
+
+pub read-none : (before : List (Option ArcTail)) (count : ℕ) (line : List ℕ) → ReadSoFar before count line 0 0 []
+read-none before count line =
+    let all : count - 0 ≡ count = omega arith in
+    record {
+      cells = [];
+      counted = refl;
+      so_far =
+          cells-same (value_at_place before) (λ p. value_at_place before (0 + p))
+          (λ p c. ap (λ m. value_at_place before m c) (omega arith)) (cells_of count line)
+          ∙ ap (λ m. cells_read (λ p. value_at_place before (0 + p)) (cells_of m line)) (sym all);
+      marks = ap (λ m. after_cells m line) (sym all);
+      within = omega arith;
+      left = refl;
+      shown = refl;
+    }
+
+pub read-all : (before : List (Option ArcTail)) (count : ℕ) (line : List ℕ)
+    (k at : ℕ) (arcs : List (Option ArcTail)) → ReadSoFar before count line k at arcs
+    → k ≡ count → CellsAreRead before count line arcs at
+read-all before count line k at arcs s e =
+    let none : count - k ≡ 0 = omega arith in
+    record {
+      cells = s.cells;
+      good = s.so_far ∙ ap (λ m. onto s.cells
+          (cells_read (λ p. value_at_place before (k + p)) (cells_of m (drop at line)))) none ∙ onto-ok s.cells;
+      marks = s.marks ∙ ap (λ m. after_cells m (drop at line)) none;
+      within = s.within;
+      left = s.left;
+      shown = s.shown;
+    }

@@ -1,0 +1,163 @@
+-- Lines that a text is cut into, each followed by LF.
+use Rattle.std.specs.Prelude.{◌≡◌, ◌≤◌, ◌<◌, refl, ℕ, zero, suc, ◌+◌, ◌-◌, List, [], ◌∷◌, ◌++◌, length, set, take, drop}
+use Rattle.std.specs.Prelude.{get_or, slice_get, Option, Some}
+use Rattle.std.proofs.Common.{sym, ◌∙◌, ap, subst, arith, append_assoc}
+use Rattle.std.proofs.lemmas.List.{drop-append-le, drop-drop, drop-take, drop_more, take-append-le, take-take}
+use Rattle.std.proofs.lemmas.List.{length-append, length-drop, length-take-le}
+use Rattle.std.proofs.Math.ListN.{drop_of_length-le}
+use Rattle.crx_columns.proofs.WrittenTexts.{counted-line, line-ended}
+use Rattle.crx_compact.specs.LineLists.{cut, lines_text, AreCut}
+
+-- the first of some lines ends within the text, and the others are its rest
+pub record Ended (count : ℕ) (counts text : List ℕ) : Type 0 where
+  pub within : count < length text
+  pub rest : lines_text (cut counts (drop (suc count) text)) ≡ drop (suc count) text
+
+pub first-ended : (count : ℕ) (counts text : List ℕ)
+    → lines_text (cut (count ∷ counts) text) ≡ text → Ended count counts text
+first-ended zero counts [] e = absurd (cc)
+first-ended zero counts (c ∷ cs) e = record { within = omega arith; rest = ap (drop 1) e }
+first-ended (suc count) counts [] e = absurd (cc)
+first-ended (suc count) counts (c ∷ cs) e =
+    let others : Ended count counts cs = first-ended count counts cs (ap (drop 1) e) in
+    let within : count < length cs = others.within in
+    record { within = omega (arith, within); rest = others.rest }
+
+whole-first : (line after : List ℕ) → take (length line) (line ++ after) ≡ line
+whole-first [] after = refl
+whole-first (c ∷ cs) after = ap (λ r. c ∷ r) (whole-first cs after)
+
+-- a line after those that a text is cut into
+pub cut-more : (counts text line : List ℕ) → lines_text (cut counts text) ≡ text
+    → cut (counts ++ length line ∷ []) (text ++ (line ++ 10 ∷ [])) ≡ cut counts text ++ line ∷ []
+cut-more [] [] line e = ap (λ l. l ∷ []) (whole-first line (10 ∷ []))
+cut-more [] (c ∷ cs) line e = absurd (cc)
+cut-more (count ∷ counts) text line e =
+    let first : Ended count counts text = first-ended count counts text e in
+    let within : count < length text = first.within in
+    ap (λ l. l ∷ cut (counts ++ length line ∷ []) (drop (suc count) (text ++ (line ++ 10 ∷ []))))
+    (take-append-le count text (line ++ 10 ∷ []) (omega (arith, within)))
+    ∙ ap (λ t. take count text ∷ cut (counts ++ length line ∷ []) t)
+    (drop-append-le (suc count) text (line ++ 10 ∷ []) (omega (arith, within)))
+    ∙ ap (λ ls. take count text ∷ ls) (cut-more counts (drop (suc count) text) line first.rest)
+
+pub text-more : (lines : List (List ℕ)) (line : List ℕ)
+    → lines_text (lines ++ line ∷ []) ≡ lines_text lines ++ (line ++ 10 ∷ [])
+text-more [] line = simp append_assoc
+text-more (first ∷ lines) line =
+    ap (λ t. (first ++ 10 ∷ []) ++ t) (text-more lines line)
+    ∙ sym (append_assoc (first ++ 10 ∷ []) (lines_text lines) (line ++ 10 ∷ []))
+
+-- a line that was put after others
+pub record Pushed (lengths lengths' text text' line : List ℕ) (past past_bytes : ℕ) : Type 0 where
+  pub is : cut (drop past lengths') (drop past_bytes text')
+      ≡ cut (drop past lengths) (drop past_bytes text) ++ line ∷ []
+  pub still : AreCut lengths' text' past past_bytes
+
+pub line-pushed : (lengths lengths' text text' line : List ℕ) (past past_bytes : ℕ)
+    → AreCut lengths text past past_bytes
+    → lengths' ≡ lengths ++ length line ∷ []
+    → text' ≡ text ++ (line ++ 10 ∷ []) → Pushed lengths lengths' text text' line past past_bytes
+line-pushed lengths lengths' text text' line past past_bytes c longer more =
+    let counts : drop past lengths' ≡ drop past lengths ++ length line ∷ [] = ap (drop past) longer
+    ∙ drop-append-le past lengths (length line ∷ []) c.past_within in
+    let rest : drop past_bytes text' ≡ drop past_bytes text ++ (line ++ 10 ∷ []) = ap (drop past_bytes) more
+    ∙ drop-append-le past_bytes text (line ++ 10 ∷ []) c.bytes_within in
+    let is : cut (drop past lengths') (drop past_bytes text')
+    ≡ cut (drop past lengths) (drop past_bytes text) ++ line ∷ [] =
+    ap (λ ns. cut ns (drop past_bytes text')) counts ∙ ap (cut (drop past lengths ++ length line ∷ [])) rest
+    ∙ cut-more (drop past lengths) (drop past_bytes text) line c.whole in
+    let past_within : past ≤ length lengths = c.past_within in
+    let bytes_within : past_bytes ≤ length text = c.bytes_within in
+    record {
+      is = is;
+      still = record {
+        past_within = omega (arith, past_within, ap length longer, length-append lengths (length line ∷ []));
+        bytes_within = omega (arith, bytes_within, ap length more, length-append text (line ++ 10 ∷ []));
+        whole = ap lines_text is ∙ text-more (cut (drop past lengths) (drop past_bytes text)) line
+            ∙ ap (λ t. t ++ (line ++ 10 ∷ [])) c.whole ∙ sym rest;
+      };
+    }
+
+-- ---- the next line
+
+-- the next of some lines that are kept in bytes, and what is left after it
+pub record NextLine (lengths bytes : List ℕ) (filled past past_bytes count : ℕ) : Type 0 where
+  pub is : Some (take count (drop past_bytes bytes))
+      ≡ slice_get (cut (drop past lengths) (drop past_bytes (take filled bytes))) 0
+  pub within : past_bytes + count < filled
+  pub left : cut (drop (past + 1) lengths) (drop (past_bytes + count + 1) (take filled bytes))
+      ≡ drop 1 (cut (drop past lengths) (drop past_bytes (take filled bytes)))
+  pub still : AreCut lengths (take filled bytes) (past + 1) (past_bytes + count + 1)
+
+pub next-line : (lengths bytes : List ℕ) (filled past past_bytes count : ℕ)
+    → AreCut lengths (take filled bytes) past past_bytes
+    → filled ≤ length bytes → past < length lengths → count ≡ get_or lengths past count
+    → NextLine lengths bytes filled past past_bytes count
+next-line lengths bytes filled past past_bytes count c kept past_within here =
+    let text : List ℕ = take filled bytes in
+    let rest : List ℕ = drop past_bytes text in
+    let counts : List ℕ = drop (past + 1) lengths in
+    let there : drop past lengths ≡ count ∷ counts = drop_more lengths past count past_within
+    ∙ ap (λ (n : ℕ). n ∷ counts) (sym here) in
+    let first : Ended count counts rest =
+    first-ended count counts rest (subst (λ (ns : List ℕ). lines_text (cut ns rest) ≡ rest) there c.whole) in
+    let long : length text ≡ filled = length-take-le filled bytes kept in
+    let less : length rest ≡ length text - past_bytes = length-drop past_bytes text in
+    let fits : count < length rest = first.within in
+    let within : past_bytes + count < filled = omega (arith, long, less, fits) in
+    let next : past_bytes + count + 1 ≡ past_bytes + suc count = omega arith in
+    let after : drop (past_bytes + count + 1) text ≡ drop (suc count) rest = ap (λ n. drop n text) next
+    ∙ sym (drop-drop (suc count) past_bytes text) in
+    let seen : rest ≡ take (filled - past_bytes) (drop past_bytes bytes) =
+    ap (λ n. drop past_bytes (take n bytes)) {x = filled} {y = past_bytes + (filled - past_bytes)}
+    (omega (arith, within)) ∙ drop-take past_bytes (filled - past_bytes) bytes in
+    record {
+      is =
+          ap {B = Option (List ℕ)} (λ l. Some l) (sym (ap (take count) seen
+          ∙ take-take count (filled - past_bytes) (drop past_bytes bytes) (omega (arith, within))))
+          ∙ sym (ap (λ (ns : List ℕ). slice_get (cut ns rest) 0) there);
+      within = within;
+      left =
+          ap (cut counts) after
+          ∙ sym (ap (λ (ns : List ℕ). drop 1 (cut ns rest)) there);
+      still = record {
+        past_within = omega (arith, past_within);
+        bytes_within = omega (arith, long, within);
+        whole =
+            ap (λ t. lines_text (cut counts t)) after ∙ first.rest ∙ sym after;
+      };
+    }
+
+-- ---- all lines that are left
+
+pub all-lines : (lengths bytes : List ℕ) (filled past past_bytes : ℕ)
+    → AreCut lengths (take filled bytes) past past_bytes → filled ≤ length bytes
+    → take (filled - past_bytes) (drop past_bytes bytes)
+    ≡ lines_text (cut (drop past lengths) (drop past_bytes (take filled bytes)))
+all-lines lengths bytes filled past past_bytes c kept =
+    let long : length (take filled bytes) ≡ filled = length-take-le filled bytes kept in
+    let within : past_bytes ≤ length (take filled bytes) = c.bytes_within in
+    sym (c.whole ∙ ap (λ n. drop past_bytes (take n bytes)) {x = filled} {y = past_bytes + (filled - past_bytes)}
+    (omega (arith, within, long)) ∙ drop-take past_bytes (filled - past_bytes) bytes)
+
+pub none-left : (lengths bytes : List ℕ) (filled past : ℕ)
+    → length lengths ≤ past → cut (drop past lengths) (drop filled (take filled bytes)) ≡ []
+none-left lengths bytes filled past within =
+    ap (λ (ns : List ℕ). cut ns (drop filled (take filled bytes))) (drop_of_length-le lengths within)
+
+-- ---- a line that was written after others
+
+pub row-pushed : (lengths lengths' bytes grown new line : List ℕ) (filled count past past_bytes : ℕ)
+    → AreCut lengths (take filled bytes) past past_bytes
+    → filled ≤ length grown → take filled grown ≡ take filled bytes
+    → take (filled + count) new ≡ take filled grown ++ line → filled + count < length new
+    → lengths' ≡ lengths ++ count ∷ []
+    → Pushed lengths lengths' (take filled bytes)
+    (take (filled + count + 1) (set new (filled + count) 10)) line past past_bytes
+row-pushed lengths lengths' bytes grown new line filled count past past_bytes c within same written room longer =
+    let counted : count ≡ length line = counted-line new grown line filled count written room within in
+    line-pushed lengths lengths' (take filled bytes)
+    (take (filled + count + 1) (set new (filled + count) 10)) line past past_bytes c
+    (longer ∙ ap (λ n. lengths ++ n ∷ []) counted)
+    (line-ended new grown line filled count written room ∙ ap (λ t. t ++ (line ++ 10 ∷ [])) same)

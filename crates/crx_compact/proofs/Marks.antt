@@ -1,0 +1,341 @@
+-- The marks of a satellite line, and the row that its cells and marks make.
+use Rattle.std.specs.Prelude.{◌≡◌, refl, ℕ, suc, ◌+◌, ◌-◌, ◌*◌, Bool, true, false, List, [], ◌∷◌, ◌++◌, ℤ, length, map}
+use Rattle.std.specs.Prelude.{take, drop, replicate, slice_index_or, Option, None, Some, Result, Ok, Err, IfOk, IfErr}
+use Rattle.std.specs.Prelude.{OnErr, OnOk, if◌then◌else◌, ◌<◌, slice_set, ◌==◌, zero}
+use Rattle.std.specs.List.{list_all}
+use Rattle.std.proofs.Common.{sym, ◌∙◌, ap, arith}
+use Rattle.std.proofs.lemmas.List.{length-map, take_more_set}
+use Rattle.crx_columns.specs.meaning.Columns.{columns, without_end_blanks}
+use Rattle.crx_columns.specs.meaning.Texts.{by_position, is_printable, is_kept}
+use Rattle.crx_columns.specs.Texts.{character_of, patched}
+use Rattle.crx_text.specs.declared.code.Code.{Code}
+use Rattle.crx_text.specs.declared.code.Code.TheVariants.{Missing}
+use Rattle.crx_faults.specs.declared.limits.TheConstants.{OBSERVATION_WIDTH}
+use Rattle.crx_faults.specs.declared.fault.Fault.{Fault}
+use Rattle.crx_faults.specs.declared.fault.Fault.TheVariants.{BadFlags, Truncated, BadField}
+use Rattle.std.proofs.Math.Path.{fun_ext}
+use Rattle.crx_columns.specs.meaning.EachPlace.{each_place}
+use Rattle.crx_compact.specs.meaning.Sequences.{and_then, before_all}
+use Rattle.crx_header.specs.meaning.EpochColumns.{begins_epoch}
+use Rattle.crx_header.specs.meaning.InOrder.{◌otherwise◌next◌}
+use Rattle.crx_compact.specs.meaning.EpochText.{Satellite}
+use Rattle.crx_compact.specs.meaning.Cells.{ReadCell, after_cells, cells_of, cells_read, cell_read}
+use Rattle.crx_compact.specs.meaning.CompactPlaces.{ReadRow, satellite_line_read, are_marks, row_of_cells}
+use Rattle.crx_compact.specs.meaning.Past.{Past}
+use Rattle.crx_compact.specs.ArcTails.{ArcTail}
+use Rattle.crx_compact.specs.Tails.{RowTail, Tail}
+use Rattle.crx_compact.specs.ArcSteps.{arc_of_code, value_of_code, shown_value}
+use Rattle.crx_compact.specs.Steps.{cell_of_tail, flags_held, flags_of_tail, tail_named}
+use Rattle.crx_compact.proofs.CellsRead.{cells-same}
+use Rattle.crx_compact.specs.ShownRows.{shown_row}
+use Rattle.crx_compact.specs.HeldRows.{HeldRow, held_row, past_of_tail, arcs_of_tail, held_from, past_of_row, row_after}
+use Rattle.crx_compact.specs.HeldRows.{row_held, row_held_from, IsNextRow}
+use Rattle.crx_compact.specs.Cells.{value_at_place, CellsAreRead, arcs_of_codes}
+use Rattle.crx_compact.proofs.SoundTexts.{held-columns, patched-trimmed}
+use Rattle.crx_compact.proofs.Characters.{list_all-at, at-by_position}
+use Rattle.crx_columns.proofs.Characters.{at, at-without_end_blanks, columns-are, list_all-from_at, length-columns}
+use Rattle.crx_compact.proofs.PlaceByPlace.{at-padded, at-take}
+use Rattle.crx_text.specs.meaning.Codes.{code_of, after_cell}
+use Rattle.crx_compact.proofs.Results.{ok-same, Follows, and_then-ok, before-ok}
+
+-- ---- the characters of patched indicators
+
+patched-character : (a b : ℕ) → is_kept a ≡ true → is_printable b ≡ true → is_kept (character_of a b) ≡ true
+patched-character a b h k = grind (arith, h, k)
+
+pub patched-kept : (old marks : List ℕ)
+    → list_all is_kept old ≡ true → list_all is_printable marks ≡ true → list_all is_kept (patched old marks) ≡ true
+patched-kept old marks h k =
+    list_all-from_at is_kept (patched old marks) (λ p.
+    ap is_kept (at-without_end_blanks (by_position character_of old marks) p
+    ∙ at-by_position character_of refl old marks p)
+    ∙ patched-character (at old p)
+    (at marks p) (list_all-at is_kept refl old h p) (list_all-at is_printable refl marks k p))
+
+-- ---- no marks
+
+at-unmarked : (flags : List ℕ) (p : ℕ) → at (patched flags []) p ≡ at flags p
+at-unmarked flags p = at-without_end_blanks (by_position character_of flags []) p
+    ∙ at-by_position character_of refl flags [] p
+
+pub none-there : (marks : List ℕ) → true ≡ (length marks == 0) → marks ≡ []
+none-there [] e = refl
+none-there (m ∷ marks) e = absurd (grind (arith, e))
+
+-- the columns of indicators that no marks change
+pub columns-left : (count : ℕ) (flags : List ℕ) → columns flags 1 (2 * count) ≡ columns (patched flags []) 1 (2 * count)
+columns-left count flags =
+    columns-are flags 1 (2 * count)
+    (columns (patched flags []) 1 (2 * count)) (length-columns (patched flags []) 1 (2 * count)) (λ p less.
+    let place : 1 - 1 + p ≡ p = omega arith in
+    ap (at flags) place
+    ∙ sym (at-take (2 * count) (patched flags [] ++ replicate (2 * count) 32) p less
+    ∙ at-padded (2 * count) (patched flags []) p ∙ at-unmarked flags p))
+
+-- the columns of indicators show what is held of them
+columns-held : (count : ℕ) (flags : List ℕ) → columns (flags_held count flags) 1 (2 * count)
+    ≡ columns flags 1 (2 * count)
+columns-held count flags =
+    columns-are (flags_held count flags) 1 (2 * count)
+    (columns flags 1 (2 * count)) (length-columns flags 1 (2 * count)) (λ p less.
+    let place : 1 - 1 + p ≡ p = omega arith in
+    ap (at (flags_held count flags)) place
+    ∙ at-without_end_blanks (take (2 * count) flags) p
+    ∙ at-take (2 * count) flags p less
+    ∙ sym (at-take (2 * count) (flags ++ replicate (2 * count) 32) p less ∙ at-padded (2 * count) flags p))
+
+-- ---- a satellite's line
+
+abbrev pub row_with_marks : Past → Satellite → List ℕ → List ReadCell → Result ReadRow Fault
+row_with_marks past satellite marks cells =
+    are_marks satellite.count marks otherwise Err BadFlags next
+    Ok (row_of_cells past satellite.name marks cells)
+
+-- a line for so many types: the first cell with a fault decides, then the marks
+abbrev pub row_of_line : Past → Satellite → List ℕ → Result ReadRow Fault
+row_of_line past satellite line =
+    and_then (cells_read (past.value satellite.name) (cells_of satellite.count line)) (λ cells.
+    row_with_marks past satellite (after_cells satellite.count line) cells)
+
+-- a line that begins no epoch is read by its cells
+line-cells : (arcs : List (Option ArcTail)) (flags : List ℕ) (satellite : Satellite) (line : List ℕ)
+    → begins_epoch line ≡ false
+    → (r : Result (List ReadCell) Fault) → cells_read (value_at_place arcs) (cells_of satellite.count line) ≡ r
+    → row_held_from arcs flags satellite line
+    ≡ and_then (and_then r (λ cells. row_with_marks (past_of_row arcs flags) satellite
+    (after_cells satellite.count line) cells)) (λ read. Ok (held_from arcs flags read))
+line-cells arcs flags satellite line h r e =
+    ap {B = Result HeldRow Fault} (λ b. and_then (if b then Err Truncated
+    else row_of_line (past_of_row arcs flags) satellite line) (λ read. Ok (held_from arcs flags read))) h
+    ∙ ap {B = Result HeldRow Fault} (λ (q : Result (List ReadCell) Fault). and_then (and_then q
+    (λ cells. row_with_marks (past_of_row arcs flags) satellite (after_cells satellite.count line) cells))
+    (λ read. Ok (held_from arcs flags read))) e
+
+pub line-fault : (arcs : List (Option ArcTail)) (flags : List ℕ) (satellite : Satellite) (line : List ℕ) (fault : Fault)
+    → begins_epoch line ≡ false
+    → cells_read (value_at_place arcs) (cells_of satellite.count line) ≡ Err fault
+    → row_held_from arcs flags satellite line ≡ Err fault
+line-fault arcs flags satellite line fault h e = line-cells arcs flags satellite line h (Err fault) e
+
+-- the marks decide after the cells
+line-marks : (arcs : List (Option ArcTail)) (flags : List ℕ)
+    (satellite : Satellite) (line : List ℕ) (at : ℕ) (cells : List ReadCell) (b : Bool) → begins_epoch line ≡ false
+    → cells_read (value_at_place arcs) (cells_of satellite.count line) ≡ Ok cells
+    → after_cells satellite.count line ≡ drop at line → are_marks satellite.count (drop at line) ≡ b
+    → row_held_from arcs flags satellite line
+    ≡ and_then (b otherwise Err BadFlags next
+    Ok (row_of_cells (past_of_row arcs flags) satellite.name (drop at line) cells)) (λ read. Ok (held_from arcs flags read))
+line-marks arcs flags satellite line at cells b h good marks e =
+    line-cells arcs flags satellite line h (Ok cells) good
+    ∙ ap {B = Result HeldRow Fault} (λ text. and_then
+    (row_with_marks (past_of_row arcs flags) satellite text cells) (λ read. Ok (held_from arcs flags read))) marks
+    ∙ ap {B = Result HeldRow Fault} (λ q. and_then (q otherwise Err BadFlags next Ok (row_of_cells
+    (past_of_row arcs flags) satellite.name (drop at line) cells)) (λ read. Ok (held_from arcs flags read))) e
+
+pub line-bad_marks : (arcs : List (Option ArcTail))
+    (flags : List ℕ) (satellite : Satellite) (line : List ℕ) (left : List (Option ArcTail)) (at : ℕ)
+    → begins_epoch line ≡ false
+    → CellsAreRead arcs satellite.count line left at → are_marks satellite.count (drop at line) ≡ false
+    → row_held_from arcs flags satellite line ≡ Err BadFlags
+line-bad_marks arcs flags satellite line left at h read e =
+    line-marks arcs flags satellite line at read.cells false h read.good read.marks e
+
+-- ---- cells
+
+pub cells-count : (value : ℕ → Code → Result (Option ℤ) Fault) (texts : List (List ℕ)) (cells : List ReadCell)
+    → cells_read value texts ≡ Ok cells → length cells ≡ length texts
+cells-count value [] cells e = sym (ap length (ok-same [] cells e))
+cells-count value (text ∷ texts) cells e =
+    let rest : Result (List ReadCell) Fault = cells_read (λ j. value (suc j)) texts in
+    let one : Follows (cell_read BadField (value 0) (code_of text)) (λ c. before_all c rest) cells =
+    and_then-ok (cell_read BadField (value 0) (code_of text)) (λ c. before_all c rest) cells e in
+    let two : Follows rest (λ cs. Ok (one.from ∷ cs)) cells = before-ok one.from rest cells one.next in
+    sym (ap length (ok-same (one.from ∷ two.from) cells two.next))
+    ∙ ap suc (cells-count (λ j. value (suc j)) texts two.from two.first)
+
+pub texts-count : (count : ℕ) (line : List ℕ) → length (cells_of count line) ≡ count
+texts-count zero line = refl
+texts-count (suc count) line = ap suc (texts-count count (after_cell line))
+
+-- ---- a satellite's line
+
+cells-many : (arcs : List (Option ArcTail)) (count : ℕ) (line : List ℕ) (left : List (Option ArcTail)) (at : ℕ)
+    → (read : CellsAreRead arcs count line left at) → length read.cells ≡ count
+cells-many arcs count line left at read =
+    cells-count (value_at_place arcs) (cells_of count line) read.cells read.good ∙ texts-count count line
+
+-- a line that was read leaves arcs and indicators that show its row
+pub line-held : (arcs : List (Option ArcTail)) (flags : List ℕ) (satellite : Satellite)
+    (line : List ℕ) (left : List (Option ArcTail)) (at : ℕ) (name held : List ℕ)
+    → begins_epoch line ≡ false
+    → CellsAreRead arcs satellite.count line left at → are_marks satellite.count (drop at line) ≡ true
+    → name ≡ satellite.name → held ≡ columns (patched flags (drop at line)) 1 (2 * satellite.count)
+    → row_held_from arcs flags satellite line ≡ Ok (record {
+      row = shown_row (record { name = name; flags = without_end_blanks held; cells = left });
+      tail = record { name = name; flags = without_end_blanks held; cells = left };
+    })
+line-held arcs flags satellite line left at name held h read e same columned =
+    let text : List ℕ = without_end_blanks held in
+    let t : text ≡ flags_held satellite.count (patched flags (drop at line)) =
+    ap without_end_blanks columned ∙ held-columns satellite.count (patched flags (drop at line)) in
+    let marked : List ℕ = patched flags (drop at line) in
+    let codes : List Code = map (λ (c : ReadCell). c.code) read.cells in
+    let count : length read.cells ≡ satellite.count = cells-many arcs satellite.count line left at read in
+    let many : length left ≡ satellite.count =
+    sym (length-map left shown_value) ∙ ap length read.shown
+    ∙ length-map read.cells (λ (c : ReadCell). c.value) ∙ count in
+    let kept : text ≡ flags_held (length codes) marked =
+    t ∙ ap (λ n. flags_held n marked) (sym (length-map read.cells (λ (c : ReadCell). c.code) ∙ count)) in
+    let shown : columns text 1 (2 * length left) ≡ columns marked 1 (2 * length read.cells) =
+    ap (λ n. columns text 1 (2 * n)) many ∙ ap (λ (q : List ℕ). columns q 1 (2 * satellite.count)) t
+    ∙ columns-held satellite.count marked ∙ ap (λ n. columns marked 1 (2 * n)) (sym count) in
+    line-marks arcs flags satellite line at read.cells true h read.good read.marks e
+    ∙ sym (
+    ap {B = Result HeldRow Fault} (λ (n : List ℕ). Ok (record {
+      row = record { name = n; values = map shown_value left; flags = columns text 1 (2 * length left) };
+      tail = record { name = n; flags = text; cells = left };
+    })) same
+    ∙ ap {B = Result HeldRow Fault} (λ (fs : List ℕ). Ok (record {
+      row = record { name = satellite.name; values = map shown_value left; flags = fs };
+      tail = record { name = satellite.name; flags = text; cells = left };
+    })) shown
+    ∙ ap {B = Result HeldRow Fault} (λ (vs : List (Option ℤ)). Ok (record {
+      row = record { name = satellite.name; values = vs; flags = columns marked 1 (2 * length read.cells) };
+      tail = record { name = satellite.name; flags = text; cells = left };
+    })) read.shown
+    ∙ ap {B = Result HeldRow Fault} (λ (q : List ℕ). Ok (record {
+      row = record {
+        name = satellite.name;
+        values = map (λ (c : ReadCell). c.value) read.cells;
+        flags = columns marked 1 (2 * length read.cells);
+      };
+      tail = record { name = satellite.name; flags = q; cells = left };
+    })) kept
+    ∙ ap {B = Result HeldRow Fault} (λ (cs : List (Option ArcTail)). Ok (record {
+      row = record {
+        name = satellite.name;
+        values = map (λ (c : ReadCell). c.value) read.cells;
+        flags = columns marked 1 (2 * length read.cells);
+      };
+      tail = record { name = satellite.name; flags = flags_held (length codes) marked; cells = cs };
+    })) read.left
+    )
+
+-- ---- faults as they are reported
+
+pub marks-refused : (arcs : List (Option ArcTail)) (flags : List ℕ)
+    (satellite : Satellite) (line : List ℕ) (left : List (Option ArcTail)) (at : ℕ) (fault : Fault)
+    → begins_epoch line ≡ false → CellsAreRead arcs satellite.count line left at
+    → (are_marks satellite.count (drop at line) ≡ false) × (fault ≡ BadFlags)
+    → row_held_from arcs flags satellite line ≡ Err fault
+marks-refused arcs flags satellite line left at fault h read e =
+    line-bad_marks arcs flags satellite line left at h read e.0 ∙ ap Err (sym e.1)
+
+-- ---- by what was kept of the whole epoch before
+
+cell-by_kept : (kept : Option RowTail) (place : ℕ)
+    → slice_index_or (arcs_of_tail kept) place None ≡ cell_of_tail place kept
+cell-by_kept None place = refl
+cell-by_kept (Some row) place = refl
+
+row-decided : (tail : Tail) (satellite : Satellite)
+    (marks : List ℕ) (begins good : Bool) (r : Result (List ReadCell) Fault)
+    → ◌≡◌ {A = Result HeldRow Fault}
+    (and_then (if begins then Err Truncated else and_then r (λ cells.
+    good otherwise Err BadFlags next
+    Ok (row_of_cells (past_of_row (arcs_of_tail (tail_named satellite.name tail))
+    (flags_of_tail (tail_named satellite.name tail))) satellite.name marks cells)))
+    (λ read. Ok (held_from (arcs_of_tail (tail_named satellite.name tail))
+    (flags_of_tail (tail_named satellite.name tail)) read)))
+    (and_then (if begins then Err Truncated else and_then r
+    (λ cells. good otherwise Err BadFlags next
+    Ok (row_of_cells (past_of_tail tail) satellite.name marks cells)))
+    (λ read. Ok (held_row tail read)))
+row-decided tail satellite marks true good r = refl
+row-decided tail satellite marks false good (Err fault) = refl
+row-decided tail satellite marks false false (Ok cells) = refl
+row-decided tail satellite marks false true (Ok cells) =
+    let kept : Option RowTail = tail_named satellite.name tail in
+    let codes : List Code = map (λ (c : ReadCell). c.code) cells in
+    ap {B = Result HeldRow Fault} (λ (cell : ℕ → Option ArcTail). Ok (record {
+      row = (row_of_cells (past_of_tail tail) satellite.name marks cells).row;
+      tail = record {
+        name = satellite.name;
+        flags = flags_held (length codes) (patched (flags_of_tail kept) marks);
+        cells = each_place (length codes) (λ place. arc_of_code (slice_index_or codes place Missing) (cell place));
+      };
+    })) (fun_ext (λ place. cell-by_kept kept place))
+
+pub row-by_tail : (tail : Tail) (satellite : Satellite) (line : List ℕ)
+    → row_held (tail_named satellite.name tail) satellite line ≡ row_after tail satellite line
+row-by_tail tail satellite line =
+    let kept : Option RowTail = tail_named satellite.name tail in
+    let past : Past = past_of_row (arcs_of_tail kept) (flags_of_tail kept) in
+    let marks : List ℕ = after_cells satellite.count line in
+    ap {B = Result HeldRow Fault} (λ (r : Result (List ReadCell) Fault).
+    and_then (if begins_epoch line then Err Truncated
+    else and_then r (λ cells. row_with_marks past satellite marks cells))
+    (λ read. Ok (held_from (arcs_of_tail kept) (flags_of_tail kept) read)))
+    (cells-same (value_at_place (arcs_of_tail kept)) ((past_of_tail tail).value satellite.name) (λ place code.
+    ap (value_of_code OBSERVATION_WIDTH code) (cell-by_kept kept place)) (cells_of satellite.count line))
+    ∙ row-decided tail satellite marks (begins_epoch line) (are_marks satellite.count marks)
+    (cells_read ((past_of_tail tail).value satellite.name) (cells_of satellite.count line))
+
+-- ---- what is reported, by a result
+
+pub if-ok : {X E : Type 0} (r : Result X E) (P Q : X → Type 0) → ((x : X) → P x → Q x) → IfOk r P → IfOk r Q
+if-ok (Ok x) P Q f h = f x h
+if-ok (Err e) P Q f h = h
+
+pub if-err : {X E : Type 0} (r : Result X E) (P Q : E → Type 0) → ((e : E) → P e → Q e) → IfErr r P → IfErr r Q
+if-err (Ok x) P Q f h = h
+if-err (Err e) P Q f h = f e h
+
+pub on-ok : {X E : Type 0} (r : Result X E) {P Q : Type 0} → (P → Q) → OnOk r P → OnOk r Q
+on-ok (Ok x) f h = f h
+on-ok (Err e) f h = h
+
+pub on-err : {X E : Type 0} (r : Result X E) {P Q : Type 0} → (P → Q) → OnErr r P → OnErr r Q
+on-err (Ok x) f h = h
+on-err (Err e) f h = f h
+
+pub on-both : {X E : Type 0} (r : Result X E) {P Q R : Type 0} → (P → Q → R) → OnOk r P → OnOk r Q → OnOk r R
+on-both (Ok x) f p q = f p q
+on-both (Err e) f p q = tt
+
+-- a row that was read is the next one
+pub next-row : (before : Tail) (kept : Option RowTail) (satellite : Satellite)
+    (line : List ℕ) (index : ℕ) (left : RowTail) (old new : Tail) → kept ≡ tail_named satellite.name before
+    → new.rows ≡ slice_set old.rows index left → index < length old.rows → length left.cells ≡ satellite.count
+    → new.text ≡ old.text → new.clock ≡ old.clock
+    → row_held kept satellite line ≡ Ok (record { row = shown_row left; tail = left })
+    → IsNextRow before satellite line index old new
+next-row before kept satellite line index left old new found others within many text clock h =
+    record {
+      left = left;
+      read = sym (row-by_tail before satellite line) ∙ ap (λ k. row_held k satellite line) (sym found) ∙ h;
+      rows = ap (take (index + 1)) others ∙ take_more_set old.rows index left within;
+      others = others;
+      many = many;
+      text = text;
+      clock = clock;
+    }
+
+-- blanks at the end of the indicators before a line don't count
+pub row-trimmed : (arcs : List (Option ArcTail)) (flags : List ℕ) (satellite : Satellite) (line : List ℕ)
+    → row_held_from arcs (without_end_blanks flags) satellite line ≡ row_held_from arcs flags satellite line
+row-trimmed arcs flags satellite line =
+    ap {B = Result HeldRow Fault} (λ (patch : List ℕ → List ℕ).
+    and_then (satellite_line_read (record {
+      text = λ line. line;
+      clock = λ code. Ok None;
+      value = λ name place code. value_at_place arcs place code;
+      flags = λ name marks. patch marks;
+    }) satellite line) (λ (read : ReadRow). Ok (record {
+      row = read.row;
+      tail = record {
+        name = read.raw.name;
+        flags = flags_held (length read.raw.codes) (patch read.raw.marks);
+        cells = arcs_of_codes arcs read.raw.codes;
+      };
+    }))) (fun_ext (λ marks. patched-trimmed flags marks))

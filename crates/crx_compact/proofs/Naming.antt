@@ -1,0 +1,196 @@
+-- The identifiers of an epoch text, read from left to right.
+use Rattle.std.specs.Prelude.{◌≡◌, ◌<◌, refl, ℕ, zero, suc, ◌+◌, ◌*◌, Bool, true, false, ◌||◌, List, [], ◌∷◌, ◌++◌, drop, map, take, Option, Some, None}
+use Rattle.std.specs.Prelude.{Result, Ok, Err, if◌then◌else◌}
+use Rattle.std.specs.List.{list_any}
+use Rattle.std.specs.Str.{bytes_eq}
+use Rattle.std.proofs.Common.{sym, ◌∙◌, ap, arith}
+use Rattle.crx_columns.specs.meaning.EachPlace.{each_place}
+use Rattle.crx_columns.proofs.EachPlace.{drop-each_place, each_place-more}
+use Rattle.crx_header.proofs.Apart.{among-map}
+use Rattle.crx_header.specs.meaning.Satellites.{is_among, types_of_satellite}
+use Rattle.crx_columns.specs.meaning.Columns.{columns}
+use Rattle.crx_faults.specs.declared.fault.Fault.{Fault}
+use Rattle.crx_faults.specs.declared.fault.Fault.TheVariants.{BadSatellite, RepeatedSatellite}
+use Rattle.crx_header.specs.meaning.ObservationTypes.{Count}
+use Rattle.crx_compact.specs.meaning.Sequences.{before_all}
+use Rattle.crx_compact.specs.meaning.EpochText.{Satellite, names_in, satellite_before, satellites_named}
+use Rattle.crx_compact.proofs.Characters.{bytes_eq-same, bytes_eq-is}
+
+-- the names of some satellites before earlier ones, the last one first
+abbrev pub names_after : List Satellite → List (List ℕ) → List (List ℕ)
+names_after [] earlier = earlier
+names_after (s ∷ ss) earlier = names_after ss (s.name ∷ earlier)
+
+-- some satellites before those of a good result
+abbrev pub onto : List Satellite → Result (List Satellite) Fault → Result (List Satellite) Fault
+onto [] r = r
+onto (s ∷ ss) r = before_all s (onto ss r)
+
+onto-ok : (ss : List Satellite) → onto ss (Ok []) ≡ Ok ss
+onto-ok [] = refl
+onto-ok (s ∷ ss) = ap (before_all s) (onto-ok ss)
+
+onto-err : (ss : List Satellite) (fault : Fault) → onto ss (Err fault) ≡ Err fault
+onto-err [] fault = refl
+onto-err (s ∷ ss) fault = ap (before_all s) (onto-err ss fault)
+
+onto-more : (ss : List Satellite) (s : Satellite) (r : Result (List Satellite) Fault)
+    → onto (ss ++ s ∷ []) r ≡ onto ss (before_all s r)
+onto-more [] s r = refl
+onto-more (q ∷ qs) s r = ap (before_all q) (onto-more qs s r)
+
+names-more : (ss : List Satellite) (s : Satellite) (earlier : List (List ℕ))
+    → names_after (ss ++ s ∷ []) earlier ≡ s.name ∷ names_after ss earlier
+names-more [] s earlier = refl
+names-more (q ∷ qs) s earlier = names-more qs s (q.name ∷ earlier)
+
+-- ---- whether an identifier stands already
+
+same-way : (b c : Bool) (xs ys : List ℕ) → bytes_eq xs ys ≡ b → bytes_eq ys xs ≡ c → b ≡ c
+same-way true true xs ys e f = refl
+same-way false false xs ys e f = refl
+same-way true false xs ys e f = let same : xs ≡ ys = bytes_eq-is xs ys e in
+    sym (ap (λ z. bytes_eq z xs) (sym same) ∙ bytes_eq-same xs) ∙ f
+same-way false true xs ys e f = let same : ys ≡ xs = bytes_eq-is ys xs f in
+    sym e ∙ (ap (λ z. bytes_eq z ys) (sym same) ∙ bytes_eq-same ys)
+
+either-way : (xs ys : List ℕ) → bytes_eq xs ys ≡ bytes_eq ys xs
+either-way xs ys = same-way (bytes_eq xs ys) (bytes_eq ys xs) xs ys refl refl
+
+regroup : (a b c : Bool) → ((a || b) || c) ≡ (b || (a || c))
+regroup true true c = refl
+regroup true false c = refl
+regroup false true c = refl
+regroup false false c = refl
+
+any-after : (name : List ℕ) (ss : List Satellite) (earlier : List (List ℕ))
+    → list_any (bytes_eq name) (names_after ss earlier)
+    ≡ (list_any (bytes_eq name) earlier || list_any (λ (s : Satellite). bytes_eq s.name name) ss)
+any-after name [] earlier = or-false (list_any (bytes_eq name) earlier)
+  where
+    or-false : (b : Bool) → b ≡ (b || false)
+    or-false true = refl
+    or-false false = refl
+any-after name (s ∷ ss) earlier =
+    any-after name ss (s.name ∷ earlier)
+    ∙ regroup (bytes_eq name s.name)
+    (list_any (bytes_eq name) earlier) (list_any (λ (q : Satellite). bytes_eq q.name name) ss)
+    ∙ ap (λ b. list_any (bytes_eq name) earlier || (b || list_any (λ (q : Satellite). bytes_eq q.name name) ss))
+    (either-way name s.name)
+
+-- ---- one identifier more
+
+-- the identifiers up to a place are read
+pub record NamedSoFar (types : List Count) (all : List (List ℕ)) (place : ℕ) (found : List Satellite) : Type 0 where
+  pub so_far : satellites_named types [] all
+      ≡ onto found (satellites_named types (names_after found []) (drop place all))
+
+at-next : (types : List Count) (all : List (List ℕ)) (place : ℕ) (found : List Satellite) (name : List ℕ)
+    → NamedSoFar types all place found → drop place all ≡ name ∷ drop (place + 1) all
+    → satellites_named types [] all ≡ onto found (satellite_before (names_after found []) name
+    (types_of_satellite types name) (satellites_named types (name ∷ names_after found []) (drop (place + 1) all)))
+at-next types all place found name n e = n.so_far
+    ∙ ap (λ names. onto found (satellites_named types (names_after found []) names)) e
+
+pub named-bad : (types : List Count) (all : List (List ℕ)) (place : ℕ) (found : List Satellite) (name : List ℕ)
+    → NamedSoFar types all place found
+    → drop place all ≡ name ∷ drop (place + 1) all → types_of_satellite types name ≡ None
+    → satellites_named types [] all ≡ Err BadSatellite
+named-bad types all place found name n e none =
+    at-next types all place found name n e
+    ∙ ap (λ (count : Option ℕ). onto found (satellite_before (names_after found []) name count
+    (satellites_named types (name ∷ names_after found []) (drop (place + 1) all)))) none
+    ∙ onto-err found BadSatellite
+
+stands : (name : List ℕ) (found : List Satellite) (b : Bool)
+    → b ≡ list_any (λ (s : Satellite). bytes_eq s.name name) found
+    → list_any (bytes_eq name) (names_after found []) ≡ b
+stands name found b e = any-after name found [] ∙ sym e
+
+pub named-twice : (types : List Count)
+    (all : List (List ℕ)) (place : ℕ) (found : List Satellite) (name : List ℕ) (count : ℕ)
+    → NamedSoFar types all place found
+    → drop place all ≡ name ∷ drop (place + 1) all → types_of_satellite types name ≡ Some count
+    → list_any (λ (s : Satellite). bytes_eq s.name name) found ≡ true
+    → satellites_named types [] all ≡ Err RepeatedSatellite
+named-twice types all place found name count n e some twice =
+    let others : Result (List Satellite) Fault =
+    satellites_named types (name ∷ names_after found []) (drop (place + 1) all) in
+    at-next types all place found name n e
+    ∙ ap (λ (c : Option ℕ). onto found (satellite_before (names_after found []) name c others)) some
+    ∙ ap (λ b. onto found (if b then Err RepeatedSatellite
+    else before_all (record { name = name; count = count }) others)) (stands name found true (sym twice))
+    ∙ onto-err found RepeatedSatellite
+
+pub named-more : (types : List Count)
+    (all : List (List ℕ)) (place : ℕ) (found more : List Satellite) (name : List ℕ) (count : ℕ)
+    → NamedSoFar types all place found
+    → drop place all ≡ name ∷ drop (place + 1) all → types_of_satellite types name ≡ Some count
+    → list_any (λ (s : Satellite). bytes_eq s.name name) found ≡ false
+    → more ≡ found ++ record { name = name; count = count } ∷ []
+    → NamedSoFar types all (place + 1) more
+named-more types all place found more name count n e some once m =
+    let s : Satellite = record { name = name; count = count } in
+    let others : Result (List Satellite) Fault =
+    satellites_named types (name ∷ names_after found []) (drop (place + 1) all) in
+    let here : satellites_named types [] all ≡ onto found (before_all s others) =
+    at-next types all place found name n e
+    ∙ ap (λ (c : Option ℕ). onto found (satellite_before (names_after found []) name c others)) some
+    ∙ ap (λ b. onto found (if b then Err RepeatedSatellite else before_all s others))
+    (stands name found false (sym once)) in
+    record {
+      so_far =
+          here
+          ∙ sym (onto-more found s others)
+          ∙ ap (λ names. onto (found ++ s ∷ []) (satellites_named types names (drop (place + 1) all)))
+          (sym (names-more found s []))
+          ∙ ap (λ ss. onto ss (satellites_named types (names_after ss []) (drop (place + 1) all))) (sym m);
+    }
+
+pub named-all : (types : List Count) (all : List (List ℕ)) (place : ℕ) (found : List Satellite)
+    → NamedSoFar types all place found → drop place all ≡ []
+    → satellites_named types [] all ≡ Ok found
+named-all types all place found n e = n.so_far
+    ∙ ap (λ names. onto found (satellites_named types (names_after found []) names)) e ∙ onto-ok found
+
+-- ---- an identifier among those of a text
+
+pub any-at : (P : List ℕ → Bool) (n k : ℕ) (f : ℕ → List ℕ) → k < n → P (f k) ≡ true
+    → list_any P (each_place n f) ≡ true
+any-at P zero k f h e = absurd (omega (arith, h))
+any-at P (suc n) zero f h e = ap (λ b. b || list_any P (each_place n (λ i. f (suc i)))) e
+any-at P (suc n) (suc k) f h e = or-true (P (f 0)) _ (any-at P n k (λ i. f (suc i)) (omega (arith, h)) e)
+  where
+    or-true : (a b : Bool) → b ≡ true → (a || b) ≡ true
+    or-true true b e = refl
+    or-true false b e = e
+
+any-append : (P : List ℕ → Bool) (xs : List (List ℕ)) (x : List ℕ)
+    → list_any P xs ≡ false → P x ≡ false → list_any P (xs ++ x ∷ []) ≡ false
+any-append P [] x h e = ap (λ b. b || false) e
+any-append P (y ∷ ys) x h e = both (P y) (list_any P ys) (list_any P (ys ++ x ∷ [])) h (λ k. any-append P ys x k e)
+  where
+    both : (a b c : Bool) → (a || b) ≡ false → (b ≡ false → c ≡ false) → (a || c) ≡ false
+    both true b c h k = h
+    both false b c h k = k h
+
+pub any-more : (P : List ℕ → Bool) (n : ℕ) (f : ℕ → List ℕ)
+    → list_any P (each_place n f) ≡ false → P (f n) ≡ false → list_any P (each_place (n + 1) f) ≡ false
+any-more P n f h e = ap (list_any P) (each_place-more n f) ∙ any-append P (each_place n f) (f n) h e
+
+-- the identifier at a place, which was read
+pub next-name : (text : List ℕ) (count place : ℕ) (name : List ℕ) → place < count → name
+    ≡ columns text (42 + 3 * place) 3
+    → drop place (names_in text count) ≡ name ∷ drop (place + 1) (names_in text count)
+next-name text count place name h e =
+    drop-each_place count place (λ k. columns text (42 + 3 * k) 3) h
+    ∙ ap (λ n. n ∷ drop (place + 1) (names_in text count)) (sym e)
+
+-- whether an identifier stands among those of the satellites so far
+pub among-named : (satellites : List Satellite) (names : List (List ℕ)) (name : List ℕ) (place : ℕ) (b : Bool)
+    → take place names ≡ map (λ (s : Satellite). s.name) satellites
+    → is_among (λ (n : List ℕ). n) name (take place names) ≡ b
+    → list_any (λ (s : Satellite). bytes_eq s.name name) satellites ≡ b
+among-named satellites names name place b placed is =
+    sym (among-map (λ (n : List ℕ). n) (λ (s : Satellite). s.name) name satellites)
+    ∙ ap (is_among (λ (n : List ℕ). n) name) (sym placed) ∙ is

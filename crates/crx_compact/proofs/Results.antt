@@ -1,0 +1,57 @@
+-- Good results come from good results.
+use Rattle.std.specs.Prelude.{◌≡◌, refl, Bool, true, false, not, List, ◌∷◌, Result, Ok, Err, OnOk, IfOk}
+use Rattle.std.specs.Prelude.{if◌then◌else◌}
+use Rattle.std.specs.Result.{is_ok}
+use Rattle.std.proofs.Common.{sym, ap, true≢false}
+use Rattle.crx_faults.specs.declared.fault.Fault.{Fault}
+use Rattle.crx_compact.specs.meaning.Sequences.{and_then, before_all}
+
+pub no-err : {X : Type 0} (f : Fault) (x : X) → Err f ≡ Ok x → ⊥
+no-err f x e = true≢false (sym (ap is_ok e))
+
+abbrev ok_value : {X : Type 0} → X → Result X Fault → X
+ok_value d (Ok x) = x
+ok_value d (Err f) = d
+
+pub ok-same : {X : Type 0} (x y : X) → ◌≡◌ {A = Result X Fault} (Ok x) (Ok y) → x ≡ y
+ok-same x y e = ap (ok_value x) e
+
+-- the same of results
+pub record Follows {X Y : Type 0} (r : Result X Fault) (f : X → Result Y Fault) (y : Y) : Type 0 where
+  pub from : X
+  pub first : r ≡ Ok from
+  pub next : f from ≡ Ok y
+
+pub and_then-ok : {X Y : Type 0} (r : Result X Fault) (f : X → Result Y Fault) (y : Y)
+    → and_then r f ≡ Ok y → Follows r f y
+and_then-ok (Ok x) f y e = record { from = x; first = refl; next = e }
+and_then-ok (Err q) f y e = absurd (no-err q y e)
+
+pub if-err : {X : Type 0} (b : Bool) (q : Fault) (r : Result X Fault) (x : X)
+    → (if b then Err q else r) ≡ Ok x → r ≡ Ok x
+if-err true q r x e = absurd (no-err q x e)
+if-err false q r x e = e
+
+pub if-true : {X : Type 0} (b : Bool) (q : Fault) (r : Result X Fault) (x : X)
+    → (if not b then Err q else r) ≡ Ok x → b ≡ true
+if-true true q r x e = refl
+if-true false q r x e = absurd (no-err q x e)
+
+pub if-false : {X : Type 0} (b : Bool) (q : Fault) (r : Result X Fault) (x : X)
+    → (if b then Err q else r) ≡ Ok x → b ≡ false
+if-false true q r x e = absurd (no-err q x e)
+if-false false q r x e = refl
+
+pub before-ok : {X : Type 0} (x : X) (r : Result (List X) Fault) (given : List X)
+    → before_all x r ≡ Ok given → Follows r (λ xs. Ok (x ∷ xs)) given
+before-ok x (Ok xs) given e = record { from = xs; first = refl; next = e }
+before-ok x (Err q) given e = absurd (no-err q given e)
+
+-- ---- a refusal that is handed on
+
+-- what is said of a good result holds of it
+pub no-ok : {T E : Type 0} (r : Result T E) (e : E) (X : Type 0) → r ≡ Err e → OnOk r X
+no-ok r e X is = rw is tt
+
+pub no-value : {T E : Type 0} (r : Result T E) (e : E) (P : T → Type 0) → r ≡ Err e → IfOk r P
+no-value r e P is = rw is tt

@@ -1,0 +1,18 @@
+use Rattle.std.proofs.Common.{◌≤◌, ◌^◌, lit<, arith}
+use Rattle.std.proofs.Math.Nat.{pow-le-pow_right}
+use Rattle.std.proofs.lemmas.Int.{ints}
+use Rattle.crx_compact.proofs.arc.is_within.Goals as goal
+
+pub pow-lowest-requires : goal.pow-lowest-requires
+pow-lowest-requires c =
+    let few : c.saturating_sub.result ≤ 15 = omega arith in
+    let high : 10 ^ c.saturating_sub.result ≤ 10 ^ 15 =
+    pow-le-pow_right (lit< tt) {i = c.saturating_sub.result} {j = 15} few in
+    omega (arith, ints, high)
+
+pub pow-highest-requires : goal.pow-highest-requires
+pow-highest-requires c =
+    let few : c.saturating_sub-2.result ≤ 15 = omega arith in
+    let high : 10 ^ c.saturating_sub-2.result ≤ 10 ^ 15 =
+    pow-le-pow_right (lit< tt) {i = c.saturating_sub-2.result} {j = 15} few in
+    omega (arith, ints, high)

@@ -1,0 +1,41 @@
+use Rattle.std.proofs.Common.{◌≤◌, ◌<◌, sym, length, pos, ◌+ℤ◌, slice_index_or, FitsSigned, w64, to_z, arith}
+use Rattle.std.proofs.lemmas.Int.{ints}
+use Rattle.crx_compact.proofs.arcs.Running.{same-bits, first-fits, sum-fits, sum-step, newest-by}
+use Rattle.crx_compact.proofs.arc.value_after.Goals as goal
+
+pub loop-difference-init : goal.loop-difference-init
+loop-difference-init c =
+    rw (same-bits _ c.ranges.number) (record {
+      done = sym (newest-by c.args.number c.args.differences.now);
+      value_below = record {
+        low = omega (arith, ints, c.requires.short.low);
+        high = omega (arith, ints, c.requires.short.high);
+      };
+      rest_below = c.requires.below;
+    })
+
+pub overflow_add-value : goal.overflow_add-value
+overflow_add-value c =
+    let few : c.loop-difference.difference-index ≤ 9 = omega arith in
+    let here : c.loop-difference.difference-index < length c.args.differences.now = omega arith in
+    let fits : FitsSigned w64 (slice_index_or c.args.differences.now c.loop-difference.difference-index (pos 0)) =
+    first-fits c.loop-difference.difference-index
+    c.args.differences.now here few c.loop-difference.invariant.rest_below in
+    rw (same-bits _ fits)
+    (sum-fits c.loop-difference.difference-index
+    _ (to_z w64 c.loop-difference.value-bits) c.args.differences.now here few c.loop-difference.invariant)
+
+pub loop-difference-preserved : goal.loop-difference-preserved
+loop-difference-preserved c =
+    let few : c.loop-difference.difference-index ≤ 9 = omega arith in
+    let here : c.loop-difference.difference-index < length c.args.differences.now = omega arith in
+    let fits : FitsSigned w64 (slice_index_or c.args.differences.now c.loop-difference.difference-index (pos 0)) =
+    first-fits c.loop-difference.difference-index
+    c.args.differences.now here few c.loop-difference.invariant.rest_below in
+    let more : FitsSigned w64 (to_z w64 c.loop-difference.value-bits
+    +ℤ slice_index_or c.args.differences.now c.loop-difference.difference-index (pos 0)) =
+    sum-fits c.loop-difference.difference-index
+    _ (to_z w64 c.loop-difference.value-bits) c.args.differences.now here few c.loop-difference.invariant in
+    rw (same-bits _ fits, same-bits _ more)
+    (sum-step c.loop-difference.difference-index
+    _ (to_z w64 c.loop-difference.value-bits) c.args.differences.now here c.loop-difference.invariant)

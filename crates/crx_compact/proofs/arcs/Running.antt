@@ -1,0 +1,514 @@
+-- Running differences: their step, and their size.
+use Rattle.std.specs.Prelude.{◌≡◌, ◌≤◌, ◌<◌, refl, ℕ, zero, suc, ◌+◌, ◌-◌, ◌^◌, ℤ, pos, negsuc, ◌+ℤ◌, ◌-ℤ◌, List, []}
+use Rattle.std.specs.Prelude.{◌∷◌, ◌++◌, length, take, drop, min, slice_index_or, slice_set, Bool, true, Option, Some}
+use Rattle.std.proofs.Common.{sym, ◌∙◌, ap, arith, subst, FitsSigned, w64, to_z, of_z, append_assoc, lit<, lit≤}
+use Rattle.std.proofs.Math.Nat.{pow-le-pow_right}
+use Rattle.std.proofs.lemmas.Int.{ints, to_z-of_z}
+use Rattle.std.proofs.lemmas.List.{take_more_set, drop-set-lt, length-take}
+use Rattle.std.proofs.lemmas.Grind.{common_steps}
+use Rattle.crx_compact.specs.Arcs.{IsBelow, AreBelow, value_bound, kept_tail, IsArcInRange, IsNewestWithin}
+use Rattle.crx_text.specs.meaning.Numbers.{IsWithin}
+use Rattle.crx_text.specs.Codes.{IsShort}
+use Rattle.crx_text.specs.declared.code.Code.TheVariants.{Step}
+use Rattle.crx_compact.specs.ArcTails.{ArcTail}
+use Rattle.crx_compact.specs.meaning.Differences.{newest}
+use Rattle.crx_compact.specs.ArcSteps.{differences_after, onto_sum, differences_by, highest, code_of_value, arc_of_value}
+use Rattle.crx_compact.specs.ArcSteps.{value_of_code, arc_of_code}
+use Rattle.crx_compact.specs.meaning.ArcValues.{in_range, is_within}
+use Rattle.crx_faults.specs.declared.limits.TheConstants.{WRITTEN_ORDER}
+
+-- ---- size
+
+-- how large a difference of an order may be
+abbrev pub order_bound : ℕ → ℕ
+order_bound zero = value_bound
+order_bound (suc k) = order_bound k + order_bound k
+
+order-bound-more : (k j : ℕ) → order_bound k ≤ order_bound (j + k)
+order-bound-more k zero =
+    let e : zero + k ≡ k = omega arith in
+    let P : ℕ → Type 0 = λ n. order_bound k ≤ order_bound n in
+    subst P (sym e) (omega arith)
+order-bound-more k (suc j) =
+    let e : suc j + k ≡ suc (j + k) = omega arith in
+    let below : order_bound k ≤ order_bound (j + k) = order-bound-more k j in
+    let P : ℕ → Type 0 = λ n. order_bound k ≤ order_bound n in
+    subst P (sym e) (omega arith)
+
+-- the largest of all, of order 9
+pub order-bound-within : (k : ℕ) → k ≤ 9 → order_bound k ≤ 51200000000000000
+order-bound-within k h =
+    let more : order_bound k ≤ order_bound ((9 - k) + k) = order-bound-more k (9 - k) in
+    let e : (9 - k) + k ≡ 9 = omega arith in
+    let P : ℕ → Type 0 = λ n. order_bound k ≤ order_bound n in
+    subst P e more
+
+-- the differences at a next value below the bound are as small as those before
+pub after-below : (bound : ℕ) (value : ℤ) (ds : List ℤ)
+    → IsBelow bound value → AreBelow bound ds → AreBelow bound (differences_after value ds)
+after-below bound value [] h hs = (h, tt)
+after-below bound value (d ∷ ds) h hs =
+    (h, after-below (bound + bound) (value -ℤ d) ds (less bound value d h hs.0) hs.1)
+  where
+    less : (b : ℕ) (x y : ℤ) → IsBelow b x → IsBelow b y → IsBelow (b + b) (x -ℤ y)
+    less b x y f g = record { low = omega (arith, ints, f.low, g.high); high = omega (arith, ints, f.high, g.low) }
+
+pub take-below : (bound n : ℕ) (ds : List ℤ) → AreBelow bound ds → AreBelow bound (take n ds)
+take-below bound zero ds h = tt
+take-below bound (suc n) [] h = tt
+take-below bound (suc n) (d ∷ ds) h = (h.0, take-below (bound + bound) n ds h.1)
+
+-- ---- steps
+
+-- the sum of some numbers
+abbrev pub total : List ℤ → ℤ
+total [] = pos 0
+total (d ∷ ds) = d +ℤ total ds
+
+newest-sum : (d : ℤ) (ds : List ℤ) → newest (onto_sum d ds) ≡ d +ℤ newest ds
+newest-sum d [] = omega (arith, ints)
+newest-sum d (e ∷ es) = refl
+
+-- the value that the number of a code leads to: the number and all lower differences together
+pub newest-by : (number : ℤ) (ds : List ℤ) → newest (differences_by number ds) ≡ number +ℤ total ds
+newest-by number [] = omega (arith, ints)
+newest-by number (d ∷ ds) =
+    let rest : newest (differences_by number ds) ≡ number +ℤ total ds = newest-by number ds in
+    let sum : newest (onto_sum d (differences_by number ds)) ≡ d +ℤ newest (differences_by number ds) =
+    newest-sum d (differences_by number ds) in
+    omega (arith, ints, rest, sum)
+
+some-by : (number : ℤ) (ds : List ℤ) → (onto : ℤ)
+    → onto_sum onto (differences_by number ds) ≡ (onto +ℤ newest (differences_by number ds)) ∷ differences_by number ds
+some-by number [] onto = refl
+some-by number (d ∷ ds) onto = some-sum onto d (differences_by number ds)
+  where
+    some-sum : (o d : ℤ) (es : List ℤ) → onto_sum o (onto_sum d es) ≡ (o +ℤ newest (onto_sum d es)) ∷ onto_sum d es
+    some-sum o d [] = refl
+    some-sum o d (e ∷ es) = refl
+
+-- the differences by a number are those at the value that it leads to
+pub by-after : (number : ℤ) (ds : List ℤ)
+    → differences_by number ds ≡ differences_after (newest (differences_by number ds)) ds
+by-after number [] = refl
+by-after number (d ∷ ds) =
+    let below : List ℤ = differences_by number ds in
+    let v : ℤ = newest below in
+    let back : (d +ℤ v) -ℤ d ≡ v = omega (arith, ints) in
+    some-by number ds d
+    ∙ ap (λ r. (d +ℤ v) ∷ r) (by-after number ds)
+    ∙ ap (λ w. (d +ℤ v) ∷ differences_after w ds) (sym back)
+    ∙ ap (λ w. differences_after w (d ∷ ds)) (sym (ap newest (some-by number ds d)))
+
+-- only the lower differences count for those up to an order
+pub take-after : (n : ℕ) (value : ℤ) (ds : List ℤ)
+    → take (suc n) (differences_after value ds) ≡ differences_after value (take n ds)
+take-after zero value [] = refl
+take-after zero value (d ∷ ds) = refl
+take-after (suc n) value [] = refl
+take-after (suc n) value (d ∷ ds) = ap (λ r. value ∷ r) (take-after n (value -ℤ d) ds)
+
+-- ---- the same place by place, as a loop goes
+
+pub drop-index : (ds : List ℤ) (k : ℕ) → k < length ds → drop k ds ≡ slice_index_or ds k (pos 0) ∷ drop (k + 1) ds
+drop-index ds k h = grind (arith, common_steps)
+
+pub below-fits : (bound : ℕ) (value : ℤ) → bound ≤ 2 ^ 63 → IsBelow bound value → FitsSigned w64 value
+below-fits bound value h f = omega (arith, ints, f.low, f.high)
+
+record NextBelow (k : ℕ) (ds : List ℤ) : Type 0 where
+  first : IsBelow (order_bound k) (slice_index_or ds k (pos 0))
+  rest : AreBelow (order_bound (k + 1)) (drop (k + 1) ds)
+
+next-below : (k : ℕ) (ds : List ℤ) → k < length ds → AreBelow (order_bound k) (drop k ds) → NextBelow k ds
+next-below k ds h hs =
+    let P : List ℤ → Type 0 = λ xs. AreBelow (order_bound k) xs in
+    let split : AreBelow (order_bound k) (slice_index_or ds k (pos 0) ∷ drop (k + 1) ds) =
+    subst P (drop-index ds k h) hs in
+    let more : suc k ≡ k + 1 = omega arith in
+    let Q : ℕ → Type 0 = λ n. AreBelow (order_bound n) (drop (k + 1) ds) in
+    record { first = split.0; rest = subst Q more split.1 }
+
+-- a number that fits is what its bits stand for
+pub same-bits : (value : ℤ) → FitsSigned w64 value → to_z w64 (of_z w64 value) ≡ value
+same-bits value h = to_z-of_z w64 value h
+
+pub first-fits : (k : ℕ) (ds : List ℤ)
+    → k < length ds → k ≤ 9 → AreBelow (order_bound k) (drop k ds) → FitsSigned w64 (slice_index_or ds k (pos 0))
+first-fits k ds h few hs =
+    let room : order_bound k ≤ 51200000000000000 = order-bound-within k few in
+    below-fits (order_bound k) (slice_index_or ds k (pos 0)) (omega arith) (next-below k ds h hs).first
+
+pub difference-fits : (k : ℕ) (ds : List ℤ) (next : ℤ)
+    → k < length ds → k ≤ 9 → IsBelow (order_bound k) next → AreBelow (order_bound k) (drop k ds)
+    → FitsSigned w64 (next -ℤ slice_index_or ds k (pos 0))
+difference-fits k ds next h few f hs =
+    let room : order_bound k ≤ 51200000000000000 = order-bound-within k few in
+    let g : IsBelow (order_bound k) (slice_index_or ds k (pos 0)) = (next-below k ds h hs).first in
+    omega (arith, ints, f.low, f.high, g.low, g.high)
+
+-- one place more of the differences at a next value
+pub record Advanced (k : ℕ) (target ds : List ℤ) (next : ℤ) : Type 0 where
+  pub done : take k ds ++ differences_after next (drop k ds) ≡ target
+  pub next_below : IsBelow (order_bound k) next
+  pub rest_below : AreBelow (order_bound k) (drop k ds)
+
+pub advance-step : (k : ℕ) (target ds : List ℤ) (next : ℤ) → k < length ds → Advanced k target ds next
+    → Advanced (k + 1) target (slice_set ds k next) (next -ℤ slice_index_or ds k (pos 0))
+advance-step k target ds next h a =
+    let b : NextBelow k ds = next-below k ds h a.rest_below in
+    let f : IsBelow (order_bound k) next = a.next_below in
+    let g : IsBelow (order_bound k) (slice_index_or ds k (pos 0)) = b.first in
+    let more : k + 1 ≡ suc k = omega arith in
+    let later : drop (k + 1) (slice_set ds k next) ≡ drop (k + 1) ds = drop-set-lt (k + 1) ds k next (omega arith) in
+    let P : List ℤ → Type 0 = λ xs. AreBelow (order_bound (k + 1)) xs in
+    let Q : ℕ → Type 0 = λ n. IsBelow (order_bound n) (next -ℤ slice_index_or ds k (pos 0)) in
+    let small : IsBelow (order_bound (suc k)) (next -ℤ slice_index_or ds k (pos 0)) =
+    record { low = omega (arith, ints, f.low, g.high); high = omega (arith, ints, f.high, g.low) } in
+    record {
+      done =
+          ap (λ xs. xs ++ differences_after (next -ℤ slice_index_or ds k (pos 0)) (drop (k + 1) (slice_set ds k next)))
+          (take_more_set ds k next h)
+          ∙ ap (λ xs. (take k ds ++ next ∷ []) ++ differences_after (next -ℤ slice_index_or ds k (pos 0)) xs) later
+          ∙ append_assoc (take k ds) (next ∷ [])
+          (differences_after (next -ℤ slice_index_or ds k (pos 0)) (drop (k + 1) ds))
+          ∙ ap (λ xs. take k ds ++ differences_after next xs) (sym (drop-index ds k h))
+          ∙ a.done;
+      next_below = subst Q (sym more) small;
+      rest_below = subst P (sym later) b.rest;
+    }
+
+-- ---- the same up to order 3, at once
+
+-- the differences up to order 3 at a next value, and those before, are numbers of 64 bits
+pub record ToThird (value : ℤ) (ds : List ℤ) : Type 0 where
+  pub zeroth_before : FitsSigned w64 (slice_index_or ds 0 (pos 0))
+  pub first_before : FitsSigned w64 (slice_index_or ds 1 (pos 0))
+  pub second_before : FitsSigned w64 (slice_index_or ds 2 (pos 0))
+  pub first : FitsSigned w64 (value -ℤ slice_index_or ds 0 (pos 0))
+  pub second : FitsSigned w64 (value -ℤ slice_index_or ds 0 (pos 0) -ℤ slice_index_or ds 1 (pos 0))
+  pub third : FitsSigned w64 (value -ℤ slice_index_or ds 0
+      (pos 0) -ℤ slice_index_or ds 1 (pos 0) -ℤ slice_index_or ds 2 (pos 0))
+
+pub to-third : (value : ℤ) (ds : List ℤ)
+    → 3 < length ds → IsBelow value_bound value → AreBelow value_bound (take 3 ds) → ToThird value ds
+to-third value [] h f hs = absurd (omega (arith, h))
+to-third value (a ∷ []) h f hs = absurd (omega (arith, h))
+to-third value (a ∷ b ∷ []) h f hs = absurd (omega (arith, h))
+to-third value (a ∷ b ∷ c ∷ ds) h f hs =
+    let v : IsBelow 100000000000000 value = f in
+    let x : IsBelow 100000000000000 a = hs.0 in
+    let y : IsBelow 200000000000000 b = hs.1.0 in
+    let z : IsBelow 400000000000000 c = hs.1.1.0 in
+    record {
+      zeroth_before = omega (arith, ints, x.low, x.high);
+      first_before = omega (arith, ints, y.low, y.high);
+      second_before = omega (arith, ints, z.low, z.high);
+      first = omega (arith, ints, v.low, v.high, x.low, x.high);
+      second = omega (arith, ints, v.low, v.high, x.low, x.high, y.low, y.high);
+      third = omega (arith, ints, v.low, v.high, x.low, x.high, y.low, y.high, z.low, z.high);
+    }
+
+-- the first four of some numbers, put in place one after another
+pub set-four : (ds : List ℤ) (v a b c : ℤ)
+    → 3 < length ds → take 4 (slice_set (slice_set (slice_set (slice_set ds 0 v) 1 a) 2 b) 3 c) ≡ v ∷ a ∷ b ∷ c ∷ []
+set-four [] v a b c h = absurd (omega (arith, h))
+set-four (d ∷ []) v a b c h = absurd (omega (arith, h))
+set-four (d ∷ e ∷ []) v a b c h = absurd (omega (arith, h))
+set-four (d ∷ e ∷ f ∷ []) v a b c h = absurd (omega (arith, h))
+set-four (d ∷ e ∷ f ∷ g ∷ ds) v a b c h = refl
+
+pub after-three : (ds : List ℤ) (value : ℤ) → 3 < length ds
+    → differences_after value (take 3 ds) ≡ value
+    ∷ (value -ℤ slice_index_or ds 0 (pos 0)) ∷ (value -ℤ slice_index_or ds 0 (pos 0) -ℤ slice_index_or ds 1 (pos 0))
+    ∷ (value -ℤ slice_index_or ds 0 (pos 0) -ℤ slice_index_or ds 1 (pos 0) -ℤ slice_index_or ds 2 (pos 0)) ∷ []
+after-three [] value h = absurd (omega (arith, h))
+after-three (d ∷ []) value h = absurd (omega (arith, h))
+after-three (d ∷ e ∷ []) value h = absurd (omega (arith, h))
+after-three (d ∷ e ∷ f ∷ ds) value h = refl
+
+-- a number and three differences, and their sums, are numbers of 64 bits
+pub record FromThird (number : ℤ) (ds : List ℤ) : Type 0 where
+  pub zeroth_before : FitsSigned w64 (slice_index_or ds 0 (pos 0))
+  pub first_before : FitsSigned w64 (slice_index_or ds 1 (pos 0))
+  pub second_before : FitsSigned w64 (slice_index_or ds 2 (pos 0))
+  pub one : FitsSigned w64 (number +ℤ slice_index_or ds 0 (pos 0))
+  pub two : FitsSigned w64 (number +ℤ slice_index_or ds 0 (pos 0) +ℤ slice_index_or ds 1 (pos 0))
+  pub all : FitsSigned w64 (number +ℤ slice_index_or ds 0
+      (pos 0) +ℤ slice_index_or ds 1 (pos 0) +ℤ slice_index_or ds 2 (pos 0))
+  pub value_is : number +ℤ slice_index_or ds 0 (pos 0) +ℤ slice_index_or ds 1 (pos 0) +ℤ slice_index_or ds 2 (pos 0)
+      ≡ newest (differences_by number ds)
+
+pub from-third : (number : ℤ) (ds : List ℤ)
+    → length ds ≡ 3 → IsBelow (10 ^ 18) number → AreBelow value_bound ds → FromThird number ds
+from-third number [] h f hs = absurd (omega (arith, h))
+from-third number (a ∷ []) h f hs = absurd (omega (arith, h))
+from-third number (a ∷ b ∷ []) h f hs = absurd (omega (arith, h))
+from-third number (a ∷ b ∷ c ∷ d ∷ ds) h f hs = absurd (omega (arith, h))
+from-third number (a ∷ b ∷ c ∷ []) h f hs =
+    let n : IsBelow 1000000000000000000 number = f in
+    let x : IsBelow 100000000000000 a = hs.0 in
+    let y : IsBelow 200000000000000 b = hs.1.0 in
+    let z : IsBelow 400000000000000 c = hs.1.1.0 in
+    let sum : number +ℤ a +ℤ b +ℤ c ≡ number +ℤ total (a ∷ b ∷ c ∷ []) = omega (arith, ints) in
+    record {
+      zeroth_before = omega (arith, ints, x.low, x.high);
+      first_before = omega (arith, ints, y.low, y.high);
+      second_before = omega (arith, ints, z.low, z.high);
+      one = omega (arith, ints, n.low, n.high, x.low, x.high);
+      two = omega (arith, ints, n.low, n.high, x.low, x.high, y.low, y.high);
+      all = omega (arith, ints, n.low, n.high, x.low, x.high, y.low, y.high, z.low, z.high);
+      value_is = sum ∙ sym (newest-by number (a ∷ b ∷ c ∷ []));
+    }
+
+-- a number and the three sums that it leads to, the highest order first, are numbers of 64 bits
+pub record OntoThird (number : ℤ) (ds : List ℤ) : Type 0 where
+  pub zeroth_before : FitsSigned w64 (slice_index_or ds 0 (pos 0))
+  pub first_before : FitsSigned w64 (slice_index_or ds 1 (pos 0))
+  pub second_before : FitsSigned w64 (slice_index_or ds 2 (pos 0))
+  pub second : FitsSigned w64 (slice_index_or ds 2 (pos 0) +ℤ number)
+  pub first : FitsSigned w64 (slice_index_or ds 1 (pos 0) +ℤ (slice_index_or ds 2 (pos 0) +ℤ number))
+  pub value : FitsSigned w64 (slice_index_or ds 0
+      (pos 0) +ℤ (slice_index_or ds 1 (pos 0) +ℤ (slice_index_or ds 2 (pos 0) +ℤ number)))
+  pub sums :
+      (slice_index_or ds 0 (pos 0) +ℤ (slice_index_or ds 1 (pos 0) +ℤ (slice_index_or ds 2 (pos 0) +ℤ number)))
+      ∷ (slice_index_or ds 1 (pos 0) +ℤ (slice_index_or ds 2 (pos 0) +ℤ number))
+      ∷ (slice_index_or ds 2 (pos 0) +ℤ number) ∷ number ∷ []
+      ≡ differences_by number (take 3 ds)
+
+pub onto-third : (number : ℤ) (ds : List ℤ)
+    → 3 < length ds → IsBelow (10 ^ 18) number → AreBelow value_bound (take 3 ds) → OntoThird number ds
+onto-third number [] h f hs = absurd (omega (arith, h))
+onto-third number (a ∷ []) h f hs = absurd (omega (arith, h))
+onto-third number (a ∷ b ∷ []) h f hs = absurd (omega (arith, h))
+onto-third number (a ∷ b ∷ c ∷ ds) h f hs =
+    let n : IsBelow 1000000000000000000 number = f in
+    let x : IsBelow 100000000000000 a = hs.0 in
+    let y : IsBelow 200000000000000 b = hs.1.0 in
+    let z : IsBelow 400000000000000 c = hs.1.1.0 in
+    record {
+      zeroth_before = omega (arith, ints, x.low, x.high);
+      first_before = omega (arith, ints, y.low, y.high);
+      second_before = omega (arith, ints, z.low, z.high);
+      second = omega (arith, ints, n.low, n.high, z.low, z.high);
+      first = omega (arith, ints, n.low, n.high, y.low, y.high, z.low, z.high);
+      value = omega (arith, ints, n.low, n.high, x.low, x.high, y.low, y.high, z.low, z.high);
+      sums = refl;
+    }
+
+-- one place more of the value by a number
+pub record Summed (k : ℕ) (target value : ℤ) (ds : List ℤ) : Type 0 where
+  pub done : value +ℤ total (drop k ds) ≡ target
+  pub value_below : IsBelow (10 ^ 18 + order_bound k) value
+  pub rest_below : AreBelow (order_bound k) (drop k ds)
+
+pub sum-fits : (k : ℕ) (target value : ℤ) (ds : List ℤ)
+    → k < length ds → k ≤ 9 → Summed k target value ds → FitsSigned w64 (value +ℤ slice_index_or ds k (pos 0))
+sum-fits k target value ds h few s =
+    let room : order_bound k ≤ 51200000000000000 = order-bound-within k few in
+    let f : IsBelow (10 ^ 18 + order_bound k) value = s.value_below in
+    let g : IsBelow (order_bound k) (slice_index_or ds k (pos 0)) = (next-below k ds h s.rest_below).first in
+    omega (arith, ints, f.low, f.high, g.low, g.high)
+
+pub sum-step : (k : ℕ) (target value : ℤ) (ds : List ℤ)
+    → k < length ds → Summed k target value ds → Summed (k + 1) target (value +ℤ slice_index_or ds k (pos 0)) ds
+sum-step k target value ds h s =
+    let b : NextBelow k ds = next-below k ds h s.rest_below in
+    let f : IsBelow (10 ^ 18 + order_bound k) value = s.value_below in
+    let g : IsBelow (order_bound k) (slice_index_or ds k (pos 0)) = b.first in
+    let more : k + 1 ≡ suc k = omega arith in
+    let Q : ℕ → Type 0 = λ n. IsBelow (10 ^ 18 + order_bound n) (value +ℤ slice_index_or ds k (pos 0)) in
+    let small : IsBelow (10 ^ 18 + order_bound (suc k)) (value +ℤ slice_index_or ds k (pos 0)) =
+    record { low = omega (arith, ints, f.low, g.low); high = omega (arith, ints, f.high, g.high) } in
+    let split : total (drop k ds) ≡ slice_index_or ds k (pos 0) +ℤ total (drop (k + 1) ds) =
+    ap total (drop-index ds k h) in
+    record {
+      done = regroup value (slice_index_or ds k (pos 0)) (total (drop (k + 1) ds))
+          ∙ ap (λ x. value +ℤ x) (sym split) ∙ s.done;
+      value_below = subst Q (sym more) small;
+      rest_below = b.rest;
+    }
+  where
+    regroup : (a b r : ℤ) → (a +ℤ b) +ℤ r ≡ a +ℤ (b +ℤ r)
+    regroup a b r = omega (arith, ints)
+
+-- the last one of some differences is the highest
+pub highest-last : (ds : List ℤ) (d : ℤ) → highest (ds ++ d ∷ []) ≡ d
+highest-last [] d = refl
+highest-last (e ∷ []) d = refl
+highest-last (e ∷ f ∷ fs) d = highest-last (f ∷ fs) d
+
+take-take : (n m : ℕ) (ds : List ℤ) → take n (take m ds) ≡ take (min n m) ds
+take-take zero m ds =
+    let none : min 0 m ≡ 0 = omega arith in
+    sym (ap (λ k. take k ds) none)
+take-take (suc n) zero ds =
+    let none : min (suc n) 0 ≡ 0 = omega arith in
+    sym (ap (λ k. take k ds) none)
+take-take (suc n) (suc m) [] =
+    let more : min (suc n) (suc m) ≡ suc (min n m) = omega arith in
+    sym (ap (λ k. take k []) more)
+take-take (suc n) (suc m) (d ∷ ds) =
+    let more : min (suc n) (suc m) ≡ suc (min n m) = omega arith in
+    ap (λ r. d ∷ r) (take-take n m ds) ∙ sym (ap (λ k. take k (d ∷ ds)) more)
+
+-- a value that fits its columns is below the bound of all
+pub within-below : (width : ℕ) (value : ℤ) → width ≤ 15 → IsWithin width value → IsBelow value_bound value
+within-below width value few h =
+    let low : 10 ^ (width - 2) ≤ 10 ^ 13 = pow-le-pow_right (lit< tt) {i = width - 2} {j = 13} (omega arith) in
+    let high : 10 ^ (width - 1) ≤ 10 ^ 14 = pow-le-pow_right (lit< tt) {i = width - 1} {j = 14} (omega arith) in
+    record { low = omega (arith, ints, h.low); high = omega (arith, ints, h.high) }
+
+pub below-short : (bound : ℕ) (value : ℤ) → bound ≤ 10 ^ 18 → IsBelow bound value → IsShort value
+below-short bound (pos n) room h = omega (arith, ints, h.high)
+below-short bound (negsuc n) room h = omega (arith, ints, h.low)
+
+length-after : (value : ℤ) (ds : List ℤ) → length (differences_after value ds) ≡ suc (length ds)
+length-after value [] = refl
+length-after value (d ∷ ds) = ap suc (length-after (value -ℤ d) ds)
+
+-- the order that the differences at a next value reach
+pub record IsLast (order count last : ℕ) : Type 0 where
+  pub least : last ≡ min order count
+
+lower-taken : (order count last : ℕ) (ds : List ℤ) → IsLast order count last → take order (take count ds) ≡ take last ds
+lower-taken order count last ds e = take-take order count ds ∙ ap (λ k. take k ds) (sym e.least)
+
+-- the differences that a next one needs are as small
+pub lower-below : (order count last : ℕ) (ds : List ℤ)
+    → IsLast order count last → AreBelow value_bound (take count ds) → AreBelow value_bound (take last ds)
+lower-below order count last ds e h =
+    let P : List ℤ → Type 0 = λ xs. AreBelow value_bound xs in
+    subst P (lower-taken order count last ds e) (take-below value_bound order (take count ds) h)
+
+some-kept : (order : ℕ) (value : ℤ) (ds : List ℤ) → Some
+    (record { order = order; differences = differences_after value ds }) ≡ kept_tail order (differences_after value ds)
+some-kept order value [] = refl
+some-kept order value (d ∷ ds) = refl
+
+-- an arc that has values goes on by its next value
+pub record GoesOn (order count last : ℕ) (value : ℤ) (ds : List ℤ) : Type 0 where
+  pub code : Step (highest (differences_after value (take last ds)))
+      ≡ code_of_value (Some value) (kept_tail order (take count ds))
+  pub tail : kept_tail order (differences_after value (take last ds))
+      ≡ arc_of_value (Some value) (kept_tail order (take count ds))
+
+pub goes-on : (order count last : ℕ) (value : ℤ) (ds : List ℤ)
+    → IsLast order count last → 0 < count → 0 < length ds → GoesOn order count last value ds
+goes-on order zero last value ds e h l = absurd (omega arith)
+goes-on order (suc count) last value [] e h l = absurd (omega arith)
+goes-on order (suc count) last value (d ∷ ds) e h l =
+    let after : take (suc order) (differences_after value (take (suc count) (d ∷ ds)))
+    ≡ differences_after value (take last (d ∷ ds)) =
+    take-after order value (take (suc count) (d ∷ ds))
+    ∙ ap (differences_after value) (lower-taken order (suc count) last (d ∷ ds) e) in
+    record {
+      code = ap (λ xs. Step (highest xs)) (sym after);
+      tail = sym (some-kept order value (take last (d ∷ ds)))
+          ∙ ap {B = Option ArcTail} (λ xs. Some (record { order = order; differences = xs })) (sym after);
+    }
+
+-- the arc after a next value in range is kept as well
+newest-after : (width : ℕ) (value : ℤ) (ds : List ℤ)
+    → IsWithin width value → IsNewestWithin width (differences_after value ds)
+newest-after width value [] h = h
+newest-after width value (d ∷ ds) h = h
+
+pub goes-on-kept : (width order count last : ℕ) (ds ds' : List ℤ) (value : ℤ)
+    → IsLast order count last → IsArcInRange width order count (take count ds) → IsWithin width value
+    → take (last + 1) ds' ≡ differences_after value (take last ds)
+    → IsArcInRange width order (last + 1) (take (last + 1) ds')
+goes-on-kept width order count last ds ds' value e k h after =
+    let P : List ℤ → Type 0 = λ xs. AreBelow value_bound xs in
+    let least : last ≡ min order count = e.least in
+    record {
+      few_columns = k.few_columns;
+      order_within = k.order_within;
+      counted = omega arith;
+      below = subst P (sym after) (after-below value_bound value
+          (take last ds) (within-below width value k.few_columns h) (lower-below order count last ds e k.below));
+      newest = subst (IsNewestWithin width) (sym after) (newest-after width value (take last ds) h);
+    }
+
+-- an arc that has its first value alone
+pub begun-list : (ds : List ℤ) (value : ℤ) → 0 < length ds → take 1 (slice_set ds 0 value) ≡ value ∷ []
+begun-list [] value h = absurd (omega arith)
+begun-list (d ∷ ds) value h = refl
+
+pub begun-tail : (order count : ℕ) (ds ds' : List ℤ) (value : ℤ) → 0 < length ds → count ≡ 0
+    → kept_tail WRITTEN_ORDER (take 1 (slice_set ds 0 value))
+    ≡ arc_of_value (Some value) (kept_tail order (take count ds'))
+begun-tail order count ds ds' value l e =
+    ap (kept_tail WRITTEN_ORDER) (begun-list ds value l)
+    ∙ ap (λ n. arc_of_value (Some value) (kept_tail order (take n ds'))) (sym e)
+
+pub begun-kept : (width order : ℕ) (ds : List ℤ) (value : ℤ) → 0 < length ds
+    → width ≤ 15 → order ≤ 9 → IsWithin width value → IsArcInRange width order 1 (take 1 (slice_set ds 0 value))
+begun-kept width order ds value l few o h =
+    let P : List ℤ → Type 0 = λ xs. IsArcInRange width order 1 xs in
+    subst P (sym (begun-list ds value l)) (record {
+      few_columns = few;
+      order_within = o;
+      counted = omega arith;
+      below = (within-below width value few h, tt);
+      newest = h;
+    })
+
+-- an arc that has values goes on by the number of its next code
+pub record StepsOn (width order count last : ℕ) (number value : ℤ) (ds : List ℤ) : Type 0 where
+  pub value_is : in_range width value ≡ value_of_code width (Step number) (kept_tail order (take count ds))
+  pub tail : kept_tail order (differences_after value (take last ds))
+      ≡ arc_of_code (Step number) (kept_tail order (take count ds))
+
+pub steps-on : (width order count last : ℕ) (number value : ℤ) (ds : List ℤ)
+    → IsLast order count last → 0 < count → 0 < length ds
+    → value ≡ newest (differences_by number (take last ds)) → StepsOn width order count last number value ds
+steps-on width order zero last number value ds e h l v = absurd (omega arith)
+steps-on width order (suc count) last number value [] e h l v = absurd (omega arith)
+steps-on width order (suc count) last number value (d ∷ ds) e h l v =
+    let lower : take order (take (suc count) (d ∷ ds)) ≡ take last (d ∷ ds) =
+    lower-taken order (suc count) last (d ∷ ds) e in
+    let by : differences_after value (take last (d ∷ ds))
+    ≡ differences_by number (take order (take (suc count) (d ∷ ds))) =
+    ap (λ x. differences_after x (take last (d ∷ ds))) v
+    ∙ sym (by-after number (take last (d ∷ ds))) ∙ ap (differences_by number) (sym lower) in
+    record {
+      value_is = ap (in_range width) (v ∙ ap (λ xs. newest (differences_by number xs)) (sym lower));
+      tail = sym (some-kept order value (take last (d ∷ ds)))
+          ∙ ap {B = Option ArcTail} (λ xs. Some (record { order = order; differences = xs })) by;
+    }
+
+-- what the number of a next code leads to
+pub stepped : (width order count last : ℕ) (number value : ℤ) (ds : List ℤ)
+    → last ≡ min order count → 0 < count → length ds ≡ 10
+    → value ≡ newest (differences_by (to_z w64 (of_z w64 number)) (take last ds))
+    → FitsSigned w64 number → StepsOn width order count last number value ds
+stepped width order count last number value ds e h l v f =
+    steps-on width order count last number value ds (record { least = e }) h (omega arith)
+    (v ∙ ap (λ x. newest (differences_by x (take last ds))) (same-bits number f))
+
+-- a value that the code's test lets through
+pub accepted : (width : ℕ) (value : ℤ) (b : Bool)
+    → b ≡ is_within width (to_z w64 (of_z w64 value)) → b ≡ true → FitsSigned w64 value → is_within width value ≡ true
+accepted width value b e h f = ap (is_within width) (sym (same-bits value f)) ∙ sym e ∙ h
+
+-- the highest difference at a next value in range is a number that a code may have
+highest-below : (k : ℕ) (ds : List ℤ) → length ds + k ≤ 10 → AreBelow (order_bound k) ds → IsShort (highest ds)
+highest-below k [] few h = omega arith
+highest-below k (d ∷ []) few h =
+    let room : order_bound k ≤ 51200000000000000 = order-bound-within k (omega arith) in
+    below-short (order_bound k) d (omega arith) h.0
+highest-below k (d ∷ e ∷ es) few h = highest-below (suc k) (e ∷ es) (omega arith) h.1
+
+pub highest-short : (width order count last : ℕ) (value : ℤ) (ds : List ℤ)
+    → IsLast order count last → IsArcInRange width order count (take count ds) → IsWithin width value
+    → IsShort (highest (differences_after value (take last ds)))
+highest-short width order count last value ds e k h =
+    let least : last ≡ min order count = e.least in
+    highest-below 0 (differences_after value (take last ds))
+    (omega (arith, length-after value (take last ds), length-take last ds, k.order_within))
+    (after-below value_bound value
+    (take last ds) (within-below width value k.few_columns h) (lower-below order count last ds e k.below))
+
+pub within-short : (width : ℕ) (value : ℤ) → width ≤ 15 → IsWithin width value → IsShort value
+within-short width value few h = below-short value_bound value (lit≤ tt) (within-below width value few h)

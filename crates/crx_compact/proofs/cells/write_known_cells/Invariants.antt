@@ -1,0 +1,13 @@
+use Rattle.std.proofs.Common.{◌≡◌, ◌≤◌, ◌+◌, ◌*◌, length, take}
+use Rattle.crx_compact.proofs.PlaceByPlace.{CellsMade}
+use Rattle.crx_compact.specs.declared.cells.TheConstants.{CELL_ROOM}
+use Rattle.crx_compact.proofs.cells.write_known_cells.Given as goal
+
+abbrev pub invariant-loop-place : goal.invariant-loop-place
+invariant-loop-place l = record {
+  counted : length l.arcs ≡ length l.values;
+  long : length l.bytes ≡ length l.initial.bytes;
+  from : l.at ≤ l.end;
+  within : l.end ≤ l.at + CELL_ROOM * l.place;
+  made : CellsMade l.before l.values l.place (take l.at l.initial.bytes) (take l.end l.bytes) (take l.place l.arcs);
+}

@@ -1,0 +1,34 @@
+use Rattle.std.proofs.Common.{◌≡◌, ◌≤◌, ℕ, zero, suc, List, [], ◌∷◌, drop, take, length, ap, true, nat_eq, arith, rules}
+use Rattle.std.proofs.Math.ListN.{drop_of_length-le}
+use Rattle.std.proofs.lemmas.Bool.Decides.{nat_tests}
+use Rattle.crx_compact.specs.LineLists.{cut}
+use Rattle.crx_compact.proofs.lines.Lines.is_empty.Goals as goal
+
+at-end : (m n : ℕ) → nat_eq m n ≡ true → n ≤ m
+at-end m n same = grind (arith, nat_tests)
+
+at-end-is : (m n : ℕ) → m ≤ n → n ≤ m → nat_eq m n ≡ true
+at-end-is m n one two = grind (arith, nat_tests)
+
+all-past : (lengths text : List ℕ) (past : ℕ) → length lengths ≤ past → cut (drop past lengths) text ≡ []
+all-past lengths text past within = ap (λ ls. cut ls text) (drop_of_length-le lengths within)
+
+none-left : (lengths text : List ℕ) (past : ℕ) → cut (drop past lengths) text ≡ [] → length lengths ≤ past
+none-left [] text past none = omega arith
+none-left (n ∷ ns) text zero none = absurd (omega (arith, ap length none))
+none-left (n ∷ ns) text (suc past) none = let rest : length ns ≤ past = none-left ns text past none in
+    omega (arith, rest)
+
+pub returns : goal.returns
+returns c =
+    let inside = c.self.inside in
+    let count : c.len.result ≡ length inside.lengths.items = search rules in
+    let text = drop inside.handed_out_bytes (take inside.filled inside.bytes.items) in
+    record {
+      value = rw (← c.self.view_is, count) (
+        λ same. all-past inside.lengths.items text inside.handed_out
+            (at-end inside.handed_out (length inside.lengths.items) same),
+        λ none. at-end-is inside.handed_out (length inside.lengths.items) c.self.invariant.0.past_within
+            (none-left inside.lengths.items text inside.handed_out none),
+      );
+    }

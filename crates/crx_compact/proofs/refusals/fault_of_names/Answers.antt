@@ -1,0 +1,85 @@
+use Rattle.std.proofs.Common.{◌≡◌, ◌+◌, ◌*◌, ◌++◌, ◌∷◌, [], ℕ, List, Bool, not, true, false, map, Option, Some, None}
+use Rattle.std.proofs.Common.{sym, ap, ◌∙◌, inl, arith, drop, refl}
+use Rattle.std.specs.Result.{is_ok}
+use Rattle.std.specs.Option.{is_some}
+use Rattle.std.proofs.lemmas.List.{map-append}
+use Rattle.std.specs.List.{list_any}
+use Rattle.std.specs.Str.{bytes_eq}
+use Rattle.crx_columns.specs.meaning.Columns.{columns}
+use Rattle.crx_header.specs.meaning.Satellites.{is_among}
+use Rattle.crx_header.proofs.Apart.{among-map}
+use Rattle.crx_columns.proofs.EachPlace.{drop_all-each_place, each_place-more}
+use Rattle.crx_compact.specs.meaning.EpochText.{Satellite, names_in}
+use Rattle.crx_compact.proofs.Naming.{named-all, named-bad, named-more, named-twice, next-name}
+use Rattle.crx_compact.proofs.refusals.fault_of_names.Goals as goal
+
+-- no types are known of a satellite
+none : (o : Option ℕ) (b : Bool) → is_some o ≡ not b → b ≡ true → o ≡ None
+none None b e h = refl
+none (Some n) b e h = absurd (cc)
+
+pub returns-then-is_none-clause-fault : goal.returns-then-is_none-clause-fault
+returns-then-is_none-clause-fault c =
+    let found = c.loop-place.invariant in
+    inl (named-bad c.args.types.now (names_in c.args.text.now c.args.count)
+    c.loop-place.place found.0 c.identifier-name.result found.1
+    (next-name c.args.text.now c.args.count c.loop-place.place
+    c.identifier-name.result c.loop-place-test.true c.identifier-name.ensures.value)
+    (sym c.types_of_satellite.ensures.value
+    ∙ none c.types_of_satellite.result c.is_none.result c.is_none.ensures c.if-is_none.true))
+
+-- some types are
+some : (o : Option ℕ) (b : Bool) → is_some o ≡ not b → b ≡ false → (n : ℕ) × (o ≡ Some n)
+some None b e h = absurd (cc)
+some (Some n) b e h = (n, refl)
+
+-- an identifier stands among those of the satellites so far
+stands : (text : List ℕ) (place : ℕ) (name : List ℕ) (found : List Satellite) (b : Bool)
+    → names_in text place ≡ map (λ (s : Satellite). s.name) found
+    → is_among (λ (n : List ℕ). n) name (names_in text place) ≡ b
+    → list_any (λ (s : Satellite). bytes_eq s.name name) found ≡ b
+stands text place name found b same is =
+    sym (among-map (λ (n : List ℕ). n) (λ (s : Satellite). s.name) name found)
+    ∙ ap (is_among (λ (n : List ℕ). n) name) (sym same) ∙ is
+
+pub returns-then-is_among_first-clause-fault : goal.returns-then-is_among_first-clause-fault
+returns-then-is_among_first-clause-fault c =
+    let found = c.loop-place.invariant in
+    let count = some c.types_of_satellite.result c.is_none.result c.is_none.ensures c.if-is_none.false in
+    inl (named-twice c.args.types.now (names_in c.args.text.now c.args.count)
+    c.loop-place.place found.0 c.identifier-name.result count.0 found.1
+    (next-name c.args.text.now c.args.count c.loop-place.place
+    c.identifier-name.result c.loop-place-test.true c.identifier-name.ensures.value)
+    (sym c.types_of_satellite.ensures.value ∙ count.1)
+    (stands c.args.text.now c.loop-place.place c.identifier-name.result found.0 true found.2
+    (sym c.is_among_first.ensures ∙ c.if-is_among_first.true)))
+
+pub loop-place-preserved : goal.loop-place-preserved
+loop-place-preserved c =
+    let found = c.loop-place.invariant in
+    let name = c.identifier-name.result in
+    let text = c.args.text.now in
+    let place = c.loop-place.place in
+    let count = some c.types_of_satellite.result c.is_none.result c.is_none.ensures c.if-is_none.false in
+    let satellite : Satellite = record { name = name; count = count.0 } in (
+      found.0 ++ satellite ∷ [],
+      named-more c.args.types.now (names_in text c.args.count) place found.0 (found.0 ++ satellite ∷ []) name count.0
+          found.1 (next-name text c.args.count place name c.loop-place-test.true
+          c.identifier-name.ensures.value)
+          (sym c.types_of_satellite.ensures.value ∙ count.1)
+          (stands text place name found.0 false found.2
+          (sym c.is_among_first.ensures ∙ c.if-is_among_first.false)) refl,
+      each_place-more place (λ k. columns text (42 + 3 * k) 3)
+          ∙ ap (λ (ns : List (List ℕ)). ns ++ columns text (42 + 3 * place) 3 ∷ []) found.2
+          ∙ ap (λ (n : List ℕ). map (λ (s : Satellite). s.name) found.0 ++ n ∷ [])
+          (sym c.identifier-name.ensures.value)
+          ∙ sym (map-append (λ (s : Satellite). s.name) found.0 (satellite ∷ [])),
+    )
+
+pub returns-clause-memory : goal.returns-clause-memory
+returns-clause-memory c = λ out.
+    let found = c.loop-place.invariant in
+    let end : c.loop-place.place ≡ c.args.count = omega arith in
+    ap is_ok (named-all c.args.types.now (names_in c.args.text.now c.args.count) c.loop-place.place found.0 found.1
+    (ap (λ n. drop n (names_in c.args.text.now c.args.count)) end
+    ∙ drop_all-each_place c.args.count (λ k. columns c.args.text.now (42 + 3 * k) 3)))

@@ -1,0 +1,32 @@
+-- The tail of an arc: what its later values and codes need of the earlier ones.
+use Rattle.std.specs.Prelude.{ℕ, suc, ◌-◌, min, ℤ, List, [], ◌∷◌, length, Option, Some, None, ◌≤◌, ◌+◌}
+use Rattle.crx_columns.specs.meaning.EachPlace.{each_place}
+use Rattle.crx_compact.specs.meaning.Differences.{difference, value_at}
+use Rattle.crx_compact.specs.meaning.ArcValues.{Started}
+
+-- an arc's order n, and its differences of order 0, 1, .. up to n, or up to u where it has only u + 1 values
+pub record ArcTail : Type 0 where
+  pub order : ℕ
+  pub differences : List ℤ
+
+-- the differences of order 0 up to an order, or as far as the values go
+abbrev pub differences_of : ℕ → List ℤ → List ℤ
+differences_of order values = each_place (suc (min (length values - 1) order)) (λ i. difference i values)
+
+abbrev pub arc_tail : ℕ → List ℤ → Option ArcTail
+arc_tail order [] = None
+arc_tail order (a ∷ older) = Some (record { order = order; differences = differences_of order (a ∷ older) })
+
+-- the values of an arc by the numbers of its codes, newest first
+abbrev pub values_of : ℕ → List ℤ → List ℤ
+values_of order [] = []
+values_of order (c ∷ older) = value_at order (c ∷ older) ∷ values_of order older
+
+abbrev pub started_tail : Option Started → Option ArcTail
+started_tail None = None
+started_tail (Some arc) = arc_tail arc.order (values_of arc.order arc.numbers)
+
+-- an arc's tail within a limit of orders: an order that may stand there, and at most one difference more
+pub record IsBoundedArc (limit : ℕ) (arc : ArcTail) : Type 0 where
+  pub order : arc.order ≤ limit
+  pub few : length arc.differences ≤ arc.order + 1

@@ -1,0 +1,58 @@
+-- The cells of a satellite line after the arcs of its satellite in the epoch before.
+use Rattle.std.specs.Prelude.{◌≡◌, ◌≤◌, ℕ, ℤ, List, length, map, drop, slice_index_or, slice_set, Option, Some, None}
+use Rattle.std.specs.Prelude.{Result, Ok}
+use Rattle.crx_text.specs.meaning.Codes.{code_of, first_cell, after_cell}
+use Rattle.crx_faults.specs.declared.limits.TheConstants.{OBSERVATION_WIDTH}
+use Rattle.crx_text.specs.declared.code.Code.TheVariants.{Missing}
+use Rattle.crx_faults.specs.declared.fault.Fault.{Fault}
+use Rattle.crx_compact.specs.meaning.Cells.{ReadCell, cells_read, cells_of, after_cells}
+use Rattle.crx_text.specs.declared.code.Code.{Code}
+use Rattle.crx_columns.specs.meaning.EachPlace.{each_place}
+use Rattle.crx_compact.specs.ArcTails.{ArcTail}
+use Rattle.crx_compact.specs.ArcSteps.{arc_of_code, arc_of_value, code_of_value, value_of_code, shown_value}
+
+-- the arc and the code of the cell at a place, given the arcs of the epoch before; a place after the last of these has no arc
+abbrev pub arc_at_place : List (Option ArcTail) → List (Option ℤ) → ℕ → Option ArcTail
+arc_at_place before values place = arc_of_value (slice_index_or values place None) (slice_index_or before place None)
+
+abbrev pub code_at_place : List (Option ArcTail) → List (Option ℤ) → ℕ → Code
+code_at_place before values place = code_of_value (slice_index_or values place None) (slice_index_or before place None)
+
+-- those of all cells, by their values
+abbrev pub arcs_of_cells : List (Option ArcTail) → List (Option ℤ) → List (Option ArcTail)
+arcs_of_cells before values = each_place (length values) (arc_at_place before values)
+
+abbrev pub codes_of_cells : List (Option ArcTail) → List (Option ℤ) → List Code
+codes_of_cells before values = each_place (length values) (code_at_place before values)
+
+-- ---- reading
+
+-- the value that a code gives at a place, the arcs before being given
+abbrev pub value_at_place : List (Option ArcTail) → ℕ → Code → Result (Option ℤ) Fault
+value_at_place before place code = value_of_code OBSERVATION_WIDTH code (slice_index_or before place None)
+
+-- the cell that a text begins with: the arcs with its own in its place, and how much of the text it takes with its blank
+pub record IsCellRead (before : List (Option ArcTail))
+    (place : ℕ) (text : List ℕ) (old new : List (Option ArcTail)) (taken : ℕ) : Type 0 where
+  pub code : Code
+  pub value : Option ℤ
+  pub formed : code_of (first_cell text) ≡ Some code
+  pub given : value_at_place before place code ≡ Ok value
+  pub left : new ≡ slice_set old place (arc_of_code code (slice_index_or before place None))
+  pub after : drop taken text ≡ after_cell text
+  pub within : taken ≤ length text
+
+-- the arcs that codes leave
+abbrev pub arcs_of_codes : List (Option ArcTail) → List Code → List (Option ArcTail)
+arcs_of_codes before codes = each_place
+    (length codes) (λ place. arc_of_code (slice_index_or codes place Missing) (slice_index_or before place None))
+
+-- the cells of a line for so many types: the arcs that they leave, which show their values, and where the marks begin
+pub record CellsAreRead (before : List (Option ArcTail))
+    (count : ℕ) (line : List ℕ) (arcs : List (Option ArcTail)) (at : ℕ) : Type 0 where
+  pub cells : List ReadCell
+  pub good : cells_read (value_at_place before) (cells_of count line) ≡ Ok cells
+  pub marks : after_cells count line ≡ drop at line
+  pub within : at ≤ length line
+  pub left : arcs ≡ arcs_of_codes before (map (λ (c : ReadCell). c.code) cells)
+  pub shown : map shown_value arcs ≡ map (λ (c : ReadCell). c.value) cells

@@ -1,0 +1,126 @@
+-- A satellite's line read after the history of the satellite.
+use Rattle.std.specs.Prelude.{◌≡◌, ◌≤◌, ℕ, true, List, length, ◌+◌, ◌++◌, ◌∷◌, map, take, [], Option, None, Some}
+use Rattle.std.specs.Prelude.{Result, Ok, slice_get, slice_set, Bool}
+use Rattle.std.specs.List.{list_all}
+use Rattle.crx_faults.specs.declared.limits.TheConstants.{LINE_LIMIT, OBSERVATION_WIDTH, CLOCK_WIDTH}
+use Rattle.crx_header.specs.meaning.ObservationTypes.{IsAllowedCount}
+use Rattle.crx_header.specs.meaning.Satellites.{is_identifier, are_apart}
+use Rattle.crx_compact.specs.meaning.EpochText.{Satellite}
+use Rattle.crx_columns.specs.meaning.Texts.{is_kept}
+use Rattle.crx_columns.specs.Texts.{patched}
+use Rattle.crx_faults.specs.declared.fault.Fault.{Fault}
+use Rattle.crx_compact.specs.meaning.Sequences.{and_then}
+use Rattle.crx_compact.specs.meaning.Past.{Past}
+use Rattle.crx_compact.specs.meaning.CompactPlaces.{ReadRow, satellite_line_read}
+use Rattle.crx_compact.specs.ArcTails.{ArcTail}
+use Rattle.crx_compact.specs.Tails.{RowTail, Tail}
+use Rattle.crx_compact.specs.Steps.{flags_of_tail, flags_held, tail_named, cell_of_tail, raw_row_tail_after}
+use Rattle.crx_compact.specs.ShownRows.{shown_row}
+use Rattle.crx_compact.specs.Cells.{arcs_of_codes, value_at_place}
+use Rattle.crx_rinex.specs.meaning.Observations.{Row}
+use Rattle.crx_compact.specs.ArcSteps.{value_of_code}
+
+-- indicators that a history may have: no more than a line has, of the characters that may stand there
+pub record AreHeldFlags (flags : List ℕ) : Type 0 where
+  pub within : length flags ≤ LINE_LIMIT
+  pub kept : list_all is_kept flags ≡ true
+
+-- a satellite whose line may be awaited: its identifier has the form of one, and it has as many types as a system may
+-- have
+pub record IsAwaitedSatellite (satellite : Satellite) : Type 0 where
+  pub named : is_identifier satellite.name ≡ true
+  pub counted : IsAllowedCount satellite.count
+
+-- the arcs of a satellite's history; none where the satellite has none
+abbrev pub arcs_of_tail : Option RowTail → List (Option ArcTail)
+arcs_of_tail None = []
+arcs_of_tail (Some kept) = kept.cells
+
+-- what a satellite's arcs and indicators give to its line; the epoch line and the clock line don't matter to it
+abbrev pub past_of_row : List (Option ArcTail) → List ℕ → Past
+past_of_row arcs flags =
+    record {
+      text = λ line. line;
+      clock = λ code. Ok None;
+      value = λ name place code. value_at_place arcs place code;
+      flags = λ name marks. patched flags marks;
+    }
+
+-- a satellite's row, and the satellite's tail after it
+pub record HeldRow : Type 0 where
+  pub row : Row
+  pub tail : RowTail
+
+-- a row that was read, and what it leaves of its satellite
+abbrev pub held_from : List (Option ArcTail) → List ℕ → ReadRow → HeldRow
+held_from arcs flags read =
+    record {
+      row = read.row;
+      tail = record {
+        name = read.raw.name;
+        flags = flags_held (length read.raw.codes) (patched flags read.raw.marks);
+        cells = arcs_of_codes arcs read.raw.codes;
+      };
+    }
+
+-- what a satellite's line makes after its arcs and indicators, or its first fault
+abbrev pub row_held_from : List (Option ArcTail) → List ℕ → Satellite → List ℕ → Result HeldRow Fault
+row_held_from arcs flags satellite line =
+    and_then (satellite_line_read (past_of_row arcs flags) satellite line) (λ read. Ok (held_from arcs flags read))
+
+-- a satellite's line read after the satellite's history, or after none
+abbrev pub row_held : Option RowTail → Satellite → List ℕ → Result HeldRow Fault
+row_held kept satellite line = row_held_from (arcs_of_tail kept) (flags_of_tail kept) satellite line
+
+abbrev pub past_of_tail : Tail → Past
+past_of_tail tail =
+    record {
+      text = λ line. patched tail.text line;
+      clock = λ code. value_of_code CLOCK_WIDTH code tail.clock;
+      value = λ name place code. value_of_code OBSERVATION_WIDTH code (cell_of_tail place (tail_named name tail));
+      flags = λ name marks. patched (flags_of_tail (tail_named name tail)) marks;
+    }
+
+abbrev pub held_row : Tail → ReadRow → HeldRow
+held_row before read = record { row = read.row; tail = raw_row_tail_after (tail_named read.raw.name before) read.raw }
+
+-- a satellite's line read after the history of all satellites
+abbrev pub row_after : Tail → Satellite → List ℕ → Result HeldRow Fault
+row_after tail satellite line =
+    and_then (satellite_line_read (past_of_tail tail) satellite line) (λ read. Ok (held_row tail read))
+
+-- a row that was read after the epoch before: its history, which shows it, stands after those of the so many rows before
+-- it
+pub record IsNextRow (before : Tail)
+    (satellite : Satellite) (line : List ℕ) (index : ℕ) (old new : Tail) : Type 0 where
+  pub left : RowTail
+  pub read : row_after before satellite line ≡ Ok (record { row = shown_row left; tail = left })
+  pub rows : take (index + 1) new.rows ≡ take index old.rows ++ left ∷ []
+  pub others : new.rows ≡ slice_set old.rows index left
+  pub many : length left.cells ≡ satellite.count
+  pub text : new.text ≡ old.text
+  pub clock : new.clock ≡ old.clock
+
+-- at a place stands a history with an arc for each of a satellite's types
+pub record HasRow (rows : List RowTail) (index : ℕ) (satellite : Satellite) : Type 0 where
+  pub row : RowTail
+  pub there : slice_get rows index ≡ Some row
+  pub many : length row.cells ≡ satellite.count
+
+-- the first histories have an arc for each type of some satellites
+abbrev pub HaveRows : List Satellite → List RowTail → Type 0
+HaveRows satellites rows = map (λ (row : RowTail). length row.cells) (take (length satellites) rows)
+    ≡ map (λ (s : Satellite). s.count) satellites
+
+-- so many of the first satellites have the identifiers that stand at their places
+abbrev pub AreNamed : ℕ → List (List ℕ) → List RowTail → Type 0
+AreNamed count names rows = (count ≤ length rows)
+    × (count ≤ length names) × (take count names ≡ map (λ (row : RowTail). row.name) (take count rows))
+
+-- so many of the first satellites have different identifiers
+abbrev pub AreApart : ℕ → List RowTail → Type 0
+AreApart count rows = (count ≤ length rows) × (are_apart (λ (row : RowTail). row.name) (take count rows) ≡ true)
+
+-- where a flag says so, so many of the first satellites have the identifiers that stand at their places
+abbrev pub ArePlaced : Bool → ℕ → List (List ℕ) → List RowTail → Type 0
+ArePlaced is_placed count names rows = is_placed ≡ true → AreNamed count names rows

@@ -1,0 +1,41 @@
+-- The values that the codes of an arc stand for: Hatanaka's Compact RINEX 3.0, data arcs. Codes stand newest first.
+use Rattle.std.specs.Prelude.{ℕ, ◌-◌, ◌^◌, ◌&&◌, Bool, ℤ, pos, neg_ℤ, int_lt, List, [], ◌∷◌, Option, Some, None, Result}
+use Rattle.std.specs.Prelude.{Ok, Err, if◌then◌else◌}
+use Rattle.std.specs.Option.{option_map}
+use Rattle.crx_text.specs.declared.code.Code.{Code}
+use Rattle.crx_text.specs.declared.code.Code.TheVariants.{Missing, Start, Step}
+use Rattle.crx_faults.specs.declared.fault.Fault.{Fault}
+use Rattle.crx_faults.specs.declared.fault.Fault.TheVariants.{NoArc, OutOfRange}
+use Rattle.crx_compact.specs.meaning.Differences.{value_at}
+
+-- the numbers of an arc's codes since its start, newest first, and the start's order
+pub record Started : Type 0 where
+  pub order : ℕ
+  pub numbers : List ℤ
+
+abbrev pub onto_started : ℤ → Started → Started
+onto_started number arc = record { order = arc.order; numbers = number ∷ arc.numbers }
+
+-- the codes since the latest start, if none of them is missing
+abbrev pub since_start : List Code → Option Started
+since_start [] = None
+since_start (Missing ∷ older) = None
+since_start (Start order value ∷ older) = Some (record { order = order; numbers = value ∷ [] })
+since_start (Step number ∷ older) = option_map (onto_started number) (since_start older)
+
+-- whether a number fits so many columns: the point takes one of them, and a minus another
+abbrev pub is_within : ℕ → ℤ → Bool
+is_within width number = int_lt (neg_ℤ (pos (10 ^ (width - 2)))) number && int_lt number (pos (10 ^ (width - 1)))
+
+abbrev pub in_range : ℕ → ℤ → Result (Option ℤ) Fault
+in_range width number = if is_within width number then Ok (Some number) else Err OutOfRange
+
+abbrev pub value_since : ℕ → Option Started → Result (Option ℤ) Fault
+value_since width None = Err NoArc
+value_since width (Some arc) = in_range width (value_at arc.order arc.numbers)
+
+-- the value of a cell or a clock by its codes, newest first, in a run: nothing where the newest is missing
+abbrev pub value_of : ℕ → List Code → Result (Option ℤ) Fault
+value_of width [] = Ok None
+value_of width (Missing ∷ older) = Ok None
+value_of width (code ∷ older) = value_since width (since_start (code ∷ older))

@@ -1,0 +1,402 @@
+//! Arcs: Hatanaka's Compact RINEX 3.0, data arcs. An arc's values become codes and come back from them by running
+//! differences: an arc is stored as its order and its latest differences of order 0, 1, .. up to it.
+
+ghost use Rattle.std.specs.Prelude.{◌≡◌, ◌≤◌, ◌<◌, ◌+◌, ◌*◌, ◌^◌, ◌++◌, ◌∷◌, [], ℕ, ℤ, List, Option, None, Some, Ok, length, take, IfSome, OnSome, IfNone, OnOk, OnErr, MatchResult, IsTrue};
+ghost use Rattle.crx_text.specs.Codes.{IsPrintable, IsShort};
+ghost use Rattle.crx_text.specs.meaning.Numbers.{IsMissingOrWithin, IsWithin};
+ghost use Rattle.crx_compact.specs.Arcs.{AreBelow, IsBelow, value_bound};
+ghost use Rattle.crx_compact.specs.meaning.Differences.{code_at, newest};
+ghost use Rattle.crx_compact.specs.meaning.ArcValues.{is_within, value_of};
+ghost use Rattle.crx_compact.specs.ArcLaws.{accepted, arc_of_codes, arc_of_values};
+ghost use Rattle.crx_compact.specs.meaning.Sequences.{stretch};
+ghost use Rattle.crx_text.specs.declared.code.Code.{Code};
+ghost use Rattle.crx_text.specs.declared.code.Code.TheVariants.{Step};
+ghost use Rattle.crx_faults.specs.declared.limits.TheConstants.{CLOCK_WIDTH, DIGITS_LIMIT, ORDER_LIMIT, WRITTEN_ORDER};
+ghost use Rattle.crx_compact.specs.ArcSteps.{shown_value};
+ghost use Rattle.crx_compact.specs.ArcSteps.{arc_of_code, arc_of_value, code_of_value, differences_after, differences_by, highest, value_of_code};
+
+use crx_faults::Fault;
+use crx_faults::limits::{CLOCK_WIDTH, OBSERVATION_WIDTH, ORDER_LIMIT, WRITTEN_ORDER};
+use crx_text::Code;
+use std::marker::Model;
+
+/// The most differences that an arc stores: those of order 0 to [`ORDER_LIMIT`].
+const KEPT_LIMIT: usize = ORDER_LIMIT as usize + 1;
+
+/// The arc of an observation, in thousandths of its unit.
+pub type ObsArc = Arc<OBSERVATION_WIDTH>;
+
+/// The arc of the receiver clock offset, in units of 10^-12 seconds.
+pub type ClockArc = Arc<CLOCK_WIDTH>;
+
+/// An arc of values that fit a field of so many columns: its order, and its latest differences of order 0, 1, .. up to
+/// it or as far as its values go. It takes no memory elsewhere.
+#[derive(Drop)]
+pub struct Arc<const WIDTH: usize> {
+    // These two are compared and written as one number (`is_third`). They stand before the differences, so that most arcs are read and
+    // written in their first 40 bytes of 88.
+    order: u8,
+    count: u8,
+    differences: [i64; KEPT_LIMIT],
+}
+
+impl<const WIDTH: usize> Model for Arc<WIDTH> {
+    ghost use Rattle.std.specs.Prelude.{Option, take};
+    ghost use Rattle.crx_compact.specs.ArcTails.{ArcTail};
+    ghost use Rattle.crx_compact.specs.Arcs.{kept_tail, IsArcInRange};
+
+    ghost Value = { Option ArcTail };
+
+    ghost view = { λ arc. kept_tail arc.order (take arc.count arc.differences) };
+
+    ghost invariant = { λ arc. IsArcInRange WIDTH arc.order arc.count (take arc.count arc.differences) };
+}
+
+/// Puts the differences of order 0, 1, .. at a next value in place of those at the value before it, and gives the
+/// difference of the next order.
+fn advance(differences: &mut [i64], value: i64) -> i64
+    requires few { length differences.old ≤ ORDER_LIMIT }
+    requires below { AreBelow value_bound differences.old }
+    requires next { IsBelow value_bound value }
+    ensures { differences.new ++ result ∷ [] ≡ differences_after value differences.old }
+{
+    let mut next = value;
+    for order in 0..differences.len() {
+        let before = differences[order];
+        differences[order] = next;
+        next -= before;
+    }
+    next
+}
+
+/// Puts the differences at a next value in place of those at the value before it, of order 0 up to the given one, and
+/// gives the difference of that order.
+fn go_on(differences: &mut [i64], order: usize, value: i64) -> i64
+    requires within { order < length differences.old }
+    requires few { order ≤ ORDER_LIMIT }
+    requires below { AreBelow value_bound (take order differences.old) }
+    requires next { IsBelow value_bound value }
+    ensures after { take (order + 1) differences.new ≡ differences_after value (take order differences.old) }
+    ensures highest { result ≡ highest (differences_after value (take order differences.old)) }
+{
+    let highest = advance(&mut differences[..order], value);
+    differences[order] = highest;
+    highest
+}
+
+/// Does what [`go_on_from`] does, for order 3: three differences in place of a copy and a loop over the order. This program writes all
+/// arcs with order 3.
+#[inline(always)]
+fn third_from(before: &[i64], value: i64, differences: &mut [i64]) -> i64
+    requires within { 3 < length before.now }
+    requires room { 3 < length differences.old }
+    requires below { AreBelow value_bound (take 3 before.now) }
+    requires next { IsBelow value_bound value }
+    ensures after { take 4 differences.new ≡ differences_after value (take 3 before.now) }
+    ensures highest { result ≡ highest (differences_after value (take 3 before.now)) }
+{
+    let first = value - before[0];
+    let second = first - before[1];
+    let third = second - before[2];
+    differences[0] = value;
+    differences[1] = first;
+    differences[2] = second;
+    differences[3] = third;
+    third
+}
+
+/// Replaces some differences by those at a next value, of order 0 up to the given one, and gives the difference of that order. The
+/// differences at the value before it are given.
+#[inline(always)]
+fn go_on_from(before: &[i64], order: usize, value: i64, differences: &mut [i64]) -> i64
+    requires room { length differences.old ≡ length before.now }
+    requires within { order < length before.now }
+    requires few { order ≤ ORDER_LIMIT }
+    requires below { AreBelow value_bound (take order before.now) }
+    requires next { IsBelow value_bound value }
+    ensures after { take (order + 1) differences.new ≡ differences_after value (take order before.now) }
+    ensures highest { result ≡ highest (differences_after value (take order before.now)) }
+{
+    if order == 3 {
+        return third_from(before, value, differences);
+    }
+    differences.copy_from_slice(before);
+    go_on(differences, order, value)
+}
+
+/// Gives the value that [`value_after`] gives, for order 3: three sums in place of a loop over the order. Most arcs have order 3.
+#[inline(always)]
+fn value_after_three(differences: &[i64], number: i64) -> i64
+    requires three { length differences.now ≡ 3 }
+    requires below { AreBelow value_bound differences.now }
+    requires short { IsBelow (10 ^ DIGITS_LIMIT) number }
+    ensures { result ≡ newest (differences_by number differences.now) }
+{
+    number + differences[0] + differences[1] + differences[2]
+}
+
+/// The differences of order 0, 1 and 2 after some others, by the next one of order 3.
+#[inline(always)]
+fn sums_from_third(before: &[i64], number: i64) -> (i64, i64, i64)
+    requires within { 3 < length before.now }
+    requires below { AreBelow value_bound (take 3 before.now) }
+    requires short { IsBelow (10 ^ DIGITS_LIMIT) number }
+    ensures { result.0 ∷ result.1 ∷ result.2 ∷ number ∷ [] ≡ differences_by number (take 3 before.now) }
+{
+    let second = before[2] + number;
+    let first = before[1] + second;
+    let value = before[0] + first;
+    (value, first, second)
+}
+
+/// Puts the differences of order 0 to 3 in place of others.
+#[inline(always)]
+fn put_four(differences: &mut [i64], value: i64, first: i64, second: i64, third: i64)
+    requires { 3 < length differences.old }
+    ensures { take 4 differences.new ≡ value ∷ first ∷ second ∷ third ∷ [] }
+{
+    differences[0] = value;
+    differences[1] = first;
+    differences[2] = second;
+    differences[3] = third;
+}
+
+/// The value after the one that some differences of order 0, 1, .. stand at, by the difference of the next order.
+fn value_after(differences: &[i64], number: i64) -> i64
+    requires few { length differences.now ≤ ORDER_LIMIT }
+    requires below { AreBelow value_bound differences.now }
+    requires short { IsBelow (10 ^ DIGITS_LIMIT) number }
+    ensures { result ≡ newest (differences_by number differences.now) }
+{
+    if differences.len() == 3 {
+        return value_after_three(differences, number);
+    }
+    let mut value = number;
+    for difference in differences {
+        value += *difference;
+    }
+    value
+}
+
+/// Whether an arc of this order, with so many differences, has order 3 and four of them, as nearly all arcs have from their fourth value
+/// on. The two numbers are compared as one.
+#[inline(always)]
+fn is_third(order: u8, count: u8) -> bool
+    ensures { IsTrue result → (order ≡ 3) × (count ≡ 4) }
+{
+    u16::from_le_bytes([order, count]) == u16::from_le_bytes([3, 4])
+}
+
+impl<const WIDTH: usize> Arc<WIDTH> {
+    /// An arc without values.
+    pub fn new() -> Self
+        requires { WIDTH ≤ CLOCK_WIDTH }
+        ensures empty { result ≡ None }
+    {
+        Arc {
+            count: 0,
+            order: 0,
+            differences: [0; KEPT_LIMIT],
+        }
+    }
+
+    /// The same arc once more.
+    pub fn copied(&self) -> Self
+        ensures value { result ≡ self.now }
+    {
+        Arc {
+            count: self.count,
+            order: self.order,
+            differences: self.differences,
+        }
+    }
+
+    /// The code of a next value, after which the arc goes on: `Missing` where there is none, and then the arc is over; of
+    /// a first value the value itself and the order [`WRITTEN_ORDER`]; else the next difference of the arc's order, or
+    /// of a lower one while it has too few values. It asks for a value that fits the columns.
+    pub fn push(&mut self, value: Option<i64>) -> Code
+        requires { IsMissingOrWithin WIDTH value }
+        ensures code { result ≡ code_of_value value self.old }
+        ensures printable { IsPrintable result }
+        ensures arc { self.new ≡ arc_of_value value self.old }
+        // After any values at all, missing ones too, the code is the one of the arc that they leave.
+        ensures every { (values : List (Option ℤ)) → self.old ≡ arc_of_values values
+            → (result ≡ code_at WRITTEN_ORDER (stretch (value ∷ values)))
+            × (self.new ≡ arc_of_values (value ∷ values)) }
+    {
+        let before = self.copied();
+        self.push_after(&before, value)
+    }
+
+    /// The code of a next value of another arc, which this one replaces as it goes on: that of [`Arc::push`] on a copy.
+    #[inline(always)]
+    pub fn push_after(&mut self, before: &Self, value: Option<i64>) -> Code
+        requires { IsMissingOrWithin WIDTH value }
+        ensures code { result ≡ code_of_value value before.now }
+        ensures printable { IsPrintable result }
+        ensures arc { self.new ≡ arc_of_value value before.now }
+    {
+        let Some(value) = value else {
+            self.count = 0;
+            return Code::Missing;
+        };
+        if before.count == 0 {
+            self.differences[0] = value;
+            self.order = WRITTEN_ORDER;
+            self.count = 1;
+            return Code::Start {
+                order: WRITTEN_ORDER,
+                value,
+            };
+        }
+        let last = before.order.min(before.count);
+        let highest = go_on_from(
+            &before.differences,
+            last as usize,
+            value,
+            &mut self.differences,
+        );
+        self.order = before.order;
+        self.count = last + 1;
+        Code::Step(highest)
+    }
+
+    /// Does what [`Arc::push_after`] does where the code is a difference of order 3, as that of most values is, and gives that difference:
+    /// no other code has to be tried, and the differences are written once, without a copy of the arc before. `None` comes where the arc
+    /// before has another order or fewer values, and then this one is as it was.
+    #[inline(always)]
+    pub fn push_third(&mut self, before: &Self, value: i64) -> Option<i64>
+        requires { IsWithin WIDTH value }
+        ensures code { IfSome result (λ number. code_of_value (Some value) before.now ≡ Step number) }
+        ensures short { IfSome result IsShort }
+        ensures arc { OnSome result (self.new ≡ arc_of_value (Some value) before.now) }
+        ensures none { IfNone result (self.new ≡ self.old) }
+    {
+        if !is_third(before.order, before.count) {
+            return None;
+        }
+        let third = third_from(&before.differences, value, &mut self.differences);
+        self.order = 3;
+        self.count = 4;
+        Some(third)
+    }
+
+    /// The value that a next code gives, after which the arc goes on; `None` of `Missing`, and then the arc is over. A
+    /// start begins a new arc, also in the middle of one. It asks for an order and a number within the limits.
+    ///
+    /// `NoArc` comes at a difference where no arc has begun, `OutOfRange` where the value doesn't fit the columns. After
+    /// either the arc is as it was.
+    pub fn apply(&mut self, code: Code) -> Result<Option<i64>, Fault>
+        requires { IsPrintable code }
+        ensures value { result ≡ value_of_code WIDTH code self.old }
+        ensures ok { OnOk result (self.new ≡ arc_of_code code self.old) }
+        ensures err { OnErr result (self.new ≡ self.old) }
+        // After any codes at all, of which those that were refused don't count, the value is the one that they give.
+        ensures every { (codes : List Code) → self.old ≡ arc_of_codes WIDTH codes
+            → (result ≡ value_of WIDTH (code ∷ accepted WIDTH codes))
+            × (self.new ≡ arc_of_codes WIDTH (code ∷ codes)) }
+    {
+        let before = self.copied();
+        self.apply_after(&before, code)
+    }
+
+    /// Does what [`Arc::apply`] does to a copy of an earlier arc, and replaces this one by it.
+    #[inline(always)]
+    pub fn apply_after(&mut self, earlier: &Self, code: Code) -> Result<Option<i64>, Fault>
+        requires { IsPrintable code }
+        ensures value { result ≡ value_of_code WIDTH code earlier.now }
+        ensures ok { OnOk result (self.new ≡ arc_of_code code earlier.now) }
+        ensures err { OnErr result (self.new ≡ self.old) }
+    {
+        match code {
+            Code::Missing => {
+                self.count = 0;
+                Ok(None)
+            }
+            Code::Start { order, value } => {
+                if !is_within(WIDTH, value) {
+                    return Err(Fault::OutOfRange);
+                }
+                self.differences[0] = value;
+                self.order = order;
+                self.count = 1;
+                Ok(Some(value))
+            }
+            Code::Step(number) => {
+                if earlier.count == 0 {
+                    return Err(Fault::NoArc);
+                }
+                let last = earlier.order.min(earlier.count);
+                let value = value_after(&earlier.differences[..last as usize], number);
+                if !is_within(WIDTH, value) {
+                    return Err(Fault::OutOfRange);
+                }
+                go_on_from(
+                    &earlier.differences,
+                    last as usize,
+                    value,
+                    &mut self.differences,
+                );
+                self.order = earlier.order;
+                self.count = last + 1;
+                Ok(Some(value))
+            }
+        }
+    }
+
+    /// Does what [`Arc::apply_after`] does at a difference of order 3, as most codes are, and gives the value: three sums, without a copy
+    /// of the earlier arc. `None` comes where the earlier arc has another order or fewer values, or where the value doesn't fit, and then
+    /// this one is as it was.
+    #[inline(always)]
+    pub fn apply_third(&mut self, earlier: &Self, number: i64) -> Option<i64>
+        requires { IsShort number }
+        ensures value { IfSome result
+            (λ value. value_of_code WIDTH (Step number) earlier.now ≡ Ok (Some value)) }
+        ensures arc { OnSome result (self.new ≡ arc_of_code (Step number) earlier.now) }
+        ensures none { IfNone result (self.new ≡ self.old) }
+    {
+        if !is_third(earlier.order, earlier.count) {
+            return None;
+        }
+        let (value, first, second) = sums_from_third(&earlier.differences, number);
+        if !is_within(WIDTH, value) {
+            return None;
+        }
+        put_four(&mut self.differences, value, first, second, number);
+        self.order = 3;
+        self.count = 4;
+        Some(value)
+    }
+
+    /// The newest value; `None` where the arc has no values.
+    #[inline(always)]
+    pub fn value(&self) -> Option<i64>
+        ensures value { result ≡ shown_value self.now }
+        ensures ranged { IsMissingOrWithin WIDTH result }
+    {
+        if self.count == 0 {
+            return None;
+        }
+        Some(self.differences[0])
+    }
+
+    /// Ends the arc: it is one without values.
+    #[inline(always)]
+    pub fn end(&mut self)
+        ensures ended { self.new ≡ None }
+    {
+        self.count = 0;
+    }
+}
+
+/// Whether a value fits so many columns: the point takes one of them, and a minus another.
+#[inline(always)]
+fn is_within(width: usize, value: i64) -> bool
+    requires { width ≤ CLOCK_WIDTH }
+    ensures { result ≡ is_within width value }
+{
+    let width = width as u32;
+    let lowest = -10i64.pow(width.saturating_sub(2));
+    let highest = 10i64.pow(width.saturating_sub(1));
+    lowest < value && value < highest
+}
