@@ -1,8 +1,10 @@
 -- The cells of a line, read from left to right.
 use Rattle.std.specs.Prelude.{◌≡◌, ◌≤◌, ◌<◌, refl, ℕ, suc, ◌+◌, ◌-◌, ℤ, List, [], ◌∷◌, ◌++◌, length, map, take}
-use Rattle.std.specs.Prelude.{drop, slice_index_or, slice_set, Bool, true, false, Option, Some, None, Result, Ok, Err, if◌then◌else◌}
-use Rattle.std.proofs.Common.{sym, ◌∙◌, ap, arith, length-append, true≢false}
-use Rattle.std.proofs.lemmas.List.{drop-drop, length-drop, length-map, length-set, take_more_set, map-append}
+use Rattle.std.specs.Prelude.{drop, slice_index_or, slice_set, Bool, true, false, Option, Some, None, Result, Ok}
+use Rattle.std.specs.Prelude.{Err, if◌then◌else◌}
+use Rattle.std.proofs.Common.{sym, ◌∙◌, ap, arith, length-append, subst, true≢false}
+use Rattle.std.proofs.lemmas.List.{drop-drop, length-drop, length-map, length-set, map-append, take_all}
+use Rattle.std.proofs.lemmas.List.{take_more_set}
 use Rattle.crx_text.specs.meaning.Codes.{code_of, first_cell, after_cell}
 use Rattle.crx_text.specs.declared.code.Code.{Code}
 use Rattle.crx_faults.specs.declared.fault.Fault.{Fault}
@@ -15,6 +17,7 @@ use Rattle.crx_compact.specs.ArcSteps.{shown_value}
 use Rattle.crx_compact.specs.meaning.ArcValues.{in_range, is_within}
 use Rattle.crx_text.specs.declared.code.Code.TheVariants.{Missing, Start, Step}
 use Rattle.crx_faults.specs.declared.limits.TheConstants.{OBSERVATION_WIDTH}
+use Rattle.crx_compact.proofs.AlikeFrom.{alike-there, alike-after}
 use Rattle.crx_compact.specs.Cells.{value_at_place, arcs_of_codes, CellsAreRead, IsCellRead}
 
 -- some cells before those of a good result
@@ -46,16 +49,22 @@ cell-same f g h None = refl
 cell-same f g h (Some code) = ap {B = Result ReadCell Fault}
     (λ r. and_then r (λ value. Ok (record { code = code; value = value }))) (h code)
 
-pub cells-same : (f g : Values) → ((place : ℕ) (c : Code) → f place c ≡ g place c)
-    → (texts : List (List ℕ)) → cells_read f texts ≡ cells_read g texts
-cells-same f g h [] = refl
-cells-same f g h (text ∷ texts) =
+-- the same values at each place of some texts
+pub cells-within : (f g : Values) (texts : List (List ℕ))
+    → ((place : ℕ) (c : Code) → place < length texts → f place c ≡ g place c) → cells_read f texts ≡ cells_read g texts
+cells-within f g [] h = refl
+cells-within f g (text ∷ texts) h =
     ap {B = Result (List ReadCell) Fault}
     (λ r. and_then r (λ cell. before_all cell (cells_read (λ place. f (suc place)) texts)))
-    (cell-same (f 0) (g 0) (h 0) (code_of text))
+    (cell-same (f 0) (g 0) (λ c. h 0 c (omega arith)) (code_of text))
     ∙ ap {B = Result (List ReadCell) Fault}
     (λ r. and_then (cell_read BadField (g 0) (code_of text)) (λ cell. before_all cell r))
-    (cells-same (λ place. f (suc place)) (λ place. g (suc place)) (λ place c. h (suc place) c) texts)
+    (cells-within (λ place. f (suc place)) (λ place. g (suc place)) texts
+    (λ place c less. h (suc place) c (omega (arith, less))))
+
+pub cells-same : (f g : Values) → ((place : ℕ) (c : Code) → f place c ≡ g place c)
+    → (texts : List (List ℕ)) → cells_read f texts ≡ cells_read g texts
+cells-same f g h texts = cells-within f g texts (λ place c less. h place c)
 
 -- ---- one cell more
 
@@ -134,8 +143,7 @@ at-next before count line k at arcs s h code e =
     ∙ ap (λ (o : Option Code). onto s.cells (and_then (cell_read BadField (value_at_place before k) o)
     (λ cell. before_all cell (cells_read (λ p. value_at_place before (k + 1 + p)) rest)))) e
 
--- a fault of the next cell is that of them all
-pub read-refused : (before : List (Option ArcTail))
+read-refused : (before : List (Option ArcTail))
     (count : ℕ) (line : List ℕ) (k at : ℕ) (arcs : List (Option ArcTail)) (fault : Fault)
     → ReadSoFar before count line k at arcs
     → k < count → cell_read BadField (value_at_place before k) (code_of (first_cell (drop at line))) ≡ Err fault
@@ -147,7 +155,7 @@ read-refused before count line k at arcs fault s h e =
     ∙ ap (λ (r : Result ReadCell Fault). onto s.cells (and_then r (λ cell. before_all cell rest))) e
     ∙ onto-err s.cells fault
 
-pub read-more : (before : List (Option ArcTail)) (count : ℕ) (line : List ℕ) (k at at' : ℕ)
+read-more : (before : List (Option ArcTail)) (count : ℕ) (line : List ℕ) (k at at' : ℕ)
     (arcs arcs' : List (Option ArcTail)) (code : Code) (value : Option ℤ) (arc : Option ArcTail)
     → ReadSoFar before count line k at arcs
     → k < count → code_of (first_cell (drop at line)) ≡ Some code → value_at_place before k code ≡ Ok value
@@ -187,54 +195,108 @@ read-more before count line k at at' arcs arcs' code value arc s h e v t w a l =
           ∙ sym (map-append (λ (q : ReadCell). q.value) s.cells (c ∷ []));
     }
 
--- the next cell, with its arc in its place among others
-pub read-cell : (before : List (Option ArcTail)) (count : ℕ) (line : List ℕ)
-    (k at at' : ℕ) (arcs arcs' made : List (Option ArcTail)) (taken : ℕ)
-    → ReadSoFar before count line k at (take k arcs) → k < count → length arcs ≡ count
-    → IsCellRead before k (drop at line) arcs made taken
-    → arcs' ≡ made → at' ≡ at + taken
-    → ReadSoFar before count line (k + 1) at' (take (k + 1) arcs') × (length arcs' ≡ count)
-read-cell before count line k at at' arcs arcs' made taken s h counted read made_is at_is =
-    let arc : Option ArcTail = arc_of_code read.code (slice_index_or before k None) in
-    let within : taken ≤ length (drop at line) = read.within in
-    let here : at ≤ length line = s.within in
-    let left : arcs' ≡ slice_set arcs k arc = made_is ∙ read.left in (
-      read-more before count line k at at'
-          (take k arcs) (take (k + 1) arcs') read.code read.value arc s h read.formed read.given
-          (sym read.after ∙ drop-drop taken at line ∙ ap (λ n. drop n line) (sym at_is))
-          (omega (arith, within, here, at_is, length-drop at line))
-          refl
-          (ap (take (k + 1)) left ∙ take_more_set arcs k arc (omega (arith, counted, h))),
-      ap length left ∙ length-set arcs k arc ∙ counted,
-    )
+-- the cells up to a place are read into their arcs, and a rest of the line is left; the arcs from the place on are
+-- still the first ones
+pub record ReadUpTo (first : List (Option ArcTail))
+    (line rest : List ℕ) (k : ℕ) (arcs : List (Option ArcTail)) : Type 0 where
+  pub at : ℕ
+  pub read : ReadSoFar first (length first) line k at (take k arcs)
+  pub counted : length arcs ≡ length first
+  pub left : rest ≡ drop at line
+  pub later : drop k arcs ≡ drop k first
 
-pub read-none : (before : List (Option ArcTail)) (count : ℕ) (line : List ℕ) → ReadSoFar before count line 0 0 []
-read-none before count line =
+arc-there : (first : List (Option ArcTail)) (line rest : List ℕ) (k : ℕ) (arcs : List (Option ArcTail))
+    → ReadUpTo first line rest k arcs → k < length first
+    → slice_index_or arcs k None ≡ slice_index_or first k None
+arc-there first line rest k arcs s h =
+    let counted : length arcs ≡ length first = s.counted in
+    alike-there arcs first k None None s.later (omega (arith, h, counted))
+
+-- the next cell, and the arcs with its own in its place
+pub read-next : (first : List (Option ArcTail)) (line rest rest' : List ℕ) (k : ℕ)
+    (arcs arcs' made : List (Option ArcTail)) (taken : ℕ)
+    → ReadUpTo first line rest k arcs → k < length first → IsCellRead arcs k rest arcs made taken
+    → arcs' ≡ made → rest' ≡ drop taken rest → ReadUpTo first line rest' (k + 1) arcs'
+read-next first line rest rest' k arcs arcs' made taken s h read made_is rest_is =
+    let there : slice_index_or arcs k None ≡ slice_index_or first k None =
+    arc-there first line rest k arcs s h in
+    let arc : Option ArcTail = arc_of_code read.code (slice_index_or arcs k None) in
+    let set : arcs' ≡ slice_set arcs k arc = made_is ∙ read.left in
+    let counted : length arcs ≡ length first = s.counted in
+    let taken_within : taken ≤ length rest = read.within in
+    let at_within : s.at ≤ length line = s.read.within in
+    let long : length rest ≡ length (drop s.at line) = ap length s.left in
+    let after : drop taken rest ≡ drop (s.at + taken) line =
+    ap (drop taken) s.left ∙ drop-drop taken s.at line in
+    record {
+      at = s.at + taken;
+      read = read-more first (length first) line k s.at (s.at + taken)
+          (take k arcs) (take (k + 1) arcs') read.code read.value arc s.read h
+          (ap (λ text. code_of (first_cell text)) (sym s.left) ∙ read.formed)
+          (ap (value_of_code OBSERVATION_WIDTH read.code) (sym there) ∙ read.given)
+          (ap after_cell (sym s.left) ∙ sym read.after ∙ after)
+          (omega (arith, taken_within, at_within, long, length-drop s.at line))
+          (ap (arc_of_code read.code) there)
+          (ap (take (k + 1)) set ∙ take_more_set arcs k arc (omega (arith, h, counted)));
+      counted = ap length set ∙ length-set arcs k arc ∙ counted;
+      left = rest_is ∙ after;
+      later = ap (drop (k + 1)) set ∙ alike-after arcs first k arc s.later;
+    }
+
+-- a fault of the next cell is that of them all
+pub next-refused : (first : List (Option ArcTail)) (line rest : List ℕ) (k : ℕ) (arcs : List (Option ArcTail))
+    (fault : Fault) → ReadUpTo first line rest k arcs → k < length first
+    → cell_read BadField (value_at_place arcs k) (code_of (first_cell rest)) ≡ Err fault
+    → cells_read (value_at_place first) (cells_of (length first) line) ≡ Err fault
+next-refused first line rest k arcs fault s h refused =
+    let there : slice_index_or arcs k None ≡ slice_index_or first k None =
+    arc-there first line rest k arcs s h in
+    read-refused first (length first) line k s.at (take k arcs) fault s.read h
+    (ap (λ text. cell_read BadField (value_at_place first k) (code_of (first_cell text))) (sym s.left)
+    ∙ ap (λ (arc : Option ArcTail). cell_read BadField (λ code. value_of_code OBSERVATION_WIDTH code arc)
+    (code_of (first_cell rest))) (sym there) ∙ refused)
+
+pub read-none : (first : List (Option ArcTail)) (line : List ℕ) → ReadUpTo first line line 0 first
+read-none first line =
+    let count : ℕ = length first in
     let all : count - 0 ≡ count = omega arith in
     record {
-      cells = [];
+      at = 0;
+      read = record {
+        cells = [];
+        counted = refl;
+        so_far =
+            cells-same (value_at_place first) (λ p. value_at_place first (0 + p))
+            (λ p c. ap (λ m. value_at_place first m c) (omega arith)) (cells_of count line)
+            ∙ ap (λ m. cells_read (λ p. value_at_place first (0 + p)) (cells_of m line)) (sym all);
+        marks = ap (λ m. after_cells m line) (sym all);
+        within = omega arith;
+        left = refl;
+        shown = refl;
+      };
       counted = refl;
-      so_far =
-          cells-same (value_at_place before) (λ p. value_at_place before (0 + p))
-          (λ p c. ap (λ m. value_at_place before m c) (omega arith)) (cells_of count line)
-          ∙ ap (λ m. cells_read (λ p. value_at_place before (0 + p)) (cells_of m line)) (sym all);
-      marks = ap (λ m. after_cells m line) (sym all);
-      within = omega arith;
       left = refl;
-      shown = refl;
+      later = refl;
     }
 
-pub read-all : (before : List (Option ArcTail)) (count : ℕ) (line : List ℕ)
-    (k at : ℕ) (arcs : List (Option ArcTail)) → ReadSoFar before count line k at arcs
-    → k ≡ count → CellsAreRead before count line arcs at
-read-all before count line k at arcs s e =
+pub read-all : (first : List (Option ArcTail)) (line rest : List ℕ) (k : ℕ) (arcs : List (Option ArcTail))
+    → ReadUpTo first line rest k arcs → k ≡ length first
+    → CellsAreRead first (length first) line arcs (length line - length rest)
+read-all first line rest k arcs s end =
+    let count : ℕ = length first in
+    let counted : length arcs ≡ count = s.counted in
     let none : count - k ≡ 0 = omega arith in
-    record {
-      cells = s.cells;
-      good = s.so_far ∙ ap (λ m. onto s.cells
-          (cells_read (λ p. value_at_place before (k + p)) (cells_of m (drop at line)))) none ∙ onto-ok s.cells;
-      marks = s.marks ∙ ap (λ m. after_cells m (drop at line)) none;
-      within = s.within;
-      left = s.left;
-      shown = s.shown;
-    }
+    let whole : take k arcs ≡ arcs = take_all k arcs (omega (arith, end, counted)) in
+    let long : length rest ≡ length (drop s.at line) = ap length s.left in
+    let within : s.at ≤ length line = s.read.within in
+    let at_is : s.at ≡ length line - length rest = omega (arith, long, within, length-drop s.at line) in
+    subst (CellsAreRead first count line arcs) at_is (record {
+      cells = s.read.cells;
+      good = s.read.so_far ∙ ap (λ m. onto s.read.cells
+          (cells_read (λ p. value_at_place first (k + p)) (cells_of m (drop s.at line)))) none
+          ∙ onto-ok s.read.cells;
+      marks = s.read.marks ∙ ap (λ m. after_cells m (drop s.at line)) none;
+      within = within;
+      left = sym whole ∙ s.read.left;
+      shown = ap (map shown_value) (sym whole) ∙ s.read.shown;
+    })

@@ -6,13 +6,16 @@ pub mod Making
 pub mod LineTexts
 pub mod Characters
 pub mod EpochLines
+pub mod RowByRow
+pub mod ComeRows
+pub mod NamesCome
+pub mod ShownHistory
+pub mod AnnouncedRows
+pub mod EncodedEpochs
 pub mod Identifiers
 pub mod Marks
-pub mod Named
 pub mod Naming
 pub mod Results
-pub mod RoomForRows
-pub mod SameIdentifiers
 pub mod ShownEpochs
 pub mod ShownRows
 pub mod SoundTexts
@@ -22,3 +25,8 @@ pub mod soundness
 mod ReadyParts
 mod Justified
 pub mod Lists
+pub mod AlikeFrom
+pub mod PrintedBlocks
+mod SatelliteLines
+pub mod Resizing
+pub mod placing

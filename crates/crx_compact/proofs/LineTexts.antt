@@ -3,7 +3,7 @@ use Rattle.std.specs.Prelude.{◌≡◌, ◌≤◌, ◌<◌, refl, ℕ, zero, su
 use Rattle.std.specs.Prelude.{get_or, slice_get, Option, Some}
 use Rattle.std.proofs.Common.{sym, ◌∙◌, ap, subst, arith, append_assoc}
 use Rattle.std.proofs.lemmas.List.{drop-append-le, drop-drop, drop-take, drop_more, take-append-le, take-take}
-use Rattle.std.proofs.lemmas.List.{length-append, length-drop, length-take-le}
+use Rattle.std.proofs.lemmas.List.{length-append, length-drop, length-take-le, take_more_set}
 use Rattle.std.proofs.Math.ListN.{drop_of_length-le}
 use Rattle.crx_columns.proofs.WrittenTexts.{counted-line, line-ended}
 use Rattle.crx_compact.specs.LineLists.{cut, lines_text, AreCut}
@@ -138,7 +138,8 @@ pub all-lines : (lengths bytes : List ℕ) (filled past past_bytes : ℕ)
 all-lines lengths bytes filled past past_bytes c kept =
     let long : length (take filled bytes) ≡ filled = length-take-le filled bytes kept in
     let within : past_bytes ≤ length (take filled bytes) = c.bytes_within in
-    sym (c.whole ∙ ap (λ n. drop past_bytes (take n bytes)) {x = filled} {y = past_bytes + (filled - past_bytes)}
+    sym (c.whole ∙ ap (λ n. drop past_bytes (take n bytes)) {x = filled}
+    {y = past_bytes + (filled - past_bytes)}
     (omega (arith, within, long)) ∙ drop-take past_bytes (filled - past_bytes) bytes)
 
 pub none-left : (lengths bytes : List ℕ) (filled past : ℕ)
@@ -148,16 +149,18 @@ none-left lengths bytes filled past within =
 
 -- ---- a line that was written after others
 
-pub row-pushed : (lengths lengths' bytes grown new line : List ℕ) (filled count past past_bytes : ℕ)
-    → AreCut lengths (take filled bytes) past past_bytes
-    → filled ≤ length grown → take filled grown ≡ take filled bytes
-    → take (filled + count) new ≡ take filled grown ++ line → filled + count < length new
-    → lengths' ≡ lengths ++ count ∷ []
-    → Pushed lengths lengths' (take filled bytes)
-    (take (filled + count + 1) (set new (filled + count) 10)) line past past_bytes
-row-pushed lengths lengths' bytes grown new line filled count past past_bytes c within same written room longer =
-    let counted : count ≡ length line = counted-line new grown line filled count written room within in
-    line-pushed lengths lengths' (take filled bytes)
-    (take (filled + count + 1) (set new (filled + count) 10)) line past past_bytes c
-    (longer ∙ ap (λ n. lengths ++ n ∷ []) counted)
-    (line-ended new grown line filled count written room ∙ ap (λ t. t ++ (line ++ 10 ∷ [])) same)
+-- a line that was written after so many others, with its length after theirs
+pub row-pushed : (lengths bytes new line : List ℕ) (many filled count past past_bytes : ℕ)
+    → AreCut (take many lengths) (take filled bytes) past past_bytes
+    → many < length lengths → filled ≤ length bytes
+    → take (filled + count) new ≡ take filled bytes ++ line → filled + count < length new
+    → Pushed (take many lengths) (take (many + 1) (set lengths many count)) (take filled bytes)
+    (take (filled + (count + 1)) (set new (filled + count) 10)) line past past_bytes
+row-pushed lengths bytes new line many filled count past past_bytes c free within written room =
+    let counted : count ≡ length line = counted-line new bytes line filled count written room within in
+    line-pushed (take many lengths) (take (many + 1) (set lengths many count)) (take filled bytes)
+    (take (filled + (count + 1)) (set new (filled + count) 10)) line past past_bytes c
+    (take_more_set lengths many count free ∙ ap (λ n. take many lengths ++ n ∷ []) counted)
+    (ap (λ n. take n (set new (filled + count) 10)) {x = filled + (count + 1)} {y = filled + count + 1}
+    (omega arith)
+    ∙ line-ended new bytes line filled count written room)

@@ -1,10 +1,10 @@
 -- The marks of a satellite line, and the row that its cells and marks make.
 use Rattle.std.specs.Prelude.{◌≡◌, refl, ℕ, suc, ◌+◌, ◌-◌, ◌*◌, Bool, true, false, List, [], ◌∷◌, ◌++◌, ℤ, length, map}
 use Rattle.std.specs.Prelude.{take, drop, replicate, slice_index_or, Option, None, Some, Result, Ok, Err, IfOk, IfErr}
-use Rattle.std.specs.Prelude.{OnErr, OnOk, if◌then◌else◌, ◌<◌, slice_set, ◌==◌, zero}
+use Rattle.std.specs.Prelude.{OnOk, if◌then◌else◌, ◌==◌, zero}
 use Rattle.std.specs.List.{list_all}
 use Rattle.std.proofs.Common.{sym, ◌∙◌, ap, arith}
-use Rattle.std.proofs.lemmas.List.{length-map, take_more_set}
+use Rattle.std.proofs.lemmas.List.{length-map}
 use Rattle.crx_columns.specs.meaning.Columns.{columns, without_end_blanks}
 use Rattle.crx_columns.specs.meaning.Texts.{by_position, is_printable, is_kept}
 use Rattle.crx_columns.specs.Texts.{character_of, patched}
@@ -29,7 +29,7 @@ use Rattle.crx_compact.specs.Steps.{cell_of_tail, flags_held, flags_of_tail, tai
 use Rattle.crx_compact.proofs.CellsRead.{cells-same}
 use Rattle.crx_compact.specs.ShownRows.{shown_row}
 use Rattle.crx_compact.specs.HeldRows.{HeldRow, held_row, past_of_tail, arcs_of_tail, held_from, past_of_row, row_after}
-use Rattle.crx_compact.specs.HeldRows.{row_held, row_held_from, IsNextRow}
+use Rattle.crx_compact.specs.HeldRows.{row_held, row_held_from}
 use Rattle.crx_compact.specs.Cells.{value_at_place, CellsAreRead, arcs_of_codes}
 use Rattle.crx_compact.proofs.SoundTexts.{held-columns, patched-trimmed}
 use Rattle.crx_compact.proofs.Characters.{list_all-at, at-by_position}
@@ -73,7 +73,7 @@ columns-left count flags =
     ∙ at-padded (2 * count) (patched flags []) p ∙ at-unmarked flags p))
 
 -- the columns of indicators show what is held of them
-columns-held : (count : ℕ) (flags : List ℕ) → columns (flags_held count flags) 1 (2 * count)
+pub columns-held : (count : ℕ) (flags : List ℕ) → columns (flags_held count flags) 1 (2 * count)
     ≡ columns flags 1 (2 * count)
 columns-held count flags =
     columns-are (flags_held count flags) 1 (2 * count)
@@ -233,7 +233,7 @@ marks-refused arcs flags satellite line left at fault h read e =
 
 -- ---- by what was kept of the whole epoch before
 
-cell-by_kept : (kept : Option RowTail) (place : ℕ)
+pub cell-by_kept : (kept : Option RowTail) (place : ℕ)
     → slice_index_or (arcs_of_tail kept) place None ≡ cell_of_tail place kept
 cell-by_kept None place = refl
 cell-by_kept (Some row) place = refl
@@ -295,31 +295,9 @@ pub on-ok : {X E : Type 0} (r : Result X E) {P Q : Type 0} → (P → Q) → OnO
 on-ok (Ok x) f h = f h
 on-ok (Err e) f h = h
 
-pub on-err : {X E : Type 0} (r : Result X E) {P Q : Type 0} → (P → Q) → OnErr r P → OnErr r Q
-on-err (Ok x) f h = h
-on-err (Err e) f h = f h
-
 pub on-both : {X E : Type 0} (r : Result X E) {P Q R : Type 0} → (P → Q → R) → OnOk r P → OnOk r Q → OnOk r R
 on-both (Ok x) f p q = f p q
 on-both (Err e) f p q = tt
-
--- a row that was read is the next one
-pub next-row : (before : Tail) (kept : Option RowTail) (satellite : Satellite)
-    (line : List ℕ) (index : ℕ) (left : RowTail) (old new : Tail) → kept ≡ tail_named satellite.name before
-    → new.rows ≡ slice_set old.rows index left → index < length old.rows → length left.cells ≡ satellite.count
-    → new.text ≡ old.text → new.clock ≡ old.clock
-    → row_held kept satellite line ≡ Ok (record { row = shown_row left; tail = left })
-    → IsNextRow before satellite line index old new
-next-row before kept satellite line index left old new found others within many text clock h =
-    record {
-      left = left;
-      read = sym (row-by_tail before satellite line) ∙ ap (λ k. row_held k satellite line) (sym found) ∙ h;
-      rows = ap (take (index + 1)) others ∙ take_more_set old.rows index left within;
-      others = others;
-      many = many;
-      text = text;
-      clock = clock;
-    }
 
 -- blanks at the end of the indicators before a line don't count
 pub row-trimmed : (arcs : List (Option ArcTail)) (flags : List ℕ) (satellite : Satellite) (line : List ℕ)

@@ -1,13 +1,12 @@
 -- The identifiers of an epoch text, read from left to right.
-use Rattle.std.specs.Prelude.{◌≡◌, ◌<◌, refl, ℕ, zero, suc, ◌+◌, ◌*◌, Bool, true, false, ◌||◌, List, [], ◌∷◌, ◌++◌, drop, map, take, Option, Some, None}
+use Rattle.std.specs.Prelude.{◌≡◌, ◌<◌, refl, ℕ, zero, suc, ◌+◌, ◌*◌, Bool, true, false, ◌||◌, List, [], ◌∷◌, ◌++◌, drop, Option, Some, None}
 use Rattle.std.specs.Prelude.{Result, Ok, Err, if◌then◌else◌}
 use Rattle.std.specs.List.{list_any}
 use Rattle.std.specs.Str.{bytes_eq}
 use Rattle.std.proofs.Common.{sym, ◌∙◌, ap, arith}
 use Rattle.crx_columns.specs.meaning.EachPlace.{each_place}
 use Rattle.crx_columns.proofs.EachPlace.{drop-each_place, each_place-more}
-use Rattle.crx_header.proofs.Apart.{among-map}
-use Rattle.crx_header.specs.meaning.Satellites.{is_among, types_of_satellite}
+use Rattle.crx_header.specs.meaning.Satellites.{types_of_satellite}
 use Rattle.crx_columns.specs.meaning.Columns.{columns}
 use Rattle.crx_faults.specs.declared.fault.Fault.{Fault}
 use Rattle.crx_faults.specs.declared.fault.Fault.TheVariants.{BadSatellite, RepeatedSatellite}
@@ -185,12 +184,3 @@ pub next-name : (text : List ℕ) (count place : ℕ) (name : List ℕ) → plac
 next-name text count place name h e =
     drop-each_place count place (λ k. columns text (42 + 3 * k) 3) h
     ∙ ap (λ n. n ∷ drop (place + 1) (names_in text count)) (sym e)
-
--- whether an identifier stands among those of the satellites so far
-pub among-named : (satellites : List Satellite) (names : List (List ℕ)) (name : List ℕ) (place : ℕ) (b : Bool)
-    → take place names ≡ map (λ (s : Satellite). s.name) satellites
-    → is_among (λ (n : List ℕ). n) name (take place names) ≡ b
-    → list_any (λ (s : Satellite). bytes_eq s.name name) satellites ≡ b
-among-named satellites names name place b placed is =
-    sym (among-map (λ (n : List ℕ). n) (λ (s : Satellite). s.name) name satellites)
-    ∙ ap (is_among (λ (n : List ℕ). n) name) (sym placed) ∙ is

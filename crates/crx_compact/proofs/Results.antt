@@ -1,5 +1,5 @@
 -- Good results come from good results.
-use Rattle.std.specs.Prelude.{◌≡◌, refl, Bool, true, false, not, List, ◌∷◌, Result, Ok, Err, OnOk, IfOk}
+use Rattle.std.specs.Prelude.{◌≡◌, refl, Bool, true, false, not, List, ◌∷◌, Result, Ok, Err, OnOk, OnErr}
 use Rattle.std.specs.Prelude.{if◌then◌else◌}
 use Rattle.std.specs.Result.{is_ok}
 use Rattle.std.proofs.Common.{sym, ap, true≢false}
@@ -47,11 +47,18 @@ pub before-ok : {X : Type 0} (x : X) (r : Result (List X) Fault) (given : List X
 before-ok x (Ok xs) given e = record { from = xs; first = refl; next = e }
 before-ok x (Err q) given e = absurd (no-err q given e)
 
+-- what is said of a good result is so where it is good
+pub by_ok : {T E X : Type 0} (r : Result T E) → is_ok r ≡ true → OnOk r X → X
+by_ok (Ok a) good x = x
+by_ok (Err e) good x = absurd (true≢false (sym good))
+
 -- ---- a refusal that is handed on
 
 -- what is said of a good result holds of it
 pub no-ok : {T E : Type 0} (r : Result T E) (e : E) (X : Type 0) → r ≡ Err e → OnOk r X
 no-ok r e X is = rw is tt
 
-pub no-value : {T E : Type 0} (r : Result T E) (e : E) (P : T → Type 0) → r ≡ Err e → IfOk r P
-no-value r e P is = rw is tt
+-- what is so is so of any refusal
+pub on_err : {X E P : Type 0} (r : Result X E) → P → OnErr r P
+on_err (Ok x) h = tt
+on_err (Err e) h = h

@@ -87,9 +87,6 @@ same-text [] = refl
 same-text (c ∷ cs) =
     ap (λ m. before_end_blanks m (text_difference cs cs)) (mark-same c) ∙ ap (before_end_blanks 32) (same-text cs)
 
-pub flags-held : (row : Row) → IsSoundRow row → AreHeldFlags row.flags
-flags-held row h = let few = h.counted.1 in record { within = omega (arith, h.paired, few); kept = h.kept }
-
 -- ---- what is held of indicators by so many types
 
 length-cut : (n : ℕ) (text : List ℕ) → length (take n text) ≤ n

@@ -1,10 +1,10 @@
 -- A satellite's line read after the history of the satellite.
-use Rattle.std.specs.Prelude.{◌≡◌, ◌≤◌, ℕ, true, List, length, ◌+◌, ◌++◌, ◌∷◌, map, take, [], Option, None, Some}
-use Rattle.std.specs.Prelude.{Result, Ok, slice_get, slice_set, Bool}
+use Rattle.std.specs.Prelude.{◌≡◌, ◌≤◌, ℕ, true, List, length, [], Option, None, Some}
+use Rattle.std.specs.Prelude.{Result, Ok}
 use Rattle.std.specs.List.{list_all}
 use Rattle.crx_faults.specs.declared.limits.TheConstants.{LINE_LIMIT, OBSERVATION_WIDTH, CLOCK_WIDTH}
 use Rattle.crx_header.specs.meaning.ObservationTypes.{IsAllowedCount}
-use Rattle.crx_header.specs.meaning.Satellites.{is_identifier, are_apart}
+use Rattle.crx_header.specs.meaning.Satellites.{is_identifier}
 use Rattle.crx_compact.specs.meaning.EpochText.{Satellite}
 use Rattle.crx_columns.specs.meaning.Texts.{is_kept}
 use Rattle.crx_columns.specs.Texts.{patched}
@@ -15,7 +15,6 @@ use Rattle.crx_compact.specs.meaning.CompactPlaces.{ReadRow, satellite_line_read
 use Rattle.crx_compact.specs.ArcTails.{ArcTail}
 use Rattle.crx_compact.specs.Tails.{RowTail, Tail}
 use Rattle.crx_compact.specs.Steps.{flags_of_tail, flags_held, tail_named, cell_of_tail, raw_row_tail_after}
-use Rattle.crx_compact.specs.ShownRows.{shown_row}
 use Rattle.crx_compact.specs.Cells.{arcs_of_codes, value_at_place}
 use Rattle.crx_rinex.specs.meaning.Observations.{Row}
 use Rattle.crx_compact.specs.ArcSteps.{value_of_code}
@@ -88,39 +87,3 @@ held_row before read = record { row = read.row; tail = raw_row_tail_after (tail_
 abbrev pub row_after : Tail → Satellite → List ℕ → Result HeldRow Fault
 row_after tail satellite line =
     and_then (satellite_line_read (past_of_tail tail) satellite line) (λ read. Ok (held_row tail read))
-
--- a row that was read after the epoch before: its history, which shows it, stands after those of the so many rows before
--- it
-pub record IsNextRow (before : Tail)
-    (satellite : Satellite) (line : List ℕ) (index : ℕ) (old new : Tail) : Type 0 where
-  pub left : RowTail
-  pub read : row_after before satellite line ≡ Ok (record { row = shown_row left; tail = left })
-  pub rows : take (index + 1) new.rows ≡ take index old.rows ++ left ∷ []
-  pub others : new.rows ≡ slice_set old.rows index left
-  pub many : length left.cells ≡ satellite.count
-  pub text : new.text ≡ old.text
-  pub clock : new.clock ≡ old.clock
-
--- at a place stands a history with an arc for each of a satellite's types
-pub record HasRow (rows : List RowTail) (index : ℕ) (satellite : Satellite) : Type 0 where
-  pub row : RowTail
-  pub there : slice_get rows index ≡ Some row
-  pub many : length row.cells ≡ satellite.count
-
--- the first histories have an arc for each type of some satellites
-abbrev pub HaveRows : List Satellite → List RowTail → Type 0
-HaveRows satellites rows = map (λ (row : RowTail). length row.cells) (take (length satellites) rows)
-    ≡ map (λ (s : Satellite). s.count) satellites
-
--- so many of the first satellites have the identifiers that stand at their places
-abbrev pub AreNamed : ℕ → List (List ℕ) → List RowTail → Type 0
-AreNamed count names rows = (count ≤ length rows)
-    × (count ≤ length names) × (take count names ≡ map (λ (row : RowTail). row.name) (take count rows))
-
--- so many of the first satellites have different identifiers
-abbrev pub AreApart : ℕ → List RowTail → Type 0
-AreApart count rows = (count ≤ length rows) × (are_apart (λ (row : RowTail). row.name) (take count rows) ≡ true)
-
--- where a flag says so, so many of the first satellites have the identifiers that stand at their places
-abbrev pub ArePlaced : Bool → ℕ → List (List ℕ) → List RowTail → Type 0
-ArePlaced is_placed count names rows = is_placed ≡ true → AreNamed count names rows

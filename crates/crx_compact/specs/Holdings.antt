@@ -1,19 +1,54 @@
 -- All that columns and what stands in them hold between two lines of an input, part by part. By the law
 -- `columns_hold` one that takes over these parts of another is that other; so there is no part beside them, in which
 -- a record of the past lines could grow.
-use Rattle.crx_compact.specs.declared.incoming.Incoming.TheInside.{Inside as IncomingInside}
+use Rattle.crx_compact.specs.declared.satellite.SatelliteHistory.TheInside.{Inside as SatelliteHistoryInside}
+use Rattle.crx_compact.specs.declared.satellites.Satellites.TheInside.{Inside as SatellitesInside}
+use Rattle.crx_compact.specs.declared.history.History.TheInside.{Inside as HistoryInside}
+use Rattle.crx_compact.specs.declared.lines.Lines.TheInside.{Inside as LinesInside}
 use Rattle.crx_compact.specs.declared.expanded_lines.CopiedLine.TheInside.{Inside as CopiedLineInside}
 use Rattle.crx_compact.specs.declared.expanded_lines.ExpandedLines.TheInside.{Inside as ExpandedLinesInside}
+use Rattle.crx_compact.specs.declared.printed_block.PrintedBlock.{PrintedBlock}
 use Rattle.crx_compact.specs.declared.columns.Columns.TheInside.{Inside as ColumnsInside}
 use Rattle.crx_compact.specs.declared.ready_lines.ReadyLines.{ReadyLines}
 
--- an epoch whose lines come, with the parts of another
-abbrev pub incoming_with : IncomingInside → IncomingInside → IncomingInside
-incoming_with one other = record one {
-  stage = other.stage;
-  next = other.next;
+-- what is stored of a satellite, with the parts of another
+abbrev pub satellite_with : SatelliteHistoryInside → SatelliteHistoryInside → SatelliteHistoryInside
+satellite_with one other = record one {
+  indicators = other.indicators;
+  arcs = other.arcs;
   count = other.count;
+}
+
+-- the satellites of a history, with the parts of others
+abbrev pub satellites_with : SatellitesInside → SatellitesInside → SatellitesInside
+satellites_with one other = record one {
+  known = other.known;
+  placed = other.placed;
+  live = other.live;
+  ahead = other.ahead;
+  last = other.last;
+  alloc = other.alloc;
+}
+
+-- a history, with the parts of another
+abbrev pub history_with : HistoryInside → HistoryInside → HistoryInside
+history_with one other = record one {
+  text = other.text;
+  next_text = other.next_text;
+  clock = other.clock;
   satellites = other.satellites;
+  alloc = other.alloc;
+}
+
+-- lines, with the parts of others
+abbrev pub lines_with : LinesInside → LinesInside → LinesInside
+lines_with one other = record one {
+  bytes = other.bytes;
+  filled = other.filled;
+  lengths = other.lengths;
+  count = other.count;
+  handed_out = other.handed_out;
+  handed_out_bytes = other.handed_out_bytes;
 }
 
 -- a line that is copied, with the parts of another
@@ -30,15 +65,22 @@ expanded_lines_with one other = record one {
   printed = other.printed;
 }
 
+-- the printed lines of an open epoch, with the parts of another
+abbrev pub printed_block_with : PrintedBlock → PrintedBlock → PrintedBlock
+printed_block_with one other = record one {
+  lines = other.lines;
+  has_head = other.has_head;
+  rows = other.rows;
+}
+
 -- columns, with the parts of another
 abbrev pub columns_with : ColumnsInside → ColumnsInside → ColumnsInside
 columns_with one other = record one {
+  history = other.history;
   is_kept = other.is_kept;
-  kept = other.kept;
-  next = other.next;
-  nothing = other.nothing;
-  incoming = other.incoming;
-  goes_on = other.goes_on;
+  stage = other.stage;
+  count = other.count;
+  block = other.block;
   lines = other.lines;
   part = other.part;
   alloc = other.alloc;

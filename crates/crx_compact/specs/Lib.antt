@@ -11,8 +11,10 @@ pub mod OpenEpochs
 pub mod ShownRows
 pub mod HeldRows
 pub mod RowsSoFar
+pub mod Placing
+pub mod Entries
 pub mod LineLists
-pub mod HistoryHoldings
+pub mod PrintedBlocks
 pub mod ReadyLines
 pub mod Coded
 pub mod Laws

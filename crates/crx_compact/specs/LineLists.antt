@@ -12,3 +12,9 @@ pub record AreCut (lengths text : List ℕ) (past past_bytes : ℕ) : Type 0 whe
   pub past_within : past ≤ length lengths
   pub bytes_within : past_bytes ≤ length text
   pub whole : lines_text (cut (drop past lengths) (drop past_bytes text)) ≡ drop past_bytes text
+
+-- lines that are pending, and how many lines more, of how many bytes, there is room for
+pub record PendingLines : Type 0 where
+  pub lines : List (List ℕ)
+  pub free_lines : ℕ
+  pub free_bytes : ℕ

@@ -1,13 +1,12 @@
 -- Compact text read line by line, by the tail alone: the state between two lines, and what one line more makes of
 -- it.
-use Rattle.std.specs.Prelude.{◌≡◌, ◌≤◌, ◌+◌, ◌*◌, ⊤, length, IfSome, ℕ, suc, ℤ, Bool, true, false, List, [], ◌∷◌, ◌++◌}
-use Rattle.std.specs.Prelude.{map, Option, Some, None, Result, Ok, Err, if◌then◌else◌, is_some, unwrap_or}
+use Rattle.std.specs.Prelude.{◌≡◌, ◌≤◌, ◌+◌, ◌*◌, ⊤, length, IfSome, ℕ, suc, Bool, true, false, List, [], ◌∷◌}
+use Rattle.std.specs.Prelude.{map, Option, Some, None, Result, Ok, Err, if◌then◌else◌, unwrap_or, slice_get, slice_set}
 use Rattle.std.specs.List.{AllByRecursion}
 use Rattle.std.specs.Option.{option_map}
-use Rattle.crx_columns.specs.meaning.Columns.{columns}
 use Rattle.crx_columns.specs.Texts.{patched}
 use Rattle.crx_faults.specs.meaning.Seen.{ReadLine, Content, Overlong}
-use Rattle.crx_faults.specs.declared.limits.TheConstants.{HEAD_WIDTH, NAME_WIDTH, ORDER_LIMIT, TYPES_LIMIT}
+use Rattle.crx_faults.specs.declared.limits.TheConstants.{CLOCK_WIDTH, HEAD_WIDTH, NAME_WIDTH, ORDER_LIMIT}
 use Rattle.crx_faults.specs.declared.limits.TheConstants.{SATELLITES_LIMIT}
 use Rattle.crx_faults.specs.declared.fault.Fault.{Fault}
 use Rattle.crx_faults.specs.declared.fault.Fault.TheVariants.{LineTooLong, NotAnEpoch}
@@ -19,13 +18,15 @@ use Rattle.crx_compact.specs.meaning.Sequences.{and_then}
 use Rattle.crx_header.specs.meaning.EpochColumns.{begins_epoch}
 use Rattle.crx_compact.specs.meaning.EpochText.{Satellite}
 use Rattle.crx_compact.specs.meaning.Cells.{ReadCell}
-use Rattle.crx_compact.specs.meaning.CompactPlaces.{ReadRow, ReadEpoch, satellites_of_line, clock_line_read}
-use Rattle.crx_compact.specs.meaning.CompactPlaces.{satellite_line_read, epoch_against}
+use Rattle.crx_compact.specs.meaning.Past.{Past}
+use Rattle.crx_compact.specs.meaning.CompactPlaces.{ReadEpoch, satellites_of_line, clock_line_read, epoch_against}
 use Rattle.crx_compact.specs.ArcTails.{ArcTail, IsBoundedArc}
-use Rattle.crx_compact.specs.Tails.{Tail, IsBoundedRowTail, IsBoundedTail}
-use Rattle.crx_compact.specs.Steps.{no_tail, raw_tail_after}
-use Rattle.crx_compact.specs.ArcSteps.{arc_of_code}
-use Rattle.crx_compact.specs.HeldRows.{past_of_tail, HeldRow, held_row}
+use Rattle.crx_compact.specs.Tails.{RowTail, Tail, IsBoundedRowTail, IsBoundedTail}
+use Rattle.crx_compact.specs.Steps.{no_tail, raw_tail_after, tail_named}
+use Rattle.crx_compact.specs.ArcSteps.{arc_of_code, value_of_code}
+use Rattle.crx_compact.specs.HeldRows.{past_of_tail, HeldRow, row_held}
+use Rattle.crx_compact.specs.Placing.{padded, satellite_of}
+use Rattle.crx_compact.specs.ShownRows.{shown_epoch}
 
 -- ---- what a tail gives to the lines of the next epoch
 
@@ -39,24 +40,49 @@ epoch_after types tail lines = epoch_against types (λ line. option_map past_of_
 
 -- ---- an epoch whose lines have come in part
 
--- the clock's value, and its arc's tail after it
-pub record HeldClock : Type 0 where
-  pub value : Option ℤ
-  pub arc : Option ArcTail
+-- the clock's arc, before the clock line or after it
+pub data OpenClock : Type 0 where
+  Before : Option ArcTail → OpenClock
+  After : Option ArcTail → OpenClock
+
+abbrev pub arc_in : OpenClock → Option ArcTail
+arc_in (Before arc) = arc
+arc_in (After arc) = arc
+
+-- whether the clock line has come
+abbrev pub has_come : OpenClock → Bool
+has_come (Before arc) = false
+has_come (After arc) = true
 
 -- an epoch, and the tail after it
 pub record HeldEpoch : Type 0 where
   pub epoch : Epoch
   pub tail : Tail
 
--- an epoch whose epoch line has come, but not all its lines: the tail that they are read after, the epoch's text, the
--- clock once its line has come, the rows so far, and the satellites whose lines are awaited
+-- an epoch whose epoch line has come, but not all its lines: the epoch's text, the clock's arc, a row for each of the
+-- text's satellites, and how many of them have come. These are what their lines have left; the others are what their
+-- lines are read after
 pub record OpenRawEpoch : Type 0 where
-  pub before : Tail
   pub text : List ℕ
-  pub clock : Option HeldClock
-  pub rows : List HeldRow
-  pub awaited : List Satellite
+  pub clock : OpenClock
+  pub rows : List RowTail
+  pub count : ℕ
+
+-- the tail that an open epoch has so far
+abbrev pub tail_so_far : OpenRawEpoch → Tail
+tail_so_far begun = record { text = begun.text; clock = arc_in begun.clock; rows = begun.rows }
+
+-- an open epoch by the tail that it has so far: its clock line is awaited
+abbrev pub before_clock : Tail → OpenRawEpoch
+before_clock tail = record { text = tail.text; clock = Before tail.clock; rows = tail.rows; count = 0 }
+
+-- its clock line and the lines of so many rows have come
+abbrev pub with_rows : Tail → ℕ → OpenRawEpoch
+with_rows tail count = record { text = tail.text; clock = After tail.clock; rows = tail.rows; count = count }
+
+-- the row whose line is awaited; none where all have come
+abbrev pub awaited_row : OpenRawEpoch → Option RowTail
+awaited_row begun = slice_get begun.rows begun.count
 
 -- what a line makes: an epoch that wants more lines, a whole epoch, or a fault
 pub data RawStep : Type 0 where
@@ -78,11 +104,20 @@ makes_epoch (Faulty fault) = false
 
 -- ---- the epoch line
 
+-- the rows of an epoch's satellites before their lines, by the tail before the epoch
+abbrev pub rows_before : Tail → List Satellite → List RowTail
+rows_before before satellites = map (λ (s : Satellite). padded s (tail_named s.name before)) satellites
+
+-- the tail with the text that an epoch line makes, and the rows of its satellites
+abbrev pub tail_opened : Tail → List ℕ → List Satellite → Tail
+tail_opened before line satellites =
+    record { text = patched before.text line; clock = before.clock; rows = rows_before before satellites }
+
 abbrev pub opened_raw : List Count → List ℕ → Option Tail → Result OpenRawEpoch Fault
 opened_raw types line None = Err NotAnEpoch
 opened_raw types line (Some before) =
     and_then (satellites_of_line types (past_of_tail before) line) (λ satellites.
-    Ok (record { before = before; text = patched before.text line; clock = None; rows = []; awaited = satellites }))
+    Ok (before_clock (tail_opened before line satellites)))
 
 abbrev pub opening : Result OpenRawEpoch Fault → RawStep
 opening (Ok begun) = Going begun
@@ -95,46 +130,52 @@ first_step types tail (Content line) = opening (opened_raw types line (tail_for_
 
 -- ---- the clock line and the satellite lines
 
-abbrev pub whole_epoch : OpenRawEpoch → HeldClock → List HeldRow → HeldEpoch
-whole_epoch begun clock rows =
+-- the epoch that a tail shows with all its rows, and this tail
+abbrev pub whole_epoch : Tail → HeldEpoch
+whole_epoch tail = record { epoch = shown_epoch tail (length tail.rows); tail = tail }
+
+-- an epoch with the clock and so many rows: whole where no row is awaited
+abbrev pub whole_or_awaiting : Tail → ℕ → Option RowTail → RawStep
+whole_or_awaiting tail count None = Whole (whole_epoch tail)
+whole_or_awaiting tail count (Some row) = Going (with_rows tail count)
+
+-- what an epoch is where so many rows have come
+abbrev pub step_with_rows : Tail → ℕ → RawStep
+step_with_rows tail count = whole_or_awaiting tail count (slice_get tail.rows count)
+
+-- what the clock's arc gives to the clock line; nothing else matters to it
+abbrev pub past_of_clock : Option ArcTail → Past
+past_of_clock arc =
     record {
-      epoch = record {
-        head = columns begun.text 1 HEAD_WIDTH;
-        clock = clock.value;
-        rows = map (λ (r : HeldRow). r.row) rows;
-      };
-      tail = record { text = begun.text; clock = clock.arc; rows = map (λ (r : HeldRow). r.tail) rows };
+      text = λ line. line;
+      clock = λ code. value_of_code CLOCK_WIDTH code arc;
+      value = λ name place code. Ok None;
+      flags = λ name marks. marks;
     }
-
--- an epoch with the clock and some rows: whole where no satellite is awaited
-abbrev pub whole_or_awaiting : OpenRawEpoch → HeldClock → List HeldRow → List Satellite → RawStep
-whole_or_awaiting begun clock rows [] = Whole (whole_epoch begun clock rows)
-whole_or_awaiting begun clock rows (satellite ∷ awaited) =
-    Going (record begun { clock = Some clock; rows = rows; awaited = satellite ∷ awaited })
-
-abbrev pub held_clock : Tail → ReadCell → HeldClock
-held_clock before cell = record { value = cell.value; arc = arc_of_code cell.code before.clock }
 
 abbrev pub raw_step_with_clock : OpenRawEpoch → Result ReadCell Fault → RawStep
 raw_step_with_clock begun (Err fault) = Faulty fault
-raw_step_with_clock begun (Ok cell) = whole_or_awaiting begun (held_clock begun.before cell) begun.rows begun.awaited
+raw_step_with_clock begun (Ok cell) =
+    step_with_rows (record (tail_so_far begun) { clock = arc_of_code cell.code (arc_in begun.clock) }) begun.count
 
-abbrev pub raw_step_with_row : OpenRawEpoch → HeldClock → List Satellite → Result ReadRow Fault → RawStep
-raw_step_with_row begun clock awaited (Err fault) = Faulty fault
-raw_step_with_row begun clock awaited (Ok read) =
-    whole_or_awaiting begun clock (begun.rows ++ held_row begun.before read ∷ []) awaited
+abbrev pub raw_step_with_row : OpenRawEpoch → Result HeldRow Fault → RawStep
+raw_step_with_row begun (Err fault) = Faulty fault
+raw_step_with_row begun (Ok held) =
+    step_with_rows (record (tail_so_far begun) { rows = slice_set begun.rows begun.count held.tail }) (suc begun.count)
 
--- the clock line first, then one line for each awaited satellite; where none is awaited, the epoch is whole
-abbrev pub line_step : OpenRawEpoch → Option HeldClock → List Satellite → List ℕ → RawStep
-line_step begun None awaited line = raw_step_with_clock begun (clock_line_read (past_of_tail begun.before) line)
-line_step begun (Some clock) [] line = Whole (whole_epoch begun clock begun.rows)
-line_step begun (Some clock) (satellite ∷ awaited) line =
-    raw_step_with_row begun clock awaited (satellite_line_read (past_of_tail begun.before) satellite line)
+abbrev pub row_step : OpenRawEpoch → Option RowTail → List ℕ → RawStep
+row_step begun None line = Whole (whole_epoch (tail_so_far begun))
+row_step begun (Some row) line = raw_step_with_row begun (row_held (Some row) (satellite_of row) line)
+
+-- the clock line first, then one line for each row in turn; where none is awaited, the epoch is whole
+abbrev pub line_step : OpenRawEpoch → OpenClock → List ℕ → RawStep
+line_step begun (Before arc) line = raw_step_with_clock begun (clock_line_read (past_of_clock arc) line)
+line_step begun (After arc) line = row_step begun (awaited_row begun) line
 
 -- what one line more makes of an open epoch
 abbrev pub next_step : OpenRawEpoch → ReadLine → RawStep
 next_step begun Overlong = Faulty LineTooLong
-next_step begun (Content line) = line_step begun begun.clock begun.awaited line
+next_step begun (Content line) = line_step begun begun.clock line
 
 -- ---- all lines so far
 
@@ -198,7 +239,7 @@ is_idle (Reading begun) = false
 -- whether a satellite's line is awaited: the clock line has come
 abbrev pub awaits_row : ColumnsState → Bool
 awaits_row (Idle tail) = false
-awaits_row (Reading begun) = is_some begun.clock
+awaits_row (Reading begun) = has_come begun.clock
 
 -- the tail between two epochs
 abbrev pub tail_held : ColumnsState → Option Tail
@@ -224,27 +265,14 @@ HasPrintedLines step after true lines = (held : HeldEpoch)
 
 -- ---- bounds
 
--- a row within the limits, with its satellite's tail
-pub record IsBoundedHeld (row : HeldRow) : Type 0 where
-  pub name : length row.row.name ≡ NAME_WIDTH
-  pub values : length row.row.values ≤ TYPES_LIMIT
-  pub flags : length row.row.flags ≤ 2 * TYPES_LIMIT
-  pub tail : IsBoundedRowTail ORDER_LIMIT row.tail
-
--- a satellite whose line is awaited within the limits
-pub record IsBoundedAwaited (satellite : Satellite) : Type 0 where
-  pub name : length satellite.name ≡ NAME_WIDTH
-  pub count : satellite.count ≤ TYPES_LIMIT
-
--- an open epoch within the limits: the tail that its lines are read after, its text, the clock's arc, and at most so
--- many satellites as an epoch may have, those whose lines are awaited among them
+-- an open epoch within the limits: its text, the clock's arc, and at most so many rows as an epoch may have, those that
+-- have come among them
 pub record IsBoundedOpen (begun : OpenRawEpoch) : Type 0 where
-  pub before : IsBoundedTail ORDER_LIMIT begun.before
   pub text : length begun.text ≤ HEAD_WIDTH + NAME_WIDTH * SATELLITES_LIMIT
-  pub clock : IfSome begun.clock (λ (clock : HeldClock). IfSome clock.arc (IsBoundedArc ORDER_LIMIT))
-  pub few : length begun.rows + length begun.awaited ≤ SATELLITES_LIMIT
-  pub rows : AllByRecursion IsBoundedHeld begun.rows
-  pub awaited : AllByRecursion IsBoundedAwaited begun.awaited
+  pub clock : IfSome (arc_in begun.clock) (IsBoundedArc ORDER_LIMIT)
+  pub few : length begun.rows ≤ SATELLITES_LIMIT
+  pub rows : AllByRecursion (IsBoundedRowTail ORDER_LIMIT) begun.rows
+  pub come : begun.count ≤ length begun.rows
 
 -- what a line makes is within the limits: an open epoch, or what a whole one leaves
 abbrev pub IsBoundedStep : RawStep → Type 0

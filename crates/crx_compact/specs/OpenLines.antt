@@ -1,105 +1,56 @@
--- What the lines of an epoch that are read so far have given, and how code stores it.
-use Rattle.std.specs.Prelude.{ℕ, List, [], ◌∷◌, length, map, take, drop, Bool, false, Option, Some, None, ⊤, is_some}
-use Rattle.std.specs.Prelude.{◌&&◌, ◌==◌}
-use Rattle.std.specs.Option.{option_and_then}
-use Rattle.crx_columns.specs.meaning.Columns.{columns}
-use Rattle.crx_faults.specs.declared.limits.TheConstants.{HEAD_WIDTH}
+-- How code stores what a reader of compact epochs is seen as: how far the lines of an epoch have come, and the
+-- history.
+use Rattle.std.specs.Prelude.{◌≡◌, ◌≤◌, ⊤, ◌<◌, ◌==◌, ℕ, length, Bool, true, false, Some, None, if◌then◌else◌}
 use Rattle.crx_faults.specs.declared.fault.Fault.TheVariants.{NotAnEpoch}
-use Rattle.crx_rinex.specs.meaning.Observations.{Row, Epoch}
-use Rattle.crx_compact.specs.meaning.EpochText.{Satellite}
-use Rattle.crx_compact.specs.Tails.{RowTail, Tail}
-use Rattle.crx_compact.specs.OpenEpochs.{HeldClock, OpenRawEpoch, RawStep, Going, Faulty, whole_or_awaiting, line_step}
+use Rattle.crx_compact.specs.OpenEpochs.{OpenRawEpoch, RawStep, Going, Faulty, before_clock, with_rows}
+use Rattle.crx_compact.specs.OpenEpochs.{step_with_rows}
 use Rattle.crx_compact.specs.OpenEpochs.{ColumnsState, Idle, Reading}
-use Rattle.crx_compact.specs.HeldRows.{HeldRow, HaveRows}
-use Rattle.crx_compact.specs.ShownRows.{shown_epoch}
-use Rattle.crx_compact.specs.declared.incoming.Stage.{Stage}
-use Rattle.crx_compact.specs.declared.incoming.Stage.TheVariants.{Unbegun, Clock, Rows}
-use Rattle.crx_compact.specs.RowsSoFar.{AreAnnounced, AreRowsSoFar}
+use Rattle.crx_compact.specs.Placing.{OpenHistory, IsAnnounced, IsBetween, tail_of_history}
+use Rattle.crx_compact.specs.PrintedBlocks.{IsBlock}
+use Rattle.crx_compact.specs.declared.printed_block.PrintedBlock.{PrintedBlock}
+use Rattle.crx_compact.specs.declared.columns.Stage.{Stage}
+use Rattle.crx_compact.specs.declared.columns.Stage.TheVariants.{Unbegun, Clock, Rows}
 
--- an open epoch, but for the tail that its lines are read after
-pub record OpenLines : Type 0 where
-  pub text : List ℕ
-  pub clock : Option HeldClock
-  pub rows : List HeldRow
-  pub awaited : List Satellite
+abbrev pub is_open : Stage → Bool
+is_open Unbegun = false
+is_open Clock = true
+is_open Rows = true
 
-abbrev pub open_raw : Tail → OpenLines → OpenRawEpoch
-open_raw before lines = record {
-  before = before;
-  text = lines.text;
-  clock = lines.clock;
-  rows = lines.rows;
-  awaited = lines.awaited;
-}
+-- the open epoch, of which so many rows have come
+abbrev pub epoch_by_stage : Stage → ℕ → OpenHistory → OpenRawEpoch
+epoch_by_stage Unbegun count history = before_clock (tail_of_history history)
+epoch_by_stage Clock count history = before_clock (tail_of_history history)
+epoch_by_stage Rows count history = with_rows (tail_of_history history) count
 
--- rows with the tails of their satellites
-abbrev pub held_rows : List Row → List RowTail → List HeldRow
-held_rows [] tails = []
-held_rows (row ∷ rows) [] = []
-held_rows (row ∷ rows) (tail ∷ tails) = record { row = row; tail = tail } ∷ held_rows rows tails
+-- a reader of compact epochs, and whether an epoch came since everything was last forgotten
+abbrev pub columns_state : Bool → Stage → ℕ → OpenHistory → ColumnsState
+columns_state is_kept Unbegun count history = Idle (if is_kept then Some (tail_of_history history) else None)
+columns_state is_kept Clock count history = Reading (epoch_by_stage Clock count history)
+columns_state is_kept Rows count history = Reading (epoch_by_stage Rows count history)
 
--- ---- how code stores it: how far the lines have come, the tail that they make, how many rows have come, and all
--- satellites
+-- between two epochs no satellite is awaited; in an open one the satellites are those that its text announces, and a
+-- line is awaited
+abbrev pub IsSoundState : Stage → ℕ → OpenHistory → Type 0
+IsSoundState Unbegun count history = IsBetween history
+IsSoundState Clock count history = IsAnnounced history
+IsSoundState Rows count history = IsAnnounced history × (count < length history.satellites.rows)
 
--- the epoch of the rows so far, which is the one that the tail shows
-abbrev pub rows_so_far : Epoch → Tail → ℕ → List Satellite → Option OpenLines
-rows_so_far epoch next count satellites =
-    Some (record {
-      text = next.text;
-      clock = Some (record { value = epoch.clock; arc = next.clock });
-      rows = held_rows epoch.rows (take count next.rows);
-      awaited = drop count satellites;
-    })
+-- while an epoch is open, its printed lines up to some row that has come, and room for the others
+abbrev pub IsSoundBlock : Stage → ℕ → PrintedBlock → OpenHistory → Type 0
+IsSoundBlock Unbegun count block history = ⊤
+IsSoundBlock Clock count block history =
+    (block.has_head ≡ false) × IsBlock block.has_head block.rows block.lines history
+IsSoundBlock Rows count block history =
+    (block.rows ≤ count) × IsBlock block.has_head block.rows block.lines history
 
-abbrev pub lines_so_far : Stage → Tail → ℕ → List Satellite → Option OpenLines
-lines_so_far Unbegun next count satellites = None
-lines_so_far Clock next count satellites =
-    Some (record { text = next.text; clock = None; rows = []; awaited = satellites })
-lines_so_far Rows next count satellites = rows_so_far (shown_epoch next count) next count satellites
+-- what the lines so far have made: a whole epoch where the clock has come and no row is awaited
+abbrev pub made_of : Stage → ℕ → OpenHistory → RawStep
+made_of Unbegun count history = Faulty NotAnEpoch
+made_of Clock count history = Going (before_clock (tail_of_history history))
+made_of Rows count history = step_with_rows (tail_of_history history) count
 
--- whether all lines of an epoch have come
-abbrev pub have_all_come : Option OpenLines → Bool
-have_all_come None = false
-have_all_come (Some lines) = is_some lines.clock && length lines.awaited == 0
-
--- the epoch of the lines so far
-abbrev pub epoch_so_far : Option OpenLines → Epoch
-epoch_so_far None = record { head = []; clock = None; rows = [] }
-epoch_so_far (Some lines) =
-    record {
-      head = columns lines.text 1 HEAD_WIDTH;
-      clock = option_and_then (λ (clock : HeldClock). clock.value) lines.clock;
-      rows = map (λ (r : HeldRow). r.row) lines.rows;
-    }
-
-abbrev pub AreLinesSoFar : Stage → Tail → ℕ → List Satellite → Type 0
-AreLinesSoFar Unbegun next count satellites = ⊤
-AreLinesSoFar Clock next count satellites = AreAnnounced next.text satellites
-AreLinesSoFar Rows next count satellites = AreRowsSoFar (shown_epoch next count) next count satellites
-
--- where an epoch is open, there is room for the rows of all of its satellites
-abbrev pub HaveRowsAt : Stage → Tail → List Satellite → Type 0
-HaveRowsAt Unbegun next satellites = ⊤
-HaveRowsAt Clock next satellites = HaveRows satellites next.rows
-HaveRowsAt Rows next satellites = HaveRows satellites next.rows
-
--- ---- steps
-
--- what one line more makes
-abbrev pub step_after : Tail → Option OpenLines → List ℕ → RawStep
-step_after before None line = Faulty NotAnEpoch
-step_after before (Some lines) line = line_step (open_raw before lines) lines.clock lines.awaited line
-
-abbrev pub made_with : Tail → OpenLines → Option HeldClock → RawStep
-made_with before lines None = Going (open_raw before lines)
-made_with before lines (Some clock) = whole_or_awaiting (open_raw before lines) clock lines.rows lines.awaited
-
--- what the lines so far have made: a whole epoch where the clock has come and no satellite is awaited
-abbrev pub made_of : Tail → Option OpenLines → RawStep
-made_of before None = Faulty NotAnEpoch
-made_of before (Some lines) = made_with before lines lines.clock
-
--- a reader of compact epochs: the tail that it holds, the tail that the lines so far are read after, and these lines
-abbrev pub columns_state : Option Tail → Tail → Option OpenLines → ColumnsState
-columns_state tail before None = Idle tail
-columns_state tail before (Some lines) = Reading (open_raw before lines)
+-- whether all lines of an open epoch have come
+abbrev pub have_all_come : Stage → ℕ → OpenHistory → Bool
+have_all_come Unbegun count history = false
+have_all_come Clock count history = false
+have_all_come Rows count history = count == length history.satellites.rows

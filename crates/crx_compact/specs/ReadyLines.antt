@@ -13,4 +13,4 @@ lines_from Copied program copied made = copied ∷ made
 lines_from Made program copied made = made
 
 abbrev pub pending_lines : ReadyLines → List (List ℕ)
-pending_lines r = lines_from r.turn r.program.value r.copied.value r.made
+pending_lines r = lines_from r.turn r.program.value r.copied.value r.made.lines

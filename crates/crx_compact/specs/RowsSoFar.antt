@@ -1,5 +1,5 @@
 -- The satellites of an epoch text, the clock, and the rows of which so many have come, as a history shows them.
-use Rattle.std.specs.Prelude.{◌≡◌, ℕ, ◌≤◌, List, length, map, take, drop, true, Some, Ok}
+use Rattle.std.specs.Prelude.{◌≡◌, ℕ, ◌≤◌, List, length, map, take, true, Some, Ok}
 use Rattle.crx_columns.specs.meaning.Columns.{columns}
 use Rattle.crx_faults.specs.declared.limits.TheConstants.{HEAD_WIDTH}
 use Rattle.crx_rinex.specs.meaning.Observations.{Row, Epoch}
@@ -9,19 +9,13 @@ use Rattle.crx_compact.specs.Tails.{Tail}
 use Rattle.crx_compact.specs.HeldRows.{past_of_tail}
 use Rattle.crx_header.specs.meaning.Satellites.{are_apart}
 use Rattle.crx_compact.specs.meaning.Cells.{ReadCell}
-use Rattle.crx_compact.specs.meaning.CompactPlaces.{clock_line_read, satellites_of_text}
-use Rattle.crx_header.specs.meaning.ObservationTypes.{Count}
+use Rattle.crx_compact.specs.meaning.CompactPlaces.{clock_line_read}
 use Rattle.crx_compact.specs.ArcSteps.{arc_of_code, shown_value}
 
 -- the satellites of an epoch text: as many as its columns announce, and no two of one identifier
 pub record AreAnnounced (text : List ℕ) (satellites : List Satellite) : Type 0 where
   pub counted : epoch_count (columns text 1 HEAD_WIDTH) ≡ Some (length satellites)
   pub apart : are_apart (λ (s : Satellite). s.name) satellites ≡ true
-
--- satellites were read from what stands after the columns of an epoch text, by counts of types
-abbrev pub WereRead : List Count → List ℕ → List Satellite → Type 0
-WereRead types rest satellites = (text : List ℕ)
-    × (drop HEAD_WIDTH text ≡ rest) × (satellites_of_text types text ≡ Ok satellites)
 
 -- the epoch of the rows so far: it has the columns of the text, which announce the satellites, and the rows of the
 -- first so many of these

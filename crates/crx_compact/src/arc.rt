@@ -1,9 +1,11 @@
 //! Arcs: Hatanaka's Compact RINEX 3.0, data arcs. An arc's values become codes and come back from them by running
 //! differences: an arc is stored as its order and its latest differences of order 0, 1, .. up to it.
 
-ghost use Rattle.std.specs.Prelude.{◌≡◌, ◌≤◌, ◌<◌, ◌+◌, ◌*◌, ◌^◌, ◌++◌, ◌∷◌, [], ℕ, ℤ, List, Option, None, Some, Ok, length, take, IfSome, OnSome, IfNone, OnOk, OnErr, MatchResult, IsTrue};
+ghost use Rattle.std.specs.Prelude.{◌≡◌, ◌≤◌, ◌<◌, ◌+◌, ◌*◌, ◌^◌, ◌++◌, ◌∷◌, [], ℤ, List, Option, None, Some, Ok, Err, length, take, IfSome, OnSome, IfNone, OnOk, OnErr, IsTrue};
 ghost use Rattle.crx_text.specs.Codes.{IsPrintable, IsShort};
 ghost use Rattle.crx_text.specs.meaning.Numbers.{IsMissingOrWithin, IsWithin};
+ghost use Rattle.crx_compact.specs.ArcTails.{HasThird};
+ghost use Rattle.crx_faults.specs.declared.fault.Fault.TheVariants.{OutOfRange};
 ghost use Rattle.crx_compact.specs.Arcs.{AreBelow, IsBelow, value_bound};
 ghost use Rattle.crx_compact.specs.meaning.Differences.{code_at, newest};
 ghost use Rattle.crx_compact.specs.meaning.ArcValues.{is_within, value_of};
@@ -33,7 +35,7 @@ pub type ClockArc = Arc<CLOCK_WIDTH>;
 /// it or as far as its values go. It takes no memory elsewhere.
 #[derive(Drop)]
 pub struct Arc<const WIDTH: usize> {
-    // These two are compared and written as one number (`is_third`). They stand before the differences, so that most arcs are read and
+    // These two are compared as one number (`is_third`). They are before the differences, so that most arcs are read and
     // written in their first 40 bytes of 88.
     order: u8,
     count: u8,
@@ -84,68 +86,31 @@ fn go_on(differences: &mut [i64], order: usize, value: i64) -> i64
     highest
 }
 
-/// Does what [`go_on_from`] does, for order 3: three differences in place of a copy and a loop over the order. This program writes all
-/// arcs with order 3.
+/// The differences of order 1, 2 and 3 at a next value, by those at the value before it.
 #[inline(always)]
-fn third_from(before: &[i64], value: i64, differences: &mut [i64]) -> i64
-    requires within { 3 < length before.now }
-    requires room { 3 < length differences.old }
-    requires below { AreBelow value_bound (take 3 before.now) }
+fn third_of(differences: &[i64], value: i64) -> (i64, i64, i64)
+    requires within { 3 < length differences.now }
+    requires below { AreBelow value_bound (take 3 differences.now) }
     requires next { IsBelow value_bound value }
-    ensures after { take 4 differences.new ≡ differences_after value (take 3 before.now) }
-    ensures highest { result ≡ highest (differences_after value (take 3 before.now)) }
+    ensures { value ∷ result.0 ∷ result.1 ∷ result.2 ∷ [] ≡ differences_after value (take 3 differences.now) }
 {
-    let first = value - before[0];
-    let second = first - before[1];
-    let third = second - before[2];
-    differences[0] = value;
-    differences[1] = first;
-    differences[2] = second;
-    differences[3] = third;
-    third
-}
-
-/// Replaces some differences by those at a next value, of order 0 up to the given one, and gives the difference of that order. The
-/// differences at the value before it are given.
-#[inline(always)]
-fn go_on_from(before: &[i64], order: usize, value: i64, differences: &mut [i64]) -> i64
-    requires room { length differences.old ≡ length before.now }
-    requires within { order < length before.now }
-    requires few { order ≤ ORDER_LIMIT }
-    requires below { AreBelow value_bound (take order before.now) }
-    requires next { IsBelow value_bound value }
-    ensures after { take (order + 1) differences.new ≡ differences_after value (take order before.now) }
-    ensures highest { result ≡ highest (differences_after value (take order before.now)) }
-{
-    if order == 3 {
-        return third_from(before, value, differences);
-    }
-    differences.copy_from_slice(before);
-    go_on(differences, order, value)
-}
-
-/// Gives the value that [`value_after`] gives, for order 3: three sums in place of a loop over the order. Most arcs have order 3.
-#[inline(always)]
-fn value_after_three(differences: &[i64], number: i64) -> i64
-    requires three { length differences.now ≡ 3 }
-    requires below { AreBelow value_bound differences.now }
-    requires short { IsBelow (10 ^ DIGITS_LIMIT) number }
-    ensures { result ≡ newest (differences_by number differences.now) }
-{
-    number + differences[0] + differences[1] + differences[2]
+    let first = value - differences[0];
+    let second = first - differences[1];
+    let third = second - differences[2];
+    (first, second, third)
 }
 
 /// The differences of order 0, 1 and 2 after some others, by the next one of order 3.
 #[inline(always)]
-fn sums_from_third(before: &[i64], number: i64) -> (i64, i64, i64)
-    requires within { 3 < length before.now }
-    requires below { AreBelow value_bound (take 3 before.now) }
+fn sums_from_third(differences: &[i64], number: i64) -> (i64, i64, i64)
+    requires within { 3 < length differences.now }
+    requires below { AreBelow value_bound (take 3 differences.now) }
     requires short { IsBelow (10 ^ DIGITS_LIMIT) number }
-    ensures { result.0 ∷ result.1 ∷ result.2 ∷ number ∷ [] ≡ differences_by number (take 3 before.now) }
+    ensures { result.0 ∷ result.1 ∷ result.2 ∷ number ∷ [] ≡ differences_by number (take 3 differences.now) }
 {
-    let second = before[2] + number;
-    let first = before[1] + second;
-    let value = before[0] + first;
+    let second = differences[2] + number;
+    let first = differences[1] + second;
+    let value = differences[0] + first;
     (value, first, second)
 }
 
@@ -168,9 +133,6 @@ fn value_after(differences: &[i64], number: i64) -> i64
     requires short { IsBelow (10 ^ DIGITS_LIMIT) number }
     ensures { result ≡ newest (differences_by number differences.now) }
 {
-    if differences.len() == 3 {
-        return value_after_three(differences, number);
-    }
     let mut value = number;
     for difference in differences {
         value += *difference;
@@ -182,7 +144,8 @@ fn value_after(differences: &[i64], number: i64) -> i64
 /// on. The two numbers are compared as one.
 #[inline(always)]
 fn is_third(order: u8, count: u8) -> bool
-    ensures { IsTrue result → (order ≡ 3) × (count ≡ 4) }
+    ensures third { IsTrue result → (order ≡ 3) × (count ≡ 4) }
+    ensures other { order ≡ 3 → count ≡ 4 → IsTrue result }
 {
     u16::from_le_bytes([order, count]) == u16::from_le_bytes([3, 4])
 }
@@ -200,17 +163,6 @@ impl<const WIDTH: usize> Arc<WIDTH> {
         }
     }
 
-    /// The same arc once more.
-    pub fn copied(&self) -> Self
-        ensures value { result ≡ self.now }
-    {
-        Arc {
-            count: self.count,
-            order: self.order,
-            differences: self.differences,
-        }
-    }
-
     /// The code of a next value, after which the arc goes on: `Missing` where there is none, and then the arc is over; of
     /// a first value the value itself and the order [`WRITTEN_ORDER`]; else the next difference of the arc's order, or
     /// of a lower one while it has too few values. It asks for a value that fits the columns.
@@ -224,23 +176,22 @@ impl<const WIDTH: usize> Arc<WIDTH> {
             → (result ≡ code_at WRITTEN_ORDER (stretch (value ∷ values)))
             × (self.new ≡ arc_of_values (value ∷ values)) }
     {
-        let before = self.copied();
-        self.push_after(&before, value)
+        self.push_next(value)
     }
 
-    /// The code of a next value of another arc, which this one replaces as it goes on: that of [`Arc::push`] on a copy.
+    /// Does what [`Arc::push`] does; the law over all the values so far is proved of that, by what is promised here.
     #[inline(always)]
-    pub fn push_after(&mut self, before: &Self, value: Option<i64>) -> Code
+    fn push_next(&mut self, value: Option<i64>) -> Code
         requires { IsMissingOrWithin WIDTH value }
-        ensures code { result ≡ code_of_value value before.now }
+        ensures code { result ≡ code_of_value value self.old }
         ensures printable { IsPrintable result }
-        ensures arc { self.new ≡ arc_of_value value before.now }
+        ensures arc { self.new ≡ arc_of_value value self.old }
     {
         let Some(value) = value else {
             self.count = 0;
             return Code::Missing;
         };
-        if before.count == 0 {
+        if self.count == 0 {
             self.differences[0] = value;
             self.order = WRITTEN_ORDER;
             self.count = 1;
@@ -249,35 +200,29 @@ impl<const WIDTH: usize> Arc<WIDTH> {
                 value,
             };
         }
-        let last = before.order.min(before.count);
-        let highest = go_on_from(
-            &before.differences,
-            last as usize,
-            value,
-            &mut self.differences,
-        );
-        self.order = before.order;
+        let last = self.order.min(self.count);
+        let highest = go_on(&mut self.differences, last as usize, value);
         self.count = last + 1;
         Code::Step(highest)
     }
 
-    /// Does what [`Arc::push_after`] does where the code is a difference of order 3, as that of most values is, and gives that difference:
-    /// no other code has to be tried, and the differences are written once, without a copy of the arc before. `None` comes where the arc
-    /// before has another order or fewer values, and then this one is as it was.
+    /// Does what [`Arc::push`] does where the code is a difference of order 3, as that of most values is, and gives that difference: no
+    /// other code has to be tried, three differences are made without a loop, and the order and the count, which stay, aren't written.
+    /// `None` comes where the arc has another order or fewer values, and then it is as it was.
     #[inline(always)]
-    pub fn push_third(&mut self, before: &Self, value: i64) -> Option<i64>
+    pub fn push_third(&mut self, value: i64) -> Option<i64>
         requires { IsWithin WIDTH value }
-        ensures code { IfSome result (λ number. code_of_value (Some value) before.now ≡ Step number) }
+        ensures code { IfSome result (λ number. code_of_value (Some value) self.old ≡ Step number) }
         ensures short { IfSome result IsShort }
-        ensures arc { OnSome result (self.new ≡ arc_of_value (Some value) before.now) }
+        ensures arc { OnSome result (self.new ≡ arc_of_value (Some value) self.old) }
         ensures none { IfNone result (self.new ≡ self.old) }
+        ensures other { IfNone result (HasThird self.old → ⊥) }
     {
-        if !is_third(before.order, before.count) {
+        if !is_third(self.order, self.count) {
             return None;
         }
-        let third = third_from(&before.differences, value, &mut self.differences);
-        self.order = 3;
-        self.count = 4;
+        let (first, second, third) = third_of(&self.differences, value);
+        put_four(&mut self.differences, value, first, second, third);
         Some(third)
     }
 
@@ -296,16 +241,15 @@ impl<const WIDTH: usize> Arc<WIDTH> {
             → (result ≡ value_of WIDTH (code ∷ accepted WIDTH codes))
             × (self.new ≡ arc_of_codes WIDTH (code ∷ codes)) }
     {
-        let before = self.copied();
-        self.apply_after(&before, code)
+        self.apply_next(code)
     }
 
-    /// Does what [`Arc::apply`] does to a copy of an earlier arc, and replaces this one by it.
+    /// Does what [`Arc::apply`] does; the law over all the codes so far is proved of that, by what is promised here.
     #[inline(always)]
-    pub fn apply_after(&mut self, earlier: &Self, code: Code) -> Result<Option<i64>, Fault>
+    fn apply_next(&mut self, code: Code) -> Result<Option<i64>, Fault>
         requires { IsPrintable code }
-        ensures value { result ≡ value_of_code WIDTH code earlier.now }
-        ensures ok { OnOk result (self.new ≡ arc_of_code code earlier.now) }
+        ensures value { result ≡ value_of_code WIDTH code self.old }
+        ensures ok { OnOk result (self.new ≡ arc_of_code code self.old) }
         ensures err { OnErr result (self.new ≡ self.old) }
     {
         match code {
@@ -323,48 +267,42 @@ impl<const WIDTH: usize> Arc<WIDTH> {
                 Ok(Some(value))
             }
             Code::Step(number) => {
-                if earlier.count == 0 {
+                if self.count == 0 {
                     return Err(Fault::NoArc);
                 }
-                let last = earlier.order.min(earlier.count);
-                let value = value_after(&earlier.differences[..last as usize], number);
+                let last = self.order.min(self.count);
+                let value = value_after(&self.differences[..last as usize], number);
                 if !is_within(WIDTH, value) {
                     return Err(Fault::OutOfRange);
                 }
-                go_on_from(
-                    &earlier.differences,
-                    last as usize,
-                    value,
-                    &mut self.differences,
-                );
-                self.order = earlier.order;
+                go_on(&mut self.differences, last as usize, value);
                 self.count = last + 1;
                 Ok(Some(value))
             }
         }
     }
 
-    /// Does what [`Arc::apply_after`] does at a difference of order 3, as most codes are, and gives the value: three sums, without a copy
-    /// of the earlier arc. `None` comes where the earlier arc has another order or fewer values, or where the value doesn't fit, and then
-    /// this one is as it was.
+    /// Does what [`Arc::apply`] does at a difference of order 3, as most codes are, and gives the value: three sums without a loop, and
+    /// the order and the count, which stay, aren't written. `None` comes where the arc has another order or fewer values, or where the
+    /// value doesn't fit, and then the arc is as it was.
     #[inline(always)]
-    pub fn apply_third(&mut self, earlier: &Self, number: i64) -> Option<i64>
+    pub fn apply_third(&mut self, number: i64) -> Option<i64>
         requires { IsShort number }
         ensures value { IfSome result
-            (λ value. value_of_code WIDTH (Step number) earlier.now ≡ Ok (Some value)) }
-        ensures arc { OnSome result (self.new ≡ arc_of_code (Step number) earlier.now) }
+            (λ value. value_of_code WIDTH (Step number) self.old ≡ Ok (Some value)) }
+        ensures arc { OnSome result (self.new ≡ arc_of_code (Step number) self.old) }
         ensures none { IfNone result (self.new ≡ self.old) }
+        ensures other { IfNone result
+            (HasThird self.old → value_of_code WIDTH (Step number) self.old ≡ Err OutOfRange) }
     {
-        if !is_third(earlier.order, earlier.count) {
+        if !is_third(self.order, self.count) {
             return None;
         }
-        let (value, first, second) = sums_from_third(&earlier.differences, number);
+        let (value, first, second) = sums_from_third(&self.differences, number);
         if !is_within(WIDTH, value) {
             return None;
         }
         put_four(&mut self.differences, value, first, second, number);
-        self.order = 3;
-        self.count = 4;
         Some(value)
     }
 

@@ -23,12 +23,12 @@ impl Model for Coded {
 
     ghost Value = { CodedEpoch };
 
-    ghost view = { λ coded. record { epoch = coded.epoch; lines = coded.lines } };
+    ghost view = { λ coded. record { epoch = coded.epoch; lines = coded.lines.lines } };
 }
 
 impl Coded {
     pub(crate) fn new(epoch: Epoch, lines: Lines) -> Coded
-        ensures { result ≡ record { epoch = epoch; lines = lines } }
+        ensures { result ≡ record { epoch = epoch; lines = lines.lines } }
     {
         Coded { epoch, lines }
     }
@@ -53,7 +53,7 @@ impl Coded {
     /// The epoch and the lines.
     pub(crate) fn into_parts(self) -> (Epoch, Lines)
         ensures epoch { result.0 ≡ self.epoch }
-        ensures lines { result.1 ≡ self.lines }
+        ensures lines { result.1.lines ≡ self.lines }
     {
         (self.epoch, self.lines)
     }

@@ -1,7 +1,7 @@
 //! Epochs to compact lines, and compact lines to epochs, by the history, which is what they need of earlier epochs: Hatanaka's
 //! Compact RINEX 3.0.
 
-ghost use Rattle.std.specs.Prelude.{◌≡◌, ◌≤◌, ◌++◌, ◌∷◌, List, if◌then◌else◌, [], Some, None, true, false, length, IfOk, IfErr, OnOk, OnErr, Err};
+ghost use Rattle.std.specs.Prelude.{◌≡◌, ◌≤◌, ◌<◌, ◌++◌, ◌∷◌, List, if◌then◌else◌, [], Some, None, true, false, length, IfOk, IfErr, OnOk, OnErr, Err};
 ghost use Rattle.crx_rinex.specs.Epochs.{is_full_epoch};
 ghost use Rattle.std.specs.Prelude.{◌⊎◌};
 ghost use Rattle.crx_faults.specs.meaning.Seen.{Content, ReadLine};
@@ -12,54 +12,67 @@ ghost use Rattle.crx_compact.specs.meaning.CompactPlaces.{epoch_at};
 ghost use Rattle.crx_compact.specs.ReadBlocks.{HasReadTo, IsReading};
 ghost use Rattle.crx_faults.specs.declared.limits.TheConstants.{LINE_LIMIT};
 ghost use Rattle.crx_header.specs.meaning.EpochColumns.{begins_epoch, is_event_line};
-ghost use Rattle.crx_compact.specs.OpenEpochs.{awaits_row, is_faulty, is_idle, makes_epoch, tail_held, first_step, step_in, Faulty, HasMade, HasPrintedLines};
+ghost use Rattle.crx_compact.specs.OpenLines.{IsSoundBlock, IsSoundState, have_all_come, is_open, made_of, epoch_by_stage};
+ghost use Rattle.crx_compact.specs.declared.printed_block.PrintedBlock.{PrintedBlock};
+ghost use Rattle.crx_compact.specs.Placing.{IsAnnounced, IsBetween, tail_of_history};
+ghost use Rattle.crx_compact.specs.OpenEpochs.{next_step, awaits_row, is_faulty, is_idle, makes_epoch, tail_held, first_step, step_in, tail_for_line, Faulty, HasMade, HasPrintedLines};
 ghost use Rattle.crx_compact.specs.OpenEpochs.ColumnsState.{Idle};
 ghost use Rattle.crx_compact.specs.meaning.Compaction.{Marked, compact_epoch};
 ghost use Rattle.crx_compact.specs.Tails.{tail_left, tail_or_nothing};
-ghost use Rattle.crx_compact.specs.Steps.{lines_after_tail, no_tail, tail_after, tail_written_after};
+ghost use Rattle.crx_compact.specs.Steps.{lines_after_tail, tail_after, tail_written_after};
 
 use crate::coded::Coded;
 use crate::expanded_lines::ExpandedLines;
-use crate::incoming::Incoming;
+use crate::history::History;
+use crate::lines::Lines;
+use crate::printed_block::PrintedBlock;
 use crx_faults::Fault;
 use crx_header::Types;
-use crate::kept::KeptEpoch;
-use crate::lines::Lines;
 use crx_rinex::{Epoch, begins_epoch};
 use crx_text::Text;
 use std::alloc::{AllocError, Global};
 use std::marker::Model;
 use std::mem;
 
-/// The columns of an epoch's cells over the epochs before it: the arcs and indicators that the next epoch's compact
-/// lines depend on, and the epoch whose compact lines have come in part.
+/// How far the lines of an epoch have come.
+#[derive(Clone, Copy)]
+pub(crate) enum Stage {
+    /// None has come.
+    Unbegun,
+    /// The clock line is awaited.
+    Clock,
+    /// Satellite lines are awaited.
+    Rows,
+}
+
+/// The columns of an epoch's cells over the epochs before it: the history, which the next epoch's compact lines are made or read after, and
+/// how many lines of an epoch have come in part.
 #[derive(Drop)]
 pub struct Columns {
+    history: History,
+    /// Whether an epoch came since everything was last forgotten.
     is_kept: bool,
-    kept: KeptEpoch,
-    next: KeptEpoch,
-    nothing: KeptEpoch,
-    /// The epoch whose lines have come in part, and whether they are read after the history, or after nothing.
-    incoming: Incoming,
-    goes_on: bool,
+    stage: Stage,
+    /// How many satellite lines of the open epoch have come.
+    count: usize,
+    /// The open epoch's lines that are printed already.
+    block: PrintedBlock,
     lines: Lines,
     part: Text,
     alloc: Global,
 }
 
 impl Model for Columns {
-    ghost use Rattle.std.specs.Prelude.{Some, None, ◌≡◌, if◌then◌else◌, false};
     ghost use Rattle.crx_compact.specs.OpenEpochs.{ColumnsState};
-    ghost use Rattle.crx_compact.specs.OpenLines.{columns_state, have_all_come};
-    ghost use Rattle.crx_compact.specs.Steps.{no_tail};
+    ghost use Rattle.crx_compact.specs.OpenLines.{columns_state, IsSoundBlock, IsSoundState};
 
     ghost Value = { ColumnsState };
 
-    ghost view = { λ columns. columns_state (if columns.is_kept then Some columns.kept else None)
-        (if columns.goes_on then columns.kept else columns.nothing) columns.incoming };
+    ghost view = { λ columns. columns_state columns.is_kept columns.stage columns.count columns.history };
 
     // Where an epoch is open, a line is awaited.
-    ghost invariant = { λ columns. (columns.nothing ≡ no_tail) × (have_all_come columns.incoming ≡ false) };
+    ghost invariant = { λ columns. IsSoundState columns.stage columns.count columns.history
+        × IsSoundBlock columns.stage columns.count columns.block columns.history };
 }
 
 impl Columns {
@@ -68,12 +81,11 @@ impl Columns {
         ensures empty { result ≡ Idle None }
     {
         Columns {
+            history: History::new(alloc),
             is_kept: false,
-            kept: KeptEpoch::new(alloc),
-            next: KeptEpoch::new(alloc),
-            nothing: KeptEpoch::new(alloc),
-            incoming: Incoming::new(alloc),
-            goes_on: false,
+            stage: Stage::Unbegun,
+            count: 0,
+            block: PrintedBlock::new(alloc),
             lines: Lines::new(alloc),
             part: Text::new(),
             alloc,
@@ -84,15 +96,14 @@ impl Columns {
     pub fn reset(&mut self)
         ensures emptied { self.new ≡ Idle None }
     {
-        self.is_kept = false;
-        self.incoming.clear();
+        forget(&mut self.history, &mut self.is_kept, &mut self.stage);
     }
 
     /// Whether no epoch's lines have come in part.
     pub fn is_idle(&self) -> bool
         ensures value { result ≡ is_idle self.now }
     {
-        !self.incoming.is_open()
+        matches!(self.stage, Stage::Unbegun)
     }
 
     /// Makes the compact lines of an epoch that has all its rows: in full, where that is asked for or there is no history, else as
@@ -157,24 +168,22 @@ impl Columns {
     ) -> Result<(), AllocError>
         requires whole { is_full_epoch epoch.now ≡ true }
         requires idle { is_idle self.old ≡ true }
-        ensures lines { OnOk result (lines.new
-            ≡ lines.old ++ lines_after_tail (tail_written_after full (tail_held self.old)) epoch.now) }
+        ensures lines { OnOk result (lines.new.lines
+            ≡ lines.old.lines ++ lines_after_tail (tail_written_after full (tail_held self.old)) epoch.now) }
         ensures kept { OnOk result (self.new
             ≡ Idle (Some (tail_after (tail_written_after full (tail_held self.old)) epoch.now))) }
         ensures err { OnErr result (self.new ≡ self.old) }
     {
         // What holds of every epoch is known by its line.
         let _ = epoch.is_full();
-        let before = stands_after(&self.nothing, &self.kept, self.is_kept && !full);
-        self.next.encode(before, epoch, &mut self.part, lines)?;
-        self.next.place_names()?;
-        mem::swap(&mut self.kept, &mut self.next);
+        let in_full = full || !self.is_kept;
+        self.history.encode(epoch, in_full, &mut self.part, lines)?;
         self.is_kept = true;
         Ok(())
     }
 
     /// Begins an epoch with its epoch line, which is read after the epoch before; a line that begins with `>` is read after
-    /// nothing. The counts of types hold for all lines of the epoch.
+    /// nothing. The counts of types hold for all lines of the epoch. Room for its printed lines is asked for here.
     ///
     /// `NotAnEpoch` comes where there is no history and the line doesn't begin with `>`; then `BadEpoch`,
     /// `BadSatellite` and `RepeatedSatellite`; `OutOfMemory` where something can't grow and the line has no fault. After a refusal everything
@@ -214,18 +223,22 @@ impl Columns {
         ensures memory { IfErr result (λ fault. fault ≡ Fault.OutOfMemory
             → is_faulty (first_step types.now (tail_held self.old) (Content line.now)) ≡ false) }
     {
-        let goes_on = !begins_epoch(line);
-        if goes_on && !self.is_kept {
+        if !has_history(&mut self.history, self.is_kept, line) {
             return Err(Fault::NotAnEpoch);
         }
-        let before = stands_after(&self.nothing, &self.kept, goes_on);
-        match self.incoming.begin(types, before, line, &mut self.part) {
-            Ok(()) => {
-                self.goes_on = goes_on;
-                Ok(())
-            }
+        match self.history.read_epoch_line(types, line, &mut self.part) {
+            Ok(()) => match self.block.begin(&self.history) {
+                Ok(()) => {
+                    self.stage = Stage::Clock;
+                    Ok(())
+                }
+                Err(_) => {
+                    forget(&mut self.history, &mut self.is_kept, &mut self.stage);
+                    Err(Fault::OutOfMemory)
+                }
+            },
             Err(fault) => {
-                self.reset();
+                forget(&mut self.history, &mut self.is_kept, &mut self.stage);
                 Err(fault)
             }
         }
@@ -273,30 +286,36 @@ impl Columns {
             × (makes_epoch (step_in self.old (Content line.now)) ≡ true)) }
         ensures emptied { OnErr result (self.new ≡ Idle None) }
     {
-        let before = stands_after(&self.nothing, &self.kept, self.goes_on);
-        match self.incoming.take_line(before, line, &mut self.part) {
+        match take_line(
+            &mut self.history,
+            &mut self.stage,
+            &mut self.count,
+            line,
+            &mut self.part,
+        ) {
             Ok(false) => Ok(None),
-            Ok(true) => match self.incoming.epoch(self.alloc) {
+            Ok(true) => match self.history.epoch() {
                 Ok(epoch) => {
-                    self.incoming.finish(&mut self.kept);
+                    self.history.end();
+                    self.stage = Stage::Unbegun;
                     self.is_kept = true;
                     Ok(Some(epoch))
                 }
                 Err(fault) => {
-                    self.incoming.clear();
-                    self.reset();
+                    forget(&mut self.history, &mut self.is_kept, &mut self.stage);
                     Err(fault)
                 }
             },
             Err(fault) => {
-                self.reset();
+                forget(&mut self.history, &mut self.is_kept, &mut self.stage);
                 Err(fault)
             }
         }
     }
 
-    /// Takes the next line of the epoch that was begun as [`Columns::feed`] does, with its refusals. `true` says that it is the last one,
-    /// and that the printed lines of the epoch are ready; no epoch is made of them.
+    /// Takes the next line of the epoch that was begun as [`Columns::feed`] does, with its refusals but `OutOfMemory`: each row is printed as
+    /// its line is read, where [`Columns::begin`] has asked for room. `true` says that it is the last one, and that the printed lines of the
+    /// epoch are ready; no epoch is made of them.
     pub fn feed_into(&mut self, line: &[u8], lines: &mut ExpandedLines) -> Result<bool, Fault>
         requires open { is_idle self.old ≡ false }
         requires short { length line.now ≤ LINE_LIMIT }
@@ -308,26 +327,31 @@ impl Columns {
         ensures memory { IfErr result (λ fault. fault ≡ Fault.OutOfMemory
             → (begins_epoch line.now ≡ false) × (awaits_row self.old ≡ true)
             × (makes_epoch (step_in self.old (Content line.now)) ≡ true)) }
+        // No line but the epoch line asks for memory.
+        ensures unasked { IfErr result (λ fault. fault ≡ Fault.OutOfMemory → ⊥) }
         ensures emptied { OnErr result (self.new ≡ Idle None) }
         ensures none { OnErr result (lines.new ≡ []) }
     {
-        let before = stands_after(&self.nothing, &self.kept, self.goes_on);
-        match self.incoming.take_line(before, line, &mut self.part) {
-            Ok(false) => Ok(false),
-            Ok(true) => match self.incoming.print(lines, &mut self.part) {
-                Ok(()) => {
-                    self.incoming.finish(&mut self.kept);
-                    self.is_kept = true;
-                    Ok(true)
+        match take_line(
+            &mut self.history,
+            &mut self.stage,
+            &mut self.count,
+            line,
+            &mut self.part,
+        ) {
+            Ok(is_whole) => {
+                self.block.print(&self.history, self.count, &mut self.part);
+                if !is_whole {
+                    return Ok(false);
                 }
-                Err(_) => {
-                    self.incoming.clear();
-                    self.reset();
-                    Err(Fault::OutOfMemory)
-                }
-            },
+                self.block.hand_over(lines);
+                self.history.end();
+                self.stage = Stage::Unbegun;
+                self.is_kept = true;
+                Ok(true)
+            }
             Err(fault) => {
-                self.reset();
+                forget(&mut self.history, &mut self.is_kept, &mut self.stage);
                 Err(fault)
             }
         }
@@ -344,9 +368,74 @@ impl Columns {
     }
 }
 
-/// What an epoch is written or read after: the epoch before, or nothing.
-fn stands_after<'a>(nothing: &'a KeptEpoch, kept: &'a KeptEpoch, goes_on: bool) -> &'a KeptEpoch
-    ensures { result.now ≡ (if goes_on then kept.now else nothing.now) }
+/// Forgets every epoch, the one whose lines have come in part too.
+fn forget(history: &mut History, is_kept: &mut bool, stage: &mut Stage)
+    ensures between { IsBetween history.new }
+    ensures kept { is_kept.new ≡ false }
+    ensures stage { stage.new ≡ Stage.Unbegun }
 {
-    if goes_on { kept } else { nothing }
+    history.clear();
+    *is_kept = false;
+    *stage = Stage::Unbegun;
+}
+
+/// Has an epoch line read after the history: for a line that begins with `>` after nothing, and so everything is forgotten. Gives
+/// whether there is anything to read the line after.
+fn has_history(history: &mut History, is_kept: bool, line: &[u8]) -> bool
+    requires between { IsBetween history.old }
+    ensures between { IsBetween history.new }
+    ensures before { tail_for_line (if is_kept then Some (tail_of_history history.old) else None) line.now
+        ≡ (if result then Some (tail_of_history history.new) else None) }
+{
+    if begins_epoch(line) {
+        history.clear();
+        return true;
+    }
+    is_kept
+}
+
+/// Takes the next line of an open epoch: the clock line, then a line for each satellite. Gives whether all have come now; after a fault
+/// what is stored means nothing.
+#[inline(always)]
+fn take_line(
+    history: &mut History,
+    stage: &mut Stage,
+    count: &mut usize,
+    line: &[u8],
+    part: &mut Text,
+) -> Result<bool, Fault>
+    requires sound { IsSoundState stage.old count.old history.old }
+    requires open { is_open stage.old ≡ true }
+    requires short { length line.now ≤ LINE_LIMIT }
+    ensures made { OnOk result (next_step (epoch_by_stage stage.old count.old history.old) (Content line.now)
+        ≡ made_of stage.new count.new history.new) }
+    ensures whole { IfOk result (λ is_whole. is_whole ≡ have_all_come stage.new count.new history.new) }
+    ensures rows { OnOk result (stage.new ≡ Stage.Rows) }
+    ensures announced { OnOk result (IsAnnounced history.new) }
+    ensures within { OnOk result (count.new ≤ length history.new.satellites.rows) }
+    ensures start { OnOk result (begins_epoch line.now ≡ false) }
+    ensures awaited { OnOk result (0 < count.new → stage.old ≡ Stage.Rows) }
+    // What is printed stays the printed lines of the epoch so far.
+    ensures block { OnOk result ((block : PrintedBlock) → IsSoundBlock stage.old count.old block history.old
+        → IsSoundBlock stage.new count.new block history.new) }
+    ensures err { IfErr result (λ fault.
+        next_step (epoch_by_stage stage.old count.old history.old) (Content line.now) ≡ Faulty fault) }
+    // No line but the epoch line asks for memory.
+    ensures memory { IfErr result (λ fault. fault ≡ Fault.OutOfMemory → ⊥) }
+{
+    match *stage {
+        Stage::Unbegun => unreachable!(),
+        Stage::Clock => {
+            history.read_clock(line)?;
+            *stage = Stage::Rows;
+            *count = 0;
+            Ok(history.count() == 0)
+        }
+        Stage::Rows => {
+            let all = history.count();
+            history.read_row(*count, line, part)?;
+            *count += 1;
+            Ok(*count == all)
+        }
+    }
 }

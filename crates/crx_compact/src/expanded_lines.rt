@@ -1,23 +1,19 @@
 //! The lines that an expansion has ready, borrowed one after another.
 
-ghost use Rattle.std.specs.Prelude.{◌≡◌, ◌≤◌, ◌<◌, ◌↔◌, ◌++◌, [], ◌∷◌, true, IsTrue, drop, length, map, slice_get, take, if◌then◌else◌, is_some, IfOk, IfSome, OnErr, OnOk};
+ghost use Rattle.std.specs.Prelude.{◌≡◌, ◌≤◌, ◌↔◌, ◌++◌, [], ◌∷◌, IsTrue, drop, length, slice_get, if◌then◌else◌, is_some, IfOk, IfSome};
 ghost use Rattle.std.specs.Borrow.{sem};
 ghost use Rattle.std.specs.Io.BufRead.{Rests};
 ghost use Rattle.std.specs.Option.{option_copied};
-ghost use Rattle.crx_faults.specs.declared.limits.TheConstants.{HEAD_WIDTH, LINE_LIMIT};
-ghost use Rattle.crx_columns.specs.meaning.Columns.{columns};
-ghost use Rattle.crx_header.specs.meaning.EpochColumns.{epoch_count};
-ghost use Rattle.crx_rinex.specs.meaning.Printing.{printed_epoch, printed_row};
+ghost use Rattle.crx_faults.specs.declared.limits.TheConstants.{LINE_LIMIT};
 ghost use Rattle.crx_faults.specs.meaning.Lines.{lines_text};
-ghost use Rattle.crx_compact.specs.ShownRows.{shown_epoch, shown_row};
 ghost use Rattle.crx_compact.specs.contracts.expanded_lines.CopiedLine.{the_row as row_of_copied};
 ghost use Rattle.crx_compact.specs.contracts.expanded_lines.ExpandedLines.{the_row};
 
-use crate::kept::KeptEpoch;
 use crate::lines::Lines;
 use crx_text::Text;
 use std::alloc::{AllocError, Global};
 use std::marker::Model;
+use std::mem;
 
 /// A line that is borrowed as it came, out of memory that is used again for the lines after it.
 #[derive(Drop)]
@@ -89,7 +85,7 @@ impl Model for ExpandedLines {
 
     ghost Value = { List (List ℕ) };
 
-    ghost view = { λ lines. lines.copied ++ lines.printed };
+    ghost view = { λ lines. lines.copied ++ lines.printed.lines };
 }
 
 impl ExpandedLines {
@@ -113,32 +109,12 @@ impl ExpandedLines {
         self.copied.put(line);
     }
 
-    /// Makes the printed lines of an epoch ready, which a history shows with so many rows, once no line before them is pending. After
-    /// `AllocError`, which comes only where there are rows, no line is pending.
-    pub(crate) fn print(
-        &mut self,
-        history: &KeptEpoch,
-        count: usize,
-        part: &mut Text,
-    ) -> Result<(), AllocError>
+    /// Makes printed lines ready, once no line before them is pending. The memory of the lines before them is given for them.
+    pub(crate) fn exchange(&mut self, lines: &mut Lines)
         requires drained { self.old ≡ [] }
-        requires announced { is_some (epoch_count (columns history.now.text 1 HEAD_WIDTH)) ≡ true }
-        requires shown { count ≤ length history.now.rows }
-        ensures lines { OnOk result (self.new ≡ printed_epoch (shown_epoch history.now count)) }
-        ensures err { OnErr result (self.new ≡ []) }
-        ensures memory { OnErr result (0 < count) }
+        ensures lines { self.new ≡ lines.old.lines }
     {
-        history.print_head(part);
-        if count == 0 {
-            self.copied.put(part.bytes());
-            return Ok(());
-        }
-        self.printed.clear();
-        if print_lines(&mut self.printed, history, count, part.bytes()).is_err() {
-            self.printed.clear();
-            return Err(AllocError);
-        }
-        Ok(())
+        mem::swap(&mut self.printed, lines);
     }
 
     /// Whether no line is pending.
@@ -172,19 +148,4 @@ impl ExpandedLines {
         }
         Some(self.printed.take_text())
     }
-}
-
-/// Puts a line, and those of so many rows that a history shows, after others.
-fn print_lines(
-    lines: &mut Lines,
-    history: &KeptEpoch,
-    count: usize,
-    head: &[u8],
-) -> Result<(), AllocError>
-    requires { count ≤ length history.now.rows }
-    ensures { OnOk result (lines.new
-        ≡ lines.old ++ (head.now ∷ map printed_row (map shown_row (take count history.now.rows)))) }
-{
-    lines.push(head)?;
-    history.print_rows(count, lines)
 }

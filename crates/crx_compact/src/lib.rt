@@ -4,19 +4,19 @@
 #![tactic(auto)]
 
 pub mod arc;
-pub mod awaited;
 pub mod cells;
 pub mod coded;
 pub mod columns;
 pub mod expanded_lines;
-pub mod held;
-mod incoming;
-pub mod kept;
+mod history;
 pub mod laws;
 pub mod lines;
+mod printed_block;
 pub mod ready_lines;
 mod refusals;
 pub mod same;
+mod satellite;
+mod satellites;
 
 pub use arc::{ClockArc, ObsArc};
 pub use coded::Coded;

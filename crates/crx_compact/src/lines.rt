@@ -1,22 +1,19 @@
 //! Lines that are made one after another and borrowed in that order, one by one or as one text.
 
-ghost use Rattle.std.specs.Prelude.{ℕ, ◌≡◌, ◌≤◌, ◌<◌, ◌+◌, ◌++◌, ◌∷◌, [], drop, length, slice_get, take, OnOk, OnErr, IsTrue, ◌↔◌};
+ghost use Rattle.std.specs.Prelude.{ℕ, ◌≡◌, ◌≤◌, ◌<◌, ◌+◌, ◌*◌, ◌++◌, ◌∷◌, [], drop, length, slice_get, slice_set, take, Some, OnOk, OnErr, IsTrue, ◌↔◌};
 ghost use Rattle.std.specs.Borrow.{sem};
 ghost use Rattle.std.specs.Io.BufRead.{Rests};
 ghost use Rattle.std.specs.Option.{option_copied};
-ghost use Rattle.crx_faults.specs.declared.limits.TheConstants.{LINE_LIMIT};
-ghost use Rattle.crx_columns.specs.meaning.Columns.{without_end_blanks};
-ghost use Rattle.crx_compact.specs.Cells.{arcs_of_cells, codes_of_cells};
-ghost use Rattle.crx_compact.specs.meaning.Compaction.{line_of_codes};
-ghost use Rattle.crx_compact.specs.LineLists.{lines_text};
 ghost use Rattle.crx_compact.specs.contracts.lines.Lines.{the_row};
-ghost use Rattle.crx_rinex.specs.meaning.Printing.{printed_row};
+ghost use Rattle.crx_compact.specs.LineLists.{lines_text};
+ghost use Rattle.crx_compact.specs.Placing.{HasRoom, KeepsRooms, row_room};
+ghost use Rattle.crx_compact.specs.PrintedBlocks.{printed_room};
 ghost use Rattle.crx_compact.specs.ShownRows.{shown_row};
+ghost use Rattle.crx_compact.specs.Steps.{row_line_after, row_tail_after};
+ghost use Rattle.crx_compact.specs.Tails.{RowTail};
+ghost use Rattle.crx_rinex.specs.meaning.Printing.{printed_row};
 
-use crate::held::HeldSatellite;
-use crate::arc::ObsArc;
-use crate::cells::CELL_ROOM;
-use crx_faults::limits::{CELL_WIDTH, NAME_WIDTH};
+use crate::satellites::Satellites;
 use crx_rinex::SatRow;
 use crx_text::Text;
 use crx_text::block::{grow, put_line};
@@ -30,32 +27,42 @@ pub struct Lines {
     bytes: Vec<u8>,
     /// How many of the bytes are lines.
     filled: usize,
+    /// The length of each line; those after the lines are of earlier ones, and mean nothing.
     lengths: Vec<usize>,
+    /// How many lines there are.
+    count: usize,
     handed_out: usize,
     handed_out_bytes: usize,
 }
 
 impl Model for Lines {
-    ghost use Rattle.std.specs.Prelude.{ℕ, List, ◌≤◌, drop, length, take};
-    ghost use Rattle.crx_compact.specs.LineLists.{cut, AreCut};
+    ghost use Rattle.std.specs.Prelude.{ℕ, List, ◌≤◌, ◌-◌, drop, length, take};
+    ghost use Rattle.crx_compact.specs.LineLists.{cut, AreCut, PendingLines};
 
-    ghost Value = { List (List ℕ) };
+    ghost Value = { PendingLines };
 
-    ghost view = { λ lines. cut (drop lines.handed_out lines.lengths.items) (drop lines.handed_out_bytes (take lines.filled lines.bytes.items)) };
+    ghost view = { λ lines. record {
+      lines = cut (drop lines.handed_out (take lines.count lines.lengths.items))
+          (drop lines.handed_out_bytes (take lines.filled lines.bytes.items));
+      free_lines = length lines.lengths.items - lines.count;
+      free_bytes = length lines.bytes.items - lines.filled;
+    } };
 
-    ghost invariant = { λ lines. AreCut lines.lengths.items (take lines.filled lines.bytes.items) lines.handed_out lines.handed_out_bytes
-        × (lines.filled ≤ length lines.bytes.items) };
+    ghost invariant = { λ lines. AreCut (take lines.count lines.lengths.items) (take lines.filled lines.bytes.items)
+        lines.handed_out lines.handed_out_bytes
+        × (lines.count ≤ length lines.lengths.items) × (lines.filled ≤ length lines.bytes.items) };
 }
 
 impl Lines {
     /// No lines.
     pub fn new(alloc: Global) -> Lines
-        ensures empty { result ≡ [] }
+        ensures empty { result.lines ≡ [] }
     {
         Lines {
             bytes: Vec::new(alloc),
             filled: 0,
             lengths: Vec::new(alloc),
+            count: 0,
             handed_out: 0,
             handed_out_bytes: 0,
         }
@@ -63,92 +70,119 @@ impl Lines {
 
     /// Drops all lines; their memory is used again for new ones.
     pub fn clear(&mut self)
-        ensures emptied { self.new ≡ [] }
+        ensures emptied { self.new.lines ≡ [] }
+        ensures free_lines { self.old.free_lines ≤ self.new.free_lines }
+        ensures free_bytes { self.old.free_bytes ≤ self.new.free_bytes }
     {
         self.filled = 0;
-        self.lengths.clear();
+        self.count = 0;
         self.handed_out = 0;
         self.handed_out_bytes = 0;
     }
 
+    /// Asks for room for so many lines more, and for so many bytes, in which each line has one more than its length. The lines stay.
+    #[inline(always)]
+    pub(crate) fn make_room(&mut self, lines: usize, bytes: usize) -> Result<(), AllocError>
+        ensures lines { self.new.lines ≡ self.old.lines }
+        ensures free_lines { OnOk result (lines ≤ self.new.free_lines) }
+        ensures free_bytes { OnOk result (bytes ≤ self.new.free_bytes) }
+    {
+        grow(&mut self.bytes, self.filled.saturating_add(bytes))?;
+        grow_lengths(&mut self.lengths, self.count.saturating_add(lines))
+    }
+
+    /// Puts a line after the others, for which there is room.
+    pub(crate) fn put(&mut self, line: &[u8])
+        requires free_line { 0 < self.old.free_lines }
+        requires free_bytes { length line.now < self.old.free_bytes }
+        ensures lines { self.new.lines ≡ self.old.lines ++ line.now ∷ [] }
+        ensures free_lines { self.new.free_lines + 1 ≡ self.old.free_lines }
+        ensures free_bytes { self.new.free_bytes + (length line.now + 1) ≡ self.old.free_bytes }
+    {
+        put_line(&mut self.bytes, self.filled, line);
+        self.lengths[self.count] = line.len();
+        self.count += 1;
+        self.filled += line.len() + 1;
+    }
+
     /// Puts a line after the others. After `AllocError` they are as they were.
     pub fn push(&mut self, line: &[u8]) -> Result<(), AllocError>
-        ensures ok { OnOk result (self.new ≡ self.old ++ line.now ∷ []) }
-        ensures err { OnErr result (self.new ≡ self.old) }
+        ensures ok { OnOk result (self.new.lines ≡ self.old.lines ++ line.now ∷ []) }
+        ensures err { OnErr result (self.new.lines ≡ self.old.lines) }
     {
-        let start = self.filled;
-        let end = start + line.len();
-        grow(&mut self.bytes, end + 1)?;
-        if self.lengths.push(line.len()).is_err() {
-            return Err(AllocError);
-        }
-        put_line(&mut self.bytes, start, line);
-        self.filled = end + 1;
+        self.make_room(1, line.len() + 1)?;
+        self.put(line);
         Ok(())
     }
 
-    /// Puts a row's line after the others, as its satellite's arcs and indicators in the epoch before make it, and replaces a satellite's
-    /// history by the one after the row. Room for the longest line of so many codes is asked for once, so that no write of a code asks.
-    pub(crate) fn push_row(
+    /// Puts the compact line of a row after the others, for which there is room; the row's satellite is at an index among those that have
+    /// come, and has room for the row. What is stored of the satellite is that after the row.
+    #[inline(always)]
+    pub(crate) fn put_row(
         &mut self,
-        satellite: &mut HeldSatellite,
-        arcs: &[ObsArc],
-        flags: &[u8],
+        satellites: &mut Satellites,
+        index: usize,
         row: &SatRow,
         part: &mut Text,
-    ) -> Result<(), AllocError>
-        requires { length flags.now ≤ LINE_LIMIT }
-        ensures after { OnOk result (satellite.new ≡ record {
-          name = row.now.name;
-          flags = without_end_blanks row.now.flags;
-          cells = arcs_of_cells arcs.now row.now.values;
-        }) }
-        ensures line { OnOk result (self.new ≡ self.old
-            ++ line_of_codes (codes_of_cells arcs.now row.now.values) flags.now row.now.flags ∷ []) }
+    )
+        requires free_line { 0 < self.old.free_lines }
+        requires free_bytes { row_room row.now ≤ self.old.free_bytes }
+        requires within { index < length satellites.old.rows }
+        requires known { HasRoom row.now.name (length row.now.values) satellites.old.rooms }
+        requires named { (old : RowTail) → slice_get satellites.old.rows index ≡ Some old
+            → old.name ≡ row.now.name }
+        ensures after { (old : RowTail) → slice_get satellites.old.rows index ≡ Some old
+            → satellites.new.rows ≡ slice_set satellites.old.rows index (row_tail_after (Some old) row.now) }
+        ensures lines { (old : RowTail) → slice_get satellites.old.rows index ≡ Some old
+            → self.new.lines ≡ self.old.lines ++ row_line_after (Some old) row.now ∷ [] }
+        ensures free_lines { self.new.free_lines + 1 ≡ self.old.free_lines }
+        ensures free_bytes { self.old.free_bytes ≤ self.new.free_bytes + row_room row.now }
+        ensures rest { satellites.new.rest ≡ satellites.old.rest }
+        ensures rooms { KeepsRooms satellites.old.rooms satellites.new.rooms }
     {
-        satellite.begin(row, flags, part)?;
-        let start = self.filled;
-        let room = CELL_ROOM * satellite.count() + part.len();
-        grow(&mut self.bytes, start + room + 1)?;
-        let length = satellite.write_line(arcs, row, part.bytes(), &mut self.bytes, start);
-        if self.lengths.push(length).is_err() {
-            return Err(AllocError);
-        }
-        self.bytes[start + length] = b'\n';
-        self.filled = start + length + 1;
-        Ok(())
+        let length = satellites.write_line(index, row, part, &mut self.bytes, self.filled);
+        self.bytes[self.filled + length] = b'\n';
+        self.lengths[self.count] = length;
+        self.count += 1;
+        self.filled += length + 1;
     }
 
-    /// Puts the printed line of the row that a satellite's history shows after the others. Room for it is asked for once.
-    pub(crate) fn push_printed(&mut self, satellite: &HeldSatellite) -> Result<(), AllocError>
-        ensures { OnOk result (self.new ≡ self.old ++ printed_row (shown_row satellite.now) ∷ []) }
+    /// Puts the printed line of the row that a satellite shows after the others, for which there is room; the satellite is at an index among
+    /// those that have come.
+    #[inline(always)]
+    pub(crate) fn put_printed(&mut self, satellites: &Satellites, index: usize)
+        requires within { index < length satellites.now.rows }
+        requires free_line { 0 < self.old.free_lines }
+        requires free_bytes { (old : RowTail) → slice_get satellites.now.rows index ≡ Some old
+            → printed_room old ≤ self.old.free_bytes }
+        ensures lines { (old : RowTail) → slice_get satellites.now.rows index ≡ Some old
+            → self.new.lines ≡ self.old.lines ++ printed_row (shown_row old) ∷ [] }
+        ensures free_lines { self.new.free_lines + 1 ≡ self.old.free_lines }
+        ensures free_bytes { (old : RowTail) → slice_get satellites.now.rows index ≡ Some old
+            → self.old.free_bytes ≤ self.new.free_bytes + printed_room old }
     {
-        let start = self.filled;
-        let room = NAME_WIDTH + CELL_WIDTH * satellite.count();
-        grow(&mut self.bytes, start + room + 1)?;
-        let length = satellite.print_line(&mut self.bytes, start);
-        if self.lengths.push(length).is_err() {
-            return Err(AllocError);
-        }
-        self.bytes[start + length] = b'\n';
-        self.filled = start + length + 1;
-        Ok(())
+        let length = satellites.print_line(index, &mut self.bytes, self.filled);
+        self.bytes[self.filled + length] = b'\n';
+        self.lengths[self.count] = length;
+        self.count += 1;
+        self.filled += length + 1;
     }
 
     /// Whether no line is pending.
     pub fn is_empty(&self) -> bool
-        ensures value { IsTrue result ↔ (self.now ≡ []) }
+        ensures value { IsTrue result ↔ (self.now.lines ≡ []) }
     {
-        self.handed_out == self.lengths.len()
+        self.handed_out == self.count
     }
 
     /// Borrows the next pending line, without its line end; `None` once none is pending.
     pub fn next_line(&mut self) -> Option<&[u8]>
-        ensures value { option_copied result ≡ slice_get self.old 0 }
+        ensures value { option_copied result ≡ slice_get self.old.lines 0 }
         // That line is no longer pending.
-        ensures* after_borrow { sem 𝓛 (Rests the_row self.entry (λ new. new ≡ drop 1 self.old)) }
+        ensures* after_borrow { sem 𝓛 (Rests the_row self.entry (λ new.
+            new ≡ record self.old { lines = drop 1 self.old.lines })) }
     {
-        if self.handed_out == self.lengths.len() {
+        if self.handed_out == self.count {
             return None;
         }
         let start = self.handed_out_bytes;
@@ -160,13 +194,28 @@ impl Lines {
 
     /// Borrows the text of all lines that are pending, each followed by LF. From then on none is pending.
     pub fn take_text(&mut self) -> &[u8]
-        ensures value { result.now ≡ lines_text self.old }
+        ensures value { result.now ≡ lines_text self.old.lines }
         // No line is pending.
-        ensures* after_borrow { sem 𝓛 (Rests the_row self.entry (λ new. new ≡ [])) }
+        ensures* after_borrow { sem 𝓛 (Rests the_row self.entry (λ new.
+            new ≡ record self.old { lines = [] })) }
     {
         let start = self.handed_out_bytes;
-        self.handed_out = self.lengths.len();
+        self.handed_out = self.count;
         self.handed_out_bytes = self.filled;
         &self.bytes[start..self.filled]
     }
+}
+
+/// Makes a list have at least so many lengths; those that are there stay.
+#[inline(always)]
+fn grow_lengths(lengths: &mut Vec<usize>, count: usize) -> Result<(), AllocError>
+    ensures room { OnOk result (count ≤ length lengths.new.items) }
+    ensures longer { length lengths.old.items ≤ length lengths.new.items }
+    ensures same { (n : ℕ) → n ≤ length lengths.old.items
+        → take n lengths.new.items ≡ take n lengths.old.items }
+{
+    if count > lengths.len() {
+        lengths.resize(count, 0)?;
+    }
+    Ok(())
 }

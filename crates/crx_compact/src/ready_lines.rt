@@ -10,9 +10,9 @@ ghost use Rattle.crx_header.specs.meaning.CompactHeader.{program_line, lines_bef
 ghost use Rattle.crx_faults.specs.meaning.Lines.{lines_text};
 
 use crate::columns::Columns;
+use crate::lines::Lines;
 use crx_columns::appending::append;
 use crx_header::crinex::{CRINEX_PROGRAM, CRINEX_PROGRAM_LABEL, CRINEX_VERSION_LINE};
-use crate::lines::Lines;
 use crx_options::options::in_columns;
 use crx_rinex::Epoch;
 use crx_text::Text;
@@ -96,7 +96,7 @@ impl ReadyLines {
         requires short { length line.now ≤ LINE_LIMIT }
         ensures turn { self.new.turn ≡ turn }
         ensures copied { self.new.copied.value ≡ line.now }
-        ensures made { self.new.made ≡ [] }
+        ensures made { self.new.made.lines ≡ [] }
         ensures program { self.new.program ≡ self.old.program }
     {
         self.made.clear();

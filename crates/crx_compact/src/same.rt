@@ -3,7 +3,6 @@
 ghost use Rattle.std.specs.Prelude.{◌≡◌, ◌≢◌, ◌+◌, ◌≤◌, length};
 ghost use Rattle.std.specs.Bool.{MatchBool};
 
-use crx_columns::copies::copy_text;
 use std::simd::prelude::*;
 
 /// Whether the first so many characters of two texts are the same, and the last so many.
@@ -44,48 +43,5 @@ pub fn is_same_text(text: &[u8], other: &[u8]) -> bool
         17..=32 => has_same_ends::<16>(text, other),
         33..=64 => has_same_ends::<32>(text, other),
         _ => is_same_by_call(text, other),
-    }
-}
-
-/// Puts a text in place of another one by its two ends, and answers whether a third text is the same.
-#[inline(always)]
-fn copy_ends<const N: usize>(text: &[u8], to: &mut [u8], other: &[u8]) -> bool
-    requires narrow { N ≤ 64 }
-    requires some { N ≤ length text.now }
-    requires few { length text.now ≤ N + N }
-    requires room { length to.old ≡ length text.now }
-    requires same_length { length other.now ≡ length text.now }
-    ensures copied { to.new ≡ text.now }
-    ensures same { MatchBool result (text.now ≡ other.now) (text.now ≢ other.now) }
-{
-    let last = text.len() - N;
-    let first = Simd::<u8, N>::from_slice(text);
-    let end = Simd::<u8, N>::from_slice(&text[last..]);
-    first.copy_to_slice(to);
-    end.copy_to_slice(&mut to[last..]);
-    first == Simd::<u8, N>::from_slice(other) && end == Simd::<u8, N>::from_slice(&other[last..])
-}
-
-/// Puts a text in place of another one of its length, and answers whether a third text is the same. The indicators of 4 to 32 types are
-/// loaded once for both.
-#[inline(always)]
-pub fn copy_compared(text: &[u8], to: &mut [u8], other: &[u8]) -> bool
-    requires { length to.old ≡ length text.now }
-    ensures copied { to.new ≡ text.now }
-    ensures same { MatchBool result (text.now ≡ other.now) (text.now ≢ other.now) }
-{
-    let count = text.len();
-    if count != other.len() {
-        copy_text(to, text);
-        return false;
-    }
-    match count {
-        8..=16 => copy_ends::<8>(text, to, other),
-        17..=32 => copy_ends::<16>(text, to, other),
-        33..=64 => copy_ends::<32>(text, to, other),
-        _ => {
-            copy_text(to, text);
-            is_same_text(text, other)
-        }
     }
 }

@@ -8,8 +8,7 @@ use Rattle.crx_laws.specs.Examples.{one_type}
 use Rattle.crx_rinex.specs.meaning.Places.{Place}
 use Rattle.crx_faults.specs.meaning.Seen.{ReadLine, Content}
 use Rattle.crx_compact.specs.meaning.CompactPlaces.{ReadEpoch}
-use Rattle.crx_compact.specs.Steps.{no_tail}
-use Rattle.crx_compact.specs.OpenEpochs.{OpenRawEpoch, placed_as}
+use Rattle.crx_compact.specs.OpenEpochs.{After, OpenRawEpoch, placed_as}
 use Rattle.crx_compact.specs.ReadingLaws.{epochs_at, TypedEpoch}
 
 -- columns 1 to 41 of the epoch at second s of 2024-01-01, with n satellites
@@ -126,11 +125,10 @@ epochs_in types lines = epochs_read types (map Content lines)
 abbrev pub half_open_raw : OpenRawEpoch
 half_open_raw =
     record {
-      before = no_tail;
       text = codes "> 2024 01 01 00 00  0.0000000  0  1      G01";
-      clock = Some (record { value = None; arc = None });
-      rows = [];
-      awaited = record { name = codes "G01"; count = 1 } ∷ [];
+      clock = After None;
+      rows = record { name = codes "G01"; flags = []; cells = None ∷ [] } ∷ [];
+      count = 0;
     }
 
 -- two epochs of one satellite

@@ -1,11 +1,10 @@
 -- What a reader of compact text holds after a line.
-use Rattle.std.proofs.Common.{◌≡◌, inl, inr, Bool, true, List, [], ℕ, Option, Some, None, Result, Ok, Err, refl, sym}
+use Rattle.std.proofs.Common.{◌≡◌, inl, inr, Bool, true, List, ℕ, Option, Some, None, Result, Ok, Err, refl, sym}
 use Rattle.std.proofs.Common.{ap, ◌∙◌, true≢false, if◌then◌else◌, not}
 use Rattle.std.proofs.lemmas.Bool.{and_from}
 use Rattle.std.specs.Prelude.{◌&&◌, IfErr}
 use Rattle.crx_faults.specs.meaning.Seen.{Content}
 use Rattle.crx_faults.specs.declared.fault.Fault.{Fault}
-use Rattle.crx_columns.specs.Texts.{patched}
 use Rattle.crx_header.specs.meaning.ObservationTypes.{Count}
 use Rattle.crx_header.specs.meaning.EpochColumns.{begins_epoch, is_event_line}
 use Rattle.crx_compact.specs.meaning.EpochText.{Satellite}
@@ -13,7 +12,7 @@ use Rattle.crx_compact.specs.Tails.{Tail}
 use Rattle.crx_compact.specs.meaning.CompactPlaces.{satellites_of_line}
 use Rattle.crx_compact.specs.meaning.Sequences.{and_then}
 use Rattle.crx_compact.specs.OpenEpochs.{ColumnsState, RawStep, Going, Whole, Faulty, HasMade, first_step, opened_raw}
-use Rattle.crx_compact.specs.OpenEpochs.{opening, tail_for_line, is_idle}
+use Rattle.crx_compact.specs.OpenEpochs.{awaited_row, before_clock, is_idle, opening, tail_for_line, tail_opened}
 use Rattle.crx_compact.specs.HeldRows.{past_of_tail}
 use Rattle.crx_reading.specs.RinexStages.{is_rinex_stage as is_consistent_in_rinex}
 use Rattle.crx_reading.specs.CompactStages.{is_compact_stage, wants_line, wants_lines}
@@ -39,18 +38,13 @@ idle-stage (Ended at) columns can idle = idle
 
 -- whether an epoch that goes on wants lines
 abbrev wants_more : RawStep → Bool
-wants_more (Going begun) = wants_line begun.clock begun.awaited
+wants_more (Going begun) = wants_line begun.clock (awaited_row begun)
 wants_more (Whole held) = true
 wants_more (Faulty fault) = true
 
 satellites-wanted : (line : List ℕ) (before : Tail) (read : Result (List Satellite) Fault)
-    → wants_more (opening (and_then read (λ (satellites : List Satellite). Ok (record {
-      before = before;
-      text = patched before.text line;
-      clock = None;
-      rows = [];
-      awaited = satellites;
-    })))) ≡ true
+    → wants_more (opening (and_then read (λ (satellites : List Satellite).
+    Ok (before_clock (tail_opened before line satellites))))) ≡ true
 satellites-wanted line before (Ok satellites) = refl
 satellites-wanted line before (Err fault) = refl
 

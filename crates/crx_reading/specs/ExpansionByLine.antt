@@ -1,6 +1,5 @@
 -- Expansion line by line: the state between two lines, by the tail of the epochs alone.
 use Rattle.std.specs.Prelude.{ℕ, Bool, false, not, ◌&&◌, List, [], ◌∷◌, length, Option, Some, None, if◌then◌else◌}
-use Rattle.std.specs.Option.{is_some}
 use Rattle.crx_faults.specs.meaning.Seen.{ReadLine, Content, Overlong}
 use Rattle.crx_header.specs.meaning.EpochColumns.{is_event_line}
 use Rattle.crx_rinex.specs.meaning.Places.{Here, Wrong, Wanted}
@@ -10,7 +9,7 @@ use Rattle.crx_rinex.specs.meaning.Observations.{Epoch}
 use Rattle.crx_compact.specs.meaning.CompactPlaces.{ReadEpoch}
 use Rattle.crx_compact.specs.Tails.{Tail, tail_left}
 use Rattle.crx_compact.specs.OpenEpochs.{OpenRawEpoch, HeldEpoch, RawStep, Going, Whole, Faulty, first_step, next_step}
-use Rattle.crx_compact.specs.OpenEpochs.{is_faulty, makes_epoch, open_raw_with}
+use Rattle.crx_compact.specs.OpenEpochs.{has_come, is_faulty, makes_epoch, open_raw_with}
 use Rattle.crx_options.specs.meaning.Choices.{Choices}
 use Rattle.crx_reading.specs.meaning.Items.{Item, types_in_force}
 use Rattle.crx_reading.specs.LineByLine.{Phase, InFirstLines, InEpoch, Seen, Made, Completes, Moves, Fails}
@@ -44,7 +43,7 @@ is_good_beginning types tail line = not (is_faulty (first_step types tail (Conte
 
 -- the line of the last satellite takes memory where it has no fault; the lines before it, but the epoch line, take none
 abbrev pub is_last_row : OpenRawEpoch → List ℕ → Bool
-is_last_row so_far line = is_some so_far.clock && makes_epoch (next_step so_far (Content line))
+is_last_row so_far line = has_come so_far.clock && makes_epoch (next_step so_far (Content line))
 
 -- ---- the state, and what is written
 
@@ -63,7 +62,7 @@ held_unit (EventLine line) = EventLine line
 held_unit (EventRecord line) = EventRecord line
 held_unit (Observation held) = Observation held.epoch
 
--- expansion as a direction; while an epoch is open, it holds the tail that its lines are read after
+-- expansion as a direction; while an epoch is open, it holds what its lines are read after
 abbrev pub expansion : Direction HeldEpoch OpenRawEpoch (Option Tail)
 expansion = record {
   begins = compact_begins;

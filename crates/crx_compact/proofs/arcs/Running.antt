@@ -1,6 +1,7 @@
 -- Running differences: their step, and their size.
 use Rattle.std.specs.Prelude.{◌≡◌, ◌≤◌, ◌<◌, refl, ℕ, zero, suc, ◌+◌, ◌-◌, ◌^◌, ℤ, pos, negsuc, ◌+ℤ◌, ◌-ℤ◌, List, []}
-use Rattle.std.specs.Prelude.{◌∷◌, ◌++◌, length, take, drop, min, slice_index_or, slice_set, Bool, true, Option, Some}
+use Rattle.std.specs.Prelude.{◌∷◌, ◌++◌, length, take, drop, min, slice_index_or, slice_set, Bool, true, false, Option, Some}
+use Rattle.std.specs.Prelude.{Result, Ok, Err, if◌then◌else◌}
 use Rattle.std.proofs.Common.{sym, ◌∙◌, ap, arith, subst, FitsSigned, w64, to_z, of_z, append_assoc, lit<, lit≤}
 use Rattle.std.proofs.Math.Nat.{pow-le-pow_right}
 use Rattle.std.proofs.lemmas.Int.{ints, to_z-of_z}
@@ -15,6 +16,8 @@ use Rattle.crx_compact.specs.meaning.Differences.{newest}
 use Rattle.crx_compact.specs.ArcSteps.{differences_after, onto_sum, differences_by, highest, code_of_value, arc_of_value}
 use Rattle.crx_compact.specs.ArcSteps.{value_of_code, arc_of_code}
 use Rattle.crx_compact.specs.meaning.ArcValues.{in_range, is_within}
+use Rattle.crx_faults.specs.declared.fault.Fault.{Fault}
+use Rattle.crx_faults.specs.declared.fault.Fault.TheVariants.{OutOfRange}
 use Rattle.crx_faults.specs.declared.limits.TheConstants.{WRITTEN_ORDER}
 
 -- ---- size
@@ -218,6 +221,13 @@ set-four (d ∷ e ∷ []) v a b c h = absurd (omega (arith, h))
 set-four (d ∷ e ∷ f ∷ []) v a b c h = absurd (omega (arith, h))
 set-four (d ∷ e ∷ f ∷ g ∷ ds) v a b c h = refl
 
+-- the same by the numbers that their bits stand for
+pub four-put : (ds : List ℤ) (v a b c : ℤ)
+    → FitsSigned w64 v → FitsSigned w64 a → FitsSigned w64 b → FitsSigned w64 c
+    → take 4 ds ≡ to_z w64 (of_z w64 v) ∷ to_z w64 (of_z w64 a) ∷ to_z w64 (of_z w64 b) ∷ to_z w64 (of_z w64 c) ∷ []
+    → take 4 ds ≡ v ∷ a ∷ b ∷ c ∷ []
+four-put ds v a b c fv fa fb fc put = rw (same-bits v fv, same-bits a fa, same-bits b fb, same-bits c fc) at put
+
 pub after-three : (ds : List ℤ) (value : ℤ) → 3 < length ds
     → differences_after value (take 3 ds) ≡ value
     ∷ (value -ℤ slice_index_or ds 0 (pos 0)) ∷ (value -ℤ slice_index_or ds 0 (pos 0) -ℤ slice_index_or ds 1 (pos 0))
@@ -226,40 +236,6 @@ after-three [] value h = absurd (omega (arith, h))
 after-three (d ∷ []) value h = absurd (omega (arith, h))
 after-three (d ∷ e ∷ []) value h = absurd (omega (arith, h))
 after-three (d ∷ e ∷ f ∷ ds) value h = refl
-
--- a number and three differences, and their sums, are numbers of 64 bits
-pub record FromThird (number : ℤ) (ds : List ℤ) : Type 0 where
-  pub zeroth_before : FitsSigned w64 (slice_index_or ds 0 (pos 0))
-  pub first_before : FitsSigned w64 (slice_index_or ds 1 (pos 0))
-  pub second_before : FitsSigned w64 (slice_index_or ds 2 (pos 0))
-  pub one : FitsSigned w64 (number +ℤ slice_index_or ds 0 (pos 0))
-  pub two : FitsSigned w64 (number +ℤ slice_index_or ds 0 (pos 0) +ℤ slice_index_or ds 1 (pos 0))
-  pub all : FitsSigned w64 (number +ℤ slice_index_or ds 0
-      (pos 0) +ℤ slice_index_or ds 1 (pos 0) +ℤ slice_index_or ds 2 (pos 0))
-  pub value_is : number +ℤ slice_index_or ds 0 (pos 0) +ℤ slice_index_or ds 1 (pos 0) +ℤ slice_index_or ds 2 (pos 0)
-      ≡ newest (differences_by number ds)
-
-pub from-third : (number : ℤ) (ds : List ℤ)
-    → length ds ≡ 3 → IsBelow (10 ^ 18) number → AreBelow value_bound ds → FromThird number ds
-from-third number [] h f hs = absurd (omega (arith, h))
-from-third number (a ∷ []) h f hs = absurd (omega (arith, h))
-from-third number (a ∷ b ∷ []) h f hs = absurd (omega (arith, h))
-from-third number (a ∷ b ∷ c ∷ d ∷ ds) h f hs = absurd (omega (arith, h))
-from-third number (a ∷ b ∷ c ∷ []) h f hs =
-    let n : IsBelow 1000000000000000000 number = f in
-    let x : IsBelow 100000000000000 a = hs.0 in
-    let y : IsBelow 200000000000000 b = hs.1.0 in
-    let z : IsBelow 400000000000000 c = hs.1.1.0 in
-    let sum : number +ℤ a +ℤ b +ℤ c ≡ number +ℤ total (a ∷ b ∷ c ∷ []) = omega (arith, ints) in
-    record {
-      zeroth_before = omega (arith, ints, x.low, x.high);
-      first_before = omega (arith, ints, y.low, y.high);
-      second_before = omega (arith, ints, z.low, z.high);
-      one = omega (arith, ints, n.low, n.high, x.low, x.high);
-      two = omega (arith, ints, n.low, n.high, x.low, x.high, y.low, y.high);
-      all = omega (arith, ints, n.low, n.high, x.low, x.high, y.low, y.high, z.low, z.high);
-      value_is = sum ∙ sym (newest-by number (a ∷ b ∷ c ∷ []));
-    }
 
 -- a number and the three sums that it leads to, the highest order first, are numbers of 64 bits
 pub record OntoThird (number : ℤ) (ds : List ℤ) : Type 0 where
@@ -491,6 +467,13 @@ stepped width order count last number value ds e h l v f =
 pub accepted : (width : ℕ) (value : ℤ) (b : Bool)
     → b ≡ is_within width (to_z w64 (of_z w64 value)) → b ≡ true → FitsSigned w64 value → is_within width value ≡ true
 accepted width value b e h f = ap (is_within width) (sym (same-bits value f)) ∙ sym e ∙ h
+
+-- a value that the code's test refuses
+pub refused : (width : ℕ) (value : ℤ) (b : Bool) → b ≡ is_within width (to_z w64 (of_z w64 value))
+    → b ≡ false → FitsSigned w64 value → Err OutOfRange ≡ in_range width value
+refused width value b e h f =
+    let out : is_within width value ≡ false = ap (is_within width) (sym (same-bits value f)) ∙ sym e ∙ h in
+    ap {B = Result (Option ℤ) Fault} (λ t. if t then Ok (Some value) else Err OutOfRange) (sym out)
 
 -- the highest difference at a next value in range is a number that a code may have
 highest-below : (k : ℕ) (ds : List ℤ) → length ds + k ≤ 10 → AreBelow (order_bound k) ds → IsShort (highest ds)

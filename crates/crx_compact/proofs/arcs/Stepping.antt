@@ -109,10 +109,6 @@ differences-by_each (suc k) f g h =
     add_back : (a b c : ℤ) → a ≡ b -ℤ c → c +ℤ a ≡ b
     add_back a b c h = omega (arith, ints, h)
 
-length-values : (n : ℕ) (cs : List ℤ) → length (values_of n cs) ≡ length cs
-length-values n [] = refl
-length-values n (c ∷ cs) = ap suc (length-values n cs)
-
 head-numbers : (a b : ℤ) (as' bs : List ℤ) → a ∷ as' ≡ b ∷ bs → a ≡ b
 head-numbers a b as' bs e = ap newest e
 

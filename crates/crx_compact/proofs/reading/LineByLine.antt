@@ -1,138 +1,242 @@
 -- The steps of a reader, line by line, agree with what stands at all lines so far.
-use Rattle.std.specs.Prelude.{◌≡◌, refl, ℕ, suc, ◌+◌, List, [], ◌∷◌, ◌++◌, map, length, Option, Some, None, Result, Ok}
-use Rattle.std.specs.Prelude.{Err}
+use Rattle.std.specs.Prelude.{◌≡◌, refl, ℕ, suc, ◌+◌, List, [], ◌∷◌, ◌++◌, map, length, Option, Some, None, Result}
+use Rattle.std.specs.Prelude.{Ok, Err, slice_get, unwrap_or, ℤ}
 use Rattle.std.specs.Option.{option_map, is_some}
 use Rattle.std.proofs.Common.{sym, ◌∙◌, ap, arith, true≢false}
-use Rattle.std.proofs.lemmas.List.{append_assoc, append-nil}
+use Rattle.std.proofs.lemmas.List.{append_assoc, length-append, take_all}
 use Rattle.std.proofs.lemmas.Simd.{map-map}
 use Rattle.crx_columns.specs.Texts.{patched}
+use Rattle.crx_columns.specs.meaning.Columns.{columns, without_end_blanks}
 use Rattle.crx_faults.specs.meaning.Seen.{ReadLine, Content, Overlong}
 use Rattle.crx_faults.specs.declared.fault.Fault.{Fault}
+use Rattle.crx_faults.specs.declared.fault.Fault.TheVariants.{BadClock, Truncated}
+use Rattle.crx_faults.specs.declared.limits.TheConstants.{CLOCK_WIDTH, HEAD_WIDTH}
+use Rattle.crx_header.specs.meaning.EpochColumns.{begins_epoch}
 use Rattle.crx_header.specs.meaning.ObservationTypes.{Count}
+use Rattle.crx_rinex.specs.meaning.Observations.{Row}
 use Rattle.crx_rinex.specs.meaning.Places.{Place, Here, Wrong, Wanted, then_place, after_lines, one_line}
+use Rattle.crx_text.specs.meaning.Codes.{code_of}
 use Rattle.crx_compact.specs.meaning.Sequences.{and_then}
 use Rattle.crx_compact.specs.meaning.EpochText.{Satellite}
-use Rattle.crx_compact.specs.meaning.Expansion.{RawRow}
+use Rattle.crx_compact.specs.meaning.Expansion.{RawEpoch, RawRow}
 use Rattle.crx_compact.specs.meaning.CompactPlaces.{BegunEpoch, epoch_begun, satellites_of_line}
-use Rattle.crx_compact.specs.meaning.Cells.{ReadCell}
+use Rattle.crx_compact.specs.meaning.Cells.{ReadCell, cell_read}
 use Rattle.crx_compact.specs.meaning.CompactPlaces.{clock_line_read, ReadRow, satellite_line_read, rows_read}
 use Rattle.crx_compact.specs.meaning.CompactPlaces.{epoch_of_rows, epoch_after_line}
-use Rattle.crx_compact.specs.Tails.{Tail}
-use Rattle.crx_compact.specs.Steps.{tail_named, raw_row_tail_after}
-use Rattle.crx_compact.specs.HeldRows.{past_of_tail, HeldRow}
-use Rattle.crx_compact.specs.OpenEpochs.{tail_for_line, epoch_after, HeldClock, HeldEpoch}
-use Rattle.crx_compact.specs.OpenEpochs.{OpenRawEpoch, RawStep, opened_raw, opening, first_step, whole_epoch}
-use Rattle.crx_compact.specs.OpenEpochs.{whole_or_awaiting, held_clock, raw_step_with_clock}
-use Rattle.crx_compact.specs.HeldRows.{held_row}
-use Rattle.crx_compact.specs.OpenEpochs.{raw_step_with_row, next_step, placed_as, held_after, place_of_step}
+use Rattle.crx_compact.specs.ArcTails.{ArcTail}
+use Rattle.crx_compact.specs.ArcSteps.{arc_of_code, shown_value}
+use Rattle.crx_compact.specs.Tails.{RowTail, Tail}
+use Rattle.crx_compact.specs.Steps.{no_tail, raw_row_tail_after, raw_tail_after, tail_named}
+use Rattle.crx_compact.specs.HeldRows.{held_row, HeldRow, past_of_tail}
+use Rattle.crx_compact.specs.Placing.{padded}
+use Rattle.crx_compact.specs.ShownRows.{shown_row}
+use Rattle.crx_compact.specs.OpenEpochs.{tail_for_line, epoch_after, HeldEpoch, OpenRawEpoch, RawStep, before_clock}
+use Rattle.crx_compact.specs.OpenEpochs.{with_rows, opened_raw, opening, first_step, whole_epoch, whole_or_awaiting}
+use Rattle.crx_compact.specs.OpenEpochs.{rows_before, tail_opened, raw_step_with_clock, raw_step_with_row, row_step}
+use Rattle.crx_compact.specs.OpenEpochs.{step_with_rows, next_step, placed_as, held_after, place_of_step}
 use Rattle.crx_compact.specs.OpenEpochs.{place_of_steps, open_raw_after}
 use Rattle.crx_compact.specs.OpenEpochs.RawStep.{Going, Whole, Faulty}
 use Rattle.crx_compact.specs.ReadingLaws.{is_wanted, StepsAgree, WantedWhereOpen, StepsFromOpen}
+use Rattle.crx_compact.proofs.CellsRead.{shown-code}
+use Rattle.crx_compact.proofs.Results.{if-err}
+use Rattle.crx_compact.proofs.ShownRows.{set-next}
+use Rattle.crx_compact.proofs.reading.PaddedRows.{row-opened, row-shows}
+use Rattle.crx_compact.proofs.soundness.Soundness.{Paired, RowFacts, read-cell, rows-facts}
 
 -- ---- the satellite lines
 
--- the epoch that an open one makes with the rows of a place after those so far
-abbrev rows_placed : OpenRawEpoch → HeldClock → List HeldRow → Place (List ReadRow) → Place HeldEpoch
-rows_placed begun clock rows p =
-    placed_as (λ (more : List ReadRow). whole_epoch begun clock (rows ++ map (held_row begun.before) more)) p
+-- what the lines of some rows leave of their satellites
+abbrev rows_left : Tail → List ReadRow → List RowTail
+rows_left before rows = map (λ (r : ReadRow). (held_row before r).tail) rows
+
+-- a tail with these rows
+abbrev tail_with : List ℕ → Option ArcTail → List RowTail → Tail
+tail_with text arc rows = record { text = text; clock = arc; rows = rows }
+
+-- the epoch that the rows so far make with those of a place after them
+abbrev rows_placed : Tail → List ℕ → Option ArcTail → List RowTail → Place (List ReadRow) → Place HeldEpoch
+rows_placed before text arc rows p =
+    placed_as (λ (more : List ReadRow). whole_epoch (tail_with text arc (rows ++ rows_left before more))) p
 
 -- a row before the others
 abbrev row_onto : ReadRow → List ReadLine → Place (List ReadRow) → Place (List ReadRow)
 row_onto read lines p = then_place p lines (λ more rest. Here (read ∷ more) 0)
 
-one-more : (begun : OpenRawEpoch) (clock : HeldClock)
-    (rows : List HeldRow) (read : ReadRow) (lines : List ReadLine) (count : ℕ) (p : Place (List ReadRow))
-    → after_lines (suc (suc count)) (rows_placed begun clock (rows ++ held_row begun.before read ∷ []) p)
-    ≡ after_lines (suc count) (rows_placed begun clock rows (after_lines 1 (row_onto read lines p)))
-one-more begun clock rows read lines count (Here more n) =
-    grind (arith, append_assoc rows (held_row begun.before read ∷ []) (map (held_row begun.before) more))
-one-more begun clock rows read lines count (Wrong n q) = ap {B = Place HeldEpoch} (λ k. Wrong k q) (omega arith)
-one-more begun clock rows read lines count Wanted = refl
+one-more : (before : Tail) (text : List ℕ) (arc : Option ArcTail)
+    (rows : List RowTail) (read : ReadRow) (lines : List ReadLine) (count : ℕ) (p : Place (List ReadRow))
+    → after_lines (suc (suc count)) (rows_placed before text arc (rows ++ (held_row before read).tail ∷ []) p)
+    ≡ after_lines (suc count) (rows_placed before text arc rows (after_lines 1 (row_onto read lines p)))
+one-more before text arc rows read lines count (Here more n) =
+    grind (arith, append_assoc rows ((held_row before read).tail ∷ []) (rows_left before more))
+one-more before text arc rows read lines count (Wrong n q) = ap {B = Place HeldEpoch} (λ k. Wrong k q) (omega arith)
+one-more before text arc rows read lines count Wanted = refl
+
+-- what is behind the first rows
+get-next : {X : Type 0} (xs ys : List X) (x : X) → slice_get (xs ++ x ∷ ys) (length xs) ≡ Some x
+get-next [] ys x = refl
+get-next (z ∷ zs) ys x = get-next zs ys x
+
+none-left : {X : Type 0} (xs : List X) → slice_get (xs ++ []) (length xs) ≡ None
+none-left [] = refl
+none-left (x ∷ xs) = none-left xs
 
 -- the awaited satellites' lines, one step each
-rows-steps : (begun : OpenRawEpoch)
-    (clock : HeldClock) (rows : List HeldRow) (awaited : List Satellite) (count : ℕ) (lines : List ReadLine)
-    → place_of_steps count (whole_or_awaiting begun clock rows awaited) lines
-    ≡ after_lines (suc count) (rows_placed begun clock rows (rows_read (past_of_tail begun.before) awaited lines))
-rows-steps begun clock rows [] count lines = grind (arith, append-nil rows)
-rows-steps begun clock rows (s ∷ ss) count [] = refl
-rows-steps begun clock rows (s ∷ ss) count (Overlong ∷ lines) = grind arith
-rows-steps begun clock rows (s ∷ ss) count (Content line ∷ lines) =
-    step (satellite_line_read (past_of_tail begun.before) s line) (λ read.
-    rows-steps (record begun { clock = Some clock; rows = rows; awaited = s ∷ ss }) clock
-    (rows ++ held_row begun.before read ∷ []) ss (suc count) lines)
+rows-steps : (before : Tail) (text : List ℕ) (arc : Option ArcTail)
+    (rows : List RowTail) (awaited : List Satellite) (count : ℕ) (lines : List ReadLine)
+    → place_of_steps count (step_with_rows (tail_with text arc (rows ++ rows_before before awaited)) (length rows))
+    lines
+    ≡ after_lines (suc count) (rows_placed before text arc rows (rows_read (past_of_tail before) awaited lines))
+rows-steps before text arc rows [] count lines =
+    ap {B = Place HeldEpoch} (λ (o : Option RowTail).
+    place_of_steps count (whole_or_awaiting (tail_with text arc (rows ++ [])) (length rows) o) lines)
+    (none-left rows)
+    ∙ ap {B = Place HeldEpoch} (λ k. Here (whole_epoch (tail_with text arc (rows ++ []))) k) (omega arith)
+rows-steps before text arc rows (s ∷ ss) count [] =
+    ap {B = Place HeldEpoch} (λ (o : Option RowTail).
+    place_of_steps count
+    (whole_or_awaiting (tail_with text arc (rows ++ rows_before before (s ∷ ss))) (length rows) o) [])
+    (get-next rows (rows_before before ss) (padded s (tail_named s.name before)))
+rows-steps before text arc rows (s ∷ ss) count (Overlong ∷ lines) =
+    ap {B = Place HeldEpoch} (λ (o : Option RowTail).
+    place_of_steps count (whole_or_awaiting (tail_with text arc (rows ++ rows_before before (s ∷ ss))) (length rows) o)
+    (Overlong ∷ lines)) (get-next rows (rows_before before ss) (padded s (tail_named s.name before)))
+    ∙ grind arith
+rows-steps before text arc rows (s ∷ ss) count (Content line ∷ lines) =
+    let row : RowTail = padded s (tail_named s.name before) in
+    let tail : Tail = tail_with text arc (rows ++ rows_before before (s ∷ ss)) in
+    let there : slice_get tail.rows (length rows) ≡ Some row = get-next rows (rows_before before ss) row in
+    ap {B = Place HeldEpoch} (λ (o : Option RowTail).
+    place_of_steps count (whole_or_awaiting tail (length rows) o) (Content line ∷ lines)) there
+    ∙ ap {B = Place HeldEpoch} (λ (o : Option RowTail).
+    place_of_steps (suc count) (row_step (with_rows tail (length rows)) o line) lines) there
+    ∙ ap {B = Place HeldEpoch} (λ (r : Result HeldRow Fault).
+    place_of_steps (suc count) (raw_step_with_row (with_rows tail (length rows)) r) lines) (row-opened before s line)
+    ∙ step (satellite_line_read (past_of_tail before) s line) (λ read.
+    rows-steps before text arc (rows ++ (held_row before read).tail ∷ []) ss (suc count) lines)
   where
+    opened : List RowTail
+    opened = rows_before before ss
+
+    so_far : OpenRawEpoch
+    so_far = with_rows (tail_with text arc (rows ++ rows_before before (s ∷ ss))) (length rows)
+
     step : (r : Result ReadRow Fault)
-        → ((read : ReadRow) → place_of_steps (suc count) (whole_or_awaiting (record begun {
-          clock = Some clock;
-          rows = rows;
-          awaited = s ∷ ss;
-        }) clock (rows ++ held_row begun.before read ∷ []) ss) lines
-        ≡ after_lines (suc (suc count)) (rows_placed (record begun {
-          clock = Some clock;
-          rows = rows;
-          awaited = s
-              ∷ ss;
-        }) clock (rows ++ held_row begun.before read ∷ []) (rows_read (past_of_tail begun.before) ss lines)))
-        → place_of_steps (suc count) (raw_step_with_row
-        (record begun { clock = Some clock; rows = rows; awaited = s ∷ ss }) clock ss r) lines
-        ≡ after_lines (suc count) (rows_placed begun clock rows (then_place (one_line r)
-        (Content line ∷ lines) (λ row more. row_onto row more (rows_read (past_of_tail begun.before) ss more))))
+        → ((read : ReadRow) → place_of_steps (suc count) (step_with_rows (tail_with text arc
+        ((rows ++ (held_row before read).tail ∷ []) ++ opened)) (length (rows ++ (held_row before read).tail ∷ [])))
+        lines
+        ≡ after_lines (suc (suc count)) (rows_placed before text arc (rows ++ (held_row before read).tail ∷ [])
+        (rows_read (past_of_tail before) ss lines)))
+        → place_of_steps (suc count) (raw_step_with_row so_far
+        (and_then r (λ (read : ReadRow). Ok (held_row before read)))) lines
+        ≡ after_lines (suc count) (rows_placed before text arc rows (then_place (one_line r)
+        (Content line ∷ lines) (λ row more. row_onto row more (rows_read (past_of_tail before) ss more))))
     step (Err q) next = ap {B = Place HeldEpoch} (λ k. Wrong k q) (omega arith)
-    step (Ok read) next = next read
-        ∙ one-more begun clock rows read lines count (rows_read (past_of_tail begun.before) ss lines)
+    step (Ok read) next =
+        let left : RowTail = (held_row before read).tail in
+        let more = length-append rows (left ∷ []) in
+        let many : suc (length rows) ≡ length (rows ++ left ∷ []) = omega (arith, more) in
+        ap {B = Place HeldEpoch} (λ (all : List RowTail).
+        place_of_steps (suc count) (step_with_rows (tail_with text arc all) (suc (length rows))) lines)
+        (set-next rows opened (padded s (tail_named s.name before)) left)
+        ∙ ap {B = Place HeldEpoch} (λ n. place_of_steps (suc count)
+        (step_with_rows (tail_with text arc ((rows ++ left ∷ []) ++ opened)) n) lines) many
+        ∙ next read ∙ one-more before text arc rows read lines count (rows_read (past_of_tail before) ss lines)
 
 -- ---- the clock line and the epoch line
 
--- an epoch whose line was read, as it is read and as it is held
+-- an epoch whose line was read
 abbrev read_begun : Tail → List ℕ → List Satellite → BegunEpoch
 read_begun before line satellites = record { line = line; past = past_of_tail before; satellites = satellites }
 
-abbrev held_begun : Tail → List ℕ → List Satellite → OpenRawEpoch
-held_begun before line satellites =
-    record { before = before; text = patched before.text line; clock = None; rows = []; awaited = satellites }
+-- rows are shown by what they leave
+rows-shown : (before : Tail) (satellites : List Satellite) (rows : List ReadRow)
+    → Paired (RowFacts (past_of_tail before)) satellites rows
+    → map (λ (r : ReadRow). r.row) rows ≡ map shown_row (rows_left before rows)
+rows-shown before [] [] h = refl
+rows-shown before [] (r ∷ rs) h = absurd h
+rows-shown before (s ∷ ss) [] h = absurd h
+rows-shown before (s ∷ ss) (r ∷ rs) h = cc (row-shows before s r h.0, rows-shown before ss rs h.1)
+
+-- a clock is shown by what it leaves
+clock-shown : (before : Tail) (line : List ℕ) (cell : ReadCell)
+    → clock_line_read (past_of_tail before) line ≡ Ok cell
+    → shown_value (arc_of_code cell.code before.clock) ≡ cell.value
+clock-shown before line cell e =
+    let value = (past_of_tail before).clock in
+    let text = without_end_blanks line in
+    let read = if-err (begins_epoch line) Truncated (cell_read BadClock value (code_of text)) cell e in
+    shown-code CLOCK_WIDTH cell.code before.clock cell.value (read-cell BadClock value text cell read).meant
 
 held-same : (before : Tail) (line : List ℕ) (satellites : List Satellite)
     (cell : ReadCell) (rows : List ReadRow) (tail : Option Tail) → tail_for_line tail line ≡ Some before
+    → shown_value (arc_of_code cell.code before.clock) ≡ cell.value
+    → map (λ (r : ReadRow). r.row) rows ≡ map shown_row (rows_left before rows)
     → held_after tail (epoch_of_rows (read_begun before line satellites) cell rows)
-    ≡ whole_epoch (held_begun before line satellites) (held_clock before cell) (map (held_row before) rows)
-held-same before line satellites cell rows tail h =
-    cc (
-      h,
-      map-map (λ (q : HeldRow). q.row) (held_row before) rows,
-      map-map (λ (q : HeldRow). q.tail) (held_row before) rows,
-      map-map (λ (r : RawRow). raw_row_tail_after (tail_named r.name before) r) (λ (r : ReadRow). r.raw) rows,
-    )
+    ≡ whole_epoch (tail_with (patched before.text line) (arc_of_code cell.code before.clock) (rows_left before rows))
+held-same before line satellites cell rows tail h clock shown =
+    let raw : RawEpoch = (epoch_of_rows (read_begun before line satellites) cell rows).raw in
+    let text : List ℕ = patched before.text line in
+    let head : List ℕ = columns text 1 HEAD_WIDTH in
+    let arc : Option ArcTail = arc_of_code cell.code before.clock in
+    let read : List Row = map (λ (r : ReadRow). r.row) rows in
+    let left : List RowTail = rows_left before rows in
+    ap {B = HeldEpoch} (λ (o : Option Tail). record {
+      epoch = record { head = head; clock = cell.value; rows = read };
+      tail = raw_tail_after (unwrap_or o no_tail) raw;
+    }) h
+    ∙ ap {B = HeldEpoch} (λ (rs : List RowTail). record {
+      epoch = record { head = head; clock = cell.value; rows = read };
+      tail = tail_with text arc rs;
+    }) (map-map (λ (r : RawRow). raw_row_tail_after (tail_named r.name before) r) (λ (r : ReadRow). r.raw) rows)
+    ∙ ap {B = HeldEpoch} (λ (value : Option ℤ). record {
+      epoch = record { head = head; clock = value; rows = read };
+      tail = tail_with text arc left;
+    }) (sym clock)
+    ∙ ap {B = HeldEpoch} (λ (rs : List Row). record {
+      epoch = record { head = head; clock = shown_value arc; rows = rs };
+      tail = tail_with text arc left;
+    }) (shown ∙ ap (map shown_row) (sym (take_all (length left) left (omega arith))))
 
 read_rows-held : (before : Tail) (line : List ℕ) (satellites : List Satellite)
     (cell : ReadCell) (tail : Option Tail) (lines : List ReadLine) (p : Place (List ReadRow))
-    → tail_for_line tail line ≡ Some before
+    → tail_for_line tail line ≡ Some before → shown_value (arc_of_code cell.code before.clock) ≡ cell.value
+    → rows_read (past_of_tail before) satellites lines ≡ p
     → placed_as (held_after tail) (after_lines 1 (after_lines 1
     (then_place p lines (λ rows rest. Here (epoch_of_rows (read_begun before line satellites) cell rows) 0))))
-    ≡ after_lines 2 (rows_placed (held_begun before line satellites) (held_clock before cell) [] p)
-read_rows-held before line satellites cell tail lines (Here rows n) h =
-    grind (arith, held-same before line satellites cell rows tail h)
-read_rows-held before line satellites cell tail lines (Wrong n q) h =
+    ≡ after_lines 2
+    (rows_placed before (patched before.text line) (arc_of_code cell.code before.clock) [] p)
+read_rows-held before line satellites cell tail lines (Here rows n) h clock e =
+    let facts = rows-facts (past_of_tail before) satellites lines rows n e in
+    grind (
+      arith,
+      held-same before line satellites cell rows tail h clock
+          (rows-shown before satellites rows facts.each),
+    )
+read_rows-held before line satellites cell tail lines (Wrong n q) h clock e =
     ap {B = Place HeldEpoch} (λ k. Wrong k q) (omega arith)
-read_rows-held before line satellites cell tail lines Wanted h = refl
+read_rows-held before line satellites cell tail lines Wanted h clock e = refl
 
 clock-steps : (before : Tail) (line : List ℕ) (satellites : List Satellite) (tail : Option Tail) (lines : List ReadLine)
     → tail_for_line tail line ≡ Some before
     → placed_as (held_after tail) (after_lines 1 (epoch_after_line (read_begun before line satellites) lines))
-    ≡ place_of_steps 0 (Going (held_begun before line satellites)) lines
+    ≡ place_of_steps 0 (Going (before_clock (tail_opened before line satellites))) lines
 clock-steps before line satellites tail [] h = refl
 clock-steps before line satellites tail (Overlong ∷ lines) h = refl
-clock-steps before line satellites tail (Content text ∷ lines) h = step (clock_line_read (past_of_tail before) text)
+clock-steps before line satellites tail (Content text ∷ lines) h =
+    step (clock_line_read (past_of_tail before) text) refl
   where
-    step : (r : Result ReadCell Fault)
+    step : (r : Result ReadCell Fault) → clock_line_read (past_of_tail before) text ≡ r
         → placed_as (held_after tail) (after_lines 1 (then_place (one_line r) (Content text ∷ lines)
         (λ clock others. then_place (rows_read (past_of_tail before) satellites others) others
         (λ rows rest. Here (epoch_of_rows (read_begun before line satellites) clock rows) 0))))
-        ≡ place_of_steps 1 (raw_step_with_clock (held_begun before line satellites) r) lines
-    step (Err q) = refl
-    step (Ok cell) =
-        read_rows-held before line satellites cell tail lines (rows_read (past_of_tail before) satellites lines) h
-        ∙ sym (rows-steps (held_begun before line satellites) (held_clock before cell) [] satellites 1 lines)
+        ≡ place_of_steps 1 (raw_step_with_clock (before_clock (tail_opened before line satellites)) r) lines
+    step (Err q) e = refl
+    step (Ok cell) e =
+        let past = past_of_tail before in
+        let arc : Option ArcTail = arc_of_code cell.code before.clock in
+        read_rows-held before line satellites cell tail lines (rows_read past satellites lines) h
+        (clock-shown before text cell e) refl
+        ∙ sym (rows-steps before (patched before.text line) arc [] satellites 1 lines)
 
 pub steps-agree : (types : List Count) (tail : Option Tail) (lines : List ReadLine) → StepsAgree types tail lines
 steps-agree types tail [] = refl
@@ -142,7 +246,7 @@ steps-agree types tail (Content line ∷ lines) = by_tail (tail_for_line tail li
     by_line : (before : Tail) (r : Result (List Satellite) Fault) → tail_for_line tail line ≡ Some before
         → placed_as (held_after tail) (then_place (one_line (and_then r (λ ss. Ok (read_begun before line ss))))
         (Content line ∷ lines) (λ b others. epoch_after_line b others))
-        ≡ place_of_steps 0 (opening (and_then r (λ ss. Ok (held_begun before line ss)))) lines
+        ≡ place_of_steps 0 (opening (and_then r (λ ss. Ok (before_clock (tail_opened before line ss))))) lines
     by_line before (Err q) h = refl
     by_line before (Ok satellites) h = clock-steps before line satellites tail lines h
 

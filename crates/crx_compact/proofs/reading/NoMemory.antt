@@ -1,12 +1,13 @@
--- That memory ran out is no fault of a satellite's line.
+-- That memory ran out is no fault of a clock line or a satellite's line.
 use Rattle.std.specs.Prelude.{◌≡◌, ℕ, suc, ℤ, List, [], ◌∷◌, Bool, true, false, Option, None, Some, Result, Ok, Err}
-use Rattle.std.specs.Prelude.{not, if◌then◌else◌}
+use Rattle.std.specs.Prelude.{not, if◌then◌else◌, slice_index_or}
 use Rattle.std.proofs.Common.{◌∙◌, ap}
 use Rattle.crx_text.specs.declared.code.Code.{Code}
 use Rattle.crx_text.specs.declared.code.Code.TheVariants.{Missing, Start, Step}
 use Rattle.crx_text.specs.meaning.Codes.{code_of}
 use Rattle.crx_faults.specs.declared.fault.Fault.{Fault}
-use Rattle.crx_faults.specs.declared.fault.Fault.TheVariants.{BadField, BadFlags, OutOfMemory, OutOfRange, Truncated}
+use Rattle.crx_faults.specs.declared.fault.Fault.TheVariants.{BadField, BadFlags, OutOfMemory, OutOfRange}
+use Rattle.crx_faults.specs.declared.fault.Fault.TheVariants.{Truncated}
 use Rattle.crx_faults.specs.declared.limits.TheConstants.{OBSERVATION_WIDTH}
 use Rattle.crx_header.specs.meaning.EpochColumns.{begins_epoch}
 use Rattle.crx_compact.specs.meaning.Sequences.{and_then, before_all}
@@ -18,12 +19,13 @@ use Rattle.crx_compact.specs.meaning.Cells.{after_cells}
 use Rattle.crx_compact.specs.meaning.CompactPlaces.{row_of_cells}
 use Rattle.crx_compact.proofs.Marks.{row_of_line, row_with_marks}
 use Rattle.crx_compact.specs.meaning.CompactPlaces.{satellite_line_read}
-use Rattle.crx_compact.specs.HeldRows.{HeldRow, held_row, past_of_tail}
-use Rattle.crx_compact.specs.HeldRows.{row_after}
-use Rattle.crx_compact.specs.Steps.{cell_of_tail, tail_named}
+use Rattle.crx_compact.specs.meaning.Past.{Past}
+use Rattle.crx_compact.specs.HeldRows.{HeldRow, arcs_of_tail, held_from, past_of_row, row_held}
+use Rattle.crx_compact.specs.Cells.{value_at_place}
+use Rattle.crx_compact.specs.Steps.{flags_of_tail}
 use Rattle.crx_compact.specs.ArcSteps.{value_of_code}
 use Rattle.crx_compact.specs.ArcTails.{ArcTail}
-use Rattle.crx_compact.specs.Tails.{Tail}
+use Rattle.crx_compact.specs.Tails.{RowTail}
 
 abbrev fault_in : {X : Type 0} → Result X Fault → Fault
 fault_in (Ok x) = Truncated
@@ -72,24 +74,32 @@ cells-none value h (text ∷ texts) =
     before cell (Ok cells) k = λ e. cc
     before cell (Err fault) k = k
 
-pub no-memory-at-row : (before : Tail) (s : Satellite) (line : List ℕ) (fault : Fault)
-    → row_after before s line ≡ Err fault → fault ≡ OutOfMemory → ⊥
-no-memory-at-row before s line fault e out =
-    and-then-none {Y = HeldRow} (satellite_line_read (past_of_tail before) s line)
-    (λ read. Ok (held_row before read)) (by_start (begins_epoch line)) (λ read h. cc) (ap fault_in e ∙ out)
+pub no-memory-at-row : (kept : Option RowTail) (s : Satellite) (line : List ℕ) (fault : Fault)
+    → row_held kept s line ≡ Err fault → fault ≡ OutOfMemory → ⊥
+no-memory-at-row kept s line fault e out =
+    and-then-none {Y = HeldRow} (satellite_line_read past s line)
+    (λ read. Ok (held_from arcs flags read)) (by_start (begins_epoch line)) (λ read h. cc) (ap fault_in e ∙ out)
   where
+    arcs : List (Option ArcTail)
+    arcs = arcs_of_tail kept
+
+    flags : List ℕ
+    flags = flags_of_tail kept
+
+    past : Past
+    past = past_of_row arcs flags
+
     by_marks : (cells : List ReadCell) (b : Bool) → NoMemory {X = ReadRow} (if not b
         then Err BadFlags
-        else Ok (row_of_cells (past_of_tail before) s.name (after_cells s.count line) cells))
-    by_marks cells true = λ e. cc
-    by_marks cells false = λ e. cc
+        else Ok (row_of_cells past s.name (after_cells s.count line) cells))
+    by_marks cells true = λ h. cc
+    by_marks cells false = λ h. cc
 
-    by_start : (b : Bool) → NoMemory {X = ReadRow}
-        (if b then Err Truncated else row_of_line (past_of_tail before) s line)
-    by_start true = λ e. cc
+    by_start : (b : Bool) → NoMemory {X = ReadRow} (if b then Err Truncated else row_of_line past s line)
+    by_start true = λ h. cc
     by_start false =
-        and-then-none (cells_read ((past_of_tail before).value s.name) (cells_of s.count line))
-        (λ cells. row_with_marks (past_of_tail before) s (after_cells s.count line) cells)
-        (cells-none ((past_of_tail before).value s.name) (λ place code.
-        value-none OBSERVATION_WIDTH code (cell_of_tail place (tail_named s.name before))) (cells_of s.count line))
+        and-then-none (cells_read (value_at_place arcs) (cells_of s.count line))
+        (λ cells. row_with_marks past s (after_cells s.count line) cells)
+        (cells-none (value_at_place arcs) (λ place code.
+        value-none OBSERVATION_WIDTH code (slice_index_or arcs place None)) (cells_of s.count line))
         (λ cells. by_marks cells (are_marks s.count (after_cells s.count line)))

@@ -1,26 +1,112 @@
--- What a line makes of an open epoch, by what was read of it.
-use Rattle.std.specs.Prelude.{◌≡◌, ℕ, List, [], ◌∷◌, ◌++◌, Some, Result, Ok, Err}
+-- What a line makes of an open epoch, by what was read of it into a history.
+use Rattle.std.specs.Prelude.{◌≡◌, refl, ◌≤◌, ◌<◌, ℕ, ◌+◌, true, List, [], ◌∷◌, length, map}
+use Rattle.std.specs.Prelude.{Option, Some, None, Result, Ok, Err, slice_get, slice_set}
+use Rattle.std.proofs.Common.{sym, ◌∙◌, ap, arith, add-one}
+use Rattle.std.proofs.lemmas.List.{take_all}
+use Rattle.std.proofs.lemmas.Option.{slice_get-get_or, slice_get_past}
+use Rattle.crx_columns.specs.meaning.Columns.{columns}
 use Rattle.crx_faults.specs.declared.fault.Fault.{Fault}
-use Rattle.crx_compact.specs.meaning.EpochText.{Satellite}
-use Rattle.crx_compact.specs.meaning.CompactPlaces.{ReadRow, satellite_line_read}
-use Rattle.crx_compact.specs.OpenEpochs.{HeldClock, OpenRawEpoch, whole_or_awaiting}
-use Rattle.crx_compact.specs.HeldRows.{HeldRow, held_row}
-use Rattle.crx_compact.specs.OpenEpochs.{line_step, raw_step_with_row}
-use Rattle.crx_compact.specs.HeldRows.{past_of_tail}
-use Rattle.crx_compact.specs.meaning.Sequences.{and_then}
-use Rattle.crx_compact.specs.HeldRows.{row_after}
+use Rattle.crx_faults.specs.declared.limits.TheConstants.{HEAD_WIDTH}
+use Rattle.crx_faults.specs.meaning.Seen.{Content}
+use Rattle.crx_rinex.specs.meaning.Observations.{Epoch}
+use Rattle.crx_rinex.specs.meaning.Printing.{printed_epoch, printed_head, printed_row}
+use Rattle.crx_compact.specs.ArcSteps.{shown_value}
+use Rattle.crx_compact.specs.ArcTails.{ArcTail}
+use Rattle.crx_compact.specs.HeldRows.{HeldRow, row_held}
+use Rattle.crx_compact.specs.OpenEpochs.{HasMade, HasPrintedLines, Idle, RawStep, Reading, Whole, Going}
+use Rattle.crx_compact.specs.OpenEpochs.{Faulty, next_step}
+use Rattle.crx_compact.specs.OpenEpochs.{raw_step_with_row, row_step, step_with_rows}
+use Rattle.crx_compact.specs.OpenEpochs.{whole_epoch, whole_or_awaiting, with_rows}
+use Rattle.crx_compact.specs.Placing.{IsRowRead, empty_row, OpenHistory, satellite_of, tail_of_history}
+use Rattle.crx_compact.specs.ShownRows.{shown_epoch, shown_row}
+use Rattle.crx_compact.specs.Tails.{RowTail, Tail}
 
--- a satellite line
-row-step : (begun : OpenRawEpoch)
-    (clock : HeldClock) (awaited : List Satellite) (read : Result ReadRow Fault) (held : HeldRow)
-    → and_then read (λ (r : ReadRow). Ok (held_row begun.before r)) ≡ Ok held
-    → raw_step_with_row begun clock awaited read ≡ whole_or_awaiting begun clock (begun.rows ++ held ∷ []) awaited
-row-step begun clock awaited (Ok read) held e = cc
-row-step begun clock awaited (Err fault) held e = cc
+-- ---- satellite lines
 
-pub row-ok : (begun : OpenRawEpoch) (clock : HeldClock) (satellite : Satellite)
-    (awaited : List Satellite) (line : List ℕ) (held : HeldRow) → row_after begun.before satellite line ≡ Ok held
-    → line_step begun (Some clock) (satellite ∷ awaited) line
-    ≡ whole_or_awaiting begun clock (begun.rows ++ held ∷ []) awaited
-row-ok begun clock satellite awaited line held e =
-    row-step begun clock awaited (satellite_line_read (past_of_tail begun.before) satellite line) held e
+-- what the line of the row at a place makes
+row-here : (tail : Tail) (count : ℕ) (line : List ℕ) (row : RowTail) (read : Result HeldRow Fault)
+    → slice_get tail.rows count ≡ Some row → row_held (Some row) (satellite_of row) line ≡ read
+    → next_step (with_rows tail count) (Content line) ≡ raw_step_with_row (with_rows tail count) read
+row-here tail count line row read there e =
+    ap {B = RawStep} (λ (o : Option RowTail). row_step (with_rows tail count) o line) there
+    ∙ ap {B = RawStep} (λ (r : Result HeldRow Fault). raw_step_with_row (with_rows tail count) r) e
+
+pub row-stepped : (old new : OpenHistory) (count : ℕ) (line : List ℕ) → IsRowRead count line old new
+    → next_step (with_rows (tail_of_history old) count) (Content line)
+    ≡ step_with_rows (tail_of_history new) (count + 1)
+row-stepped old new count line h =
+    row-here (tail_of_history old) count line h.row (Ok (record { row = shown_row h.left; tail = h.left }))
+    h.there h.read
+    ∙ ap {B = RawStep} (λ n. step_with_rows (record {
+      text = old.text;
+      clock = old.clock;
+      rows = slice_set old.satellites.rows count h.left;
+    }) n) (sym (add-one count))
+    ∙ ap {B = RawStep} (λ (rs : List RowTail). step_with_rows (record {
+      text = old.text;
+      clock = old.clock;
+      rows = rs;
+    }) (count + 1)) (sym h.rows)
+    ∙ ap {B = RawStep} (λ (t : List ℕ). step_with_rows (record {
+      text = t;
+      clock = old.clock;
+      rows = new.satellites.rows;
+    }) (count + 1)) (sym h.text)
+    ∙ ap {B = RawStep} (λ (arc : Option ArcTail). step_with_rows (record {
+      text = new.text;
+      clock = arc;
+      rows = new.satellites.rows;
+    }) (count + 1)) (sym h.clock)
+
+-- the row that is awaited
+pub row-awaited : (rows : List RowTail) (count : ℕ)
+    → count < length rows → (row : RowTail) × (slice_get rows count ≡ Some row)
+row-awaited rows count h = by_place (slice_get rows count) refl
+  where
+    by_place : (o : Option RowTail) → slice_get rows count ≡ o → (row : RowTail) × (slice_get rows count ≡ Some row)
+    by_place None e = absurd (cc (slice_get-get_or rows count (empty_row []) h, e))
+    by_place (Some row) e = (row, e)
+
+pub row-faulty : (tail : Tail) (count : ℕ) (line : List ℕ) (fault : Fault) → count < length tail.rows
+    → ((row : RowTail) → slice_get tail.rows count ≡ Some row
+    → row_held (Some row) (satellite_of row) line ≡ Err fault)
+    → next_step (with_rows tail count) (Content line) ≡ Faulty fault
+row-faulty tail count line fault h e =
+    let awaited = row-awaited tail.rows count h in
+    row-here tail count line awaited.0 (Err fault) awaited.1 (e awaited.0 awaited.1)
+
+-- ---- more rows, or a whole epoch
+
+rows-awaited : (tail : Tail) (count : ℕ)
+    → count < length tail.rows → step_with_rows tail count ≡ Going (with_rows tail count)
+rows-awaited tail count h =
+    ap {B = RawStep} (λ (o : Option RowTail). whole_or_awaiting tail count o) (row-awaited tail.rows count h).1
+
+pub rows-whole : (tail : Tail) (count : ℕ)
+    → length tail.rows ≤ count → step_with_rows tail count ≡ Whole (whole_epoch tail)
+rows-whole tail count h =
+    ap {B = RawStep} (λ (o : Option RowTail). whole_or_awaiting tail count o) (slice_get_past tail.rows count h)
+
+pub made-more : (step : RawStep) (tail : Tail) (count : ℕ) → step ≡ step_with_rows tail count
+    → count < length tail.rows → HasMade step (Reading (with_rows tail count)) None
+made-more step tail count e h = (with_rows tail count, e ∙ rows-awaited tail count h, refl)
+
+pub made-whole : (step : RawStep) (tail : Tail) (count : ℕ) (epoch : Epoch) → step ≡ step_with_rows tail count
+    → length tail.rows ≤ count → epoch ≡ shown_epoch tail (length tail.rows)
+    → HasMade step (Idle (Some tail)) (Some epoch)
+made-whole step tail count epoch e h shown = (whole_epoch tail, e ∙ rows-whole tail count h, shown, refl)
+
+-- ---- printed lines
+
+-- the lines of the epoch that a tail shows
+pub printed-shown : (tail : Tail) → printed_epoch (shown_epoch tail (length tail.rows))
+    ≡ printed_head (columns tail.text 1 HEAD_WIDTH) (shown_value tail.clock) ∷ map printed_row (map shown_row tail.rows)
+printed-shown tail =
+    ap (λ (rs : List RowTail). printed_head (columns tail.text 1 HEAD_WIDTH) (shown_value tail.clock)
+    ∷ map printed_row (map shown_row rs)) (take_all (length tail.rows) tail.rows (omega arith))
+
+pub printed-whole : (step : RawStep) (tail : Tail) (count : ℕ) (lines : List (List ℕ))
+    → step ≡ step_with_rows tail count → length tail.rows ≤ count
+    → lines ≡ printed_epoch (shown_epoch tail (length tail.rows))
+    → HasPrintedLines step (Idle (Some tail)) true lines
+printed-whole step tail count lines e h printed = (whole_epoch tail, e ∙ rows-whole tail count h, printed, refl)

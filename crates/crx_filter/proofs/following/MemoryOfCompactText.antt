@@ -1,7 +1,6 @@
 -- The memory that an expansion takes, as its lines stand.
 use Rattle.std.proofs.Common.{ℕ, ◌≡◌, Bool, true, false, List, [], ◌∷◌, ◌++◌, length, Option, Some, None, Result}
 use Rattle.std.proofs.Common.{Ok, Err, refl, ap, sym, ◌∙◌}
-use Rattle.std.specs.Option.{is_some}
 use Rattle.std.proofs.lemmas.Option.{none-some}
 use Rattle.crx_faults.specs.meaning.Seen.{ReadLine, Content, Overlong}
 use Rattle.crx_faults.specs.declared.fault.Fault.{Fault}
@@ -9,13 +8,11 @@ use Rattle.crx_header.specs.meaning.ObservationTypes.{Count}
 use Rattle.crx_compact.specs.meaning.CompactPlaces.{ReadEpoch, satellites_of_line}
 use Rattle.crx_compact.specs.meaning.EpochText.{Satellite}
 use Rattle.crx_compact.specs.OpenEpochs.{OpenRawEpoch, RawStep, Going, Whole, Faulty, first_step, is_faulty}
-use Rattle.crx_compact.specs.OpenEpochs.{makes_epoch}
-use Rattle.crx_compact.specs.OpenEpochs.{next_step}
+use Rattle.crx_compact.specs.OpenEpochs.{before_clock, has_come, makes_epoch, next_step, tail_opened}
 use Rattle.crx_compact.specs.OpenEpochs.{open_raw_after, open_raw_with, opened_raw, opening, tail_for_line}
 use Rattle.crx_compact.specs.HeldRows.{past_of_tail}
 use Rattle.crx_compact.specs.Tails.{Tail}
 use Rattle.crx_compact.specs.meaning.Sequences.{and_then}
-use Rattle.crx_columns.specs.Texts.{patched}
 use Rattle.crx_options.specs.meaning.Choices.{Choices}
 use Rattle.crx_reading.specs.meaning.Items.{Item, types_in_force}
 use Rattle.crx_reading.specs.meaning.Memory.{expansion_takes, place_takes}
@@ -68,18 +65,13 @@ last-takes choices items lines count (Faulty fault) takes last a = absurd (cc)
 -- ---- the clock line
 
 abbrev clock_read : RawStep → Bool
-clock_read (Going so_far) = is_some so_far.clock
+clock_read (Going so_far) = has_come so_far.clock
 clock_read (Whole held) = false
 clock_read (Faulty fault) = false
 
 opened-clock : (line : List ℕ) (before : Tail) (read : Result (List Satellite) Fault)
-    → clock_read (opening (and_then read (λ (satellites : List Satellite). Ok (record {
-      before = before;
-      text = patched before.text line;
-      clock = None;
-      rows = [];
-      awaited = satellites;
-    })))) ≡ false
+    → clock_read (opening (and_then read (λ (satellites : List Satellite).
+    Ok (before_clock (tail_opened before line satellites))))) ≡ false
 opened-clock line before (Ok satellites) = refl
 opened-clock line before (Err fault) = refl
 
@@ -96,7 +88,7 @@ first-clock types tail (Content line) = by-tail types line (tail_for_line tail l
 
 -- where the clock line has come, two lines stand before the next one
 takes-next : (items : List (Item ReadEpoch)) (lines : List ReadLine) (so_far : OpenRawEpoch)
-    → compact_open items lines ≡ Some so_far → is_some so_far.clock ≡ true
+    → compact_open items lines ≡ Some so_far → has_come so_far.clock ≡ true
     → expansion_takes (length lines) true ≡ true
 takes-next items [] so_far opens read = absurd (none-some so_far opens)
 takes-next items (line ∷ []) so_far opens read =
@@ -104,7 +96,7 @@ takes-next items (line ∷ []) so_far opens read =
   where
     clock_of : Option OpenRawEpoch → Bool
     clock_of None = false
-    clock_of (Some begun) = is_some begun.clock
+    clock_of (Some begun) = has_come begun.clock
 
     of_step : (step : RawStep) → clock_of (open_raw_after step []) ≡ clock_read step
     of_step (Going begun) = refl
@@ -138,7 +130,7 @@ expansion-takes choices = record {
       (not-true (is_faulty (first_step (types_in_force items) (tail_of_items items) (Content line))) good)
       (agree-content choices items line false other);
   next = λ items lines line so_far opens good.
-      let each = and_parts (is_some so_far.clock) (makes_epoch (next_step so_far (Content line))) good in
+      let each = and_parts (has_come so_far.clock) (makes_epoch (next_step so_far (Content line))) good in
       last-takes choices items (lines ++ Content line ∷ []) (length lines) (next_step so_far (Content line))
       (takes-next items lines so_far opens each.0) each.1
       (agree-continues choices items lines (Content line) so_far opens);

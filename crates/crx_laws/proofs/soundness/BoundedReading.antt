@@ -1,11 +1,12 @@
 -- What is held of epochs that are read is within the limits.
-use Rattle.std.specs.Prelude.{◌≡◌, refl, ℕ, zero, suc, ◌+◌, ◌*◌, ◌≤◌, ℤ, true, List, [], ◌∷◌, ◌++◌}
+use Rattle.std.specs.Prelude.{◌≡◌, refl, ℕ, zero, suc, ◌+◌, ◌*◌, ◌≤◌, ◌<◌, ℤ, true, List, [], ◌∷◌, slice_get}
 use Rattle.std.specs.Prelude.{length, map, take, drop, Option, Some, None, Result, Ok, Err, IfSome, ⊤, slice_index_or}
-use Rattle.std.specs.Prelude.{unwrap_or}
+use Rattle.std.specs.Prelude.{slice_set, unwrap_or}
 use Rattle.std.specs.List.{list_all, AllByRecursion}
 use Rattle.std.specs.Option.{option_map}
 use Rattle.std.proofs.Common.{sym, ◌∙◌, ap, subst, arith}
-use Rattle.std.proofs.lemmas.List.{length-map, length-append, length-take}
+use Rattle.std.proofs.lemmas.List.{length-map, length-set, length-take}
+use Rattle.std.proofs.lemmas.Option.{same_Some, slice_get_within}
 use Rattle.crx_columns.proofs.Characters.{length-columns, at, at-without_end_blanks, at-drop}
 use Rattle.crx_columns.specs.meaning.Columns.{is_blank, character_at, before_end_blanks, without_end_blanks, columns}
 use Rattle.crx_text.specs.meaning.Codes.{code_of, coded_number}
@@ -26,7 +27,6 @@ use Rattle.crx_rinex.proofs.Rows.{satellites_few}
 use Rattle.crx_compact.specs.meaning.Sequences.{and_then, named}
 use Rattle.crx_header.specs.meaning.EpochColumns.{begins_epoch}
 use Rattle.crx_compact.specs.meaning.EpochText.{Satellite}
-use Rattle.crx_compact.specs.meaning.Expansion.{RawRow, code_in}
 use Rattle.crx_compact.specs.meaning.Cells.{ReadCell, cell_read}
 use Rattle.crx_compact.specs.meaning.CompactPlaces.{ReadRow}
 use Rattle.crx_compact.specs.meaning.CompactPlaces.{clock_line_read}
@@ -36,13 +36,13 @@ use Rattle.crx_compact.specs.Tails.{RowTail, Tail, IsBoundedRowTail, IsBoundedTa
 use Rattle.crx_compact.specs.Steps.{tail_named, cell_of_tail, flags_of_tail}
 use Rattle.crx_compact.specs.ArcSteps.{onto_sum, differences_by}
 use Rattle.crx_compact.specs.ArcSteps.{arc_of_code}
-use Rattle.crx_compact.specs.HeldRows.{past_of_tail, HeldRow}
-use Rattle.crx_compact.specs.OpenEpochs.{tail_for_line, HeldClock, HeldEpoch, OpenRawEpoch}
-use Rattle.crx_compact.specs.OpenEpochs.{RawStep, Going, Whole, Faulty, opened_raw, opening, first_step}
-use Rattle.crx_compact.specs.OpenEpochs.{whole_or_awaiting, held_clock, raw_step_with_clock}
-use Rattle.crx_compact.specs.HeldRows.{held_row}
-use Rattle.crx_compact.specs.OpenEpochs.{raw_step_with_row, line_step, next_step, place_of_steps, open_raw_after}
-use Rattle.crx_compact.specs.OpenEpochs.{IsBoundedAwaited, IsBoundedHeld, IsBoundedOpen, IsBoundedStep}
+use Rattle.crx_compact.specs.HeldRows.{held_from, past_of_row, past_of_tail}
+use Rattle.crx_compact.specs.Placing.{padded, satellite_of}
+use Rattle.crx_compact.specs.OpenEpochs.{tail_for_line, HeldEpoch, OpenClock, OpenRawEpoch, RawStep, Before, After}
+use Rattle.crx_compact.specs.OpenEpochs.{Going, Whole, Faulty, arc_in, awaited_row, before_clock, first_step}
+use Rattle.crx_compact.specs.OpenEpochs.{line_step, next_step, open_raw_after, opened_raw, opening, past_of_clock}
+use Rattle.crx_compact.specs.OpenEpochs.{place_of_steps, raw_step_with_clock, raw_step_with_row, row_step, rows_before}
+use Rattle.crx_compact.specs.OpenEpochs.{tail_opened, tail_so_far, whole_or_awaiting, IsBoundedOpen, IsBoundedStep}
 use Rattle.crx_compact.specs.ReadingLaws.{ReadAreBounded}
 use Rattle.crx_columns.proofs.EachPlace.{each_place-all, length-each_place}
 use Rattle.crx_compact.proofs.Characters.{same_characters}
@@ -157,105 +157,101 @@ code-kept (c ∷ cs) (suc place) h = code-kept cs place h.1
 
 -- ---- rows
 
-row-read : (before : Tail) (satellite : Satellite) (read : ReadRow)
-    → IsBoundedTail ORDER_LIMIT before → IsBoundedAwaited satellite
-    → RowFacts (past_of_tail before) satellite read → IsBoundedHeld (held_row before read)
-row-read before satellite read h waits facts =
-    let kept = tail_named satellite.name before in
+-- what a line leaves of a satellite
+row-read : (row : RowTail) (read : ReadRow) → IsBoundedRowTail ORDER_LIMIT row
+    → RowFacts (past_of_row row.cells row.flags) (satellite_of row) read
+    → IsBoundedRowTail ORDER_LIMIT (held_from row.cells row.flags read).tail
+row-read row read h facts =
     let marks = read.raw.marks in
-    let few : length facts.cells ≤ TYPES_LIMIT = omega (arith, facts.counted, waits.count) in
     let codes = map (λ (c : ReadCell). c.code) facts.cells in
-    let values = map (λ (c : ReadCell). c.value) facts.cells in
-    let many = length-map facts.cells (λ (c : ReadCell). c.code) in
-    let raw : RawRow = record {
-      name = satellite.name;
-      codes = codes;
-      marks = marks;
-    } in
-    let cell : ℕ → Option ArcTail = λ place. arc_of_code (code_in place raw) (cell_of_tail place kept) in
-    subst (λ r. IsBoundedHeld (held_row before r)) facts.is_read (record {
-      name = waits.name;
-      values = omega (arith, length-map facts.cells (λ (c : ReadCell). c.value), few);
-      flags = omega (
-        arith,
-        length-columns ((past_of_tail before).flags satellite.name marks) 1 (2 * length facts.cells),
-        few,
-      );
-      tail = record {
-        name = waits.name;
-        flags = omega (arith, few, many, length-held (length codes) (patched (flags_of_tail kept) marks));
-        few = omega (arith, length-each_place (length codes) cell, many, few);
-        cells = each_place-all (λ (c : Option ArcTail). IfSome c (IsBoundedArc ORDER_LIMIT)) (length codes)
-            cell (λ place. arc-read (code_in place raw) (cell_of_tail place kept)
-            (code-kept codes place (cells-ordered ((past_of_tail before).value satellite.name) facts.cells
-            facts.are_read)) (arc-kept place kept (named-bounded satellite.name before.rows h.rows)));
-      };
+    let many : length codes ≡ length row.cells =
+    length-map facts.cells (λ (c : ReadCell). c.code) ∙ facts.counted in
+    let most : length row.cells ≤ TYPES_LIMIT = h.few in
+    let cell : ℕ → Option ArcTail = λ place. arc_of_code (slice_index_or codes place Missing)
+    (slice_index_or row.cells place None) in
+    subst (λ r. IsBoundedRowTail ORDER_LIMIT (held_from row.cells row.flags r).tail) facts.is_read (record {
+      name = h.name;
+      flags = omega (arith, most, many, length-held (length codes) (patched row.flags marks));
+      few = omega (arith, length-each_place (length codes) cell, many, most);
+      cells = each_place-all (λ (c : Option ArcTail). IfSome c (IsBoundedArc ORDER_LIMIT)) (length codes) cell
+          (λ place. arc-read (slice_index_or codes place Missing) (slice_index_or row.cells place None)
+          (code-kept codes place (cells-ordered ((past_of_row row.cells row.flags).value row.name) facts.cells
+          facts.are_read)) (cell-bounded row.cells place h.cells));
     })
 
-all-append : {X : Type 0} (P : X → Type 0) (xs ys : List X)
-    → AllByRecursion P xs → AllByRecursion P ys → AllByRecursion P (xs ++ ys)
-all-append P [] ys h k = k
-all-append P (x ∷ xs) ys h k = (h.0, all-append P xs ys h.1 k)
+all-there : {X : Type 0} (P : X → Type 0) (xs : List X) (place : ℕ) (x : X)
+    → AllByRecursion P xs → slice_get xs place ≡ Some x → P x
+all-there P [] place x h e = cc
+all-there P (y ∷ ys) zero x h e = subst P (same_Some y x e) h.0
+all-there P (y ∷ ys) (suc place) x h e = all-there P ys place x h.1 e
 
-tails-bounded : (rows : List HeldRow) → AllByRecursion IsBoundedHeld rows
-    → AllByRecursion (IsBoundedRowTail ORDER_LIMIT) (map (λ (r : HeldRow). r.tail) rows)
-tails-bounded [] h = tt
-tails-bounded (row ∷ rows) h = (IsBoundedHeld.tail h.0, tails-bounded rows h.1)
+all-set : {X : Type 0} (P : X → Type 0) (xs : List X) (place : ℕ) (x : X)
+    → AllByRecursion P xs → P x → AllByRecursion P (slice_set xs place x)
+all-set P [] place x h k = tt
+all-set P (y ∷ ys) zero x h k = (k, h.1)
+all-set P (y ∷ ys) (suc place) x h k = (h.0, all-set P ys place x h.1 k)
 
 -- ---- steps
 
-went-on : (begun : OpenRawEpoch) (clock : HeldClock) (rows : List HeldRow) (awaited : List Satellite)
-    → IsBoundedOpen begun
-    → IfSome clock.arc (IsBoundedArc ORDER_LIMIT) → length rows + length awaited ≤ SATELLITES_LIMIT
-    → AllByRecursion IsBoundedHeld rows
-    → AllByRecursion IsBoundedAwaited awaited → IsBoundedStep (whole_or_awaiting begun clock rows awaited)
-went-on begun clock rows [] h arc few held waits =
-    let same : length (map (λ (r : HeldRow). r.tail) rows) ≡ length rows = length-map rows (λ (r : HeldRow). r.tail) in
-    record { text = h.text; clock = arc; few = omega (arith, same, few); rows = tails-bounded rows held }
-went-on begun clock rows (satellite ∷ awaited) h arc few held waits = grind arith
+so-far-bounded : (begun : OpenRawEpoch) → IsBoundedOpen begun → IsBoundedTail ORDER_LIMIT (tail_so_far begun)
+so-far-bounded begun h = record { text = h.text; clock = h.clock; few = h.few; rows = h.rows }
 
-clock-came : (begun : OpenRawEpoch) (line : List ℕ) (r : Result ReadCell Fault) → clock_line_read
-    (past_of_tail begun.before) line ≡ r → IsBoundedOpen begun → IsBoundedStep (raw_step_with_clock begun r)
+went-on : (tail : Tail) (count : ℕ) (row : Option RowTail)
+    → IsBoundedTail ORDER_LIMIT tail → count ≤ length tail.rows → IsBoundedStep (whole_or_awaiting tail count row)
+went-on tail count None h come = h
+went-on tail count (Some row) h come =
+    record { text = h.text; clock = h.clock; few = h.few; rows = h.rows; come = come }
+
+clock-came : (begun : OpenRawEpoch) (line : List ℕ) (r : Result ReadCell Fault)
+    → clock_line_read (past_of_clock (arc_in begun.clock)) line ≡ r
+    → IsBoundedOpen begun → IsBoundedStep (raw_step_with_clock begun r)
 clock-came begun line (Err fault) e h = tt
 clock-came begun line (Ok cell) e h =
-    let value = (past_of_tail begun.before).clock in
+    let arc : Option ArcTail = arc_in begun.clock in
+    let value = (past_of_clock arc).clock in
     let text = without_end_blanks line in
     let read = if-err (begins_epoch line) Truncated (cell_read BadClock value (code_of text)) cell e in
-    went-on begun (held_clock begun.before cell) begun.rows begun.awaited h
-    (arc-read cell.code begun.before.clock (cell-ordered value cell (read-cell BadClock value text cell read))
-    h.before.clock) h.few h.rows h.awaited
+    let after = arc-read cell.code arc (cell-ordered value cell (read-cell BadClock value text cell read)) h.clock in
+    went-on (record (tail_so_far begun) { clock = arc_of_code cell.code arc }) begun.count (awaited_row begun)
+    (record { text = h.text; clock = after; few = h.few; rows = h.rows }) h.come
 
-row-came : (begun : OpenRawEpoch)
-    (clock : HeldClock) (satellite : Satellite) (awaited : List Satellite) (line : List ℕ) (r : Result ReadRow Fault)
-    → satellite_line_read (past_of_tail begun.before) satellite line ≡ r → IsBoundedOpen begun
-    → IfSome clock.arc (IsBoundedArc ORDER_LIMIT) → length begun.rows + suc (length awaited) ≤ SATELLITES_LIMIT
-    → AllByRecursion IsBoundedAwaited (satellite ∷ awaited)
-    → IsBoundedStep (raw_step_with_row begun clock awaited r)
-row-came begun clock satellite awaited line (Err fault) e h arc few waits = tt
-row-came begun clock satellite awaited line (Ok read) e h arc few waits =
-    let more = length-append begun.rows (held_row begun.before read ∷ []) in
-    went-on begun clock (begun.rows ++ held_row begun.before read ∷ []) awaited h arc
-    (omega (arith, more, few))
-    (all-append IsBoundedHeld begun.rows (held_row begun.before read ∷ []) h.rows (
-      row-read begun.before satellite read h.before waits.0
-          (line-facts (past_of_tail begun.before) satellite line read e),
-      tt,
-    )) waits.1
+row-came : (begun : OpenRawEpoch) (row : RowTail) (line : List ℕ) (r : Result ReadRow Fault)
+    → satellite_line_read (past_of_row row.cells row.flags) (satellite_of row) line ≡ r
+    → IsBoundedOpen begun → awaited_row begun ≡ Some row → IsBoundedStep (raw_step_with_row begun
+    (and_then r (λ (read : ReadRow). Ok (held_from row.cells row.flags read))))
+row-came begun row line (Err fault) e h there = tt
+row-came begun row line (Ok read) e h there =
+    let left : RowTail = (held_from row.cells row.flags read).tail in
+    let rows : List RowTail = slice_set begun.rows begun.count left in
+    let same : length rows ≡ length begun.rows = length-set begun.rows begun.count left in
+    let few : length begun.rows ≤ SATELLITES_LIMIT = h.few in
+    let inside : begun.count < length begun.rows = slice_get_within begun.rows begun.count row there in
+    let kept = all-there (IsBoundedRowTail ORDER_LIMIT) begun.rows begun.count row h.rows there in
+    let made = row-read row read kept (line-facts (past_of_row row.cells row.flags) (satellite_of row) line read e) in
+    went-on (record (tail_so_far begun) { rows = rows }) (suc begun.count) (slice_get rows (suc begun.count)) (record {
+      text = h.text;
+      clock = h.clock;
+      few = omega (arith, same, few);
+      rows = all-set (IsBoundedRowTail ORDER_LIMIT) begun.rows begun.count left h.rows made;
+    }) (omega (arith, same, inside))
 
-line-came : (begun : OpenRawEpoch) (clock : Option HeldClock) (awaited : List Satellite) (line : List ℕ)
-    → IsBoundedOpen begun → IfSome clock (λ (c : HeldClock). IfSome c.arc (IsBoundedArc ORDER_LIMIT))
-    → length begun.rows + length awaited ≤ SATELLITES_LIMIT
-    → AllByRecursion IsBoundedAwaited awaited → IsBoundedStep (line_step begun clock awaited line)
-line-came begun None awaited line h arc few waits =
-    clock-came begun line (clock_line_read (past_of_tail begun.before) line) refl h
-line-came begun (Some clock) [] line h arc few waits = went-on begun clock begun.rows [] h arc few h.rows tt
-line-came begun (Some clock) (satellite ∷ awaited) line h arc few waits =
-    row-came begun clock satellite awaited line
-    (satellite_line_read (past_of_tail begun.before) satellite line) refl h arc few waits
+row-stepped : (begun : OpenRawEpoch) (row : Option RowTail) (line : List ℕ)
+    → awaited_row begun ≡ row → IsBoundedOpen begun → IsBoundedStep (row_step begun row line)
+row-stepped begun None line there h = so-far-bounded begun h
+row-stepped begun (Some row) line there h =
+    row-came begun row line
+    (satellite_line_read (past_of_row row.cells row.flags) (satellite_of row) line) refl h there
+
+line-came : (begun : OpenRawEpoch) (clock : OpenClock) (line : List ℕ)
+    → begun.clock ≡ clock → IsBoundedOpen begun → IsBoundedStep (line_step begun clock line)
+line-came begun (Before arc) line e h =
+    clock-came begun line (clock_line_read (past_of_clock arc) line)
+    (ap (λ (c : OpenClock). clock_line_read (past_of_clock (arc_in c)) line) e) h
+line-came begun (After arc) line e h = row-stepped begun (awaited_row begun) line refl h
 
 next-bounded : (begun : OpenRawEpoch) (line : ReadLine) → IsBoundedOpen begun → IsBoundedStep (next_step begun line)
 next-bounded begun Overlong h = tt
-next-bounded begun (Content line) h = line-came begun begun.clock begun.awaited line h h.clock h.few h.awaited
+next-bounded begun (Content line) h = line-came begun begun.clock line refl h
 
 -- ---- the epoch line
 
@@ -263,26 +259,38 @@ for-line : (tail : Option Tail) (line : List ℕ)
     → IfSome tail (IsBoundedTail ORDER_LIMIT) → IfSome (tail_for_line tail line) (IsBoundedTail ORDER_LIMIT)
 for-line tail line h = grind arith
 
-awaited-bounded : (types : List Count) (satellites : List Satellite)
-    → AreCounts types → AllByRecursion (λ (s : Satellite). types_of_satellite types s.name ≡ Some s.count) satellites
+-- what an epoch line leaves of the satellites
+rows-opened : (types : List Count) (before : Tail) (satellites : List Satellite)
+    → AreCounts types → AllByRecursion (IsBoundedRowTail ORDER_LIMIT) before.rows
+    → AllByRecursion (λ (s : Satellite). types_of_satellite types s.name ≡ Some s.count) satellites
     → AllByRecursion (λ (name : List ℕ). length name ≡ NAME_WIDTH) (names_of satellites)
-    → AllByRecursion IsBoundedAwaited satellites
-awaited-bounded types [] counts h k = tt
-awaited-bounded types (s ∷ ss) counts h k =
-    let typed = typed-parts types s.name s.count h.0 in
+    → AllByRecursion (IsBoundedRowTail ORDER_LIMIT) (rows_before before satellites)
+rows-opened types before [] counts h known named = tt
+rows-opened types before (s ∷ ss) counts h known named =
+    let typed = typed-parts types s.name s.count known.0 in
     let P : Option ℕ → Type 0 = λ o. IfSome o IsAllowedCount in
     let allowed : IsAllowedCount s.count = subst P typed.found (allowed_of types (character_at s.name 1) counts) in
-    (record { name = k.0; count = allowed.1 }, awaited-bounded types ss counts h.1 k.1)
+    let few : s.count ≤ TYPES_LIMIT = allowed.1 in
+    let kept : Option RowTail = tail_named s.name before in (
+      record {
+        name = named.0;
+        flags = omega (arith, few, length-held s.count (flags_of_tail kept));
+        few = omega (arith, few, length-each_place s.count (λ k. cell_of_tail k kept));
+        cells = each_place-all (λ (c : Option ArcTail). IfSome c (IsBoundedArc ORDER_LIMIT)) s.count
+            (λ k. cell_of_tail k kept) (λ k. arc-kept k kept (named-bounded s.name before.rows h));
+      },
+      rows-opened types before ss counts h known.1 named.1,
+    )
 
 opened-bounded : (types : List Count) (before : Tail) (line : List ℕ) (r : Result (List Satellite) Fault)
     → AreCounts types → IsBoundedTail ORDER_LIMIT before → satellites_of_line types (past_of_tail before) line ≡ r
-    → IsBoundedStep (opening (and_then r (λ satellites. Ok
-    (record { before = before; text = patched before.text line; clock = None; rows = []; awaited = satellites }))))
+    → IsBoundedStep (opening (and_then r (λ satellites. Ok (before_clock (tail_opened before line satellites)))))
 opened-bounded types before line (Err fault) counts h e = tt
 opened-bounded types before line (Ok satellites) counts h e =
     let facts = line-facts_of types (past_of_tail before) line satellites e in
     let text = patched before.text line in
     let same = length-map satellites (λ (s : Satellite). s.name) in
+    let opened = length-map satellites (λ (s : Satellite). padded s (tail_named s.name before)) in
     let many = ap (λ (ns : List (List ℕ)). length ns) facts.named.same
     ∙ length-each_place facts.count (λ k. columns text (42 + 3 * k) 3) in
     let within : facts.count ≤ SATELLITES_LIMIT = subst (λ (o : Option ℕ). unwrap_or o 0 ≤ SATELLITES_LIMIT)
@@ -291,15 +299,14 @@ opened-bounded types before line (Ok satellites) counts h e =
     (λ p. sym (at-without_end_blanks (by_position character_of before.text line) (41 + 3 * facts.count + p))
     ∙ blank-after (41 + 3 * facts.count) text facts.ended p) in
     record {
-      before = h;
       text = omega (arith, long, within);
-      clock = tt;
-      few = omega (arith, same, many, within);
-      rows = tt;
-      awaited = awaited-bounded types satellites counts facts.named.known
+      clock = h.clock;
+      few = omega (arith, opened, same, many, within);
+      rows = rows-opened types before satellites counts h.rows facts.named.known
           (subst (λ (ns : List (List ℕ)). AllByRecursion (λ (name : List ℕ). length name ≡ NAME_WIDTH) ns)
           (sym facts.named.same) (each_place-all (λ (name : List ℕ). length name ≡ NAME_WIDTH) facts.count
           (λ k. columns text (42 + 3 * k) 3) (λ k. length-columns text (42 + 3 * k) 3)));
+      come = omega arith;
     }
 
 begun-bounded : (types : List Count) (tail : Option Tail) (line : List ℕ)

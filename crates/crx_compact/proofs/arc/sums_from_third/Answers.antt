@@ -3,14 +3,14 @@ use Rattle.crx_compact.proofs.arc.sums_from_third.Goals as goal
 
 pub overflow_add-second : goal.overflow_add-second
 overflow_add-second c =
-    let o : OntoThird c.args.number c.args.before.now =
-    onto-third c.args.number c.args.before.now c.requires.within c.requires.short c.requires.below in
+    let o : OntoThird c.args.number c.args.differences.now =
+    onto-third c.args.number c.args.differences.now c.requires.within c.requires.short c.requires.below in
     rw (same-bits _ c.ranges.number, same-bits _ o.second_before) o.second
 
 pub overflow_add-first : goal.overflow_add-first
 overflow_add-first c =
-    let o : OntoThird c.args.number c.args.before.now =
-    onto-third c.args.number c.args.before.now c.requires.within c.requires.short c.requires.below in
+    let o : OntoThird c.args.number c.args.differences.now =
+    onto-third c.args.number c.args.differences.now c.requires.within c.requires.short c.requires.below in
     rw (
       same-bits _ c.ranges.number,
       same-bits
@@ -21,8 +21,8 @@ overflow_add-first c =
 
 pub overflow_add-value : goal.overflow_add-value
 overflow_add-value c =
-    let o : OntoThird c.args.number c.args.before.now =
-    onto-third c.args.number c.args.before.now c.requires.within c.requires.short c.requires.below in
+    let o : OntoThird c.args.number c.args.differences.now =
+    onto-third c.args.number c.args.differences.now c.requires.within c.requires.short c.requires.below in
     rw (
       same-bits _ c.ranges.number,
       same-bits _ o.zeroth_before,
@@ -35,8 +35,8 @@ overflow_add-value c =
 
 pub returns : goal.returns
 returns c =
-    let o : OntoThird c.args.number c.args.before.now =
-    onto-third c.args.number c.args.before.now c.requires.within c.requires.short c.requires.below in
+    let o : OntoThird c.args.number c.args.differences.now =
+    onto-third c.args.number c.args.differences.now c.requires.within c.requires.short c.requires.below in
     rw (
       same-bits _ c.ranges.number,
       same-bits _ o.zeroth_before,

@@ -4,16 +4,16 @@ use Rattle.crx_text.proofs.CodeTexts.{code_text_length}
 use Rattle.crx_compact.proofs.arcs.Running.{same-bits}
 use Rattle.crx_compact.proofs.cells.write_value.Goals as goal
 
-pub write_cell-requires-in-Some-third_at-clause-room : goal.write_cell-requires-in-Some-third_at-clause-room
-write_cell-requires-in-Some-third_at-clause-room c =
-    let fits : FitsSigned w64 c.in-Some-third_at.difference = search rules in
-    let short = code_text_length (Step c.in-Some-third_at.difference) c.in-Some-third_at.ensures.short in
+pub write_cell-requires-in-Some-push_third-clause-room : goal.write_cell-requires-in-Some-push_third-clause-room
+write_cell-requires-in-Some-push_third-clause-room c =
+    let fits : FitsSigned w64 c.in-Some-push_third.difference = search rules in
+    let short = code_text_length (Step c.in-Some-push_third.difference) c.in-Some-push_third.ensures.short in
     let room = c.requires.room in
     rw (same-bits _ fits) (omega (arith, short, room))
 
-pub returns-in-Some-third_at-clause-within : goal.returns-in-Some-third_at-clause-within
-returns-in-Some-third_at-clause-within c =
-    let fits : FitsSigned w64 c.in-Some-third_at.difference = search rules in
-    let short = code_text_length (Step c.in-Some-third_at.difference) c.in-Some-third_at.ensures.short in
-    let end = rw (same-bits _ fits) at c.write_cell-in-Some-third_at.ensures.within in
+pub returns-in-Some-push_third-clause-within : goal.returns-in-Some-push_third-clause-within
+returns-in-Some-push_third-clause-within c =
+    let fits : FitsSigned w64 c.in-Some-push_third.difference = search rules in
+    let short = code_text_length (Step c.in-Some-push_third.difference) c.in-Some-push_third.ensures.short in
+    let end = rw (same-bits _ fits) at c.write_cell-in-Some-push_third.ensures.within in
     omega (arith, short, end)

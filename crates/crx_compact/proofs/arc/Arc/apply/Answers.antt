@@ -15,13 +15,13 @@ left (Err fault) new old next ok err = err
 
 pub returns-clause-every : goal.returns-clause-every
 returns-clause-every g c =
-    let value : c.apply_after.result ≡ value_of_code g.row.WIDTH c.args.code c.args.self.now = search rules in
-    let ok : OnOk c.apply_after.result
-    (c.apply_after.new.self ≡ arc_of_code c.args.code c.args.self.now) = search rules in
+    let value : c.apply_next.result ≡ value_of_code g.row.WIDTH c.args.code c.args.self.now = search rules in
+    let ok : OnOk c.apply_next.result
+    (c.apply_next.new.self ≡ arc_of_code c.args.code c.args.self.now) = search rules in
     λ codes h. (
       value ∙ ap (value_of_code g.row.WIDTH c.args.code) h ∙ (values-of_codes g.row.WIDTH c.args.code codes).value,
-      left c.apply_after.result c.apply_after.new.self c.args.self.now
-          (arc_of_code c.args.code c.args.self.now) ok c.apply_after.ensures.err
+      left c.apply_next.result c.apply_next.new.self c.args.self.now
+          (arc_of_code c.args.code c.args.self.now) ok c.apply_next.ensures.err
           ∙ ap {B = Option ArcTail} (λ r. if is_ok r then arc_of_code c.args.code c.args.self.now
           else c.args.self.now) value
           ∙ ap {B = Option ArcTail}

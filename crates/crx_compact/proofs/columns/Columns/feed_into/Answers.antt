@@ -1,37 +1,54 @@
-use Rattle.std.proofs.Common.{◌∙◌, sym, subst, true, List, ℕ, Option, Some, None, if◌then◌else◌}
+use Rattle.std.proofs.Common.{◌≡◌, ◌∙◌, ◌<◌, sym, ap, subst, arith, Bool, length, Some, None, true, false}
 use Rattle.crx_faults.specs.meaning.Seen.{Content}
+use Rattle.crx_compact.specs.OpenEpochs.{ColumnsState, HasMade, HasPrintedLines, Idle, step_in}
+use Rattle.crx_compact.specs.OpenEpochs.{step_with_rows}
+use Rattle.crx_compact.specs.Placing.{tail_of_history}
+use Rattle.crx_compact.specs.PrintedBlocks.{AreLinesTo, IsBlock}
 use Rattle.crx_compact.specs.Tails.{Tail}
-use Rattle.crx_compact.specs.OpenEpochs.{HasPrintedLines, step_in}
-use Rattle.crx_compact.specs.OpenLines.{OpenLines, columns_state}
-use Rattle.crx_compact.proofs.reading.Opening.{line-made, still-made, whole-printed}
+use Rattle.crx_compact.proofs.PrintedBlocks.{block-whole}
+use Rattle.crx_compact.proofs.reading.Stages.{rows-come, rows-left, rows-made, state-rows}
+use Rattle.crx_compact.proofs.reading.StepsByCode.{made-more, printed-whole}
 use Rattle.crx_compact.proofs.columns.Columns.feed_into.Goals as goal
 
-pub returns-in-Ok-clause-made : goal.returns-in-Ok-clause-made
-returns-in-Ok-clause-made c =
-    let self = c.self.inside in
-    let kept : Option Tail = if self.is_kept then Some self.kept else None in
-    let before : Tail = if self.goes_on then self.kept else self.nothing in
-    let step =
-    line-made c.args.self.now kept before c.stands_after-before.result.now self.incoming c.take_line.new.self
-    c.args.line.now c.self.view_is c.requires.open c.stands_after-before.ensures c.in-Ok-true.ensures.ok in
-    let lines : List (List ℕ) = c.print.new.lines in
-    let P : Option OpenLines → Type 0 =
-    λ o. HasPrintedLines (step_in c.args.self.now (Content c.args.line.now))
-    (columns_state (Some c.finish.new.kept) (if self.goes_on then c.finish.new.kept else self.nothing) o) true
-    lines in
-    subst P (sym c.finish.ensures.over)
-    (whole-printed _ c.stands_after-before.result.now c.finish.new.kept c.take_line.new.self lines step
-    c.in-Ok.ensures.lines c.finish.ensures.whole)
-
-pub returns-in-Ok-false-clause-made : goal.returns-in-Ok-false-clause-made
-returns-in-Ok-false-clause-made c =
-    let self = c.self.inside in
-    let kept : Option Tail = if self.is_kept then Some self.kept else None in
-    let before : Tail = if self.goes_on then self.kept else self.nothing in
-    let step =
-    line-made c.args.self.now kept before c.stands_after-before.result.now self.incoming c.take_line.new.self
-    c.args.line.now c.self.view_is c.requires.open c.stands_after-before.ensures c.in-Ok-false.ensures.ok in (
-      still-made _ kept before _ c.take_line.new.self step c.stands_after-before.ensures
-          c.in-Ok-false.ensures.open (sym c.in-Ok-false.ensures.whole ∙ c.in-Ok-false.field-0-test),
+pub returns-then-not-is_whole-clause-made : goal.returns-then-not-is_whole-clause-made
+returns-then-not-is_whole-clause-made c =
+    let inside = c.self.inside in
+    let new = c.take_line.new in
+    let rows = c.in-Ok.ensures in
+    let tail : Tail = tail_of_history new.history in
+    let more : c.in-Ok.is_whole ≡ false = search c.if-not-is_whole in
+    let left : new.count < length new.history.satellites.rows =
+    rows-left new.stage new.count new.history rows.rows (sym rows.whole ∙ more) rows.within in
+    let step : step_in c.args.self.now (Content c.args.line.now) ≡ step_with_rows tail new.count =
+    rows-made inside.is_kept inside.stage inside.count inside.history c.args.self.now c.args.line.now
+    new.stage new.count new.history c.self.view_is c.requires.open rows.made rows.rows in
+    let P : ColumnsState → Type 0 = λ s.
+    HasMade (step_in c.args.self.now (Content c.args.line.now)) s None in (
+      subst P (sym (state-rows inside.is_kept new.stage new.count new.history rows.rows))
+          (made-more _ tail new.count step left),
       c.requires.drained,
     )
+
+pub returns-else-not-is_whole-clause-made : goal.returns-else-not-is_whole-clause-made
+returns-else-not-is_whole-clause-made c =
+    let inside = c.self.inside in
+    let new = c.take_line.new in
+    let rows = c.in-Ok.ensures in
+    let tail : Tail = tail_of_history new.history in
+    let whole : c.in-Ok.is_whole ≡ true = search c.if-not-is_whole in
+    let come : new.count ≡ length new.history.satellites.rows =
+    rows-come new.stage new.count new.history rows.rows (sym rows.whole ∙ whole) in
+    let step : step_in c.args.self.now (Content c.args.line.now) ≡ step_with_rows tail new.count =
+    rows-made inside.is_kept inside.stage inside.count inside.history c.args.self.now c.args.line.now
+    new.stage new.count new.history c.self.view_is c.requires.open rows.made rows.rows in
+    let block = c.print.new.self in
+    let lines : AreLinesTo new.count block.lines new.history =
+    subst (λ n. AreLinesTo n block.lines new.history) c.print.ensures.rows
+    (subst (λ (b : Bool). IsBlock b block.rows block.lines new.history)
+    c.print.ensures.head c.print.ensures.block) in
+    let P : Tail → Type 0 = λ t.
+    HasPrintedLines (step_in c.args.self.now (Content c.args.line.now))
+    (Idle (Some t)) true c.hand_over.new.lines in
+    subst P (sym (ap {B = Tail} tail_of_history c.end.ensures.ended))
+    (printed-whole _ tail new.count c.hand_over.new.lines step (omega (arith, come))
+    (c.hand_over.ensures.lines ∙ block-whole new.history new.count block.lines lines (omega (arith, come))))

@@ -1,33 +1,59 @@
-use Rattle.std.proofs.Common.{◌∙◌, sym, subst, Option, Some, None, if◌then◌else◌}
+use Rattle.std.proofs.Common.{◌≡◌, ◌∙◌, ◌<◌, sym, ap, subst, arith, length, Some, None}
 use Rattle.crx_faults.specs.meaning.Seen.{Content}
+use Rattle.crx_compact.specs.OpenEpochs.{ColumnsState, HasMade, Idle, step_in, step_with_rows}
+use Rattle.crx_compact.specs.Placing.{tail_of_history}
 use Rattle.crx_compact.specs.Tails.{Tail}
-use Rattle.crx_compact.specs.OpenEpochs.{HasMade, step_in}
-use Rattle.crx_compact.specs.OpenLines.{OpenLines, columns_state}
-use Rattle.crx_compact.proofs.reading.Opening.{line-made, still-made, whole-made}
+use Rattle.crx_compact.proofs.reading.Stages.{row-was_awaited, rows-come, rows-left, rows-made, state-rows}
+use Rattle.crx_compact.proofs.reading.Stages.{step-whole}
+use Rattle.crx_compact.proofs.reading.StepsByCode.{made-more, made-whole}
 use Rattle.crx_compact.proofs.columns.Columns.feed_next.Goals as goal
 
 pub returns-in-Ok-clause-made : goal.returns-in-Ok-clause-made
 returns-in-Ok-clause-made c =
-    let self = c.self.inside in
-    let kept : Option Tail = if self.is_kept then Some self.kept else None in
-    let before : Tail = if self.goes_on then self.kept else self.nothing in
-    let step =
-    line-made c.args.self.now kept before c.stands_after-before.result.now self.incoming c.take_line.new.self
-    c.args.line.now c.self.view_is c.requires.open c.stands_after-before.ensures c.in-Ok-true.ensures.ok in
-    let P : Option OpenLines → Type 0 = λ o. HasMade (step_in c.args.self.now (Content c.args.line.now))
-    (columns_state (Some c.finish.new.kept) (if self.goes_on then c.finish.new.kept else self.nothing) o)
-    (Some c.in-Ok.epoch) in
-    subst P (sym c.finish.ensures.over)
-    (whole-made _ c.stands_after-before.result.now c.finish.new.kept c.take_line.new.self c.in-Ok.epoch step
-    c.in-Ok.ensures.ok c.finish.ensures.whole)
+    let inside = c.self.inside in
+    let new = c.take_line.new in
+    let rows = c.in-Ok-true.ensures in
+    let tail : Tail = tail_of_history new.history in
+    let come : new.count ≡ length new.history.satellites.rows =
+    rows-come new.stage new.count new.history rows.rows (sym rows.whole ∙ c.in-Ok-true.field-0-test) in
+    let step : step_in c.args.self.now (Content c.args.line.now) ≡ step_with_rows tail new.count =
+    rows-made inside.is_kept inside.stage inside.count inside.history c.args.self.now c.args.line.now
+    new.stage new.count new.history c.self.view_is c.requires.open rows.made rows.rows in
+    let P : Tail → Type 0 = λ t.
+    HasMade (step_in c.args.self.now (Content c.args.line.now)) (Idle (Some t)) (Some c.in-Ok.epoch) in
+    subst P (sym (ap {B = Tail} tail_of_history c.end.ensures.ended))
+    (made-whole _ tail new.count c.in-Ok.epoch step (omega (arith, come)) c.in-Ok.ensures.ok)
+
+pub returns-in-Err-epoch-clause-memory : goal.returns-in-Err-epoch-clause-memory
+returns-in-Err-epoch-clause-memory c = λ out.
+    let inside = c.self.inside in
+    let new = c.take_line.new in
+    let rows = c.in-Ok-true.ensures in
+    let tail : Tail = tail_of_history new.history in
+    let come : new.count ≡ length new.history.satellites.rows =
+    rows-come new.stage new.count new.history rows.rows (sym rows.whole ∙ c.in-Ok-true.field-0-test) in
+    let step : step_in c.args.self.now (Content c.args.line.now) ≡ step_with_rows tail new.count =
+    rows-made inside.is_kept inside.stage inside.count inside.history c.args.self.now c.args.line.now
+    new.stage new.count new.history c.self.view_is c.requires.open rows.made rows.rows in
+    let some : 0 < length new.history.satellites.rows = c.in-Err-epoch.ensures.memory in (
+      rows.start,
+      row-was_awaited inside.is_kept inside.stage inside.count inside.history c.args.self.now
+          c.self.view_is (rows.awaited (omega (arith, come, some))),
+      step-whole _ tail new.count step (omega (arith, come)),
+    )
 
 pub returns-in-Ok-false-clause-made : goal.returns-in-Ok-false-clause-made
 returns-in-Ok-false-clause-made c =
-    let self = c.self.inside in
-    let kept : Option Tail = if self.is_kept then Some self.kept else None in
-    let before : Tail = if self.goes_on then self.kept else self.nothing in
-    let step =
-    line-made c.args.self.now kept before c.stands_after-before.result.now self.incoming c.take_line.new.self
-    c.args.line.now c.self.view_is c.requires.open c.stands_after-before.ensures c.in-Ok-false.ensures.ok in
-    still-made _ kept before _ c.take_line.new.self step c.stands_after-before.ensures
-    c.in-Ok-false.ensures.open (sym c.in-Ok-false.ensures.whole ∙ c.in-Ok-false.field-0-test)
+    let inside = c.self.inside in
+    let new = c.take_line.new in
+    let rows = c.in-Ok-false.ensures in
+    let tail : Tail = tail_of_history new.history in
+    let left : new.count < length new.history.satellites.rows =
+    rows-left new.stage new.count new.history rows.rows
+    (sym rows.whole ∙ c.in-Ok-false.field-0-test) rows.within in
+    let step : step_in c.args.self.now (Content c.args.line.now) ≡ step_with_rows tail new.count =
+    rows-made inside.is_kept inside.stage inside.count inside.history c.args.self.now c.args.line.now
+    new.stage new.count new.history c.self.view_is c.requires.open rows.made rows.rows in
+    let P : ColumnsState → Type 0 = λ s. HasMade (step_in c.args.self.now (Content c.args.line.now)) s None in
+    subst P (sym (state-rows inside.is_kept new.stage new.count new.history rows.rows))
+    (made-more _ tail new.count step left)

@@ -6,7 +6,7 @@ pub returns : goal.returns
 returns c =
     let inside = c.self.inside in
     record {
-      copied = ap (λ (ls : List (List ℕ)). ls ++ inside.printed) c.put.ensures
+      copied = ap (λ (ls : List (List ℕ)). ls ++ inside.printed.lines) c.put.ensures
           ∙ ap (λ (ls : List (List ℕ)). (c.args.line.now ∷ []) ++ ls)
-          (second-empty inside.copied inside.printed (c.self.view_is ∙ c.requires.drained));
+          (second-empty inside.copied inside.printed.lines (c.self.view_is ∙ c.requires.drained));
     }

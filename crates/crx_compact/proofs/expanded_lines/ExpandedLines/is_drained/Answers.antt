@@ -8,6 +8,6 @@ returns-else-is_drained c =
     record {
       value = (
         (λ is. absurd (true≢false (sym is ∙ c.if-is_drained.false))),
-        (λ empty. c.is_drained.ensures.1 (first-empty inside.copied inside.printed (c.self.view_is ∙ empty))),
+        (λ empty. c.is_drained.ensures.1 (first-empty inside.copied inside.printed.lines (c.self.view_is ∙ empty))),
       );
     }

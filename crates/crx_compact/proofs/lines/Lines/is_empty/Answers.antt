@@ -1,6 +1,7 @@
-use Rattle.std.proofs.Common.{◌≡◌, ◌≤◌, ℕ, zero, suc, List, [], ◌∷◌, drop, take, length, ap, true, nat_eq, arith, rules}
+use Rattle.std.proofs.Common.{◌≡◌, ◌≤◌, ℕ, zero, suc, List, [], ◌∷◌, drop, take, length, ap, true, nat_eq, arith}
 use Rattle.std.proofs.Math.ListN.{drop_of_length-le}
 use Rattle.std.proofs.lemmas.Bool.Decides.{nat_tests}
+use Rattle.std.proofs.lemmas.List.{length-take-le}
 use Rattle.crx_compact.specs.LineLists.{cut}
 use Rattle.crx_compact.proofs.lines.Lines.is_empty.Goals as goal
 
@@ -22,13 +23,16 @@ none-left (n ∷ ns) text (suc past) none = let rest : length ns ≤ past = none
 pub returns : goal.returns
 returns c =
     let inside = c.self.inside in
-    let count : c.len.result ≡ length inside.lengths.items = search rules in
+    let lengths : List ℕ = take inside.count inside.lengths.items in
     let text = drop inside.handed_out_bytes (take inside.filled inside.bytes.items) in
+    let many : length lengths ≡ inside.count =
+    length-take-le inside.count inside.lengths.items c.self.invariant.1 in
+    let past = c.self.invariant.0.past_within in
     record {
-      value = rw (← c.self.view_is, count) (
-        λ same. all-past inside.lengths.items text inside.handed_out
-            (at-end inside.handed_out (length inside.lengths.items) same),
-        λ none. at-end-is inside.handed_out (length inside.lengths.items) c.self.invariant.0.past_within
-            (none-left inside.lengths.items text inside.handed_out none),
+      value = rw (← c.self.view_is) (
+        λ same. let end = at-end inside.handed_out inside.count same in
+            all-past lengths text inside.handed_out (omega (arith, end, many)),
+        λ none. let end = none-left lengths text inside.handed_out none in
+            at-end-is inside.handed_out inside.count (omega (arith, past, many)) (omega (arith, end, many)),
       );
     }

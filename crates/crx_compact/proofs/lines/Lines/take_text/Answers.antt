@@ -1,16 +1,28 @@
-use Rattle.std.proofs.Common.{◌≤◌, refl, length, rules}
+use Rattle.std.proofs.Common.{◌≤◌, ◌-◌, List, ℕ, ap, arith, length, refl, take}
+use Rattle.std.proofs.lemmas.List.{length-take-le}
+use Rattle.crx_compact.specs.LineLists.{PendingLines}
 use Rattle.crx_compact.proofs.LineTexts.{all-lines, none-left}
 use Rattle.crx_compact.proofs.lines.Lines.take_text.Goals as goal
 
 pub returns : goal.returns
 returns c =
     let inside = c.self.inside in
-    let all : length inside.lengths.items ≤ c.len-self-inside.result = search rules in
+    let lengths : List ℕ = take inside.count inside.lengths.items in
+    let all : length lengths ≤ inside.count =
+    omega (arith, length-take-le inside.count inside.lengths.items c.self.invariant.1) in
     rw (← c.self.view_is, c.deref.ensures.value) (
-      (refl, λ _. tt, none-left inside.lengths.items inside.bytes.items inside.filled c.len-self-inside.result all),
+      (
+        refl,
+        λ _. tt,
+        ap {B = PendingLines} (λ (ls : List (List ℕ)). record {
+          lines = ls;
+          free_lines = length inside.lengths.items - inside.count;
+          free_bytes = length inside.bytes.items - inside.filled;
+        }) (none-left lengths inside.bytes.items inside.filled inside.count all),
+      ),
       record {
-        value = all-lines inside.lengths.items inside.bytes.items
-            inside.filled inside.handed_out inside.handed_out_bytes c.self.invariant.0 c.self.invariant.1;
+        value = all-lines lengths inside.bytes.items
+            inside.filled inside.handed_out inside.handed_out_bytes c.self.invariant.0 c.self.invariant.2;
         after_borrow = tt;
       },
     )

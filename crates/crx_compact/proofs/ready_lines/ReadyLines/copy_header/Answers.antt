@@ -15,7 +15,7 @@ pub returns-then-is_first : goal.returns-then-is_first
 returns-then-is_first c = record {
   copied =
       first-header c.args.date.now c.hold.new.self.program.value
-      c.args.line.now c.hold.new.self.copied.value c.hold.new.self.made c.hold.new.self.turn c.args.is_first
+      c.args.line.now c.hold.new.self.copied.value c.hold.new.self.made.lines c.hold.new.self.turn c.args.is_first
       (search c.if-is_first) c.hold.ensures.turn c.hold.ensures.copied c.hold.ensures.made
       (search rules);
 }

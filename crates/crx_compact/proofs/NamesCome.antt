@@ -1,0 +1,68 @@
+-- Satellites that come by the identifiers of an epoch text, each with as many types as its system has.
+use Rattle.std.proofs.Common.{◌≡◌, ◌++◌, ◌∷◌, [], ℕ, List, Bool, true, false, not, length, take, map, refl}
+use Rattle.std.proofs.Common.{ap, sym, ◌∙◌, subst, Some}
+use Rattle.std.proofs.lemmas.List.{map-append}
+use Rattle.std.proofs.Math.Seq.{take-append_seam}
+use Rattle.crx_columns.specs.meaning.Columns.{columns}
+use Rattle.crx_header.specs.meaning.ObservationTypes.{IsAllowedCount}
+use Rattle.crx_header.specs.meaning.Satellites.{is_among, is_identifier}
+use Rattle.crx_header.proofs.Apart.{among-map}
+use Rattle.crx_columns.proofs.Characters.{length-columns}
+use Rattle.crx_compact.specs.HeldRows.{IsAwaitedSatellite}
+use Rattle.crx_compact.specs.meaning.EpochText.{Satellite}
+use Rattle.crx_compact.specs.Placing.{HasCome, PlacedRows, padded, padded_among, row_or_blank}
+use Rattle.crx_compact.specs.Tails.{RowTail}
+use Rattle.crx_compact.proofs.ComeRows.{AreAwaited, awaited-after, come-name, come-padded}
+
+-- whether a satellite has come, by the rows that have
+pub among-rows : (before rows : List RowTail) (found : List Satellite) (name : List ℕ) (b : Bool)
+    → rows ≡ map (padded_among before) found → b ≡ not (is_among (λ (t : RowTail). t.name) name rows)
+    → is_among (λ (s : Satellite). s.name) name found ≡ not b
+among-rows before rows found name b made answer =
+    sym (ap (is_among (λ (t : RowTail). t.name) name) made
+    ∙ among-map (λ (t : RowTail). t.name) (padded_among before) name found)
+    ∙ twice (is_among (λ (t : RowTail). t.name) name rows) ∙ ap not (sym answer)
+  where
+    twice : (c : Bool) → c ≡ not (not c)
+    twice true = refl
+    twice false = refl
+
+-- what is known where the next satellite has come, and has as many types as its system
+pub record HasNameCome (before : List RowTail) (found : List Satellite) (new : PlacedRows) : Type 0 where
+  pub rows : new.rows ≡ map (padded_among before) found
+  pub awaited : AreAwaited (λ (s : Satellite). s.name) found before new.rest
+
+pub name-comes : (before : List RowTail) (found : List Satellite) (name : List ℕ) (count : ℕ)
+    (old mid new : PlacedRows)
+    → old.rows ≡ map (padded_among before) found
+    → AreAwaited (λ (s : Satellite). s.name) found before old.rest
+    → is_among (λ (s : Satellite). s.name) name found ≡ false → HasCome name old mid
+    → ((rows : List RowTail) (row : RowTail) → mid.rows ≡ rows ++ row ∷ []
+    → new.rows ≡ rows ++ padded (record { name = row.name; count = count }) (Some row) ∷ [])
+    → new.rest ≡ mid.rest → HasNameCome before (found ++ record { name = name; count = count } ∷ []) new
+name-comes before found name count old mid new made awaited fresh has sized same =
+    let satellite : Satellite = record { name = name; count = count } in
+    let kept = row_or_blank name old.rest in
+    let resized : Satellite → RowTail = λ s. padded s (Some kept) in
+    record {
+      rows = sized old.rows kept has.rows
+          ∙ ap (λ (n : List ℕ). old.rows ++ resized (record { name = n; count = count }) ∷ [])
+          (come-name name old.rest)
+          ∙ ap (λ (t : RowTail). old.rows ++ t ∷ [])
+          (come-padded old.rest before satellite (awaited name fresh))
+          ∙ ap (λ (rs : List RowTail). rs ++ padded_among before satellite ∷ []) made
+          ∙ sym (map-append (padded_among before) found (satellite ∷ []));
+      awaited = subst (λ (rs : List RowTail). AreAwaited (λ (s : Satellite). s.name)
+          (found ++ satellite ∷ []) before rs)
+          (sym same) (awaited-after (λ (s : Satellite). s.name) found satellite before old mid awaited has);
+    }
+
+-- an identifier of a system with types, as it is read from a text
+pub awaited-one : (name text : List ℕ) (first count : ℕ) → name ≡ columns text first 3
+    → is_identifier (columns name 1 3) ≡ true → IsAllowedCount count
+    → IsAwaitedSatellite (record { name = name; count = count })
+awaited-one name text first count is named allowed =
+    let three : length name ≡ 3 = ap length is ∙ length-columns text first 3 in
+    let whole : columns name 1 3 ≡ name =
+    ap (λ n. take n (name ++ 32 ∷ 32 ∷ 32 ∷ [])) (sym three) ∙ take-append_seam name (32 ∷ 32 ∷ 32 ∷ []) in
+    record { named = ap is_identifier (sym whole) ∙ named; counted = allowed }

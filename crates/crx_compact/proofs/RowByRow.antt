@@ -1,0 +1,92 @@
+-- Rows one by one: what holds of each, the sum of what each needs, and what is made of those up to an index.
+use Rattle.std.proofs.Common.{◌≡◌, ◌<◌, ◌+◌, ◌++◌, ◌∷◌, [], ℕ, zero, suc, List, Some, All, length, take, drop}
+use Rattle.std.proofs.Common.{map, sum, slice_get, slice_set, refl, ap, sym, ◌∙◌, subst, arith, get_or}
+use Rattle.std.proofs.Common.{append_assoc, add-one}
+use Rattle.std.proofs.lemmas.List.{map-append}
+use Rattle.std.proofs.lemmas.List.Elements.{All-append}
+use Rattle.std.proofs.lemmas.List.Sums.{sum-map, sum_by-append, sum_by-cons}
+use Rattle.std.proofs.lemmas.Option.{get_or_from_slice_get, same_Some, slice_get_within}
+use Rattle.crx_rinex.specs.meaning.Printing.{printed_row}
+use Rattle.crx_compact.specs.ShownRows.{shown_row}
+use Rattle.crx_compact.specs.Tails.{RowTail}
+use Rattle.crx_compact.proofs.Making.{taken_more}
+
+-- ---- what holds of each
+
+pub only : {X : Type 0} (P : X → Type 0) (x : X) → P x → All P (x ∷ [])
+only P x p zero d within = p
+only P x p (suc i) d within = absurd (omega (arith, within))
+
+pub all-next : {X : Type 0} (P : X → Type 0) (xs : List X) (k : ℕ) (x : X)
+    → All P (take k xs) → slice_get xs k ≡ Some x → P x → All P (take (k + 1) xs)
+all-next P xs k x so_far here p =
+    subst (All P) (sym (taken_more xs k x here)) (All-append P (take k xs) (x ∷ []) so_far (only P x p))
+
+pub all-of : {X : Type 0} (P Q : X → Type 0) (xs : List X) → ((x : X) → P x → Q x) → All P xs → All Q xs
+all-of P Q xs next h = λ i d within. next (get_or xs i d) (h i d within)
+
+pub all-at : {X : Type 0} (P : X → Type 0) (xs : List X) (k : ℕ) (x : X) → All P xs
+    → slice_get xs k ≡ Some x → P x
+all-at P xs k x h here = subst P (get_or_from_slice_get xs k x x here) (h k x (slice_get_within xs k x here))
+
+-- ---- the item at an index
+
+pub record IsThere {X : Type 0} (xs : List X) (k : ℕ) : Type 0 where
+  pub item : X
+  pub there : slice_get xs k ≡ Some item
+
+pub is-there : {X : Type 0} (xs : List X) (k : ℕ) → k < length xs → IsThere xs k
+is-there [] k within = absurd (omega (arith, within))
+is-there (x ∷ xs) zero within = record { item = x; there = refl }
+is-there (x ∷ xs) (suc k) within =
+    let deeper = is-there xs k (omega (arith, within)) in record { item = deeper.item; there = deeper.there }
+
+pub last-there : {X : Type 0} (xs : List X) (x : X) → slice_get (xs ++ x ∷ []) (length xs) ≡ Some x
+last-there [] x = refl
+last-there (y ∷ ys) x = last-there ys x
+
+pub last-set : {X : Type 0} (xs : List X) (x y : X) → slice_set (xs ++ x ∷ []) (length xs) y ≡ xs ++ y ∷ []
+last-set [] x y = refl
+last-set (z ∷ zs) x y = ap (λ ws. z ∷ ws) (last-set zs x y)
+
+-- ---- sums
+
+pub sum-next : {X : Type 0} (f : X → ℕ) (xs : List X) (k : ℕ) (x : X)
+    → slice_get xs k ≡ Some x → sum (map f (take (k + 1) xs)) ≡ sum (map f (take k xs)) + f x
+sum-next f xs k x here =
+    let more = ap (λ ys. sum (map f ys)) (taken_more xs k x here) ∙ sum-map f (take k xs ++ x ∷ [])
+    ∙ sum_by-append f (take k xs) (x ∷ []) in
+    let one = sum_by-cons f x [] in
+    let so_far = sum-map f (take k xs) in
+    omega (arith, more, one, so_far)
+
+sum-first : {X : Type 0} (f : X → ℕ) (x : X) (xs : List X) → sum (map f (x ∷ xs)) ≡ f x + sum (map f xs)
+sum-first f x xs =
+    let all = sum-map f (x ∷ xs) in
+    let one = sum_by-cons f x xs in
+    let others = sum-map f xs in
+    omega (arith, all, one, others)
+
+sum-after : {X : Type 0} (f : X → ℕ) (xs : List X) (k : ℕ) (x : X)
+    → slice_get xs k ≡ Some x → sum (map f (drop k xs)) ≡ f x + sum (map f (drop (suc k) xs))
+sum-after f [] k x here = absurd (cc)
+sum-after f (y ∷ ys) zero x here = sum-first f y ys ∙ ap (λ z. f z + sum (map f ys)) (same_Some y x here)
+sum-after f (y ∷ ys) (suc k) x here = sum-after f ys k x here
+
+pub sum-left : {X : Type 0} (f : X → ℕ) (xs : List X) (k : ℕ) (x : X)
+    → slice_get xs k ≡ Some x → sum (map f (drop k xs)) ≡ f x + sum (map f (drop (k + 1) xs))
+sum-left f xs k x here = sum-after f xs k x here ∙ ap (λ n. f x + sum (map f (drop n xs))) (sym (add-one k))
+
+-- ---- printed rows
+
+pub printed-next : (before lines more : List (List ℕ)) (rows : List RowTail) (k : ℕ) (row : RowTail)
+    → lines ≡ before ++ map printed_row (map shown_row (take k rows)) → slice_get rows k ≡ Some row
+    → more ≡ lines ++ printed_row (shown_row row) ∷ []
+    → more ≡ before ++ map printed_row (map shown_row (take (k + 1) rows))
+printed-next before lines more rows k row so_far here last =
+    let printed = λ (rs : List RowTail). map printed_row (map shown_row rs) in
+    last ∙ ap (λ ls. ls ++ printed_row (shown_row row) ∷ []) so_far
+    ∙ append_assoc before (printed (take k rows)) (printed_row (shown_row row) ∷ [])
+    ∙ ap (λ ls. before ++ ls) (sym (ap printed (taken_more rows k row here)
+    ∙ ap (map printed_row) (map-append shown_row (take k rows) (row ∷ []))
+    ∙ map-append printed_row (map shown_row (take k rows)) (shown_row row ∷ [])))

@@ -1,0 +1,57 @@
+-- The epoch that a history shows: its rows are of the satellites that its text announces.
+use Rattle.std.proofs.Common.{◌≡◌, [], ◌∷◌, ℕ, List, Some, length, take, map, slice_get, refl, ap, sym, ◌∙◌}
+use Rattle.std.proofs.Common.{arith}
+use Rattle.std.specs.Option.{option_map}
+use Rattle.std.proofs.lemmas.List.{length-map, length-take-le, take-map}
+use Rattle.std.proofs.lemmas.Option.{slice_get-map, slice_get_within}
+use Rattle.crx_rinex.specs.meaning.Observations.{Row}
+use Rattle.crx_compact.specs.ArcSteps.{shown_value}
+use Rattle.crx_compact.specs.meaning.EpochText.{Satellite}
+use Rattle.crx_compact.specs.Placing.{IsAnnounced, OpenHistory, satellite_of, tail_of_history}
+use Rattle.crx_compact.specs.RowsSoFar.{AreRowsSoFar}
+use Rattle.crx_compact.specs.ShownRows.{shown_epoch, shown_row}
+use Rattle.crx_compact.specs.Tails.{RowTail}
+use Rattle.crx_compact.proofs.PlaceByPlace.{value-there}
+use Rattle.crx_compact.proofs.ShownEpochs.{IsRowShown, row-at}
+
+names : (rows : List RowTail)
+    → map (λ (r : Row). r.name) (map shown_row rows) ≡ map (λ (s : Satellite). s.name) (map satellite_of rows)
+names [] = refl
+names (row ∷ rows) = ap (λ (ns : List (List ℕ)). row.name ∷ ns) (names rows)
+
+sizes : (rows : List RowTail)
+    → map (λ (r : Row). length r.values) (map shown_row rows) ≡ map (λ (s : Satellite). s.count)
+    (map satellite_of rows)
+sizes [] = refl
+sizes (row ∷ rows) = cc (length-map row.cells shown_value, sizes rows)
+
+all-shown : (history : OpenHistory) → IsAnnounced history
+    → AreRowsSoFar (shown_epoch (tail_of_history history) (length history.satellites.rows))
+    (tail_of_history history)
+    (length history.satellites.rows) (map satellite_of history.satellites.rows)
+all-shown history h =
+    let rows = history.satellites.rows in
+    let count = length rows in
+    let firsts = take-map satellite_of count rows in
+    let many = length-map rows satellite_of in
+    record {
+      head = refl;
+      announced = h.announced;
+      counted = length-map (take count rows) shown_row ∙ length-take-le count rows (omega arith);
+      named = names (take count rows) ∙ ap (map (λ (s : Satellite). s.name)) (sym firsts);
+      sized = sizes (take count rows) ∙ ap (map (λ (s : Satellite). s.count)) (sym firsts);
+      within = omega (arith, many);
+      left = omega arith;
+    }
+
+-- the row at an index is that of its satellite, and goes after those before it
+pub row-shown : (history : OpenHistory) (index : ℕ) (row : RowTail) → IsAnnounced history
+    → slice_get history.satellites.rows index ≡ Some row
+    → IsRowShown (tail_of_history history) index row (satellite_of row)
+row-shown history index row h there =
+    let rows = history.satellites.rows in
+    let satellite : slice_get (map satellite_of rows) index ≡ Some (satellite_of row) =
+    slice_get-map satellite_of rows index ∙ ap (option_map satellite_of) there in
+    row-at (tail_of_history history) (map satellite_of rows) (length rows) index row (satellite_of row)
+    (all-shown history h) (slice_get_within rows index row there) (sym (value-there rows index row row there))
+    (sym (value-there (map satellite_of rows) index (satellite_of row) (satellite_of row) satellite))

@@ -1,0 +1,51 @@
+use Rattle.std.proofs.Common.{List, ap, sym, ◌∙◌, arith, slice_get}
+use Rattle.std.specs.Option.{option_map}
+use Rattle.std.proofs.lemmas.Option.{slice_get-map}
+use Rattle.crx_rinex.specs.Epochs.{with_row}
+use Rattle.crx_rinex.specs.meaning.Epochs.{has_satellite}
+use Rattle.crx_rinex.specs.meaning.Observations.{Epoch, Row}
+use Rattle.crx_compact.specs.HeldRows.{IsAwaitedSatellite}
+use Rattle.crx_compact.specs.Placing.{OpenHistory, satellite_of}
+use Rattle.crx_compact.specs.ShownRows.{shown_row}
+use Rattle.crx_compact.specs.Tails.{RowTail}
+use Rattle.crx_compact.proofs.RowByRow.{IsThere, all-at, is-there}
+use Rattle.crx_compact.proofs.ShownHistory.{row-shown}
+use Rattle.crx_compact.proofs.history.History.epoch.Goals as goal
+
+pub row-requires-clause-sound : goal.row-requires-clause-sound
+row-requires-clause-sound c = λ old there.
+    let history : OpenHistory = c.args.self.now in
+    let here = ap (λ (h : OpenHistory). slice_get h.satellites.rows c.loop-index.index)
+    (sym c.self.view_is) ∙ there in
+    let sound = all-at IsAwaitedSatellite _ c.loop-index.index
+    (satellite_of old) c.requires.announced.satellites
+    (slice_get-map satellite_of history.satellites.rows c.loop-index.index
+    ∙ ap (option_map satellite_of) here) in
+    (sound.named, sound.counted)
+
+pub push_row-requires-clause-new : goal.push_row-requires-clause-new
+push_row-requires-clause-new c =
+    let index = c.loop-index.index in
+    let history : OpenHistory = c.args.self.now in
+    let rows : List RowTail = c.self.inside.satellites.rows in
+    let many = c.placed-index-end.ensures.value in
+    let next = c.loop-index-test.true in
+    let row : IsThere rows index = is-there rows index (omega (arith, many, next)) in
+    let at = row-shown history index row.item c.requires.announced
+    (ap (λ (h : OpenHistory). slice_get h.satellites.rows index) (sym c.self.view_is) ∙ row.there) in
+    ap (λ (r : Row). has_satellite r.name c.loop-index.epoch.rows) (c.in_ok-row.ensures.ok row.item row.there)
+    ∙ ap (λ (e : Epoch). has_satellite row.item.name e.rows) c.loop-index.invariant ∙ at.new
+
+pub loop-index-preserved : goal.loop-index-preserved
+loop-index-preserved c =
+    let index = c.loop-index.index in
+    let history : OpenHistory = c.args.self.now in
+    let rows : List RowTail = c.self.inside.satellites.rows in
+    let many = c.placed-index-end.ensures.value in
+    let next = c.loop-index-test.true in
+    let row : IsThere rows index = is-there rows index (omega (arith, many, next)) in
+    let at = row-shown history index row.item c.requires.announced
+    (ap (λ (h : OpenHistory). slice_get h.satellites.rows index) (sym c.self.view_is) ∙ row.there) in
+    c.in_ok-push_row.ensures.ok
+    ∙ ap (λ (r : Row). with_row c.loop-index.epoch r) (c.in_ok-row.ensures.ok row.item row.there)
+    ∙ ap (λ (e : Epoch). with_row e (shown_row row.item)) c.loop-index.invariant ∙ at.with

@@ -1,0 +1,8 @@
+use Rattle.std.specs.Prelude.{◌≡◌}
+use Rattle.crx_compact.specs.Placing.{tail_of_history}
+use Rattle.crx_compact.specs.ShownRows.{shown_epoch}
+use Rattle.crx_compact.proofs.history.History.epoch.Given as goal
+
+-- the rows up to an index are put into the epoch
+abbrev pub invariant-loop-index : goal.invariant-loop-index
+invariant-loop-index l = l.epoch ≡ shown_epoch (tail_of_history l.self) l.index

@@ -1,0 +1,11 @@
+use Rattle.std.proofs.Common.{◌≡◌, ◌≤◌, ◌+◌, ◌*◌, map, sum, take}
+use Rattle.crx_faults.specs.declared.limits.TheConstants.{LINE_LIMIT}
+use Rattle.crx_compact.specs.PrintedBlocks.{printed_room}
+use Rattle.crx_compact.proofs.history.History.printed_room.Given as goal
+
+-- the room for the rows up to an index
+abbrev pub invariant-loop-index : goal.invariant-loop-index
+invariant-loop-index l = record {
+  made : l.room ≡ LINE_LIMIT + 1 + sum (map printed_room (take l.index l.self.satellites.rows));
+  bounded : l.room ≤ 10000 + 10000 * l.index;
+}

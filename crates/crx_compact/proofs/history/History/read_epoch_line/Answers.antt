@@ -1,0 +1,56 @@
+use Rattle.std.proofs.Common.{◌≡◌, ◌++◌, All, List, ℕ, Ok, true, map, ap, sym, ◌∙◌}
+use Rattle.std.specs.List.{list_all}
+use Rattle.std.proofs.lemmas.List.{append-nil}
+use Rattle.crx_columns.specs.meaning.Texts.{is_printable}
+use Rattle.crx_columns.specs.Texts.{patched}
+use Rattle.crx_compact.specs.HeldRows.{IsAwaitedSatellite, past_of_tail}
+use Rattle.crx_compact.specs.meaning.CompactPlaces.{satellites_of_line}
+use Rattle.crx_compact.specs.meaning.EpochText.{Satellite}
+use Rattle.crx_compact.specs.Placing.{OpenHistory, PlacedRows, padded_among, tail_of_history}
+use Rattle.crx_compact.specs.Tails.{RowTail}
+use Rattle.crx_compact.proofs.AnnouncedRows.{announced-rows, line-of_text}
+use Rattle.crx_compact.proofs.Results.{by_ok}
+use Rattle.crx_compact.proofs.history.History.read_epoch_line.Goals as goal
+
+-- the text that the line makes
+text : (c : goal.Else-is_err-2) → c.bytes-text.result.now ≡ patched c.args.self.now.text c.args.line.now
+text c = c.bytes-text.ensures.value
+    ∙ by_ok c.patch_bytes.result c.if-is_err.ensures.negation c.patch_bytes.ensures.ok
+    ∙ ap (λ (t : List ℕ). patched t c.args.line.now) (c.deref.ensures.value
+    ∙ ap (λ (h : OpenHistory). h.text) c.self.view_is)
+
+-- the rows of the epoch before are awaited
+awaited : (c : goal.Else-is_err-2) → c.begin.new.self.rest ≡ c.args.self.now.satellites.rows
+awaited c = ap (λ (p : PlacedRows). p.rest) c.begin.ensures.begun
+    ∙ ap (λ (h : OpenHistory). h.satellites.rows ++ h.satellites.rest) c.self.view_is
+    ∙ ap (λ (rest : List RowTail). c.args.self.now.satellites.rows ++ rest) c.requires.between
+    ∙ append-nil c.args.self.now.satellites.rows
+
+printable : (c : goal.Else-is_err-2) → list_all is_printable c.args.line.now ≡ true
+printable c = sym c.patch_bytes.ensures.printable ∙ c.if-is_err.ensures.negation
+
+-- the satellites that the line has, and their rows
+found : (c : goal.Else-is_err-2) → (satellites : List Satellite)
+    × (satellites_of_line c.args.types.now (past_of_tail (tail_of_history c.args.self.now)) c.args.line.now
+    ≡ Ok satellites)
+    × (c.read_satellites.new.satellites.rows ≡ map (padded_among c.args.self.now.satellites.rows) satellites)
+    × All IsAwaitedSatellite satellites
+found c =
+    let read = c.in-Ok.ensures.ok in (
+      read.0,
+      line-of_text c.args.types.now (tail_of_history c.args.self.now) c.args.line.now c.bytes-text.result.now
+          (Ok read.0)
+          (printable c) (text c) read.1,
+      read.2 ∙ ap (λ (rest : List RowTail). map (padded_among rest) read.0) (awaited c),
+      read.3,
+    )
+
+pub returns-clause-ok : goal.returns-clause-ok
+returns-clause-ok c = let read = found c in (read.0, read.1, read.2)
+
+pub returns-clause-announced : goal.returns-clause-announced
+returns-clause-announced c =
+    let read = found c in
+    announced-rows c.args.types.now (tail_of_history c.args.self.now) c.args.line.now read.0 _ read.1
+    (by_ok c.put_text_in.result c.if-is_err-2.ensures.negation c.put_text_in.ensures.ok ∙ text c)
+    read.2 read.3

@@ -1,0 +1,13 @@
+use Rattle.std.proofs.Common.{◌≡◌, ◌-◌, length, take}
+use Rattle.crx_compact.specs.Placing.{HaveRoom}
+use Rattle.crx_compact.proofs.history.prepare_rows.Given as goal
+
+abbrev pub invariant-loop-row : goal.invariant-loop-row
+invariant-loop-row l = record {
+  rows : l.satellites.rows ≡ l.initial.satellites.rows;
+  rest : l.satellites.rest ≡ l.initial.satellites.rest;
+  room : HaveRoom (take l.index l.epoch.rows) l.satellites.rooms;
+}
+
+abbrev pub decreases-loop-row : goal.decreases-loop-row
+decreases-loop-row l = length l.epoch.rows - l.index

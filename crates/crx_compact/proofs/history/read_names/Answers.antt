@@ -1,0 +1,71 @@
+use Rattle.std.proofs.Common.{◌≡◌, refl, ◌+◌, ◌*◌, ◌++◌, ◌∷◌, [], not, drop, ap, sym, ◌∙◌, inl, arith}
+use Rattle.std.proofs.lemmas.List.Elements.{All-append}
+use Rattle.crx_columns.specs.meaning.Columns.{columns}
+use Rattle.crx_columns.proofs.EachPlace.{drop_all-each_place}
+use Rattle.crx_compact.specs.HeldRows.{IsAwaitedSatellite}
+use Rattle.crx_compact.specs.meaning.EpochText.{Satellite, names_in}
+use Rattle.crx_compact.proofs.Naming.{named-bad, named-twice, named-more, named-all, next-name}
+use Rattle.crx_compact.proofs.NamesCome.{HasNameCome, among-rows, awaited-one, name-comes}
+use Rattle.crx_compact.proofs.Results.{by_ok}
+use Rattle.crx_compact.proofs.RowByRow.{only}
+use Rattle.crx_compact.proofs.history.read_names.Goals as goal
+
+pub returns-in_default-clause-err : goal.returns-in_default-clause-err
+returns-in_default-clause-err c =
+    let found = c.loop-place.invariant in
+    inl (named-bad c.args.types.now (names_in c.args.text.now c.args.count)
+    c.loop-place.place found.0 c.identifier-name.result found.1
+    (next-name c.args.text.now c.args.count c.loop-place.place
+    c.identifier-name.result c.loop-place-test.true c.identifier-name.ensures.value)
+    (sym c.in_default.ensures.value))
+
+pub returns-in-Ok-false-clause-err : goal.returns-in-Ok-false-clause-err
+returns-in-Ok-false-clause-err c =
+    let found = c.loop-place.invariant in
+    inl (named-twice c.args.types.now (names_in c.args.text.now c.args.count) c.loop-place.place
+    found.0 c.identifier-name.result c.in-Some.types found.1
+    (next-name c.args.text.now c.args.count c.loop-place.place
+    c.identifier-name.result c.loop-place-test.true c.identifier-name.ensures.value)
+    (sym c.in-Some.ensures.value)
+    (among-rows c.args.satellites.now.rest c.loop-place.satellites.rows found.0 c.identifier-name.result
+    c.in-Ok-false.field-0 found.2 c.in-Ok-false.ensures.answer ∙ ap not c.in-Ok-false.field-0-test))
+
+pub loop-place-preserved : goal.loop-place-preserved
+loop-place-preserved c =
+    let found = c.loop-place.invariant in
+    let before = c.args.satellites.now.rest in
+    let text = c.args.text.now in
+    let place = c.loop-place.place in
+    let name = c.identifier-name.result in
+    let satellite : Satellite = record { name = name; count = c.in-Some.types } in
+    let fresh = among-rows before c.loop-place.satellites.rows found.0 name
+    c.in-Ok-true.field-0 found.2 c.in-Ok-true.ensures.answer ∙ ap not c.in-Ok-true.field-0-test in
+    let come : HasNameCome before (found.0 ++ satellite ∷ []) c.resize_last.new.self =
+    name-comes before found.0 name c.in-Some.types c.loop-place.satellites c.place.new.self
+    c.resize_last.new.self
+    found.2 found.3 fresh (c.in-Ok-true.ensures.come c.in-Ok-true.field-0-test)
+    (by_ok c.resize_last.result c.if-is_err.ensures.negation c.resize_last.ensures.ok)
+    c.resize_last.ensures.rest in (
+      found.0 ++ satellite ∷ [],
+      named-more c.args.types.now (names_in text c.args.count) place found.0 (found.0 ++ satellite ∷ []) name
+          c.in-Some.types found.1
+          (next-name text c.args.count place name c.loop-place-test.true c.identifier-name.ensures.value)
+          (sym c.in-Some.ensures.value) fresh refl,
+      come.rows,
+      come.awaited,
+      All-append IsAwaitedSatellite found.0 (satellite ∷ []) found.4 (only IsAwaitedSatellite satellite
+          (awaited-one name text (42 + 3 * place) c.in-Some.types c.identifier-name.ensures.value
+          c.in-Some.ensures.named c.in-Some.ensures.allowed)),
+    )
+
+pub returns-clause-ok : goal.returns-clause-ok
+returns-clause-ok c =
+    let found = c.loop-place.invariant in
+    let end : c.loop-place.place ≡ c.args.count = omega arith in (
+      found.0,
+      named-all c.args.types.now (names_in c.args.text.now c.args.count) c.loop-place.place found.0 found.1
+          (ap (λ n. drop n (names_in c.args.text.now c.args.count)) end
+          ∙ drop_all-each_place c.args.count (λ k. columns c.args.text.now (42 + 3 * k) 3)),
+      found.2,
+      found.4,
+    )

@@ -1,0 +1,111 @@
+-- One entry of the map gets another value.
+use Rattle.std.proofs.Common.{◌≡◌, ℕ, zero, suc, ◌<◌, ◌≤◌, List, [], ◌∷◌, length, map}
+use Rattle.std.proofs.Common.{take, drop, set, slice_get, Some, refl, ap, sym, ◌∙◌, inl, inr, arith}
+use Rattle.std.proofs.Common.{slice_set, length-set, subst}
+use Rattle.std.specs.Cmp.{IsEquivalence}
+use Rattle.std.specs.Str.{bytes_eq}
+use Rattle.std.proofs.lemmas.Bool.{cases_Bool, cond-true, cond-false}
+use Rattle.std.proofs.lemmas.List.{drop-set-lt, get_or-set_same, map-set}
+use Rattle.std.proofs.lemmas.Map.Entries.{hash_map_get_place}
+use Rattle.std.proofs.lemmas.Option.{same_Some, slice_get_read}
+use Rattle.std.proofs.lemmas.Slice.Eq.{bytes_eq-Decides}
+use Rattle.std.proofs.Math.Seq.{take-set-lt}
+use Rattle.indexmap.proofs.CallerLemmas.{updates-with_value_at}
+use Rattle.indexmap.specs.IndexMap.{IndexMap, IsUnique, get, set_value_at}
+use Rattle.crx_header.proofs.Apart.{other_way}
+use Rattle.crx_compact.specs.Entries.{Entry, rooms_of}
+use Rattle.crx_compact.specs.Placing.{HasRoom, KeepsRooms, SatelliteTail, row_tail_of, row_of_entry}
+use Rattle.crx_compact.proofs.Characters.{bytes_eq-same}
+use Rattle.crx_compact.proofs.placing.Rooms.{known-room, room-from_look_up, rooms-kept}
+
+pub bytes_eq-equiv : IsEquivalence bytes_eq
+bytes_eq-equiv =
+    record {
+      refl = bytes_eq-same;
+      symm = λ x y. elim (cases_Bool (bytes_eq x y)) [
+        | inl t ↦
+            let same : x ≡ y = (bytes_eq-Decides x y).0 t in
+            ap (λ n. bytes_eq n y) same ∙ ap (λ n. bytes_eq y n) (sym same)
+        | inr f ↦ f ∙ sym (other_way x y f)
+      ];
+      congr = λ x y z t. ap (λ n. bytes_eq n z) ((bytes_eq-Decides x y).0 t);
+    }
+
+pub set-there : {X : Type 0} (xs : List X) (i : ℕ) (x : X) → i < length xs → slice_get (set xs i x) i ≡ Some x
+set-there xs i x within =
+    slice_get_read (set xs i x) (length xs) i x (sym (length-set xs i x)) within
+    (sym (get_or-set_same xs i x x within))
+
+-- the entry keeps its identifier
+pub changed-is : (es : List Entry) (i : ℕ) (name : List ℕ) (before after : SatelliteTail)
+    → slice_get es i ≡ Some (name, before) → set_value_at es i after ≡ set es i (name, after)
+changed-is [] i name before after there = refl
+changed-is (e ∷ es) zero name before after there =
+    ap (λ (x : Entry). (x.0, after) ∷ es) (same_Some e (name, before) there)
+changed-is (e ∷ es) (suc i) name before after there =
+    ap (λ xs. e ∷ xs) (changed-is es i name before after there)
+
+-- ---- among those that have come
+
+pub rows-changed : (placed i : ℕ) (es : List Entry) (name : List ℕ) (before after : SatelliteTail)
+    → i < placed → slice_get es i ≡ Some (name, before)
+    → map row_of_entry (take placed (set_value_at es i after))
+    ≡ slice_set (map row_of_entry (take placed es)) i (row_tail_of name after)
+rows-changed placed i es name before after within there =
+    ap (λ xs. map row_of_entry (take placed xs)) (changed-is es i name before after there)
+    ∙ ap (map row_of_entry) (take-set-lt placed es i (name, after) within)
+    ∙ map-set row_of_entry (take placed es) i (name, after)
+
+pub rest-unchanged : (placed live i : ℕ) (es : List Entry) (name : List ℕ) (before after : SatelliteTail)
+    → i < placed → placed ≤ live → slice_get es i ≡ Some (name, before)
+    → map row_of_entry (drop placed (take live (set_value_at es i after)))
+    ≡ map row_of_entry (drop placed (take live es))
+rest-unchanged placed live i es name before after within few there =
+    ap (λ xs. map row_of_entry (drop placed (take live xs))) (changed-is es i name before after there)
+    ∙ ap (λ xs. map row_of_entry (drop placed xs)) (take-set-lt live es i (name, after) (omega arith))
+    ∙ ap (map row_of_entry) (drop-set-lt placed (take live es) i (name, after) within)
+
+-- ---- the room of the satellites
+
+module _ {S : Type 0} (m : IndexMap (List ℕ) SatelliteTail S) (i : ℕ) (name : List ℕ)
+    (before after : SatelliteTail)
+    (unique : IsUnique bytes_eq m) (there : slice_get m.entries i ≡ Some (name, before)) where
+  -- the one at an index is found by its identifier
+  pub room-there : (count : ℕ) → HasRoom name count (rooms_of m.entries) → count ≤ before.room
+  room-there count has =
+      let known = known-room name count m.entries has in
+      let same : known.0 ≡ before =
+      same_Some known.0 before
+      (sym known.1 ∙ hash_map_get_place bytes_eq-equiv m i name before unique there) in
+      let within = known.2 in
+      subst (λ (s : SatelliteTail). count ≤ s.room) same within
+
+  pub rooms-changed : before.room ≤ after.room
+      → KeepsRooms (rooms_of m.entries) (rooms_of (set_value_at m.entries i after))
+  rooms-changed more =
+      let updates = updates-with_value_at m i after bytes_eq-equiv unique name before there in
+      rooms-kept m.entries (set_value_at m.entries i after) (λ other satellite known.
+      elim (cases_Bool (bytes_eq name other)) [
+        | inl t ↦
+            let same : name ≡ other = (bytes_eq-Decides name other).0 t in
+            let is : satellite ≡ before = same_Some satellite before (sym known
+            ∙ ap (λ n. get bytes_eq m n) (sym same)
+            ∙ hash_map_get_place bytes_eq-equiv m i name before unique there) in (
+              after,
+              updates.0 other ∙ cond-true (bytes_eq name other) (Some after) (get bytes_eq m other) t,
+              subst (λ (s : SatelliteTail). s.room ≤ after.room) (sym is) more,
+            )
+        | inr f ↦ (
+          satellite,
+          updates.0 other ∙ cond-false (bytes_eq name other) (Some after) (get bytes_eq m other) f ∙ known,
+          omega arith,
+        )
+      ])
+
+  pub has-room : (count : ℕ) → count ≤ after.room
+      → HasRoom name count (rooms_of (set_value_at m.entries i after))
+  has-room count within =
+      let updates = updates-with_value_at m i after bytes_eq-equiv unique name before there in
+      room-from_look_up name count (set_value_at m.entries i after) after
+      (updates.0 name ∙ cond-true (bytes_eq name name) (Some after) (get bytes_eq m name)
+      (bytes_eq-same name)) within

@@ -1,0 +1,41 @@
+-- A satellite gets more room, and no row changes.
+use Rattle.std.proofs.Common.{◌≡◌, ℕ, ◌≤◌, List, length, map, take, drop, slice_get, Some, ap, sym, ◌∙◌}
+use Rattle.std.proofs.Common.{arith}
+use Rattle.std.proofs.lemmas.List.{drop-map, length-take, take-map}
+use Rattle.std.proofs.lemmas.Option.{get_or_from_slice_get}
+use Rattle.std.proofs.Math.Seq.{map-set_same}
+use Rattle.indexmap.specs.IndexMap.{set_value_at}
+use Rattle.crx_compact.specs.Entries.{Entry, IsFound}
+use Rattle.crx_compact.specs.Placing.{SatelliteTail, row_of_entry}
+use Rattle.crx_compact.proofs.placing.EntryChanges.{changed-is}
+
+-- all that were there are still there
+pub none-lost : (name : List ℕ) (found : ℕ) (old new : List Entry) → IsFound name found old new
+    → length old ≤ length new
+none-lost name found old new is =
+    let same = ap length (is.front (length old) (omega arith)) in
+    omega (arith, same, length-take (length old) new, length-take (length old) old)
+
+-- an entry that shows the same row changes no row
+pub rows-same : (es : List Entry) (i : ℕ) (name : List ℕ) (before after : SatelliteTail)
+    → slice_get es i ≡ Some (name, before) → after.flags ≡ before.flags → after.cells ≡ before.cells
+    → map row_of_entry (set_value_at es i after) ≡ map row_of_entry es
+rows-same es i name before after there flags cells =
+    let there-is = get_or_from_slice_get es i (name, before) (name, before) there in
+    ap (map row_of_entry) (changed-is es i name before after there)
+    ∙ map-set_same row_of_entry es i (name, after) (name, before)
+    ((λ j. record { name = name; flags = flags j; cells = cells j }) ∙ ap row_of_entry (sym there-is))
+
+module _ (name : List ℕ) (found : ℕ) (old known new : List Entry) (is : IsFound name found old known)
+    (same : map row_of_entry new ≡ map row_of_entry known) where
+  pub front-same : (count : ℕ) → count ≤ length old
+      → map row_of_entry (take count new) ≡ map row_of_entry (take count old)
+  front-same count within =
+      sym (take-map row_of_entry count new) ∙ ap (take count) same ∙ take-map row_of_entry count known
+      ∙ ap (map row_of_entry) (is.front count within)
+
+  pub range-same : (placed live : ℕ) → live ≤ length old
+      → map row_of_entry (drop placed (take live new)) ≡ map row_of_entry (drop placed (take live old))
+  range-same placed live within =
+      sym (drop-map row_of_entry placed (take live new)) ∙ ap (drop placed) (front-same live within)
+      ∙ drop-map row_of_entry placed (take live old)

@@ -1,0 +1,87 @@
+-- A satellite that comes back is the first one behind those that mean something, with nothing stored.
+use Rattle.std.proofs.Common.{◌≡◌, ℕ, ◌<◌, ◌≤◌, List, [], length, take, set, slice_get, swap, Option, Some}
+use Rattle.std.proofs.Common.{ap, sym, ◌∙◌, arith}
+use Rattle.std.proofs.Common.{length-set, refl}
+use Rattle.std.specs.Str.{bytes_eq}
+use Rattle.std.specs.Map.{lookup}
+use Rattle.std.proofs.lemmas.List.{take-set-le}
+use Rattle.std.proofs.lemmas.List.Edits.{length-swap}
+use Rattle.std.proofs.lemmas.Option.{same_Some, slice_get_within}
+use Rattle.indexmap.specs.IndexMap.{IndexMap, IsUnique, set_value_at}
+use Rattle.indexmap.specs.Layout.{length-set_value_at}
+use Rattle.crx_compact.specs.Entries.{Entry, IsRevived}
+use Rattle.crx_compact.specs.Placing.{SatelliteTail}
+use Rattle.crx_compact.proofs.placing.EntryChanges.{changed-is, rooms-changed, set-there}
+use Rattle.crx_compact.proofs.placing.PutNext.{there-is}
+use Rattle.crx_compact.proofs.placing.Ranges.{swap-is}
+use Rattle.crx_compact.proofs.placing.Rooms.{rooms-kept}
+
+abbrev pub emptied : SatelliteTail → SatelliteTail
+emptied satellite = record satellite { flags = []; cells = [] }
+
+abbrev entry_of : List ℕ → SatelliteTail → Option Entry
+entry_of name satellite = Some (name, satellite)
+
+module _ {S : Type 0} (m : IndexMap (List ℕ) SatelliteTail S) (found : ℕ) (name : List ℕ)
+    (before after : SatelliteTail) (unique : IsUnique bytes_eq m)
+    (there : slice_get m.entries found ≡ Some (name, before)) (is : after ≡ emptied before) where
+  -- the one that is found is the one that is emptied
+  emptied-is : (other : List ℕ) (satellite : SatelliteTail)
+      → slice_get m.entries found ≡ Some (other, satellite)
+      → entry_of name after ≡ entry_of other (emptied satellite)
+  emptied-is other satellite also =
+      let same = same_Some (name, before) (other, satellite) (sym there ∙ also) in
+      ap (entry_of name) is ∙ ap (λ (e : Entry). entry_of e.0 (emptied e.1)) same
+
+  set-is : set_value_at m.entries found after ≡ set m.entries found (name, after)
+  set-is = changed-is m.entries found name before after there
+
+  within : found < length m.entries
+  within = slice_get_within m.entries found (name, before) there
+
+  rooms : (n : ℕ) → n ≡ after.room → before.room ≤ n
+  rooms n e = let same = ap (λ (s : SatelliteTail). s.room) is in omega (arith, e, same)
+
+  -- it is there already
+  pub revived-there : IsRevived found found m.entries (set_value_at m.entries found after)
+  revived-there =
+      record {
+        there = λ other satellite also.
+            ap (λ es. slice_get es found) set-is ∙ set-there m.entries found (name, after) within
+            ∙ emptied-is other satellite also;
+        front = ap (take found) set-is ∙ take-set-le found m.entries found (name, after) (omega arith);
+        counted = length-set_value_at m.entries found after;
+        rooms = rooms-changed m found name before after unique there (rooms after.room refl);
+      }
+
+  -- it is brought from further behind
+  pub revived-brought : (live : ℕ) (new : List Entry) → live < found
+      → new ≡ swap (set_value_at m.entries found after) found live
+      → ((other : List ℕ)
+      → lookup (bytes_eq other) new ≡ lookup (bytes_eq other) (set_value_at m.entries found after))
+      → IsRevived live found m.entries new
+  revived-brought live new behind swapped looked =
+      let es = set_value_at m.entries found after in
+      let counted : length es ≡ length m.entries = length-set_value_at m.entries found after in
+      let near : found < length m.entries = within in
+      let first = there-is es live (omega (arith, near, counted, behind)) in
+      let a = first.0 in
+      let here : slice_get es found ≡ Some (name, after) =
+      ap (λ es. slice_get es found) set-is ∙ set-there m.entries found (name, after) within in
+      let made : new ≡ set (set es found a) live (name, after) =
+      swapped ∙ swap-is es found live (name, after) a here first.1 in
+      record {
+        there = λ other satellite also.
+            ap (λ es. slice_get es live) made
+            ∙ set-there (set es found a) live (name, after)
+            (omega (arith, length-set es found a, near, counted, behind))
+            ∙ emptied-is other satellite also;
+        front =
+            ap (take live) made ∙ take-set-le live (set es found a) live (name, after) (omega arith)
+            ∙ take-set-le live es found a (omega (arith, behind))
+            ∙ ap (take live) set-is ∙ take-set-le live m.entries found (name, after) (omega (arith, behind));
+        counted = ap length swapped ∙ length-swap es found live ∙ counted;
+        rooms = λ other count has.
+            rooms-kept es new (λ n satellite known. (satellite, looked n ∙ known, omega arith)) other count
+            (rooms-changed m found name before after unique there (rooms after.room refl) other count has);
+      }

@@ -1,0 +1,8 @@
+use Rattle.std.proofs.Common.{arith}
+use Rattle.crx_compact.proofs.reading.Announced.{rows-few}
+use Rattle.crx_compact.proofs.printed_block.PrintedBlock.begin.Goals as goal
+
+pub overflow_add-count : goal.overflow_add-count
+overflow_add-count c =
+    let few = rows-few c.args.history.now c.requires.announced in
+    let many = c.count.ensures.value in omega (arith, few, many)

@@ -1,0 +1,25 @@
+use Rattle.std.proofs.Common.{arith}
+use Rattle.crx_compact.proofs.PrintedBlocks.{room-there, row-printed}
+use Rattle.crx_compact.proofs.RowByRow.{IsThere, is-there}
+use Rattle.crx_compact.proofs.printed_block.PrintedBlock.print.Goals as goal
+
+pub put_printed-requires-clause-free_bytes : goal.put_printed-requires-clause-free_bytes
+put_printed-requires-clause-free_bytes c = λ row there.
+    room-there c.args.history.now c.loop-self.self.rows row c.loop-self.self.lines
+    c.loop-self.invariant.lines there
+
+pub loop-self-preserved : goal.loop-self-preserved
+loop-self-preserved c =
+    let next = c.loop-self-test.true in
+    let within = c.requires.within in
+    let put = c.put_printed.ensures in
+    let row : IsThere c.args.history.now.satellites.rows c.loop-self.self.rows =
+    is-there c.args.history.now.satellites.rows c.loop-self.self.rows (omega (arith, next, within)) in
+    record {
+      lines =
+          row-printed c.args.history.now c.loop-self.self.rows row.item c.loop-self.self.lines
+          c.put_printed.new.lines c.loop-self.invariant.lines row.there
+          (put.lines row.item row.there) put.free_lines (put.free_bytes row.item row.there);
+      head = c.loop-self.invariant.head;
+      within = omega (arith, next);
+    }

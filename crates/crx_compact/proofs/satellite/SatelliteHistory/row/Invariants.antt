@@ -1,0 +1,11 @@
+use Rattle.std.specs.Prelude.{◌≡◌, ◌-◌, ◌*◌, ◌++◌, None, map, take, replicate}
+use Rattle.crx_compact.specs.ArcSteps.{shown_value}
+use Rattle.crx_compact.proofs.satellite.SatelliteHistory.row.Given as goal
+
+-- the values up to a place are put into the row
+abbrev pub invariant-loop-place : goal.invariant-loop-place
+invariant-loop-place l = l.row ≡ record {
+  name = l.fn.name;
+  values = map shown_value (take l.place l.self.cells) ++ replicate (l.count - l.place) None;
+  flags = replicate (2 * l.count) 32;
+}

@@ -1,0 +1,52 @@
+use Rattle.std.proofs.Common.{arith}
+use Rattle.std.proofs.lemmas.Result.{on_ok_weaker}
+use Rattle.indexmap.specs.IndexMap.{set_value_at}
+use Rattle.indexmap.specs.Layout.{length-set_value_at}
+use Rattle.crx_compact.proofs.placing.EntryChanges.{has-room, rooms-changed}
+use Rattle.crx_compact.proofs.placing.Prepared.{front-same, none-lost, range-same, rows-same}
+use Rattle.crx_compact.proofs.satellites.Satellites.prepare.Goals as goal
+
+pub invariant_of-self-2 : goal.invariant_of-self-2
+invariant_of-self-2 c =
+    let known = c.find_or_add.new.map.entries in
+    let found = c.in_ok-found.found in
+    let more = none-lost c.args.name found c.self.inside.known.entries known c.in_ok-found.ensures.found in
+    let all = c.self.invariant.1 in
+    (c.self.invariant.0, omega (arith, all, more, length-set_value_at known found c.make_room.new.self))
+
+pub returns-clause-rows : goal.returns-clause-rows
+returns-clause-rows c =
+    let known = c.find_or_add.new.map.entries in
+    let found = c.in_ok-found.found in
+    let few = c.self.invariant.0 in
+    let all = c.self.invariant.1 in
+    rw (← c.self.view_is)
+    (front-same c.args.name found c.self.inside.known.entries known
+    (set_value_at known found c.make_room.new.self) c.in_ok-found.ensures.found
+    (rows-same known found _ _ c.make_room.new.self c.pair_mut-satellite.ensures.value
+    c.make_room.ensures.flags
+    c.make_room.ensures.cells) c.self.inside.placed (omega (arith, few, all)))
+
+pub returns-clause-rest : goal.returns-clause-rest
+returns-clause-rest c =
+    let known = c.find_or_add.new.map.entries in
+    let found = c.in_ok-found.found in
+    rw (← c.self.view_is)
+    (range-same c.args.name found c.self.inside.known.entries known
+    (set_value_at known found c.make_room.new.self) c.in_ok-found.ensures.found
+    (rows-same known found _ _ c.make_room.new.self c.pair_mut-satellite.ensures.value
+    c.make_room.ensures.flags
+    c.make_room.ensures.cells) c.self.inside.placed c.self.inside.live c.self.invariant.1)
+
+pub returns-clause-room : goal.returns-clause-room
+returns-clause-room c =
+    on_ok_weaker c.make_room.result (has-room c.find_or_add.new.map c.in_ok-found.found c.args.name _
+    c.make_room.new.self c.find_or_add.ensures.unique c.in_ok-found.ensures.found.there c.args.count)
+    c.make_room.ensures.room
+
+pub returns-clause-rooms : goal.returns-clause-rooms
+returns-clause-rooms c name count =
+    rw (← c.self.view_is)
+    (λ has. rooms-changed c.find_or_add.new.map c.in_ok-found.found _ _ c.make_room.new.self
+    c.find_or_add.ensures.unique c.pair_mut-satellite.ensures.value c.make_room.ensures.kept name count
+    (c.in_ok-found.ensures.found.rooms name count has))

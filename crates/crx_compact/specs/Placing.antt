@@ -1,0 +1,144 @@
+-- The satellites of a history while an epoch is open: the rows that have come, in the order of the file; those of the epoch before that
+-- haven't come yet, each known by its identifier; and how many types there is room for.
+use Rattle.std.specs.Prelude.{◌≡◌, ◌≤◌, ◌++◌, ◌∷◌, ℕ, List, [], length, slice_index_or, Option, None, Some, false, map}
+use Rattle.std.specs.Prelude.{All, sum, unwrap_or, ◌+◌, ◌*◌}
+use Rattle.std.specs.Str.{bytes_eq}
+use Rattle.crx_columns.specs.meaning.EachPlace.{each_place}
+use Rattle.crx_compact.specs.ArcTails.{ArcTail}
+use Rattle.crx_compact.specs.meaning.EpochText.{Satellite}
+use Rattle.crx_compact.specs.meaning.Sequences.{named}
+use Rattle.std.specs.Prelude.{Ok, slice_get, slice_set}
+use Rattle.crx_header.specs.meaning.ObservationTypes.{IsAllowedCount}
+use Rattle.crx_compact.specs.HeldRows.{IsAwaitedSatellite, row_held}
+use Rattle.crx_compact.specs.RowsSoFar.{AreAnnounced}
+use Rattle.crx_compact.specs.ShownRows.{shown_row}
+use Rattle.crx_compact.specs.Steps.{cell_of_tail, flags_of_tail, flags_held}
+use Rattle.crx_compact.specs.Tails.{RowTail, Tail}
+use Rattle.crx_rinex.specs.meaning.Observations.{Row, Epoch}
+use Rattle.crx_faults.specs.declared.limits.TheConstants.{LINE_LIMIT, TYPES_LIMIT}
+use Rattle.crx_compact.specs.declared.cells.TheConstants.{CELL_ROOM}
+
+-- what is stored of a satellite: its indicators without the blanks at their end, the tail of each cell's arc, and how many types it has
+-- room for
+pub record SatelliteTail : Type 0 where
+  pub flags : List ℕ
+  pub cells : List (Option ArcTail)
+  pub room : ℕ
+
+-- the row of a satellite by its identifier
+abbrev pub row_tail_of : List ℕ → SatelliteTail → RowTail
+row_tail_of name satellite = record { name = name; flags = satellite.flags; cells = satellite.cells }
+
+-- a row by an entry of the map
+abbrev pub row_of_entry : List ℕ × SatelliteTail → RowTail
+row_of_entry entry = row_tail_of entry.0 entry.1
+
+-- how many types an entry of the map has room for
+abbrev pub room_of_entry : List ℕ × SatelliteTail → List ℕ × ℕ
+room_of_entry entry = (entry.0, entry.1.room)
+
+-- the rows that have come, those of the epoch before that haven't, and the room of every satellite that is known
+pub record PlacedRows : Type 0 where
+  pub rows : List RowTail
+  pub rest : List RowTail
+  pub rooms : List (List ℕ × ℕ)
+
+-- the row of a satellite of which nothing is stored
+abbrev pub empty_row : List ℕ → RowTail
+empty_row name = record { name = name; flags = []; cells = [] }
+
+abbrev pub row_tail_named : List ℕ → List RowTail → Option RowTail
+row_tail_named name rows = named (λ (r : RowTail). r.name) name rows
+
+-- the row with this identifier among some, or a blank one
+abbrev pub row_or_blank : List ℕ → List RowTail → RowTail
+row_or_blank name rows = unwrap_or (row_tail_named name rows) (empty_row name)
+
+-- a satellite is known, and has room for so many types
+pub record HasRoom (name : List ℕ) (count : ℕ) (rooms : List (List ℕ × ℕ)) : Type 0 where
+  pub room : ℕ
+  pub there : named (λ (r : List ℕ × ℕ). r.0) name rooms ≡ Some (name, room)
+  pub within : count ≤ room
+
+-- no satellite has less room than before
+abbrev pub KeepsRooms : List (List ℕ × ℕ) → List (List ℕ × ℕ) → Type 0
+KeepsRooms before after = (name : List ℕ) (count : ℕ) → HasRoom name count before → HasRoom name count after
+
+-- the satellite with this identifier has come: its row, which is what is stored of it, is the last one, and those of all others that
+-- haven't come stay
+pub record HasCome (name : List ℕ) (before after : PlacedRows) : Type 0 where
+  pub rows : after.rows ≡ before.rows ++ row_or_blank name before.rest ∷ []
+  pub others : (other : List ℕ) → bytes_eq other name ≡ false → row_tail_named other after.rest ≡ row_tail_named other before.rest
+
+-- cells for so many types: those that are there, and blank ones
+abbrev pub cells_for : ℕ → List (Option ArcTail) → List (Option ArcTail)
+cells_for count cells = each_place count (λ place. slice_index_or cells place None)
+
+-- a satellite's row by its count of types, where no line of the epoch has changed it yet
+abbrev pub padded : Satellite → Option RowTail → RowTail
+padded satellite kept =
+    record {
+      name = satellite.name;
+      flags = flags_held satellite.count (flags_of_tail kept);
+      cells = each_place satellite.count (λ place. cell_of_tail place kept);
+    }
+
+-- a satellite's row by its count of types, as some rows have it by its identifier
+abbrev pub padded_among : List RowTail → Satellite → RowTail
+padded_among rows satellite = padded satellite (row_tail_named satellite.name rows)
+
+-- the satellite of a row
+abbrev pub satellite_of : RowTail → Satellite
+satellite_of row = record { name = row.name; count = length row.cells }
+
+-- ---- the history
+
+-- the text of the newest epoch, the text of the next one where it is made already, the clock's arc, and the satellites
+pub record OpenHistory : Type 0 where
+  pub text : List ℕ
+  pub next_text : List ℕ
+  pub clock : Option ArcTail
+  pub satellites : PlacedRows
+
+-- the tail that a history has between two epochs
+abbrev pub tail_of_history : OpenHistory → Tail
+tail_of_history history =
+    record { text = history.text; clock = history.clock; rows = history.satellites.rows }
+
+-- between two epochs no satellite is awaited
+abbrev pub IsBetween : OpenHistory → Type 0
+IsBetween history = history.satellites.rest ≡ []
+
+-- each row's satellite is known, and has room for the row's types
+abbrev pub HaveRoom : List Row → List (List ℕ × ℕ) → Type 0
+HaveRoom rows rooms = All (λ (row : Row). HasRoom row.name (length row.values) rooms) rows
+
+-- as many bytes as the compact line of a row has at most, with its LF
+abbrev pub row_room : Row → ℕ
+row_room row = CELL_ROOM * length row.values + 2 * TYPES_LIMIT + 1
+
+-- as many bytes as the compact lines of an epoch have at most, each with its LF
+abbrev pub epoch_room : Epoch → ℕ
+epoch_room epoch = 2 * (LINE_LIMIT + 1) + sum (map row_room epoch.rows)
+
+-- a row has as many cells as a system may have types
+abbrev pub HasAllowedCount : RowTail → Type 0
+HasAllowedCount row = IsAllowedCount (length row.cells)
+
+-- the rows are of the satellites that the text announces, of which no two have one identifier
+pub record IsAnnounced (history : OpenHistory) : Type 0 where
+  pub announced : AreAnnounced history.text (map satellite_of history.satellites.rows)
+  pub satellites : All IsAwaitedSatellite (map satellite_of history.satellites.rows)
+
+-- the satellite line of the row at a place was read: what it leaves of the satellite, which shows the row, is in its place, and nothing
+-- else has changed
+pub record IsRowRead (place : ℕ) (line : List ℕ) (old new : OpenHistory) : Type 0 where
+  pub row : RowTail
+  pub there : slice_get old.satellites.rows place ≡ Some row
+  pub left : RowTail
+  pub read : row_held (Some row) (satellite_of row) line ≡ Ok (record { row = shown_row left; tail = left })
+  pub name : left.name ≡ row.name
+  pub sized : length left.cells ≡ length row.cells
+  pub rows : new.satellites.rows ≡ slice_set old.satellites.rows place left
+  pub text : new.text ≡ old.text
+  pub clock : new.clock ≡ old.clock

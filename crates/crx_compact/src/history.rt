@@ -1,0 +1,516 @@
+//! The history, which each epoch's lines are made and read after, and which they change in place: Hatanaka's Compact RINEX 3.0.
+
+ghost use Rattle.std.specs.Prelude.{ℕ, List, sum, flat_map, ◌≡◌, ◌≤◌, ◌<◌, ◌+◌, ◌*◌, ◌++◌, ◌∷◌, ◌⊎◌, if◌then◌else◌, [], true, false, None, Some, Ok, Err, All, length, take, map, slice_get, is_some, OnOk, OnErr, IfOk, IfErr};
+ghost use Rattle.std.specs.List.{list_all};
+ghost use Rattle.std.specs.Result.{is_ok};
+ghost use Rattle.crx_columns.specs.meaning.Columns.{columns, without_end_blanks};
+ghost use Rattle.crx_columns.specs.meaning.Texts.{is_kept, is_printable, text_difference};
+ghost use Rattle.crx_columns.specs.Texts.{patched};
+ghost use Rattle.crx_faults.specs.declared.limits.TheConstants.{HEAD_WIDTH, LINE_LIMIT, SATELLITES_LIMIT};
+ghost use Rattle.crx_header.specs.meaning.EpochColumns.{begins_epoch, epoch_count};
+ghost use Rattle.crx_rinex.specs.Epochs.{is_full_epoch, with_row};
+ghost use Rattle.crx_rinex.specs.meaning.Epochs.{IsSoundEpoch, are_different, has_satellite};
+ghost use Rattle.crx_rinex.specs.meaning.Observations.{Row};
+ghost use Rattle.crx_rinex.specs.meaning.Printing.{printed_head, printed_row};
+ghost use Rattle.crx_text.specs.meaning.Codes.{code_text};
+ghost use Rattle.crx_compact.specs.ArcSteps.{arc_of_value, code_of_value, shown_value};
+ghost use Rattle.crx_compact.specs.HeldRows.{IsAwaitedSatellite, past_of_tail, row_held};
+ghost use Rattle.crx_compact.specs.meaning.CompactPlaces.{clock_line_read, satellites_of_line, satellites_of_text};
+ghost use Rattle.crx_compact.specs.meaning.Compaction.{epoch_text};
+ghost use Rattle.crx_compact.specs.meaning.EpochText.{Satellite, names_in, satellites_named};
+ghost use Rattle.crx_compact.specs.Placing.{HasAllowedCount, HaveRoom, IsAnnounced, IsBetween, IsRowRead, epoch_room, padded, padded_among, row_room, satellite_of, tail_of_history};
+ghost use Rattle.crx_compact.specs.PrintedBlocks.{printed_room};
+ghost use Rattle.crx_compact.specs.RowsSoFar.{AreAnnounced, HasClock};
+ghost use Rattle.crx_compact.specs.ShownRows.{shown_epoch, shown_row};
+ghost use Rattle.crx_compact.specs.Steps.{lines_after_tail, no_tail, row_line_in, row_tail_in, tail_after, tail_named};
+ghost use Rattle.crx_compact.specs.Tails.{RowTail};
+
+use crate::arc::ClockArc;
+use crate::cells::CELL_ROOM;
+use crate::lines::Lines;
+use crate::refusals::fault_of_text;
+use crate::satellites::Satellites;
+use crx_faults::Fault;
+use crx_faults::limits::{CELL_WIDTH, HEAD_WIDTH, LINE_LIMIT, NAME_WIDTH, TYPES_LIMIT};
+use crx_header::{Types, after_columns, all_blank, identifier, padded, put_identifier};
+use crx_rinex::{Epoch, EpochLine, SatRow, begins_epoch, print_head, types_of_satellite};
+use crx_text::difference::{append_difference, patch_bytes};
+use crx_text::{Text, code_print, code_read, trim_end};
+use std::alloc::{AllocError, Global};
+use std::marker::Model;
+use std::mem;
+
+/// The history: the text of the newest epoch, the clock's arc, and its satellites in the order of the file.
+#[derive(Drop)]
+pub struct History {
+    text: Vec<u8>,
+    /// The text of the epoch whose lines are made next, while they are made.
+    next_text: Vec<u8>,
+    clock: ClockArc,
+    satellites: Satellites,
+    alloc: Global,
+}
+
+impl Model for History {
+    ghost use Rattle.std.specs.Prelude.{◌≤◌, length};
+    ghost use Rattle.crx_faults.specs.declared.limits.TheConstants.{LINE_LIMIT};
+    ghost use Rattle.crx_compact.specs.Placing.{OpenHistory};
+
+    ghost Value = { OpenHistory };
+
+    ghost view = { λ history. record {
+      text = history.text.items;
+      next_text = history.next_text.items;
+      clock = history.clock;
+      satellites = history.satellites;
+    } };
+
+    ghost invariant = { λ history. (length history.text.items ≤ LINE_LIMIT) × (length history.next_text.items ≤ LINE_LIMIT) };
+}
+
+impl History {
+    /// The history where everything starts anew: an empty text, and no arcs and satellites.
+    pub(crate) fn new(alloc: Global) -> History
+        ensures empty { tail_of_history result ≡ no_tail }
+        ensures between { IsBetween result }
+    {
+        History {
+            text: Vec::new(alloc),
+            next_text: Vec::new(alloc),
+            clock: ClockArc::new(),
+            satellites: Satellites::new(alloc),
+            alloc,
+        }
+    }
+
+    /// Forgets everything; the memory is used again.
+    pub(crate) fn clear(&mut self)
+        ensures emptied { self.new ≡ record self.old {
+          text = [];
+          clock = None;
+          satellites = record self.old.satellites { rows = []; rest = [] };
+        } }
+    {
+        self.text.clear();
+        self.clock.end();
+        self.satellites.clear();
+    }
+
+    /// Puts the compact lines of an epoch after others: in full, where that is asked for, else as differences from the epoch before. The
+    /// history is the one after the epoch. All memory is asked for first, so that after `AllocError` nothing has changed.
+    pub(crate) fn encode(
+        &mut self,
+        epoch: &Epoch,
+        in_full: bool,
+        part: &mut Text,
+        lines: &mut Lines,
+    ) -> Result<(), AllocError>
+        requires sound { IsSoundEpoch epoch.now }
+        requires between { IsBetween self.old }
+        ensures after { OnOk result (tail_of_history self.new
+            ≡ tail_after (if in_full then no_tail else tail_of_history self.old) epoch.now) }
+        ensures lines { OnOk result (lines.new.lines ≡ lines.old.lines
+            ++ lines_after_tail (if in_full then no_tail else tail_of_history self.old) epoch.now) }
+        ensures err { OnErr result (tail_of_history self.new ≡ tail_of_history self.old) }
+        ensures unchanged { OnErr result (lines.new.lines ≡ lines.old.lines) }
+        ensures between { IsBetween self.new }
+    {
+        self.prepare(epoch)?;
+        lines.make_room(epoch.count() + 2, room_of_epoch(epoch))?;
+        if in_full {
+            self.clear();
+        }
+        self.put_first_lines(epoch, part, lines);
+        put_rows(&mut self.satellites, epoch, part, lines);
+        Ok(())
+    }
+
+    /// Asks for all memory that the lines of an epoch need in the history, and makes the epoch's text. The history stays.
+    fn prepare(&mut self, epoch: &Epoch) -> Result<(), AllocError>
+        requires sound { IsSoundEpoch epoch.now }
+        ensures tail { tail_of_history self.new ≡ tail_of_history self.old }
+        ensures rest { self.new.satellites.rest ≡ self.old.satellites.rest }
+        ensures text { OnOk result (self.new.next_text ≡ without_end_blanks (epoch_text epoch.now)) }
+        ensures room { OnOk result (HaveRoom epoch.now.rows self.new.satellites.rooms) }
+    {
+        renew_text(&mut self.next_text, epoch)?;
+        prepare_rows(&mut self.satellites, epoch)
+    }
+
+    /// Puts the first two compact lines of an epoch after others, for which there is room: the difference of its text, which is made, and
+    /// the clock's code.
+    fn put_first_lines(&mut self, epoch: &Epoch, part: &mut Text, lines: &mut Lines)
+        requires free_lines { 2 ≤ lines.old.free_lines }
+        requires free_bytes { 2 * (LINE_LIMIT + 1) ≤ lines.old.free_bytes }
+        ensures history { self.new ≡ record self.old {
+          text = self.old.next_text;
+          next_text = self.old.text;
+          clock = arc_of_value epoch.now.clock self.old.clock;
+        } }
+        ensures lines { lines.new.lines ≡ lines.old.lines ++ text_difference self.old.text self.old.next_text
+            ∷ code_text (code_of_value epoch.now.clock self.old.clock) ∷ [] }
+        ensures free_lines { lines.new.free_lines + 2 ≡ lines.old.free_lines }
+        ensures free_bytes { lines.old.free_bytes ≤ lines.new.free_bytes + 2 * (LINE_LIMIT + 1) }
+    {
+        mark_change(&self.text, &self.next_text, part);
+        lines.put(part.bytes());
+        mem::swap(&mut self.text, &mut self.next_text);
+        part.clear();
+        code_print(self.clock.push(epoch.head().clock()), part).unwrap();
+        lines.put(part.bytes());
+    }
+
+    /// Reads an epoch line: replaces the text by the one that it makes, and has the satellites of that text come, each with as many types as
+    /// its system has.
+    ///
+    /// `BadEpoch` comes where the line holds a character outside 32 to 126, then where the text that it makes is none of an observation
+    /// epoch; then the faults of the identifiers; `OutOfMemory` where something can't grow and the line has no fault. After a refusal the
+    /// satellites mean nothing.
+    pub(crate) fn read_epoch_line(
+        &mut self,
+        types: &Types,
+        line: &[u8],
+        part: &mut Text,
+    ) -> Result<(), Fault>
+        requires short { length line.now ≤ LINE_LIMIT }
+        requires between { IsBetween self.old }
+        ensures ok { OnOk result ((satellites : List Satellite)
+            × (satellites_of_line types.now (past_of_tail (tail_of_history self.old)) line.now ≡ Ok satellites)
+            × (self.new.satellites.rows
+            ≡ map (λ (s : Satellite). padded s (tail_named s.name (tail_of_history self.old))) satellites)) }
+        ensures text { OnOk result (self.new.text ≡ patched self.old.text line.now) }
+        ensures clock { OnOk result (self.new.clock ≡ self.old.clock) }
+        ensures announced { OnOk result (IsAnnounced self.new) }
+        ensures err { IfErr result (λ fault.
+            (satellites_of_line types.now (past_of_tail (tail_of_history self.old)) line.now ≡ Err fault)
+            ⊎ (fault ≡ Fault.OutOfMemory)) }
+        // Memory runs out only at a line without a fault.
+        ensures memory { IfErr result (λ fault. fault ≡ Fault.OutOfMemory
+            → is_ok (satellites_of_line types.now (past_of_tail (tail_of_history self.old)) line.now) ≡ true) }
+    {
+        if patch_bytes(&self.text, line, part).is_err() {
+            return Err(Fault::BadEpoch);
+        }
+        self.satellites.begin();
+        let text = part.bytes();
+        match read_satellites(types, text, &mut self.satellites) {
+            Ok(()) => {}
+            Err(Fault::OutOfMemory) => return Err(fault_of_text(types, text)),
+            Err(fault) => return Err(fault),
+        }
+        if put_text_in(&mut self.text, text).is_err() {
+            return Err(Fault::OutOfMemory);
+        }
+        Ok(())
+    }
+
+    /// Reads a clock line: the clock's arc is the one after the code, which shows the clock's value. Blanks at the line's end don't count.
+    ///
+    /// `Truncated` comes where the line begins another epoch, `BadClock` where it is no code, then `NoArc` and `OutOfRange` as by
+    /// [`ClockArc::apply`].
+    pub(crate) fn read_clock(&mut self, line: &[u8]) -> Result<(), Fault>
+        ensures ok { OnOk result
+            (HasClock (tail_of_history self.old) line.now (tail_of_history self.old) (tail_of_history self.new)) }
+        ensures err { IfErr result (λ fault.
+            clock_line_read (past_of_tail (tail_of_history self.old)) line.now ≡ Err fault) }
+        ensures others { self.new ≡ record self.old { clock = self.new.clock } }
+    {
+        if begins_epoch(line) {
+            return Err(Fault::Truncated);
+        }
+        let Ok(code) = code_read(trim_end(line)) else {
+            return Err(Fault::BadClock);
+        };
+        self.clock.apply(code)?;
+        Ok(())
+    }
+
+    /// How many satellites the epoch has.
+    #[inline(always)]
+    pub(crate) fn count(&self) -> usize
+        ensures value { result ≡ length self.now.satellites.rows }
+    {
+        self.satellites.placed()
+    }
+
+    /// Reads the satellite line of the row at an index. `Truncated` comes where the line begins another epoch; the other faults are those of
+    /// [`SatelliteHistory::read`].
+    #[inline(always)]
+    pub(crate) fn read_row(
+        &mut self,
+        index: usize,
+        line: &[u8],
+        part: &mut Text,
+    ) -> Result<(), Fault>
+        requires short { length line.now ≤ LINE_LIMIT }
+        requires within { index < length self.old.satellites.rows }
+        requires allowed { All HasAllowedCount self.old.satellites.rows }
+        ensures ok { OnOk result (IsRowRead index line.now self.old self.new) }
+        ensures err { IfErr result (λ fault. (row : RowTail)
+            → slice_get self.old.satellites.rows index ≡ Some row
+            → row_held (Some row) (satellite_of row) line.now ≡ Err fault) }
+    {
+        if begins_epoch(line) {
+            return Err(Fault::Truncated);
+        }
+        self.satellites.read_line(index, line, part)
+    }
+
+    /// Ends an epoch whose lines have all come.
+    pub(crate) fn end(&mut self)
+        ensures ended { self.new ≡ record self.old { satellites = record self.old.satellites { rest = [] } } }
+    {
+        self.satellites.end();
+    }
+
+    /// The epoch that the history shows. `OutOfMemory` is the one refusal, and comes only where there are satellites.
+    pub(crate) fn epoch(&self) -> Result<Epoch, Fault>
+        requires announced { IsAnnounced self.now }
+        ensures ok { IfOk result (λ epoch. epoch
+            ≡ shown_epoch (tail_of_history self.now) (length self.now.satellites.rows)) }
+        ensures err { IfErr result (λ fault. fault ≡ Fault.OutOfMemory) }
+        ensures memory { OnErr result (0 < length self.now.satellites.rows) }
+    {
+        let mut epoch = Epoch::new(self.alloc, self.head());
+        for index in 0..self.satellites.placed() {
+            push_row(&mut epoch, self.satellites.row(index, self.alloc)?)?;
+        }
+        Ok(epoch)
+    }
+
+    /// The first line of the epoch that the history shows.
+    fn head(&self) -> EpochLine
+        requires { is_some (epoch_count (columns self.now.text 1 HEAD_WIDTH)) ≡ true }
+        ensures head { result.head ≡ columns self.now.text 1 HEAD_WIDTH }
+        ensures clock { result.clock ≡ shown_value self.now.clock }
+    {
+        EpochLine::new(padded(&self.text, 1), self.clock.value()).unwrap()
+    }
+
+    /// Replaces a text by the printed line of the epoch that the history shows.
+    pub(crate) fn print_head(&self, text: &mut Text)
+        requires { is_some (epoch_count (columns self.now.text 1 HEAD_WIDTH)) ≡ true }
+        ensures value { text.new
+            ≡ printed_head (columns self.now.text 1 HEAD_WIDTH) (shown_value self.now.clock) }
+    {
+        print_head(&self.head(), text);
+    }
+
+    /// As many bytes as the printed lines of the history's epoch have at most, each with its LF.
+    pub(crate) fn printed_room(&self) -> usize
+        requires announced { IsAnnounced self.now }
+        ensures value { result ≡ LINE_LIMIT + 1 + sum (map printed_room self.now.satellites.rows) }
+    {
+        let mut room = LINE_LIMIT + 1;
+        for index in 0..self.satellites.placed() {
+            room += NAME_WIDTH + CELL_WIDTH * self.satellites.count_at(index) + 1;
+        }
+        room
+    }
+
+    /// Puts the printed line of the row at an index after others, for which there is room.
+    #[inline(always)]
+    pub(crate) fn put_printed(&self, index: usize, lines: &mut Lines)
+        requires within { index < length self.now.satellites.rows }
+        requires free_line { 0 < lines.old.free_lines }
+        requires free_bytes { (row : RowTail) → slice_get self.now.satellites.rows index ≡ Some row
+            → printed_room row ≤ lines.old.free_bytes }
+        ensures lines { (row : RowTail) → slice_get self.now.satellites.rows index ≡ Some row
+            → lines.new.lines ≡ lines.old.lines ++ printed_row (shown_row row) ∷ [] }
+        ensures free_lines { lines.new.free_lines + 1 ≡ lines.old.free_lines }
+        ensures free_bytes { (row : RowTail) → slice_get self.now.satellites.rows index ≡ Some row
+            → lines.old.free_bytes ≤ lines.new.free_bytes + printed_room row }
+    {
+        lines.put_printed(&self.satellites, index);
+    }
+}
+
+/// Asks for all memory that the lines of an epoch's rows need of their satellites.
+fn prepare_rows(satellites: &mut Satellites, epoch: &Epoch) -> Result<(), AllocError>
+    requires sound { IsSoundEpoch epoch.now }
+    ensures rows { satellites.new.rows ≡ satellites.old.rows }
+    ensures rest { satellites.new.rest ≡ satellites.old.rest }
+    ensures room { OnOk result (HaveRoom epoch.now.rows satellites.new.rooms) }
+{
+    let mut index = 0;
+    while let Some(row) = epoch.row(index) {
+        satellites.prepare(row.name(), row.values().len())?;
+        index += 1;
+    }
+    Ok(())
+}
+
+/// Puts the compact lines of an epoch's rows after others, for which there is room. Their satellites are known, and have room too.
+fn put_rows(satellites: &mut Satellites, epoch: &Epoch, part: &mut Text, lines: &mut Lines)
+    requires apart { are_different epoch.now.rows ≡ true }
+    requires between { satellites.old.rest ≡ [] }
+    requires room { HaveRoom epoch.now.rows satellites.old.rooms }
+    requires free_lines { length epoch.now.rows ≤ lines.old.free_lines }
+    requires free_bytes { sum (map row_room epoch.now.rows) ≤ lines.old.free_bytes }
+    ensures rows { satellites.new.rows ≡ map (row_tail_in satellites.old.rows) epoch.now.rows }
+    ensures between { satellites.new.rest ≡ [] }
+    ensures lines { lines.new.lines
+        ≡ lines.old.lines ++ map (row_line_in satellites.old.rows) epoch.now.rows }
+{
+    satellites.begin();
+    let mut index = 0;
+    while let Some(row) = epoch.row(index) {
+        satellites.place(row.name()).unwrap();
+        lines.put_row(satellites, index, row, part);
+        index += 1;
+    }
+    satellites.end();
+}
+
+/// Replaces a text by an epoch's text without the blanks at its end; after `AllocError` it is empty.
+fn renew_text(text: &mut Vec<u8>, epoch: &Epoch) -> Result<(), AllocError>
+    requires { IsSoundEpoch epoch.now }
+    ensures ok { OnOk result (text.new.items ≡ without_end_blanks (epoch_text epoch.now)) }
+    ensures within { length text.new.items ≤ LINE_LIMIT }
+    ensures plain { list_all is_kept text.new.items ≡ true }
+{
+    text.clear();
+    match push_epoch_text(text, epoch) {
+        Ok(()) => {
+            let end = trim_end(text).len();
+            text.truncate(end);
+            Ok(())
+        }
+        Err(error) => {
+            text.clear();
+            Err(error)
+        }
+    }
+}
+
+/// Appends an epoch's text: columns 1 to 41 of its line, and the identifiers.
+fn push_epoch_text(text: &mut Vec<u8>, epoch: &Epoch) -> Result<(), AllocError>
+    requires { IsSoundEpoch epoch.now }
+    ensures { OnOk result (text.new.items ≡ text.old.items ++ epoch_text epoch.now) }
+{
+    text.extend_from_slice(epoch.head().columns())?;
+    push_names(text, epoch)
+}
+
+/// Appends the identifiers of an epoch's satellites. Room is asked for once; to append them one by one takes 60 instructions each.
+fn push_names(text: &mut Vec<u8>, epoch: &Epoch) -> Result<(), AllocError>
+    ensures { OnOk result (text.new.items
+        ≡ text.old.items ++ flat_map (λ (row : Row). row.name) epoch.now.rows) }
+{
+    let start = text.len();
+    text.resize(start + NAME_WIDTH * epoch.count(), b' ')?;
+    let mut at = start;
+    let mut index = 0;
+    while let Some(row) = epoch.row(index) {
+        put_identifier(text, at, row.name());
+        at += NAME_WIDTH;
+        index += 1;
+    }
+    Ok(())
+}
+
+/// Replaces a text by the difference of two others. The texts of two epochs mostly differ by their time alone.
+fn mark_change(old: &[u8], new: &[u8], part: &mut Text)
+    requires old_short { length old.now ≤ LINE_LIMIT }
+    requires new_short { length new.now ≤ LINE_LIMIT }
+    ensures { part.new ≡ text_difference old.now new.now }
+{
+    part.clear();
+    append_difference(old, new, part);
+    part.trim_end_blanks();
+}
+
+/// As many bytes as the compact lines of an epoch have at most, each with its LF.
+fn room_of_epoch(epoch: &Epoch) -> usize
+    requires sound { IsSoundEpoch epoch.now }
+    ensures { result ≡ epoch_room epoch.now }
+{
+    let mut room = 2 * (LINE_LIMIT + 1);
+    let mut index = 0;
+    while let Some(row) = epoch.row(index) {
+        room += CELL_ROOM * row.values().len() + 2 * TYPES_LIMIT + 1;
+        index += 1;
+    }
+    room
+}
+
+/// Replaces a text; after `AllocError` it is empty.
+fn put_text_in(text: &mut Vec<u8>, new: &[u8]) -> Result<(), AllocError>
+    ensures ok { OnOk result (text.new.items ≡ new.now) }
+    ensures err { OnErr result (text.new.items ≡ []) }
+{
+    text.clear();
+    text.extend_from_slice(new)?;
+    Ok(())
+}
+
+/// Puts a row after the others of an epoch, which has no row of its satellite: so only `OutOfMemory` can refuse it.
+fn push_row(epoch: &mut Epoch, row: SatRow) -> Result<(), Fault>
+    requires wanted { is_full_epoch epoch.old ≡ false }
+    requires new { has_satellite row.name epoch.old.rows ≡ false }
+    ensures ok { OnOk result (epoch.new ≡ with_row epoch.old row) }
+    ensures err { IfErr result (λ fault. fault ≡ Fault.OutOfMemory) }
+{
+    match epoch.push(row) {
+        Ok(()) => Ok(()),
+        Err((_, fault)) => Err(fault),
+    }
+}
+
+/// Has the satellites of an epoch text come, each with as many types as its system has.
+///
+/// `BadEpoch` comes where columns 1 to 41 are not those of an observation epoch, or anything but blanks is behind the last identifier; then
+/// the faults of the identifiers; `OutOfMemory` where something can't grow.
+fn read_satellites(types: &Types, text: &[u8], satellites: &mut Satellites) -> Result<(), Fault>
+    requires { satellites.old.rows ≡ [] }
+    ensures ok { OnOk result ((named : List Satellite) × (satellites_of_text types.now text.now ≡ Ok named)
+        × (satellites.new.rows ≡ map (padded_among satellites.old.rest) named)
+        × All IsAwaitedSatellite named) }
+    ensures err { IfErr result (λ fault. (satellites_of_text types.now text.now ≡ Err fault)
+        ⊎ (fault ≡ Fault.OutOfMemory)) }
+{
+    let Ok(head) = EpochLine::new(padded(text, 1), None) else {
+        return Err(Fault::BadEpoch);
+    };
+    let count = head.count();
+    if !all_blank(after_columns(text, HEAD_WIDTH + NAME_WIDTH * count)) {
+        return Err(Fault::BadEpoch);
+    }
+    read_names(types, text, count, satellites)
+}
+
+/// Has so many satellites after the columns of an epoch text come, from left to right.
+///
+/// `BadSatellite` comes where one has the form of none of a system that has types, then `RepeatedSatellite` where it has come already;
+/// `OutOfMemory` where something can't grow.
+fn read_names(
+    types: &Types,
+    text: &[u8],
+    count: usize,
+    satellites: &mut Satellites,
+) -> Result<(), Fault>
+    requires none { satellites.old.rows ≡ [] }
+    requires few { count ≤ SATELLITES_LIMIT }
+    ensures ok { OnOk result ((named : List Satellite)
+        × (satellites_named types.now [] (names_in text.now count) ≡ Ok named)
+        × (satellites.new.rows ≡ map (padded_among satellites.old.rest) named)
+        × All IsAwaitedSatellite named) }
+    ensures err { IfErr result (λ fault. (satellites_named types.now [] (names_in text.now count) ≡ Err fault)
+        ⊎ (fault ≡ Fault.OutOfMemory)) }
+{
+    for place in 0..count {
+        let name = identifier(text, HEAD_WIDTH + 1 + NAME_WIDTH * place);
+        let Some(types) = types_of_satellite(types, &name) else {
+            return Err(Fault::BadSatellite);
+        };
+        match satellites.place(name) {
+            Ok(true) => {}
+            Ok(false) => return Err(Fault::RepeatedSatellite),
+            Err(_) => return Err(Fault::OutOfMemory),
+        }
+        if satellites.resize_last(types).is_err() {
+            return Err(Fault::OutOfMemory);
+        }
+    }
+    Ok(())
+}

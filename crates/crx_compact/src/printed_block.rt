@@ -1,0 +1,86 @@
+//! The printed lines of an epoch whose compact lines come one by one.
+
+ghost use Rattle.std.specs.Prelude.{◌≡◌, ◌≤◌, [], true, false, length, OnOk};
+ghost use Rattle.crx_compact.specs.Placing.{IsAnnounced};
+ghost use Rattle.crx_compact.specs.PrintedBlocks.{IsBlock};
+
+use crate::expanded_lines::ExpandedLines;
+use crate::history::History;
+use crate::lines::Lines;
+use crx_text::Text;
+use std::alloc::{AllocError, Global};
+
+/// The printed lines of an epoch whose compact lines come one by one, with room for the rest of them.
+#[derive(Drop)]
+pub(crate) struct PrintedBlock {
+    lines: Lines,
+    /// Whether the epoch's first line is printed.
+    has_head: bool,
+    /// How many rows are printed.
+    rows: usize,
+}
+
+impl PrintedBlock {
+    /// No lines.
+    pub(crate) fn new(alloc: Global) -> PrintedBlock {
+        PrintedBlock {
+            lines: Lines::new(alloc),
+            has_head: false,
+            rows: 0,
+        }
+    }
+
+    /// Drops all lines, and asks for room for those of the epoch whose first compact line a history has read.
+    pub(crate) fn begin(&mut self, history: &History) -> Result<(), AllocError>
+        requires announced { IsAnnounced history.now }
+        ensures room { OnOk result (IsBlock self.new.has_head self.new.rows self.new.lines history.now) }
+        ensures none { self.new.has_head ≡ false }
+    {
+        self.lines.clear();
+        self.has_head = false;
+        self.rows = 0;
+        self.lines
+            .make_room(history.count() + 1, history.printed_room())
+    }
+
+    /// Prints the first line, and those of the first so many rows, where they aren't there yet.
+    #[inline(always)]
+    pub(crate) fn print(&mut self, history: &History, rows: usize, part: &mut Text)
+        requires announced { IsAnnounced history.now }
+        requires block { IsBlock self.old.has_head self.old.rows self.old.lines history.now }
+        requires within { rows ≤ length history.now.satellites.rows }
+        requires behind { self.old.rows ≤ rows }
+        ensures block { IsBlock self.new.has_head self.new.rows self.new.lines history.now }
+        ensures head { self.new.has_head ≡ true }
+        ensures rows { self.new.rows ≡ rows }
+    {
+        self.print_head(history, part);
+        while self.rows < rows {
+            history.put_printed(self.rows, &mut self.lines);
+            self.rows += 1;
+        }
+    }
+
+    /// Prints the first line where it isn't there yet.
+    fn print_head(&mut self, history: &History, part: &mut Text)
+        requires announced { IsAnnounced history.now }
+        requires block { IsBlock self.old.has_head self.old.rows self.old.lines history.now }
+        ensures block { IsBlock self.new.has_head self.new.rows self.new.lines history.now }
+        ensures head { self.new.has_head ≡ true }
+        ensures rows { self.new.rows ≡ self.old.rows }
+    {
+        if !self.has_head {
+            history.print_head(part);
+            self.lines.put(part.bytes());
+            self.has_head = true;
+        }
+    }
+
+    /// Makes the lines ready, once no line before them is pending.
+    pub(crate) fn hand_over(&mut self, lines: &mut ExpandedLines)
+        requires drained { lines.old ≡ [] }
+        ensures lines { lines.new ≡ self.old.lines.lines }
+    {
+        lines.exchange(&mut self.lines);
+    }
+}

@@ -1,0 +1,431 @@
+//! What is stored of a satellite: its indicators and the arcs of its cells, changed in place by each of its lines. Hatanaka's Compact RINEX
+//! 3.0, satellite lines.
+
+ghost use Rattle.std.specs.Prelude.{All, ℕ, List, ◌≡◌, ◌≤◌, ◌<◌, ◌+◌, ◌-◌, ◌*◌, ◌++◌, [], None, Some, Ok, Err, true, false, length, replicate, take, OnOk, IfOk, IfErr};
+ghost use Rattle.std.specs.List.{flat_map, list_all};
+ghost use Rattle.crx_columns.specs.meaning.Columns.{columns, without_end_blanks};
+ghost use Rattle.crx_columns.specs.meaning.Texts.{is_kept, text_difference};
+ghost use Rattle.crx_columns.specs.Texts.{patched};
+ghost use Rattle.crx_faults.specs.declared.limits.TheConstants.{CELL_WIDTH, LINE_LIMIT, NAME_WIDTH, TYPES_LIMIT};
+ghost use Rattle.crx_header.specs.meaning.EpochColumns.{begins_epoch};
+ghost use Rattle.crx_header.specs.meaning.ObservationTypes.{IsAllowedCount};
+ghost use Rattle.crx_header.specs.meaning.Satellites.{is_identifier};
+ghost use Rattle.crx_rinex.specs.meaning.Printing.{printed_row};
+ghost use Rattle.crx_compact.specs.declared.cells.TheConstants.{CELL_ROOM};
+ghost use Rattle.crx_compact.specs.Cells.{arcs_of_cells, codes_of_cells, value_at_place, CellsAreRead};
+ghost use Rattle.crx_compact.specs.HeldRows.{AreHeldFlags, row_held};
+ghost use Rattle.crx_compact.specs.meaning.Cells.{cell_text, cells_of, cells_read};
+ghost use Rattle.crx_text.specs.meaning.Numbers.{IsValue};
+ghost use Rattle.crx_compact.specs.meaning.CompactPlaces.{are_marks};
+ghost use Rattle.crx_compact.specs.Placing.{cells_for, row_tail_of, satellite_of};
+ghost use Rattle.crx_compact.specs.ShownRows.{shown_row};
+ghost use Rattle.crx_compact.specs.Steps.{flags_held};
+
+use crate::arc::ObsArc;
+use crate::cells::{print_cells, read_cells, write_cells};
+use crate::same::is_same_text;
+use crx_faults::Fault;
+use crx_faults::limits::{CELL_WIDTH, NAME_WIDTH};
+use crx_header::{after_columns, all_blank, put_identifier};
+use crx_rinex::{SatRow, put_flags};
+use crx_text::block::put_text;
+use crx_text::difference::{append_difference, patch_bytes};
+use crx_text::{Text, copy_text, put_blanks, trim_end};
+use std::alloc::{AllocError, Global};
+use std::marker::Model;
+
+/// What is stored of a satellite: two indicators and an arc for each of its types.
+#[derive(Drop)]
+pub struct SatelliteHistory {
+    /// Two for each arc.
+    indicators: Vec<u8>,
+    arcs: Vec<ObsArc>,
+    /// How many types it has. What is stored after these is of earlier epochs, and means nothing; its memory is used again.
+    count: usize,
+}
+
+impl Model for SatelliteHistory {
+    ghost use Rattle.std.specs.Prelude.{◌≡◌, ◌≤◌, ◌*◌, length, take};
+    ghost use Rattle.crx_faults.specs.declared.limits.TheConstants.{TYPES_LIMIT};
+    ghost use Rattle.crx_columns.specs.meaning.Columns.{without_end_blanks};
+    ghost use Rattle.crx_compact.specs.HeldRows.{AreHeldFlags};
+    ghost use Rattle.crx_compact.specs.Placing.{SatelliteTail};
+
+    ghost Value = { SatelliteTail };
+
+    ghost view = { λ satellite. record {
+      flags = without_end_blanks (take (2 * satellite.count) satellite.indicators.items);
+      cells = take satellite.count satellite.arcs.items;
+      room = length satellite.arcs.items;
+    } };
+
+    ghost invariant = { λ satellite. AreHeldFlags (take (2 * satellite.count) satellite.indicators.items)
+        × (satellite.count ≤ length satellite.arcs.items) × (length satellite.arcs.items ≤ TYPES_LIMIT)
+        × (length satellite.indicators.items ≡ 2 * length satellite.arcs.items) };
+}
+
+impl SatelliteHistory {
+    /// Nothing.
+    pub(crate) fn new(alloc: Global) -> SatelliteHistory
+        ensures empty { result ≡ record { flags = []; cells = []; room = 0 } }
+    {
+        SatelliteHistory {
+            indicators: Vec::new(alloc),
+            arcs: Vec::new(alloc),
+            count: 0,
+        }
+    }
+
+    /// How many types it has.
+    #[inline(always)]
+    pub(crate) fn count(&self) -> usize
+        ensures value { result ≡ length self.now.cells }
+        ensures few { result ≤ TYPES_LIMIT }
+    {
+        self.count
+    }
+
+    /// Forgets everything; the memory is used again.
+    pub(crate) fn clear(&mut self)
+        ensures emptied { self.new ≡ record self.old { flags = []; cells = [] } }
+    {
+        self.count = 0;
+    }
+
+    /// Asks for room for so many types. What is stored stays, and there is never less room than before.
+    #[inline(always)]
+    pub(crate) fn make_room(&mut self, count: usize) -> Result<(), AllocError>
+        requires allowed { count ≤ TYPES_LIMIT }
+        ensures flags { self.new.flags ≡ self.old.flags }
+        ensures cells { self.new.cells ≡ self.old.cells }
+        ensures room { OnOk result (count ≤ self.new.room) }
+        ensures kept { self.old.room ≤ self.new.room }
+    {
+        if count <= self.arcs.len() {
+            return Ok(());
+        }
+        grow(&mut self.indicators, &mut self.arcs, count)
+    }
+
+    /// Makes it have so many types, for which there is room: those that it has stay, and new ones have no arcs and blank indicators.
+    #[inline(always)]
+    pub(crate) fn resize(&mut self, count: usize)
+        requires room { count ≤ self.old.room }
+        ensures resized { self.new ≡ record self.old {
+          flags = flags_held count self.old.flags;
+          cells = cells_for count self.old.cells;
+        } }
+    {
+        if count <= self.count {
+            self.count = count;
+            return;
+        }
+        blank_types(&mut self.indicators, &mut self.arcs, self.count, count);
+        self.count = count;
+    }
+
+    /// Replaces the indicators by those of a row, makes it have as many types as the row has values, and replaces a text by the difference of
+    /// the indicators before and the row's. Most indicators stay as they are, and their difference is empty.
+    #[inline(always)]
+    pub(crate) fn mark(&mut self, row: &SatRow, part: &mut Text)
+        requires room { length row.now.values ≤ self.old.room }
+        ensures marked { self.new ≡ record self.old {
+          flags = without_end_blanks row.now.flags;
+          cells = cells_for (length row.now.values) self.old.cells;
+        } }
+        ensures marks { part.new ≡ text_difference self.old.flags row.now.flags }
+        ensures short { length part.new ≤ 2 * TYPES_LIMIT }
+    {
+        part.clear();
+        if is_same_text(row.flags(), &self.indicators[..2 * self.count]) {
+            return;
+        }
+        self.change_indicators(row, part);
+    }
+
+    /// Does what [`SatelliteHistory::mark`] does, where the indicators change, and the text is empty.
+    #[inline(never)]
+    fn change_indicators(&mut self, row: &SatRow, part: &mut Text)
+        requires room { length row.now.values ≤ self.old.room }
+        requires empty { part.old ≡ [] }
+        ensures marked { self.new ≡ record self.old {
+          flags = without_end_blanks row.now.flags;
+          cells = cells_for (length row.now.values) self.old.cells;
+        } }
+        ensures marks { part.new ≡ text_difference self.old.flags row.now.flags }
+        ensures short { length part.new ≤ 2 * TYPES_LIMIT }
+    {
+        append_difference(&self.indicators[..2 * self.count], row.flags(), part);
+        part.trim_end_blanks();
+        self.resize(row.values().len());
+        self.copy_indicators(row.flags());
+    }
+
+    /// Replaces the indicators by others, two for each type.
+    fn copy_indicators(&mut self, indicators: &[u8])
+        requires sized { length indicators.now ≡ 2 * length self.old.cells }
+        requires held { AreHeldFlags indicators.now }
+        ensures copied { self.new ≡ record self.old { flags = without_end_blanks indicators.now } }
+    {
+        put_first(&mut self.indicators, indicators);
+    }
+
+    /// Replaces the arcs by those after a row, and writes the row's compact line from an index on; the line's marks are given. Gives the
+    /// line's length.
+    #[inline(always)]
+    pub(crate) fn write_line(
+        &mut self,
+        row: &SatRow,
+        marks: &[u8],
+        bytes: &mut [u8],
+        at: usize,
+    ) -> usize
+        requires counted { length self.old.cells ≡ length row.now.values }
+        requires room { at + (CELL_ROOM * length row.now.values + length marks.now) < length bytes.old }
+        ensures after { self.new ≡ record self.old { cells = arcs_of_cells self.old.cells row.now.values } }
+        ensures line { take (at + result) bytes.new
+            ≡ take at bytes.old ++ without_end_blanks
+            (flat_map cell_text (codes_of_cells self.old.cells row.now.values) ++ marks.now) }
+        ensures within { at + result < length bytes.new }
+        ensures short { result ≤ CELL_ROOM * length row.now.values + length marks.now }
+    {
+        let end = write_first_cells(&mut self.arcs, row.values(), bytes, at);
+        let end = put_text(bytes, end, marks);
+        trim_end(&bytes[at..end]).len()
+    }
+
+    /// Reads a satellite's line: replaces the arcs and indicators by those after the line, which show the line's row. The line begins no
+    /// epoch.
+    ///
+    /// The first cell with a fault decides: `BadField` where its text is no code, then `NoArc` and `OutOfRange` as by [`ObsArc::apply`];
+    /// then `BadFlags` where the marks hold a character outside 32 to 126, or anything but blanks past two for each type.
+    #[inline(always)]
+    pub(crate) fn read(&mut self, line: &[u8], part: &mut Text) -> Result<(), Fault>
+        requires short { length line.now ≤ LINE_LIMIT }
+        requires other { begins_epoch line.now ≡ false }
+        requires allowed { IsAllowedCount (length self.old.cells) }
+        ensures ok { OnOk result ((name : List ℕ)
+            → row_held (Some (row_tail_of name self.old)) (satellite_of (row_tail_of name self.old)) line.now
+            ≡ Ok (record { row = shown_row (row_tail_of name self.new); tail = row_tail_of name self.new })) }
+        ensures err { IfErr result (λ fault. (name : List ℕ)
+            → row_held (Some (row_tail_of name self.old)) (satellite_of (row_tail_of name self.old)) line.now
+            ≡ Err fault) }
+        ensures sized { length self.new.cells ≡ length self.old.cells }
+        ensures room { self.new.room ≡ self.old.room }
+    {
+        let at = read_first_cells(&mut self.arcs, self.count, line)?;
+        let marks = &line[at..];
+        if marks.is_empty() {
+            return Ok(());
+        }
+        patch_indicators(&mut self.indicators, self.count, marks, part)
+    }
+
+    /// The row that it shows, of the satellite with an identifier. `OutOfMemory` is the one refusal.
+    pub(crate) fn row(&self, alloc: Global, name: [u8; NAME_WIDTH]) -> Result<SatRow, Fault>
+        requires named { is_identifier name ≡ true }
+        requires allowed { IsAllowedCount (length self.now.cells) }
+        ensures ok { IfOk result (λ row. row ≡ shown_row (row_tail_of name self.now)) }
+        ensures err { IfErr result (λ fault. fault ≡ Fault.OutOfMemory) }
+    {
+        let count = self.count;
+        let mut row = SatRow::blank(alloc, name, count)?;
+        for place in 0..count {
+            row.set(place, self.arcs[place].value());
+        }
+        row.set_flags(&self.indicators[..2 * count]);
+        Ok(row)
+    }
+
+    /// Prints the line of the row that it shows, of the satellite with an identifier, in place of the bytes from an index on, and gives the
+    /// line's length.
+    #[inline(always)]
+    pub(crate) fn print_line(&self, name: [u8; NAME_WIDTH], bytes: &mut [u8], at: usize) -> usize
+        requires room { at + (NAME_WIDTH + CELL_WIDTH * length self.now.cells) < length bytes.old }
+        ensures line { take (at + result) bytes.new
+            ≡ take at bytes.old ++ printed_row (shown_row (row_tail_of name self.now)) }
+        ensures within { at + result < length bytes.new }
+        ensures short { result ≤ NAME_WIDTH + CELL_WIDTH * length self.now.cells }
+    {
+        put_identifier(bytes, at, name);
+        let count = self.count;
+        let end = print_cells(
+            &self.arcs[..count],
+            &self.indicators[..2 * count],
+            bytes,
+            at + NAME_WIDTH,
+        );
+        trim_end(&bytes[at..end]).len()
+    }
+}
+
+/// Makes room for so many arcs, each with two indicators.
+#[cold]
+#[inline(never)]
+fn grow(indicators: &mut Vec<u8>, arcs: &mut Vec<ObsArc>, count: usize) -> Result<(), AllocError>
+    requires allowed { count ≤ TYPES_LIMIT }
+    requires more { length arcs.old.items ≤ count }
+    requires paired { length indicators.old.items ≡ 2 * length arcs.old.items }
+    ensures room { OnOk result (count ≤ length arcs.new.items) }
+    ensures longer { length arcs.old.items ≤ length arcs.new.items }
+    ensures few { length arcs.new.items ≤ TYPES_LIMIT }
+    ensures paired { length indicators.new.items ≡ 2 * length arcs.new.items }
+    ensures arcs { (n : ℕ) → n ≤ length arcs.old.items → take n arcs.new.items ≡ take n arcs.old.items }
+    ensures indicators { (n : ℕ) → n ≤ length indicators.old.items
+        → take n indicators.new.items ≡ take n indicators.old.items }
+{
+    if indicators.resize(2 * count, b' ').is_err() {
+        return Err(AllocError);
+    }
+    if add_arcs(arcs, count).is_err() {
+        indicators.truncate(2 * arcs.len());
+        return Err(AllocError);
+    }
+    Ok(())
+}
+
+/// Puts arcs without values after others, up to so many.
+fn add_arcs(arcs: &mut Vec<ObsArc>, count: usize) -> Result<(), AllocError>
+    requires more { length arcs.old.items ≤ count }
+    ensures room { OnOk result (length arcs.new.items ≡ count) }
+    ensures longer { length arcs.old.items ≤ length arcs.new.items }
+    ensures few { length arcs.new.items ≤ count }
+    ensures same { (n : ℕ) → n ≤ length arcs.old.items → take n arcs.new.items ≡ take n arcs.old.items }
+{
+    while arcs.len() < count {
+        arcs.push(ObsArc::new())?;
+    }
+    Ok(())
+}
+
+/// Blanks the indicators and ends the arcs of the types from one on, up to another.
+#[cold]
+#[inline(never)]
+fn blank_types(indicators: &mut [u8], arcs: &mut [ObsArc], from: usize, to: usize)
+    requires more { from ≤ to }
+    requires within { to ≤ length arcs.old }
+    requires few { length arcs.old ≤ TYPES_LIMIT }
+    requires paired { length indicators.old ≡ 2 * length arcs.old }
+    ensures indicators { take (2 * to) indicators.new
+        ≡ take (2 * from) indicators.old ++ replicate (2 * to - 2 * from) 32 }
+    ensures arcs { take to arcs.new ≡ take from arcs.old ++ replicate (to - from) None }
+{
+    put_blanks(&mut indicators[2 * from..2 * to]);
+    end_arcs(arcs, from, to);
+}
+
+/// Ends the arcs from one on, up to another.
+fn end_arcs(arcs: &mut [ObsArc], from: usize, to: usize)
+    requires more { from ≤ to }
+    requires within { to ≤ length arcs.old }
+    ensures ended { take to arcs.new ≡ take from arcs.old ++ replicate (to - from) None }
+{
+    for place in from..to {
+        arcs[place].end();
+    }
+}
+
+/// Puts a text in place of the first bytes of a longer one.
+fn put_first(bytes: &mut [u8], text: &[u8])
+    requires { length text.now ≤ length bytes.old }
+    ensures { take (length text.now) bytes.new ≡ text.now }
+{
+    copy_text(&mut bytes[..text.len()], text);
+}
+
+/// Writes cells as [`write_cells`] does, where there may be more arcs than values.
+#[inline(always)]
+fn write_first_cells(
+    arcs: &mut [ObsArc],
+    values: &[Option<i64>],
+    bytes: &mut [u8],
+    at: usize,
+) -> usize
+    requires values { All IsValue values.now }
+    requires fitting { length values.now ≤ length arcs.old }
+    requires room { at + CELL_ROOM * length values.now ≤ length bytes.old }
+    ensures arcs { take (length values.now) arcs.new
+        ≡ arcs_of_cells (take (length values.now) arcs.old) values.now }
+    ensures written { take result bytes.new ≡ take at bytes.old
+        ++ flat_map cell_text (codes_of_cells (take (length values.now) arcs.old) values.now) }
+    ensures from { at ≤ result }
+    ensures within { result ≤ at + CELL_ROOM * length values.now }
+{
+    write_cells(&mut arcs[..values.len()], values, bytes, at)
+}
+
+/// Reads cells as [`read_cells`] does, for the first arcs.
+#[inline(always)]
+fn read_first_cells(arcs: &mut [ObsArc], count: usize, line: &[u8]) -> Result<usize, Fault>
+    requires fitting { count ≤ length arcs.old }
+    ensures ok { IfOk result (λ at.
+        CellsAreRead (take count arcs.old) count line.now (take count arcs.new) at) }
+    ensures err { IfErr result (λ fault.
+        cells_read (value_at_place (take count arcs.old)) (cells_of count line.now) ≡ Err fault) }
+{
+    read_cells(&mut arcs[..count], line)
+}
+
+/// Replaces indicators, the first two for each of so many types, by those that marks make of them.
+///
+/// `BadFlags` comes where the marks hold a character outside 32 to 126, or anything but blanks past the indicators; then these are as
+/// they were.
+#[inline(never)]
+fn patch_indicators(
+    indicators: &mut [u8],
+    count: usize,
+    marks: &[u8],
+    part: &mut Text,
+) -> Result<(), Fault>
+    requires fitting { 2 * count ≤ length indicators.old }
+    requires allowed { IsAllowedCount count }
+    requires held { AreHeldFlags (take (2 * count) indicators.old) }
+    requires short { length marks.now ≤ LINE_LIMIT }
+    ensures marks { OnOk result (are_marks count marks.now ≡ true) }
+    ensures patched { OnOk result (take (2 * count) indicators.new
+        ≡ columns (patched (take (2 * count) indicators.old) marks.now) 1 (2 * count)) }
+    ensures kept { AreHeldFlags (take (2 * count) indicators.new) }
+    ensures err { IfErr result (λ fault. (are_marks count marks.now ≡ false) × (fault ≡ Fault.BadFlags)) }
+{
+    read_marks(&indicators[..2 * count], count, marks, part)?;
+    put_columns(&mut indicators[..2 * count], count, part.bytes());
+    Ok(())
+}
+
+/// Reads a line's marks, given the indicators before it: replaces a text by the indicators that they make. The fault is that of
+/// [`patch_indicators`].
+fn read_marks(before: &[u8], count: usize, marks: &[u8], part: &mut Text) -> Result<(), Fault>
+    requires allowed { IsAllowedCount count }
+    requires before { AreHeldFlags before.now }
+    requires short { length marks.now ≤ LINE_LIMIT }
+    ensures marks { OnOk result (are_marks count marks.now ≡ true) }
+    ensures text { OnOk result (part.new ≡ patched before.now marks.now) }
+    ensures kept { OnOk result (list_all is_kept part.new ≡ true) }
+    ensures err { IfErr result (λ fault. (are_marks count marks.now ≡ false) × (fault ≡ Fault.BadFlags)) }
+{
+    if !all_blank(after_columns(marks, 2 * count)) {
+        return Err(Fault::BadFlags);
+    }
+    let Ok(()) = patch_bytes(before, marks, part) else {
+        return Err(Fault::BadFlags);
+    };
+    Ok(())
+}
+
+/// Puts so many columns of a text, two for each of so many types, in place of indicators.
+fn put_columns(indicators: &mut [u8], count: usize, text: &[u8])
+    requires sized { length indicators.old ≡ 2 * count }
+    requires allowed { IsAllowedCount count }
+    requires text { AreHeldFlags text.now }
+    ensures columns { indicators.new ≡ columns text.now 1 (2 * count) }
+    ensures kept { AreHeldFlags indicators.new }
+{
+    put_flags(indicators, first_bytes(text, 2 * count));
+}
+
+/// At most so many bytes of a text, from its first on.
+fn first_bytes(text: &[u8], count: usize) -> &[u8]
+    ensures { result.now ≡ take count text.now }
+{
+    &text[..count.min(text.len())]
+}

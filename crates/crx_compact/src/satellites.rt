@@ -1,0 +1,384 @@
+//! The satellites of a history, in the order of the file: Hatanaka's Compact RINEX 3.0.
+
+ghost use Rattle.std.specs.Prelude.{ℕ, List, ◌≡◌, ◌≤◌, ◌<◌, ◌+◌, ◌*◌, ◌^◌, ◌++◌, ◌∷◌, [], true, false, not, Some, Ok, Err, length, take, map, slice_get, slice_set, OnOk, OnErr, IfOk, IfErr, IsOk};
+ghost use Rattle.std.specs.Str.{bytes_eq};
+ghost use Rattle.crx_faults.specs.declared.limits.TheConstants.{CELL_WIDTH, LINE_LIMIT, NAME_WIDTH, TYPES_LIMIT};
+ghost use Rattle.crx_header.specs.meaning.EpochColumns.{begins_epoch};
+ghost use Rattle.crx_header.specs.meaning.ObservationTypes.{IsAllowedCount};
+ghost use Rattle.crx_header.specs.meaning.Satellites.{is_among, is_identifier};
+ghost use Rattle.crx_rinex.specs.meaning.Printing.{printed_row};
+ghost use Rattle.crx_compact.specs.declared.cells.TheConstants.{CELL_ROOM};
+ghost use Rattle.crx_compact.specs.Entries.{IsFound, IsPutNext, IsRevived, key_of};
+ghost use Rattle.crx_compact.specs.HeldRows.{row_held};
+ghost use Rattle.crx_compact.specs.Placing.{HasCome, HasRoom, KeepsRooms, SatelliteTail, padded, satellite_of};
+ghost use Rattle.crx_compact.specs.ShownRows.{shown_row};
+ghost use Rattle.crx_compact.specs.Steps.{row_line_after, row_tail_after};
+ghost use Rattle.crx_compact.specs.Tails.{RowTail};
+ghost use Rattle.indexmap.specs.IndexMap.{IsUnique};
+
+use crate::satellite::SatelliteHistory;
+use crx_faults::Fault;
+use crx_faults::limits::NAME_WIDTH;
+use crx_header::is_same_identifier;
+use crx_rinex::SatRow;
+use crx_text::Text;
+use indexmap::IndexMap;
+use std::alloc::{AllocError, Global};
+use std::marker::Model;
+
+/// The satellites of a history, by their identifiers. While an epoch is open, those whose rows have come are the first ones, in the order
+/// of the file; then come those of the epoch before that haven't come yet. What is stored of all others means nothing; its memory is used
+/// again when the satellite comes back.
+#[derive(Drop)]
+pub struct Satellites {
+    known: IndexMap<[u8; NAME_WIDTH], SatelliteHistory>,
+    /// How many have come.
+    placed: usize,
+    /// How many mean something: those that have come, and those of the epoch before that haven't.
+    live: usize,
+    /// Where the last satellite was found that wasn't the next one: how far behind that, and at which index; where an epoch ended, the index
+    /// before the first one. These two are for speed alone.
+    ahead: usize,
+    last: usize,
+    alloc: Global,
+}
+
+impl Model for Satellites {
+    ghost use Rattle.std.specs.Prelude.{◌≤◌, drop, length, map, take};
+    ghost use Rattle.crx_compact.specs.Placing.{PlacedRows, room_of_entry, row_of_entry};
+
+    ghost Value = { PlacedRows };
+
+    ghost view = { λ satellites. record {
+      rows = map row_of_entry (take satellites.placed satellites.known.entries);
+      rest = map row_of_entry (drop satellites.placed (take satellites.live satellites.known.entries));
+      rooms = map room_of_entry satellites.known.entries;
+    } };
+
+    ghost invariant = { λ satellites. (satellites.placed ≤ satellites.live)
+        × (satellites.live ≤ length satellites.known.entries) };
+}
+
+impl Satellites {
+    /// No satellites.
+    pub(crate) fn new(alloc: Global) -> Satellites
+        ensures empty { result ≡ record { rows = []; rest = []; rooms = [] } }
+    {
+        Satellites {
+            known: IndexMap::new(alloc),
+            placed: 0,
+            live: 0,
+            ahead: 1,
+            last: usize::MAX,
+            alloc,
+        }
+    }
+
+    /// Begins an epoch: no row of it has come, and those of the epoch before are awaited.
+    pub(crate) fn begin(&mut self)
+        ensures begun { self.new
+            ≡ record self.old { rows = []; rest = self.old.rows ++ self.old.rest } }
+    {
+        self.placed = 0;
+    }
+
+    /// Ends an epoch: the satellites whose rows haven't come are forgotten.
+    pub(crate) fn end(&mut self)
+        ensures ended { self.new ≡ record self.old { rest = [] } }
+    {
+        self.live = self.placed;
+        self.last = usize::MAX;
+    }
+
+    /// Forgets all satellites; the memory is used again.
+    pub(crate) fn clear(&mut self)
+        ensures emptied { self.new ≡ record self.old { rows = []; rest = [] } }
+    {
+        self.placed = 0;
+        self.live = 0;
+        self.last = usize::MAX;
+    }
+
+    /// How many have come.
+    #[inline(always)]
+    pub(crate) fn placed(&self) -> usize
+        ensures value { result ≡ length self.now.rows }
+    {
+        self.placed
+    }
+
+    /// The satellite with an identifier comes: what is stored of it is the next row. `false` comes where it has come already, and then
+    /// nothing changes.
+    ///
+    /// The next one in the order of the epoch before mostly comes, which one comparison finds. `AllocError` comes only where it isn't
+    /// known, and then nothing changes.
+    #[inline(always)]
+    pub(crate) fn place(&mut self, name: [u8; NAME_WIDTH]) -> Result<bool, AllocError>
+        ensures answer { IfOk result (λ is_new. is_new
+            ≡ not (is_among (λ (row : RowTail). row.name) name self.old.rows)) }
+        ensures come { IfOk result (λ is_new. is_new ≡ true → HasCome name self.old self.new) }
+        ensures repeated { IfOk result (λ is_new. is_new ≡ false → self.new ≡ self.old) }
+        ensures err { OnErr result (is_among (λ (row : RowTail). row.name) name self.old.rows ≡ false) }
+        ensures unchanged { OnErr result (self.new ≡ self.old) }
+        ensures rooms { KeepsRooms self.old.rooms self.new.rooms }
+        ensures known { HasRoom name 0 self.old.rooms → IsOk result }
+    {
+        if self.placed < self.live && is_same_identifier(key_at(&self.known, self.placed), name) {
+            self.placed += 1;
+            return Ok(true);
+        }
+        self.bring(name)
+    }
+
+    /// The satellite with an identifier comes, for [`Satellites::place`], where it isn't the next one in the order of the epoch before.
+    #[inline(never)]
+    fn bring(&mut self, name: [u8; NAME_WIDTH]) -> Result<bool, AllocError>
+        ensures answer { IfOk result (λ is_new. is_new
+            ≡ not (is_among (λ (row : RowTail). row.name) name self.old.rows)) }
+        ensures come { IfOk result (λ is_new. is_new ≡ true → HasCome name self.old self.new) }
+        ensures repeated { IfOk result (λ is_new. is_new ≡ false → self.new ≡ self.old) }
+        ensures err { OnErr result (is_among (λ (row : RowTail). row.name) name self.old.rows ≡ false) }
+        ensures unchanged { OnErr result (self.new ≡ self.old) }
+        ensures rooms { KeepsRooms self.old.rooms self.new.rooms }
+        ensures known { HasRoom name 0 self.old.rooms → IsOk result }
+    {
+        // There are fewer than 2^63: the length's clauses say so.
+        let _count = self.known.len();
+        let behind = self.placed.saturating_add(self.ahead);
+        let near = likely_index(&self.known, self.last, behind, name);
+        let found = find_or_add(&mut self.known, near, name, self.alloc)?;
+        if found < self.placed {
+            return Ok(false);
+        }
+        if found < self.live {
+            put_next(&mut self.known, self.placed, found);
+            self.ahead = found - self.placed;
+            self.last = found;
+            self.placed += 1;
+            return Ok(true);
+        }
+        revive(&mut self.known, self.live, found);
+        put_next(&mut self.known, self.placed, self.live);
+        self.last = self.live;
+        self.live += 1;
+        self.placed += 1;
+        Ok(true)
+    }
+
+    /// Asks for room for a satellite of so many types, which mostly is the one behind that of the call before. No row changes, and after `Ok`
+    /// the satellite is known.
+    #[inline(always)]
+    pub(crate) fn prepare(&mut self, name: [u8; NAME_WIDTH], count: usize) -> Result<(), AllocError>
+        requires allowed { count ≤ TYPES_LIMIT }
+        ensures rows { self.new.rows ≡ self.old.rows }
+        ensures rest { self.new.rest ≡ self.old.rest }
+        ensures room { OnOk result (HasRoom name count self.new.rooms) }
+        ensures rooms { KeepsRooms self.old.rooms self.new.rooms }
+    {
+        let near = self.last.wrapping_add(1);
+        let found = find_or_add(&mut self.known, near, name, self.alloc)?;
+        self.last = found;
+        let (_, satellite) = self.known.pair_mut(found);
+        satellite.make_room(count)
+    }
+
+    /// Makes the satellite that came last have so many types: those that it has stay, and new ones have no arcs and blank indicators.
+    ///
+    /// After `AllocError` nothing has changed.
+    #[inline(always)]
+    pub(crate) fn resize_last(&mut self, count: usize) -> Result<(), AllocError>
+        requires some { 0 < length self.old.rows }
+        requires allowed { count ≤ TYPES_LIMIT }
+        ensures ok { OnOk result ((before : List RowTail) (row : RowTail) → self.old.rows ≡ before ++ row ∷ []
+            → self.new.rows ≡ before ++ padded (record { name = row.name; count = count }) (Some row) ∷ []) }
+        ensures err { OnErr result (self.new.rows ≡ self.old.rows) }
+        ensures rest { self.new.rest ≡ self.old.rest }
+        ensures rooms { KeepsRooms self.old.rooms self.new.rooms }
+    {
+        let (_, satellite) = self.known.pair_mut(self.placed - 1);
+        satellite.make_room(count)?;
+        satellite.resize(count);
+        Ok(())
+    }
+
+    /// Writes the compact line of a row, whose satellite is at an index among those that have come, from another index on, in place of
+    /// bytes. What is stored of the satellite is that after the row. Gives the line's length.
+    #[inline(always)]
+    pub(crate) fn write_line(
+        &mut self,
+        index: usize,
+        row: &SatRow,
+        part: &mut Text,
+        bytes: &mut [u8],
+        at: usize,
+    ) -> usize
+        requires within { index < length self.old.rows }
+        requires known { HasRoom row.now.name (length row.now.values) self.old.rooms }
+        requires named { (old : RowTail) → slice_get self.old.rows index ≡ Some old
+            → old.name ≡ row.now.name }
+        requires room { at + (CELL_ROOM * length row.now.values + 2 * TYPES_LIMIT) < length bytes.old }
+        ensures after { (old : RowTail) → slice_get self.old.rows index ≡ Some old
+            → self.new.rows ≡ slice_set self.old.rows index (row_tail_after (Some old) row.now) }
+        ensures line { (old : RowTail) → slice_get self.old.rows index ≡ Some old
+            → take (at + result) bytes.new ≡ take at bytes.old ++ row_line_after (Some old) row.now }
+        ensures within { at + result < length bytes.new }
+        ensures short { result ≤ CELL_ROOM * length row.now.values + 2 * TYPES_LIMIT }
+        ensures rest { self.new.rest ≡ self.old.rest }
+        ensures rooms { KeepsRooms self.old.rooms self.new.rooms }
+    {
+        let (_, satellite) = self.known.pair_mut(index);
+        satellite.mark(row, part);
+        satellite.write_line(row, part.bytes(), bytes, at)
+    }
+
+    /// Reads the satellite line of the row at an index: what is stored of its satellite is that after the line, which shows the row. The
+    /// faults are those of [`SatelliteHistory::read`].
+    #[inline(always)]
+    pub(crate) fn read_line(
+        &mut self,
+        index: usize,
+        line: &[u8],
+        part: &mut Text,
+    ) -> Result<(), Fault>
+        requires within { index < length self.old.rows }
+        requires allowed { (old : RowTail) → slice_get self.old.rows index ≡ Some old
+            → IsAllowedCount (length old.cells) }
+        requires short { length line.now ≤ LINE_LIMIT }
+        requires other { begins_epoch line.now ≡ false }
+        ensures ok { OnOk result ((old : RowTail) → slice_get self.old.rows index ≡ Some old
+            → (left : RowTail)
+            × (row_held (Some old) (satellite_of old) line.now ≡ Ok (record { row = shown_row left; tail = left }))
+            × (left.name ≡ old.name) × (length left.cells ≡ length old.cells)
+            × (self.new.rows ≡ slice_set self.old.rows index left)) }
+        ensures err { IfErr result (λ fault. (old : RowTail) → slice_get self.old.rows index ≡ Some old
+            → row_held (Some old) (satellite_of old) line.now ≡ Err fault) }
+        ensures rest { self.new.rest ≡ self.old.rest }
+        ensures rooms { KeepsRooms self.old.rooms self.new.rooms }
+    {
+        let (_, satellite) = self.known.pair_mut(index);
+        satellite.read(line, part)
+    }
+
+    /// How many types the satellite of the row at an index has.
+    #[inline(always)]
+    pub(crate) fn count_at(&self, index: usize) -> usize
+        requires within { index < length self.now.rows }
+        ensures value { (old : RowTail) → slice_get self.now.rows index ≡ Some old
+            → result ≡ length old.cells }
+        ensures few { result ≤ TYPES_LIMIT }
+    {
+        let (_, satellite) = self.known.get_index(index).unwrap();
+        satellite.count()
+    }
+
+    /// Prints the line of the row at an index in place of the bytes from another index on, and gives the line's length.
+    #[inline(always)]
+    pub(crate) fn print_line(&self, index: usize, bytes: &mut [u8], at: usize) -> usize
+        requires within { index < length self.now.rows }
+        requires room { (old : RowTail) → slice_get self.now.rows index ≡ Some old
+            → at + (NAME_WIDTH + CELL_WIDTH * length old.cells) < length bytes.old }
+        ensures line { (old : RowTail) → slice_get self.now.rows index ≡ Some old
+            → take (at + result) bytes.new ≡ take at bytes.old ++ printed_row (shown_row old) }
+        ensures within { at + result < length bytes.new }
+        ensures short { (old : RowTail) → slice_get self.now.rows index ≡ Some old
+            → result ≤ NAME_WIDTH + CELL_WIDTH * length old.cells }
+    {
+        let (name, satellite) = self.known.get_index(index).unwrap();
+        satellite.print_line(*name, bytes, at)
+    }
+
+    /// The row at an index. `OutOfMemory` is the one refusal.
+    pub(crate) fn row(&self, index: usize, alloc: Global) -> Result<SatRow, Fault>
+        requires within { index < length self.now.rows }
+        requires sound { (old : RowTail) → slice_get self.now.rows index ≡ Some old
+            → (is_identifier old.name ≡ true) × IsAllowedCount (length old.cells) }
+        ensures ok { IfOk result (λ row. (old : RowTail) → slice_get self.now.rows index ≡ Some old
+            → row ≡ shown_row old) }
+        ensures err { IfErr result (λ fault. fault ≡ Fault.OutOfMemory) }
+    {
+        let (name, satellite) = self.known.get_index(index).unwrap();
+        satellite.row(alloc, *name)
+    }
+}
+
+/// The identifier at an index.
+#[inline(always)]
+fn key_at(map: &IndexMap<[u8; NAME_WIDTH], SatelliteHistory>, index: usize) -> [u8; NAME_WIDTH]
+    requires within { index < length map.now.entries }
+    ensures there { (satellite : SatelliteTail)
+        × (slice_get map.now.entries index ≡ Some (result, satellite)) }
+    ensures unique { IsUnique bytes_eq map.now }
+{
+    // No identifier is there twice: the length's clauses say so.
+    let _count = map.len();
+    let (name, _) = map.get_index(index).unwrap();
+    *name
+}
+
+/// One of two indices at which a satellite mostly is that isn't the next one. Where another one came before it, it was exchanged with that, and
+/// is where the last one was found; where some of the epoch before are gone, it is as far behind as the last one was. A look-up by the map
+/// takes 100 instructions.
+#[inline(always)]
+fn likely_index(
+    known: &IndexMap<[u8; NAME_WIDTH], SatelliteHistory>,
+    last: usize,
+    behind: usize,
+    name: [u8; NAME_WIDTH],
+) -> usize {
+    if last < known.len() && is_same_identifier(key_at(known, last), name) {
+        return last;
+    }
+    behind
+}
+
+/// The index of the satellite with an identifier, which is added behind the others where it isn't known. It is looked for at one index first.
+fn find_or_add(
+    map: &mut IndexMap<[u8; NAME_WIDTH], SatelliteHistory>,
+    near: usize,
+    name: [u8; NAME_WIDTH],
+    alloc: Global,
+) -> Result<usize, AllocError>
+    ensures found { IfOk result (λ found. IsFound name found map.old.entries map.new.entries) }
+    ensures unknown { OnErr result (is_among key_of name map.old.entries ≡ false) }
+    ensures unchanged { OnErr result (map.new.entries ≡ map.old.entries) }
+    ensures unique { IsUnique bytes_eq map.new }
+    ensures small { IfOk result (λ found. found < 2 ^ 63) }
+{
+    let count = map.len();
+    if near < count && is_same_identifier(key_at(map, near), name) {
+        return Ok(near);
+    }
+    match map.get_index_of(&name) {
+        Some(found) => Ok(found),
+        None => match map.insert(name, SatelliteHistory::new(alloc)) {
+            Ok(_) => Ok(count),
+            Err(_) => Err(AllocError),
+        },
+    }
+}
+
+/// Makes a satellite that means nothing the first one behind those that do, with nothing stored.
+fn revive(map: &mut IndexMap<[u8; NAME_WIDTH], SatelliteHistory>, live: usize, found: usize)
+    requires behind { live ≤ found }
+    requires within { found < length map.old.entries }
+    ensures revived { IsRevived live found map.old.entries map.new.entries }
+{
+    let (_, satellite) = map.pair_mut(found);
+    satellite.clear();
+    if found != live {
+        map.swap_indices(found, live);
+    }
+}
+
+/// Makes a satellite of the epoch before the next one of those that have come.
+fn put_next(map: &mut IndexMap<[u8; NAME_WIDTH], SatelliteHistory>, placed: usize, found: usize)
+    requires behind { placed ≤ found }
+    requires within { found < length map.old.entries }
+    ensures put { IsPutNext placed found map.old.entries map.new.entries }
+{
+    // No identifier is there twice: the length's clauses say so.
+    let _count = map.len();
+    if found != placed {
+        map.swap_indices(found, placed);
+    }
+}
