@@ -1,5 +1,5 @@
 -- Things of different identifiers, and one put in the place of another of the same identifier.
-use Rattle.std.proofs.Common.{◌≡◌, ℕ, zero, suc, ◌<◌, ◌≤◌, true, false, not, ◌||◌, List, [], ◌∷◌, ◌++◌, length}
+use Rattle.std.proofs.Common.{◌≡◌, ℕ, zero, suc, ◌<◌, true, false, not, ◌||◌, List, [], ◌∷◌, ◌++◌, length}
 use Rattle.std.proofs.Common.{get_or, map, take, refl, ap, sym, ◌∙◌, arith}
 use Rattle.std.specs.Prelude.{Bool}
 use Rattle.std.specs.Str.{bytes_eq}
@@ -42,26 +42,6 @@ new_at f (suc n) (x ∷ xs) (suc k) d h a b =
     let differs = not-at f (f x) n xs k d
     (not-true (is_among f (f x) (take n xs)) apart.0) (omega (arith, a)) (omega (arith, b)) in
     rw (other_way (f (get_or xs k d)) (f x) differs) (new_at f n xs k d apart.1 (omega (arith, a)) (omega (arith, b)))
-
-among-fewer : {X : Type 0} (f : X → List ℕ) (name : List ℕ) (m n : ℕ) (xs : List X)
-    → m ≤ n → is_among f name (take n xs) ≡ false → is_among f name (take m xs) ≡ false
-among-fewer f name zero n xs e h = refl
-among-fewer f name (suc m) zero xs e h = absurd (omega (arith, e))
-among-fewer f name (suc m) (suc n) [] e h = refl
-among-fewer f name (suc m) (suc n) (x ∷ xs) e h =
-    let parts = or_parts (bytes_eq (f x) name) (is_among f name (take n xs)) h in
-    rw parts.0 (among-fewer f name m n xs (omega (arith, e)) parts.1)
-
--- as many of them, or fewer, are different
-pub apart-fewer : {X : Type 0} (f : X → List ℕ) (m n : ℕ) (xs : List X)
-    → m ≤ n → are_apart f (take n xs) ≡ true → are_apart f (take m xs) ≡ true
-apart-fewer f zero n xs e h = refl
-apart-fewer f (suc m) zero xs e h = absurd (omega (arith, e))
-apart-fewer f (suc m) (suc n) [] e h = refl
-apart-fewer f (suc m) (suc n) (x ∷ xs) e h =
-    let apart = and_parts (not (is_among f (f x) (take n xs))) (are_apart f (take n xs)) h in
-    rw (among-fewer f (f x) m n xs (omega (arith, e)) (not-true (is_among f (f x) (take n xs)) apart.0))
-    (apart-fewer f m n xs (omega (arith, e)) apart.1)
 
 pub among-map : {X Y : Type 0} (f : Y → List ℕ) (g : X → Y) (name : List ℕ) (xs : List X)
     → is_among f name (map g xs) ≡ is_among (λ x. f (g x)) name xs

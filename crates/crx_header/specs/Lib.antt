@@ -1,3 +1,2 @@
 pub mod meaning
 pub mod ObservationTypes
-pub mod Identifiers

@@ -26,7 +26,6 @@ row_with_parts one other = record one {
 abbrev pub identifiers_with : IdentifiersInside → IdentifiersInside → IdentifiersInside
 identifiers_with one other = record one {
   names = other.names;
-  places = other.places;
 }
 
 -- an epoch line, with the parts of another

@@ -9,8 +9,8 @@ pub mod printed;
 pub mod satellite_row;
 
 pub use crx_header::{
-    Identifiers, Types, after_columns, all_blank, begins_epoch, header_first, identifier, is_end,
-    is_event_line, is_labelled, is_same_identifier, is_types, padded, put_flags, put_identifier,
+    Types, after_columns, all_blank, begins_epoch, header_first, identifier, is_end, is_event_line,
+    is_labelled, is_same_identifier, is_types, padded, put_flags, put_identifier,
     types_of_satellite,
 };
 pub use epoch::Epoch;
