@@ -70,3 +70,23 @@ event_lost =
 abbrev pub without_event : List ℕ
 without_event =
     lines_text (first_two ++ header ++ full_line_at 2 1 (codes "G01") ∷ [] ∷ codes "3&20000202000" ∷ [])
+
+-- the event's first line has another character in place of its count, so that the event is lost with its record
+abbrev pub without_count : List ℕ
+without_count = lines_text (codes "> 2024 01 01 00 00  2.0000000  4  x" ∷ (blanks 60 ++ codes "COMMENT") ∷ [])
+
+abbrev pub count_lost : List Stretch
+count_lost =
+    record {
+      lost = Accepted (EventRecord (blanks 60 ++ codes "COMMENT")) ∷ Accepted (EventLine (line_at 2 4 1)) ∷ [];
+      instead = without_count;
+      kept = Accepted (Observation (epoch_at_second 2 20000202000)) ∷ [];
+    }
+    ∷ []
+
+abbrev pub with_lost_count : List ℕ
+with_lost_count =
+    lines_text (first_two ++ header ++ full_line_at 0 1 (codes "G01") ∷ [] ∷ codes "3&20000000000"
+    ∷ second_changed 1 ∷ [] ∷ codes "100500" ∷ [])
+    ++ without_count
+    ++ lines_text (full_line_at 2 1 (codes "G01") ∷ [] ∷ codes "3&20000202000" ∷ [])

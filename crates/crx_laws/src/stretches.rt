@@ -4,14 +4,14 @@ ghost use Rattle.std.specs.Prelude.{◌≡◌, [], List, ℕ, true};
 ghost use Rattle.crx_faults.specs.meaning.Lines.{lines_text};
 ghost use Rattle.crx_filter.specs.meaning.Stretches.{HasStretches, KeepsTheRest, BeginsWhole};
 ghost use Rattle.crx_laws.specs.SmallFiles.{file_of_five, with_event, plain_choices, in_full_every_second};
-ghost use Rattle.crx_laws.specs.SmallStretches.{damaged_twice, cut_off, without_event};
+ghost use Rattle.crx_laws.specs.SmallStretches.{damaged_twice, cut_off, with_lost_count, without_event};
 ghost use Rattle.crx_options.specs.meaning.Choices.{Choices, is_date};
 ghost use Rattle.crx_reading.specs.meaning.Expanded.{expanded};
 ghost use Rattle.crx_reading.specs.meaning.Standard.{printed_items};
 ghost use Rattle.crx_runs.specs.meaning.Results.{Begins};
 
 /// Damage costs what it touches. Of the compact text of a file, any number of stretches after the header are damaged: in place of the
-/// lines of some units come any bytes, but no event's first line, and the units that are kept after a stretch begin with an event or an
+/// lines of some units come any bytes, but no event's first line with a count of records, and the units that are kept after a stretch begin with an event or an
 /// epoch in full. Then an expansion that skips faults writes exactly all units before the first stretch, then for each stretch some
 /// whole epochs followed by exactly the units that are kept, and no fault ends it.
 pub fn damage_costs_what_it_touches()
@@ -30,9 +30,11 @@ pub fn whole_units_are_written()
 {}
 
 /// What these laws ask for can be met: two stretches of one file, the first with a line that begins with `>`, and the second the last
-/// block, its first line too, up to the end; an event that is lost with its block; and a text that is cut off inside a line.
+/// block, its first line too, up to the end; an event that is lost with its block, or since its count is damaged; and a text that is cut off
+/// inside a line.
 pub fn premises()
     ensures twice { HasStretches (lines_text (file_of_five [])) in_full_every_second damaged_twice }
     ensures event { HasStretches (lines_text with_event) plain_choices without_event }
+    ensures count { HasStretches (lines_text with_event) plain_choices with_lost_count }
     ensures cut { BeginsWhole (lines_text (file_of_five [])) in_full_every_second cut_off }
 {}

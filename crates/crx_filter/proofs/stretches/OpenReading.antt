@@ -10,14 +10,17 @@ use Rattle.crx_faults.specs.meaning.Faults.{is_skippable}
 use Rattle.crx_faults.specs.meaning.Seen.{ReadLine, Content, Overlong}
 use Rattle.crx_faults.specs.declared.fault.At.{At}
 use Rattle.crx_faults.specs.declared.fault.Fault.{Fault}
-use Rattle.crx_header.specs.meaning.EpochColumns.{begins_epoch, is_event_line}
-use Rattle.crx_rinex.specs.meaning.Places.{Here, Wrong, Wanted}
+use Rattle.crx_header.specs.meaning.EpochColumns.{begins_epoch, is_event_line, records_in}
+use Rattle.crx_faults.specs.declared.fault.Fault.TheVariants.{BadEpoch}
+use Rattle.crx_filter.specs.meaning.Stretches.{announces_records}
+use Rattle.std.proofs.Common.{true≢false, cond, Option, Some, None, Ok, Err, is_some, ◌&&◌}
+use Rattle.crx_rinex.specs.meaning.Places.{Here, Wrong, Wanted, one_line}
 use Rattle.crx_rinex.specs.meaning.Units.{Unit as FileUnit, HeaderLine, EventLine, EventRecord, Observation}
 use Rattle.crx_compact.specs.meaning.CompactPlaces.{ReadEpoch, epoch_at}
 use Rattle.crx_reading.specs.meaning.Items.{Item, Accepted, Warned, types_in_force}
 use Rattle.crx_reading.specs.meaning.Reading.{Reading, AtLines, Looking, is_skipped, can_go_on, looked_for}
 use Rattle.crx_reading.specs.meaning.Reading.{reading_within, reading_from}
-use Rattle.crx_reading.specs.meaning.Expanded.{raws_kept, compact_place}
+use Rattle.crx_reading.specs.meaning.Expanded.{raws_kept, compact_place, event_line, as_observation}
 use Rattle.crx_reading.proofs.Choosing.{by_bool}
 use Rattle.crx_filter.specs.Anew.{IsBetweenUnits}
 use Rattle.crx_filter.specs.Laws.{continued_reading}
@@ -32,9 +35,9 @@ use Rattle.crx_filter.proofs.damage.GoingOn.{with_warnings, GoesOnAt, open-goes_
 
 -- ---- the lines of a stretch, and what is read of them
 
--- a line that is no event's first one
+-- a line that announces no event's records
 abbrev pub IsNoEvent : ReadLine → Type 0
-IsNoEvent (Content line) = is_event_line line ≡ false
+IsNoEvent (Content line) = announces_records line ≡ false
 IsNoEvent Overlong = ⊤
 
 -- epochs and warnings alone
@@ -109,6 +112,30 @@ onto item items r one h = record {
 
 -- ---- what stands at such lines
 
+no-records : (count : Option ℕ) → is_some count ≡ false → count ≡ None
+no-records None e = refl
+no-records (Some count) e = absurd (true≢false e)
+
+-- an event's line without a count is a bad epoch line
+bad-event : (items : List (Item ReadEpoch)) (line : List ℕ) (lines : List ReadLine) → IsBetweenUnits items
+    → announces_records line ≡ false → is_event_line line ≡ true
+    → compact_place items (Content line ∷ lines) ≡ Wrong 0 BadEpoch
+bad-event items line lines h text event =
+    let none : records_in line ≡ None = no-records (records_in line)
+    (sym (ap (λ b. b && is_some (records_in line)) event) ∙ text) in
+    place-between items (Content line ∷ lines) h
+    ∙ ap (λ b. cond b (one_line (event_line line))
+    (as_observation (epoch_at (types_in_force items) (raws_kept items) (Content line ∷ lines)))) event
+    ∙ ap (λ (count : Option ℕ). one_line (elim (count) [ Some n ↦ Ok (EventLine line) | None ↦ Err BadEpoch ])) none
+
+-- where more lines are wanted, the first one is no event's
+wanted-no_event : (items : List (Item ReadEpoch)) (line : List ℕ) (lines : List ReadLine) → IsBetweenUnits items
+    → announces_records line ≡ false → compact_place items (Content line ∷ lines) ≡ Wanted
+    → is_event_line line ≡ false
+wanted-no_event items line lines h text e = by_bool (is_event_line line)
+    (λ event. let never = sym (bad-event items line lines h text event) ∙ e in absurd (cc))
+    (λ other. other)
+
 stretch-epoch : (items : List (Item ReadEpoch)) (lines : List ReadLine) (unit : FileUnit ReadEpoch)
     (count : ℕ)
     → IsBetweenUnits items → AllByRecursion IsNoEvent lines → compact_place items lines ≡ Here unit count
@@ -117,9 +144,10 @@ stretch-epoch items [] unit count h text e = let never = sym (place-between item
 stretch-epoch items (Overlong ∷ lines) unit count h text e =
     observation-here (epoch_at (types_in_force items) (raws_kept items) (Overlong ∷ lines)) unit count
     (sym (place-between items (Overlong ∷ lines) h) ∙ e)
-stretch-epoch items (Content line ∷ lines) unit count h text e =
-    observation-here (epoch_at (types_in_force items) (raws_kept items) (Content line ∷ lines)) unit count
-    (sym (place-inside items line lines h text.0) ∙ e)
+stretch-epoch items (Content line ∷ lines) unit count h text e = by_bool (is_event_line line)
+    (λ event. let never = sym (bad-event items line lines h text.0 event) ∙ e in absurd (cc))
+    (λ other. observation-here (epoch_at (types_in_force items) (raws_kept items) (Content line ∷ lines)) unit count
+    (sym (place-inside items line lines h other) ∙ e))
 
 stretch-fault : (items : List (Item ReadEpoch)) (lines : List ReadLine) (offset : ℕ) (fault : Fault)
     → IsBetweenUnits items → AllByRecursion IsNoEvent lines → compact_place items lines ≡ Wrong offset fault
@@ -129,10 +157,11 @@ stretch-fault items (Overlong ∷ lines) offset fault h text e =
     subst (λ p. IsSkippableAt p) (sym (place-between items (Overlong ∷ lines) h) ∙ e)
     (observation-skippable (epoch_at (types_in_force items) (raws_kept items) (Overlong ∷ lines))
     (epoch-skippable (types_in_force items) (raws_kept items) (Overlong ∷ lines)))
-stretch-fault items (Content line ∷ lines) offset fault h text e =
-    subst (λ p. IsSkippableAt p) (sym (place-inside items line lines h text.0) ∙ e)
+stretch-fault items (Content line ∷ lines) offset fault h text e = by_bool (is_event_line line)
+    (λ event. subst (λ p. IsSkippableAt p) (sym (bad-event items line lines h text.0 event) ∙ e) refl)
+    (λ other. subst (λ p. IsSkippableAt p) (sym (place-inside items line lines h other) ∙ e)
     (observation-skippable (epoch_at (types_in_force items) (raws_kept items) (Content line ∷ lines))
-    (epoch-skippable (types_in_force items) (raws_kept items) (Content line ∷ lines)))
+    (epoch-skippable (types_in_force items) (raws_kept items) (Content line ∷ lines))))
 
 -- ---- the reading
 
@@ -270,7 +299,8 @@ open-continued items r line tail between (inl (number, Content first ∷ rest, n
     subst (λ (s : Reading ReadEpoch). GoesOnAfter items (Content line ∷ tail)
     (continued_reading compact_place true s (Content line ∷ tail))) (sym is)
     (after-warnings items (Content line ∷ tail) _
-    (open-goes_on items number first rest line tail between none.0 e begins))
+    (open-goes_on items number first rest line tail between (wanted-no_event items first rest between none.0 e)
+    e begins))
 open-continued items r line tail between (inr (number, is)) begins = record {
   news = [];
   epochs = tt;

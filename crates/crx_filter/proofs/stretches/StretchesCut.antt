@@ -8,7 +8,6 @@ use Rattle.std.proofs.Math.Seq.{drop-append_seam}
 use Rattle.std.proofs.lemmas.Bool.{and_parts, not-true}
 use Rattle.crx_faults.specs.meaning.Lines.{Piece, InputLine, pieces_of, lines_of, is_long, lines_text}
 use Rattle.crx_faults.specs.meaning.Seen.{Content, seen}
-use Rattle.crx_header.specs.meaning.EpochColumns.{is_event_line}
 use Rattle.crx_rinex.specs.meaning.Observations.{Epoch}
 use Rattle.crx_options.specs.meaning.Choices.{Choices}
 use Rattle.crx_reading.specs.meaning.Items.{Item, Accepted, Warned, header_has_ended}
@@ -18,7 +17,7 @@ use Rattle.crx_reading.specs.meaning.WayBack.{OfCopiedLines, HaveNoReturns}
 use Rattle.crx_reading.proofs.Choosing.{by_bool}
 use Rattle.crx_filter.specs.Laws.{AreInPlace}
 use Rattle.crx_filter.specs.meaning.Stretches.{Stretch, up_to_end, up_to_next, with_stretches, stretches_text}
-use Rattle.crx_filter.specs.meaning.Stretches.{begins_no_event, IsStretch, AreStretches}
+use Rattle.crx_filter.specs.meaning.Stretches.{announces_records, begins_no_event, IsStretch, AreStretches}
 use Rattle.crx_filter.proofs.wayback.Cut.{IsClean, CanStand}
 use Rattle.crx_filter.proofs.wayback.Reading.{lines_back}
 use Rattle.crx_filter.proofs.wayback.WayBack.{lines-clean}
@@ -40,8 +39,8 @@ lines-allowed (line ∷ lines) e =
     one : (line : InputLine) → begins_no_event line ≡ true → IsNoEvent (seen line)
     one line e = by_bool (is_long line)
         (λ long. rw long tt)
-        (λ short. rw short (not-true (is_event_line line.content)
-        (sym (ap (λ b. b || not (is_event_line line.content)) short) ∙ e)))
+        (λ short. rw short (not-true (announces_records line.content)
+        (sym (ap (λ b. b || not (announces_records line.content)) short) ∙ e)))
 
 pub stretches-allowed : (choices : Choices) (before : List (Item Epoch)) (stretches : List Stretch)
     → AreStretches choices before stretches → AllowLines stretches

@@ -1,11 +1,12 @@
 -- Damaged compact text: in any number of stretches after the header, other bytes come in place of the lines
 -- of some units. Lists of items have the newest first.
-use Rattle.std.specs.Prelude.{ℕ, ◌≡◌, ◌⊎◌, Bool, true, not, ◌||◌, ⊤, List, [], ◌∷◌, ◌++◌, Option, None, map}
+use Rattle.std.specs.Prelude.{ℕ, ◌≡◌, ◌⊎◌, Bool, true, not, ◌||◌, ◌&&◌, ⊤, List, [], ◌∷◌, ◌++◌, Option, None}
+use Rattle.std.specs.Prelude.{map, is_some}
 use Rattle.std.specs.List.{AllByRecursion, list_all, flat_map}
 use Rattle.crx_faults.specs.meaning.Lines.{Piece, InputLine, pieces_of, lines_of, is_long, lines_text}
 use Rattle.crx_faults.specs.meaning.Seen.{seen}
 use Rattle.crx_faults.specs.declared.fault.At.{At}
-use Rattle.crx_header.specs.meaning.EpochColumns.{is_event_line}
+use Rattle.crx_header.specs.meaning.EpochColumns.{is_event_line, records_in}
 use Rattle.crx_rinex.specs.meaning.Observations.{Epoch}
 use Rattle.crx_rinex.specs.meaning.Epochs.{IsWholeEpoch}
 use Rattle.crx_rinex.specs.meaning.Printing.{printed_epoch}
@@ -59,13 +60,17 @@ stretches_text choices before (s ∷ later) = s.instead
     ++ (lines_text (lines_after choices (up_to_end before s) (up_to_next before s))
     ++ stretches_text choices (up_to_next before s) later)
 
+-- an event's first line that says how many records follow; without such a count it is a bad line, and skipped
+abbrev pub announces_records : List ℕ → Bool
+announces_records line = is_event_line line && is_some (records_in line)
+
 -- a line that may come in a stretch: any but an event's first line, which would take lines after it as its
 -- records
 abbrev pub begins_no_event : InputLine → Bool
-begins_no_event line = is_long line || not (is_event_line line.content)
+begins_no_event line = is_long line || not (announces_records line.content)
 
 -- what is asked of a stretch after some units: it begins between two units; what is lost leaves the types in
--- force as they were; no line in its place is an event's first line; what is kept begins with an event or an
+-- force as they were; no line in its place begins an event; what is kept begins with an event or an
 -- epoch in full; and it begins on a line of its own, if anything comes after the stretch
 pub record IsStretch (choices : Choices) (before : List (Item Epoch)) (s : Stretch)
     (later : List Stretch) : Type 0 where
@@ -76,6 +81,7 @@ pub record IsStretch (choices : Choices) (before : List (Item Epoch)) (s : Stret
   pub ended : ((s.kept ≡ []) × (later ≡ []))
       ⊎ (list_all (λ (piece : Piece). piece.is_ended) (pieces_of s.instead) ≡ true)
 
+-- the same of each of some stretches, after the units up to it
 abbrev pub AreStretches : Choices → List (Item Epoch) → List Stretch → Type 0
 AreStretches choices before [] = ⊤
 AreStretches choices before (s ∷ later) =

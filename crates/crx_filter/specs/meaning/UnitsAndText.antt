@@ -60,9 +60,11 @@ pub record MakeAFile (units : List (FileUnit Epoch)) : Type 0 where
 
 -- ---- its two texts
 
+-- their lines in RINEX, each followed by LF
 abbrev pub rinex_text : List (FileUnit Epoch) → List ℕ
 rinex_text units = lines_text (printed_items (as_items units))
 
+-- their lines in compact text, by what is chosen for it
 abbrev pub compact_text : Choices → List (FileUnit Epoch) → List ℕ
 compact_text choices units = lines_text (compact_lines choices (as_items units))
 
@@ -72,6 +74,7 @@ pub record StandForEachOther (units : List (FileUnit Epoch)) (compacting expandi
   pub expansion : is_date compacting.date ≡ true
       → expanded (compact_text compacting units) expanding ≡ written_well (rinex_text units)
 
+-- both texts stand for each other where the units make a file
 abbrev pub TextsOfUnits : List (FileUnit Epoch) → Choices → Choices → Type 0
 TextsOfUnits units compacting expanding = MakeAFile units → StandForEachOther units compacting expanding
 

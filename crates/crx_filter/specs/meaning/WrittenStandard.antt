@@ -38,5 +38,6 @@ pub record IsWrittenStandard (text : List ℕ) (choices : Choices) : Type 0 wher
   pub copied : has_plain_lines (expanded text choices).output ≡ true
       ↔ HaveNoReturns (rinex_items (whole_compact choices.skip (map seen (lines_of text))).items)
 
+-- where no fault ends the expansion of a text, what it writes is standard in this sense
 abbrev pub WhatIsExpandedIsStandard : List ℕ → Choices → Type 0
 WhatIsExpandedIsStandard text choices = (expanded text choices).fault ≡ None → IsWrittenStandard text choices

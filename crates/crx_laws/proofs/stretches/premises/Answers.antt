@@ -9,7 +9,7 @@ use Rattle.crx_laws.specs.SmallFiles.{header_items}
 use Rattle.crx_laws.specs.SmallFiles.{epoch_at_second}
 use Rattle.crx_laws.specs.SmallStretches.{first_epoch, second_block, two_stretches, event_lost, damaged_twice}
 use Rattle.crx_laws.specs.SmallStretches.{cut_off}
-use Rattle.crx_laws.specs.SmallStretches.{without_event}
+use Rattle.crx_laws.specs.SmallStretches.{count_lost, with_lost_count, without_event}
 use Rattle.crx_reading.specs.meaning.Items.{Accepted}
 use Rattle.crx_rinex.specs.meaning.Units.{Observation}
 use Rattle.crx_text.specs.meaning.Numbers.{size_of, number_of, number_text}
@@ -50,6 +50,22 @@ event = record {
   text = refl;
 }
 
+count : HasStretches (lines_text with_event) plain_choices with_lost_count
+unfolding digits coded_number size_of number_of number_text
+count = record {
+  file_good = record {
+    good = refl;
+    no_returns =
+        (tt, (refl, (refl, (tt, (tt, (refl, (refl, (refl, tt))))))));
+  };
+  before = Accepted (Observation (epoch_at_second 1 20000100500)) ∷ first_epoch;
+  stretches = count_lost;
+  parts = refl;
+  header = refl;
+  each = (record { between = refl; types = refl; allowed = refl; anew = refl; ended = inr refl }, tt);
+  text = refl;
+}
+
 cut : BeginsWhole (lines_text (file_of_five [])) in_full_every_second cut_off
 unfolding digits coded_number size_of number_of number_text
 cut = record {
@@ -62,4 +78,4 @@ cut = record {
 }
 
 pub returns : goal.returns
-returns c = record { twice = twice; event = event; cut = cut }
+returns c = record { twice = twice; event = event; count = count; cut = cut }
