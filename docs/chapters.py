@@ -19,7 +19,8 @@ FILTERS = ("compaction_filter", "expansion_filter", "check_filter")
 DEVICES = ("Source", "Sink")
 OF_CALLS = (
     *((f"open_{kind}", "opened running") for kind in ("compact", "expand", "check")),
-    *((call, "promise ended misused stands") for call in ("feed", "end")),
+    ("feed", "promise takes ended misused stands"),
+    ("end", "promise ended misused stands"),
     ("take", "output messages output_left messages_left promise still stands"),
 )
 OF_HANDLES = ("HandleStands", "has_ended", "texts_kept", "output_kept", "messages_kept")
@@ -92,8 +93,8 @@ CHAPTERS = (
         " that, `has_ended`, and which texts a handle keeps.",
         tuple((f"rnxcmp_c::rnxcmp_c_{call}", clauses) for call, clauses in OF_CALLS)
         + (("rnxcmp_c::a_handle_answers_as_a_call", "*"),),
-        RESULTS + OF_HANDLES,
-        60,
+        RESULTS + FILTERS + OF_HANDLES,
+        90,
     ),
     Chapter(
         "Handles",

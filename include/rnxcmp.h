@@ -26,8 +26,8 @@
  *
  * Any number of threads may call at once, for a handle one at a time. No call keeps a pointer, opens a file, prints or ends the process.
  * The input, the two rooms and the answer must not overlap, and nothing else may change them during the call. A call needs 256 KiB of
- * stack. It takes memory from malloc: of each text as much as its room holds at most, and what the run needs of earlier lines. It isn't
- * for signal handlers.
+ * stack. It takes memory from malloc: for each text less than twice what its room holds, three times while realloc copies, and what the
+ * run needs of earlier lines. It isn't for signal handlers.
  *
  * What differs from version 1, whose library is librnxcmp.so.1:
  * - rnxcmp_options begins with its own size, and has `max_output`; the status RNXCMP_OUTPUT_LIMIT is new.
@@ -56,8 +56,8 @@ enum {
     RNXCMP_GOOD = 0,
     /*
      * A fault ended the run; `code` and `line` say which, and where. The output holds what stood before it: header lines, event lines and
-     * whole epochs. After RNXCMP_INPUT_TOO_LONG and RNXCMP_OUT_OF_MEMORY a call over a whole input has changed neither room, and both
-     * lengths are 0.
+     * whole epochs; that of a check is empty. After RNXCMP_INPUT_TOO_LONG and RNXCMP_OUT_OF_MEMORY a call over a whole input has changed
+     * neither room, and both lengths are 0; the texts of a handle may be cut anywhere after RNXCMP_OUT_OF_MEMORY.
      */
     RNXCMP_FAULT = 1,
     /* Units were skipped, and the messages say which. For a check: the file is accepted, but isn't standard. */
@@ -73,7 +73,7 @@ enum {
     RNXCMP_BAD_PROCESSOR = 5,
     /*
      * NULL with a length that isn't 0, NULL for a handle or for `used`, options of a size that this library doesn't know, or a handle that
-     * isn't as the call needs it: not open, open already, or its run has ended. Nothing was done, and the other fields are 0.
+     * isn't as the call needs it: not open, open already, or its run has ended. Nothing was done, and the other fields are 0, as is `used`.
      */
     RNXCMP_MISUSED = 6,
     /*
@@ -179,15 +179,21 @@ int rnxcmp_check(const void *input, size_t input_length, void *output, size_t ou
  *         fwrite(lines, 1, messages_length - answer->messages_length, stderr);
  *     }
  *
- * What was taken in all, and then what is ready, is what the call over the whole input gives: the texts of the lines so far, and after
- * the end all of both texts, with the status, `code` and `line` that such a call answers where its room is large enough. After
- * RNXCMP_OUTPUT_LIMIT and RNXCMP_INPUT_TOO_LONG it is what the first lines make, and after RNXCMP_OUT_OF_MEMORY a prefix of it; the message
- * of RNXCMP_INPUT_TOO_LONG comes after the others, and that of RNXCMP_OUT_OF_MEMORY may. It never has more than `max_output` bytes of
- * output (0: no limit).
+ * What was taken in all, and then what is ready, is what the call over the whole input gives: while the run goes on, all that the lines
+ * make whose line ends were fed, and after the end all of both texts, with the status, `code` and `line` that such a call answers where its
+ * room is large enough and its memory doesn't run out. Otherwise:
+ * - after RNXCMP_OUTPUT_LIMIT it is what the first lines make, as many as keep to the limit;
+ * - after RNXCMP_INPUT_TOO_LONG it is what the lines make that have line ends, and then the message of this; a call over such an input
+ *   knows its length before it reads, so it answers line 0 and gives no text;
+ * - after RNXCMP_OUT_OF_MEMORY it is what the lines before `line` make and a part of what that line makes (or what all lines make and a part
+ *   of what the end makes), and then the message of this or nothing; or, where the message of a fault at `line` couldn't be stored, both
+ *   texts but for that message.
+ * So there is one message of an error at most. The output never has more than `max_output` bytes (0: no limit).
  *
  * What a handle keeps is bounded, whatever was fed: of the last line at most 8194 bytes, as long as it has no line end (a longer one is
- * too long, whatever follows); what the run needs of earlier lines; and what was made and not taken, which is less than RNXCMP_READY
- * bytes and then what one line makes, at most an epoch of 1001 lines of 8193 bytes, and after rnxcmp_end what the end makes too.
+ * too long, whatever follows); what the run needs of earlier lines; what was made and not taken, of each text at most 16.5 MB, and while
+ * the run goes on, of both together, less than RNXCMP_READY bytes and then what one line makes; and of what was taken at most as many
+ * bytes as wait.
  */
 typedef struct rnxcmp_handle {
     void *place;
@@ -198,8 +204,8 @@ typedef struct rnxcmp_handle {
     { NULL, 0 }
 
 /*
- * Opens a closed handle: RNXCMP_GOOD; RNXCMP_FAULT with RNXCMP_OUT_OF_MEMORY; RNXCMP_BAD_DATE; or RNXCMP_MISUSED where it is open. But
- * for RNXCMP_GOOD it is as before. `options` and `answer` may be NULL.
+ * Opens a closed handle: RNXCMP_GOOD; RNXCMP_FAULT with RNXCMP_OUT_OF_MEMORY; RNXCMP_BAD_DATE; RNXCMP_BAD_PROCESSOR; or RNXCMP_MISUSED, as
+ * where it is open. But for RNXCMP_GOOD it is as before. `options` and `answer` may be NULL.
  */
 int rnxcmp_open_compact(rnxcmp_handle *handle, const rnxcmp_options *options, rnxcmp_answer *answer);
 
@@ -213,21 +219,22 @@ int rnxcmp_open_check(rnxcmp_handle *handle, rnxcmp_answer *answer);
 
 /*
  * Takes bytes of the input, which may end anywhere, and stores in `used` how many it took of `length`: as long as fewer than RNXCMP_READY
- * bytes are ready, it takes more, and it stops at the line end with which so many are. So where nothing is ready it takes at least one, and
- * where it takes fewer than `length` the caller takes what is ready, and feeds the rest. Neither `used` nor, with a length that isn't 0,
- * `bytes` may be NULL.
+ * bytes are ready, it takes more, and unless the run ends it stops at the line end with which so many are. So where nothing is ready it
+ * takes at least one of those that it is given, and where it takes fewer than `length` the caller takes what is ready, and feeds the rest;
+ * but for an input that is too long, below. Neither `used` nor, with a length that isn't 0, `bytes` may be NULL.
  *
  * RNXCMP_GOOD: the run goes on. RNXCMP_FAULT: a fault has ended the run, whatever follows; `code` and `line` say which, and where.
  * RNXCMP_OUTPUT_LIMIT: the output would have more than `max_output` bytes, and the run has ended, whatever follows. In the last two `used`
  * is `length`, or as many as the input may still have, but for RNXCMP_INPUT_TOO_LONG: that comes where 2^40 bytes were taken and there is
- * one more; it has the number of the line after the last LF, and `used` is 0. After RNXCMP_OUT_OF_MEMORY the texts that are ready may be cut
- * anywhere.
+ * one more; it has the number of the line after the last LF, and `used` is 0. RNXCMP_OUT_OF_MEMORY has the number of a line whose LF is
+ * among the bytes of this call, or that of the fault whose message couldn't be stored.
  */
 int rnxcmp_feed(rnxcmp_handle *handle, const void *bytes, size_t length, size_t *used, rnxcmp_answer *answer);
 
 /*
- * The input has ended: the status is that of the whole input, 0, 1 or 2, or RNXCMP_OUTPUT_LIMIT, and the rest of both texts is ready. It
- * is taken whatever is ready before.
+ * The input has ended: the status is that of the whole input, 0, 1 or 2, and the rest of both texts is ready; or it is RNXCMP_OUTPUT_LIMIT,
+ * or RNXCMP_FAULT with RNXCMP_OUT_OF_MEMORY at the last line, or at that of the fault whose message couldn't be stored. The end is taken
+ * whatever is ready before.
  */
 int rnxcmp_end(rnxcmp_handle *handle, rnxcmp_answer *answer);
 

@@ -279,7 +279,7 @@ class Stream:
             write(stream.end())
 
     The output of one piece may be many times as long as the piece. In place of :meth:`feed` and :meth:`end`, :meth:`outputs` and
-    :meth:`last_outputs` give it in parts, of which none is made before it is asked for:
+    :meth:`last_outputs` give it in parts; :meth:`outputs` feeds more only once all parts before are given:
 
             for piece in pieces:
                 for part in stream.outputs(piece):

@@ -165,6 +165,15 @@ static void demand_used(const rnxcmp_answer *before, const rnxcmp_answer *after,
     }
 }
 
+/* Where memory ran out, that is at a line that was fed whole; at the end at any of all, or at the one after, which a fault of the end has. */
+static void demand_line(const rnxcmp_answer *answer, const char *bytes, size_t length, int is_end) {
+    size_t lines_fed = is_end ? 1 + (length != 0 && bytes[length - 1] != '\n') : 0;
+    for (size_t k = 0; k < length; k++) {
+        lines_fed += bytes[k] == '\n';
+    }
+    demand(answer->line <= lines_fed && (is_end || answer->line > 0), "the line where memory ran out");
+}
+
 /* Feeds the input, and ends. What is ready is taken, or part of it, or nothing, at random; all where pieces aren't. */
 static int run_through(rnxcmp_handle *handle, const char *input, rnxcmp_answer *answer) {
     int status = RNXCMP_GOOD;
@@ -175,6 +184,9 @@ static int run_through(rnxcmp_handle *handle, const char *input, rnxcmp_answer *
         status = rnxcmp_feed(handle, count != 0 ? piece_end - count : NULL, count, &used, answer);
         demand(status == (int)answer->status, "status");
         demand_used(&before, answer, input + at, count, used);
+        if (answer->code == RNXCMP_OUT_OF_MEMORY) {
+            demand_line(answer, input, at + used, 0);
+        }
         if (asked.piece != 0 || drawn(3) == 0) {
             take_all(handle, answer);
         } else if (drawn(2) == 0) {
@@ -184,6 +196,9 @@ static int run_through(rnxcmp_handle *handle, const char *input, rnxcmp_answer *
     if (status == RNXCMP_GOOD) {
         status = rnxcmp_end(handle, answer);
         demand(status == (int)answer->status, "status of the end");
+        if (answer->code == RNXCMP_OUT_OF_MEMORY) {
+            demand_line(answer, input, asked.length, 1);
+        }
     }
     return status;
 }

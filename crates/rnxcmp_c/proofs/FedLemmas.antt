@@ -4,10 +4,10 @@ use Rattle.std.proofs.Common.{refl, sym, ap, ◌∙◌, subst, arith, length-tak
 use Rattle.std.proofs.lemmas.List.{take-take}
 use Rattle.crx_faults.specs.declared.limits.TheConstants.{INPUT_LIMIT}
 use Rattle.crx_runs.specs.declared.outcome.Outcome.{Outcome}
-use Rattle.rnxcmp_c.specs.Going.{StopsSoon}
 use Rattle.rnxcmp_c.specs.Handles.{FeedsBy, FeedsBytes, HasFed, IsFed, ReaderHasPassed, ReaderRuns, StandsBy}
-use Rattle.rnxcmp_c.specs.Handles.{allowed_after, answer_now, filter_for}
+use Rattle.rnxcmp_c.specs.Handles.{answer_now}
 use Rattle.rnxcmp_c.specs.meaning.Handles.{Task, HandlePast, IsMisused, fed_with}
+use Rattle.rnxcmp_c.specs.meaning.Handles.{StopsSoon, allowed_after, filter_for}
 use Rattle.rnxcmp_c.specs.declared.answer.Answer.{Answer}
 use Rattle.rnxcmp_c.specs.declared.reader.Reader.{Reader}
 use Rattle.rnxcmp_c.proofs.PieceLemmas.{none-or}
@@ -15,7 +15,8 @@ use Rattle.rnxcmp_c.proofs.PieceLemmas.{none-or}
 module _ (task : Task) (old new : Reader) (past : HandlePast) (bytes allowed : List ℕ) (used : ℕ) (answer : Answer) where
   pub fed-bytes : allowed ≡ take (INPUT_LIMIT - old.fed) bytes → answer ≡ answer_now new → ReaderRuns task old past
       → (length allowed ≡ 0 → 0 < length bytes → (used ≡ 0) × ReaderHasPassed task new past)
-      → ((0 < length bytes → 0 < length allowed) → HasFed task new (fed_with past (take used allowed)))
+      → ((0 < length bytes → 0 < length allowed) → HasFed past.fed task new (fed_with past
+      (take used allowed)))
       → ((0 < length bytes → 0 < length allowed) → IsFed old new (length allowed) used)
       → ((0 < length bytes → 0 < length allowed) → new.outcome ≡ None → 0 < used
       → StopsSoon (filter_for task) past allowed used)
@@ -35,7 +36,7 @@ module _ (task : Task) (old new : Reader) (past : HandlePast) (bytes allowed : L
         answers = answers;
         within = subst (λ (l : List ℕ). used ≤ length l) same within;
         over = λ h none. over (ap length same ∙ none) h;
-        fed = λ h. subst (λ (l : List ℕ). HasFed task new (fed_with past l))
+        fed = λ h. subst (λ (l : List ℕ). HasFed past.fed task new (fed_with past l))
             (ap (take used) same ∙ take-take used left bytes
             (omega (arith, within, ap length same, length-take left bytes)))
             (fed (λ b. subst (λ (l : List ℕ). 0 < length l) (sym same) (h b)));
@@ -52,7 +53,7 @@ module _ (task : Task) (old new : Reader) (past : HandlePast) (bytes allowed : L
       → (ReaderRuns task old past → length allowed ≡ 0 → 0 < length bytes
       → (used ≡ 0) × ReaderHasPassed task new past)
       → (ReaderRuns task old past → (0 < length bytes → 0 < length allowed)
-      → HasFed task new (fed_with past (take used allowed)))
+      → HasFed past.fed task new (fed_with past (take used allowed)))
       → ((0 < length bytes → 0 < length allowed) → IsFed old new (length allowed) used)
       → (ReaderRuns task old past → (0 < length bytes → 0 < length allowed) → new.outcome ≡ None → 0 < used
       → StopsSoon (filter_for task) past allowed used)

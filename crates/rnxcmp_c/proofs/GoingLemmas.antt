@@ -1,7 +1,7 @@
 -- A run goes on by the bytes that are fed.
 use Rattle.std.proofs.Common.{◌≡◌, ◌≢◌, ◌⊎◌, inl, inr, ℕ, ◌+◌, ◌-◌, ◌<◌, ◌≤◌, true, false, ◌||◌, List, [], ◌∷◌, ◌++◌, ⊎_elim}
 use Rattle.std.proofs.Common.{length, take, drop, slice_index, None, refl, sym, ap, ◌∙◌, subst, arith, append-nil}
-use Rattle.std.proofs.Common.{append_assoc, length-append, length-take}
+use Rattle.std.proofs.Common.{Bool, append_assoc, is_some, length-append, length-take}
 use Rattle.std.proofs.Math.Seq.{take-append-add}
 use Rattle.std.proofs.lemmas.List.{drop_more, get_or-take, take-append-drop, take-append-le}
 use Rattle.std.proofs.lemmas.List.Elements.{All-append, All-from_get_or}
@@ -17,16 +17,16 @@ use Rattle.crx_runs.specs.meaning.Messages.{notices_text, warning_text}
 use Rattle.crx_runs.specs.meaning.Results.{Begins, Course, are_some}
 use Rattle.rnxcmp_c.specs.declared.held.Held.{Held}
 use Rattle.rnxcmp_c.specs.Waiting.{waiting}
-use Rattle.rnxcmp_c.specs.declared.pending.Pending.{Pending}
 use Rattle.rnxcmp_c.specs.Counting.{take-of_taken}
 use Rattle.rnxcmp_c.specs.Going.{IsText, IsGoing, IsBroken, MovesOn, EndsThere, LineStops}
 use Rattle.rnxcmp_c.specs.meaning.Handles.{HandlePast, fed_with}
-use Rattle.rnxcmp_c.specs.Going.{piece_line, IsAll, IsFailed, LineFails, IsCutShort, RanOutAt, RunsShort}
-use Rattle.rnxcmp_c.specs.Going.{AddsWithin, AreCutShort, AreFirstWarnings, EndsPastLimit, IsKeptWithin, IsPastLimit}
+use Rattle.rnxcmp_c.specs.meaning.Handles.{IsPartBetween, StopsSoon, with_one_more}
+use Rattle.rnxcmp_c.specs.Going.{piece_line, IsAll, IsCutBy, IsFailed, LineFails, RanOutAt, RunsShort}
+use Rattle.rnxcmp_c.specs.Going.{StopsShort}
+use Rattle.rnxcmp_c.specs.Going.{AddsWithin, EndsPastLimit, IsKeptWithin, IsPastLimit}
 use Rattle.rnxcmp_c.specs.Going.{MovesWithin, PassesLimit}
-use Rattle.rnxcmp_c.specs.Going.{RunBreaks, RunFails, StepStops, with_one_more}
-use Rattle.rnxcmp_c.specs.Going.{StopsSoon}
-use Rattle.rnxcmp_c.specs.Holding.{ready_in}
+use Rattle.rnxcmp_c.specs.Going.{RunBreaks, RunFails, StepStops}
+use Rattle.rnxcmp_c.specs.Holding.{AreUnfailed, IsMemoryLacking, ready_in}
 use Rattle.rnxcmp_c.specs.declared.limits.TheConstants.{LINE_ROOM, READY_LIMIT}
 use Rattle.rnxcmp_c.specs.declared.stop.Stop.{Stop}
 use Rattle.rnxcmp_c.specs.declared.stop.Stop.TheVariants.{Fault, Limit}
@@ -103,53 +103,59 @@ more-text : (whole taken kept more then : List ℕ) (after : List ℕ) → after
 more-text whole taken kept more then after grows is was =
     grows ∙ ap (λ t. t ++ more) is ∙ append_assoc taken kept more ∙ ap (λ t. taken ++ t) (sym was)
 
--- what was taken of an output that was cut short, and then what is kept, is a prefix of it
-text-short : (before after : Course) (old new : Pending) (taken : List ℕ)
-    → before.output ≡ taken ++ (waiting old) → IsCutShort before after old new
-    → Begins before.output (taken ++ (waiting new)) ⊎ Begins after.output (taken ++ (waiting new))
-text-short before after old new taken is short =
-    ⊎_elim (λ none. inl (record {
-      rest = [];
-      same = is ∙ ap (λ t. taken ++ t) (sym (short.wrote ∙ ap (λ t. (waiting old) ++ t) none
-          ∙ append-nil (waiting old)))
-          ∙ sym (append-nil (taken ++ (waiting new)));
-    }))
-    (λ begins. inr (record {
-      rest = begins.rest;
-      same = begins.same ∙ ap (λ t. t ++ begins.rest) (ap (λ t. t ++ short.text) is
-          ∙ append_assoc taken (waiting old) short.text ∙ ap (λ t. taken ++ t) (sym short.wrote));
-    }))
-    short.first
+-- what was taken of a text that was cut short, and then what is kept, is a part of it
+part-of : (before after taken kept then text : List ℕ) → before ≡ taken ++ kept → then ≡ kept ++ text
+    → (text ≡ []) ⊎ Begins after (before ++ text) → IsPartBetween before after (taken ++ then)
+part-of before after taken kept then text is grows first =
+    let whole : taken ++ then ≡ before ++ text =
+    ap (λ t. taken ++ t) grows ∙ sym (append_assoc taken kept text) ∙ ap (λ t. t ++ text) (sym is) in
+    record {
+      begins = record { rest = text; same = whole };
+      first = ⊎_elim (λ none. inl (whole ∙ ap (λ t. before ++ t) none ∙ append-nil before))
+          (λ begins. inr (subst (Begins after) (sym whole) begins)) first;
+    }
 
--- the same of the messages
-warnings-short : (before after : Course) (old new : Pending) (taken : List ℕ)
-    → notices_text before.warnings ≡ taken ++ (waiting old) → AreCutShort before after old new
-    → Begins (notices_text before.warnings) (taken ++ (waiting new))
-    ⊎ Begins (notices_text after.warnings) (taken ++ (waiting new))
-warnings-short before after old new taken is short =
-    ⊎_elim (λ none. inl (record {
-      rest = [];
-      same = is ∙ ap (λ t. taken ++ t) (sym (short.reported ∙ ap (λ t. (waiting old) ++ t) none
-          ∙ append-nil (waiting old)))
-          ∙ sym (append-nil (taken ++ (waiting new)));
-    }))
-    (λ begins. inr (record {
-      rest = begins.rest;
-      same = begins.same ∙ ap (λ t. t ++ begins.rest) (ap (λ t. t ++ short.text) is
-          ∙ append_assoc taken (waiting old) short.text ∙ ap (λ t. taken ++ t) (sym short.reported));
-    }))
-    short.first
+-- both texts of a line, or of the end, that was taken in part
+pub cut-by : (before after : Course) (takes : Bool) (old new : Held) (past : HandlePast)
+    → IsText before old past
+    → StopsShort takes before after old.output new.output old.messages new.messages
+    → IsCutBy before after takes new past
+cut-by before after takes old new past text short = record {
+  output_is = part-of before.output after.output past.output (waiting old.output) (waiting new.output)
+      short.output_cut.text text.wrote short.output_cut.wrote short.output_cut.first;
+  warnings_are = part-of (notices_text before.warnings) (notices_text after.warnings) past.messages
+      (waiting old.messages) (waiting new.messages) short.messages_cut.text text.reported
+      short.messages_cut.reported
+      short.messages_cut.first;
+  asked = ⊎_elim (λ takes. inl takes)
+      (λ less. inr (⊎_elim
+      (λ output. inl (omega (
+        arith,
+        output.short,
+        ap length text.wrote,
+        length-append past.output (waiting old.output),
+        length-append past.output (waiting new.output),
+      )))
+      (λ messages. inr (omega (
+        arith,
+        messages.short,
+        ap length text.reported,
+        length-append past.messages (waiting old.messages),
+        length-append past.messages (waiting new.messages),
+      ))) less))
+      short.asked;
+}
 
--- a prefix of the warnings of lines that stand first, whatever follows
-pub warnings-first : (filter : Filter) (fed : List ℕ) (lines : List InputLine)
-    → ((more : List ℕ) → (rest : List InputLine) × (lines_of (fed ++ more) ≡ lines ++ rest)) → (text : List ℕ)
-    → Begins (notices_text (filter.so_far lines).warnings) text → AreFirstWarnings filter fed text
-warnings-first filter fed lines first text begins = inl (record {
-  lines = lines;
-  others = (first []).0;
-  first = ap lines_of (sym (append-nil fed)) ∙ (first []).1;
-  begins = begins;
-})
+-- where no write had failed before, one did
+pub lacking-by : (before after : Course) (takes : Bool) (old new : Held) → AreUnfailed old
+    → StopsShort takes before after old.output new.output old.messages new.messages
+    → IsMemoryLacking takes new
+lacking-by before after takes old new good short =
+    ⊎_elim (λ takes. inl takes)
+    (λ less. inr (⊎_elim
+    (λ output. inl (λ none. absurd (omega (arith, none, output.failed, good.output))))
+    (λ messages. inr (λ none. absurd (omega (arith, none, messages.failed, good.messages)))) less))
+    short.asked
 
 -- a prefix of a prefix
 pub begins-then : (all mid first : List ℕ) → Begins all mid → Begins mid first → Begins all first
@@ -181,6 +187,8 @@ pub record IsSame (old new : Held) : Type 0 where
   pub left : new.left ≡ old.left
   pub output : (waiting new.output) ≡ (waiting old.output)
   pub messages : (waiting new.messages) ≡ (waiting old.messages)
+  pub output_good : new.output.failures ≡ old.output.failures
+  pub messages_good : new.messages.failures ≡ old.messages.failures
 
 -- what is kept of a line that goes on is what is kept of all of it
 kept-more : (old new : Held) (bytes tail : List ℕ) → old.tail.bytes.items ≡ take LINE_ROOM tail
@@ -242,24 +250,11 @@ module _ (filter : Filter) (shows : List InputLine → List Awaited → Type 0)
               same.left,
               ap (λ ls. length (filter.so_far ls).output) still,
             );
+        unfailed = record {
+          output = same.output_good ∙ is.unfailed.output;
+          messages = same.messages_good ∙ is.unfailed.messages;
+        };
       }
-
-  first-lines : (bytes more : List ℕ) → (rest : List InputLine) × (lines_of
-      ((past.fed ++ bytes) ++ more) ≡ ended_lines_of past.fed ++ rest)
-  first-lines bytes more = (
-    lines_of (is.tail ++ (bytes ++ more)),
-    ap lines_of (append_assoc past.fed bytes more) ∙ is.cut (bytes ++ more),
-  )
-
-  few-lines : (bytes : List ℕ) (n : ℕ) → n ≡ length (ended_lines_of past.fed) + 1
-      → n ≤ length (ended_lines_of (past.fed ++ bytes)) + 1
-  few-lines bytes n number =
-      omega (
-        arith,
-        number,
-        ap length (is.cut_ended bytes),
-        length-append (ended_lines_of past.fed) (ended_lines_of (is.tail ++ bytes)),
-      )
 
   -- a line's bytes, and its LF
   module _ (mid : Held) (piece : List ℕ) (same : IsSame held mid)
@@ -360,6 +355,10 @@ module _ (filter : Filter) (shows : List InputLine → List Awaited → Type 0)
                 same.left,
                 ap (λ ls. length (filter.so_far ls).output) one-more,
               );
+          unfailed = record {
+            output = kept.output_good ∙ same.output_good ∙ is.unfailed.output;
+            messages = kept.messages_good ∙ same.messages_good ∙ is.unfailed.messages;
+          };
         }
 
     line-then : (rest more : List ℕ) → (others : List InputLine)
@@ -419,46 +418,44 @@ module _ (filter : Filter) (shows : List InputLine → List Awaited → Type 0)
         }
 
     breaks-short : (new : Held) (rest : List ℕ) (at : At) → RanOutAt (length (ended_lines_of past.fed) + 1) at
-        → IsCutShort (filter.so_far (ended_lines_of past.fed)) (filter.so_far (with_next
-        (ended_lines_of past.fed) line)) mid.output new.output
-        → AreCutShort (filter.so_far (ended_lines_of past.fed)) (filter.so_far (with_next
-        (ended_lines_of past.fed) line)) mid.messages new.messages
-        → RunsShort filter new (fed_with past (piece ++ 10 ∷ rest)) at
-    breaks-short new rest at memory short told =
-        let before = filter.so_far (ended_lines_of past.fed) in
-        let after = filter.so_far (with_next (ended_lines_of past.fed) line) in
-        let bytes : List ℕ = piece ++ 10 ∷ rest in
-        let within = few-lines bytes at.line memory.1 in
-        let some : 0 < at.line = omega (arith, memory.1) in
-        let texts : List ℕ = past.messages ++ (waiting new.messages) in
-        let messages : AreFirstWarnings filter (past.fed ++ bytes) texts =
-        ⊎_elim
-        (λ (prefix : Begins (notices_text before.warnings) texts). warnings-first filter (past.fed ++ bytes)
-        (ended_lines_of past.fed) (first-lines bytes) texts prefix)
-        (λ (prefix : Begins (notices_text after.warnings) texts). warnings-first filter (past.fed ++ bytes)
-        (with_next (ended_lines_of past.fed) line) (line-then rest) texts prefix)
-        (warnings-short before after mid.messages new.messages past.messages (is.text.reported
-        ∙ ap (λ t. past.messages ++ t) (sym same.messages)) told) in
-        ⊎_elim (λ (prefix : Begins before.output (past.output ++ (waiting new.output))). record {
+        → StopsShort (is_some (filter.memory_after (ended_lines_of past.fed) line))
+        (filter.so_far (ended_lines_of past.fed)) (filter.so_far (with_next (ended_lines_of past.fed) line))
+        mid.output new.output mid.messages new.messages
+        → RunsShort past.fed filter new (fed_with past (piece ++ 10 ∷ rest)) at
+    breaks-short new rest at memory short =
+        let lines : List InputLine = ended_lines_of past.fed in
+        let more : ended_lines_of (past.fed ++
+        (piece ++ 10 ∷ rest)) ≡ with_next lines line ++ ended_lines_of rest =
+        ap (λ t. ended_lines_of (past.fed ++ t)) (sym (append_assoc piece (10 ∷ []) rest))
+        ∙ ended-first rest in
+        record {
           fault = memory.0;
-          some = some;
-          within = within;
-          lines = ended_lines_of past.fed;
-          first = first-lines bytes;
-          output = prefix;
-          messages = messages;
-        })
-        (λ (prefix : Begins after.output (past.output ++ (waiting new.output))). record {
-          fault = memory.0;
-          some = some;
-          within = within;
-          lines = with_next (ended_lines_of past.fed) line;
-          first = λ more. line-then rest more;
-          output = prefix;
-          messages = messages;
-        })
-        (text-short before after mid.output new.output past.output (is.text.wrote
-        ∙ ap (λ t. past.output ++ t) (sym same.output)) short)
+          there = (
+            omega (arith, memory.1),
+            omega (
+              arith,
+              memory.1,
+              ap length more,
+              length-append (with_next lines line) (ended_lines_of rest),
+              length-append lines (line ∷ []),
+            ),
+          );
+          lines = lines;
+          line = line;
+          first = λ others. (
+            (line-then rest others).0,
+            (line-then rest others).1 ∙ append_assoc lines (line ∷ []) (line-then rest others).0,
+          );
+          number = memory.1;
+          cut = cut-by (filter.so_far lines) (filter.so_far (with_next lines line)) _ mid new past (record {
+            wrote = is.text.wrote ∙ ap (λ t. past.output ++ t) (sym same.output);
+            reported = is.text.reported ∙ ap (λ t. past.messages ++ t) (sym same.messages);
+          }) short;
+          lacking = lacking-by _ _ _ mid new (record {
+            output = same.output_good ∙ is.unfailed.output;
+            messages = same.messages_good ∙ is.unfailed.messages;
+          }) short;
+        }
 
     breaks-kept : (new : Held) → AddsWithin mid new → IsKeptWithin new past
     breaks-kept new adds = adds-kept (filter.so_far (ended_lines_of past.fed)) mid new past
@@ -466,13 +463,46 @@ module _ (filter : Filter) (shows : List InputLine → List Awaited → Type 0)
         (λ limited. omega (arith, is.left (subst (λ (n : ℕ). 0 < n) same.limit limited), same.left, same.limit)) adds
 
     pub breaks : (new : Held) (rest : List ℕ) (stop : Stop)
-        → StepStops (length (ended_lines_of past.fed) + 1) (filter.so_far (ended_lines_of past.fed))
+        → StepStops (length (ended_lines_of past.fed) + 1)
+        (is_some (filter.memory_after (ended_lines_of past.fed) line)) (filter.so_far
+        (ended_lines_of past.fed))
         (filter.so_far (with_next (ended_lines_of past.fed) line)) mid new stop
-        → RunBreaks filter new (fed_with past (piece ++ 10 ∷ rest)) stop
+        → RunBreaks past.fed filter new (fed_with past (piece ++ 10 ∷ rest)) stop
     breaks new rest (Fault at) (inl memory, adds) =
-        (inl (breaks-short new rest at memory.0 memory.1 memory.2), breaks-kept new adds)
+        (inl (breaks-short new rest at memory.0 memory.1), breaks-kept new adds)
     breaks new rest (Fault at) (inr ends, adds) = (inr (breaks-there new rest at ends), breaks-kept new adds)
     breaks new rest Limit passes = passes-there new rest passes
+
+-- what ended a run in bytes that came after some ended it in those that came after fewer
+pub breaks-after : (filter : Filter) (before then : List ℕ) (held : Held) (past : HandlePast) (stop : Stop)
+    → length (ended_lines_of before) ≤ length (ended_lines_of then) → RunBreaks then filter held past stop
+    → RunBreaks before filter held past stop
+breaks-after filter before then held past (Fault at) few (inl ran, kept) = (
+  inl (record {
+    fault = ran.fault;
+    there = (omega (arith, few, ran.there.0), ran.there.1);
+    lines = ran.lines;
+    line = ran.line;
+    first = ran.first;
+    number = ran.number;
+    cut = ran.cut;
+    lacking = ran.lacking;
+  }),
+  kept,
+)
+breaks-after filter before then held past (Fault at) few (inr broken, kept) = (inr broken, kept)
+breaks-after filter before then held past Limit few passes = passes
+
+-- lines that were ended stay so
+pub ended-more : (filter : Filter) (shows : List InputLine → List Awaited → Type 0) (held : Held)
+    (past : HandlePast)
+    (more : List ℕ) → IsGoing filter shows held past
+    → length (ended_lines_of past.fed) ≤ length (ended_lines_of (past.fed ++ more))
+ended-more filter shows held past more going = omega (
+  arith,
+  ap length (going.cut_ended more),
+  length-append (ended_lines_of past.fed) (ended_lines_of (going.tail ++ more)),
+)
 
 -- ---- the end
 
@@ -511,7 +541,7 @@ IsLeft filter lines held = 0 < held.limit → held.left + length (filter.so_far 
 -- the end after some lines
 module _ (filter : Filter) (mid : Held) (past : HandlePast) (lines : List InputLine)
     (text : IsText (filter.so_far lines) mid past) (flag : mid.warned ≡ are_some (filter.so_far lines).warnings)
-    (whole : lines_of past.fed ≡ lines) (new : Held) where
+    (good : AreUnfailed mid) (whole : lines_of past.fed ≡ lines) (new : Held) where
   pub ends-well : (shown : Type 0) → IsLeft filter lines mid
       → MovesWithin (filter.so_far lines) (filter.whole lines) shown mid new
       → IsAll (filter.whole (lines_of past.fed)) new past
@@ -528,35 +558,21 @@ module _ (filter : Filter) (mid : Held) (past : HandlePast) (lines : List InputL
             omega (arith, left before, within.left before, within.limit, ap length grown.wrote);
       })
 
-  pub ends-badly : IsLawful filter → (number : ℕ) → number ≡ length lines → (at : At)
-      → LineStops number (filter.so_far lines) (filter.whole lines) mid.output new.output mid.messages new.messages at
+  pub ends-badly : (number : ℕ) → number ≡ length lines → (at : At)
+      → LineStops number false (filter.so_far lines) (filter.whole lines) mid.output new.output mid.messages
+      new.messages at
       → LineFails filter new past at
-  ends-badly lawful number last at (inl memory) =
-      let first = subst (λ ls. Begins (filter.whole ls).output (filter.so_far lines).output) (append-nil lines)
-      (lawful.goes_on lines []) in
-      let output : Begins (filter.whole lines).output (past.output ++ (waiting new.output)) =
-      ⊎_elim (λ prefix. begins-then _ _ _ first prefix) (λ prefix. prefix)
-      (text-short (filter.so_far lines) (filter.whole lines) mid.output new.output past.output text.wrote memory.1) in
-      let texts : List ℕ = past.messages ++ (waiting new.messages) in
-      let messages : AreFirstWarnings filter past.fed texts =
-      ⊎_elim
-      (λ (prefix : Begins (notices_text (filter.so_far lines).warnings) texts). inl (record {
+  ends-badly number last at (inl memory) =
+      inl (record {
+        ran_out = (memory.0.0, memory.0.1 ∙ last ∙ ap length (sym whole));
         lines = lines;
         others = [];
         first = whole ∙ sym (append-nil lines);
-        begins = prefix;
-      }))
-      (λ (prefix : Begins (notices_text (filter.whole lines).warnings) texts). inr (subst
-      (λ ls. Begins (notices_text (filter.whole ls).warnings) texts) (sym whole) prefix))
-      (warnings-short (filter.so_far lines) (filter.whole lines) mid.messages new.messages past.messages text.reported
-      memory.2) in
-      inl (record {
-        ran_out = (memory.0.0, memory.0.1 ∙ last ∙ ap length (sym whole));
-        output = subst (λ ls. Begins (filter.whole ls).output (past.output ++ (waiting new.output)))
-            (sym whole) output;
-        messages = messages;
+        number = memory.0.1 ∙ last;
+        cut = cut-by (filter.so_far lines) (filter.whole lines) false mid new past text memory.1;
+        lacking = lacking-by (filter.so_far lines) (filter.whole lines) false mid new good memory.1;
       })
-  ends-badly lawful number last at (inr ends) =
+  ends-badly number last at (inr ends) =
       inr (subst (λ ls. IsFailed (filter.whole ls) new past at) (sym whole) (record {
         fault = ends.fault;
         text = text-ends (filter.so_far lines) (filter.whole lines) mid new past at text ends;
@@ -580,14 +596,15 @@ module _ (filter : Filter) (mid : Held) (past : HandlePast) (lines : List InputL
     };
   }
 
-  pub ends-stopped : (flag : mid.warned ≡ are_some (filter.so_far lines).warnings) (whole : lines_of past.fed ≡ lines)
-      → IsLawful filter → (number : ℕ) → number ≡ length lines → (stop : Stop)
-      → StepStops number (filter.so_far lines) (filter.whole lines) mid new stop → RunFails filter new past stop
-  ends-stopped flag whole lawful number last (Fault at) stops = (
-    ends-badly filter mid past lines text flag whole new lawful number last at stops.0,
+  pub ends-stopped : (flag : mid.warned ≡ are_some (filter.so_far lines).warnings) → AreUnfailed mid
+      → (whole : lines_of past.fed ≡ lines) → (number : ℕ) → number ≡ length lines → (stop : Stop)
+      → StepStops number false (filter.so_far lines) (filter.whole lines) mid new stop
+      → RunFails filter new past stop
+  ends-stopped flag good whole number last (Fault at) stops = (
+    ends-badly filter mid past lines text flag good whole new number last at stops.0,
     adds-kept (filter.so_far lines) mid new past text.wrote left stops.1,
   )
-  ends-stopped flag whole lawful number last Limit passes =
+  ends-stopped flag good whole number last Limit passes =
       passes-after [] (whole ∙ sym (append-nil lines)) passes
 
 module _ (filter : Filter) (shows : List InputLine → List Awaited → Type 0)
@@ -621,52 +638,36 @@ module _ (filter : Filter) (shows : List InputLine → List Awaited → Type 0)
       last-text = text-grows (filter.so_far (ended_lines_of past.fed)) (filter.so_far last) shown held mid past is.text
           moved
 
+      pub last-good : AreUnfailed mid
+      last-good = record {
+        output = moved.kept.output_good ∙ is.unfailed.output;
+        messages = moved.kept.messages_good ∙ is.unfailed.messages;
+      }
+
       pub last-flag : mid.warned ≡ are_some (filter.so_far last).warnings
       last-flag = flag-grows (filter.so_far (ended_lines_of past.fed)) (filter.so_far last) shown held mid is.flag moved
 
     -- it ended the run
     pub last-fails : IsLawful filter → (at : At)
-        → LineStops (length (ended_lines_of past.fed) + 1) (filter.so_far (ended_lines_of past.fed))
-        (filter.so_far last)
+        → LineStops (length (ended_lines_of past.fed) + 1)
+        (is_some (filter.memory_after (ended_lines_of past.fed) (piece_line is.tail false)))
+        (filter.so_far (ended_lines_of past.fed)) (filter.so_far last)
         held.output mid.output held.messages mid.messages at
         → LineFails filter mid past at
     last-fails lawful at (inl memory) =
-        let ended = ended_lines_of past.fed in
-        let written : List ℕ = past.output ++ (waiting mid.output) in
+        let ended : List InputLine = ended_lines_of past.fed in
         let whole : lines_of past.fed ≡ last = all-but_last some in
-        let before : Begins (filter.whole last).output (filter.so_far ended).output =
-        lawful.goes_on ended (piece_line is.tail false ∷ []) in
-        let after : Begins (filter.whole last).output (filter.so_far last).output =
-        subst (λ ls. Begins (filter.whole ls).output (filter.so_far last).output) (append-nil last)
-        (lawful.goes_on last []) in
-        let output : Begins (filter.whole last).output written =
-        ⊎_elim (λ prefix. begins-then _ _ _ before prefix) (λ prefix. begins-then _ _ _ after prefix)
-        (text-short (filter.so_far ended) (filter.so_far last) held.output mid.output past.output is.text.wrote
-        memory.1) in
-        let texts : List ℕ = past.messages ++ (waiting mid.messages) in
-        let messages : AreFirstWarnings filter past.fed texts =
-        ⊎_elim
-        (λ (prefix : Begins (notices_text (filter.so_far ended).warnings) texts). inl (record {
-          lines = ended;
-          others = piece_line is.tail false ∷ [];
-          first = whole;
-          begins = prefix;
-        }))
-        (λ (prefix : Begins (notices_text (filter.so_far last).warnings) texts). inl (record {
-          lines = last;
-          others = [];
-          first = whole ∙ sym (append-nil last);
-          begins = prefix;
-        }))
-        (warnings-short (filter.so_far ended) (filter.so_far last) held.messages mid.messages past.messages
-        is.text.reported memory.2) in
         inl (record {
           ran_out = (
             memory.0.0,
             memory.0.1 ∙ sym (ap length whole ∙ length-append ended (piece_line is.tail false ∷ [])),
           );
-          output = subst (λ ls. Begins (filter.whole ls).output written) (sym whole) output;
-          messages = messages;
+          lines = ended;
+          others = piece_line is.tail false ∷ [];
+          first = whole;
+          number = memory.0.1;
+          cut = cut-by (filter.so_far ended) (filter.so_far last) _ held mid past is.text memory.1;
+          lacking = lacking-by (filter.so_far ended) (filter.so_far last) _ held mid is.unfailed memory.1;
         })
     last-fails lawful at (inr ends) =
         let decided : filter.whole (lines_of past.fed) ≡ filter.so_far last =
@@ -684,8 +685,9 @@ module _ (filter : Filter) (shows : List InputLine → List Awaited → Type 0)
         omega (arith, is.left before, moved.left before, moved.limit)
 
     pub last-stopped : IsLawful filter → (stop : Stop)
-        → StepStops (length (ended_lines_of past.fed) + 1) (filter.so_far (ended_lines_of past.fed))
-        (filter.so_far last) held mid stop
+        → StepStops (length (ended_lines_of past.fed) + 1)
+        (is_some (filter.memory_after (ended_lines_of past.fed) (piece_line is.tail false)))
+        (filter.so_far (ended_lines_of past.fed)) (filter.so_far last) held mid stop
         → RunFails filter mid past stop
     last-stopped lawful (Fault at) stops = (
       last-fails lawful at stops.0,

@@ -1,24 +1,25 @@
 -- A handle stays sound from call to call.
-use Rattle.std.proofs.Common.{◌≡◌, inl, inr, ℕ, ◌+◌, ◌<◌, ◌≤◌, List, [], ◌∷◌, length, Option, Some, None, is_some, true, false}
+use Rattle.std.proofs.Common.{◌≡◌, inl, inr, ℕ, ◌<◌, ◌≤◌, List, [], ◌∷◌, length, Option, Some, None, is_some}
+use Rattle.std.proofs.Common.{true, false}
 use Rattle.std.proofs.Common.{take}
 use Rattle.std.proofs.Common.{◌++◌, arith, refl, sym, ap, ◌∙◌, subst, append-nil, length-append, ⊎_elim}
 use Rattle.crx_faults.specs.meaning.Lines.{lines_of}
 use Rattle.crx_faults.specs.meaning.Seen.{ended_lines_of}
-use Rattle.crx_lines.specs.Reading.{HasNoFeed}
-use Rattle.crx_lines.proofs.ProgressLemmas.{ended_lines-come_first, lines-last}
+use Rattle.crx_lines.proofs.ProgressLemmas.{ended_lines-come_first}
 use Rattle.crx_runs.specs.Lawful.{IsLawful}
 use Rattle.crx_runs.specs.meaning.Messages.{notices_text}
 use Rattle.crx_runs.specs.meaning.Results.{Course, FilterResult, are_some}
 use Rattle.crx_runs.specs.declared.outcome.Outcome.{Outcome}
 use Rattle.rnxcmp_c.specs.Handles.{IsFresh, ReaderRuns}
-use Rattle.rnxcmp_c.specs.Handles.{ReaderEndsBy, FeedsBy, HasEndedBy, HasFedBy, HasPassedBy, IsLineReached, ReaderIsOver}
-use Rattle.rnxcmp_c.specs.Handles.{ReaderStands, RunIsOverLimit, allowed_after}
+use Rattle.rnxcmp_c.specs.Handles.{ReaderEndsBy, FeedsBy, HasEndedBy, HasFedBy, HasPassedBy, ReaderIsOver}
+use Rattle.rnxcmp_c.specs.Handles.{ReaderStands, RunIsOverLimit}
 use Rattle.rnxcmp_c.specs.Handles.{ReaderHasEnded, answer_now}
 use Rattle.rnxcmp_c.specs.Holding.{HoldsNothing}
 use Rattle.rnxcmp_c.proofs.PieceLemmas.{none-or}
 use Rattle.rnxcmp_c.specs.Handles.{StandsBy}
-use Rattle.rnxcmp_c.specs.Handles.{RunIsOutOfMemory, filter_for}
+use Rattle.rnxcmp_c.specs.Handles.{RunIsOutOfMemory}
 use Rattle.rnxcmp_c.specs.meaning.Handles.{Task, HandlePast, fed_with, limit_for, nothing_fed, result_for, IsMisused}
+use Rattle.rnxcmp_c.specs.meaning.Handles.{IsLineEnded, IsLineReached, allowed_after, filter_for}
 use Rattle.crx_runs.specs.meaning.Filters.{Filter}
 use Rattle.rnxcmp_c.specs.meaning.Answers.{line_in}
 use Rattle.rnxcmp_c.specs.declared.answer.Answer.{Answer}
@@ -36,48 +37,49 @@ pub one-held : (held : List Reader) (a b : Reader) → held ≡ a ∷ [] → hel
 unfolding first_or
 one-held held a b first second = ap (first_or a) (sym first ∙ second)
 
--- the lines of some bytes are those that an LF ends, and one more at most
-few-lines : (rest : List ℕ) → HasNoFeed rest → length (lines_of rest) ≤ 1
-few-lines [] none = omega arith
-few-lines (b ∷ bs) none = omega (arith, ap length (lines-last (b ∷ bs) none (omega arith)))
-
-pub lines-within : (fed : List ℕ) → length (lines_of fed) ≤ length (ended_lines_of fed) + 1
-lines-within fed =
+-- the lines that an LF ends are no more than all
+ended-within : (fed : List ℕ) → length (ended_lines_of fed) ≤ length (lines_of fed)
+ended-within fed =
     let first = ended_lines-come_first fed in
-    let all : lines_of fed ≡ ended_lines_of fed ++ lines_of first.0 =
-    ap lines_of (sym (append-nil fed)) ∙ first.2 [] ∙ ap (λ t. ended_lines_of fed ++ lines_of t) (append-nil first.0) in
-    omega (arith, ap length all, length-append (ended_lines_of fed) (lines_of first.0), few-lines first.0 first.1)
+    let all : lines_of fed ≡ ended_lines_of fed ++ lines_of (first.0 ++ []) =
+    ap lines_of (sym (append-nil fed)) ∙ first.2 [] in
+    omega (arith, ap length all, length-append (ended_lines_of fed) (lines_of (first.0 ++ [])))
 
 -- memory ran out at a line of more kinds
-line-weaker : (filter : Filter) (limit : ℕ) (P Q : ℕ → Type 0) (result : FilterResult) (reader : Reader)
-    (outcome : Outcome) (past : HandlePast)
-    → ((n : ℕ) → P n → Q n) → RunIsOutOfMemory filter limit P result reader outcome past
-    → RunIsOutOfMemory filter limit Q result reader outcome past
-line-weaker filter limit P Q result reader outcome past weaker ran = record {
+line-weaker : (filter : Filter) (limit : ℕ) (P Q : ℕ → Type 0) (input : List ℕ) (result : FilterResult)
+    (reader : Reader) (outcome : Outcome) (past : HandlePast)
+    → ((n : ℕ) → P n → Q n) → RunIsOutOfMemory filter limit P input result reader outcome past
+    → RunIsOutOfMemory filter limit Q input result reader outcome past
+line-weaker filter limit P Q input result reader outcome past weaker ran = record {
   memory = ran.memory;
   status = ran.status;
-  line = ⊎_elim (λ at. inl (weaker (line_in outcome.fault) at)) (λ same. inr same) ran.line;
-  output = ran.output;
-  messages = ran.messages;
+  made = ⊎_elim (λ by. inl (record {
+    at = weaker
+        (line_in outcome.fault) by.at;
+    made = by.made;
+    lacking = by.lacking;
+  }))
+      (λ hidden. inr hidden) ran.made;
   within = ran.within;
 }
 
 -- what is fed or ended stands
-fed-stands : (task : Task) (reader : Reader) (past : HandlePast) (outcome : Option Outcome)
-    → HasFedBy task reader past outcome → StandsBy task reader past outcome
-fed-stands task reader past None fed = fed
-fed-stands task reader past (Some outcome) (inl memory) =
-    inl (line-weaker (filter_for task) (limit_for task) _ (IsLineReached past.fed) (result_for task past.fed) reader
-    outcome past
-    (λ n at. at.1)
+fed-stands : (before : List ℕ) (task : Task) (reader : Reader) (past : HandlePast) (outcome : Option Outcome)
+    → HasFedBy before task reader past outcome → StandsBy task reader past outcome
+fed-stands before task reader past None fed = fed
+fed-stands before task reader past (Some outcome) (inl memory) =
+    inl (line-weaker (filter_for task) (limit_for task) _ (IsLineReached past.fed) past.fed
+    (result_for task past.fed)
+    reader outcome past
+    (λ n at. omega (arith, at.1, ended-within past.fed))
     (subst (λ (bytes : List ℕ). RunIsOutOfMemory (filter_for task) (limit_for task)
-    (λ line. (0 < line) × IsLineReached past.fed line)
+    (IsLineEnded before past.fed) bytes
     (result_for task bytes) reader outcome past)
     (append-nil past.fed) (memory [])))
-fed-stands task reader past (Some outcome) (inr (inl limit)) =
+fed-stands before task reader past (Some outcome) (inr (inl limit)) =
     inr (inl (subst (λ (bytes : List ℕ). RunIsOverLimit (filter_for task) (limit_for task) bytes
     (result_for task bytes) reader outcome past) (append-nil past.fed) (limit [])))
-fed-stands task reader past (Some outcome) (inr (inr over)) =
+fed-stands before task reader past (Some outcome) (inr (inr over)) =
     inr (inr (inr (subst (λ (bytes : List ℕ). ReaderIsOver (limit_for task) (result_for task bytes) reader outcome past)
     (append-nil past.fed) (over.1 []))))
 
@@ -85,20 +87,17 @@ ended-stands : (task : Task) (reader : Reader) (past : HandlePast) (outcome : Op
     → HasEndedBy task reader past outcome → StandsBy task reader past outcome
 ended-stands task reader past None ended = absurd ended
 ended-stands task reader past (Some outcome) (inl memory) =
-    inl (line-weaker (filter_for task) (limit_for task) _ (IsLineReached past.fed) (result_for task past.fed) reader
-    outcome past
-    (λ n last. omega (arith, last, lines-within past.fed)) memory)
+    inl (line-weaker (filter_for task) (limit_for task) _ (IsLineReached past.fed) past.fed
+    (result_for task past.fed)
+    reader outcome past
+    (λ n last. omega (arith, last)) memory)
 ended-stands task reader past (Some outcome) (inr (inl limit)) = inr (inl limit)
 ended-stands task reader past (Some outcome) (inr (inr over)) = inr (inr (inr over))
 
 passed-stands : (task : Task) (reader : Reader) (past : HandlePast) (outcome : Option Outcome)
     → HasPassedBy task reader past outcome → StandsBy task reader past outcome
 passed-stands task reader past None passed = absurd passed
-passed-stands task reader past (Some outcome) (inl memory) =
-    inl (line-weaker (filter_for task) (limit_for task) _ (IsLineReached past.fed) (result_for task past.fed) reader
-    outcome past
-    (λ n at. omega (arith, at)) memory)
-passed-stands task reader past (Some outcome) (inr long) = inr (inr (inl long))
+passed-stands task reader past (Some outcome) long = inr (inr (inl long))
 
 -- where nothing was taken, nothing more was fed
 pub none-fed : (past : HandlePast) (bytes : List ℕ) (used : ℕ) → used ≡ 0 → past ≡ fed_with past (take used bytes)
@@ -112,7 +111,7 @@ pub feeds-stands : (task : Task) (old new : Reader) (past : HandlePast) (bytes :
 feeds-stands task old new past bytes used answer None stands feeds =
     let goes_on : (0 < length bytes → 0 < length (allowed_after past bytes))
     → ReaderStands task new (fed_with past (take used bytes)) =
-    λ some. fed-stands task new (fed_with past (take used bytes)) new.outcome (feeds.fed some) in
+    λ some. fed-stands past.fed task new (fed_with past (take used bytes)) new.outcome (feeds.fed some) in
     ⊎_elim (λ none. goes_on (λ h. absurd (omega (arith, h, none))))
     (λ more. ⊎_elim
     (λ none. subst (ReaderStands task new) (none-fed past bytes used (feeds.over more none).0)
@@ -184,6 +183,7 @@ fresh-stands task engine held limit fresh limited nothing_held =
           nothing_held.limit_is,
           ap (λ (c : Course). length c.output) nothing,
         );
+        unfailed = nothing_held.unfailed;
       };
       counted = refl;
       within = omega arith;

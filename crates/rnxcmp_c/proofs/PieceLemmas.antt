@@ -54,16 +54,22 @@ pub kept-of_done : (before after : Course) (shown : Type 0) (writer messages : D
     (output then_output kept then_kept : Pending) (warned : Bool)
     → ((t : List ℕ) → writer.took t → waiting then_output ≡ waiting output ++ t)
     → ((t : List ℕ) → messages.took t → waiting then_kept ≡ waiting kept ++ t)
+    → (writer.after ≡ writer.before → then_output.failures ≡ output.failures)
+    → (messages.after ≡ messages.before → then_kept.failures ≡ kept.failures)
     → IsDone before after shown writer messages [] warned
     → IsKept before after shown output then_output kept then_kept warned
-kept-of_done before after shown writer messages output then_output kept then_kept warned wrote reported done = record {
-  is_shown = done.is_shown;
-  good = done.adds.good;
-  text = done.text;
-  notices = done.notices;
-  output_is = done.adds.output;
-  warnings_are = done.adds.warnings;
-  wrote = wrote done.text done.wrote.0;
-  reported = reported _ done.reported.0;
-  flag = done.flag;
-}
+kept-of_done before after shown writer messages output then_output kept then_kept warned wrote reported
+    written told
+    done = record {
+      is_shown = done.is_shown;
+      good = done.adds.good;
+      text = done.text;
+      notices = done.notices;
+      output_is = done.adds.output;
+      warnings_are = done.adds.warnings;
+      wrote = wrote done.text done.wrote.0;
+      reported = reported _ done.reported.0;
+      output_good = written done.wrote.1;
+      messages_good = told done.reported.1;
+      flag = done.flag;
+    }

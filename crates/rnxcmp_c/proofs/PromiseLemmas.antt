@@ -1,13 +1,12 @@
 -- What the state of a reader says of its run, in the words of the promise.
-use Rattle.std.proofs.Common.{◌≡◌, inl, inr, ⊎_elim, ℕ, ◌+◌, ◌<◌, ◌≤◌, List, [], ◌∷◌, ◌++◌, length, map, reverse}
-use Rattle.std.proofs.Common.{take, Option, Some, None, is_some, true, false, arith, refl, sym, ap, ◌∙◌, subst, append-nil}
+use Rattle.std.proofs.Common.{◌≡◌, inl, inr, ⊎_elim, ℕ, ◌<◌, ◌≤◌, List, [], ◌∷◌, ◌++◌, length, map, reverse}
+use Rattle.std.proofs.Common.{take, drop, append_assoc, Option, Some, None, is_some, true, false, arith, refl}
+use Rattle.std.proofs.Common.{sym, ap, ◌∙◌, subst, append-nil}
 use Rattle.std.proofs.lemmas.List.{map-append, reverse-append}
 use Rattle.crx_faults.specs.meaning.Lines.{InputLine, lines_of}
 use Rattle.crx_faults.specs.meaning.Seen.{ReadLine, ended_lines_of, seen}
 use Rattle.crx_faults.specs.declared.fault.At.{At}
-use Rattle.crx_faults.specs.declared.fault.Fault.{Fault}
-use Rattle.crx_faults.specs.declared.fault.Fault.TheVariants.{InputTooLong, OutOfMemory}
-use Rattle.crx_lines.proofs.ProgressLemmas.{ended_lines-come_first}
+use Rattle.crx_faults.specs.declared.fault.Fault.TheVariants.{InputTooLong}
 use Rattle.crx_reading.specs.meaning.Compacted.{rinex_place, whole_rinex}
 use Rattle.crx_reading.specs.meaning.Directions.{compact_reading, rinex_reading}
 use Rattle.crx_reading.specs.meaning.Expanded.{whole_compact}
@@ -16,31 +15,35 @@ use Rattle.crx_reading.specs.meaning.Written.{warnings_in}
 use Rattle.crx_filter.proofs.reading.CompactPrefixes.{whole-more}
 use Rattle.crx_filter.proofs.reading.Forward.{rinex-forward}
 use Rattle.crx_filter.proofs.reading.Prefixes.{AreMore, whole-items}
-use Rattle.crx_runs.specs.meaning.Filters.{Filter}
+use Rattle.crx_runs.specs.meaning.Filters.{Filter, with_next}
 use Rattle.crx_runs.specs.meaning.Messages.{error_text, notices_text}
 use Rattle.crx_runs.specs.meaning.Results.{Begins}
-use Rattle.crx_runs.specs.meaning.Runs.{FaultIs}
 use Rattle.crx_runs.specs.declared.outcome.Outcome.{Outcome}
-use Rattle.rnxcmp_c.specs.Going.{AreFirstWarnings, IsGoing}
+use Rattle.rnxcmp_c.specs.Going.{IsGoing}
 use Rattle.rnxcmp_c.specs.Handles.{ReaderRuns, ReaderStands, RunIsOutOfMemory, RunIsOverLimit}
-use Rattle.rnxcmp_c.specs.Handles.{RunIsTooLong, StandsBy, answer_now, fault_now, filter_for, shows_of, status_now}
-use Rattle.rnxcmp_c.specs.Handles.{Feeds, FeedsBy, HasFedBy, HasPassedBy, IsLineReached, allowed_after}
+use Rattle.rnxcmp_c.specs.Handles.{RunIsTooLong, StandsBy, answer_now, fault_now, shows_of, status_now}
+use Rattle.rnxcmp_c.specs.Handles.{Feeds, FeedsBy, FeedsBytes, HasFedBy, HasPassedBy}
 use Rattle.rnxcmp_c.specs.Handles.{HasEndedBy, ReaderHasEnded, ReaderIsOver}
 use Rattle.rnxcmp_c.specs.Opened.{have_ended, texts_in}
 use Rattle.rnxcmp_c.specs.Waiting.{waiting}
 use Rattle.rnxcmp_c.specs.declared.answer.Answer.{Answer}
 use Rattle.rnxcmp_c.specs.declared.answer.TheConstants.{OUTPUT_LIMIT}
+use Rattle.rnxcmp_c.specs.declared.held.Held.{Held}
+use Rattle.rnxcmp_c.specs.declared.limits.TheConstants.{READY_LIMIT}
 use Rattle.rnxcmp_c.specs.declared.reader.Reader.{Reader}
 use Rattle.rnxcmp_c.specs.meaning.Answers.{fault_code_in, line_in}
-use Rattle.rnxcmp_c.specs.meaning.Handles.{HandlePast, HandlePromise, KeptTexts, RunHasNoMemory}
-use Rattle.rnxcmp_c.specs.meaning.Handles.{RunHasEnded, RunHasResult, RunHasTooMuch, RunPassesLimit}
-use Rattle.rnxcmp_c.specs.meaning.Handles.{Task, Compact, Expand, Check}
-use Rattle.rnxcmp_c.specs.meaning.Handles.{RunWasEnded, fed_with}
-use Rattle.rnxcmp_c.specs.meaning.Handles.{handle_answer, limit_for, result_for}
+use Rattle.rnxcmp_c.specs.meaning.Handles.{HandlePast, HandlePromise, IsPartBetween, KeptTexts, RunHasEnded}
+use Rattle.rnxcmp_c.specs.meaning.Handles.{RunHasNoMemory}
+use Rattle.rnxcmp_c.specs.meaning.Handles.{RunHasResult, RunIsFull, RunIsLimited, RunWasEnded, TakesBytes}
+use Rattle.rnxcmp_c.specs.meaning.Handles.{Task, Compact}
+use Rattle.rnxcmp_c.specs.meaning.Handles.{Expand, Check, allowed_after, fault_message, fed_with, filter_for}
+use Rattle.rnxcmp_c.specs.meaning.Handles.{handle_answer, limit_for, made_by_lines, messages_made}
+use Rattle.rnxcmp_c.specs.meaning.Handles.{output_made, ready}
+use Rattle.rnxcmp_c.specs.meaning.Handles.{IsLastLine, IsLineEnded, IsLineReached, result_for, with_one_more}
 use Rattle.rnxcmp_c.proofs.GoingLemmas.{begins-then, notices-both}
-use Rattle.rnxcmp_c.proofs.HandleLemmas.{feeds-answer, lines-within, none-fed}
+use Rattle.rnxcmp_c.proofs.HandleLemmas.{feeds-answer, none-fed}
 use Rattle.rnxcmp_c.proofs.PieceLemmas.{none-or}
-use Rattle.rnxcmp_c.proofs.ReaderLemmas.{filter-is, lawful-for, output-for}
+use Rattle.rnxcmp_c.proofs.ReaderLemmas.{fault-at, filter-is, lawful-for, one_more-first, output-for}
 
 -- ---- warnings
 
@@ -102,6 +105,44 @@ module _ (task : Task) (input : List ℕ) (lines others : List InputLine) (first
       (subst (λ ls. Begins (notices_text ((filter_for task).whole ls).warnings)
       (notices_text ((filter_for task).so_far lines).warnings)) (sym first) (warned-first task lines others))
 
+-- so does what they make with the next one, or with the end; and a part of that
+module _ (task : Task) (input : List ℕ) (lines : List InputLine) where
+  output-next : (others : List InputLine) → lines_of input ≡ lines ++ others
+      → Begins (result_for task input).output (with_one_more (filter_for task) lines others).output
+  output-next others first =
+      subst (λ t. Begins t (with_one_more (filter_for task) lines others).output)
+      (sym (output-for task input ∙ ap (λ ls. ((filter_for task).whole ls).output) first))
+      (one_more-first (filter_for task) (lawful-for task) lines others)
+
+  messages-next : (others : List InputLine) → lines_of input ≡ lines ++ others
+      → Begins (result_for task input).messages
+      (notices_text (with_one_more (filter_for task) lines others).warnings)
+  messages-next [] first =
+      subst (λ ls. Begins (result_for task input).messages (notices_text
+      ((filter_for task).whole ls).warnings))
+      (first ∙ append-nil lines) (messages-for task input)
+  messages-next (line ∷ others) first =
+      messages-first task input (with_next lines line) others (first ∙ sym (append_assoc lines
+      (line ∷ []) others))
+
+  output-part : (others : List InputLine) → lines_of input ≡ lines ++ others → (text : List ℕ)
+      → IsPartBetween ((filter_for task).so_far lines).output (with_one_more
+      (filter_for task) lines others).output text
+      → Begins (result_for task input).output text
+  output-part others first text part =
+      ⊎_elim (λ same. subst (Begins (result_for task input).output) (sym same)
+      (output-first task input lines others first))
+      (λ begins. begins-then _ _ _ (output-next others first) begins) part.first
+
+  messages-part : (others : List InputLine) → lines_of input ≡ lines ++ others → (text : List ℕ)
+      → IsPartBetween (notices_text ((filter_for task).so_far lines).warnings)
+      (notices_text (with_one_more (filter_for task) lines others).warnings) text
+      → Begins (result_for task input).messages text
+  messages-part others first text part =
+      ⊎_elim (λ same. subst (Begins (result_for task input).messages) (sym same)
+      (messages-first task input lines others first))
+      (λ begins. begins-then _ _ _ (messages-next others first) begins) part.first
+
 -- ---- answers
 
 abbrev kept_in : Reader → KeptTexts
@@ -130,6 +171,7 @@ module _ (task : Task) (reader : Reader) (past : HandlePast) where
       record {
         run = record {
           answered = refl;
+          made = record { good = going.good; output = going.text.wrote; messages = going.text.reported };
           begun = λ (more : List ℕ). record {
             output = subst (Begins (result_for task (past.fed ++ more)).output) going.text.wrote
                 (output-first task (past.fed ++ more) lines (lines_of (going.tail ++ more)) (going.cut more));
@@ -142,77 +184,87 @@ module _ (task : Task) (reader : Reader) (past : HandlePast) where
             omega (arith, going.left before, runs.limit, ap length going.text.wrote);
       }
 
-  warned-begins : (text : List ℕ) → AreFirstWarnings (filter_for task) past.fed text
-      → Begins (result_for task past.fed).messages text
-  warned-begins text (inl some) =
-      begins-then _ _ _ (messages-first task past.fed some.lines some.others some.first) some.begins
-  warned-begins text (inr all) = begins-then _ _ _ (messages-for task past.fed) all
+  short-of_memory : (is_line : ℕ → Type 0) (outcome : Outcome) (input : List ℕ)
+      → RunIsOutOfMemory (filter_for task) (limit_for task) is_line input
+      (result_for task input) reader outcome past
+      → RunHasNoMemory is_line task (record past { fed = input }) (kept_in reader) (answer_by
+      (Some outcome) reader)
+  short-of_memory is_line outcome input ran = record {
+    answered = answers-same (kept_in reader) outcome.status 1 outcome.fault _ ran.status
+        (fault-at outcome.fault ran.memory);
+    made = ⊎_elim (λ by. inl (by.at, by.made)) (λ hidden. inr hidden) ran.made;
+    output = ⊎_elim
+        (λ by. output-part task input by.made.lines by.made.others by.made.first _ by.made.cut.output_is)
+        (λ hidden. record {
+          rest = [];
+          same = hidden.output_is ∙ sym (append-nil (output_made past
+              (kept_in reader)));
+        })
+        ran.made;
+    messages = ⊎_elim
+        (λ by.
+        let begins = messages-part task input by.made.lines by.made.others by.made.first _
+        by.made.cut.warnings_are in
+        ⊎_elim
+        (λ same. inl (record {
+          first = by.made.warnings;
+          begins = begins;
+          whole = same ∙ sym (append-nil by.made.warnings);
+        }))
+        (λ more. inr (record { first = by.made.warnings; begins = begins; whole = more })) by.made.said)
+        (λ hidden. inl (record {
+          first = messages_made past (kept_in reader);
+          begins = record { rest = error_text (result_for task input).fault; same = hidden.messages_are };
+          whole = sym (append-nil (messages_made past (kept_in reader)));
+        }))
+        ran.made;
+  }
 
-  fault-at : (fault : Option At) → FaultIs OutOfMemory fault
-      → fault ≡ Some (record { line = line_in fault; fault = OutOfMemory })
-  fault-at None is = absurd is
-  fault-at (Some at) is = ap (λ (f : Fault). let a : At = record at { fault = f } in Some a) is
-
-  short-of_memory : (is_line : ℕ → Type 0) (outcome : Outcome)
-      → ((n : ℕ) → is_line n → n ≤ length (ended_lines_of past.fed) + 1)
-      → RunIsOutOfMemory (filter_for task) (limit_for task) is_line (result_for task past.fed) reader outcome past
-      → RunHasNoMemory task past (kept_in reader) (answer_by (Some outcome) reader)
-  short-of_memory is_line outcome few ran =
-      let fault = fault-at outcome.fault ran.memory in
-      let cut = ran.messages in
-      let begins = warned-begins cut.warnings cut.first in
-      record {
-        answered = answers-same (kept_in reader) outcome.status 1 outcome.fault _ ran.status fault;
-        line = ⊎_elim (λ at. inl (few (line_in outcome.fault) at)) (λ same. inr same) ran.line;
-        output = ran.output;
-        messages = ⊎_elim
-            (λ same. inl (record {
-              first = cut.warnings;
-              begins = begins;
-              whole = same ∙ sym (append-nil cut.warnings);
-            }))
-            (λ more. inr (record {
-              first = cut.warnings;
-              begins = begins;
-              whole = more ∙ ap (λ (f : Option At). cut.warnings ++ error_text f) fault;
-            })) cut.whole;
-      }
-
-  too-much : (outcome : Outcome) → RunIsTooLong (filter_for task) (limit_for task) reader outcome past
-      → RunHasTooMuch task past (kept_in reader) (answer_by (Some outcome) reader)
-  too-much outcome long =
-      let first = ended_lines-come_first past.fed in
-      let lines = ended_lines_of past.fed in
-      let all : lines_of past.fed ≡ lines ++ lines_of (first.0 ++ []) =
-      ap lines_of (sym (append-nil past.fed)) ∙ first.2 [] in
-      record {
+  is-full : (outcome : Outcome) → RunIsTooLong (filter_for task) (limit_for task) reader outcome past
+      → RunIsFull task past (kept_in reader) (answer_by (Some outcome) reader)
+  is-full outcome long = ⊎_elim
+      (λ said. inl (record {
         full = long.full;
-        answered = answers-same (kept_in reader) outcome.status 1 outcome.fault _ long.status long.fault;
-        output = subst (Begins (result_for task past.fed).output) long.output
-            (output-first task past.fed lines (lines_of (first.0 ++ [])) all);
-        messages = record {
-          first = notices_text ((filter_for task).so_far lines).warnings;
-          begins = messages-first task past.fed lines (lines_of (first.0 ++ [])) all;
-          whole = sym long.messages
-              ∙ ap (λ (f : Option At). notices_text ((filter_for task).so_far lines).warnings ++ error_text f)
-              (long.fault ∙ ap (λ (n : ℕ). let a : At = record { line = n; fault = InputTooLong } in Some a)
-              (sym (ap line_in long.fault)));
-        };
-      }
+        answered = answers-same (kept_in reader) outcome.status 1 outcome.fault _ long.status said.0;
+        output = long.output;
+        messages = sym said.1
+            ∙ ap (λ (n : ℕ). notices_text (made_by_lines task past.fed).warnings ++ fault_message n
+            InputTooLong)
+            (sym (ap line_in said.0));
+      }))
+      (λ hidden. inr (record {
+        full = long.full;
+        answered = answers-same (kept_in reader) outcome.status 1 outcome.fault _ long.status hidden.0;
+        output = long.output;
+        messages = sym hidden.1;
+      }))
+      long.said
 
   over-limit : (outcome : Outcome) (input : List ℕ)
       → RunIsOverLimit (filter_for task) (limit_for task) input (result_for task input) reader outcome past
-      → RunPassesLimit task (record past { fed = input }) (kept_in reader) (answer_by (Some outcome) reader)
-  over-limit outcome input over = record {
-    answered = answers-same (kept_in reader) outcome.status OUTPUT_LIMIT outcome.fault None over.status over.fault;
-    exceeds = (over.limited, over.longer);
-    begun = record {
-      output = subst (Begins (result_for task input).output) over.output
-          (output-first task input over.lines over.others over.first);
-      messages = subst (Begins (result_for task input).messages) over.messages
-          (messages-first task input over.lines over.others over.first);
-    };
-  }
+      → RunIsLimited task (record past { fed = input }) (kept_in reader) (answer_by (Some outcome) reader)
+  over-limit outcome input over = (
+    record {
+      answered = answers-same (kept_in reader) outcome.status OUTPUT_LIMIT outcome.fault None over.status
+          over.fault;
+      exceeds = (over.limited, over.longer);
+      begun = record {
+        output = subst (Begins (result_for task input).output) over.output
+            (output-first task input over.lines over.others over.first);
+        messages = subst (Begins (result_for task input).messages) over.messages
+            (messages-first task input over.lines over.others over.first);
+      };
+    },
+    record {
+      lines = over.lines;
+      others = over.others;
+      first = over.first;
+      within = over.within;
+      over = over.over;
+      output = over.output;
+      messages = over.messages;
+    },
+  )
 
   has-result : (outcome : Outcome) (input : List ℕ)
       → ReaderIsOver (limit_for task) (result_for task input) reader outcome past
@@ -227,14 +279,18 @@ module _ (task : Task) (reader : Reader) (past : HandlePast) where
       → HandlePromise (is_some outcome) task past (kept_in reader) (answer_by outcome reader)
   stands-by None runs = runs-on runs
   stands-by (Some outcome) (inl ran) = record {
-    run = inl (inr (inr (short-of_memory _ outcome (λ n few. few) ran)));
+    run = inl (inr (inr (short-of_memory (IsLineReached past.fed) outcome past.fed ran)));
     within = ran.within;
   }
   stands-by (Some outcome) (inr (inl over)) = record {
     run = inl (inr (inl (over-limit outcome past.fed over)));
     within = λ limited. omega (arith, over.within, ap length over.output);
   }
-  stands-by (Some outcome) (inr (inr (inl long))) = record { run = inr (too-much outcome long); within = long.within }
+  stands-by (Some outcome) (inr (inr (inl long))) = record {
+    run = inr
+        (is-full outcome long);
+    within = long.within;
+  }
   stands-by (Some outcome) (inr (inr (inr over))) = record {
     run = inl (inl (has-result outcome past.fed over));
     within = over.within;
@@ -245,66 +301,129 @@ module _ (task : Task) (reader : Reader) (past : HandlePast) where
   reader-promise stands = stands-by reader.outcome stands
 
   ended-by : (outcome : Option Outcome) → HasEndedBy task reader past outcome
-      → (is_some outcome ≡ true) × RunHasEnded task past (kept_in reader) (answer_by outcome reader)
+      → (is_some outcome ≡ true)
+      × RunHasEnded (IsLastLine past.fed) task past (kept_in reader) (answer_by outcome reader)
   ended-by None ended = absurd ended
-  ended-by (Some outcome) (inl ran) = (
-    refl,
-    inr (inr (short-of_memory _ outcome (λ n last. omega (arith, last, lines-within past.fed)) ran)),
-  )
+  ended-by (Some outcome) (inl ran) =
+      (refl, inr (inr (short-of_memory (IsLastLine past.fed) outcome past.fed ran)))
   ended-by (Some outcome) (inr (inl over)) = (refl, inr (inl (over-limit outcome past.fed over)))
   ended-by (Some outcome) (inr (inr over)) = (refl, inl (has-result outcome past.fed over))
 
   pub reader-ended : ReaderHasEnded task reader past
-      → (is_some reader.outcome ≡ true) × RunHasEnded task past (kept_in reader) (answer_now reader)
+      → (is_some reader.outcome ≡ true) × RunHasEnded (IsLastLine past.fed) task past (kept_in reader)
+      (answer_now reader)
   reader-ended ended = ended-by reader.outcome ended
 
-  fed-ended : (outcome : Option Outcome) → is_some outcome ≡ true → HasFedBy task reader past outcome
-      → RunWasEnded task past (kept_in reader) (answer_by outcome reader)
-  fed-ended None ended fed = absurd (cc)
-  fed-ended (Some outcome) ended (inl memory) =
-      inr (inr (inl (short-of_memory (λ line. (0 < line) × IsLineReached past.fed line) outcome (λ n at. at.1)
-      (subst (λ (bytes : List ℕ). RunIsOutOfMemory (filter_for task) (limit_for task)
-      (λ line. (0 < line) × IsLineReached past.fed line) (result_for task bytes) reader outcome past)
-      (append-nil past.fed) (memory [])))))
-  fed-ended (Some outcome) ended (inr (inl limit)) =
+  fed-ended : (before left : List ℕ) (outcome : Option Outcome) → is_some outcome ≡ true
+      → HasFedBy before task reader past outcome → RunWasEnded task before past left (kept_in reader)
+      (answer_by outcome reader)
+  fed-ended before left None ended fed = absurd (cc)
+  fed-ended before left (Some outcome) ended (inl memory) =
+      inr (inr (inl (λ (more : List ℕ). short-of_memory (IsLineEnded before past.fed) outcome
+      (past.fed ++ more) (memory more))))
+  fed-ended before left (Some outcome) ended (inr (inl limit)) =
       inr (inl (λ (more : List ℕ). over-limit outcome (past.fed ++ more) (limit more)))
-  fed-ended (Some outcome) ended (inr (inr over)) =
+  fed-ended before left (Some outcome) ended (inr (inr over)) =
       inl (over.0, λ (more : List ℕ). has-result outcome (past.fed ++ more) (over.1 more))
 
-  passed-ended : (outcome : Option Outcome) → HasPassedBy task reader past outcome
-      → RunWasEnded task past (kept_in reader) (answer_by outcome reader)
-  passed-ended None passed = absurd passed
-  passed-ended (Some outcome) (inl memory) =
-      inr (inr (inl (short-of_memory (λ line. line ≡ length (ended_lines_of past.fed) + 1) outcome
-      (λ n at. omega (arith, at)) memory)))
-  passed-ended (Some outcome) (inr long) = inr (inr (inr (too-much outcome long)))
+  passed-ended : (before left : List ℕ) → 0 < length left → (outcome : Option Outcome)
+      → HasPassedBy task reader past outcome → RunWasEnded task before past left (kept_in reader)
+      (answer_by outcome reader)
+  passed-ended before left some None passed = absurd passed
+  passed-ended before left some (Some outcome) long = inr (inr (inr (some, is-full outcome long)))
+
+  passed-some : (outcome : Option Outcome) → HasPassedBy task reader past outcome → is_some outcome ≡ true
+  passed-some None passed = absurd passed
+  passed-some (Some outcome) long = refl
 
 -- what bytes have ended
 module _ (task : Task) (old new : Reader) (past : HandlePast) (bytes : List ℕ) (used : ℕ) (answer : Answer) where
+  abbrev Ended : HandlePast → ℕ → Type 0
+  Ended then count = RunWasEnded task past.fed then (drop count bytes) (kept_in new) (answer_now new)
+
   feeds-ended : (outcome : Option Outcome) → is_some outcome ≡ false → is_some new.outcome ≡ true
-      → FeedsBy task old new past bytes used answer outcome
-      → RunWasEnded task (fed_with past (take used bytes)) (kept_in new) (answer_now new)
+      → FeedsBy task old new past bytes used answer outcome → Ended (fed_with past (take used bytes)) used
   feeds-ended None runs ended feeds =
       let goes_on : (0 < length bytes → 0 < length (allowed_after past bytes))
-      → RunWasEnded task (fed_with past (take used bytes)) (kept_in new) (answer_now new) =
-      λ some. fed-ended task new (fed_with past (take used bytes)) new.outcome ended (feeds.fed some) in
+      → Ended (fed_with past (take used bytes)) used =
+      λ some. fed-ended task new (fed_with past (take used bytes)) past.fed
+      (drop used bytes) new.outcome ended
+      (feeds.fed some) in
       ⊎_elim (λ none. goes_on (λ h. absurd (omega (arith, h, none))))
       (λ more. ⊎_elim
-      (λ none. subst (λ (then : HandlePast). RunWasEnded task then (kept_in new) (answer_now new))
+      (λ none. subst (λ (then : HandlePast). Ended then used)
       (none-fed past bytes used (feeds.over more none).0)
-      (passed-ended task new past new.outcome (feeds.over more none).1))
+      (subst (Ended past) (sym (feeds.over more none).0)
+      (passed-ended task new past past.fed bytes more new.outcome (feeds.over more none).1)))
       (λ some. goes_on (λ h. some)) (none-or (length (allowed_after past bytes))))
       (none-or (length bytes))
   feeds-ended (Some outcome) runs ended feeds = absurd (cc)
 
   pub handle-was_ended : (readers : List Reader) → readers ≡ new ∷ [] → is_some old.outcome ≡ false
       → have_ended readers ≡ true → Feeds task old new past bytes used answer
-      → RunWasEnded task (fed_with past (take used bytes)) (texts_in readers) answer
+      → RunWasEnded task past.fed (fed_with past (take used bytes)) (drop used bytes)
+      (texts_in readers) answer
   handle-was_ended readers holds runs ended feeds =
-      subst (λ (l : List Reader). RunWasEnded task (fed_with past (take used bytes)) (texts_in l) answer) (sym holds)
-      (subst (λ (a : Answer). RunWasEnded task (fed_with past (take used bytes)) (kept_in new) a)
+      subst (λ (l : List Reader). RunWasEnded task past.fed (fed_with past (take used bytes))
+      (drop used bytes) (texts_in l)
+      answer) (sym holds)
+      (subst (λ (a : Answer). RunWasEnded task past.fed (fed_with past (take used bytes)) (drop used bytes)
+      (kept_in new) a)
       (sym (feeds-answer task old new past answer bytes used old.outcome runs feeds))
       (feeds-ended old.outcome runs (sym (ap have_ended holds) ∙ ended) feeds))
+
+  -- all were taken, or much is ready
+  takes-all : (outcome : Option Outcome) → new.outcome ≡ outcome
+      → FeedsBytes task old new past bytes used answer
+      → used < length (allowed_after past bytes)
+      → (is_some new.outcome ≡ false) × (READY_LIMIT ≤ ready (kept_in new))
+  takes-all None is feeds less = (ap (λ (o : Option Outcome). is_some o) is, feeds.all is less)
+  takes-all (Some outcome) is feeds less =
+      absurd (omega (
+        arith,
+        less,
+        feeds.ended (omega (arith, less)) (ap (λ
+            (o : Option Outcome). is_some o) is),
+      ))
+
+  none-is : (outcome : Option Outcome) → is_some outcome ≡ false → outcome ≡ None
+  none-is None is = refl
+  none-is (Some outcome) is = absurd (cc)
+
+  takes-bytes : (outcome : Option Outcome) → is_some outcome ≡ false
+      → FeedsBy task old new past bytes used answer outcome
+      → TakesBytes task past bytes used (kept_in old) (kept_in new) (is_some new.outcome)
+  takes-bytes None runs feeds = record {
+    within = feeds.within;
+    some = feeds.some;
+    all = takes-all new.outcome refl feeds;
+    soon = λ goes_on. feeds.soon (none-is new.outcome goes_on);
+    still = λ some full.
+        let still = feeds.still some full in (
+          still.0,
+          ap (λ (h : Held). let kept : KeptTexts = record {
+            output = waiting h.output;
+            messages = waiting h.messages;
+          } in kept) still.1,
+          ap (λ (o : Option Outcome). is_some o) still.2,
+        );
+    over = λ some none. (
+      (feeds.over some none).0,
+      passed-some task new past new.outcome (feeds.over some none).1,
+    );
+  }
+  takes-bytes (Some outcome) runs feeds = absurd (cc)
+
+  pub handle-takes : (olds news : List Reader) → olds ≡ old ∷ [] → news ≡ new ∷ [] → have_ended olds ≡ false
+      → Feeds task old new past bytes used answer
+      → TakesBytes task past bytes used (texts_in olds) (texts_in news) (have_ended news)
+  handle-takes olds news held holds runs feeds =
+      subst (λ (l : List Reader). TakesBytes task past bytes used (texts_in l) (texts_in news)
+      (have_ended news))
+      (sym held)
+      (subst (λ (l : List Reader). TakesBytes task past bytes used (kept_in old) (texts_in l)
+      (have_ended l)) (sym holds)
+      (takes-bytes old.outcome (sym (ap have_ended held) ∙ runs) feeds))
 
 -- the same of a handle
 module _ (task : Task) (readers : List Reader) (reader : Reader) (past : HandlePast) (answer : Answer)
@@ -317,8 +436,10 @@ module _ (task : Task) (readers : List Reader) (reader : Reader) (past : HandleP
       (reader-promise task reader past stands))
 
   pub handle-ended : ReaderHasEnded task reader past
-      → (have_ended readers ≡ true) × RunHasEnded task past (texts_in readers) answer
+      → (have_ended readers ≡ true) × RunHasEnded (IsLastLine past.fed) task past (texts_in readers) answer
   handle-ended ended =
-      subst (λ (l : List Reader). (have_ended l ≡ true) × RunHasEnded task past (texts_in l) answer) (sym holds)
-      (subst (λ (a : Answer). (is_some reader.outcome ≡ true) × RunHasEnded task past (kept_in reader) a) (sym answers)
+      subst (λ (l : List Reader). (have_ended l ≡ true) × RunHasEnded (IsLastLine past.fed) task past
+      (texts_in l) answer) (sym holds)
+      (subst (λ (a : Answer). (is_some reader.outcome ≡ true) × RunHasEnded (IsLastLine past.fed) task past
+      (kept_in reader) a) (sym answers)
       (reader-ended task reader past ended))

@@ -1,10 +1,11 @@
 -- A reader's run has ended as the whole run of its input does.
 use Rattle.std.proofs.Common.{◌≡◌, ◌⊎◌, inl, inr, ⊎_elim, ℕ, List, [], ◌++◌, Option, Some, None, refl, sym, ap, ◌∙◌, subst}
-use Rattle.std.proofs.Common.{◌<◌, ◌≤◌, ◌+◌, ◌∷◌, arith, length, append-nil, append_assoc, length-append}
+use Rattle.std.proofs.Common.{◌<◌, ◌≤◌, ◌+◌, ◌∷◌, is_some, arith, length, append-nil, append_assoc}
+use Rattle.std.proofs.Common.{length-append}
 use Rattle.crx_faults.specs.meaning.Lines.{InputLine, lines_of}
-use Rattle.crx_faults.specs.meaning.Seen.{ended_lines_of}
 use Rattle.crx_faults.specs.declared.limits.TheConstants.{INPUT_LIMIT}
 use Rattle.crx_faults.specs.declared.fault.At.{At}
+use Rattle.crx_faults.specs.declared.fault.Fault.{Fault as FaultOf}
 use Rattle.crx_faults.specs.declared.fault.Fault.TheVariants.{InputTooLong, OutOfMemory}
 use Rattle.crx_reading.specs.meaning.Directions.{check_filter, report_unless}
 use Rattle.crx_runs.specs.Lawful.{IsLawful}
@@ -16,19 +17,22 @@ use Rattle.crx_filter.proofs.following.CheckLawful.{check-lawful}
 use Rattle.crx_filter.proofs.following.Lawful.{compaction-lawful, expansion-lawful}
 use Rattle.crx_runs.specs.declared.outcome.Outcome.{Outcome}
 use Rattle.crx_runs.specs.meaning.Runs.{FaultIs}
+use Rattle.rnxcmp_c.specs.Holding.{IsMemoryLacking}
 use Rattle.rnxcmp_c.specs.Waiting.{waiting}
-use Rattle.rnxcmp_c.specs.Going.{AreFirstWarnings, Breaks, LineFails, IsAll, IsGoing, IsText}
-use Rattle.rnxcmp_c.specs.Going.{EndsPastLimit, IsPastLimit, RunBreaks, RunFails, with_one_more}
+use Rattle.rnxcmp_c.specs.Going.{Breaks, EndsShort, IsAll, IsCutBy, IsGoing, IsText, LineFails, RunsShort}
+use Rattle.rnxcmp_c.specs.Going.{EndsPastLimit, IsPastLimit, RunBreaks, RunFails}
 use Rattle.rnxcmp_c.specs.declared.stop.Stop.{Stop}
 use Rattle.rnxcmp_c.specs.declared.stop.Stop.TheVariants.{Fault, Limit}
 use Rattle.rnxcmp_c.specs.Handles.{IsOf, ReaderIsOver, IsPut, IsPutDown, IsPutSilently}
-use Rattle.rnxcmp_c.specs.Handles.{AreMessagesCut, EndsRunBy, ReaderRuns, RunIsOutOfMemory, RunIsOverLimit, filter_for}
+use Rattle.rnxcmp_c.specs.Handles.{EndsRunBy, ReaderRuns, RunIsOutOfMemory, RunIsOverLimit}
 use Rattle.rnxcmp_c.specs.Handles.{HasPassedBy, shows_of, too_long_after}
 use Rattle.rnxcmp_c.specs.Handles.{HasFedBy, HasEndedBy, engine_filter, has_ended_of}
 use Rattle.rnxcmp_c.specs.meaning.Answers.{KeepsToLimit, line_in}
-use Rattle.rnxcmp_c.proofs.GoingLemmas.{all-cut, begins-then, warnings-first}
 use Rattle.rnxcmp_c.specs.Handles.{status_at_end}
 use Rattle.rnxcmp_c.specs.meaning.Handles.{Task, HandlePast, limit_for, result_for, Compact, Expand, Check}
+use Rattle.rnxcmp_c.specs.meaning.Handles.{IsCutBetween, fault_message, filter_for, line_reached}
+use Rattle.rnxcmp_c.specs.meaning.Handles.{next_takes_memory}
+use Rattle.rnxcmp_c.specs.meaning.Handles.{with_one_more}
 use Rattle.rnxcmp_c.specs.declared.engines.AnyEngine.{AnyEngine}
 use Rattle.rnxcmp_c.specs.declared.engines.AnyEngine.TheVariants.{Compacting, Expanding, Checking}
 use Rattle.rnxcmp_c.specs.declared.held.Held.{Held}
@@ -100,6 +104,8 @@ record IsShort (mid new : Held) (outcome : Outcome) (line : ℕ) : Type 0 where
   pub output : (waiting new.output) ≡ (waiting mid.output)
   pub messages : ((waiting new.messages) ≡ (waiting mid.messages))
       ⊎ ((waiting new.messages) ≡ (waiting mid.messages) ++ error_text outcome.fault)
+  pub output_good : new.output.failures ≡ mid.output.failures
+  pub messages_good : new.messages.failures ≡ mid.messages.failures
 
 put-silently : (mid new : Held) (outcome : Outcome) (at : At) → IsPutSilently mid new outcome at
     → IsShort mid new outcome at.line
@@ -109,6 +115,8 @@ put-silently mid new outcome at put = record {
   line_is = ap line_in put.fault;
   output = put.output;
   messages = inl put.messages;
+  output_good = put.output_good;
+  messages_good = put.messages_good;
 }
 
 put-down : (mid new : Held) (outcome : Outcome) (at : At)
@@ -119,6 +127,8 @@ put-down mid new outcome at memory put = record {
   line_is = ap line_in put.fault;
   output = put.output;
   messages = inr (put.messages ∙ ap (λ f. (waiting mid.messages) ++ error_text f) (sym put.fault));
+  output_good = put.output_good;
+  messages_good = put.messages_good;
 }
 
 put-short : (mid new : Held) (outcome : Outcome) (at : At)
@@ -126,85 +136,95 @@ put-short : (mid new : Held) (outcome : Outcome) (at : At)
 put-short mid new outcome at memory (inl put) = put-silently mid new outcome at put
 put-short mid new outcome at memory (inr put) = put-down mid new outcome at memory put
 
--- the run is out of memory: at such a line, or at that of the result's fault
-module _ (filter : Filter) (limit : ℕ) (is_line : ℕ → Type 0) (result : FilterResult) (reader : Reader) (mid : Held)
-    (outcome : Outcome) (past : HandlePast) (line : ℕ) (short : IsShort mid reader.held outcome line)
-    (output : Begins result.output (past.output ++ (waiting mid.output)))
-    (few : KeepsToLimit limit (past.output ++ waiting mid.output))
-    (told : AreFirstWarnings filter past.fed (past.messages ++ (waiting mid.messages))) where
-  still : Begins result.output (past.output ++ (waiting reader.held.output))
-  still = subst (λ t. Begins result.output (past.output ++ t)) (sym short.output) output
+-- a fault that says that memory ran out, by its line
+pub fault-at : (fault : Option At) → FaultIs OutOfMemory fault
+    → fault ≡ Some (record { line = line_in fault; fault = OutOfMemory })
+fault-at None is = absurd is
+fault-at (Some at) is = ap (λ (f : FaultOf). let a : At = record at { fault = f } in Some a) is
 
-  still-few : KeepsToLimit limit (past.output ++ waiting reader.held.output)
-  still-few = subst (λ t. KeepsToLimit limit (past.output ++ t)) (sym short.output) few
+-- the run is out of memory at such a line
+module _ (filter : Filter) (limit : ℕ) (is_line : ℕ → Type 0) (input : List ℕ) (result : FilterResult)
+    (reader : Reader) (mid : Held) (outcome : Outcome) (past : HandlePast) (line : ℕ)
+    (short : IsShort mid reader.held outcome line)
+    (few : KeepsToLimit limit (past.output ++ waiting mid.output)) where
+  said-or_not : ((past.messages ++ waiting reader.held.messages) ≡ (past.messages ++ waiting mid.messages))
+      ⊎ ((past.messages ++ waiting reader.held.messages)
+      ≡ (past.messages ++ waiting mid.messages) ++ fault_message (line_in outcome.fault) OutOfMemory)
+  said-or_not = ⊎_elim (λ same. inl (ap (λ t. past.messages ++ t) same))
+      (λ more. inr (ap (λ t. past.messages ++ t) more
+      ∙ sym (append_assoc past.messages (waiting mid.messages) (error_text outcome.fault))
+      ∙ ap (λ (f : Option At). (past.messages ++ waiting mid.messages) ++ error_text f)
+      (fault-at outcome.fault short.memory)))
+      short.messages
 
-  cut : AreMessagesCut filter past.fed (past.messages ++ (waiting reader.held.messages)) outcome.fault
-  cut = record {
-    warnings = past.messages ++ (waiting mid.messages);
-    first = told;
-    whole = ⊎_elim (λ same. inl (ap (λ t. past.messages ++ t) same))
-        (λ more. inr (ap (λ t. past.messages ++ t) more
-        ∙ sym (append_assoc past.messages (waiting mid.messages) (error_text outcome.fault))))
-        short.messages;
-  }
-
-  short-at : is_line line → RunIsOutOfMemory filter limit is_line result reader outcome past
-  short-at at = record {
+  short-at : is_line line → (lines others : List InputLine) → lines_of input ≡ lines ++ others
+      → line ≡ line_reached lines others
+      → IsCutBy (filter.so_far lines) (with_one_more filter lines others)
+      (next_takes_memory filter lines others) mid past
+      → IsMemoryLacking (next_takes_memory filter lines others) mid
+      → RunIsOutOfMemory filter limit is_line input result reader outcome past
+  short-at at lines others first number cut lacking = record {
     memory = short.memory;
     status = short.status;
-    line = inl (subst is_line (sym short.line_is) at);
-    output = still;
-    messages = cut;
-    within = still-few;
-  }
-
-  short-fault : line ≡ line_in result.fault → RunIsOutOfMemory filter limit is_line result reader outcome past
-  short-fault at = record {
-    memory = short.memory;
-    status = short.status;
-    line = inr (short.line_is
-        ∙ at);
-    output = still;
-    messages = cut;
-    within = still-few;
+    made = inl (record {
+      at = subst is_line (sym short.line_is) at;
+      made = record {
+        lines = lines;
+        others = others;
+        first = first;
+        line_is = short.line_is ∙ number;
+        warnings = past.messages ++ waiting mid.messages;
+        cut = subst (λ t. IsCutBetween (filter.so_far lines) (with_one_more filter lines others)
+            (next_takes_memory filter lines others) (past.output ++ t)
+            (past.messages ++ waiting mid.messages))
+            (sym short.output) cut;
+        said = said-or_not;
+      };
+      lacking = ⊎_elim (λ takes. inl takes)
+          (λ failed. inr (⊎_elim
+          (λ output. inl (λ none. output (sym short.output_good ∙ none)))
+          (λ messages. inr (λ none. messages (sym short.messages_good ∙ none))) failed))
+          lacking;
+    });
+    within = subst (λ t. KeepsToLimit limit (past.output ++ t)) (sym short.output) few;
   }
 
 module _ (task : Task) (engine : AnyEngine) (is : IsOf task engine)
     (reader : Reader) (mid : Held) (outcome : Outcome) (past : HandlePast) (at : At)
     (few : KeepsToLimit (limit_for task) (past.output ++ waiting mid.output)) where
   -- a fault of the result whose message couldn't be kept
-  fault-short : (is_line : ℕ → Type 0) (input : List ℕ) (course : Course)
+  fault-hidden : (is_line : ℕ → Type 0) (input : List ℕ) (course : Course)
       → (filter_for task).whole (lines_of input) ≡ course → course.fault ≡ Some at → IsText course mid past
       → IsPutSilently mid reader.held outcome at
-      → AreFirstWarnings (filter_for task) past.fed (past.messages ++ (waiting mid.messages))
-      → RunIsOutOfMemory (filter_for task) (limit_for task) is_line (result_for task input) reader outcome past
-  fault-short is_line input course whole fault text put told =
+      → RunIsOutOfMemory (filter_for task) (limit_for task) is_line input
+      (result_for task input) reader outcome past
+  fault-hidden is_line input course whole fault text put =
       let same : result_of_course course ≡ result_for task input =
       sym (ap result_of_course whole) ∙ result-faulty task input at (ap (λ (c : Course). c.fault) whole ∙ fault) in
-      subst (λ r. RunIsOutOfMemory (filter_for task) (limit_for task) is_line r reader outcome past) same
-      (short-fault (filter_for task) (limit_for task) is_line (result_of_course course) reader mid outcome past at.line
-      (put-silently mid reader.held outcome at put)
-      (record { rest = []; same = text.wrote ∙ sym (append-nil (past.output ++ (waiting mid.output))) }) few told
-      (ap line_in (sym fault)))
+      subst (λ r. RunIsOutOfMemory (filter_for task)
+      (limit_for task) is_line input r reader outcome past) same (record {
+        memory = subst (FaultIs OutOfMemory) (sym put.fault) refl;
+        status = put.status;
+        made = inr (record {
+          faulty = ap (λ (f : Option At). is_some f) fault;
+          line_is = ap line_in put.fault ∙ ap line_in (sym fault);
+          output_is = text.wrote ∙ ap (λ t. past.output ++ t) (sym put.output);
+          messages_are = ap (λ t. t ++ error_text course.fault)
+              (text.reported ∙ ap (λ t. past.messages ++ t) (sym put.messages));
+        });
+        within = subst (λ t. KeepsToLimit (limit_for task) (past.output ++ t)) (sym put.output) few;
+      })
 
-  pub breaks-over : Breaks (engine_filter engine) mid past at → IsPut mid reader.held at (Some outcome)
-      → HasFedBy task reader past (Some outcome)
-  breaks-over (inl ran) put = inl (λ more.
-      let filter = filter_for task in
-      let written : List ℕ = past.output ++ (waiting mid.output) in
-      let rest = ran.first more in
-      let first : Begins (filter.so_far ran.lines).output written =
-      subst (λ (f : Filter). Begins (f.so_far ran.lines).output written) (filter-is task engine is) ran.output in
-      let all : Begins (filter.whole (lines_of (past.fed ++ more))).output (filter.so_far ran.lines).output =
-      subst (λ ls. Begins (filter.whole ls).output (filter.so_far ran.lines).output) (sym rest.1)
-      ((lawful-for task).goes_on ran.lines rest.0) in
-      short-at filter (limit_for task) _ (result_for task (past.fed ++ more)) reader mid outcome past at.line
-      (put-short mid reader.held outcome at ran.fault put)
-      (subst (λ t. Begins t written) (sym (output-for task (past.fed ++ more))) (begins-then _ _ _ all first)) few
-      (subst (λ (f : Filter). AreFirstWarnings f past.fed (past.messages ++ (waiting mid.messages)))
-      (filter-is task engine is) ran.messages)
-      (ran.some, ran.within))
-  breaks-over (inr broken) put =
+  pub breaks-over : (before : List ℕ) → Breaks before (engine_filter engine) mid past at
+      → IsPut mid reader.held at (Some outcome) → HasFedBy before task reader past (Some outcome)
+  breaks-over before (inl short) put =
+      let ran = subst (λ (f : Filter). RunsShort before f mid past at) (filter-is task engine is) short in
+      inl (λ more. short-at (filter_for task) (limit_for task) _ (past.fed ++ more) (result_for task
+      (past.fed ++ more))
+      reader mid outcome past at.line (put-short mid reader.held outcome at ran.fault put) few
+      ran.there ran.lines (ran.line ∷ (ran.first more).0) (ran.first more).1 ran.number
+      ran.cut ran.lacking)
+  breaks-over before (inr broken) put =
       let filter = filter_for task in
       let fault : (filter.so_far broken.lines).fault ≡ Some at =
       subst (λ (f : Filter). (f.so_far broken.lines).fault ≡ Some at) (filter-is task engine is) broken.fault in
@@ -212,11 +232,8 @@ module _ (task : Task) (engine : AnyEngine) (is : IsOf task engine)
       subst (λ (f : Filter). IsText (f.so_far broken.lines) mid past) (filter-is task engine is) broken.text in
       let whole : (more : List ℕ) → filter.whole (lines_of (past.fed ++ more)) ≡ filter.so_far broken.lines = λ more.
       ap filter.whole (broken.first more).1 ∙ (lawful-for task).decided broken.lines (broken.first more).0 at fault in
-      let told : AreFirstWarnings filter past.fed (past.messages ++ (waiting mid.messages)) =
-      warnings-first filter past.fed broken.lines broken.first (past.messages ++ (waiting mid.messages))
-      (record { rest = []; same = text.reported ∙ sym (append-nil (past.messages ++ (waiting mid.messages))) }) in
       ⊎_elim (λ silently. inl (λ more.
-      fault-short _ (past.fed ++ more) (filter.so_far broken.lines) (whole more) fault text silently told))
+      fault-hidden _ (past.fed ++ more) (filter.so_far broken.lines) (whole more) fault text silently))
       (λ down. inr (inr (
         down.status,
         λ more.
@@ -230,26 +247,20 @@ module _ (task : Task) (engine : AnyEngine) (is : IsOf task engine)
   pub fails-over : LineFails (engine_filter engine) mid past at
       → IsPut mid reader.held at (Some outcome)
       → HasEndedBy task reader past (Some outcome)
-  fails-over (inl ran) put =
-      let written : List ℕ = past.output ++ (waiting mid.output) in
-      let output : Begins ((filter_for task).whole (lines_of past.fed)).output written =
-      subst (λ (f : Filter). Begins (f.whole (lines_of past.fed)).output written)
-      (filter-is task engine is) ran.output in
-      inl (short-at (filter_for task) (limit_for task) _ (result_for task past.fed) reader mid outcome past at.line
-      (put-short mid reader.held outcome at ran.ran_out.0 put)
-      (subst (λ t. Begins t written) (sym (output-for task past.fed)) output) few
-      (subst (λ (f : Filter). AreFirstWarnings f past.fed (past.messages ++ (waiting mid.messages)))
-      (filter-is task engine is) ran.messages) ran.ran_out.1)
+  fails-over (inl before) put =
+      let ran = subst (λ (f : Filter). EndsShort f mid past at) (filter-is task engine is) before in
+      inl (short-at (filter_for task) (limit_for task) _ past.fed
+      (result_for task past.fed) reader mid outcome past
+      at.line (put-short mid reader.held outcome at ran.ran_out.0 put) few ran.ran_out.1 ran.lines ran.others
+      ran.first
+      ran.number ran.cut ran.lacking)
   fails-over (inr failed) put =
       let whole = (filter_for task).whole (lines_of past.fed) in
       let same : (engine_filter engine).whole (lines_of past.fed) ≡ whole =
       ap (λ (f : Filter). f.whole (lines_of past.fed)) (filter-is task engine is) in
       let fault : whole.fault ≡ Some at = subst (λ (c : Course). c.fault ≡ Some at) same failed.fault in
       let text : IsText whole mid past = subst (λ (c : Course). IsText c mid past) same failed.text in
-      ⊎_elim (λ silently. inl (fault-short _ past.fed whole refl fault text silently (inr (record {
-        rest = [];
-        same = text.reported ∙ sym (append-nil (past.messages ++ (waiting mid.messages)));
-      }))))
+      ⊎_elim (λ silently. inl (fault-hidden _ past.fed whole refl fault text silently))
       (λ down. inr (inr (subst (λ r. ReaderIsOver (limit_for task) r reader outcome past)
       (result-faulty task past.fed at fault)
       (course-over (limit_for task) whole reader mid outcome past at fault text few down))))
@@ -261,7 +272,7 @@ length-begins : (text first : List ℕ) → Begins text first → length first �
 length-begins text first begins = omega (arith, ap length begins.same, length-append first begins.rest)
 
 -- what some lines make with one more of those that follow, or with the end, stands first in what all of them make
-one_more-first : (filter : Filter) → IsLawful filter → (lines others : List InputLine)
+pub one_more-first : (filter : Filter) → IsLawful filter → (lines others : List InputLine)
     → Begins (filter.whole (lines ++ others)).output (with_one_more filter lines others).output
 one_more-first filter lawful lines [] = record {
   rest = [];
@@ -302,9 +313,10 @@ module _ (task : Task) (reader : Reader) (mid : Held) (outcome : Outcome) (past 
     limited-by : 0 < mid.limit → 0 < limit_for task
     limited-by = subst (λ (n : ℕ). 0 < n) limit
 
-    pub passes-over : IsPastLimit (engine_filter engine) mid past → HasFedBy task reader past (Some outcome)
-    passes-over before =
-        let passes = subst (λ (f : Filter). IsPastLimit f mid past) (filter-is task engine is) before in
+    pub passes-over : (before : List ℕ) → IsPastLimit (engine_filter engine) mid past
+        → HasFedBy before task reader past (Some outcome)
+    passes-over before limited =
+        let passes = subst (λ (f : Filter). IsPastLimit f mid past) (filter-is task engine is) limited in
         inr (inl (λ more. is-over_limit (past.fed ++ more) passes.lines (passes.line ∷ (passes.first more).0)
         (passes.first more).1 (limited-by passes.limited) (omega (arith, passes.within, limit))
         (omega (arith, passes.over, limit)) passes.text))
@@ -316,15 +328,16 @@ module _ (task : Task) (reader : Reader) (mid : Held) (outcome : Outcome) (past 
         (omega (arith, passes.within, limit)) (omega (arith, passes.over, limit)) passes.text))
 
 -- what stopped a run is how it has ended
-pub stops-over : (task : Task) (engine : AnyEngine) → IsOf task engine → (reader : Reader) (mid : Held)
+pub stops-over : (before : List ℕ) (task : Task) (engine : AnyEngine) → IsOf task engine → (reader : Reader)
+    (mid : Held)
     → mid.limit ≡ limit_for task → (outcome : Outcome) (past : HandlePast) (stop : Stop)
-    → RunBreaks (engine_filter engine) mid past stop → EndsRunBy mid reader.held outcome stop
-    → HasFedBy task reader past (Some outcome)
-stops-over task engine is reader mid limit outcome past (Fault at) breaks put =
+    → RunBreaks before (engine_filter engine) mid past stop → EndsRunBy mid reader.held outcome stop
+    → HasFedBy before task reader past (Some outcome)
+stops-over before task engine is reader mid limit outcome past (Fault at) breaks put =
     breaks-over task engine is reader mid outcome past at
-    (subst (λ n. KeepsToLimit n (past.output ++ waiting mid.output)) limit breaks.1) breaks.0 put
-stops-over task engine is reader mid limit outcome past Limit breaks stopped =
-    passes-over task reader mid outcome past stopped engine is limit breaks
+    (subst (λ n. KeepsToLimit n (past.output ++ waiting mid.output)) limit breaks.1) before breaks.0 put
+stops-over before task engine is reader mid limit outcome past Limit breaks stopped =
+    passes-over task reader mid outcome past stopped engine is limit before breaks
 
 pub stops-at_end : (task : Task) (engine : AnyEngine) → IsOf task engine → (reader : Reader) (mid : Held)
     → mid.limit ≡ limit_for task → (outcome : Outcome) (past : HandlePast) (stop : Stop)
@@ -345,48 +358,42 @@ pub passed-over : (task : Task) (before reader : Reader) (outcome : Outcome) (pa
 passed-over task before reader outcome past runs full put =
     let filter = filter_for task in
     let mid = before.held in
-    let ended = ended_lines_of past.fed in
     let going = subst (λ (f : Filter). IsGoing f (shows_of before.engine) mid past)
     (filter-is task before.engine runs.is_of) runs.going in
     let at : At = record { line = mid.number + 1; fault = InputTooLong } in
     let same : at ≡ too_long_after past.fed =
     ap (λ (n : ℕ). let a : At = record { line = n + 1; fault = InputTooLong } in a) going.number in
-    let all = all-cut filter (shows_of before.engine) mid past going in
-    let first : Begins (filter.whole (lines_of past.fed)).output (filter.so_far ended).output =
-    subst (λ ls. Begins (filter.whole ls).output (filter.so_far ended).output) (sym all)
-    ((lawful-for task).goes_on ended (lines_of going.tail)) in
-    let written : List ℕ = past.output ++ waiting mid.output in
-    let told : AreFirstWarnings filter past.fed (past.messages ++ waiting mid.messages) =
-    inl (record {
-      lines = ended;
-      others = lines_of going.tail;
-      first = all;
-      begins = record {
-        rest = [];
-        same = going.text.reported ∙ sym (append-nil (past.messages ++ waiting mid.messages));
-      };
-    }) in
-    let few : KeepsToLimit (limit_for task) written = λ limited.
+    let few : KeepsToLimit (limit_for task) (past.output ++ waiting mid.output) = λ limited.
     let before : 0 < mid.limit = subst (λ (n : ℕ). 0 < n) (sym runs.limit) limited in
     omega (arith, going.left before, runs.limit, ap length going.text.wrote) in
     ⊎_elim
-    (λ silently. inl (short-at filter (limit_for task) (λ line. line ≡ length ended + 1) (result_for task past.fed)
-    reader mid outcome past at.line (put-silently mid reader.held outcome at silently)
-    (subst (λ t. Begins t written) (sym (output-for task past.fed))
-    (begins-then _ _ _ first (record { rest = []; same = going.text.wrote ∙ sym (append-nil written) })))
-    few told (ap (λ (n : ℕ). n + 1) going.number)))
-    (λ down. inr (record {
+    (λ silently. record {
+      full = full;
+      status = silently.status;
+      good = going.good;
+      output = going.text.wrote ∙ ap (λ t. past.output ++ t) (sym silently.output);
+      said = inr (
+        silently.fault
+            ∙ ap (λ (n : ℕ). let a : At = record { line = n + 1; fault = OutOfMemory } in Some a)
+            going.number,
+        going.text.reported ∙ ap (λ t. past.messages ++ t) (sym silently.messages),
+      );
+      within = subst (λ t. KeepsToLimit (limit_for task) (past.output ++ t)) (sym silently.output) few;
+    })
+    (λ down. record {
       full = full;
       status = down.status;
-      fault = down.fault ∙ ap (λ (a : At). Some a) same;
       good = going.good;
       output = going.text.wrote ∙ ap (λ t. past.output ++ t) (sym down.output);
-      messages = ap (λ t. t ++ error_text outcome.fault) going.text.reported
-          ∙ ap (λ f. (past.messages ++ waiting mid.messages) ++ error_text f) down.fault
-          ∙ append_assoc past.messages (waiting mid.messages) (error_text (Some at))
-          ∙ ap (λ t. past.messages ++ t) (sym down.messages);
+      said = inl (
+        down.fault ∙ ap (λ (a : At). Some a) same,
+        ap (λ t. t ++ error_text (Some (too_long_after past.fed))) going.text.reported
+            ∙ ap (λ (a : At). (past.messages ++ waiting mid.messages) ++ error_text (Some a)) (sym same)
+            ∙ append_assoc past.messages (waiting mid.messages) (error_text (Some at))
+            ∙ ap (λ t. past.messages ++ t) (sym down.messages),
+      );
       within = subst (λ t. KeepsToLimit (limit_for task) (past.output ++ t)) (sym down.output) few;
-    }))
+    })
     put
 
 -- ---- the end

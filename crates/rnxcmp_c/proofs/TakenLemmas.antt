@@ -1,10 +1,15 @@
 -- What was taken from a handle was kept before, and how its run stands doesn't change by that.
-use Rattle.std.proofs.Common.{◌≡◌, inl, inr, ℕ, List, ◌++◌, Option, Some, None, sym, ap, ◌∙◌, subst, append_assoc}
+use Rattle.std.proofs.Common.{◌≡◌, ◌⊎◌, ⊎_elim, inl, inr, ℕ, List, ◌++◌, Option, Some, None, sym, ap, ◌∙◌}
+use Rattle.std.proofs.Common.{subst, append_assoc}
+use Rattle.crx_faults.specs.declared.fault.Fault.TheVariants.{OutOfMemory}
+use Rattle.crx_faults.specs.meaning.Seen.{ended_lines_of}
 use Rattle.crx_runs.specs.declared.outcome.Outcome.{Outcome}
-use Rattle.crx_runs.specs.meaning.Results.{Begins}
-use Rattle.rnxcmp_c.specs.Handles.{AreMessagesCut, ReaderStands, StandsBy, filter_for}
+use Rattle.crx_runs.specs.meaning.Messages.{error_text, notices_text}
+use Rattle.rnxcmp_c.specs.Handles.{IsSaid, RanOutBy, ReaderStands, StandsBy, too_long_after}
 use Rattle.rnxcmp_c.specs.meaning.Handles.{Task, HandlePast, limit_for, result_for, taken_with}
-use Rattle.rnxcmp_c.specs.meaning.Answers.{KeepsToLimit}
+use Rattle.rnxcmp_c.specs.meaning.Handles.{HidesFault, IsCutBetween, IsLineReached, fault_message, filter_for}
+use Rattle.rnxcmp_c.specs.meaning.Handles.{next_takes_memory, with_one_more}
+use Rattle.rnxcmp_c.specs.meaning.Answers.{KeepsToLimit, line_in}
 use Rattle.rnxcmp_c.specs.Waiting.{waiting}
 use Rattle.rnxcmp_c.specs.declared.pending.Pending.{Pending}
 use Rattle.rnxcmp_c.specs.declared.reader.Reader.{Reader}
@@ -15,7 +20,9 @@ regrouped taken given kept before is = append_assoc taken given kept ∙ ap (λ 
 
 module _ (task : Task) (old : Reader) (past : HandlePast) (output messages : Pending) (text told : List ℕ)
     (wrote : waiting old.held.output ≡ text ++ waiting output)
-    (reported : waiting old.held.messages ≡ told ++ waiting messages) where
+    (reported : waiting old.held.messages ≡ told ++ waiting messages)
+    (output_good : output.failures ≡ old.held.output.failures)
+    (messages_good : messages.failures ≡ old.held.messages.failures) where
   abbrev new : Reader
   new = record old { held = record old.held { output = output; messages = messages } }
 
@@ -27,6 +34,45 @@ module _ (task : Task) (old : Reader) (past : HandlePast) (output messages : Pen
 
   same-messages : past.messages ++ waiting old.held.messages ≡ then.messages ++ waiting messages
   same-messages = sym (regrouped past.messages told (waiting messages) (waiting old.held.messages) reported)
+
+  ran-out : (outcome : Outcome)
+      → RanOutBy (filter_for task) (IsLineReached past.fed) past.fed old (line_in outcome.fault) past
+      → RanOutBy (filter_for task) (IsLineReached past.fed) past.fed new (line_in outcome.fault) then
+  ran-out outcome by = record {
+    at = by.at;
+    made = record {
+      lines = by.made.lines;
+      others = by.made.others;
+      first = by.made.first;
+      line_is = by.made.line_is;
+      warnings = by.made.warnings;
+      cut = subst (λ t. IsCutBetween ((filter_for task).so_far by.made.lines)
+          (with_one_more (filter_for task) by.made.lines by.made.others)
+          (next_takes_memory (filter_for task) by.made.lines by.made.others) t by.made.warnings) same-output
+          by.made.cut;
+      said = subst (λ t. (t ≡ by.made.warnings)
+          ⊎ (t ≡ by.made.warnings ++ fault_message
+          (line_in outcome.fault) OutOfMemory)) same-messages by.made.said;
+    };
+    lacking = ⊎_elim (λ takes. inl takes)
+        (λ failed. inr (⊎_elim
+        (λ few. inl (λ none. few (sym output_good ∙ none)))
+        (λ few. inr (λ none. few (sym messages_good ∙ none))) failed))
+        by.lacking;
+  }
+
+  hidden : (outcome : Outcome)
+      → HidesFault (result_for task past.fed) (line_in outcome.fault) (past.output ++ waiting old.held.output)
+      (past.messages ++ waiting old.held.messages)
+      → HidesFault (result_for task past.fed) (line_in outcome.fault) (then.output ++ waiting output)
+      (then.messages ++ waiting messages)
+  hidden outcome hides = record {
+    faulty = hides.faulty;
+    line_is = hides.line_is;
+    output_is = hides.output_is ∙ same-output;
+    messages_are = hides.messages_are
+        ∙ ap (λ t. t ++ error_text (result_for task past.fed).fault) same-messages;
+  }
 
   stands-by : (outcome : Option Outcome) → StandsBy task old past outcome → StandsBy task new then outcome
   stands-by None runs = record {
@@ -50,6 +96,10 @@ module _ (task : Task) (old : Reader) (past : HandlePast) (output messages : Pen
       cut_ended = runs.going.cut_ended;
       counted = runs.going.counted;
       left = runs.going.left;
+      unfailed = record {
+        output = output_good ∙ runs.going.unfailed.output;
+        messages = messages_good ∙ runs.going.unfailed.messages;
+      };
     };
     counted = runs.counted;
     within = runs.within;
@@ -57,9 +107,7 @@ module _ (task : Task) (old : Reader) (past : HandlePast) (output messages : Pen
   stands-by (Some outcome) (inl ran) = inl (record {
     memory = ran.memory;
     status = ran.status;
-    line = ran.line;
-    output = subst (Begins (result_for task past.fed).output) same-output ran.output;
-    messages = subst (λ t. AreMessagesCut (filter_for task) past.fed t outcome.fault) same-messages ran.messages;
+    made = ⊎_elim (λ by. inl (ran-out outcome by)) (λ hides. inr (hidden outcome hides)) ran.made;
     within = subst (KeepsToLimit (limit_for task)) same-output ran.within;
   })
   stands-by (Some outcome) (inr (inl over)) = inr (inl (record {
@@ -78,10 +126,12 @@ module _ (task : Task) (old : Reader) (past : HandlePast) (output messages : Pen
   stands-by (Some outcome) (inr (inr (inl long))) = inr (inr (inl (record {
     full = long.full;
     status = long.status;
-    fault = long.fault;
     good = long.good;
     output = long.output ∙ same-output;
-    messages = long.messages ∙ same-messages;
+    said = subst (λ t. IsSaid (too_long_after past.fed)
+        (notices_text ((filter_for task).so_far
+        (ended_lines_of past.fed)).warnings) t outcome.fault) same-messages
+        long.said;
     within = subst (KeepsToLimit (limit_for task)) same-output long.within;
   })))
   stands-by (Some outcome) (inr (inr (inr over))) = inr (inr (inr (record {

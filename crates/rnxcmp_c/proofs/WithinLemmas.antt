@@ -1,6 +1,6 @@
 -- The output stays within its limit, or what a line made is let go of.
 use Rattle.std.proofs.Common.{◌≡◌, ℕ, ◌<◌, ◌≤◌, ◌++◌, length, take, sym, ap, ◌∙◌, subst, arith, length-append}
-use Rattle.std.proofs.Common.{⊎_elim, Result, Ok, Err, IfErr, IsOk, OnOk}
+use Rattle.std.proofs.Common.{⊎_elim, Bool, Result, Ok, Err, IfErr, IsOk, OnOk}
 use Rattle.std.proofs.lemmas.List.{take_at}
 use Rattle.std.proofs.lemmas.Result.{IfErr-at_err}
 use Rattle.crx_faults.specs.declared.fault.At.{At}
@@ -73,23 +73,33 @@ module _ (before after : Course) (shown : Type 0) (old mid new : Held)
   }
 
 -- where memory ran out at a line, or a fault ended the run there
-module _ (number : ℕ) (before after : Course) (old mid new : Held) (at : At)
-    (stopped : LineStops number before after old.output mid.output old.messages mid.messages at) where
+module _ (number : ℕ) (takes : Bool) (before after : Course) (old mid new : Held) (at : At)
+    (stopped : LineStops number takes before after old.output mid.output old.messages mid.messages at) where
   pub more-output-stopped : length (waiting old.output) ≤ length (waiting mid.output)
   more-output-stopped = ⊎_elim
-      (λ short. omega (arith, ap length short.1.wrote, length-append (waiting old.output) short.1.text))
+      (λ short. omega (
+        arith,
+        ap length short.1.output_cut.wrote,
+        length-append
+            (waiting old.output) short.1.output_cut.text,
+      ))
       (λ ends. omega (arith, ap length ends.wrote)) stopped
 
   pub more-messages-stopped : length (waiting old.messages) ≤ length (waiting mid.messages)
   more-messages-stopped = ⊎_elim
-      (λ short. omega (arith, ap length short.2.reported, length-append (waiting old.messages) short.2.text))
+      (λ short. omega (
+        arith,
+        ap length short.1.messages_cut.reported,
+        length-append
+            (waiting old.messages) short.1.messages_cut.text,
+      ))
       (λ ends. omega (arith, ap length ends.reported, length-append (waiting old.messages) (notices_text ends.notices)))
       stopped
 
   pub stops-within : (mark : ℕ) → mark ≡ length (waiting old.output) → mid.limit ≡ old.limit → mid.left ≡ old.left
-      → StaysWithin mark mid new → StepStops number before after old new (Fault at)
+      → StaysWithin mark mid new → StepStops number takes before after old new (Fault at)
   stops-within mark marked limit left stays = (
-    subst (λ (h : Held). LineStops number before after old.output h.output old.messages h.messages at)
+    subst (λ (h : Held). LineStops number takes before after old.output h.output old.messages h.messages at)
         (sym stays.same) stopped,
     record {
       limit = ap (λ (h : Held). h.limit) stays.same ∙ limit;
@@ -111,40 +121,52 @@ module _ (number : ℕ) (before after : Course) (old mid new : Held) (at : At)
         limited = subst (λ (n : ℕ). 0 < n) limit cut.limited;
         limit = cut.limit ∙ limit;
         over =
-            let wrote = length-append (waiting old.output) short.1.text in
+            let wrote = length-append (waiting old.output) short.1.output_cut.text in
             ⊎_elim
-            (λ none. omega (arith, cut.over, marked, ap length short.1.wrote, wrote, ap length none))
+            (λ none. omega (
+              arith,
+              cut.over,
+              marked,
+              ap length short.1.output_cut.wrote,
+              wrote,
+              ap length
+                  none,
+            ))
             (λ begins. omega (
               arith,
               cut.over,
               marked,
               left,
-              ap length short.1.wrote,
+              ap length short.1.output_cut.wrote,
               wrote,
               ap length begins.same,
-              length-append (before.output ++ short.1.text) begins.rest,
-              length-append before.output short.1.text,
-            )) short.1.first;
-        output_is = cut.output_is ∙ ap (take mark) short.1.wrote
-            ∙ take_at (waiting old.output) short.1.text mark (sym marked);
-        messages_are = cut.messages_are ∙ ap (take messages) short.2.reported
-            ∙ take_at (waiting old.messages) short.2.text messages (sym told);
+              length-append (before.output ++ short.1.output_cut.text) begins.rest,
+              length-append before.output short.1.output_cut.text,
+            )) short.1.output_cut.first;
+        output_is = cut.output_is ∙ ap (take mark) short.1.output_cut.wrote
+            ∙ take_at (waiting old.output) short.1.output_cut.text mark (sym marked);
+        messages_are = cut.messages_are ∙ ap (take messages) short.1.messages_cut.reported
+            ∙ take_at (waiting old.messages) short.1.messages_cut.text messages (sym told);
       })
       (λ ends. absurd (omega (arith, cut.over, marked, ap length ends.wrote))) stopped
 
 -- whatever a step came to, its output was counted after a mark
-module _ (number : ℕ) (before after : Course) (shown : Type 0) (old mid : Held) where
+module _ (number : ℕ) (takes : Bool) (before after : Course) (shown : Type 0) (old mid : Held) where
   pub more-output-either : {T : Type 0} (taken : Result T At) → OnOk taken (MovesOn before after shown old mid)
-      → IfErr taken (λ at. LineStops number before after old.output mid.output old.messages mid.messages at)
+      → IfErr taken (λ at. LineStops number takes before after old.output mid.output old.messages
+      mid.messages at)
       → length (waiting old.output) ≤ length (waiting mid.output)
   more-output-either (Ok done) moved stopped = more-output before after shown old mid mid moved
-  more-output-either (Err at) moved stopped = more-output-stopped number before after old mid mid at stopped
+  more-output-either (Err at) moved stopped = more-output-stopped number takes before after old mid mid at
+      stopped
 
   pub more-messages-either : {T : Type 0} (taken : Result T At) → OnOk taken (MovesOn before after shown old mid)
-      → IfErr taken (λ at. LineStops number before after old.output mid.output old.messages mid.messages at)
+      → IfErr taken (λ at. LineStops number takes before after old.output mid.output old.messages
+      mid.messages at)
       → length (waiting old.messages) ≤ length (waiting mid.messages)
   more-messages-either (Ok done) moved stopped = more-messages before after shown old mid mid moved
-  more-messages-either (Err at) moved stopped = more-messages-stopped number before after old mid mid at stopped
+  more-messages-either (Err at) moved stopped = more-messages-stopped number takes before after old mid mid
+      at stopped
 
   module _ (new : Held) (mark : Mark) (marked : mark.output ≡ length (waiting old.output))
       (told : mark.messages ≡ length (waiting old.messages)) (limit : mid.limit ≡ old.limit)
@@ -156,14 +178,18 @@ module _ (number : ℕ) (before after : Course) (shown : Type 0) (old mid : Held
     step-stays (Err at) moved good stays = absurd (cc)
 
     pub step-stops : {T : Type 0} (taken : Result T At) → OnOk taken (MovesOn before after shown old mid)
-        → IfErr taken (λ at. LineStops number before after old.output mid.output old.messages mid.messages at)
-        → (stop : Stop) → StopsCounted taken mark mid new stop → StepStops number before after old new stop
+        → IfErr taken (λ at. LineStops number takes before after old.output mid.output old.messages
+        mid.messages at)
+        → (stop : Stop) → StopsCounted taken mark mid new stop
+        → StepStops number takes before after old new stop
     step-stops (Ok done) moved stopped (Fault at) stays = absurd (ok-not-err done at stays.0)
     step-stops (Ok done) moved stopped Limit cut =
         passes-limit before after shown old mid new moved mark.output mark.messages marked told limit left cut
     step-stops (Err other) moved stopped (Fault at) stays =
-        stops-within number before after old mid new at
-        (IfErr-at_err (λ e. LineStops number before after old.output mid.output old.messages mid.messages e)
+        stops-within number takes before after old mid new at
+        (IfErr-at_err (λ e. LineStops number takes before after old.output mid.output old.messages
+        mid.messages e)
         stays.0 stopped) mark.output marked limit left stays.1
     step-stops (Err other) moved stopped Limit cut =
-        stops-over number before after old mid new other stopped mark.output mark.messages marked told limit left cut
+        stops-over number takes before after old mid new other stopped mark.output mark.messages marked told
+        limit left cut

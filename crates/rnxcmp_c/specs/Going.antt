@@ -1,8 +1,11 @@
 -- A run between two calls, by the bytes that were fed and the texts that were taken.
-use Rattle.std.specs.Prelude.{◌≡◌, ◌⊎◌, ◌<◌, ◌≤◌, ℕ, ◌+◌, ◌-◌, Bool, ◌||◌, List, [], ◌∷◌, ◌++◌, length, take, Some, None}
+use Rattle.std.specs.Prelude.{◌≡◌, ◌⊎◌, ◌<◌, ◌≤◌, ℕ, ◌+◌, Bool, true, ◌||◌, List, [], ◌∷◌, ◌++◌, length, take}
+use Rattle.std.specs.Prelude.{Some, None}
+use Rattle.std.specs.Prelude.{is_some}
 use Rattle.crx_faults.specs.meaning.Lines.{InputLine, line_of, lines_of}
 use Rattle.crx_faults.specs.meaning.Seen.{ended_lines_of}
 use Rattle.crx_lines.specs.Reading.{HasNoFeed}
+use Rattle.crx_lines.specs.meaning.Devices.{one_more}
 use Rattle.crx_faults.specs.declared.fault.At.{At}
 use Rattle.crx_faults.specs.declared.fault.Fault.TheVariants.{OutOfMemory}
 use Rattle.crx_runs.specs.Engines.{Awaited}
@@ -15,9 +18,11 @@ use Rattle.rnxcmp_c.specs.Waiting.{waiting}
 use Rattle.rnxcmp_c.specs.declared.pending.Pending.{Pending}
 use Rattle.rnxcmp_c.specs.declared.held.Held.{Held}
 use Rattle.rnxcmp_c.specs.declared.limits.TheConstants.{LINE_ROOM, READY_LIMIT}
-use Rattle.rnxcmp_c.specs.Holding.{ready_in}
+use Rattle.rnxcmp_c.specs.Holding.{AreUnfailed, IsMemoryLacking, ready_in}
 use Rattle.rnxcmp_c.specs.meaning.Answers.{KeepsToLimit}
-use Rattle.rnxcmp_c.specs.meaning.Handles.{HandlePast}
+use Rattle.rnxcmp_c.specs.meaning.Handles.{HandlePast, IsCutBetween, IsLineEnded, line_reached}
+use Rattle.rnxcmp_c.specs.meaning.Handles.{next_takes_memory}
+use Rattle.rnxcmp_c.specs.meaning.Handles.{with_one_more}
 use Rattle.rnxcmp_c.specs.declared.stop.Stop.{Stop}
 use Rattle.rnxcmp_c.specs.declared.stop.Stop.TheVariants.{Fault, Limit}
 
@@ -38,6 +43,8 @@ pub record IsKept (before after : Course)
   pub warnings_are : after.warnings ≡ before.warnings ++ notices
   pub wrote : waiting then_output ≡ waiting output ++ text
   pub reported : waiting then_messages ≡ waiting messages ++ notices_text notices
+  pub output_good : then_output.failures ≡ output.failures
+  pub messages_good : then_messages.failures ≡ messages.failures
   pub flag : warned ≡ are_some notices
 
 -- the same of what is held between two calls
@@ -72,19 +79,38 @@ pub record AreCutShort (before after : Course) (messages then_messages : Pending
   pub reported : waiting then_messages ≡ waiting messages ++ text
   pub first : (text ≡ []) ⊎ Begins (notices_text after.warnings) (notices_text before.warnings ++ text)
 
+-- a text was to become longer by what stands between two others, and it failed to take all of that
+pub record FailsToTake (before after : List ℕ) (old new : Pending) : Type 0 where
+  pub failed : new.failures ≡ one_more old.failures
+  pub short : length (waiting new) + length before < length (waiting old) + length after
+
+-- the line takes memory, or one of the texts failed to take all of it
+abbrev pub IsMemoryAsked : Bool → Course → Course → Pending → Pending → Pending → Pending → Type 0
+IsMemoryAsked takes before after output then_output messages then_messages = (takes ≡ true)
+    ⊎ (FailsToTake before.output after.output output then_output
+    ⊎ FailsToTake (notices_text before.warnings) (notices_text after.warnings) messages then_messages)
+
+-- a line, or the end, was taken in part
+pub record StopsShort (takes : Bool) (before after : Course)
+    (output then_output messages then_messages : Pending)
+    : Type 0 where
+  pub output_cut : IsCutShort before after output then_output
+  pub messages_cut : AreCutShort before after messages then_messages
+  pub asked : IsMemoryAsked takes before after output then_output messages then_messages
+
 -- memory ran out, or a fault ended the run
-abbrev pub LineStops : ℕ → Course → Course → Pending → Pending → Pending → Pending → At → Type 0
-LineStops number before after output then_output messages then_messages at =
-    (RanOutAt number at × IsCutShort before after output then_output × AreCutShort before after messages then_messages)
+abbrev pub LineStops : ℕ → Bool → Course → Course → Pending → Pending → Pending → Pending → At → Type 0
+LineStops number takes before after output then_output messages then_messages at =
+    (RanOutAt number at × StopsShort takes before after output then_output messages then_messages)
     ⊎ EndsThere before after output then_output messages then_messages at
 
-abbrev pub StopsBy : ℕ → Course → Course → Pending → Pending → Pending → Pending → Halt → Type 0
-StopsBy number before after output then_output messages then_messages (Faulty at) =
-    LineStops number before after output then_output messages then_messages at
-StopsBy number before after output then_output messages then_messages Unwritten =
-    IsCutShort before after output then_output × AreCutShort before after messages then_messages
-StopsBy number before after output then_output messages then_messages Unreported =
-    IsCutShort before after output then_output × AreCutShort before after messages then_messages
+abbrev pub StopsBy : ℕ → Bool → Course → Course → Pending → Pending → Pending → Pending → Halt → Type 0
+StopsBy number takes before after output then_output messages then_messages (Faulty at) =
+    LineStops number takes before after output then_output messages then_messages at
+StopsBy number takes before after output then_output messages then_messages Unwritten =
+    StopsShort takes before after output then_output messages then_messages
+StopsBy number takes before after output then_output messages then_messages Unreported =
+    StopsShort takes before after output then_output messages then_messages
 
 -- ---- the limit of the output
 
@@ -108,17 +134,13 @@ pub record AddsWithin (old new : Held) : Type 0 where
   pub left : 0 < old.limit → length (waiting new.output) ≤ old.left + length (waiting old.output)
 
 -- what ended the run: a fault, or memory that ran out, and the output stays within its limit; or that limit
-abbrev pub StepStops : ℕ → Course → Course → Held → Held → Stop → Type 0
-StepStops number before after old new (Fault at) =
-    LineStops number before after old.output new.output old.messages new.messages at × AddsWithin old new
-StepStops number before after old new Limit = PassesLimit before after old new
+abbrev pub StepStops : ℕ → Bool → Course → Course → Held → Held → Stop → Type 0
+StepStops number takes before after old new (Fault at) =
+    LineStops number takes before after old.output new.output old.messages new.messages at
+    × AddsWithin old new
+StepStops number takes before after old new Limit = PassesLimit before after old new
 
 -- ---- a run
-
--- what some lines make with the first of those that follow, or with the end where none does
-abbrev pub with_one_more : Filter → List InputLine → List InputLine → Course
-with_one_more filter lines [] = filter.whole lines
-with_one_more filter lines (line ∷ more) = filter.so_far (with_next lines line)
 
 -- of so many bytes some were taken: at least one where little enough waited, and not all only where much waits now
 pub record IsTaken (old new : Held) (length count : ℕ) : Type 0 where
@@ -126,13 +148,6 @@ pub record IsTaken (old new : Held) (length count : ℕ) : Type 0 where
   pub some : 0 < length → ready_in old < READY_LIMIT → 0 < count
   pub all : count < length → READY_LIMIT ≤ ready_in new
   pub still : READY_LIMIT ≤ ready_in old → (count ≡ 0) × (new ≡ old)
-
--- so many bytes were taken: without the last one of them less than READY_LIMIT was ready, which is what the lines make
--- whose LF was fed, but for what was taken of it
-pub record StopsSoon (filter : Filter) (past : HandlePast) (bytes : List ℕ) (count : ℕ) : Type 0 where
-  pub low : length (filter.so_far (ended_lines_of (past.fed ++ take (count - 1) bytes))).output
-      + length (notices_text (filter.so_far (ended_lines_of (past.fed ++ take (count - 1) bytes))).warnings)
-      < (length past.output + length past.messages) + READY_LIMIT
 
 -- a text was written and reported: what was taken of it, and then what is kept
 pub record IsText (course : Course) (held : Held) (past : HandlePast) : Type 0 where
@@ -156,6 +171,7 @@ pub record IsGoing (filter : Filter)
       → ended_lines_of (past.fed ++ more) ≡ ended_lines_of past.fed ++ ended_lines_of (tail ++ more)
   pub counted : held.number + length tail ≤ length past.fed
   pub left : 0 < held.limit → held.left + length (filter.so_far (ended_lines_of past.fed)).output ≡ held.limit
+  pub unfailed : AreUnfailed held
 
 -- a fault of some of the first lines ended the run, whatever follows
 pub record IsBroken (filter : Filter) (held : Held) (past : HandlePast) (at : At) : Type 0 where
@@ -164,33 +180,30 @@ pub record IsBroken (filter : Filter) (held : Held) (past : HandlePast) (at : At
   pub fault : (filter.so_far lines).fault ≡ Some at
   pub text : IsText (filter.so_far lines) held past
 
--- a text is a prefix of the warnings of some of the first lines of an input
-pub record AreWarningsSoFar (filter : Filter) (fed text : List ℕ) : Type 0 where
-  pub lines : List InputLine
-  pub others : List InputLine
-  pub first : lines_of fed ≡ lines ++ others
-  pub begins : Begins (notices_text (filter.so_far lines).warnings) text
+-- memory ran out between what is made before a line or the end and with it: what was taken of both texts and
+-- then what is kept is a part of that
+abbrev pub IsCutBy : Course → Course → Bool → Held → HandlePast → Type 0
+IsCutBy before after takes held past =
+    IsCutBetween before after takes (past.output ++ waiting held.output)
+    (past.messages ++ waiting held.messages)
 
--- or of those of the whole input
-abbrev pub AreFirstWarnings : Filter → List ℕ → List ℕ → Type 0
-AreFirstWarnings filter fed text = AreWarningsSoFar filter fed text
-    ⊎ Begins (notices_text (filter.whole (lines_of fed)).warnings) text
-
--- memory ran out in a line, at the latest in the one after those whose LF was fed. What was taken of the output and
--- then what is kept is a prefix of what some of the first lines make, whatever follows. What was taken of the messages
--- and then what is kept begins with warnings of some of the first lines, or of all of them and the end
-pub record RunsShort (filter : Filter) (held : Held) (past : HandlePast) (at : At) : Type 0 where
+-- memory ran out in a line whose LF came after some bytes, the one that comes after these lines, whatever
+-- follows
+pub record RunsShort (before : List ℕ) (filter : Filter) (held : Held) (past : HandlePast)
+    (at : At) : Type 0 where
   pub fault : at.fault ≡ OutOfMemory
-  pub some : 0 < at.line
-  pub within : at.line ≤ length (ended_lines_of past.fed) + 1
+  pub there : IsLineEnded before past.fed at.line
   pub lines : List InputLine
-  pub first : (more : List ℕ) → (rest : List InputLine) × (lines_of (past.fed ++ more) ≡ lines ++ rest)
-  pub output : Begins (filter.so_far lines).output (past.output ++ waiting held.output)
-  pub messages : AreFirstWarnings filter past.fed (past.messages ++ waiting held.messages)
+  pub line : InputLine
+  pub first : (more : List ℕ) → (rest : List InputLine) × (lines_of (past.fed ++ more) ≡ lines ++ line ∷ rest)
+  pub number : at.line ≡ length lines + 1
+  pub cut : IsCutBy (filter.so_far lines) (filter.so_far (with_next lines line))
+      (is_some (filter.memory_after lines line)) held past
+  pub lacking : IsMemoryLacking (is_some (filter.memory_after lines line)) held
 
 -- memory ran out, or a fault ended the run
-abbrev pub Breaks : Filter → Held → HandlePast → At → Type 0
-Breaks filter held past at = RunsShort filter held past at ⊎ IsBroken filter held past at
+abbrev pub Breaks : List ℕ → Filter → Held → HandlePast → At → Type 0
+Breaks before filter held past at = RunsShort before filter held past at ⊎ IsBroken filter held past at
 
 -- the output of some of the first lines is within its limit, and with one line more it isn't, whatever follows; what was
 -- taken and then what is kept is what those first ones make
@@ -208,9 +221,9 @@ abbrev pub IsKeptWithin : Held → HandlePast → Type 0
 IsKeptWithin held past = KeepsToLimit held.limit (past.output ++ waiting held.output)
 
 -- what ended the run: memory or a fault, and the output is within its limit; or that limit
-abbrev pub RunBreaks : Filter → Held → HandlePast → Stop → Type 0
-RunBreaks filter held past (Fault at) = Breaks filter held past at × IsKeptWithin held past
-RunBreaks filter held past Limit = IsPastLimit filter held past
+abbrev pub RunBreaks : List ℕ → Filter → Held → HandlePast → Stop → Type 0
+RunBreaks before filter held past (Fault at) = Breaks before filter held past at × IsKeptWithin held past
+RunBreaks before filter held past Limit = IsPastLimit filter held past
 
 -- ---- the end
 
@@ -226,12 +239,17 @@ pub record IsFailed (course : Course) (held : Held) (past : HandlePast) (at : At
   pub fault : course.fault ≡ Some at
   pub text : IsText course held past
 
--- memory ran out at the last line, or at the end after it. What was taken of the output and then what is kept is a
--- prefix of it, and the same of the warnings
+-- memory ran out at the last line, or at the end after it
 pub record EndsShort (filter : Filter) (held : Held) (past : HandlePast) (at : At) : Type 0 where
   pub ran_out : RanOutAt (length (lines_of past.fed)) at
-  pub output : Begins (filter.whole (lines_of past.fed)).output (past.output ++ waiting held.output)
-  pub messages : AreFirstWarnings filter past.fed (past.messages ++ waiting held.messages)
+  pub lines : List InputLine
+  pub others : List InputLine
+  pub first : lines_of past.fed ≡ lines ++ others
+  pub number : at.line ≡ line_reached lines others
+  pub cut : IsCutBy (filter.so_far lines) (with_one_more filter lines others)
+      (next_takes_memory filter lines others) held
+      past
+  pub lacking : IsMemoryLacking (next_takes_memory filter lines others) held
 
 -- the output of some of the first lines is within its limit, and with one line more, or the end, it isn't
 pub record EndsPastLimit (filter : Filter) (held : Held) (past : HandlePast) : Type 0 where

@@ -1,12 +1,13 @@
 -- A handle between two calls.
-use Rattle.std.specs.Prelude.{is_some, true, ◌≡◌, ◌⊎◌, ◌<◌, ◌≤◌, ⊤, ℕ, ◌+◌, ◌-◌, Bool, List, [], ◌++◌, length, take, Option, Some, None}
+use Rattle.std.specs.Prelude.{is_some, true, ◌≡◌, ◌⊎◌, ◌<◌, ◌≤◌, ⊤, ℕ, ◌+◌, Bool, List, [], ◌++◌, length}
+use Rattle.std.specs.Prelude.{take, Option, Some, None}
 use Rattle.crx_faults.specs.meaning.Lines.{InputLine, lines_of}
 use Rattle.crx_faults.specs.meaning.Seen.{ended_lines_of}
 use Rattle.crx_faults.specs.declared.limits.TheConstants.{INPUT_LIMIT}
 use Rattle.crx_faults.specs.declared.fault.At.{At}
 use Rattle.crx_faults.specs.declared.fault.Fault.TheVariants.{InputTooLong, OutOfMemory}
 use Rattle.crx_runs.specs.meaning.Filters.{Filter}
-use Rattle.crx_runs.specs.meaning.Results.{Begins, FilterResult, good_status}
+use Rattle.crx_runs.specs.meaning.Results.{FilterResult, good_status}
 use Rattle.crx_runs.specs.meaning.Messages.{error_text, notices_text}
 use Rattle.crx_reading.specs.meaning.Standard.{report_status}
 use Rattle.crx_reading.specs.meaning.Directions.{check_filter}
@@ -20,9 +21,12 @@ use Rattle.crx_filter.specs.ExpanderState.{expander_state}
 use Rattle.crx_reading.specs.ExpansionByLine.{expansion, expansion_seen}
 use Rattle.crx_runs.specs.declared.outcome.Outcome.{Outcome}
 use Rattle.crx_runs.specs.meaning.Runs.{FaultIs}
-use Rattle.rnxcmp_c.specs.Going.{AreFirstWarnings, IsGoing, StopsSoon, with_one_more}
-use Rattle.rnxcmp_c.specs.meaning.Handles.{HandlePast, IsMisused, Task, Compact, Expand, Check, fed_with, limit_for}
-use Rattle.rnxcmp_c.specs.meaning.Handles.{result_for}
+use Rattle.rnxcmp_c.specs.Going.{IsGoing}
+use Rattle.rnxcmp_c.specs.meaning.Handles.{IsLastLine, IsLineEnded, IsLineReached}
+use Rattle.rnxcmp_c.specs.meaning.Handles.{HandlePast, HidesFault, IsMisused, StopsForMemory, StopsSoon, Task}
+use Rattle.rnxcmp_c.specs.meaning.Handles.{Compact, Expand}
+use Rattle.rnxcmp_c.specs.meaning.Handles.{Check, allowed_after, fed_with, filter_for, limit_for, result_for}
+use Rattle.rnxcmp_c.specs.meaning.Handles.{next_takes_memory, with_one_more}
 use Rattle.rnxcmp_c.specs.meaning.Answers.{KeepsToLimit, fault_code_in, line_in}
 use Rattle.rnxcmp_c.specs.declared.answer.Answer.{Answer}
 use Rattle.rnxcmp_c.specs.declared.answer.TheConstants.{OUTPUT_LIMIT}
@@ -30,19 +34,11 @@ use Rattle.rnxcmp_c.specs.declared.engines.AnyEngine.{AnyEngine}
 use Rattle.rnxcmp_c.specs.declared.engines.AnyEngine.TheVariants.{Compacting, Expanding, Checking}
 use Rattle.rnxcmp_c.specs.declared.held.Held.{Held}
 use Rattle.rnxcmp_c.specs.declared.limits.TheConstants.{READY_LIMIT}
-use Rattle.rnxcmp_c.specs.Holding.{ready_in}
+use Rattle.rnxcmp_c.specs.Holding.{IsMemoryLacking, ready_in}
 use Rattle.rnxcmp_c.specs.Waiting.{IsTextRefused, waiting}
 use Rattle.rnxcmp_c.specs.declared.reader.Reader.{Reader}
 use Rattle.rnxcmp_c.specs.declared.stop.Stop.{Stop}
 use Rattle.rnxcmp_c.specs.declared.stop.Stop.TheVariants.{Fault, Limit}
-
--- ---- what a run is of
-
--- what a run writes and reports for some of the first lines, and for all
-abbrev pub filter_for : Task → Filter
-filter_for (Compact choices limit) = compaction_filter choices
-filter_for (Expand choices limit) = expansion_filter choices
-filter_for Check = check_filter
 
 -- ---- the engine of a run
 
@@ -113,23 +109,24 @@ pub record ReaderIsOver (limit : ℕ) (result : FilterResult) (reader : Reader) 
   pub messages : result.messages ≡ past.messages ++ waiting reader.held.messages
   pub within : KeepsToLimit limit (past.output ++ waiting reader.held.output)
 
--- the messages of a run in which memory ran out: the first warnings of what was fed, or a prefix of them, and then the
--- message of the fault, where there was memory for it
-pub record AreMessagesCut (filter : Filter) (fed all : List ℕ) (fault : Option At) : Type 0 where
-  pub warnings : List ℕ
-  pub first : AreFirstWarnings filter fed warnings
-  pub whole : (all ≡ warnings) ⊎ (all ≡ warnings ++ error_text fault)
+-- memory ran out at such a line, or at the end, which takes memory, or a write to one of the texts failed.
+-- What was taken of both texts and then what is kept is a part of what is made there
+pub record RanOutBy (filter : Filter) (is_line : ℕ → Type 0) (input : List ℕ) (reader : Reader) (line : ℕ)
+    (past : HandlePast) : Type 0 where
+  pub at : is_line line
+  pub made : StopsForMemory filter input line (past.output ++ waiting reader.held.output)
+      (past.messages ++ waiting reader.held.messages)
+  pub lacking : IsMemoryLacking (next_takes_memory filter made.lines made.others) reader.held
 
--- memory ran out, which is status 1: at such a line, or for the message of the fault that the result has. What was
--- taken of the output and then what is kept is a prefix of it, and within its limit; and the messages are those of the
--- first warnings
-pub record RunIsOutOfMemory (filter : Filter) (limit : ℕ) (is_line : ℕ → Type 0)
+-- memory ran out, which is status 1: at such a line, or for the message of the fault that the result has; the
+-- output is within its limit
+pub record RunIsOutOfMemory (filter : Filter) (limit : ℕ) (is_line : ℕ → Type 0) (input : List ℕ)
     (result : FilterResult) (reader : Reader) (outcome : Outcome) (past : HandlePast) : Type 0 where
   pub memory : FaultIs OutOfMemory outcome.fault
   pub status : outcome.status ≡ 1
-  pub line : is_line (line_in outcome.fault) ⊎ (line_in outcome.fault ≡ line_in result.fault)
-  pub output : Begins result.output (past.output ++ waiting reader.held.output)
-  pub messages : AreMessagesCut filter past.fed (past.messages ++ waiting reader.held.messages) outcome.fault
+  pub made : RanOutBy filter is_line input reader (line_in outcome.fault) past
+      ⊎ HidesFault result (line_in outcome.fault)
+      (past.output ++ waiting reader.held.output) (past.messages ++ waiting reader.held.messages)
   pub within : KeepsToLimit limit (past.output ++ waiting reader.held.output)
 
 -- the output would be longer than it may be. What was taken of both texts and then what is kept is what the first lines
@@ -148,6 +145,11 @@ pub record RunIsOverLimit (filter : Filter) (limit : ℕ) (input : List ℕ)
   pub output : (filter.so_far lines).output ≡ past.output ++ waiting reader.held.output
   pub messages : notices_text (filter.so_far lines).warnings ≡ past.messages ++ waiting reader.held.messages
 
+-- the message of a fault came after the warnings, and the fault ended the run; or there was no memory for it
+abbrev pub IsSaid : At → List ℕ → List ℕ → Option At → Type 0
+IsSaid at warnings messages fault = ((fault ≡ Some at) × (warnings ++ error_text (Some at) ≡ messages))
+    ⊎ ((fault ≡ Some (record { line = at.line; fault = OutOfMemory })) × (warnings ≡ messages))
+
 -- as many bytes were fed as an input may have, and there was one more: a fault after the lines that an LF ended. What was
 -- taken of both texts and then what is kept is what these make, and the message of the fault; the output is within its
 -- limit
@@ -155,24 +157,21 @@ pub record RunIsTooLong (filter : Filter) (limit : ℕ) (reader : Reader) (outco
     : Type 0 where
   pub full : length past.fed ≡ INPUT_LIMIT
   pub status : outcome.status ≡ 1
-  pub fault : outcome.fault ≡ Some (too_long_after past.fed)
   pub good : (filter.so_far (ended_lines_of past.fed)).fault ≡ None
   pub output : (filter.so_far (ended_lines_of past.fed)).output ≡ past.output ++ waiting reader.held.output
-  pub messages : notices_text (filter.so_far (ended_lines_of past.fed)).warnings ++ error_text outcome.fault
-      ≡ past.messages ++ waiting reader.held.messages
+  pub said : IsSaid (too_long_after past.fed) (notices_text (filter.so_far
+      (ended_lines_of past.fed)).warnings)
+      (past.messages ++ waiting reader.held.messages) outcome.fault
   pub within : KeepsToLimit limit (past.output ++ waiting reader.held.output)
-
--- the number of a line of some bytes, at the latest of the one after those that an LF ends
-abbrev pub IsLineReached : List ℕ → ℕ → Type 0
-IsLineReached fed line = line ≤ length (ended_lines_of fed) + 1
 
 -- where a run is: it goes on; or it has ended, with the result of the bytes that were fed, unless memory ran out, the
 -- output would be longer than it may be, or the input was
 abbrev pub StandsBy : Task → Reader → HandlePast → Option Outcome → Type 0
 StandsBy task reader past None = ReaderRuns task reader past
 StandsBy task reader past (Some outcome) =
-    RunIsOutOfMemory (filter_for task) (limit_for task) (IsLineReached past.fed) (result_for task past.fed) reader
-    outcome past
+    RunIsOutOfMemory (filter_for task) (limit_for task) (IsLineReached past.fed) past.fed
+    (result_for task past.fed)
+    reader outcome past
     ⊎ (RunIsOverLimit (filter_for task) (limit_for task) past.fed (result_for task past.fed) reader outcome past
     ⊎ (RunIsTooLong (filter_for task) (limit_for task) reader outcome past
     ⊎ ReaderIsOver (limit_for task) (result_for task past.fed) reader outcome past))
@@ -180,25 +179,27 @@ StandsBy task reader past (Some outcome) =
 abbrev pub ReaderStands : Task → Reader → HandlePast → Type 0
 ReaderStands task reader past = StandsBy task reader past reader.outcome
 
--- where it is after some bytes: where a fault or the limit of the output has ended it, the result is that of every input
--- that begins with them, and the status of a fault is 1
-abbrev pub HasFedBy : Task → Reader → HandlePast → Option Outcome → Type 0
-HasFedBy task reader past None = ReaderRuns task reader past
-HasFedBy task reader past (Some outcome) = ((more : List ℕ) → RunIsOutOfMemory (filter_for task) (limit_for task)
-    (λ line. (0 < line) × IsLineReached past.fed line) (result_for task (past.fed ++ more)) reader outcome past)
+-- where it is after some bytes that came after others: where a fault or the limit of the output has ended it,
+-- the result is that of every input that begins with them, and the status of a fault is 1
+abbrev pub HasFedBy : List ℕ → Task → Reader → HandlePast → Option Outcome → Type 0
+HasFedBy before task reader past None = ReaderRuns task reader past
+HasFedBy before task reader past (Some outcome) = ((more : List ℕ) → RunIsOutOfMemory (filter_for task)
+    (limit_for task)
+    (IsLineEnded before past.fed) (past.fed ++ more)
+    (result_for task (past.fed ++ more)) reader outcome past)
     ⊎ (((more : List ℕ) → RunIsOverLimit (filter_for task) (limit_for task) (past.fed ++ more)
     (result_for task (past.fed ++ more)) reader outcome past)
     ⊎ ((outcome.status ≡ 1)
     × ((more : List ℕ) → ReaderIsOver (limit_for task) (result_for task (past.fed ++ more)) reader outcome past)))
 
-abbrev pub HasFed : Task → Reader → HandlePast → Type 0
-HasFed task reader past = HasFedBy task reader past reader.outcome
+abbrev pub HasFed : List ℕ → Task → Reader → HandlePast → Type 0
+HasFed before task reader past = HasFedBy before task reader past reader.outcome
 
 -- after its end
 abbrev pub HasEndedBy : Task → Reader → HandlePast → Option Outcome → Type 0
 HasEndedBy task reader past None = ⊥
 HasEndedBy task reader past (Some outcome) = RunIsOutOfMemory (filter_for task) (limit_for task)
-    (λ line. line ≡ length (lines_of past.fed)) (result_for task past.fed) reader outcome past
+    (IsLastLine past.fed) past.fed (result_for task past.fed) reader outcome past
     ⊎ (RunIsOverLimit (filter_for task) (limit_for task) past.fed (result_for task past.fed) reader outcome past
     ⊎ ReaderIsOver (limit_for task) (result_for task past.fed) reader outcome past)
 
@@ -208,9 +209,8 @@ ReaderHasEnded task reader past = HasEndedBy task reader past reader.outcome
 -- after a byte more than an input may have
 abbrev pub HasPassedBy : Task → Reader → HandlePast → Option Outcome → Type 0
 HasPassedBy task reader past None = ⊥
-HasPassedBy task reader past (Some outcome) = RunIsOutOfMemory (filter_for task) (limit_for task)
-    (λ line. line ≡ length (ended_lines_of past.fed) + 1) (result_for task past.fed) reader outcome past
-    ⊎ RunIsTooLong (filter_for task) (limit_for task) reader outcome past
+HasPassedBy task reader past (Some outcome) = RunIsTooLong (filter_for task)
+    (limit_for task) reader outcome past
 
 abbrev pub ReaderHasPassed : Task → Reader → HandlePast → Type 0
 ReaderHasPassed task reader past = HasPassedBy task reader past reader.outcome
@@ -221,6 +221,8 @@ pub record IsPutDown (old new : Held) (outcome : Outcome) (at : At) : Type 0 whe
   pub fault : outcome.fault ≡ Some at
   pub output : waiting new.output ≡ waiting old.output
   pub messages : waiting new.messages ≡ waiting old.messages ++ error_text (Some at)
+  pub output_good : new.output.failures ≡ old.output.failures
+  pub messages_good : new.messages.failures ≡ old.messages.failures
 
 -- its message was refused, which is out of memory at its line; both texts are as they were
 pub record IsPutSilently (old new : Held) (outcome : Outcome) (at : At) : Type 0 where
@@ -228,6 +230,8 @@ pub record IsPutSilently (old new : Held) (outcome : Outcome) (at : At) : Type 0
   pub fault : outcome.fault ≡ Some (record { line = at.line; fault = OutOfMemory })
   pub output : waiting new.output ≡ waiting old.output
   pub messages : waiting new.messages ≡ waiting old.messages
+  pub output_good : new.output.failures ≡ old.output.failures
+  pub messages_good : new.messages.failures ≡ old.messages.failures
   pub refused : IsTextRefused old.messages (length (error_text (Some at)))
 
 abbrev pub IsPut : Held → Held → At → Option Outcome → Type 0
@@ -269,10 +273,6 @@ answer_now reader = record {
   code = fault_code_in (fault_now reader.outcome);
 }
 
--- how many bytes of a text are fed at most: those within the limit of an input
-abbrev pub allowed_after : HandlePast → List ℕ → List ℕ
-allowed_after past bytes = take (INPUT_LIMIT - length past.fed) bytes
-
 -- so many more bytes were fed, a line's after another's, as long as little enough waited to be taken, and no more; or
 -- there were some, and no more may be fed, which ends the run
 pub record FeedsBytes (task : Task) (old new : Reader) (past : HandlePast) (bytes : List ℕ) (used : ℕ)
@@ -280,7 +280,8 @@ pub record FeedsBytes (task : Task) (old new : Reader) (past : HandlePast) (byte
   pub answers : answer ≡ answer_now new
   pub within : used ≤ length (allowed_after past bytes)
   pub over : 0 < length bytes → length (allowed_after past bytes) ≡ 0 → (used ≡ 0) × ReaderHasPassed task new past
-  pub fed : (0 < length bytes → 0 < length (allowed_after past bytes)) → HasFed task new (fed_with past (take used bytes))
+  pub fed : (0 < length bytes → 0 < length (allowed_after past bytes)) → HasFed past.fed task new
+      (fed_with past (take used bytes))
   pub some : 0 < length (allowed_after past bytes) → ready_in old.held < READY_LIMIT → 0 < used
   pub all : new.outcome ≡ None → used < length (allowed_after past bytes) → READY_LIMIT ≤ ready_in new.held
   pub soon : new.outcome ≡ None → 0 < used → StopsSoon (filter_for task) past (allowed_after past bytes) used

@@ -1,5 +1,5 @@
 -- What is held of a run between two calls, and how it is counted.
-use Rattle.std.specs.Prelude.{◌≡◌, ◌<◌, ℕ, ◌+◌, false, [], length, take, Result, Err}
+use Rattle.std.specs.Prelude.{◌≡◌, ◌≢◌, ◌⊎◌, ◌<◌, ℕ, ◌+◌, Bool, true, false, [], length, take, Result, Err}
 use Rattle.crx_faults.specs.declared.fault.At.{At}
 use Rattle.rnxcmp_c.specs.Waiting.{waiting}
 use Rattle.rnxcmp_c.specs.declared.held.Held.{Held}
@@ -11,6 +11,15 @@ use Rattle.rnxcmp_c.specs.declared.stop.Stop.TheVariants.{Fault, Limit}
 abbrev pub ready_in : Held → ℕ
 ready_in held = length (waiting held.output) + length (waiting held.messages)
 
+-- no write to either text failed
+pub record AreUnfailed (held : Held) : Type 0 where
+  pub output : held.output.failures ≡ 0
+  pub messages : held.messages.failures ≡ 0
+
+-- a line takes memory, or a write to one of the texts failed
+abbrev pub IsMemoryLacking : Bool → Held → Type 0
+IsMemoryLacking takes held = (takes ≡ true) ⊎ ((held.output.failures ≢ 0) ⊎ (held.messages.failures ≢ 0))
+
 -- nothing is held yet, and the output may have so many bytes
 pub record HoldsNothing (limit : ℕ) (held : Held) : Type 0 where
   pub tail : held.tail.bytes.items ≡ []
@@ -20,6 +29,7 @@ pub record HoldsNothing (limit : ℕ) (held : Held) : Type 0 where
   pub left : held.left ≡ limit
   pub output : waiting held.output ≡ []
   pub messages : waiting held.messages ≡ []
+  pub unfailed : AreUnfailed held
 
 -- but for what the output may still have, which is less by what was added after so many bytes
 pub record StaysWithin (mark : ℕ) (old new : Held) : Type 0 where

@@ -4,11 +4,11 @@ ghost use Rattle.std.specs.Prelude.{◌≡◌, ◌<◌, ◌≤◌, ◌+◌, [], 
 ghost use Rattle.crx_faults.specs.declared.limits.TheConstants.{INPUT_LIMIT};
 ghost use Rattle.crx_faults.specs.meaning.Lines.{lines_of};
 ghost use Rattle.crx_runs.specs.Lawful.{IsLawful};
-ghost use Rattle.rnxcmp_c.specs.Going.{IsAll, IsGoing, IsTaken, RunBreaks, RunFails, StopsSoon};
+ghost use Rattle.rnxcmp_c.specs.Going.{IsAll, IsGoing, IsTaken, RunBreaks, RunFails};
 ghost use Rattle.rnxcmp_c.specs.Holding.{ready_in};
 ghost use Rattle.rnxcmp_c.specs.declared.limits.TheConstants.{READY_LIMIT};
 ghost use Rattle.rnxcmp_c.specs.Handles.{IsOf, engine_filter, has_ended_of, is_open_of, ready_of, shows_of, status_at_end};
-ghost use Rattle.rnxcmp_c.specs.meaning.Handles.{Task, HandlePast, fed_with};
+ghost use Rattle.rnxcmp_c.specs.meaning.Handles.{Task, HandlePast, StopsSoon, fed_with};
 
 use crate::held::Held;
 use crate::lines::{take_bytes, take_last};
@@ -47,7 +47,7 @@ pub(crate) fn take_any(engine: &mut AnyEngine, held: &mut Held, bytes: &[u8]) ->
         IsGoing (engine_filter engine.new) (shows_of engine.new) held.new (fed_with past (take n bytes.now))) }
     ensures breaks { (past : HandlePast) → IsGoing (engine_filter engine.old)
         (shows_of engine.old) held.old past
-        → IfErr result (RunBreaks (engine_filter engine.old) held.new (fed_with past bytes.now)) }
+        → IfErr result (RunBreaks past.fed (engine_filter engine.old) held.new (fed_with past bytes.now)) }
 {
     match engine {
         AnyEngine::Compacting(compactor) => take_bytes(compactor, held, bytes),

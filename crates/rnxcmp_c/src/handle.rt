@@ -1,24 +1,21 @@
 //! Handles that a C program holds, and what it calls with them: a run goes on from call to call.
 //!
 //! A handle is closed where it is all zeros. From the call that opens it to the one that closes it only these calls touch it, one at
-//! a time. The bytes that were fed in all have a defined result; what was taken in all, and then what is kept, is a prefix of its
-//! texts while the run goes on, and the whole of them after its end.
+//! a time. The bytes that were fed in all have a defined result. What was taken in all, and then what is kept, is what the lines make that
+//! were fed, a prefix of the result's texts, while the run goes on; and after its end the whole of them, unless memory or a limit ended it.
 
 ghost use Rattle.std.specs.Prelude.{◌≡◌, ◌⊎◌, ℕ, [], IfSome, drop, length, take, Some, true, false};
 ghost use Rattle.crx_options.specs.meaning.Choices.{Choices, choices_of, is_date};
 ghost use Rattle.crx_faults.specs.declared.fault.Fault.TheVariants.{InputTooLong, OutOfMemory};
 ghost use Rattle.crx_faults.specs.meaning.Faults.{code_of_fault};
 ghost use Rattle.rnxcmp_c.specs.Handles.{IsFresh};
-ghost use Rattle.rnxcmp_c.specs.meaning.Handles.{HandlePast, HandlePromise, IsMisused, RunHasEnded, RunHasResult, RunWasEnded, Task, fed_with, limit_for, nothing_fed, taken_with};
+ghost use Rattle.rnxcmp_c.specs.meaning.Handles.{HandlePast, HandlePromise, IsLastLine, IsMisused, RunHasEnded, RunWasEnded, TakesBytes, Task, fed_with, limit_for, nothing_fed, taken_with};
 ghost use Rattle.rnxcmp_c.specs.Holding.{HoldsNothing};
 ghost use Rattle.rnxcmp_c.specs.Opened.{AnswersHandle, EndedAlike, EndsHandle, FeedsHandle, HandleStands, Holds, IsSoundHandle, IsUnchanged, has_ended, messages_kept, output_kept, texts_kept};
 ghost use Rattle.rnxcmp_c.specs.declared.reader.Reader.{Reader};
 ghost use Rattle.rnxcmp_c.specs.meaning.Answers.{HasNoMemory, bare_answer, placed};
-ghost use Rattle.rnxcmp_c.specs.meaning.Lossless.{CallBringsBackWhatPasses};
-ghost use Rattle.rnxcmp_c.specs.meaning.Promises.{CallBringsBackWhatWasCompacted, CallJudgesStandard, CallSavesAllElse};
-ghost use Rattle.rnxcmp_c.specs.meaning.Stretches.{CallKeepsUndamaged, CallWritesWholeUnits};
+ghost use Rattle.rnxcmp_c.specs.meaning.Ended.{CheckPromises, ExpansionPromises};
 ghost use Rattle.rnxcmp_c.specs.declared.answer.TheConstants.{OUTPUT_LIMIT};
-ghost use Rattle.crx_filter.specs.meaning.Lossless.{SaysThatItComesBack};
 
 use crate::answer::{Answer, BAD_DATE, date_refused, good, misused, out_of_memory};
 use crate::engines::AnyEngine;
@@ -212,9 +209,13 @@ pub extern "C" fn rnxcmp_c_feed(
         → has_ended handle.old ≡ false
         → HandlePromise (has_ended handle.new) task (fed_with past (take used.new bytes.now))
         (texts_kept handle.new) result }
+    ensures takes { (task : Task) (past : HandlePast) → HandleStands task handle.old past
+        → has_ended handle.old ≡ false → TakesBytes task past bytes.now used.new
+        (texts_kept handle.old) (texts_kept handle.new) (has_ended handle.new) }
     ensures ended { (task : Task) (past : HandlePast) → HandleStands task handle.old past
         → has_ended handle.old ≡ false → has_ended handle.new ≡ true
-        → RunWasEnded task (fed_with past (take used.new bytes.now)) (texts_kept handle.new) result }
+        → RunWasEnded task past.fed (fed_with past (take used.new bytes.now)) (drop used.new bytes.now)
+        (texts_kept handle.new) result }
     ensures misused { (task : Task) (past : HandlePast) → HandleStands task handle.old past
         → has_ended handle.old ≡ true
         → IsMisused result × (used.new ≡ 0) × (handle.new.place.held ≡ handle.old.place.held) }
@@ -245,43 +246,18 @@ pub extern "C" fn rnxcmp_c_end(alloc: Global, handle: &mut Handle) -> Answer
         → HandlePromise (has_ended handle.new) task past (texts_kept handle.new) result }
     ensures ended { (task : Task) (past : HandlePast) → HandleStands task handle.old past
         → has_ended handle.old ≡ false
-        → (has_ended handle.new ≡ true) × RunHasEnded task past (texts_kept handle.new) result }
+        → (has_ended handle.new ≡ true)
+        × RunHasEnded (IsLastLine past.fed) task past (texts_kept handle.new) result }
     ensures misused { (task : Task) (past : HandlePast) → HandleStands task handle.old past
         → has_ended handle.old ≡ true
         → IsMisused result × (handle.new.place.held ≡ handle.old.place.held) }
-    ensures lossless { (choices : Choices) (limit : ℕ) (past : HandlePast)
+    ensures expansion { (choices : Choices) (limit : ℕ) (past : HandlePast)
         → HandleStands (Task.Expand choices limit) handle.old past → has_ended handle.old ≡ false
         → (HasNoMemory result → ⊥) → (result.status ≡ OUTPUT_LIMIT → ⊥)
-        → CallBringsBackWhatPasses (λ whole. RunHasResult whole past (texts_kept handle.new) result)
-        past.fed }
-    ensures way_back { (choices : Choices) (limit : ℕ) (past : HandlePast)
-        → HandleStands (Task.Expand choices limit) handle.old past → has_ended handle.old ≡ false
-        → (HasNoMemory result → ⊥) → (result.status ≡ OUTPUT_LIMIT → ⊥)
-        → CallBringsBackWhatWasCompacted (λ whole. RunHasResult whole past (texts_kept handle.new) result)
-        past.fed }
-    ensures salvage { (choices : Choices) (limit : ℕ) (past : HandlePast)
-        → HandleStands (Task.Expand choices limit) handle.old past → has_ended handle.old ≡ false
-        → (HasNoMemory result → ⊥) → (result.status ≡ OUTPUT_LIMIT → ⊥) → choices.skip ≡ true
-        → CallSavesAllElse (λ whole. RunHasResult whole past (texts_kept handle.new) result)
-        past.fed }
-    ensures damage { (choices : Choices) (limit : ℕ) (past : HandlePast)
-        → HandleStands (Task.Expand choices limit) handle.old past → has_ended handle.old ≡ false
-        → (HasNoMemory result → ⊥) → (result.status ≡ OUTPUT_LIMIT → ⊥) → choices.skip ≡ true
-        → CallKeepsUndamaged (λ whole. RunHasResult whole past (texts_kept handle.new) result)
-        past.fed }
-    ensures whole_units { (choices : Choices) (limit : ℕ) (past : HandlePast)
-        → HandleStands (Task.Expand choices limit) handle.old past → has_ended handle.old ≡ false
-        → (HasNoMemory result → ⊥) → (result.status ≡ OUTPUT_LIMIT → ⊥)
-        → CallWritesWholeUnits (λ whole. RunHasResult whole past (texts_kept handle.new) result)
-        past.fed }
-    ensures lossless_check { (past : HandlePast)
+        → ExpansionPromises choices past (texts_kept handle.new) result }
+    ensures check { (past : HandlePast)
         → HandleStands Task.Check handle.old past → has_ended handle.old ≡ false
-        → (HasNoMemory result → ⊥) → (result.status ≡ OUTPUT_LIMIT → ⊥)
-        → SaysThatItComesBack result.status past.fed }
-    ensures standard { (past : HandlePast)
-        → HandleStands Task.Check handle.old past → has_ended handle.old ≡ false
-        → (HasNoMemory result → ⊥) → (result.status ≡ OUTPUT_LIMIT → ⊥)
-        → CallJudgesStandard result.status past.fed }
+        → (HasNoMemory result → ⊥) → (result.status ≡ OUTPUT_LIMIT → ⊥) → CheckPromises past result }
     ensures sound { IsSoundHandle handle.new }
 {
     if !handle.is_open {
@@ -324,46 +300,15 @@ pub extern "C" fn rnxcmp_c_take(
         → HandlePromise (has_ended handle.new) task
         (taken_with past (take (length output.old) (output_kept handle.old.place.held))
         (take (length messages.old) (messages_kept handle.old.place.held))) (texts_kept handle.new) result }
-    ensures lossless { (choices : Choices) (limit : ℕ) (past : HandlePast)
+    ensures expansion { (choices : Choices) (limit : ℕ) (past : HandlePast)
         → HandleStands (Task.Expand choices limit) handle.new past → has_ended handle.new ≡ true
         → (HasNoMemory result → ⊥) → (result.status ≡ OUTPUT_LIMIT → ⊥)
         → (result.code ≡ code_of_fault InputTooLong → ⊥)
-        → CallBringsBackWhatPasses (λ whole. RunHasResult whole past (texts_kept handle.new) result)
-        past.fed }
-    ensures way_back { (choices : Choices) (limit : ℕ) (past : HandlePast)
-        → HandleStands (Task.Expand choices limit) handle.new past → has_ended handle.new ≡ true
-        → (HasNoMemory result → ⊥) → (result.status ≡ OUTPUT_LIMIT → ⊥)
-        → (result.code ≡ code_of_fault InputTooLong → ⊥)
-        → CallBringsBackWhatWasCompacted (λ whole. RunHasResult whole past (texts_kept handle.new) result)
-        past.fed }
-    ensures salvage { (choices : Choices) (limit : ℕ) (past : HandlePast)
-        → HandleStands (Task.Expand choices limit) handle.new past → has_ended handle.new ≡ true
-        → (HasNoMemory result → ⊥) → (result.status ≡ OUTPUT_LIMIT → ⊥)
-        → (result.code ≡ code_of_fault InputTooLong → ⊥) → choices.skip ≡ true
-        → CallSavesAllElse (λ whole. RunHasResult whole past (texts_kept handle.new) result)
-        past.fed }
-    ensures damage { (choices : Choices) (limit : ℕ) (past : HandlePast)
-        → HandleStands (Task.Expand choices limit) handle.new past → has_ended handle.new ≡ true
-        → (HasNoMemory result → ⊥) → (result.status ≡ OUTPUT_LIMIT → ⊥)
-        → (result.code ≡ code_of_fault InputTooLong → ⊥) → choices.skip ≡ true
-        → CallKeepsUndamaged (λ whole. RunHasResult whole past (texts_kept handle.new) result)
-        past.fed }
-    ensures whole_units { (choices : Choices) (limit : ℕ) (past : HandlePast)
-        → HandleStands (Task.Expand choices limit) handle.new past → has_ended handle.new ≡ true
-        → (HasNoMemory result → ⊥) → (result.status ≡ OUTPUT_LIMIT → ⊥)
-        → (result.code ≡ code_of_fault InputTooLong → ⊥)
-        → CallWritesWholeUnits (λ whole. RunHasResult whole past (texts_kept handle.new) result)
-        past.fed }
-    ensures lossless_check { (past : HandlePast)
+        → ExpansionPromises choices past (texts_kept handle.new) result }
+    ensures check { (past : HandlePast)
         → HandleStands Task.Check handle.new past → has_ended handle.new ≡ true
         → (HasNoMemory result → ⊥) → (result.status ≡ OUTPUT_LIMIT → ⊥)
-        → (result.code ≡ code_of_fault InputTooLong → ⊥)
-        → SaysThatItComesBack result.status past.fed }
-    ensures standard { (past : HandlePast)
-        → HandleStands Task.Check handle.new past → has_ended handle.new ≡ true
-        → (HasNoMemory result → ⊥) → (result.status ≡ OUTPUT_LIMIT → ⊥)
-        → (result.code ≡ code_of_fault InputTooLong → ⊥)
-        → CallJudgesStandard result.status past.fed }
+        → (result.code ≡ code_of_fault InputTooLong → ⊥) → CheckPromises past result }
     ensures sound { IsSoundHandle handle.new }
 {
     if !handle.is_open {

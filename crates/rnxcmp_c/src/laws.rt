@@ -5,8 +5,8 @@ ghost use Rattle.rnxcmp_c.specs.Holdings.{IsBounded, reader_with};
 ghost use Rattle.rnxcmp_c.specs.declared.answer.Answer.{Answer};
 ghost use Rattle.rnxcmp_c.specs.declared.held.Held.{Held};
 ghost use Rattle.rnxcmp_c.specs.declared.reader.Reader.{Reader};
-ghost use Rattle.rnxcmp_c.specs.meaning.Answers.{AnswersWithin, KeepsToLimit, Rooms};
-ghost use Rattle.rnxcmp_c.specs.meaning.Handles.{CallAnswersAlike, HandlePast, KeptTexts, RunHasResult, RunPassesLimit, Task, all_taken, limit_for, nothing_kept, result_for};
+ghost use Rattle.rnxcmp_c.specs.meaning.Answers.{AnswersWithin, IsTooLong, KeepsToLimit, Rooms};
+ghost use Rattle.rnxcmp_c.specs.meaning.Handles.{CallAnswersAlike, CallAnswersTooLong, HandlePast, KeptTexts, RunHasResult, RunHasTooMuch, RunPassesLimit, Task, all_taken, limit_for, nothing_kept, result_for};
 
 /// What a handle holds, in full, and how much that is beside its engine, whatever was fed: one that takes over these parts of another is
 /// that other. So there is no part beside them, in which a record of the past lines could grow.
@@ -17,7 +17,8 @@ pub fn handle_holds()
 
 /// A handle answers as a call over the whole input: where its run has ended with its result and all was taken, such a call with room
 /// enough answers the same status, code and line, and puts into its rooms what was taken; and where the output is longer than its limit,
-/// both say so. For every input whose output is within the limit there are such answers.
+/// both say so. For every input whose output is within the limit there are such answers. Of an input that is too long both say the same
+/// status and code; but a call says so before it reads, at line 0 and without texts, and a handle at the line of the byte too much.
 pub fn a_handle_answers_as_a_call()
     ensures same { (task : Task) (past : HandlePast) (answer call : Answer) (before after : Rooms)
         → RunHasResult (result_for task past.fed) past nothing_kept answer
@@ -28,6 +29,9 @@ pub fn a_handle_answers_as_a_call()
         (answer call : Answer) (before after : Rooms) → RunPassesLimit task past kept answer
         → AnswersWithin (limit_for task) (result_for task past.fed) call before after
         → (call.status ≡ answer.status) × (call.code ≡ answer.code) × (call.line ≡ answer.line) }
+    ensures long { (task : Task) (past : HandlePast) (kept : KeptTexts)
+        (answer call : Answer) (before after : Rooms) → RunHasTooMuch task past kept answer
+        → IsTooLong call before after → CallAnswersTooLong past answer call before after }
     ensures instance { (task : Task) (fed : List ℕ)
         → KeepsToLimit (limit_for task) (result_for task fed).output
         → (answer : Answer) × (call : Answer) × (before : Rooms) × (after : Rooms)

@@ -1,14 +1,14 @@
 //! Lines out of the bytes that are fed, through an engine.
 
-ghost use Rattle.std.specs.Prelude.{◌≡◌, ◌⊎◌, ◌≤◌, ◌<◌, ◌+◌, ◌-◌, ℕ, List, [], length, take, drop, false, true, IsOk, OnOk, OnErr, IfOk, IfErr};
+ghost use Rattle.std.specs.Prelude.{◌≡◌, ◌⊎◌, ◌≤◌, ◌<◌, ◌+◌, ◌-◌, ℕ, List, [], length, take, drop, false, true, is_some, IsOk, OnOk, OnErr, IfOk, IfErr};
 ghost use Rattle.crx_faults.specs.declared.fault.At.{At};
 ghost use Rattle.crx_faults.specs.declared.limits.TheConstants.{INPUT_LIMIT};
 ghost use Rattle.crx_faults.specs.meaning.Lines.{InputLine, ends_with_return, lines_of, without_return};
 ghost use Rattle.crx_lines.specs.Reading.{HasNoFeed};
 ghost use Rattle.crx_runs.specs.Lawful.{IsLawful};
 ghost use Rattle.crx_runs.specs.meaning.Filters.{with_next};
-ghost use Rattle.rnxcmp_c.specs.Going.{IsAll, IsGoing, IsKept, IsTaken, LineStops, MovesOn, MovesWithin, RunBreaks, RunFails, StepStops, StopsBy, StopsSoon, piece_line};
-ghost use Rattle.rnxcmp_c.specs.meaning.Handles.{HandlePast, fed_with};
+ghost use Rattle.rnxcmp_c.specs.Going.{IsAll, IsGoing, IsKept, IsTaken, LineStops, MovesOn, MovesWithin, RunBreaks, RunFails, StepStops, StopsBy, piece_line};
+ghost use Rattle.rnxcmp_c.specs.meaning.Handles.{HandlePast, StopsSoon, fed_with};
 ghost use Rattle.rnxcmp_c.specs.Holding.{StaysWithin, StopsCounted, ready_in};
 ghost use Rattle.rnxcmp_c.specs.Waiting.{waiting};
 ghost use Rattle.rnxcmp_c.specs.declared.limits.TheConstants.{LINE_ROOM, READY_LIMIT};
@@ -83,7 +83,9 @@ fn give_line<E: Engine>(
         output.old output.new messages.old messages.new warned) }
     ensures stops { (lines : List InputLine) (whole : List ℕ) → E.shows engine.old lines []
         → bytes.now ≡ take LINE_ROOM whole
-        → IfErr result (λ halt. StopsBy (length lines + 1) ((E.filter engine.old).so_far lines)
+        → IfErr result (λ halt. StopsBy (length lines + 1)
+        (is_some ((E.filter engine.old).memory_after lines (piece_line whole is_ended)))
+        ((E.filter engine.old).so_far lines)
         ((E.filter engine.old).so_far (with_next lines (piece_line whole is_ended)))
         output.old output.new messages.old messages.new halt) }
 {
@@ -121,7 +123,9 @@ fn take_piece<E: Engine>(engine: &mut E, held: &mut Held, is_ended: bool) -> Res
         held.old held.new) }
     ensures stops { (lines : List InputLine) (whole : List ℕ) → E.shows engine.old lines []
         → held.old.tail.bytes.items ≡ take LINE_ROOM whole
-        → IfErr result (λ at. LineStops (length lines + 1) ((E.filter engine.old).so_far lines)
+        → IfErr result (λ at. LineStops (length lines + 1)
+        (is_some ((E.filter engine.old).memory_after lines (piece_line whole is_ended)))
+        ((E.filter engine.old).so_far lines)
         ((E.filter engine.old).so_far (with_next lines (piece_line whole is_ended)))
         held.old.output held.new.output held.old.messages held.new.messages at) }
 {
@@ -179,7 +183,9 @@ fn take_within<E: Engine>(engine: &mut E, held: &mut Held, is_ended: bool) -> Re
         held.old held.new) }
     ensures stops { (lines : List InputLine) (whole : List ℕ) → E.shows engine.old lines []
         → held.old.tail.bytes.items ≡ take LINE_ROOM whole
-        → IfErr result (StepStops (length lines + 1) ((E.filter engine.old).so_far lines)
+        → IfErr result (StepStops (length lines + 1)
+        (is_some ((E.filter engine.old).memory_after lines (piece_line whole is_ended)))
+        ((E.filter engine.old).so_far lines)
         ((E.filter engine.old).so_far (with_next lines (piece_line whole is_ended))) held.old held.new) }
 {
     let mark = held.mark();
@@ -203,7 +209,7 @@ fn take_next<E: Engine>(engine: &mut E, held: &mut Held, bytes: &[u8]) -> Result
         → IfOk result (λ n. IsGoing (E.filter engine.old) (E.shows engine.new) held.new
         (fed_with past (take n bytes.now))) }
     ensures breaks { (past : HandlePast) → IsGoing (E.filter engine.old) (E.shows engine.old) held.old past
-        → IfErr result (RunBreaks (E.filter engine.old) held.new (fed_with past bytes.now)) }
+        → IfErr result (RunBreaks past.fed (E.filter engine.old) held.new (fed_with past bytes.now)) }
 {
     match feed_from(bytes, 0) {
         None => {
@@ -250,7 +256,7 @@ pub(crate) fn take_bytes<E: Engine>(
         → IfOk result (λ n. IsGoing (E.filter engine.old)
         (E.shows engine.new) held.new (fed_with past (take n bytes.now))) }
     ensures breaks { (past : HandlePast) → IsGoing (E.filter engine.old) (E.shows engine.old) held.old past
-        → IfErr result (RunBreaks (E.filter engine.old) held.new (fed_with past bytes.now)) }
+        → IfErr result (RunBreaks past.fed (E.filter engine.old) held.new (fed_with past bytes.now)) }
 {
     let mut left = bytes;
     'bytes: while !left.is_empty() && held.is_low() {
@@ -272,7 +278,7 @@ fn end_run<E: Engine>(engine: &mut E, held: &mut Held) -> Result<(), At>
         → OnOk result (MovesOn ((E.filter engine.old).so_far lines) ((E.filter engine.old).whole lines)
         (E.has_ended engine.new lines) held.old held.new) }
     ensures stops { (lines : List InputLine) → E.shows engine.old lines []
-        → IfErr result (λ at. LineStops held.old.number
+        → IfErr result (λ at. LineStops held.old.number false
         ((E.filter engine.old).so_far lines) ((E.filter engine.old).whole lines)
         held.old.output held.new.output held.old.messages held.new.messages at) }
 {
@@ -296,7 +302,7 @@ fn end_within<E: Engine>(engine: &mut E, held: &mut Held) -> Result<(), Stop>
         → OnOk result (MovesWithin ((E.filter engine.old).so_far lines) ((E.filter engine.old).whole lines)
         (E.has_ended engine.new lines) held.old held.new) }
     ensures stops { (lines : List InputLine) → E.shows engine.old lines []
-        → IfErr result (StepStops held.old.number ((E.filter engine.old).so_far lines)
+        → IfErr result (StepStops held.old.number false ((E.filter engine.old).so_far lines)
         ((E.filter engine.old).whole lines) held.old held.new) }
 {
     let mark = held.mark();

@@ -1,7 +1,8 @@
 //! A text of a handle that its caller takes piece by piece.
 
-ghost use Rattle.std.specs.Prelude.{◌≡◌, ◌≢◌, ◌<◌, ◌≤◌, ◌+◌, ◌++◌, [], Some, drop, false, length, take, true};
+ghost use Rattle.std.specs.Prelude.{◌≡◌, ◌≢◌, ◌<◌, ◌≤◌, ◌+◌, ◌++◌, [], Some, drop, false, length, take, true, IfOk, OnErr, OnOk};
 ghost use Rattle.std.proofs.KnownBytes.{Appends-nil, Appends-trans};
+ghost use Rattle.crx_lines.specs.meaning.Devices.{one_more};
 ghost use Rattle.rnxcmp_c.specs.declared.limits.TheConstants.{WAITING_LIMIT};
 ghost use Rattle.rnxcmp_c.specs.meaning.Answers.{placed};
 
@@ -29,7 +30,8 @@ impl Pending {
 
     /// No bytes.
     pub(crate) fn new(alloc: Global) -> Pending
-        ensures { waiting result ≡ [] }
+        ensures none { waiting result ≡ [] }
+        ensures unfailed { result.failures ≡ 0 }
     {
         Pending {
             bytes: Vec::new(alloc),
@@ -60,10 +62,30 @@ impl Pending {
         self.bytes.extend_from_slice(text).is_ok()
     }
 
+    /// Takes a text as a writer does. It fails only where the text is refused, and counts that.
+    fn put(&mut self, text: &[u8]) -> Result<usize, WriteFailed>
+        ensures all { IfOk result (λ n. n ≡ length text.now) }
+        ensures taken { OnOk result (waiting self.new ≡ waiting self.old ++ text.now) }
+        ensures good { OnOk result (self.new.failures ≡ self.old.failures) }
+        ensures unchanged { OnErr result (waiting self.new ≡ waiting self.old) }
+        ensures refused { OnErr result (IsTextRefused self.old (length text.now)) }
+        ensures counted { OnErr result (self.new.failures ≡ one_more self.old.failures) }
+        ensures unflushed { self.new.flushed ≡ false }
+        ensures unasked { self.new.flushes ≡ self.old.flushes }
+    {
+        self.flushed = false;
+        if self.add(text) {
+            return Ok(text.len());
+        }
+        self.failures = self.failures.saturating_add(1);
+        Err(WriteFailed)
+    }
+
     /// Moves its first bytes to the front of the room, as many as fit.
     pub(crate) fn hand_out(&mut self, room: &mut [u8])
         ensures room { room.new ≡ placed (waiting self.old) room.old }
         ensures left { waiting self.new ≡ drop (length room.old) (waiting self.old) }
+        ensures counts { CountsAlike self.old self.new }
     {
         let passed = self.passed;
         place(&self.bytes[passed..], room);
@@ -75,7 +97,8 @@ impl Pending {
     fn pass(&mut self, passed: usize)
         requires within { passed ≤ length self.old.bytes.items }
         requires bounded { length self.old.bytes.items ≤ passed + WAITING_LIMIT }
-        ensures { waiting self.new ≡ drop passed self.old.bytes.items }
+        ensures left { waiting self.new ≡ drop passed self.old.bytes.items }
+        ensures counts { CountsAlike self.old self.new }
     {
         let left = self.bytes.len() - passed;
         if passed <= left {
@@ -111,12 +134,7 @@ impl Sink for Pending {
     ghost flushes = { λ s. s.flushes };
 
     fn write(&mut self, bytes: &[u8]) -> Result<usize, WriteFailed> {
-        self.flushed = false;
-        if self.add(bytes) {
-            return Ok(bytes.len());
-        }
-        self.failures = self.failures.saturating_add(1);
-        Err(WriteFailed)
+        self.put(bytes)
     }
 
     fn flush(&mut self) -> Result<(), WriteFailed> {

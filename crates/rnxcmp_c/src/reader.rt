@@ -2,9 +2,8 @@
 
 ghost use Rattle.std.specs.Prelude.{drop, ◌≡◌, ◌<◌, ◌≤◌, ◌+◌, ◌-◌, false, length, take, true, None, Some};
 ghost use Rattle.crx_faults.specs.declared.limits.TheConstants.{INPUT_LIMIT};
-ghost use Rattle.rnxcmp_c.specs.Going.{StopsSoon};
-ghost use Rattle.rnxcmp_c.specs.Handles.{Ends, Feeds, HasFed, IsFed, IsPut, EndsRunBy, ReaderHasEnded, ReaderHasPassed, ReaderRuns, ReaderStands, answer_now, filter_for};
-ghost use Rattle.rnxcmp_c.specs.meaning.Handles.{Task, HandlePast, fed_with, taken_with};
+ghost use Rattle.rnxcmp_c.specs.Handles.{Ends, Feeds, HasFed, IsFed, IsPut, EndsRunBy, ReaderHasEnded, ReaderHasPassed, ReaderRuns, ReaderStands, answer_now};
+ghost use Rattle.rnxcmp_c.specs.meaning.Handles.{Task, HandlePast, StopsSoon, fed_with, filter_for, taken_with};
 ghost use Rattle.rnxcmp_c.specs.Waiting.{waiting};
 ghost use Rattle.rnxcmp_c.specs.declared.answer.TheConstants.{OUTPUT_LIMIT};
 ghost use Rattle.rnxcmp_c.specs.meaning.Answers.{placed};
@@ -88,7 +87,7 @@ impl Reader {
         ensures soon { (task : Task) (past : HandlePast) → ReaderRuns task self.old past
             → self.new.outcome ≡ None → 0 < result → StopsSoon (filter_for task) past bytes.now result }
         ensures fed { (task : Task) (past : HandlePast) → ReaderRuns task self.old past
-            → HasFed task self.new (fed_with past (take result bytes.now)) }
+            → HasFed past.fed task self.new (fed_with past (take result bytes.now)) }
     {
         match take_any(&mut self.engine, &mut self.held, bytes) {
             Ok(count) => {
@@ -169,7 +168,7 @@ impl Reader {
             → (result ≡ 0) × ReaderHasPassed task self.new past }
         ensures fed { (0 < length bytes.now → 0 < length allowed.now)
             → (task : Task) (past : HandlePast) → ReaderRuns task self.old past
-            → HasFed task self.new (fed_with past (take result allowed.now)) }
+            → HasFed past.fed task self.new (fed_with past (take result allowed.now)) }
         ensures count { (0 < length bytes.now → 0 < length allowed.now)
             → IsFed self.old self.new (length allowed.now) result }
         ensures soon { (0 < length bytes.now → 0 < length allowed.now)

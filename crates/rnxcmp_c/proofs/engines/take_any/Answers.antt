@@ -1,7 +1,8 @@
 use Rattle.std.proofs.Common.{◌<◌, IfErr, IfOk, take, sym, subst}
 use Rattle.crx_runs.specs.meaning.Filters.{Filter}
-use Rattle.rnxcmp_c.specs.Going.{IsGoing, RunBreaks, StopsSoon}
+use Rattle.rnxcmp_c.specs.Going.{IsGoing, RunBreaks}
 use Rattle.rnxcmp_c.specs.meaning.Handles.{HandlePast, fed_with}
+use Rattle.rnxcmp_c.specs.meaning.Handles.{StopsSoon}
 use Rattle.rnxcmp_c.specs.Handles.{engine_filter, shows_of}
 use Rattle.rnxcmp_c.specs.declared.engines.AnyEngine.{AnyEngine}
 use Rattle.rnxcmp_c.specs.declared.engines.AnyEngine.TheVariants.{Compacting, Expanding}
@@ -25,21 +26,24 @@ returns-in-Expanding-clause-going c = λ (past : HandlePast) is.
 
 pub returns-in-Compacting-clause-breaks : goal.returns-in-Compacting-clause-breaks
 returns-in-Compacting-clause-breaks c = λ (past : HandlePast) is.
-    subst (λ (e : AnyEngine). IfErr c.take_bytes.result (RunBreaks (engine_filter e) c.take_bytes.new.held
+    subst (λ (e : AnyEngine). IfErr c.take_bytes.result (RunBreaks past.fed
+    (engine_filter e) c.take_bytes.new.held
     (fed_with past c.args.bytes.now))) (sym c.in-Compacting.is)
     (c.take_bytes.ensures.breaks past (subst (λ (e : AnyEngine). IsGoing (engine_filter e)
     (shows_of e) c.args.held.now past) c.in-Compacting.is is))
 
 pub returns-in-Expanding-clause-breaks : goal.returns-in-Expanding-clause-breaks
 returns-in-Expanding-clause-breaks c = λ (past : HandlePast) is.
-    subst (λ (e : AnyEngine). IfErr c.take_bytes-in-Expanding.result (RunBreaks (engine_filter e) c.take_bytes-in-Expanding.new.held
+    subst (λ (e : AnyEngine). IfErr c.take_bytes-in-Expanding.result (RunBreaks past.fed
+    (engine_filter e) c.take_bytes-in-Expanding.new.held
     (fed_with past c.args.bytes.now))) (sym c.in-Expanding.is)
     (c.take_bytes-in-Expanding.ensures.breaks past (subst (λ (e : AnyEngine). IsGoing (engine_filter e)
     (shows_of e) c.args.held.now past) c.in-Expanding.is is))
 
 pub returns-in-Checking-clause-breaks : goal.returns-in-Checking-clause-breaks
 returns-in-Checking-clause-breaks c = λ (past : HandlePast) is.
-    subst (λ (e : AnyEngine). IfErr c.take_bytes-in-Checking.result (RunBreaks (engine_filter e) c.take_bytes-in-Checking.new.held
+    subst (λ (e : AnyEngine). IfErr c.take_bytes-in-Checking.result (RunBreaks past.fed
+    (engine_filter e) c.take_bytes-in-Checking.new.held
     (fed_with past c.args.bytes.now))) (sym c.in-Checking.is)
     (c.take_bytes-in-Checking.ensures.breaks past (subst (λ (e : AnyEngine). IsGoing (engine_filter e)
     (shows_of e) c.args.held.now past) c.in-Checking.is is))

@@ -1,11 +1,10 @@
 use Rattle.std.proofs.Common.{ℕ, [], ◌∷◌, sym, ap, ◌∙◌, subst}
 use Rattle.crx_options.specs.meaning.Choices.{Choices}
 use Rattle.rnxcmp_c.specs.Handles.{ReaderStands}
-use Rattle.rnxcmp_c.specs.meaning.Handles.{HandlePast, Task, Expand, Check}
+use Rattle.rnxcmp_c.specs.meaning.Handles.{HandlePast, IsLastLine, Task, Expand, Check}
 use Rattle.rnxcmp_c.specs.declared.reader.Reader.{Reader}
 use Rattle.rnxcmp_c.specs.Opened.{have_ended}
-use Rattle.rnxcmp_c.proofs.EndedLemmas.{run-damage, run-lossless, run-salvage, run-says_so, run-standard, run-way_back}
-use Rattle.rnxcmp_c.proofs.EndedLemmas.{run-whole_units}
+use Rattle.rnxcmp_c.proofs.EndedLemmas.{run-check, run-expansion}
 use Rattle.rnxcmp_c.proofs.HandleLemmas.{ends-answer, ends-misused, ends-stands, one-held}
 use Rattle.rnxcmp_c.proofs.PromiseLemmas.{handle-ended, handle-promise}
 use Rattle.rnxcmp_c.proofs.handle.rnxcmp_c_end.Goals as goal
@@ -91,35 +90,12 @@ returns-clause-misused c = λ (task : Task) (past : HandlePast) stands ended.
     c.deref_mut.result.now.outcome (sym (ap have_ended holds) ∙ ended) (c.take_end-answer.ensures task past before) in
     (misused.0, c.put_in.ensures.reader ∙ ap (λ (r : Reader). r ∷ []) misused.1 ∙ sym holds)
 
-pub returns-clause-lossless : goal.returns-clause-lossless
-returns-clause-lossless c = λ (choices : Choices) (limit : ℕ) (past : HandlePast) stands runs memory few.
-    run-lossless past _ c.take_end-answer.result choices limit
+pub returns-clause-expansion : goal.returns-clause-expansion
+returns-clause-expansion c = λ (choices : Choices) (limit : ℕ) (past : HandlePast) stands runs memory few.
+    run-expansion past _ c.take_end-answer.result (IsLastLine past.fed) choices limit
     (returns-clause-ended c (Expand choices limit) past stands runs).1 memory few
 
-pub returns-clause-way_back : goal.returns-clause-way_back
-returns-clause-way_back c = λ (choices : Choices) (limit : ℕ) (past : HandlePast) stands runs memory few.
-    run-way_back past _ c.take_end-answer.result choices limit
-    (returns-clause-ended c (Expand choices limit) past stands runs).1 memory few
-
-pub returns-clause-salvage : goal.returns-clause-salvage
-returns-clause-salvage c = λ (choices : Choices) (limit : ℕ) (past : HandlePast) stands runs memory few skips.
-    run-salvage past _ c.take_end-answer.result choices limit
-    (returns-clause-ended c (Expand choices limit) past stands runs).1 memory few skips
-
-pub returns-clause-damage : goal.returns-clause-damage
-returns-clause-damage c = λ (choices : Choices) (limit : ℕ) (past : HandlePast) stands runs memory few skips.
-    run-damage past _ c.take_end-answer.result choices limit
-    (returns-clause-ended c (Expand choices limit) past stands runs).1 memory few skips
-
-pub returns-clause-whole_units : goal.returns-clause-whole_units
-returns-clause-whole_units c = λ (choices : Choices) (limit : ℕ) (past : HandlePast) stands runs memory few.
-    run-whole_units past _ c.take_end-answer.result choices limit
-    (returns-clause-ended c (Expand choices limit) past stands runs).1 memory few
-
-pub returns-clause-lossless_check : goal.returns-clause-lossless_check
-returns-clause-lossless_check c = λ (past : HandlePast) stands runs memory few.
-    run-says_so past _ c.take_end-answer.result (returns-clause-ended c Check past stands runs).1 memory few
-
-pub returns-clause-standard : goal.returns-clause-standard
-returns-clause-standard c = λ (past : HandlePast) stands runs memory few.
-    run-standard past _ c.take_end-answer.result (returns-clause-ended c Check past stands runs).1 memory few
+pub returns-clause-check : goal.returns-clause-check
+returns-clause-check c = λ (past : HandlePast) stands runs memory few.
+    run-check past _ c.take_end-answer.result (IsLastLine past.fed)
+    (returns-clause-ended c Check past stands runs).1 memory few

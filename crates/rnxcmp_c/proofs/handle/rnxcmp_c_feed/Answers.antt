@@ -4,7 +4,7 @@ use Rattle.rnxcmp_c.specs.meaning.Handles.{Task, HandlePast, fed_with}
 use Rattle.rnxcmp_c.specs.declared.reader.Reader.{Reader}
 use Rattle.rnxcmp_c.specs.Opened.{have_ended}
 use Rattle.rnxcmp_c.proofs.HandleLemmas.{feeds-answer, feeds-misused, feeds-stands, one-held}
-use Rattle.rnxcmp_c.proofs.PromiseLemmas.{handle-promise, handle-was_ended}
+use Rattle.rnxcmp_c.proofs.PromiseLemmas.{handle-promise, handle-takes, handle-was_ended}
 use Rattle.rnxcmp_c.proofs.handle.rnxcmp_c_feed.Goals as goal
 
 pub take_out-reader-requires : goal.take_out-reader-requires
@@ -94,3 +94,12 @@ returns-clause-ended c = λ (task : Task) (past : HandlePast) stands runs ended.
     handle-was_ended task c.deref_mut.result.now c.take_in-count.new.self past c.args.bytes.now c.take_in-count.result.0
     c.take_in-count.result.1 _ c.put_in.ensures.reader (sym (ap have_ended holds) ∙ runs) ended
     (c.take_in-count.ensures task past before)
+
+pub returns-clause-takes : goal.returns-clause-takes
+returns-clause-takes c = λ (task : Task) (past : HandlePast) stands runs.
+    let holds = c.take_out-reader.ensures.reader ∙ ap (λ (r : Reader). r ∷ []) (sym c.deref_mut.ensures.value) in
+    let same = one-held c.args.handle.now.place.held stands.reader c.deref_mut.result.now stands.holds holds in
+    let before = subst (λ (r : Reader). ReaderStands task r past) same stands.stands in
+    handle-takes task c.deref_mut.result.now c.take_in-count.new.self past c.args.bytes.now
+    c.take_in-count.result.0
+    c.take_in-count.result.1 _ _ holds c.put_in.ensures.reader runs (c.take_in-count.ensures task past before)

@@ -2,12 +2,11 @@ use Rattle.std.proofs.Common.{ℕ, List, [], ◌∷◌, length, take, drop, Opti
 use Rattle.crx_runs.specs.declared.outcome.Outcome.{Outcome}
 use Rattle.crx_options.specs.meaning.Choices.{Choices}
 use Rattle.rnxcmp_c.specs.Handles.{ReaderStands}
-use Rattle.rnxcmp_c.specs.meaning.Handles.{HandlePast, Task, Expand, Check, taken_with}
+use Rattle.rnxcmp_c.specs.meaning.Handles.{HandlePast, IsLineReached, Task, Expand, Check, taken_with}
 use Rattle.rnxcmp_c.specs.Opened.{have_ended, messages_kept, output_kept}
 use Rattle.rnxcmp_c.specs.meaning.Answers.{placed}
 use Rattle.rnxcmp_c.specs.declared.reader.Reader.{Reader}
-use Rattle.rnxcmp_c.proofs.EndedLemmas.{ended-where, run-damage, run-lossless, run-salvage, run-says_so, run-standard}
-use Rattle.rnxcmp_c.proofs.EndedLemmas.{run-way_back, run-whole_units}
+use Rattle.rnxcmp_c.proofs.EndedLemmas.{ended-where, run-check, run-expansion}
 use Rattle.rnxcmp_c.proofs.HandleLemmas.{one-held}
 use Rattle.rnxcmp_c.proofs.PromiseLemmas.{handle-promise}
 use Rattle.rnxcmp_c.proofs.handle.rnxcmp_c_take.Goals as goal
@@ -111,65 +110,22 @@ returns-clause-promise c = λ (task : Task) (past : HandlePast) stands.
     (take (length c.args.messages.now) (messages_kept l)))) (sym holds)
     (c.hand_out-answer.ensures.stands task past (subst (λ (r : Reader). ReaderStands task r past) same stands.stands)))
 
-pub returns-clause-lossless : goal.returns-clause-lossless
-returns-clause-lossless c = λ (choices : Choices) (limit : ℕ) (past : HandlePast) stands ended memory few long.
+pub returns-clause-expansion : goal.returns-clause-expansion
+returns-clause-expansion c = λ (choices : Choices) (limit : ℕ)
+    (past : HandlePast) stands ended memory few long.
     let same = one-held _ stands.reader c.hand_out-answer.new.self stands.holds c.put_in.ensures.reader in
     let after = subst (λ (r : Reader). ReaderStands (Expand choices limit) r past) same stands.stands in
     let promise = handle-promise (Expand choices limit) _ c.hand_out-answer.new.self past c.hand_out-answer.result
     c.put_in.ensures.reader c.hand_out-answer.ensures.answer after in
-    run-lossless past _ c.hand_out-answer.result choices limit
-    (ended-where past _ c.hand_out-answer.result (Expand choices limit) _ ended promise.run long) memory few
+    run-expansion past _ c.hand_out-answer.result (IsLineReached past.fed) choices limit
+    (ended-where past _ c.hand_out-answer.result
+    (Expand choices limit) _ ended promise.run memory long) memory few
 
-pub returns-clause-way_back : goal.returns-clause-way_back
-returns-clause-way_back c = λ (choices : Choices) (limit : ℕ) (past : HandlePast) stands ended memory few long.
-    let same = one-held _ stands.reader c.hand_out-answer.new.self stands.holds c.put_in.ensures.reader in
-    let after = subst (λ (r : Reader). ReaderStands (Expand choices limit) r past) same stands.stands in
-    let promise = handle-promise (Expand choices limit) _ c.hand_out-answer.new.self past c.hand_out-answer.result
-    c.put_in.ensures.reader c.hand_out-answer.ensures.answer after in
-    run-way_back past _ c.hand_out-answer.result choices limit
-    (ended-where past _ c.hand_out-answer.result (Expand choices limit) _ ended promise.run long) memory few
-
-pub returns-clause-salvage : goal.returns-clause-salvage
-returns-clause-salvage c = λ (choices : Choices) (limit : ℕ) (past : HandlePast) stands ended memory few long skips.
-    let same = one-held _ stands.reader c.hand_out-answer.new.self stands.holds c.put_in.ensures.reader in
-    let after = subst (λ (r : Reader). ReaderStands (Expand choices limit) r past) same stands.stands in
-    let promise = handle-promise (Expand choices limit) _ c.hand_out-answer.new.self past c.hand_out-answer.result
-    c.put_in.ensures.reader c.hand_out-answer.ensures.answer after in
-    run-salvage past _ c.hand_out-answer.result choices limit
-    (ended-where past _ c.hand_out-answer.result (Expand choices limit) _ ended promise.run long) memory few skips
-
-pub returns-clause-damage : goal.returns-clause-damage
-returns-clause-damage c = λ (choices : Choices) (limit : ℕ) (past : HandlePast) stands ended memory few long skips.
-    let same = one-held _ stands.reader c.hand_out-answer.new.self stands.holds c.put_in.ensures.reader in
-    let after = subst (λ (r : Reader). ReaderStands (Expand choices limit) r past) same stands.stands in
-    let promise = handle-promise (Expand choices limit) _ c.hand_out-answer.new.self past c.hand_out-answer.result
-    c.put_in.ensures.reader c.hand_out-answer.ensures.answer after in
-    run-damage past _ c.hand_out-answer.result choices limit
-    (ended-where past _ c.hand_out-answer.result (Expand choices limit) _ ended promise.run long) memory few skips
-
-pub returns-clause-whole_units : goal.returns-clause-whole_units
-returns-clause-whole_units c = λ (choices : Choices) (limit : ℕ) (past : HandlePast) stands ended memory few long.
-    let same = one-held _ stands.reader c.hand_out-answer.new.self stands.holds c.put_in.ensures.reader in
-    let after = subst (λ (r : Reader). ReaderStands (Expand choices limit) r past) same stands.stands in
-    let promise = handle-promise (Expand choices limit) _ c.hand_out-answer.new.self past c.hand_out-answer.result
-    c.put_in.ensures.reader c.hand_out-answer.ensures.answer after in
-    run-whole_units past _ c.hand_out-answer.result choices limit
-    (ended-where past _ c.hand_out-answer.result (Expand choices limit) _ ended promise.run long) memory few
-
-pub returns-clause-lossless_check : goal.returns-clause-lossless_check
-returns-clause-lossless_check c = λ (past : HandlePast) stands ended memory few long.
+pub returns-clause-check : goal.returns-clause-check
+returns-clause-check c = λ (past : HandlePast) stands ended memory few long.
     let same = one-held _ stands.reader c.hand_out-answer.new.self stands.holds c.put_in.ensures.reader in
     let after = subst (λ (r : Reader). ReaderStands Check r past) same stands.stands in
     let promise = handle-promise Check _ c.hand_out-answer.new.self past c.hand_out-answer.result
     c.put_in.ensures.reader c.hand_out-answer.ensures.answer after in
-    run-says_so past _ c.hand_out-answer.result
-    (ended-where past _ c.hand_out-answer.result Check _ ended promise.run long) memory few
-
-pub returns-clause-standard : goal.returns-clause-standard
-returns-clause-standard c = λ (past : HandlePast) stands ended memory few long.
-    let same = one-held _ stands.reader c.hand_out-answer.new.self stands.holds c.put_in.ensures.reader in
-    let after = subst (λ (r : Reader). ReaderStands Check r past) same stands.stands in
-    let promise = handle-promise Check _ c.hand_out-answer.new.self past c.hand_out-answer.result
-    c.put_in.ensures.reader c.hand_out-answer.ensures.answer after in
-    run-standard past _ c.hand_out-answer.result
-    (ended-where past _ c.hand_out-answer.result Check _ ended promise.run long) memory few
+    run-check past _ c.hand_out-answer.result (IsLineReached past.fed)
+    (ended-where past _ c.hand_out-answer.result Check _ ended promise.run memory long) memory few

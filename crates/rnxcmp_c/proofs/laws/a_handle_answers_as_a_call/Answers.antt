@@ -39,6 +39,18 @@ returns-clause-limit c = λ (task : Task) (past : HandlePast) (kept : KeptTexts)
       ap (λ (a : Answer). a.line) over ∙ sym (ap (λ (a : Answer). a.line) run.answered),
     )
 
+pub returns-clause-long : goal.returns-clause-long
+returns-clause-long c = λ (task : Task) (past : HandlePast) (kept : KeptTexts) (answer call : Answer)
+    (before after : Rooms) much long. record {
+      status = ap (λ (a : Answer). a.status) long.0 ∙ sym (ap (λ (a : Answer). a.status) much.answered);
+      code = ap (λ (a : Answer). a.code) long.0 ∙ sym (ap (λ (a : Answer). a.code) much.answered);
+      no_line = ap (λ (a : Answer). a.line) long.0;
+      line = ap (λ (a : Answer). a.line) much.answered;
+      output_length = ap (λ (a : Answer). a.output_length) long.0;
+      messages_length = ap (λ (a : Answer). a.messages_length) long.0;
+      untouched = long.1;
+    }
+
 pub returns-clause-instance : goal.returns-clause-instance
 returns-clause-instance c = λ (task : Task) (fed : List ℕ) within.
     let result : FilterResult = result_for task fed in

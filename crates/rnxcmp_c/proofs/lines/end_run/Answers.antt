@@ -1,6 +1,7 @@
-use Rattle.std.proofs.Common.{List, rules}
+use Rattle.std.proofs.Common.{List, ap, rules}
 use Rattle.std.proofs.lemmas.Result.{err_from_is_err_and, IfErr-weaker}
 use Rattle.crx_faults.specs.meaning.Lines.{InputLine}
+use Rattle.crx_lines.specs.meaning.Devices.{SinkTally}
 use Rattle.rnxcmp_c.proofs.Cut.{halted-stops, made-of, stops-at}
 use Rattle.rnxcmp_c.proofs.lines.end_run.Goals as goal
 
@@ -11,7 +12,10 @@ returns-in_err-warned-clause-stops g c = λ (lines : List InputLine) shown.
     (λ halt halted. halted-stops ((g.E.Engine.filter c.args.engine.now).so_far lines)
     ((g.E.Engine.filter c.args.engine.now).whole lines)
     c.args.held.now.number _ _ _ c.args.held.now.output c.take_end.new.writer
-    c.args.held.now.messages c.take_end.new.messages (λ t took. took) (λ t took. took) halt halted)
+    c.args.held.now.messages c.take_end.new.messages (λ t took. took) (λ t took. took)
+    (λ failed. ap (λ (t : SinkTally). t.failures) failed) (λ failed. ap (λ
+    (t : SinkTally). t.failures) failed)
+    halt halted)
     (c.take_end.ensures.cut lines shown) in
     rw (p.1, p.2) (made-of c.take_end.result c.in_err-warned.field-0.0 _ _ _ c.in_err-warned.ensures.cases cut
     (λ halt stops made. search (rules, stops-at)))

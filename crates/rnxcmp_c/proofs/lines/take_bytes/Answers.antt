@@ -4,12 +4,13 @@ use Rattle.std.proofs.lemmas.List.{take-append-drop, take-append-le}
 use Rattle.crx_lines.specs.Reading.{HasNoFeed}
 use Rattle.std.proofs.lemmas.Result.{err_from_is_err_and}
 use Rattle.crx_runs.specs.meaning.Filters.{Filter}
-use Rattle.rnxcmp_c.specs.Going.{RunBreaks, IsGoing, StopsSoon}
+use Rattle.rnxcmp_c.specs.Going.{RunBreaks, IsGoing}
 use Rattle.rnxcmp_c.specs.meaning.Handles.{HandlePast, fed_with}
+use Rattle.rnxcmp_c.specs.meaning.Handles.{StopsSoon}
 use Rattle.rnxcmp_c.specs.Holding.{ready_in}
 use Rattle.rnxcmp_c.specs.declared.held.Held.{Held}
 use Rattle.rnxcmp_c.specs.declared.limits.TheConstants.{READY_LIMIT}
-use Rattle.rnxcmp_c.proofs.GoingLemmas.{soon-by}
+use Rattle.rnxcmp_c.proofs.GoingLemmas.{breaks-after, ended-more, soon-by}
 use Rattle.rnxcmp_c.proofs.PieceLemmas.{none-or}
 use Rattle.rnxcmp_c.proofs.lines.take_bytes.Goals as goal
 
@@ -102,14 +103,16 @@ returns-in_err-count-clause-breaks g c = λ (past : HandlePast) is.
     (i.0.2 past is) in
     let p = err_from_is_err_and c.from_residual.result c.from_residual.ensures.1 in
     rw (p.1, p.2)
-    (subst (λ (fed : List ℕ). RunBreaks first held (record {
+    (subst (λ (fed : List ℕ). RunBreaks past.fed first held (record {
       fed = fed;
       output = past.output;
       messages = past.messages;
     }) stop)
     (append_assoc past.fed done left ∙ ap (λ (l : List ℕ). past.fed ++ l) (sym i.0.1))
-    (subst (λ (f : Filter). RunBreaks f held (fed_with (fed_with past done) left) stop) i.1
-    (c.in_err-count.ensures.breaks (fed_with past done) going)))
+    (breaks-after first past.fed (past.fed ++ done) held (fed_with (fed_with past done) left) stop
+    (ended-more first (g.E.Engine.shows c.args.engine.now) c.args.held.now past done is)
+    (subst (λ (f : Filter). RunBreaks (past.fed ++ done) f held (fed_with (fed_with past done) left) stop) i.1
+    (c.in_err-count.ensures.breaks (fed_with past done) going))))
 
 pub returns-in_err-count-clause-low : goal.returns-in_err-count-clause-low
 returns-in_err-count-clause-low g c =

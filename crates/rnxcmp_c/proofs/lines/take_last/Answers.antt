@@ -7,7 +7,8 @@ use Rattle.crx_faults.specs.meaning.Seen.{ended_lines_of}
 use Rattle.crx_runs.specs.meaning.Filters.{Filter, with_next}
 use Rattle.rnxcmp_c.specs.Going.{MovesWithin, StepStops, piece_line}
 use Rattle.rnxcmp_c.specs.meaning.Handles.{HandlePast}
-use Rattle.rnxcmp_c.proofs.GoingLemmas.{all-ended, all-but_last, ends-well, ends-stopped, last-text, last-flag}
+use Rattle.rnxcmp_c.proofs.GoingLemmas.{all-ended, all-but_last, ends-well, ends-stopped, last-text}
+use Rattle.rnxcmp_c.proofs.GoingLemmas.{last-flag, last-good}
 use Rattle.rnxcmp_c.proofs.GoingLemmas.{last-left, last-stopped}
 use Rattle.rnxcmp_c.proofs.lines.take_last.Goals as goal
 
@@ -28,7 +29,8 @@ returns-then-is_blank-clause-done g c = λ (past : HandlePast) is.
     ∙ c.is_blank.ensures.none c.if-is_blank.true in
     let whole = all-ended filter (g.E.Engine.shows c.args.engine.now) c.args.held.now past is none in
     on_ok_weaker c.end_within.result
-    (λ within. ends-well filter c.args.held.now past (ended_lines_of past.fed) is.text is.flag whole
+    (λ within. ends-well filter c.args.held.now past
+    (ended_lines_of past.fed) is.text is.flag is.unfailed whole
     c.end_within.new.held _ is.left within)
     (c.end_within.ensures.done (ended_lines_of past.fed) is.shown)
 
@@ -40,7 +42,7 @@ returns-then-is_blank-clause-fails g c = λ (past : HandlePast) is.
     let whole = all-ended filter (g.E.Engine.shows c.args.engine.now) c.args.held.now past is none in
     IfErr-weaker c.end_within.result _ _
     (λ stop stops. ends-stopped filter c.args.held.now past (ended_lines_of past.fed) is.text is.left
-    c.end_within.new.held is.flag whole c.requires.lawful c.args.held.now.number is.number stop stops)
+    c.end_within.new.held is.flag is.unfailed whole c.args.held.now.number is.number stop stops)
     (c.end_within.ensures.stops (ended_lines_of past.fed) is.shown)
 
 pub returns-clause-ended : goal.returns-clause-ended
@@ -75,7 +77,9 @@ returns-clause-done g c = λ (past : HandlePast) is.
     c.in_ok-take_within.ensures.filter (c.end_within-2.ensures.done lines moved.kept.is_shown) in
     on_ok_weaker c.end_within-2.result
     (λ e. ends-well filter mid past lines (last-text filter shows held past is mid some _ moved)
-    (last-flag filter shows held past is mid some _ moved) (all-but_last filter shows held past is some) new then
+    (last-flag filter shows held past is mid some _ moved)
+    (last-good filter shows held past is mid some _ moved)
+    (all-but_last filter shows held past is some) new then
     (last-left filter shows held past is mid some _ within) e)
     ended
 
@@ -94,12 +98,13 @@ returns-clause-fails g c = λ (past : HandlePast) is.
     let last : mid.number ≡ length lines = c.in_ok-take_within.ensures.number ∙ ap (λ n. n + 1) is.number
     ∙ sym (length-append (ended_lines_of past.fed) (piece_line is.tail false ∷ [])) in
     let stops = subst (λ (f : Filter). IfErr c.end_within-2.result
-    (StepStops mid.number (f.so_far lines) (f.whole lines) mid new))
+    (StepStops mid.number false (f.so_far lines) (f.whole lines) mid new))
     c.in_ok-take_within.ensures.filter (c.end_within-2.ensures.stops lines moved.kept.is_shown) in
     IfErr-weaker c.end_within-2.result _ _
     (λ stop e. ends-stopped filter mid past lines (last-text filter shows held past is mid some _ moved)
     (last-left filter shows held past is mid some _ within) new (last-flag filter shows held past is mid some _ moved)
-    (all-but_last filter shows held past is some) c.requires.lawful mid.number last stop e) stops
+    (last-good filter shows held past is mid some _ moved)
+    (all-but_last filter shows held past is some) mid.number last stop e) stops
 
 pub returns-in_err-take_within-clause-fails : goal.returns-in_err-take_within-clause-fails
 returns-in_err-take_within-clause-fails g c = λ (past : HandlePast) is.

@@ -19,7 +19,16 @@ returns-in-None-clause-going g c = λ (past : HandlePast) is.
     (λ k h. c.in-None.ensures.none k (omega arith) h)) in
     subst (λ (bs : List ℕ). IsGoing filter shows new (fed_with past bs)) (sym all)
     (keeps-going filter shows c.args.held.now past is new bytes
-    (record { number = refl; warned = refl; limit = refl; left = refl; output = refl; messages = refl })
+    (record {
+      number = refl;
+      warned = refl;
+      limit = refl;
+      left = refl;
+      output = refl;
+      messages = refl;
+      output_good = refl;
+      messages_good = refl;
+    })
     c.add.ensures none)
 
 pub returns-in-Ok-clause-going : goal.returns-in-Ok-clause-going
@@ -33,7 +42,16 @@ returns-in-Ok-clause-going g c = λ (past : HandlePast) is.
     let new = c.take_within.new.held in
     let piece : List ℕ = take end bytes in
     let same : IsSame c.args.held.now mid =
-    record { number = refl; warned = refl; limit = refl; left = refl; output = refl; messages = refl } in
+    record {
+      number = refl;
+      warned = refl;
+      limit = refl;
+      left = refl;
+      output = refl;
+      messages = refl;
+      output_good = refl;
+      messages_good = refl;
+    } in
     let none = no_feed-before bytes end (omega (arith, c.in-Some.ensures.within.1)) (λ k h. c.in-Some.ensures.first k
     (omega arith) h) in
     let all : take (end + 1) bytes ≡ piece ++ 10 ∷ [] =
@@ -54,10 +72,19 @@ returns-in-Err-clause-breaks g c = λ (past : HandlePast) is.
     let new = c.take_within.new.held in
     let piece : List ℕ = take end bytes in
     let same : IsSame c.args.held.now mid =
-    record { number = refl; warned = refl; limit = refl; left = refl; output = refl; messages = refl } in
+    record {
+      number = refl;
+      warned = refl;
+      limit = refl;
+      left = refl;
+      output = refl;
+      messages = refl;
+      output_good = refl;
+      messages_good = refl;
+    } in
     let none = no_feed-before bytes end (omega (arith, c.in-Some.ensures.within.1)) (λ k h. c.in-Some.ensures.first k
     (omega arith) h) in
-    subst (λ (bs : List ℕ). RunBreaks filter new (fed_with past bs) c.in-Err.stop)
+    subst (λ (bs : List ℕ). RunBreaks past.fed filter new (fed_with past bs) c.in-Err.stop)
     (sym (cut-at bytes end c.in-Some.ensures.within.1 c.in-Some.ensures.found))
     (breaks filter shows c.args.held.now past is mid piece same c.add-in-Some.ensures none
     new (drop (end + 1) bytes) c.in-Err.stop (c.in-Err.ensures.stops (ended_lines_of past.fed) (is.tail ++ piece)

@@ -1,4 +1,4 @@
-use Rattle.std.proofs.Common.{ℕ, ◌≤◌, List, length, sym, subst}
+use Rattle.std.proofs.Common.{ℕ, ◌≤◌, List, false, length, sym, subst}
 use Rattle.std.proofs.lemmas.List.{take_all}
 use Rattle.std.proofs.lemmas.Result.{IfErr-weaker, on_ok_weaker}
 use Rattle.crx_faults.specs.meaning.Lines.{InputLine}
@@ -12,7 +12,7 @@ counted-requires-clause-output g c =
     let kept = c.args.held.now.tail.bytes.items in
     let all = sym (take_all LINE_ROOM kept c.args.held.now.tail.within) in
     subst (λ (n : ℕ). n ≤ length (waiting c.take_piece-taken.new.held.output)) (sym c.mark-mark.ensures.output)
-    (more-output-either _ _ _ _ c.args.held.now c.take_piece-taken.new.held c.take_piece-taken.result
+    (more-output-either _ _ _ _ _ c.args.held.now c.take_piece-taken.new.held c.take_piece-taken.result
     (c.take_piece-taken.ensures.done c.requires.shown.0 kept c.requires.shown.1 all)
     (c.take_piece-taken.ensures.stops c.requires.shown.0 kept c.requires.shown.1 all))
 
@@ -21,14 +21,15 @@ counted-requires-clause-messages g c =
     let kept = c.args.held.now.tail.bytes.items in
     let all = sym (take_all LINE_ROOM kept c.args.held.now.tail.within) in
     subst (λ (n : ℕ). n ≤ length (waiting c.take_piece-taken.new.held.messages)) (sym c.mark-mark.ensures.messages)
-    (more-messages-either _ _ _ _ c.args.held.now c.take_piece-taken.new.held c.take_piece-taken.result
+    (more-messages-either _ _ _ _ _ c.args.held.now c.take_piece-taken.new.held c.take_piece-taken.result
     (c.take_piece-taken.ensures.done c.requires.shown.0 kept c.requires.shown.1 all)
     (c.take_piece-taken.ensures.stops c.requires.shown.0 kept c.requires.shown.1 all))
 
 pub returns-clause-done : goal.returns-clause-done
 returns-clause-done g c = λ (lines : List InputLine) (whole : List ℕ) shown kept.
     on_ok_weaker c.counted.result
-    (λ p. step-stays 0 _ _ _ c.args.held.now c.take_piece-taken.new.held c.counted.new.held c.mark-mark.result
+    (λ p. step-stays 0 false _ _ _ c.args.held.now c.take_piece-taken.new.held c.counted.new.held
+    c.mark-mark.result
     c.mark-mark.ensures.output c.mark-mark.ensures.messages c.take_piece-taken.ensures.limit
     c.take_piece-taken.ensures.left c.take_piece-taken.result
     (c.take_piece-taken.ensures.done lines whole shown kept) p.0 p.1)
@@ -37,7 +38,8 @@ returns-clause-done g c = λ (lines : List InputLine) (whole : List ℕ) shown k
 pub returns-clause-stops : goal.returns-clause-stops
 returns-clause-stops g c = λ (lines : List InputLine) (whole : List ℕ) shown kept.
     IfErr-weaker c.counted.result _ _
-    (λ stop s. step-stops _ _ _ _ c.args.held.now c.take_piece-taken.new.held c.counted.new.held c.mark-mark.result
+    (λ stop s. step-stops _ _ _ _ _ c.args.held.now c.take_piece-taken.new.held c.counted.new.held
+    c.mark-mark.result
     c.mark-mark.ensures.output c.mark-mark.ensures.messages c.take_piece-taken.ensures.limit
     c.take_piece-taken.ensures.left c.take_piece-taken.result
     (c.take_piece-taken.ensures.done lines whole shown kept)

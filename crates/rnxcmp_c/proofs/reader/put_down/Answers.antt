@@ -11,6 +11,8 @@ returns-then-add c =
       messages = c.add.ensures.taken c.if-add.true
           ∙ ap (λ (t : List ℕ). waiting c.args.held.now.messages ++ t)
           (c.bytes.ensures.value ∙ c.message.ensures.value);
+      output_good = refl;
+      messages_good = c.add.ensures.counts.failures;
     })
 
 pub returns : goal.returns
@@ -20,6 +22,8 @@ returns c =
       fault = refl;
       output = refl;
       messages = c.add.ensures.unchanged c.if-add.false;
+      output_good = refl;
+      messages_good = c.add.ensures.counts.failures;
       refused = subst (λ (t : List ℕ). IsTextRefused c.args.held.now.messages (length t))
           (c.bytes.ensures.value ∙ c.message.ensures.value) (c.add.ensures.refused c.if-add.false);
     })

@@ -2,9 +2,9 @@ use Rattle.std.proofs.Common.{ℕ, ◌∙◌, List, Some, length, sym, subst, ar
 use Rattle.std.proofs.lemmas.List.{take_all}
 use Rattle.rnxcmp_c.specs.Handles.{HasFed}
 use Rattle.rnxcmp_c.specs.meaning.Handles.{Task, HandlePast, fed_with}
+use Rattle.rnxcmp_c.specs.meaning.Handles.{StopsSoon}
 use Rattle.rnxcmp_c.specs.declared.reader.Reader.{Reader}
 use Rattle.crx_runs.specs.meaning.Filters.{Filter}
-use Rattle.rnxcmp_c.specs.Going.{StopsSoon}
 use Rattle.rnxcmp_c.proofs.ReaderLemmas.{filter-is, stops-over}
 use Rattle.rnxcmp_c.proofs.reader.Reader.feed.Goals as goal
 
@@ -16,8 +16,10 @@ returns-in-Err-clause-fed c = λ (task : Task) (past : HandlePast) is.
       held = c.outcome_of.new.held;
       outcome = Some c.outcome_of.result;
     } in
-    subst (λ (fed : List ℕ). HasFed task new (fed_with past fed)) (sym (take_all (length bytes) bytes (omega arith)))
-    (stops-over task c.args.self.now.engine is.is_of new c.take_any.new.held (c.in-Err.ensures.limit ∙ is.limit)
+    subst (λ (fed : List ℕ). HasFed past.fed task new (fed_with past fed)) (sym (take_all
+    (length bytes) bytes (omega arith)))
+    (stops-over past.fed task c.args.self.now.engine is.is_of new c.take_any.new.held
+    (c.in-Err.ensures.limit ∙ is.limit)
     c.outcome_of.result (fed_with past bytes) c.in-Err.stop (c.in-Err.ensures.breaks past is.going)
     c.outcome_of.ensures)
 

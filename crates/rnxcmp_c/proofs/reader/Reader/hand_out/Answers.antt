@@ -15,4 +15,4 @@ returns-clause-stands c = λ (task : Task) (past : HandlePast) stands.
     ∙ ap (λ (t : List ℕ). output ++ t) (sym c.hand_out.ensures.left))
     (sym (take-append-drop (length c.args.messages.now) (waiting old.held.messages))
     ∙ ap (λ (t : List ℕ). messages ++ t) (sym c.hand_out-2.ensures.left))
-    stands
+    c.hand_out.ensures.counts.failures c.hand_out-2.ensures.counts.failures stands

@@ -1,0 +1,27 @@
+-- What a handle promises of the files that the text was made of which it was fed, once its run has ended with
+-- its result.
+use Rattle.std.specs.Prelude.{◌≡◌, true}
+use Rattle.crx_filter.specs.meaning.Lossless.{SaysThatItComesBack}
+use Rattle.crx_options.specs.meaning.Choices.{Choices}
+use Rattle.rnxcmp_c.specs.declared.answer.Answer.{Answer}
+use Rattle.rnxcmp_c.specs.meaning.Handles.{HandlePast, KeptTexts, RunHasResult}
+use Rattle.rnxcmp_c.specs.meaning.Lossless.{CallBringsBackWhatPasses}
+use Rattle.rnxcmp_c.specs.meaning.Promises.{CallBringsBackWhatWasCompacted, CallJudgesStandard}
+use Rattle.rnxcmp_c.specs.meaning.Promises.{CallSavesAllElse}
+use Rattle.rnxcmp_c.specs.meaning.Stretches.{CallKeepsUndamaged, CallWritesWholeUnits}
+
+-- an expansion: what passes a check comes back; so does what was compacted; and where faults are skipped, all
+-- but what is damaged is there, or all that is whole before a cut
+pub record ExpansionPromises (choices : Choices) (past : HandlePast) (kept : KeptTexts)
+    (answer : Answer) : Type 0 where
+  pub lossless : CallBringsBackWhatPasses (λ whole. RunHasResult whole past kept answer) past.fed
+  pub way_back : CallBringsBackWhatWasCompacted (λ whole. RunHasResult whole past kept answer) past.fed
+  pub salvage : choices.skip ≡ true → CallSavesAllElse (λ whole. RunHasResult whole past kept answer) past.fed
+  pub damage : choices.skip ≡ true → CallKeepsUndamaged
+      (λ whole. RunHasResult whole past kept answer) past.fed
+  pub whole_units : CallWritesWholeUnits (λ whole. RunHasResult whole past kept answer) past.fed
+
+-- a check: a file with status 0 comes back, and these are the standard ones
+pub record CheckPromises (past : HandlePast) (answer : Answer) : Type 0 where
+  pub lossless : SaysThatItComesBack answer.status past.fed
+  pub standard : CallJudgesStandard answer.status past.fed
