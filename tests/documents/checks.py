@@ -1,6 +1,7 @@
 """The documents against the sources: the pages that `make docs` makes have each definition once and no link to nothing, the pictures are
 those that their script would make today, the picture of an epoch is what the program makes, each clause, name of code, file and make target
-that a document names is there, and the limits, faults and options of the program are those that texts beside it have (see tests/run.py)."""
+that a document names is there, the page of each crate has its modules, and the limits, faults and options of the program are those that texts
+beside it have (see tests/run.py)."""
 
 import re
 import subprocess
@@ -14,7 +15,8 @@ sys.path.insert(0, str(TOP / "docs"))
 from chapters import CHAPTERS, Book, is_definition, lines_of  # noqa: E402
 from sources import crates, functions_in, public_functions  # noqa: E402
 
-PAGES = ("README.md", "CONTRIBUTING.md", "tests/README.md", "bench/README.md", "samples/README.md") + tuple(
+CRATE_PAGES = tuple(f"crates/{crate}/README.md" for crate in crates())
+PAGES = ("README.md", "CONTRIBUTING.md", "tests/README.md", "bench/README.md", "samples/README.md") + CRATE_PAGES + tuple(
     str(path.relative_to(TOP)) for path in sorted((TOP / "docs").glob("*.md")))
 
 
@@ -122,6 +124,17 @@ def names_named(page, words):
     files = {name for name in re.findall(r"`(\w+\.(?:rt|antt))`", text) if not any((TOP / "crates").glob(f"*/*/**/{name}"))}
     names = {name for name in names if re.search(r"[A-Za-z]_[A-Za-z]|[a-z][A-Z]|^[A-Z][a-z]", name)}
     return [f"{page}: no source has {name}" for name in sorted((names - words) | files)]
+
+
+def modules_named(page):
+    """The modules of a crate's src that its page has no row for, the rows of modules that are gone, and the files of specs and proofs that the
+    page names and no crate has."""
+    text = (TOP / page).read_text(encoding="utf-8") if (TOP / page).exists() else ""
+    there = {path.stem for path in (TOP / page).parent.glob("src/*.rt")} - {"lib", "main"}
+    rows = set(re.findall(r"^\| `(\w+)` \| \S", text, re.M))
+    files = re.findall(r"`((?:src|specs|proofs)/[\w/.*]+)`", text)
+    wrong = [f"{page} has no row of {it}" for it in sorted(there - rows)] + [f"{page}: there is no module {it}" for it in sorted(rows - there)]
+    return wrong + [f"{page}: there is no {it}" for it in files if not any((TOP / "crates").glob(f"*/{it}"))]
 
 
 def targets_named(page):
@@ -295,8 +308,11 @@ def checks(program):
             continue
         yield f"{page}: files", lambda page=page: files_named(page)
         yield f"{page}: targets", lambda page=page: targets_named(page)
+    for page in CRATE_PAGES:
+        yield f"{page}: modules", lambda page=page: modules_named(page)
     words = sources()
-    for page in ("docs/DESIGN.md", "docs/DECISIONS.md", "docs/FORMATS.md", "docs/GUARANTEES.md"):
-        yield f"{page}: names", lambda page=page: names_named(page, words)
+    for page in ("docs/DESIGN.md", "docs/DECISIONS.md", "docs/FORMATS.md", "docs/GUARANTEES.md") + CRATE_PAGES:
+        if (TOP / page).exists():
+            yield f"{page}: names", lambda page=page: names_named(page, words)
     for page in ("README.md", "docs/GUARANTEES.md"):
         yield f"{page}: clauses", lambda page=page: clauses_named(page, known)

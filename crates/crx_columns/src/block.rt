@@ -25,7 +25,7 @@ pub fn put_text(bytes: &mut [u8], start: usize, text: &[u8]) -> usize
     ensures put { take result bytes.new ≡ take start bytes.old ++ text.now }
     ensures end { result ≡ start + length text.now }
 {
-    // Mostly there are no marks to be put: without this a call of the C library comes, and 12 instructions before it.
+    // Most satellite lines have no marks to be put: without this a call of the C library comes, and 12 instructions before it.
     if text.is_empty() {
         return start;
     }

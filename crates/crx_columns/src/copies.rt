@@ -50,7 +50,7 @@ fn copy_three(to: &mut [u8], from: &[u8])
     to[count - 1] = last;
 }
 
-/// Puts blanks in place of a text, a vector of 16 characters at a time. Mostly the text is empty.
+/// Puts blanks in place of a text, by vectors as [`copy_text`]. What is after a row's indicators is mostly empty.
 #[inline]
 pub fn put_blanks(text: &mut [u8])
     requires { length text.old ≤ LINE_LIMIT }

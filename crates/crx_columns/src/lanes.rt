@@ -1,4 +1,4 @@
-//! Texts read and written 16 characters at a time; the last 16 may overlap those before.
+//! Texts read and written in vectors of 16 characters, long ones two vectors at a time; the last ones may overlap those before.
 
 ghost use Rattle.std.specs.Prelude.{◌≡◌, ℕ, ◌+◌, ◌-◌, ◌<◌, ◌≤◌, Bool, ◌++◌, ◌==◌, ◌&&◌, length, take, drop};
 ghost use Rattle.std.specs.List.{list_all};
@@ -63,7 +63,8 @@ fn holds_in_two<K: Kind>(text: &[u8], at: usize) -> bool
 }
 
 // Whether all characters of a text of 16 to 48 are of the kind: its two ends, which may overlap, and the vector between, with one
-// branch at the end. Epoch texts and indicators mostly are as long: 40 characters take 1.0 instructions each, and 1.6 by 32 at a time.
+// branch at the end. Columns 1 to 41 of an epoch line and the indicators of 8 to 24 types are as long: 40 characters take 1.0 instructions
+// each, and 1.6 by 32 at a time (bench/README.md).
 #[inline(always)]
 fn all_of_some<K: Kind>(text: &[u8]) -> bool
     requires some { 16 ≤ length text.now }
@@ -175,8 +176,8 @@ fn write_lanes<R: Rule>(old: &[u8], other: &[u8], out: &mut [u8], at: usize)
     R::apply_to(olds, others).copy_to_slice(&mut out[at..]);
 }
 
-// Writes what the rule makes of texts of 16 to 48 characters: of their two ends, which may overlap, and of the vector between. At 18
-// characters a difference takes 4.2 instructions each, and 5.2 by 32 at a time.
+// Writes what the rule makes of texts of 16 to 48 characters: of their two ends, which may overlap, and of the vector between. At 40
+// characters a difference takes 2.4 instructions each, and 3.8 by 32 at a time (bench/README.md).
 #[inline(always)]
 fn write_some<R: Rule>(old: &[u8], other: &[u8], out: &mut [u8])
     requires some { 16 ≤ length old.now }

@@ -1,4 +1,4 @@
-//! The faults of all crates, their limits, and what the lines of an input are.
+//! The faults that a message can name, the limits of the formats, and what the lines of an input are.
 #![tactic(auto)]
 
 pub mod fault;

@@ -82,8 +82,8 @@ impl Expander {
         self.lines.next_line()
     }
 
-    /// Borrows all lines that are ready as one text, each followed by LF. `None` comes where a line is copied, or where the text is long,
-    /// and then the lines stay ready.
+    /// Borrows all lines that are ready as one text, each followed by LF. `None` comes where a line is copied, and then the lines stay
+    /// ready.
     pub(crate) fn take_text(&mut self) -> Option<&[u8]>
         ensures value { IfSome result (λ text. text.now ≡ lines_text self.old.lines) }
         ensures* after_borrow { sem 𝓛 (Rests the_row self.entry

@@ -9,7 +9,7 @@ use crate::device::{ReadFailed, Source};
 use crx_faults::limits::LINE_LIMIT;
 use std::alloc::{AllocError, Global};
 
-/// How many bytes are held at once: some hundred lines of common files.
+/// How many bytes are held at once: some hundreds of lines of common files.
 pub(crate) const SIZE: usize = 65536;
 
 /// The room that a read finds at least, where something is held: a line's content, CR and LF.

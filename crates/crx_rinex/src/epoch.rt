@@ -132,8 +132,8 @@ impl Epoch {
         self.read_other_row(types, line)
     }
 
-    /// Reads a satellite line as [`Epoch::read_row`] does, where its row isn't the epoch's last one, and stands where a row of the same
-    /// satellite stood in the epoch before. Most lines of a file are such lines; `false` comes for the others, and for one with a fault,
+    /// Reads a satellite line as [`Epoch::read_row`] does, where its row isn't the epoch's last one, and is where a row of the same
+    /// satellite was in an earlier epoch. Most lines of a file are such lines; `false` comes for the others, and for one with a fault,
     /// and then the epoch is as it was.
     #[inline(always)]
     pub fn read_known_row(&mut self, types: &Types, line: &[u8]) -> bool

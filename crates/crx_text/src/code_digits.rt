@@ -30,9 +30,9 @@ pub(crate) fn digits_before_blank(text: &[u8]) -> Option<(u64, usize)>
 }
 
 // What `digits_before_blank` gives, where at most six digits stand before a blank, or before the text's end; else None, whatever there
-// is. Six digits are two groups of three, which one product weighs, and most codes have no more, so they take 42 instructions in
-// place of 60 to 126. Where fewer characters than a row has are left of a line, they are copied into a row: one by one a line's last
-// code takes 50 to 100 instructions.
+// is. Six digits are two groups of three, which one product joins, and most codes have no more: `step_before_blank` takes 52 instructions
+// for one, and digit by digit it would take 60 to 115. Where fewer characters than a row has are left of a line, they are copied into a
+// row: a line's last code takes some 60 instructions so, and 50 to 100 digit by digit (bench/README.md).
 #[inline(always)]
 pub(crate) fn few_digits_before_blank(text: &[u8]) -> Option<(u64, usize)>
     ensures value { IfSome result (λ cell. counted_digits (first_cell text.now) ≡ Some cell.0) }
@@ -45,7 +45,7 @@ pub(crate) fn few_digits_before_blank(text: &[u8]) -> Option<(u64, usize)>
     digits_in_front(text)
 }
 
-// What `digits_before_blank` gives, read digit by digit: numbers of seven digits or more.
+// What `digits_before_blank` gives, read digit by digit: of numbers of seven digits or more, and of what is no number.
 #[inline(always)]
 fn digits_before_blank_singly(text: &[u8]) -> Option<(u64, usize)>
     ensures value { option_map (λ cell. cell.0) result ≡ counted_digits (first_cell text.now) }
@@ -122,7 +122,7 @@ pub(crate) const ROW: usize = 8;
 // How many digits of a row are read at once.
 const FEW: usize = 6;
 
-// What `few_digits_before_blank` gives of a text that has as many characters as a row.
+// What `few_digits_before_blank` gives of a text that has at least as many characters as a row.
 #[inline(always)]
 pub(crate) fn digits_in_front(text: &[u8]) -> Option<(u64, usize)>
     requires { ROW ≤ length text.now }
@@ -156,7 +156,7 @@ fn digits_of_few(text: &[u8]) -> Option<(u64, usize)>
     ended_digits(text, row_size(digits, count), count)
 }
 
-// How far the characters of a row stand above `0`, and zeros after them.
+// How far the characters of a row are above `0`, and after them bytes 0, which are no digits.
 #[inline(always)]
 fn row_digits(text: &[u8]) -> u8x16
     requires { ROW ≤ length text.now }
@@ -169,7 +169,7 @@ fn row_digits(text: &[u8]) -> u8x16
     row - u8x16::splat(b'0')
 }
 
-// The first number of a lane that ends the digits; the lane after the sixth digit ends them in any case.
+// The first number of a lane that ends the digits; the lane after the seventh digit ends them in any case.
 const ENDS: [u8; 16] = [10, 10, 10, 10, 10, 10, 10, 0, 0, 0, 0, 0, 0, 0, 0, 0];
 
 // How many of the first seven lanes come before one that is no digit.

@@ -1,5 +1,5 @@
 //! The texts that RINEX and Compact RINEX files are made of: numbers in columns, and codes of numbers. Texts and their differences are
-//! those of crx_columns, lines and devices those of crx_lines, faults and limits those of crx_faults; they are handed on.
+//! those of crx_columns, lines and devices those of crx_lines, faults those of crx_faults; they are handed on.
 #![tactic(auto)]
 
 mod clock_field;
