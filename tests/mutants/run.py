@@ -1,10 +1,11 @@
 #!/usr/bin/env python3
 """Planted bugs, each of which a test is to see: tests/mutants/run.py PROGRAM FOLDER [FOLDER ..]
 
-A folder has edits, whose names say what is wrong then, and a `check.py`. Each edit is made in a copy of the repository's files, and taken
-back after `check.py PROGRAM COPY MADE FILE` has been run over the copy: MADE is the repository where `make` left what it built (or that
-LIBRARY_TOP names), FILE is the one that was edited. It is to end with status 1 and to print as its last line what has seen the bug; over
-files as they are it is to end with status 0, and with 2 where they can't be built, which isn't seeing a bug.
+A folder has a `check.py` and folders of edits, one for each file that is changed, or for a part of it; such a folder may be named too. An
+edit's name says what is wrong then. Each edit is made in a copy of the repository's files, and taken back after `check.py PROGRAM COPY MADE
+FILE` has been run over the copy: MADE is the repository where `make` left what it built (or that LIBRARY_TOP names), FILE is the one that
+was edited. It is to end with status 1 and to print as its last line what has seen the bug; over files as they are it is to end with status
+0, and with 2 where they can't be built, which isn't seeing a bug.
 
 An edit is lines that begin with a word: `file:` names the file, `after:` a text after which the change is, if there is one; `old:` is what
 stands there, and `new:` what takes its place. More than one `old:` or `new:` are lines of one text. It stands there once, or once after
@@ -54,7 +55,13 @@ def read_edit(path):
 
 
 def edits_of(folder):
-    return [read_edit(path) for path in sorted(folder.glob("*.edit"))]
+    """The edits of a folder and of those below it."""
+    return [read_edit(path) for path in sorted(folder.rglob("*.edit"))]
+
+
+def check_of(folder):
+    """The script that sees a folder's bugs: its own, or that of the folder above."""
+    return next(path for path in (folder / "check.py", folder.parent / "check.py") if path.exists())
 
 
 def stale(folder):
@@ -82,7 +89,7 @@ def copy_to(folder):
 
 def run_check(program, folder, copy, made, file):
     """Whether a bug was seen, and by what, or the last line where it wasn't."""
-    command = [sys.executable, folder / "check.py", program, copy, made, file]
+    command = [sys.executable, check_of(folder), program, copy, made, file]
     try:
         run = subprocess.run([str(word) for word in command], capture_output=True, text=True, errors="replace", timeout=SECONDS)
     except subprocess.TimeoutExpired:
