@@ -1,6 +1,6 @@
 //! Bytes that texts are written into one after another, and that are kept for the texts after them.
 
-ghost use Rattle.std.specs.Prelude.{ℕ, ◌≡◌, ◌≤◌, ◌<◌, ◌+◌, ◌++◌, ◌∷◌, [], length, take, OnOk};
+ghost use Rattle.std.specs.Prelude.{IsOk, drop, ℕ, ◌≡◌, ◌≤◌, ◌<◌, ◌+◌, ◌++◌, ◌∷◌, [], length, take, OnOk};
 
 use std::alloc::AllocError;
 
@@ -12,6 +12,7 @@ pub fn grow(bytes: &mut Vec<u8>, count: usize) -> Result<(), AllocError>
     ensures room { OnOk result (count ≤ length bytes.new.items) }
     ensures longer { length bytes.old.items ≤ length bytes.new.items }
     ensures same { (n : ℕ) → n ≤ length bytes.old.items → take n bytes.new.items ≡ take n bytes.old.items }
+    ensures known { count ≤ length bytes.old.items → IsOk result }
 {
     while bytes.len() < count {
         bytes.extend_from_slice(&GROWTH)?;
@@ -24,6 +25,7 @@ pub fn put_text(bytes: &mut [u8], start: usize, text: &[u8]) -> usize
     requires { start + length text.now ≤ length bytes.old }
     ensures put { take result bytes.new ≡ take start bytes.old ++ text.now }
     ensures end { result ≡ start + length text.now }
+    ensures rest { drop (start + length text.now) bytes.new ≡ drop (start + length text.now) bytes.old }
 {
     // Most satellite lines have no marks to be put: without this a call of the C library comes, and 12 instructions before it.
     if text.is_empty() {
@@ -39,6 +41,7 @@ pub fn put_line(bytes: &mut [u8], start: usize, line: &[u8])
     requires { start + length line.now < length bytes.old }
     ensures put { take (start + length line.now + 1) bytes.new
         ≡ take start bytes.old ++ (line.now ++ 10 ∷ []) }
+    ensures rest { drop (start + length line.now + 1) bytes.new ≡ drop (start + length line.now + 1) bytes.old }
 {
     let end = put_text(bytes, start, line);
     bytes[end] = b'\n';

@@ -1,23 +1,21 @@
 -- Rows that come one by one, each after what is stored of its satellite: the row of the epoch before, or a
 -- blank one.
-use Rattle.std.proofs.Common.{◌≡◌, ◌+◌, ◌++◌, ◌∷◌, [], ℕ, List, Bool, true, false, not, Option, Some, None}
-use Rattle.std.proofs.Common.{Result, Ok, Err, IsOk, IfOk, length, take, slice_get, slice_set, refl}
-use Rattle.std.proofs.Common.{if◌then◌else◌, ap, sym, ◌∙◌, subst, arith, unwrap_or}
+use Rattle.std.proofs.Common.{◌≡◌, ◌++◌, ◌∷◌, [], ℕ, List, Bool, true, false, not, Option, Some, None}
+use Rattle.std.proofs.Common.{Result, Ok, Err, IsOk, IfOk, length, take, slice_get, refl}
+use Rattle.std.proofs.Common.{if◌then◌else◌, ap, sym, ◌∙◌, arith, unwrap_or}
 use Rattle.std.specs.Str.{bytes_eq}
 use Rattle.std.proofs.lemmas.Bool.{or_parts}
 use Rattle.crx_header.specs.meaning.Satellites.{is_among, are_apart}
-use Rattle.crx_header.proofs.Apart.{other_way, among-map, new_at}
+use Rattle.crx_header.proofs.Apart.{other_way, new_at}
 use Rattle.crx_rinex.specs.meaning.Observations.{Row}
 use Rattle.crx_compact.specs.meaning.EpochText.{Satellite}
-use Rattle.crx_compact.specs.Placing.{HasCome, HasRoom, PlacedRows, empty_row, padded, padded_among}
+use Rattle.crx_compact.specs.Placing.{HasCome, PlacedRows, empty_row, padded, padded_among}
 use Rattle.crx_compact.specs.Placing.{row_tail_named, row_or_blank}
 use Rattle.crx_compact.specs.Steps.{row_line_after, row_line_in, row_tail_after, row_tail_in}
 use Rattle.crx_compact.specs.Tails.{RowTail}
 use Rattle.crx_compact.proofs.Characters.{bytes_eq-is}
-use Rattle.crx_compact.proofs.Making.{Made, taken_more}
-use Rattle.crx_compact.proofs.RowByRow.{last-there, last-set}
 use Rattle.crx_rinex.specs.meaning.Epochs.{are_different}
-use Rattle.std.proofs.lemmas.List.{length-map, length-take-le, length_push, take_all}
+use Rattle.std.proofs.lemmas.List.{take_all}
 use Rattle.std.proofs.lemmas.Option.{get_or_from_slice_get, slice_get_within}
 
 -- ---- a blank row is none
@@ -95,73 +93,13 @@ awaited-after f come x before old new awaited has = λ name absent.
 
 -- ---- the next row of an epoch
 
--- what is known where the satellite of the row at an index has come
-pub record HasRowCome (before : List RowTail) (rows : List Row) (index : ℕ) (row : Row)
-    (old new : PlacedRows) : Type 0 where
-  pub many : length new.rows ≡ index + 1
-  pub there : slice_get new.rows index ≡ Some (row_or_blank row.name old.rest)
-  pub put : (left : RowTail) → slice_set new.rows index left ≡ old.rows ++ left ∷ []
-  pub same : row_tail_named row.name old.rest ≡ row_tail_named row.name before
-  pub awaited : AreAwaited (λ (r : Row). r.name) (take (index + 1) rows) before new.rest
-
 -- the row at an index is of none of the satellites before it
-row-new : (before : List RowTail) (rows : List Row) (index : ℕ) (row : Row) → are_different rows ≡ true
+pub row-new : (rows : List Row) (index : ℕ) (row : Row) → are_different rows ≡ true
     → slice_get rows index ≡ Some row → is_among (λ (r : Row). r.name) row.name (take index rows) ≡ false
-row-new before rows index row apart here =
+row-new rows index row apart here =
     let within = slice_get_within rows index row here in
     let whole : take (length rows) rows ≡ rows = take_all (length rows) rows (omega arith) in
     ap (λ (r : Row). is_among (λ (q : Row). q.name) r.name (take index rows))
     (sym (get_or_from_slice_get rows index row row here))
     ∙ new_at (λ (r : Row). r.name) (length rows) rows index row
     (ap (are_apart (λ (r : Row). r.name)) whole ∙ apart) within within
-
-pub row-comes : {E : Type 0} (before : List RowTail) (rows : List Row) (index : ℕ) (row : Row)
-    (old new : PlacedRows)
-    (r : Result Bool E) → are_different rows ≡ true → slice_get rows index ≡ Some row
-    → Made (row_tail_in before) [] rows index old.rows
-    → AreAwaited (λ (q : Row). q.name) (take index rows) before old.rest → IsOk r
-    → IfOk r (λ is_new. is_new ≡ not (is_among (λ (t : RowTail). t.name) row.name old.rows))
-    → IfOk r (λ is_new. is_new ≡ true → HasCome row.name old new) → HasRowCome before rows index row old new
-row-comes before rows index row old new r apart here made awaited ok answer come =
-    let within = slice_get_within rows index row here in
-    let fresh = row-new before rows index row apart here in
-    let tail_name = λ (t : RowTail). t.name in
-    let absent : is_among tail_name row.name old.rows ≡ false =
-    ap (is_among tail_name row.name) made.is
-    ∙ among-map tail_name (row_tail_in before) row.name (take index rows) ∙ fresh in
-    let has = comes r (is_among tail_name row.name old.rows)
-    (HasCome row.name old new) ok answer come absent in
-    let so_far : length old.rows ≡ index =
-    ap length made.is ∙ length-map (take index rows) (row_tail_in before)
-    ∙ length-take-le index rows (omega (arith, within)) in
-    let last = row_or_blank row.name old.rest in
-    record {
-      many = ap length has.rows ∙ length_push old.rows last ∙ ap (λ n. n + 1) so_far;
-      there = ap (λ rs. slice_get rs index) has.rows
-          ∙ ap (slice_get (old.rows ++ last ∷ [])) (sym so_far) ∙ last-there old.rows last;
-      put = λ left. ap (λ rs. slice_set rs index left) has.rows
-          ∙ ap (λ n. slice_set (old.rows ++ last ∷ []) n left) (sym so_far) ∙ last-set old.rows last left;
-      same = awaited row.name fresh;
-      awaited = subst (λ (qs : List Row). AreAwaited (λ (q : Row). q.name) qs before new.rest)
-          (sym (taken_more rows index row here))
-          (awaited-after (λ (q : Row). q.name) (take index rows) row before old new awaited has);
-    }
-
-pub room-for_none : (name : List ℕ) (count : ℕ) (rooms : List (List ℕ × ℕ))
-    → HasRoom name count rooms → HasRoom name 0 rooms
-room-for_none name count rooms h = record { room = h.room; there = h.there; within = omega arith }
-
--- the same where the identifier was taken from the row
-pub row-placed : {E : Type 0} (before : List RowTail) (rows : List Row) (index : ℕ) (row : Row)
-    (old new : PlacedRows)
-    (r : Result Bool E) (name : List ℕ) → are_different rows ≡ true → Some row ≡ slice_get rows index
-    → name ≡ row.name
-    → Made (row_tail_in before) [] rows index old.rows
-    → AreAwaited (λ (q : Row). q.name) (take index rows) before old.rest → IsOk r
-    → IfOk r (λ is_new. is_new ≡ not (is_among (λ (t : RowTail). t.name) name old.rows))
-    → IfOk r (λ is_new. is_new ≡ true → HasCome name old new) → HasRowCome before rows index row old new
-row-placed before rows index row old new r name apart here same made awaited ok answer come =
-    row-comes before rows index row old new r apart (sym here) made awaited ok
-    (subst (λ (n : List ℕ). IfOk r (λ is_new. is_new
-    ≡ not (is_among (λ (t : RowTail). t.name) n old.rows))) same answer)
-    (subst (λ (n : List ℕ). IfOk r (λ is_new. is_new ≡ true → HasCome n old new)) same come)

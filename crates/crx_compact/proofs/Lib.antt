@@ -8,10 +8,10 @@ pub mod Characters
 pub mod EpochLines
 pub mod RowByRow
 pub mod ComeRows
+pub mod Writing
 pub mod NamesCome
 pub mod ShownHistory
 pub mod AnnouncedRows
-pub mod EncodedEpochs
 pub mod Identifiers
 pub mod Marks
 pub mod Naming
@@ -30,3 +30,4 @@ pub mod PrintedBlocks
 mod SatelliteLines
 pub mod Resizing
 pub mod placing
+pub mod Encoders

@@ -1,12 +1,14 @@
 -- Lines that a text is cut into, each followed by LF.
-use Rattle.std.specs.Prelude.{◌≡◌, ◌≤◌, ◌<◌, refl, ℕ, zero, suc, ◌+◌, ◌-◌, List, [], ◌∷◌, ◌++◌, length, set, take, drop}
-use Rattle.std.specs.Prelude.{get_or, slice_get, Option, Some}
+use Rattle.std.specs.Prelude.{◌≡◌, ◌≤◌, ◌<◌, refl, ℕ, zero, suc, ◌+◌, ◌-◌, List, [], ◌∷◌, ◌++◌}
+use Rattle.std.specs.Prelude.{length, set, take, drop, get_or, slice_get, Option, Some}
 use Rattle.std.proofs.Common.{sym, ◌∙◌, ap, subst, arith, append_assoc}
-use Rattle.std.proofs.lemmas.List.{drop-append-le, drop-drop, drop-take, drop_more, take-append-le, take-take}
+use Rattle.std.proofs.Math.Seq.{drop-append_seam, drop-append-add, take-append-add, take-set-lt}
+use Rattle.std.proofs.lemmas.List.{drop-append-le, drop-drop, drop-set, drop-take, drop_more}
+use Rattle.std.proofs.lemmas.List.{length-set, take-append-drop, take-append-le, take-take}
 use Rattle.std.proofs.lemmas.List.{length-append, length-drop, length-take-le, take_more_set}
 use Rattle.std.proofs.Math.ListN.{drop_of_length-le}
 use Rattle.crx_columns.proofs.WrittenTexts.{counted-line, line-ended}
-use Rattle.crx_compact.specs.LineLists.{cut, lines_text, AreCut}
+use Rattle.crx_compact.specs.LineLists.{cut, lines_text, AreCut, HasFront}
 
 -- the first of some lines ends within the text, and the others are its rest
 pub record Ended (count : ℕ) (counts text : List ℕ) : Type 0 where
@@ -164,3 +166,107 @@ row-pushed lengths bytes new line many filled count past past_bytes c free withi
     (ap (λ n. take n (set new (filled + count) 10)) {x = filled + (count + 1)} {y = filled + count + 1}
     (omega arith)
     ∙ line-ended new bytes line filled count written room)
+
+-- ---- lines in front
+
+-- there is room in front of more lines too
+pub front-kept : (front lines bytes lines' bytes' : ℕ)
+    → HasFront front lines bytes → lines ≤ lines' → bytes ≤ bytes' → HasFront front lines' bytes'
+front-kept front lines bytes lines' bytes' h more more' = (omega (arith, h, more), omega (arith, h, more'))
+
+-- the first of some lines, and the others
+cut-first : (counts line rest : List ℕ)
+    → cut (length line ∷ counts) ((line ++ 10 ∷ []) ++ rest) ≡ line ∷ cut counts rest
+cut-first counts line rest =
+    let after : (line ++ 10 ∷ []) ++ rest ≡ line ++ 10 ∷ rest = append_assoc line (10 ∷ []) rest in
+    ap (cut (length line ∷ counts)) after
+    ∙ ap {B = List (List ℕ)} (λ l. l ∷ cut counts (drop (suc (length line)) (line ++ 10 ∷ rest)))
+    (whole-first line (10 ∷ rest))
+    ∙ ap {B = List (List ℕ)} (λ t. line ∷ cut counts t)
+    (ap (λ n. drop n (line ++ 10 ∷ rest)) {x = suc (length line)} {y = length line + 1} (omega arith)
+    ∙ drop-append-add line (10 ∷ rest) 1)
+
+-- a line that is written right in front of the others of a text, over what was there
+front-written : (bytes new line : List ℕ) (filled start past_bytes : ℕ)
+    → start + length line + 1 ≡ past_bytes → past_bytes ≤ filled → filled ≤ length bytes
+    → take past_bytes new ≡ take start bytes ++ (line ++ 10 ∷ [])
+    → drop past_bytes new ≡ drop past_bytes bytes
+    → drop start (take filled new) ≡ (line ++ 10 ∷ []) ++ drop past_bytes (take filled bytes)
+front-written bytes new line filled start past_bytes at within room written same =
+    let ended : List ℕ = line ++ 10 ∷ [] in
+    let left : ℕ = filled - past_bytes in
+    let long : length ended ≡ length line + 1 = length-append line (10 ∷ []) in
+    let before : length (take start bytes) ≡ start =
+    length-take-le start bytes (omega (arith, at, within, room)) in
+    let all : filled ≡ past_bytes + left = omega (arith, within) in
+    let more : filled ≡ start + (length ended + left) = omega (arith, within, at, long) in
+    let whole : new ≡ take start bytes ++ (ended ++ drop past_bytes bytes) =
+    sym (take-append-drop past_bytes new) ∙ ap (λ t. t ++ drop past_bytes new) written
+    ∙ ap (λ t. (take start bytes ++ ended) ++ t) same
+    ∙ append_assoc (take start bytes) ended (drop past_bytes bytes) in
+    let from : drop start new ≡ ended ++ drop past_bytes bytes =
+    ap (drop start) whole
+    ∙ ap (λ n. drop n (take start bytes ++ (ended ++ drop past_bytes bytes))) (sym before)
+    ∙ drop-append_seam (take start bytes) (ended ++ drop past_bytes bytes) in
+    ap (λ n. drop start (take n new)) more
+    ∙ drop-take start (length ended + left) new
+    ∙ ap (take (length ended + left)) from
+    ∙ take-append-add ended (drop past_bytes bytes) left
+    ∙ ap (λ t. ended ++ t)
+    (sym (ap (λ n. drop past_bytes (take n bytes)) all ∙ drop-take past_bytes left bytes))
+
+-- a line that is put in front of the others of a text, over what was there, with its length before theirs
+pub record PutFront (lengths bytes new line : List ℕ)
+    (many filled past next past_bytes start : ℕ) : Type 0 where
+  pub is : cut (drop next (take many (set lengths next (length line)))) (drop start (take filled new))
+      ≡ line ∷ cut (drop past (take many lengths)) (drop past_bytes (take filled bytes))
+  pub still : AreCut (take many (set lengths next (length line))) (take filled new) next start
+
+pub put-front : (lengths bytes new line : List ℕ) (many filled past next past_bytes start : ℕ)
+    → AreCut (take many lengths) (take filled bytes) past past_bytes
+    → many ≤ length lengths → filled ≤ length bytes
+    → past ≡ next + 1 → start + length line + 1 ≡ past_bytes
+    → take past_bytes new ≡ take start bytes ++ (line ++ 10 ∷ [])
+    → drop past_bytes new ≡ drop past_bytes bytes
+    → PutFront lengths bytes new line many filled past next past_bytes start
+put-front lengths bytes new line many filled past next past_bytes start c some room one at written same =
+    let counts : List ℕ = drop past (take many lengths) in
+    let rest : List ℕ = drop past_bytes (take filled bytes) in
+    let lengths' : List ℕ = take many (set lengths next (length line)) in
+    let past_within = c.past_within in
+    let bytes_within = c.bytes_within in
+    let all : length (take many lengths) ≡ many = length-take-le many lengths some in
+    let long : length (take filled bytes) ≡ filled = length-take-le filled bytes room in
+    let within : next < many = omega (arith, past_within, all, one) in
+    let longer : drop next lengths' ≡ length line ∷ counts =
+    ap (drop next) (take-set-lt many lengths next (length line) within)
+    ∙ drop-set (take many lengths) next (length line) (omega (arith, within, all))
+    ∙ ap (λ n. length line ∷ drop n (take many lengths)) (sym one) in
+    let text : drop start (take filled new) ≡ (line ++ 10 ∷ []) ++ rest =
+    front-written bytes new line filled start past_bytes at (omega (arith, bytes_within, long))
+    room written same in
+    let is : cut (drop next lengths') (drop start (take filled new)) ≡ line ∷ cut counts rest =
+    ap (λ ns. cut ns (drop start (take filled new))) longer ∙ ap (cut (length line ∷ counts)) text
+    ∙ cut-first counts line rest in
+    let after = ap length text in
+    let before = length-drop start (take filled new) in
+    record {
+      is = is;
+      still = record {
+        past_within = omega (
+          arith,
+          within,
+          all,
+          length-set lengths next (length line),
+          length-take-le many (set lengths next (length line)),
+        );
+        bytes_within = omega (
+          arith,
+          after,
+          before,
+          length-append (line ++ 10 ∷ []) rest,
+          length-append line (10 ∷ []),
+        );
+        whole = ap lines_text is ∙ ap (λ t. (line ++ 10 ∷ []) ++ t) c.whole ∙ sym text;
+      };
+    }

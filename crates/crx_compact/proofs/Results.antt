@@ -54,10 +54,6 @@ by_ok (Err e) good x = absurd (true≢false (sym good))
 
 -- ---- a refusal that is handed on
 
--- what is said of a good result holds of it
-pub no-ok : {T E : Type 0} (r : Result T E) (e : E) (X : Type 0) → r ≡ Err e → OnOk r X
-no-ok r e X is = rw is tt
-
 -- what is so is so of any refusal
 pub on_err : {X E P : Type 0} (r : Result X E) → P → OnErr r P
 on_err (Ok x) h = tt

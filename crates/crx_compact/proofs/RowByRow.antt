@@ -1,6 +1,6 @@
 -- Rows one by one: what holds of each, the sum of what each needs, and what is made of those up to an index.
 use Rattle.std.proofs.Common.{◌≡◌, ◌<◌, ◌+◌, ◌++◌, ◌∷◌, [], ℕ, zero, suc, List, Some, All, length, take, drop}
-use Rattle.std.proofs.Common.{map, sum, slice_get, slice_set, refl, ap, sym, ◌∙◌, subst, arith, get_or}
+use Rattle.std.proofs.Common.{map, sum, slice_get, refl, ap, sym, ◌∙◌, subst, arith, get_or}
 use Rattle.std.proofs.Common.{append_assoc, add-one}
 use Rattle.std.proofs.lemmas.List.{map-append}
 use Rattle.std.proofs.lemmas.List.Elements.{All-append}
@@ -40,14 +40,6 @@ is-there [] k within = absurd (omega (arith, within))
 is-there (x ∷ xs) zero within = record { item = x; there = refl }
 is-there (x ∷ xs) (suc k) within =
     let deeper = is-there xs k (omega (arith, within)) in record { item = deeper.item; there = deeper.there }
-
-pub last-there : {X : Type 0} (xs : List X) (x : X) → slice_get (xs ++ x ∷ []) (length xs) ≡ Some x
-last-there [] x = refl
-last-there (y ∷ ys) x = last-there ys x
-
-pub last-set : {X : Type 0} (xs : List X) (x y : X) → slice_set (xs ++ x ∷ []) (length xs) y ≡ xs ++ y ∷ []
-last-set [] x y = refl
-last-set (z ∷ zs) x y = ap (λ ws. z ∷ ws) (last-set zs x y)
 
 -- ---- sums
 

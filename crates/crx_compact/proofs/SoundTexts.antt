@@ -1,73 +1,23 @@
--- The text of an epoch as the reader of RINEX makes it: how long it is, and of which characters.
-use Rattle.std.specs.Prelude.{◌≡◌, ◌≤◌, refl, ℕ, zero, suc, ◌*◌, true, ◌&&◌, if◌then◌else◌, List, [], ◌∷◌, length}
-use Rattle.std.specs.Prelude.{take, flat_map, All}
-use Rattle.std.specs.List.{list_all}
+-- Blanks at the end of texts, and what is held of indicators.
+use Rattle.std.specs.Prelude.{◌≡◌, ◌≤◌, refl, ℕ, zero, suc, ◌*◌, true, if◌then◌else◌, List, [], ◌∷◌, length}
+use Rattle.std.specs.Prelude.{take}
 use Rattle.std.proofs.lemmas.Bool.Decides.{Decides-eqb}
-use Rattle.std.proofs.lemmas.Bool.{and_parts}
-use Rattle.std.proofs.Common.{ap, arith, inl, inr, length-append, ◌∙◌, sym}
-use Rattle.crx_faults.specs.declared.limits.TheConstants.{LINE_LIMIT}
+use Rattle.std.proofs.Common.{ap, arith, inl, inr, ◌∙◌, sym}
 use Rattle.std.specs.Prelude.{◌<◌, ◌+◌, ◌-◌, ◌++◌, ◌⊎◌, replicate}
 use Rattle.crx_columns.specs.Texts.{character_of, patched}
 use Rattle.crx_header.specs.meaning.ObservationTypes.{IsAllowedCount}
 use Rattle.crx_columns.proofs.Characters.{length-columns, at, at-without_end_blanks, columns-are, list_all-from_at}
 use Rattle.crx_compact.proofs.PlaceByPlace.{at-padded, at-take}
 use Rattle.crx_compact.proofs.Characters.{at-take_past, within-or_past}
-use Rattle.crx_columns.specs.meaning.Columns.{character_at, columns, is_blank, without_end_blanks, before_end_blanks}
-use Rattle.crx_rinex.specs.meaning.Observations.{Row, Epoch}
-use Rattle.crx_rinex.specs.meaning.EpochLines.{ObservationHead, IsObservationHead}
-use Rattle.crx_header.specs.meaning.EpochColumns.{begins_epoch, is_observation_flag, satellites_in}
-use Rattle.crx_rinex.specs.meaning.Epochs.{IsSoundEpoch}
-use Rattle.crx_rinex.specs.meaning.SatelliteLines.{IsSoundRow}
+use Rattle.crx_columns.specs.meaning.Columns.{columns, is_blank, without_end_blanks, before_end_blanks}
 use Rattle.crx_compact.specs.HeldRows.{AreHeldFlags}
-use Rattle.crx_compact.specs.meaning.Compaction.{epoch_text}
 use Rattle.crx_compact.specs.Steps.{flags_held}
-use Rattle.crx_compact.proofs.Characters.{if_some, list_all-append, list_all-at}
+use Rattle.crx_compact.proofs.Characters.{list_all-at}
 use Rattle.crx_compact.proofs.Characters.{at-by_position, same_characters}
 use Rattle.crx_columns.specs.meaning.Texts.{by_position, mark_of, text_difference, is_kept}
-use Rattle.crx_compact.proofs.Characters.{length-is, name-kept}
 use Rattle.crx_columns.proofs.EndBlanks.{few_kept}
 
-abbrev names : List Row → List ℕ
-names rows = flat_map (λ (r : Row). r.name) rows
-
-names-length : (rows : List Row) → All IsSoundRow rows → length (names rows) ≡ 3 * length rows
-names-length [] h = refl
-names-length (r ∷ rs) h =
-    let first : length r.name ≡ 3 = length-is r.name (h 0 r (omega arith)).named in
-    let rest : length (names rs) ≡ 3 * length rs = names-length rs (λ i d less. h (suc i) d (omega (arith, less))) in
-    omega (arith, first, rest, length-append r.name (names rs))
-
-names-kept : (rows : List Row) → All IsSoundRow rows → list_all is_kept (names rows) ≡ true
-names-kept [] h = refl
-names-kept (r ∷ rs) h =
-    let sound : IsSoundRow r = h 0 r (omega arith) in
-    list_all-append is_kept r.name (names rs) (name-kept r.name (length-is r.name sound.named) sound.named)
-    (names-kept rs (λ i d less. h (suc i) d (omega (arith, less))))
-
-pub text-fits : (e : Epoch) → IsSoundEpoch e → length (epoch_text e) ≤ LINE_LIMIT
-text-fits e h =
-    let width : length e.head ≡ 41 = h.head_sound.width in
-    let few = h.head_sound.within in
-    omega (arith, width, few, h.within, names-length e.rows h.rows_sound, length-append e.head (names e.rows))
-
-head-kept : (head : ObservationHead) → IsObservationHead head → list_all is_kept head.head ≡ true
-head-kept head h =
-    (and_parts (begins_epoch head.head && is_observation_flag (character_at head.head 32)) (list_all is_kept head.head)
-    (if_some (begins_epoch head.head && is_observation_flag (character_at head.head 32) && list_all is_kept head.head)
-    (satellites_in head.head) head.count h.counted)).1
-
-pub text-plain : (e : Epoch) → IsSoundEpoch e → list_all is_kept (epoch_text e) ≡ true
-text-plain e h = list_all-append is_kept e.head
-    (names e.rows) (head-kept _ h.head_sound) (names-kept e.rows h.rows_sound)
-
 -- ---- blanks at the end
-
-pub trimmed-fits : (e : Epoch) → IsSoundEpoch e → length (without_end_blanks (epoch_text e)) ≤ LINE_LIMIT
-trimmed-fits e h = omega (arith, few_kept (epoch_text e), text-fits e h)
-
-pub trimmed-plain : (e : Epoch) → IsSoundEpoch e → list_all is_kept (without_end_blanks (epoch_text e)) ≡ true
-trimmed-plain e h = list_all-from_at is_kept (without_end_blanks (epoch_text e)) (λ k.
-    ap is_kept (at-without_end_blanks (epoch_text e) k) ∙ list_all-at is_kept refl (epoch_text e) (text-plain e h) k)
 
 -- a difference doesn't see the blanks at the end of the new text
 pub difference-trimmed : (old new : List ℕ) → text_difference old (without_end_blanks new) ≡ text_difference old new

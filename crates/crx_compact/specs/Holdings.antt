@@ -10,6 +10,9 @@ use Rattle.crx_compact.specs.declared.expanded_lines.ExpandedLines.TheInside.{In
 use Rattle.crx_compact.specs.declared.printed_block.PrintedBlock.{PrintedBlock}
 use Rattle.crx_compact.specs.declared.columns.Columns.TheInside.{Inside as ColumnsInside}
 use Rattle.crx_compact.specs.declared.ready_lines.ReadyLines.{ReadyLines}
+use Rattle.crx_compact.specs.declared.encoder.Encoder.TheInside.{Inside as EncoderInside}
+use Rattle.crx_compact.specs.declared.kept_tail.KeptTail.{KeptTail}
+use Rattle.crx_rinex.specs.declared.rows_so_far.RowsSoFar.{RowsSoFar}
 
 -- what is stored of a satellite, with the parts of another
 abbrev pub satellite_with : SatelliteHistoryInside → SatelliteHistoryInside → SatelliteHistoryInside
@@ -49,6 +52,8 @@ lines_with one other = record one {
   count = other.count;
   handed_out = other.handed_out;
   handed_out_bytes = other.handed_out_bytes;
+  reserved = other.reserved;
+  front = other.front;
 }
 
 -- a line that is copied, with the parts of another
@@ -86,6 +91,13 @@ columns_with one other = record one {
   alloc = other.alloc;
 }
 
+-- the rows of an epoch so far, and the tail before it, with the parts of others: nothing that is stored
+abbrev pub rows_with : RowsSoFar → RowsSoFar → RowsSoFar
+rows_with one other = record one { marker = other.marker; rows = other.rows }
+
+abbrev pub kept_tail_with : KeptTail → KeptTail → KeptTail
+kept_tail_with one other = record one { marker = other.marker; tail = other.tail }
+
 -- the lines that a compaction has ready, with the parts of another
 abbrev pub ready_lines_with : ReadyLines → ReadyLines → ReadyLines
 ready_lines_with one other = record one {
@@ -93,4 +105,16 @@ ready_lines_with one other = record one {
   program = other.program;
   copied = other.copied;
   made = other.made;
+}
+
+-- an encoder, with the parts of another
+abbrev pub encoder_with : EncoderInside → EncoderInside → EncoderInside
+encoder_with one other = record one {
+  history = other.history;
+  is_kept = other.is_kept;
+  in_full = other.in_full;
+  ready = ready_lines_with one.ready other.ready;
+  part = other.part;
+  before = kept_tail_with one.before other.before;
+  rows = rows_with one.rows other.rows;
 }

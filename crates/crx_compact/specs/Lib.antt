@@ -22,3 +22,5 @@ pub mod ReadingLaws
 pub mod OpenLines
 pub mod ReadBlocks
 pub mod Holdings
+pub mod Written
+pub mod Encoding

@@ -1,5 +1,6 @@
 -- Lines one after another in one text, each followed by LF.
-use Rattle.std.specs.Prelude.{◌≡◌, ◌≤◌, ℕ, suc, List, [], ◌∷◌, length, take, drop}
+use Rattle.std.specs.Prelude.{◌≡◌, ◌≤◌, ◌+◌, ◌*◌, ℕ, suc, List, [], ◌∷◌, length, take, drop}
+use Rattle.crx_faults.specs.declared.limits.TheConstants.{LINE_LIMIT}
 pub use Rattle.crx_faults.specs.meaning.Lines.{lines_text}
 
 -- the lines of these lengths in a text in which one character follows each of them
@@ -13,8 +14,15 @@ pub record AreCut (lengths text : List ℕ) (past past_bytes : ℕ) : Type 0 whe
   pub bytes_within : past_bytes ≤ length text
   pub whole : lines_text (cut (drop past lengths) (drop past_bytes text)) ≡ drop past_bytes text
 
--- lines that are pending, and how many lines more, of how many bytes, there is room for
+-- lines that are pending; how many lines more, of how many bytes, there is room for; for how many lines room is always kept in front of the
+-- first one; and how many can be put there now
 pub record PendingLines : Type 0 where
   pub lines : List (List ℕ)
   pub free_lines : ℕ
   pub free_bytes : ℕ
+  pub reserved : ℕ
+  pub front : ℕ
+
+-- so many lines, each as long as a line may be, and of so many bytes, are room for some more
+abbrev pub HasFront : ℕ → ℕ → ℕ → Type 0
+HasFront front lines bytes = (front ≤ lines) × (front * (LINE_LIMIT + 1) ≤ bytes)

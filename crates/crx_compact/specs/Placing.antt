@@ -1,6 +1,6 @@
 -- The satellites of a history while an epoch is open: the rows that have come, in the order of the file; those of the epoch before that
 -- haven't come yet, each known by its identifier; and how many types there is room for.
-use Rattle.std.specs.Prelude.{◌≡◌, ◌≤◌, ◌++◌, ◌∷◌, ℕ, List, [], length, slice_index_or, Option, None, Some, false, map}
+use Rattle.std.specs.Prelude.{◌≡◌, ◌≤◌, ◌++◌, ◌∷◌, ℕ, ℤ, List, [], length, slice_index_or, Option, None, Some, false, map}
 use Rattle.std.specs.Prelude.{All, sum, unwrap_or, ◌+◌, ◌*◌}
 use Rattle.std.specs.Str.{bytes_eq}
 use Rattle.crx_columns.specs.meaning.EachPlace.{each_place}
@@ -113,13 +113,16 @@ IsBetween history = history.satellites.rest ≡ []
 abbrev pub HaveRoom : List Row → List (List ℕ × ℕ) → Type 0
 HaveRoom rows rooms = All (λ (row : Row). HasRoom row.name (length row.values) rooms) rows
 
--- as many bytes as the compact line of a row has at most, with its LF
-abbrev pub row_room : Row → ℕ
-row_room row = CELL_ROOM * length row.values + 2 * TYPES_LIMIT + 1
+-- a row by its identifier, values and indicators
+abbrev pub row_of_parts : List ℕ → List (Option ℤ) → List ℕ → Row
+row_of_parts name values flags = record { name = name; values = values; flags = flags }
 
--- as many bytes as the compact lines of an epoch have at most, each with its LF
-abbrev pub epoch_room : Epoch → ℕ
-epoch_room epoch = 2 * (LINE_LIMIT + 1) + sum (map row_room epoch.rows)
+-- as many bytes as the compact line of a row of so many types has at most, with its LF
+abbrev pub room_of_types : ℕ → ℕ
+room_of_types count = CELL_ROOM * count + 2 * TYPES_LIMIT + 1
+
+abbrev pub row_room : Row → ℕ
+row_room row = room_of_types (length row.values)
 
 -- a row has as many cells as a system may have types
 abbrev pub HasAllowedCount : RowTail → Type 0

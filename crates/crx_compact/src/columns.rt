@@ -3,6 +3,7 @@
 
 ghost use Rattle.std.specs.Prelude.{◌≡◌, ◌≤◌, ◌<◌, ◌++◌, ◌∷◌, List, if◌then◌else◌, [], Some, None, true, false, length, IfOk, IfErr, OnOk, OnErr, Err};
 ghost use Rattle.crx_rinex.specs.Epochs.{is_full_epoch};
+ghost use Rattle.crx_rinex.specs.meaning.Epochs.{IsSoundEpoch};
 ghost use Rattle.std.specs.Prelude.{◌⊎◌};
 ghost use Rattle.crx_faults.specs.meaning.Seen.{Content, ReadLine};
 ghost use Rattle.crx_header.specs.meaning.ObservationTypes.{Count};
@@ -30,7 +31,7 @@ use crx_faults::Fault;
 use crx_header::Types;
 use crx_rinex::{Epoch, begins_epoch};
 use crx_text::Text;
-use std::alloc::{AllocError, Global};
+use std::alloc::Global;
 use std::marker::Model;
 use std::mem;
 
@@ -138,6 +139,7 @@ impl Columns {
     /// Makes the compact lines of an epoch for [`Columns::encode`].
     fn encode_next(&mut self, epoch: Epoch, full: bool) -> Result<Coded, (Epoch, Fault)>
         requires whole { is_full_epoch epoch ≡ true }
+        requires sound { IsSoundEpoch epoch }
         requires idle { is_idle self.old ≡ true }
         ensures coded { IfOk result (λ coded. coded
             ≡ record {
@@ -150,36 +152,17 @@ impl Columns {
         ensures err { OnErr result (self.new ≡ self.old) }
     {
         let mut lines = mem::replace(&mut self.lines, Lines::new(self.alloc));
-        lines.clear();
-        if self.encode_into(&epoch, full, &mut lines).is_err() {
-            return Err((epoch, Fault::OutOfMemory));
-        }
-        Ok(Coded::new(epoch, lines))
-    }
-
-    /// Puts the compact lines of an epoch that has all its rows after others: the same lines as [`Columns::encode`] makes.
-    ///
-    /// After `AllocError` the columns are as they were, and what was put after the others is no whole epoch.
-    pub fn encode_into(
-        &mut self,
-        epoch: &Epoch,
-        full: bool,
-        lines: &mut Lines,
-    ) -> Result<(), AllocError>
-        requires whole { is_full_epoch epoch.now ≡ true }
-        requires idle { is_idle self.old ≡ true }
-        ensures lines { OnOk result (lines.new.lines
-            ≡ lines.old.lines ++ lines_after_tail (tail_written_after full (tail_held self.old)) epoch.now) }
-        ensures kept { OnOk result (self.new
-            ≡ Idle (Some (tail_after (tail_written_after full (tail_held self.old)) epoch.now))) }
-        ensures err { OnErr result (self.new ≡ self.old) }
-    {
-        // What holds of every epoch is known by its line.
-        let _ = epoch.is_full();
         let in_full = full || !self.is_kept;
-        self.history.encode(epoch, in_full, &mut self.part, lines)?;
-        self.is_kept = true;
-        Ok(())
+        match self
+            .history
+            .encode(&epoch, in_full, &mut self.part, &mut lines)
+        {
+            Ok(()) => {
+                self.is_kept = true;
+                Ok(Coded::new(epoch, lines))
+            }
+            Err(_) => Err((epoch, Fault::OutOfMemory)),
+        }
     }
 
     /// Begins an epoch with its epoch line, which is read after the epoch before; a line that begins with `>` is read after

@@ -1,39 +1,39 @@
 //! The history, which each epoch's lines are made and read after, and which they change in place: Hatanaka's Compact RINEX 3.0.
 
-ghost use Rattle.std.specs.Prelude.{ℕ, List, sum, flat_map, ◌≡◌, ◌≤◌, ◌<◌, ◌+◌, ◌*◌, ◌++◌, ◌∷◌, ◌⊎◌, if◌then◌else◌, [], true, false, None, Some, Ok, Err, All, length, take, map, slice_get, is_some, OnOk, OnErr, IfOk, IfErr};
-ghost use Rattle.std.specs.List.{list_all};
+ghost use Rattle.std.specs.Prelude.{List, sum, flat_map, ◌≡◌, ◌≤◌, ◌<◌, ◌+◌, ◌*◌, ◌++◌, ◌∷◌, ◌⊎◌, if◌then◌else◌, [], true, false, None, Some, Ok, Err, All, length, take, map, slice_get, is_some, not, OnOk, OnErr, IfOk, IfErr, IsOk};
 ghost use Rattle.std.specs.Result.{is_ok};
 ghost use Rattle.crx_columns.specs.meaning.Columns.{columns, without_end_blanks};
-ghost use Rattle.crx_columns.specs.meaning.Texts.{is_kept, is_printable, text_difference};
+ghost use Rattle.crx_columns.specs.meaning.Texts.{text_difference};
 ghost use Rattle.crx_columns.specs.Texts.{patched};
-ghost use Rattle.crx_faults.specs.declared.limits.TheConstants.{HEAD_WIDTH, LINE_LIMIT, SATELLITES_LIMIT};
+ghost use Rattle.crx_faults.specs.declared.limits.TheConstants.{HEAD_WIDTH, LINE_LIMIT, NAME_WIDTH, SATELLITES_LIMIT};
 ghost use Rattle.crx_header.specs.meaning.EpochColumns.{begins_epoch, epoch_count};
 ghost use Rattle.crx_rinex.specs.Epochs.{is_full_epoch, with_row};
-ghost use Rattle.crx_rinex.specs.meaning.Epochs.{IsSoundEpoch, are_different, has_satellite};
+ghost use Rattle.crx_rinex.specs.meaning.Epochs.{IsSoundEpoch, has_satellite};
 ghost use Rattle.crx_rinex.specs.meaning.Observations.{Row};
 ghost use Rattle.crx_rinex.specs.meaning.Printing.{printed_head, printed_row};
-ghost use Rattle.crx_text.specs.meaning.Codes.{code_text};
-ghost use Rattle.crx_compact.specs.ArcSteps.{arc_of_value, code_of_value, shown_value};
+ghost use Rattle.crx_compact.specs.ArcSteps.{shown_value};
 ghost use Rattle.crx_compact.specs.HeldRows.{IsAwaitedSatellite, past_of_tail, row_held};
 ghost use Rattle.crx_compact.specs.meaning.CompactPlaces.{clock_line_read, satellites_of_line, satellites_of_text};
-ghost use Rattle.crx_compact.specs.meaning.Compaction.{epoch_text};
 ghost use Rattle.crx_compact.specs.meaning.EpochText.{Satellite, names_in, satellites_named};
-ghost use Rattle.crx_compact.specs.Placing.{HasAllowedCount, HaveRoom, IsAnnounced, IsBetween, IsRowRead, epoch_room, padded, padded_among, row_room, satellite_of, tail_of_history};
+ghost use Rattle.crx_compact.specs.Placing.{HasAllowedCount, HasRoom, HaveRoom, IsAnnounced, IsBetween, IsRowRead, KeepsRooms, padded, padded_among, room_of_types, row_of_parts, row_room, satellite_of, tail_of_history};
+ghost use Rattle.crx_compact.specs.Written.{AreRowsWritten, epoch_by_rows};
+ghost use Rattle.crx_rinex.specs.meaning.SatelliteLines.{IsSoundRow};
 ghost use Rattle.crx_compact.specs.PrintedBlocks.{printed_room};
-ghost use Rattle.crx_compact.specs.RowsSoFar.{AreAnnounced, HasClock};
+ghost use Rattle.crx_compact.specs.RowsSoFar.{HasClock};
 ghost use Rattle.crx_compact.specs.ShownRows.{shown_epoch, shown_row};
-ghost use Rattle.crx_compact.specs.Steps.{lines_after_tail, no_tail, row_line_in, row_tail_in, tail_after, tail_named};
-ghost use Rattle.crx_compact.specs.Tails.{RowTail};
+ghost use Rattle.crx_compact.specs.Steps.{lines_after_tail, no_tail, tail_after, tail_named};
+ghost use Rattle.crx_compact.specs.Tails.{RowTail, Tail};
 
 use crate::arc::ClockArc;
 use crate::cells::CELL_ROOM;
-use crate::lines::Lines;
+use crate::lines::{FIRST_LINES, Lines};
 use crate::refusals::fault_of_text;
 use crate::satellites::Satellites;
 use crx_faults::Fault;
 use crx_faults::limits::{CELL_WIDTH, HEAD_WIDTH, LINE_LIMIT, NAME_WIDTH, TYPES_LIMIT};
 use crx_header::{Types, after_columns, all_blank, identifier, padded, put_identifier};
 use crx_rinex::{Epoch, EpochLine, SatRow, begins_epoch, print_head, types_of_satellite};
+use crx_text::block::put_text;
 use crx_text::difference::{append_difference, patch_bytes};
 use crx_text::{Text, code_print, code_read, trim_end};
 use std::alloc::{AllocError, Global};
@@ -96,8 +96,8 @@ impl History {
         self.satellites.clear();
     }
 
-    /// Puts the compact lines of an epoch after others: in full, where that is asked for, else as differences from the epoch before. The
-    /// history is the one after the epoch. All memory is asked for first, so that after `AllocError` nothing has changed.
+    /// Puts the compact lines of an epoch in place of others: in full, where that is asked for, else as differences from the epoch before. The
+    /// history is the one after the epoch. All memory is asked for first, so that after `AllocError` the history stays.
     pub(crate) fn encode(
         &mut self,
         epoch: &Epoch,
@@ -106,58 +106,137 @@ impl History {
         lines: &mut Lines,
     ) -> Result<(), AllocError>
         requires sound { IsSoundEpoch epoch.now }
+        requires whole { is_full_epoch epoch.now ≡ true }
         requires between { IsBetween self.old }
         ensures after { OnOk result (tail_of_history self.new
             ≡ tail_after (if in_full then no_tail else tail_of_history self.old) epoch.now) }
-        ensures lines { OnOk result (lines.new.lines ≡ lines.old.lines
-            ++ lines_after_tail (if in_full then no_tail else tail_of_history self.old) epoch.now) }
+        ensures lines { OnOk result (lines.new.lines
+            ≡ lines_after_tail (if in_full then no_tail else tail_of_history self.old) epoch.now) }
         ensures err { OnErr result (tail_of_history self.new ≡ tail_of_history self.old) }
-        ensures unchanged { OnErr result (lines.new.lines ≡ lines.old.lines) }
         ensures between { IsBetween self.new }
     {
         self.prepare(epoch)?;
-        lines.make_room(epoch.count() + 2, room_of_epoch(epoch))?;
-        if in_full {
-            self.clear();
-        }
-        self.put_first_lines(epoch, part, lines);
-        put_rows(&mut self.satellites, epoch, part, lines);
+        lines.reserve_front(FIRST_LINES)?;
+        lines.make_room(epoch.count(), room_of_rows(epoch))?;
+        self.begin_rows(in_full);
+        self.write_rows(epoch, part, lines);
+        self.end_rows(epoch.head(), part, lines).unwrap();
         Ok(())
     }
 
-    /// Asks for all memory that the lines of an epoch need in the history, and makes the epoch's text. The history stays.
+    /// Asks for all memory that the lines of an epoch need in the history, which stays.
     fn prepare(&mut self, epoch: &Epoch) -> Result<(), AllocError>
         requires sound { IsSoundEpoch epoch.now }
         ensures tail { tail_of_history self.new ≡ tail_of_history self.old }
         ensures rest { self.new.satellites.rest ≡ self.old.satellites.rest }
-        ensures text { OnOk result (self.new.next_text ≡ without_end_blanks (epoch_text epoch.now)) }
+        ensures text { OnOk result (HEAD_WIDTH + NAME_WIDTH * length epoch.now.rows ≤ length self.new.next_text) }
         ensures room { OnOk result (HaveRoom epoch.now.rows self.new.satellites.rooms) }
     {
-        renew_text(&mut self.next_text, epoch)?;
+        make_long(&mut self.next_text, HEAD_WIDTH + NAME_WIDTH * epoch.count())?;
         prepare_rows(&mut self.satellites, epoch)
     }
 
-    /// Puts the first two compact lines of an epoch after others, for which there is room: the difference of its text, which is made, and
-    /// the clock's code.
-    fn put_first_lines(&mut self, epoch: &Epoch, part: &mut Text, lines: &mut Lines)
-        requires free_lines { 2 ≤ lines.old.free_lines }
-        requires free_bytes { 2 * (LINE_LIMIT + 1) ≤ lines.old.free_bytes }
-        ensures history { self.new ≡ record self.old {
-          text = self.old.next_text;
-          next_text = self.old.text;
-          clock = arc_of_value epoch.now.clock self.old.clock;
-        } }
-        ensures lines { lines.new.lines ≡ lines.old.lines ++ text_difference self.old.text self.old.next_text
-            ∷ code_text (code_of_value epoch.now.clock self.old.clock) ∷ [] }
-        ensures free_lines { lines.new.free_lines + 2 ≡ lines.old.free_lines }
-        ensures free_bytes { lines.old.free_bytes ≤ lines.new.free_bytes + 2 * (LINE_LIMIT + 1) }
+    /// Begins an epoch whose rows are written one by one: in full, where that is asked for, else as differences from the epoch before.
+    pub(crate) fn begin_rows(&mut self, in_full: bool)
+        requires between { IsBetween self.old }
+        ensures begun { AreRowsWritten (if in_full then no_tail else tail_of_history self.old) [] self.new [] }
+        ensures next_text { self.new.next_text ≡ self.old.next_text }
+        ensures rooms { KeepsRooms self.old.satellites.rooms self.new.satellites.rooms }
     {
-        mark_change(&self.text, &self.next_text, part);
-        lines.put(part.bytes());
-        mem::swap(&mut self.text, &mut self.next_text);
+        if in_full {
+            self.clear();
+        }
+        self.satellites.begin();
+    }
+
+    /// Writes the compact line of the next row of an epoch after others. `false` comes where the epoch has a row of the satellite already, and
+    /// then nothing changes; what `AllocError` leaves means nothing.
+    #[inline(always)]
+    pub(crate) fn write_row(
+        &mut self,
+        name: [u8; NAME_WIDTH],
+        values: &[Option<i64>],
+        flags: &[u8],
+        part: &mut Text,
+        lines: &mut Lines,
+    ) -> Result<bool, AllocError>
+        requires sound { IsSoundRow (row_of_parts name values.now flags.now) }
+        ensures answer { (after : Tail) (rows : List Row) → AreRowsWritten after rows self.old lines.old.lines
+            → IfOk result (λ is_new. is_new ≡ not (has_satellite name rows)) }
+        ensures written { (after : Tail) (rows : List Row) → AreRowsWritten after rows self.old lines.old.lines
+            → IfOk result (λ is_new. is_new ≡ true
+            → AreRowsWritten after (rows ++ row_of_parts name values.now flags.now ∷ []) self.new lines.new.lines) }
+        ensures same { IfOk result (λ is_new. is_new ≡ false
+            → (self.new ≡ self.old) × (lines.new.lines ≡ lines.old.lines)) }
+        ensures memory { (after : Tail) (rows : List Row) → AreRowsWritten after rows self.old lines.old.lines
+            → OnErr result (has_satellite name rows ≡ false) }
+        ensures front { lines.new.front ≡ lines.old.front }
+        ensures reserved { lines.new.reserved ≡ lines.old.reserved }
+        // Where room was asked for before, none is now.
+        ensures known { HasRoom name (length values.now) self.old.satellites.rooms
+            → 0 < lines.old.free_lines → room_of_types (length values.now) ≤ lines.old.free_bytes → IsOk result }
+        ensures rooms { KeepsRooms self.old.satellites.rooms self.new.satellites.rooms }
+        ensures free_lines { lines.old.free_lines ≤ lines.new.free_lines + 1 }
+        ensures free_bytes { lines.old.free_bytes ≤ lines.new.free_bytes + room_of_types (length values.now) }
+        ensures next_text { self.new.next_text ≡ self.old.next_text }
+    {
+        let count = values.len();
+        if !self.satellites.place(name)? {
+            return Ok(false);
+        }
+        self.satellites.make_room_last(count)?;
+        lines.make_room(1, CELL_ROOM * count + 2 * TYPES_LIMIT + 1)?;
+        let last = self.satellites.placed() - 1;
+        lines.put_row(&mut self.satellites, last, values, flags, part);
+        Ok(true)
+    }
+
+    /// Writes the compact lines of an epoch's rows, for which there is room.
+    fn write_rows(&mut self, epoch: &Epoch, part: &mut Text, lines: &mut Lines)
+        requires sound { IsSoundEpoch epoch.now }
+        requires room { HaveRoom epoch.now.rows self.old.satellites.rooms }
+        requires free_lines { length epoch.now.rows ≤ lines.old.free_lines }
+        requires free_bytes { sum (map row_room epoch.now.rows) ≤ lines.old.free_bytes }
+        ensures written { (after : Tail) → AreRowsWritten after [] self.old lines.old.lines
+            → AreRowsWritten after epoch.now.rows self.new lines.new.lines }
+        ensures next_text { self.new.next_text ≡ self.old.next_text }
+        ensures front { lines.new.front ≡ lines.old.front }
+    {
+        let mut index = 0;
+        while let Some(row) = epoch.row(index) {
+            self.write_row(row.name(), row.values(), row.flags(), part, lines)
+                .unwrap();
+            index += 1;
+        }
+    }
+
+    /// Ends an epoch whose rows have all been written: puts its first two lines in front of theirs. The history is the one after the epoch.
+    pub(crate) fn end_rows(
+        &mut self,
+        head: &EpochLine,
+        part: &mut Text,
+        lines: &mut Lines,
+    ) -> Result<(), AllocError>
+        requires counted { length self.old.satellites.rows ≡ head.now.count }
+        requires front { FIRST_LINES ≤ lines.old.front }
+        ensures after { (after : Tail) (rows : List Row) → AreRowsWritten after rows self.old lines.old.lines
+            → OnOk result (tail_of_history self.new ≡ tail_after after (epoch_by_rows head.now rows)) }
+        ensures lines { (after : Tail) (rows : List Row) → AreRowsWritten after rows self.old lines.old.lines
+            → OnOk result (lines.new.lines ≡ lines_after_tail after (epoch_by_rows head.now rows)) }
+        ensures between { IsBetween self.new }
+        ensures reserved { lines.new.reserved ≡ lines.old.reserved }
+        // Where room was asked for before, none is now.
+        ensures known { HEAD_WIDTH + NAME_WIDTH * head.now.count ≤ length self.old.next_text → IsOk result }
+    {
+        self.satellites.end();
+        renew_text(&mut self.next_text, head, &self.satellites)?;
         part.clear();
-        code_print(self.clock.push(epoch.head().clock()), part).unwrap();
-        lines.put(part.bytes());
+        code_print(self.clock.push(head.clock()), part).unwrap();
+        lines.put_front(part.bytes());
+        mark_change(&self.text, &self.next_text, part);
+        lines.put_front(part.bytes());
+        mem::swap(&mut self.text, &mut self.next_text);
+        Ok(())
     }
 
     /// Reads an epoch line: replaces the text by the one that it makes, and has the satellites of that text come, each with as many types as
@@ -340,73 +419,55 @@ fn prepare_rows(satellites: &mut Satellites, epoch: &Epoch) -> Result<(), AllocE
     Ok(())
 }
 
-/// Puts the compact lines of an epoch's rows after others, for which there is room. Their satellites are known, and have room too.
-fn put_rows(satellites: &mut Satellites, epoch: &Epoch, part: &mut Text, lines: &mut Lines)
-    requires apart { are_different epoch.now.rows ≡ true }
-    requires between { satellites.old.rest ≡ [] }
-    requires room { HaveRoom epoch.now.rows satellites.old.rooms }
-    requires free_lines { length epoch.now.rows ≤ lines.old.free_lines }
-    requires free_bytes { sum (map row_room epoch.now.rows) ≤ lines.old.free_bytes }
-    ensures rows { satellites.new.rows ≡ map (row_tail_in satellites.old.rows) epoch.now.rows }
-    ensures between { satellites.new.rest ≡ [] }
-    ensures lines { lines.new.lines
-        ≡ lines.old.lines ++ map (row_line_in satellites.old.rows) epoch.now.rows }
-{
-    satellites.begin();
-    let mut index = 0;
-    while let Some(row) = epoch.row(index) {
-        satellites.place(row.name()).unwrap();
-        lines.put_row(satellites, index, row, part);
-        index += 1;
-    }
-    satellites.end();
-}
-
-/// Replaces a text by an epoch's text without the blanks at its end; after `AllocError` it is empty.
-fn renew_text(text: &mut Vec<u8>, epoch: &Epoch) -> Result<(), AllocError>
-    requires { IsSoundEpoch epoch.now }
-    ensures ok { OnOk result (text.new.items ≡ without_end_blanks (epoch_text epoch.now)) }
+/// Replaces a text by that of an epoch, without the blanks at its end: columns 1 to 41 of its line, and the identifiers of its satellites.
+fn renew_text(
+    text: &mut Vec<u8>,
+    head: &EpochLine,
+    satellites: &Satellites,
+) -> Result<(), AllocError>
+    requires counted { length satellites.now.rows ≡ head.now.count }
+    requires text { length text.old.items ≤ LINE_LIMIT }
+    ensures ok { OnOk result (text.new.items ≡ without_end_blanks
+        (head.now.head ++ flat_map (λ (row : RowTail). row.name) satellites.now.rows)) }
     ensures within { length text.new.items ≤ LINE_LIMIT }
-    ensures plain { list_all is_kept text.new.items ≡ true }
+    ensures known { HEAD_WIDTH + NAME_WIDTH * head.now.count ≤ length text.old.items → IsOk result }
 {
-    text.clear();
-    match push_epoch_text(text, epoch) {
-        Ok(()) => {
-            let end = trim_end(text).len();
-            text.truncate(end);
-            Ok(())
-        }
-        Err(error) => {
-            text.clear();
-            Err(error)
-        }
-    }
+    let length = HEAD_WIDTH + NAME_WIDTH * head.count();
+    make_long(text, length)?;
+    put_text(text, 0, head.columns());
+    put_names(text, satellites);
+    let end = trim_end(&text[..length]).len();
+    text.truncate(end);
+    Ok(())
 }
 
-/// Appends an epoch's text: columns 1 to 41 of its line, and the identifiers.
-fn push_epoch_text(text: &mut Vec<u8>, epoch: &Epoch) -> Result<(), AllocError>
-    requires { IsSoundEpoch epoch.now }
-    ensures { OnOk result (text.new.items ≡ text.old.items ++ epoch_text epoch.now) }
+/// Makes a text have at least so many characters; those that are there stay.
+fn make_long(text: &mut Vec<u8>, count: usize) -> Result<(), AllocError>
+    requires short { count ≤ LINE_LIMIT }
+    requires within { length text.old.items ≤ LINE_LIMIT }
+    ensures room { OnOk result (count ≤ length text.new.items) }
+    ensures within { length text.new.items ≤ LINE_LIMIT }
+    ensures known { count ≤ length text.old.items → IsOk result }
 {
-    text.extend_from_slice(epoch.head().columns())?;
-    push_names(text, epoch)
-}
-
-/// Appends the identifiers of an epoch's satellites. Room is asked for once; to append them one by one takes 60 instructions each.
-fn push_names(text: &mut Vec<u8>, epoch: &Epoch) -> Result<(), AllocError>
-    ensures { OnOk result (text.new.items
-        ≡ text.old.items ++ flat_map (λ (row : Row). row.name) epoch.now.rows) }
-{
-    let start = text.len();
-    text.resize(start + NAME_WIDTH * epoch.count(), b' ')?;
-    let mut at = start;
-    let mut index = 0;
-    while let Some(row) = epoch.row(index) {
-        put_identifier(text, at, row.name());
-        at += NAME_WIDTH;
-        index += 1;
+    if text.len() < count {
+        text.resize(count, b' ')?;
     }
     Ok(())
+}
+
+/// Puts the identifiers of the satellites that have come behind the columns of an epoch line.
+fn put_names(text: &mut [u8], satellites: &Satellites)
+    requires within { HEAD_WIDTH + NAME_WIDTH * length satellites.now.rows ≤ length text.old }
+    ensures { take (HEAD_WIDTH + NAME_WIDTH * length satellites.now.rows) text.new
+        ≡ take HEAD_WIDTH text.old ++ flat_map (λ (row : RowTail). row.name) satellites.now.rows }
+{
+    for index in 0..satellites.placed() {
+        put_identifier(
+            text,
+            HEAD_WIDTH + NAME_WIDTH * index,
+            satellites.name_at(index),
+        );
+    }
 }
 
 /// Replaces a text by the difference of two others. The texts of two epochs mostly differ by their time alone.
@@ -420,12 +481,12 @@ fn mark_change(old: &[u8], new: &[u8], part: &mut Text)
     part.trim_end_blanks();
 }
 
-/// As many bytes as the compact lines of an epoch have at most, each with its LF.
-fn room_of_epoch(epoch: &Epoch) -> usize
+/// As many bytes as the compact lines of an epoch's rows have at most, each with its LF.
+fn room_of_rows(epoch: &Epoch) -> usize
     requires sound { IsSoundEpoch epoch.now }
-    ensures { result ≡ epoch_room epoch.now }
+    ensures { result ≡ sum (map row_room epoch.now.rows) }
 {
-    let mut room = 2 * (LINE_LIMIT + 1);
+    let mut room = 0;
     let mut index = 0;
     while let Some(row) = epoch.row(index) {
         room += CELL_ROOM * row.values().len() + 2 * TYPES_LIMIT + 1;

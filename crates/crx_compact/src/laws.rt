@@ -1,7 +1,10 @@
 //! Laws over the definitions of this crate: each is the contract of a function that does nothing.
 
 ghost use Rattle.std.specs.Prelude.{◌≡◌};
-ghost use Rattle.crx_compact.specs.Holdings.{satellite_with, satellites_with, history_with, lines_with, copied_line_with, expanded_lines_with, printed_block_with, columns_with, ready_lines_with};
+ghost use Rattle.crx_compact.specs.Holdings.{satellite_with, satellites_with, history_with, lines_with, copied_line_with, expanded_lines_with, printed_block_with, columns_with, encoder_with, kept_tail_with, ready_lines_with, rows_with};
+ghost use Rattle.crx_compact.specs.declared.encoder.Encoder.TheInside.{Inside as EncoderInside};
+ghost use Rattle.crx_compact.specs.declared.kept_tail.KeptTail.{KeptTail};
+ghost use Rattle.crx_rinex.specs.declared.rows_so_far.RowsSoFar.{RowsSoFar};
 ghost use Rattle.crx_compact.specs.declared.satellite.SatelliteHistory.TheInside.{Inside as SatelliteHistoryInside};
 ghost use Rattle.crx_compact.specs.declared.satellites.Satellites.TheInside.{Inside as SatellitesInside};
 ghost use Rattle.crx_compact.specs.declared.history.History.TheInside.{Inside as HistoryInside};
@@ -24,4 +27,7 @@ pub fn columns_hold()
     ensures ready { (one other : ReadyLines) → ready_lines_with one other ≡ other }
     ensures printed { (one other : PrintedBlock) → printed_block_with one other ≡ other }
     ensures columns { (one other : ColumnsInside) → columns_with one other ≡ other }
+    ensures rows { (one other : RowsSoFar) → rows_with one other ≡ other }
+    ensures tail { (one other : KeptTail) → kept_tail_with one other ≡ other }
+    ensures encoder { (one other : EncoderInside) → encoder_with one other ≡ other }
 {}

@@ -1,12 +1,14 @@
 //! Lines that are made one after another and borrowed in that order, one by one or as one text.
 
-ghost use Rattle.std.specs.Prelude.{ℕ, ◌≡◌, ◌≤◌, ◌<◌, ◌+◌, ◌*◌, ◌++◌, ◌∷◌, [], drop, length, slice_get, slice_set, take, Some, OnOk, OnErr, IsTrue, ◌↔◌};
+ghost use Rattle.std.specs.Prelude.{ℕ, ◌≡◌, ◌≤◌, ◌<◌, ◌+◌, ◌++◌, ◌∷◌, [], drop, length, slice_get, slice_set, take, Some, OnOk, IsOk, IsTrue, ◌↔◌};
+ghost use Rattle.crx_faults.specs.declared.limits.TheConstants.{LINE_LIMIT};
+ghost use Rattle.crx_rinex.specs.meaning.SatelliteLines.{IsSoundRow};
 ghost use Rattle.std.specs.Borrow.{sem};
 ghost use Rattle.std.specs.Io.BufRead.{Rests};
 ghost use Rattle.std.specs.Option.{option_copied};
 ghost use Rattle.crx_compact.specs.contracts.lines.Lines.{the_row};
 ghost use Rattle.crx_compact.specs.LineLists.{lines_text};
-ghost use Rattle.crx_compact.specs.Placing.{HasRoom, KeepsRooms, row_room};
+ghost use Rattle.crx_compact.specs.Placing.{HasRoom, KeepsRooms, room_of_types, row_of_parts};
 ghost use Rattle.crx_compact.specs.PrintedBlocks.{printed_room};
 ghost use Rattle.crx_compact.specs.ShownRows.{shown_row};
 ghost use Rattle.crx_compact.specs.Steps.{row_line_after, row_tail_after};
@@ -14,11 +16,14 @@ ghost use Rattle.crx_compact.specs.Tails.{RowTail};
 ghost use Rattle.crx_rinex.specs.meaning.Printing.{printed_row};
 
 use crate::satellites::Satellites;
-use crx_rinex::SatRow;
+use crx_faults::limits::LINE_LIMIT;
 use crx_text::Text;
 use crx_text::block::{grow, put_line};
 use std::alloc::{AllocError, Global};
 use std::marker::Model;
+
+/// How many lines of an epoch come before its rows, in compact text: they are known once its last row has come.
+pub(crate) const FIRST_LINES: usize = 2;
 
 /// Lines that are pending, each followed by LF, in memory that is used again for those after them.
 #[derive(Drop)]
@@ -33,11 +38,15 @@ pub struct Lines {
     count: usize,
     handed_out: usize,
     handed_out_bytes: usize,
+    /// For how many lines there is always room in front of the first one.
+    reserved: usize,
+    /// How many lines can be put in front of those that are pending.
+    front: usize,
 }
 
 impl Model for Lines {
-    ghost use Rattle.std.specs.Prelude.{ℕ, List, ◌≤◌, ◌-◌, drop, length, take};
-    ghost use Rattle.crx_compact.specs.LineLists.{cut, AreCut, PendingLines};
+    ghost use Rattle.std.specs.Prelude.{◌≤◌, ◌-◌, drop, length, take};
+    ghost use Rattle.crx_compact.specs.LineLists.{cut, AreCut, HasFront, PendingLines};
 
     ghost Value = { PendingLines };
 
@@ -46,17 +55,22 @@ impl Model for Lines {
           (drop lines.handed_out_bytes (take lines.filled lines.bytes.items));
       free_lines = length lines.lengths.items - lines.count;
       free_bytes = length lines.bytes.items - lines.filled;
+      reserved = lines.reserved;
+      front = lines.front;
     } };
 
     ghost invariant = { λ lines. AreCut (take lines.count lines.lengths.items) (take lines.filled lines.bytes.items)
         lines.handed_out lines.handed_out_bytes
-        × (lines.count ≤ length lines.lengths.items) × (lines.filled ≤ length lines.bytes.items) };
+        × (lines.count ≤ length lines.lengths.items) × (lines.filled ≤ length lines.bytes.items)
+        × HasFront lines.front lines.handed_out lines.handed_out_bytes
+        × HasFront lines.reserved lines.count lines.filled };
 }
 
 impl Lines {
-    /// No lines.
+    /// No lines, and no room for any.
     pub fn new(alloc: Global) -> Lines
         ensures empty { result.lines ≡ [] }
+        ensures reserved { result.reserved ≡ 0 }
     {
         Lines {
             bytes: Vec::new(alloc),
@@ -65,6 +79,8 @@ impl Lines {
             count: 0,
             handed_out: 0,
             handed_out_bytes: 0,
+            reserved: 0,
+            front: 0,
         }
     }
 
@@ -73,11 +89,34 @@ impl Lines {
         ensures emptied { self.new.lines ≡ [] }
         ensures free_lines { self.old.free_lines ≤ self.new.free_lines }
         ensures free_bytes { self.old.free_bytes ≤ self.new.free_bytes }
+        ensures reserved { self.new.reserved ≡ self.old.reserved }
+        ensures front { self.new.front ≡ self.old.reserved }
     {
-        self.filled = 0;
-        self.count = 0;
-        self.handed_out = 0;
-        self.handed_out_bytes = 0;
+        self.filled = self.reserved * (LINE_LIMIT + 1);
+        self.count = self.reserved;
+        self.handed_out = self.reserved;
+        self.handed_out_bytes = self.filled;
+        self.front = self.reserved;
+    }
+
+    /// Asks for room for so many lines in front of all others, and drops all lines.
+    pub(crate) fn reserve_front(&mut self, lines: usize) -> Result<(), AllocError>
+        requires few { lines ≤ FIRST_LINES }
+        ensures emptied { self.new.lines ≡ [] }
+        ensures front { OnOk result (self.new.front ≡ lines) }
+        ensures reserved { OnOk result (self.new.reserved ≡ lines) }
+    {
+        self.reserved = 0;
+        self.clear();
+        let bytes = lines * (LINE_LIMIT + 1);
+        self.make_room(lines, bytes)?;
+        self.filled = bytes;
+        self.count = lines;
+        self.handed_out = lines;
+        self.handed_out_bytes = bytes;
+        self.reserved = lines;
+        self.front = lines;
+        Ok(())
     }
 
     /// Asks for room for so many lines more, and for so many bytes, in which each line has one more than its length. The lines stay.
@@ -86,9 +125,30 @@ impl Lines {
         ensures lines { self.new.lines ≡ self.old.lines }
         ensures free_lines { OnOk result (lines ≤ self.new.free_lines) }
         ensures free_bytes { OnOk result (bytes ≤ self.new.free_bytes) }
+        ensures more_lines { self.old.free_lines ≤ self.new.free_lines }
+        ensures more_bytes { self.old.free_bytes ≤ self.new.free_bytes }
+        ensures front { self.new.front ≡ self.old.front }
+        ensures reserved { self.new.reserved ≡ self.old.reserved }
+        ensures known { lines ≤ self.old.free_lines → bytes ≤ self.old.free_bytes → IsOk result }
     {
         grow(&mut self.bytes, self.filled.saturating_add(bytes))?;
         grow_lengths(&mut self.lengths, self.count.saturating_add(lines))
+    }
+
+    /// Puts a line in front of the others.
+    pub(crate) fn put_front(&mut self, line: &[u8])
+        requires front { 0 < self.old.front }
+        requires short { length line.now ≤ LINE_LIMIT }
+        ensures lines { self.new.lines ≡ line.now ∷ self.old.lines }
+        ensures front { self.new.front + 1 ≡ self.old.front }
+        ensures reserved { self.new.reserved ≡ self.old.reserved }
+    {
+        let start = self.handed_out_bytes - line.len() - 1;
+        put_line(&mut self.bytes, start, line);
+        self.handed_out -= 1;
+        self.handed_out_bytes = start;
+        self.lengths[self.handed_out] = line.len();
+        self.front -= 1;
     }
 
     /// Puts a line after the others, for which there is room.
@@ -98,21 +158,13 @@ impl Lines {
         ensures lines { self.new.lines ≡ self.old.lines ++ line.now ∷ [] }
         ensures free_lines { self.new.free_lines + 1 ≡ self.old.free_lines }
         ensures free_bytes { self.new.free_bytes + (length line.now + 1) ≡ self.old.free_bytes }
+        ensures front { self.new.front ≡ self.old.front }
+        ensures reserved { self.new.reserved ≡ self.old.reserved }
     {
         put_line(&mut self.bytes, self.filled, line);
         self.lengths[self.count] = line.len();
         self.count += 1;
         self.filled += line.len() + 1;
-    }
-
-    /// Puts a line after the others. After `AllocError` they are as they were.
-    pub fn push(&mut self, line: &[u8]) -> Result<(), AllocError>
-        ensures ok { OnOk result (self.new.lines ≡ self.old.lines ++ line.now ∷ []) }
-        ensures err { OnErr result (self.new.lines ≡ self.old.lines) }
-    {
-        self.make_room(1, line.len() + 1)?;
-        self.put(line);
-        Ok(())
     }
 
     /// Puts the compact line of a row after the others, for which there is room; the row's satellite is at an index among those that have
@@ -122,25 +174,36 @@ impl Lines {
         &mut self,
         satellites: &mut Satellites,
         index: usize,
-        row: &SatRow,
+        values: &[Option<i64>],
+        flags: &[u8],
         part: &mut Text,
     )
         requires free_line { 0 < self.old.free_lines }
-        requires free_bytes { row_room row.now ≤ self.old.free_bytes }
+        requires free_bytes { room_of_types (length values.now) ≤ self.old.free_bytes }
         requires within { index < length satellites.old.rows }
-        requires known { HasRoom row.now.name (length row.now.values) satellites.old.rooms }
-        requires named { (old : RowTail) → slice_get satellites.old.rows index ≡ Some old
-            → old.name ≡ row.now.name }
-        ensures after { (old : RowTail) → slice_get satellites.old.rows index ≡ Some old
-            → satellites.new.rows ≡ slice_set satellites.old.rows index (row_tail_after (Some old) row.now) }
-        ensures lines { (old : RowTail) → slice_get satellites.old.rows index ≡ Some old
-            → self.new.lines ≡ self.old.lines ++ row_line_after (Some old) row.now ∷ [] }
+        requires sound { (old : RowTail) → slice_get satellites.old.rows index ≡ Some old
+            → IsSoundRow (row_of_parts old.name values.now flags.now)
+            × HasRoom old.name (length values.now) satellites.old.rooms }
+        ensures after { (old : RowTail) → slice_get satellites.old.rows index ≡ Some old → satellites.new.rows
+            ≡ slice_set satellites.old.rows index
+            (row_tail_after (Some old) (row_of_parts old.name values.now flags.now)) }
+        ensures lines { (old : RowTail) → slice_get satellites.old.rows index ≡ Some old → self.new.lines
+            ≡ self.old.lines ++ row_line_after (Some old) (row_of_parts old.name values.now flags.now) ∷ [] }
         ensures free_lines { self.new.free_lines + 1 ≡ self.old.free_lines }
-        ensures free_bytes { self.old.free_bytes ≤ self.new.free_bytes + row_room row.now }
+        ensures free_bytes { self.old.free_bytes ≤ self.new.free_bytes + room_of_types (length values.now) }
+        ensures front { self.new.front ≡ self.old.front }
+        ensures reserved { self.new.reserved ≡ self.old.reserved }
         ensures rest { satellites.new.rest ≡ satellites.old.rest }
         ensures rooms { KeepsRooms satellites.old.rooms satellites.new.rooms }
     {
-        let length = satellites.write_line(index, row, part, &mut self.bytes, self.filled);
+        let length = satellites.write_line(
+            index,
+            values,
+            flags,
+            part,
+            &mut self.bytes,
+            self.filled,
+        );
         self.bytes[self.filled + length] = b'\n';
         self.lengths[self.count] = length;
         self.count += 1;
@@ -160,6 +223,8 @@ impl Lines {
         ensures free_lines { self.new.free_lines + 1 ≡ self.old.free_lines }
         ensures free_bytes { (old : RowTail) → slice_get satellites.now.rows index ≡ Some old
             → self.old.free_bytes ≤ self.new.free_bytes + printed_room old }
+        ensures front { self.new.front ≡ self.old.front }
+        ensures reserved { self.new.reserved ≡ self.old.reserved }
     {
         let length = satellites.print_line(index, &mut self.bytes, self.filled);
         self.bytes[self.filled + length] = b'\n';
@@ -213,6 +278,7 @@ fn grow_lengths(lengths: &mut Vec<usize>, count: usize) -> Result<(), AllocError
     ensures longer { length lengths.old.items ≤ length lengths.new.items }
     ensures same { (n : ℕ) → n ≤ length lengths.old.items
         → take n lengths.new.items ≡ take n lengths.old.items }
+    ensures known { count ≤ length lengths.old.items → IsOk result }
 {
     if count > lengths.len() {
         lengths.resize(count, 0)?;

@@ -1,7 +1,7 @@
 //! What is stored of a satellite: its indicators and the arcs of its cells, changed in place by each of its lines. Hatanaka's Compact RINEX
 //! 3.0, satellite lines.
 
-ghost use Rattle.std.specs.Prelude.{All, ℕ, List, ◌≡◌, ◌≤◌, ◌<◌, ◌+◌, ◌-◌, ◌*◌, ◌++◌, [], None, Some, Ok, Err, true, false, length, replicate, take, OnOk, IfOk, IfErr};
+ghost use Rattle.std.specs.Prelude.{All, ℕ, List, ◌≡◌, ◌≤◌, ◌<◌, ◌+◌, ◌-◌, ◌*◌, ◌++◌, [], None, Some, Ok, Err, true, false, length, replicate, take, OnOk, IfOk, IfErr, IsOk};
 ghost use Rattle.std.specs.List.{flat_map, list_all};
 ghost use Rattle.crx_columns.specs.meaning.Columns.{columns, without_end_blanks};
 ghost use Rattle.crx_columns.specs.meaning.Texts.{is_kept, text_difference};
@@ -100,6 +100,7 @@ impl SatelliteHistory {
         ensures cells { self.new.cells ≡ self.old.cells }
         ensures room { OnOk result (count ≤ self.new.room) }
         ensures kept { self.old.room ≤ self.new.room }
+        ensures known { count ≤ self.old.room → IsOk result }
     {
         if count <= self.arcs.len() {
             return Ok(());
@@ -124,41 +125,45 @@ impl SatelliteHistory {
         self.count = count;
     }
 
-    /// Replaces the indicators by those of a row, makes it have as many types as the row has values, and replaces a text by the difference of
-    /// the indicators before and the row's. Most indicators stay as they are, and their difference is empty.
+    /// Replaces the indicators by those of a row, makes it have as many types as the row, and replaces a text by the difference of the
+    /// indicators before and the row's. Most indicators stay as they are, and their difference is empty.
     #[inline(always)]
-    pub(crate) fn mark(&mut self, row: &SatRow, part: &mut Text)
-        requires room { length row.now.values ≤ self.old.room }
+    pub(crate) fn mark(&mut self, count: usize, flags: &[u8], part: &mut Text)
+        requires room { count ≤ self.old.room }
+        requires paired { length flags.now ≡ 2 * count }
+        requires held { AreHeldFlags flags.now }
         ensures marked { self.new ≡ record self.old {
-          flags = without_end_blanks row.now.flags;
-          cells = cells_for (length row.now.values) self.old.cells;
+          flags = without_end_blanks flags.now;
+          cells = cells_for count self.old.cells;
         } }
-        ensures marks { part.new ≡ text_difference self.old.flags row.now.flags }
+        ensures marks { part.new ≡ text_difference self.old.flags flags.now }
         ensures short { length part.new ≤ 2 * TYPES_LIMIT }
     {
         part.clear();
-        if is_same_text(row.flags(), &self.indicators[..2 * self.count]) {
+        if is_same_text(flags, &self.indicators[..2 * self.count]) {
             return;
         }
-        self.change_indicators(row, part);
+        self.change_indicators(count, flags, part);
     }
 
     /// Does what [`SatelliteHistory::mark`] does, where the indicators change, and the text is empty.
     #[inline(never)]
-    fn change_indicators(&mut self, row: &SatRow, part: &mut Text)
-        requires room { length row.now.values ≤ self.old.room }
+    fn change_indicators(&mut self, count: usize, flags: &[u8], part: &mut Text)
+        requires room { count ≤ self.old.room }
+        requires paired { length flags.now ≡ 2 * count }
+        requires held { AreHeldFlags flags.now }
         requires empty { part.old ≡ [] }
         ensures marked { self.new ≡ record self.old {
-          flags = without_end_blanks row.now.flags;
-          cells = cells_for (length row.now.values) self.old.cells;
+          flags = without_end_blanks flags.now;
+          cells = cells_for count self.old.cells;
         } }
-        ensures marks { part.new ≡ text_difference self.old.flags row.now.flags }
+        ensures marks { part.new ≡ text_difference self.old.flags flags.now }
         ensures short { length part.new ≤ 2 * TYPES_LIMIT }
     {
-        append_difference(&self.indicators[..2 * self.count], row.flags(), part);
+        append_difference(&self.indicators[..2 * self.count], flags, part);
         part.trim_end_blanks();
-        self.resize(row.values().len());
-        self.copy_indicators(row.flags());
+        self.resize(count);
+        self.copy_indicators(flags);
     }
 
     /// Replaces the indicators by others, two for each type.
@@ -175,21 +180,22 @@ impl SatelliteHistory {
     #[inline(always)]
     pub(crate) fn write_line(
         &mut self,
-        row: &SatRow,
+        values: &[Option<i64>],
         marks: &[u8],
         bytes: &mut [u8],
         at: usize,
     ) -> usize
-        requires counted { length self.old.cells ≡ length row.now.values }
-        requires room { at + (CELL_ROOM * length row.now.values + length marks.now) < length bytes.old }
-        ensures after { self.new ≡ record self.old { cells = arcs_of_cells self.old.cells row.now.values } }
+        requires values { All IsValue values.now }
+        requires counted { length self.old.cells ≡ length values.now }
+        requires room { at + (CELL_ROOM * length values.now + length marks.now) < length bytes.old }
+        ensures after { self.new ≡ record self.old { cells = arcs_of_cells self.old.cells values.now } }
         ensures line { take (at + result) bytes.new
             ≡ take at bytes.old ++ without_end_blanks
-            (flat_map cell_text (codes_of_cells self.old.cells row.now.values) ++ marks.now) }
+            (flat_map cell_text (codes_of_cells self.old.cells values.now) ++ marks.now) }
         ensures within { at + result < length bytes.new }
-        ensures short { result ≤ CELL_ROOM * length row.now.values + length marks.now }
+        ensures short { result ≤ CELL_ROOM * length values.now + length marks.now }
     {
-        let end = write_first_cells(&mut self.arcs, row.values(), bytes, at);
+        let end = write_first_cells(&mut self.arcs, values, bytes, at);
         let end = put_text(bytes, end, marks);
         trim_end(&bytes[at..end]).len()
     }

@@ -7,10 +7,11 @@ ghost use Rattle.crx_header.specs.meaning.EpochColumns.{begins_epoch};
 ghost use Rattle.crx_header.specs.meaning.ObservationTypes.{IsAllowedCount};
 ghost use Rattle.crx_header.specs.meaning.Satellites.{is_among, is_identifier};
 ghost use Rattle.crx_rinex.specs.meaning.Printing.{printed_row};
+ghost use Rattle.crx_rinex.specs.meaning.SatelliteLines.{IsSoundRow};
 ghost use Rattle.crx_compact.specs.declared.cells.TheConstants.{CELL_ROOM};
 ghost use Rattle.crx_compact.specs.Entries.{IsFound, IsPutNext, IsRevived, key_of};
 ghost use Rattle.crx_compact.specs.HeldRows.{row_held};
-ghost use Rattle.crx_compact.specs.Placing.{HasCome, HasRoom, KeepsRooms, SatelliteTail, padded, satellite_of};
+ghost use Rattle.crx_compact.specs.Placing.{HasCome, HasRoom, KeepsRooms, SatelliteTail, padded, row_of_parts, satellite_of};
 ghost use Rattle.crx_compact.specs.ShownRows.{shown_row};
 ghost use Rattle.crx_compact.specs.Steps.{row_line_after, row_tail_after};
 ghost use Rattle.crx_compact.specs.Tails.{RowTail};
@@ -182,6 +183,32 @@ impl Satellites {
         satellite.make_room(count)
     }
 
+    /// Asks for room for so many types of the satellite that came last. No row changes.
+    #[inline(always)]
+    pub(crate) fn make_room_last(&mut self, count: usize) -> Result<(), AllocError>
+        requires some { 0 < length self.old.rows }
+        requires allowed { count ≤ TYPES_LIMIT }
+        ensures rows { self.new.rows ≡ self.old.rows }
+        ensures rest { self.new.rest ≡ self.old.rest }
+        ensures room { OnOk result ((before : List RowTail) (row : RowTail) → self.old.rows ≡ before ++ row ∷ []
+            → HasRoom row.name count self.new.rooms) }
+        ensures rooms { KeepsRooms self.old.rooms self.new.rooms }
+        ensures known { (before : List RowTail) (row : RowTail) → self.old.rows ≡ before ++ row ∷ []
+            → HasRoom row.name count self.old.rooms → IsOk result }
+    {
+        let (_, satellite) = self.known.pair_mut(self.placed - 1);
+        satellite.make_room(count)
+    }
+
+    /// The identifier of the satellite at an index among those that have come.
+    #[inline(always)]
+    pub(crate) fn name_at(&self, index: usize) -> [u8; NAME_WIDTH]
+        requires within { index < length self.now.rows }
+        ensures value { (old : RowTail) → slice_get self.now.rows index ≡ Some old → result ≡ old.name }
+    {
+        key_at(&self.known, index)
+    }
+
     /// Makes the satellite that came last have so many types: those that it has stay, and new ones have no arcs and blank indicators.
     ///
     /// After `AllocError` nothing has changed.
@@ -207,28 +234,29 @@ impl Satellites {
     pub(crate) fn write_line(
         &mut self,
         index: usize,
-        row: &SatRow,
+        values: &[Option<i64>],
+        flags: &[u8],
         part: &mut Text,
         bytes: &mut [u8],
         at: usize,
     ) -> usize
         requires within { index < length self.old.rows }
-        requires known { HasRoom row.now.name (length row.now.values) self.old.rooms }
-        requires named { (old : RowTail) → slice_get self.old.rows index ≡ Some old
-            → old.name ≡ row.now.name }
-        requires room { at + (CELL_ROOM * length row.now.values + 2 * TYPES_LIMIT) < length bytes.old }
-        ensures after { (old : RowTail) → slice_get self.old.rows index ≡ Some old
-            → self.new.rows ≡ slice_set self.old.rows index (row_tail_after (Some old) row.now) }
-        ensures line { (old : RowTail) → slice_get self.old.rows index ≡ Some old
-            → take (at + result) bytes.new ≡ take at bytes.old ++ row_line_after (Some old) row.now }
+        requires sound { (old : RowTail) → slice_get self.old.rows index ≡ Some old
+            → IsSoundRow (row_of_parts old.name values.now flags.now)
+            × HasRoom old.name (length values.now) self.old.rooms }
+        requires room { at + (CELL_ROOM * length values.now + 2 * TYPES_LIMIT) < length bytes.old }
+        ensures after { (old : RowTail) → slice_get self.old.rows index ≡ Some old → self.new.rows
+            ≡ slice_set self.old.rows index (row_tail_after (Some old) (row_of_parts old.name values.now flags.now)) }
+        ensures line { (old : RowTail) → slice_get self.old.rows index ≡ Some old → take (at + result) bytes.new
+            ≡ take at bytes.old ++ row_line_after (Some old) (row_of_parts old.name values.now flags.now) }
         ensures within { at + result < length bytes.new }
-        ensures short { result ≤ CELL_ROOM * length row.now.values + 2 * TYPES_LIMIT }
+        ensures short { result ≤ CELL_ROOM * length values.now + 2 * TYPES_LIMIT }
         ensures rest { self.new.rest ≡ self.old.rest }
         ensures rooms { KeepsRooms self.old.rooms self.new.rooms }
     {
         let (_, satellite) = self.known.pair_mut(index);
-        satellite.mark(row, part);
-        satellite.write_line(row, part.bytes(), bytes, at)
+        satellite.mark(values.len(), flags, part);
+        satellite.write_line(values, part.bytes(), bytes, at)
     }
 
     /// Reads the satellite line of the row at an index: what is stored of its satellite is that after the line, which shows the row. The

@@ -1,5 +1,5 @@
 -- What a reader of compact text holds after a line.
-use Rattle.std.proofs.Common.{◌≡◌, inl, inr, Bool, true, List, ℕ, Option, Some, None, Result, Ok, Err, refl, sym}
+use Rattle.std.proofs.Common.{[], ◌≡◌, inl, inr, Bool, true, List, ℕ, Option, Some, None, Result, Ok, Err, refl, sym}
 use Rattle.std.proofs.Common.{ap, ◌∙◌, true≢false, if◌then◌else◌, not}
 use Rattle.std.proofs.lemmas.Bool.{and_from}
 use Rattle.std.specs.Prelude.{◌&&◌, IfErr}
@@ -26,7 +26,7 @@ use Rattle.crx_reading.specs.declared.stage.Stage.TheVariants.{Ended}
 
 -- a stage that RINEX can be in with no epoch is one in which none is open
 pub idle-stage : (stage : Stage) (columns : ColumnsState)
-    → is_consistent_in_rinex stage None ≡ true → is_idle columns ≡ true → is_compact_stage stage columns ≡ true
+    → is_consistent_in_rinex stage None 0 [] ≡ true → is_idle columns ≡ true → is_compact_stage stage columns ≡ true
 idle-stage (FirstLines count) columns can idle = idle
 idle-stage (Header is_first) columns can idle = idle
 idle-stage Between columns can idle = idle

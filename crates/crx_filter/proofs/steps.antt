@@ -2,6 +2,8 @@
 pub mod EngineLemmas
 pub mod EngineAnswers
 pub mod CompactionSteps
+pub mod RowSteps
+pub mod Together
 pub mod ExpanderSteps
 pub mod StepCounts
 pub mod CheckerSteps

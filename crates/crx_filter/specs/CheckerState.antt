@@ -1,5 +1,5 @@
 -- What a checker is seen as.
-use Rattle.std.specs.Prelude.{◌≡◌, ℕ, Bool, true, false, List, [], drop, length, Option, Some, None}
+use Rattle.std.specs.Prelude.{◌≡◌, ◌≤◌, ℕ, Bool, true, false, List, [], drop, take, map, length, Option, Some, None}
 use Rattle.std.proofs.Common.{ap}
 use Rattle.crx_faults.specs.meaning.Lines.{InputLine}
 use Rattle.crx_rinex.specs.meaning.EpochPlaces.{OpenEpoch}
@@ -11,7 +11,9 @@ use Rattle.crx_reading.specs.CheckByLine.{CheckSeen, no_choices, check_seen}
 use Rattle.crx_filter.specs.declared.checker.Checker.{Checker}
 use Rattle.crx_reading.specs.declared.report.Totals.{Totals}
 use Rattle.crx_reading.specs.declared.rinex_reader.RinexReader.{RinexReader}
-use Rattle.crx_reading.specs.Totals.{totals_held, found_held, AreBounded}
+use Rattle.crx_reading.specs.RinexStages.{is_open_stage}
+use Rattle.crx_rinex.specs.meaning.Observations.{Row as ObservationRow}
+use Rattle.crx_reading.specs.Totals.{totals_held, found_held, AreBounded, IsObserved}
 
 -- ---- what a checker is seen as
 
@@ -46,11 +48,18 @@ is_reading (InEvent left counted) = true
 is_reading (InEpoch so_far) = true
 is_reading phase = false
 
+-- the first identifiers are those of some rows
+abbrev pub AreNamed : List (List ℕ) → List ObservationRow → Type 0
+AreNamed names rows = (length rows ≤ length names)
+    × (take (length rows) names ≡ map (λ (row : ObservationRow). row.name) rows)
+
 -- a checker that can take lines
 pub record CheckerIsOpen (c : Checker) : Type 0 where
   pub reading : is_reading (reader_phase c.reader) ≡ true
   pub bounded : AreBounded c.totals c.number
   pub none_handed_out : c.handed_out ≡ None
+  pub named : is_open_stage c.reader.stage ≡ true → AreNamed c.names c.reader.rows.rows
+  pub observed : is_open_stage c.reader.stage ≡ true → IsObserved c.observed c.reader.rows.rows
 
 -- it has taken these lines; no line comes a second time
 abbrev pub CheckerHasTaken : Checker → List InputLine → List Awaited → Type 0

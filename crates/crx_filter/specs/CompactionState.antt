@@ -1,27 +1,28 @@
 -- What a compaction is seen as between two lines.
+use Rattle.std.specs.Prelude.{ℕ, List, [], ◌∷◌, ◌++◌, false}
+use Rattle.crx_header.specs.meaning.CompactHeader.{lines_before_header}
 use Rattle.crx_rinex.specs.meaning.EpochPlaces.{OpenEpoch}
-use Rattle.crx_compact.specs.OpenEpochs.{tail_held}
 use Rattle.crx_reading.specs.CompactionByLine.{Written}
 use Rattle.crx_reading.specs.LineByLine.{Seen}
 use Rattle.crx_reading.specs.RinexReaders.{reader_phase}
-use Rattle.crx_reading.specs.declared.rinex_reader.RinexReader.{RinexReader}
-use Rattle.crx_filter.specs.declared.compaction.Compaction.{Compaction}
+use Rattle.crx_reading.specs.declared.rinex_reader.RinexStep.{RinexStep}
+use Rattle.crx_reading.specs.declared.rinex_reader.RinexStep.TheVariants.{Header}
+use Rattle.crx_filter.specs.CompactionParts.{CompactionParts}
 
-abbrev pub compaction_state : Compaction → Seen OpenEpoch Written
+abbrev pub compaction_state : CompactionParts → Seen OpenEpoch Written
 compaction_state c = record {
   choices = c.options;
   number = c.number;
   phase = reader_phase c.reader;
   types = c.reader.types;
-  kept = record { index = c.index; tail = tail_held c.columns };
+  kept = record { index = c.index; tail = c.encoder.before };
 }
 
--- a compaction's state, but with the phase and the types of this reader
-abbrev pub compaction_state_with : RinexReader → Compaction → Seen OpenEpoch Written
-compaction_state_with reader c = record {
-  choices = c.options;
-  number = c.number;
-  phase = reader_phase reader;
-  types = reader.types;
-  kept = record { index = c.index; tail = tail_held c.columns };
-}
+-- the lines that are pending
+abbrev pub compaction_ready : CompactionParts → List (List ℕ)
+compaction_ready c = c.encoder.pending
+
+-- the lines that are written for a line that is copied, by what it is
+abbrev pub copied_lines : List ℕ → RinexStep → List ℕ → List (List ℕ)
+copied_lines date (Header is_first) line = lines_before_header date is_first ++ line ∷ []
+copied_lines date step line = line ∷ []

@@ -6,8 +6,7 @@ use Rattle.crx_reading.specs.CompactionByLine.{Written, compaction, compaction_s
 use Rattle.crx_filter.specs.EngineLines.{HasTaken}
 use Rattle.crx_runs.specs.Engines.{Awaited}
 use Rattle.crx_reading.specs.LineByLine.{Seen}
-use Rattle.crx_filter.specs.CompactionState.{compaction_state}
-use Rattle.crx_compact.specs.ReadyLines.{pending_lines}
+use Rattle.crx_filter.specs.CompactionState.{compaction_ready, compaction_state}
 use Rattle.crx_filter.specs.declared.compactor.Compactor.{Compactor}
 
 -- what it has seen
@@ -16,7 +15,7 @@ compactor_seen c = compaction_state c.compaction
 
 -- the lines that are pending
 abbrev pub compactor_ready : Compactor → List (List ℕ)
-compactor_ready c = pending_lines c.ready
+compactor_ready c = compaction_ready c.compaction
 
 -- it has taken these lines, and where one is to come a second time, has answered this warning to it
 abbrev pub compactor_took : Compactor → List InputLine → List Awaited → Type 0

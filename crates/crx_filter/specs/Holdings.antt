@@ -1,32 +1,27 @@
 -- All that engines hold between two lines of an input, part by part. By the law `engines_hold` one that takes over
 -- these parts of another is that other; so there is no part beside them, in which a record of the past lines could
 -- grow.
-use Rattle.crx_compact.specs.Holdings.{ready_lines_with}
 use Rattle.crx_reading.specs.Holdings.{rinex_reader_with}
-use Rattle.crx_filter.specs.declared.compaction.Compaction.{Compaction}
+use Rattle.crx_filter.specs.declared.compaction.Compaction.TheInside.{Inside as CompactionInside}
 use Rattle.crx_filter.specs.declared.compact_reader.CompactReader.{CompactReader}
 use Rattle.crx_filter.specs.declared.compactor.Compactor.{Compactor}
 use Rattle.crx_filter.specs.declared.expander.Expander.{Expander}
 use Rattle.crx_filter.specs.declared.checker.Checker.{Checker}
 
 -- a compaction, with the parts of another
-abbrev pub compaction_with : Compaction → Compaction → Compaction
+abbrev pub compaction_with : CompactionInside → CompactionInside → CompactionInside
 compaction_with one other = record one {
   options = other.options;
   number = other.number;
   index = other.index;
   reader = rinex_reader_with one.reader other.reader;
-  columns = other.columns;
-  idle = other.idle;
-  counted = other.counted;
-  within = other.within;
+  encoder = other.encoder;
 }
 
 -- a compactor, with the parts of another
 abbrev pub compactor_with : Compactor → Compactor → Compactor
 compactor_with one other = record one {
-  compaction = compaction_with one.compaction other.compaction;
-  ready = ready_lines_with one.ready other.ready;
+  compaction = other.compaction;
   answer = other.answer;
 }
 
@@ -53,8 +48,10 @@ expander_with one other = record one {
 abbrev pub checker_with : Checker → Checker → Checker
 checker_with one other = record one {
   reader = rinex_reader_with one.reader other.reader;
+  names = other.names;
   number = other.number;
   totals = other.totals;
+  observed = other.observed;
   not_standard = other.not_standard;
   handed_out = other.handed_out;
   text = other.text;

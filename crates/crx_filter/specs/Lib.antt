@@ -5,6 +5,7 @@ pub mod Damage
 pub mod Laws
 pub mod WayBack
 pub mod EngineSteps
+pub mod CompactionParts
 pub mod CompactionState
 pub mod CompactorState
 pub mod CheckingLaws

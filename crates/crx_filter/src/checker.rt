@@ -1,20 +1,22 @@
 //! The check of a RINEX file, one line at a time.
 
-ghost use Rattle.std.specs.Prelude.{◌≡◌, ◌≤◌, ◌<◌, ◌+◌, ◌⊎◌, ℕ, List, [], None, Some, true, false, drop, slice_get, OnErr, OnOk, IfErr, IfOk};
-ghost use Rattle.crx_faults.specs.declared.limits.TheConstants.{INPUT_LIMIT};
+ghost use Rattle.std.specs.Prelude.{◌≡◌, ◌≤◌, ◌<◌, ◌+◌, ◌⊎◌, ◌++◌, ◌∷◌, ℕ, List, [], None, Some, true, false, length, drop, slice_get, OnErr, OnOk, IfErr, IfOk};
+ghost use Rattle.crx_faults.specs.declared.limits.TheConstants.{INPUT_LIMIT, SATELLITES_LIMIT};
 ghost use Rattle.crx_rinex.specs.meaning.EpochPlaces.{OpenEpoch};
 ghost use Rattle.crx_rinex.specs.meaning.Observations.{Epoch as ObservationEpoch};
 ghost use Rattle.crx_faults.specs.meaning.Lines.{InputLine};
 ghost use Rattle.crx_lines.specs.Reading.{line_shown, line_number};
 ghost use Rattle.crx_reading.specs.CheckByLine.{check_seen, earliest, printed_made, totals_made};
 ghost use Rattle.crx_reading.specs.meaning.Directions.{check_filter, fault_so_far};
-ghost use Rattle.crx_reading.specs.Totals.{AreBounded, HasPrinted, totals_held};
-ghost use Rattle.crx_filter.specs.CheckerState.{HasEnded, CheckerHasTaken, CheckerIsOpen, pending_report, checker_state};
-ghost use Rattle.crx_reading.specs.CompactionByLine.{is_before_header};
+ghost use Rattle.crx_reading.specs.Totals.{AreBounded, HasPrinted, IsCounting, IsObserved, totals_held};
+ghost use Rattle.crx_reading.specs.RinexStages.{is_open_stage};
+ghost use Rattle.crx_reading.specs.Stages.{is_ended};
+ghost use Rattle.crx_filter.specs.CheckerState.{AreNamed, HasEnded, CheckerHasTaken, CheckerIsOpen, pending_report, checker_state};
+ghost use Rattle.crx_reading.specs.CompactionByLine.{is_before_header, Written};
 ghost use Rattle.crx_runs.specs.Engines.{RunsOutAt};
 ghost use Rattle.crx_runs.specs.meaning.Filters.{with_next};
 ghost use Rattle.crx_reading.specs.LineByLine.{Made};
-ghost use Rattle.crx_reading.specs.RinexReaders.{reader_phase, TakesRinexLine};
+ghost use Rattle.crx_reading.specs.RinexReaders.{is_row, made_at, reader_phase, RefusesRinexLine, TakesRinexLine};
 ghost use Rattle.crx_reading.specs.meaning.Standard.{is_standard_line};
 ghost use Rattle.crx_reading.specs.declared.rinex_reader.RinexReader.{RinexReader};
 ghost use Rattle.crx_rinex.specs.Printing.{last_line};
@@ -22,6 +24,7 @@ ghost use Rattle.crx_rinex.specs.Printing.{last_line};
 use crate::settled::after_end;
 use crx_faults::limits::VERSION_WIDTH;
 use crx_faults::{At, Fault};
+use crx_header::Identifiers;
 use crx_lines::Line;
 use crx_reading::report::{Totals, print_report_line};
 use crx_reading::rinex_reader::{RinexReader, RinexStep};
@@ -36,6 +39,10 @@ use std::alloc::Global;
 #[derive(Drop)]
 pub struct Checker {
     reader: RinexReader,
+    /// The identifiers of the open epoch's rows, and after them those of the epoch before.
+    names: Identifiers,
+    /// How many observations the rows have that have come of the epoch that was begun last.
+    observed: u64,
     /// The number of the last line.
     number: u64,
     totals: Totals,
@@ -58,6 +65,8 @@ impl Checker {
     {
         Checker {
             reader: RinexReader::new(alloc),
+            names: Identifiers::new(alloc),
+            observed: 0,
             number: 0,
             totals: Totals {
                 version: [b' '; VERSION_WIDTH],
@@ -83,6 +92,7 @@ impl Checker {
     fn count(&mut self, step: RinexStep, line: Line<'_>)
         requires bounded { AreBounded self.old.totals self.old.number }
         requires within { self.old.number < INPUT_LIMIT }
+        requires observed { IsCounting step self.old.observed self.old.reader }
         ensures totals { (before : RinexReader) (made : Made ObservationEpoch OpenEpoch)
             → TakesRinexLine made before (line_shown line.entry).content step self.old.reader
             → totals_held self.new.totals ≡ totals_made
@@ -91,13 +101,18 @@ impl Checker {
             made before (line_shown line.entry).content step self.old.reader → HasPrinted made
             → self.new.not_standard ≡ earliest self.old.not_standard (is_standard_line
             (line_shown line.entry) (last_line (printed_made made))) (self.old.number + 1) }
+        ensures observed { (before : RinexReader) (made : Made ObservationEpoch OpenEpoch)
+            → TakesRinexLine made before (line_shown line.entry).content step self.old.reader
+            → is_open_stage self.new.reader.stage ≡ true → IsObserved self.new.observed self.new.reader.rows.rows }
+        ensures names { self.new.names ≡ self.old.names }
         ensures bounded { AreBounded self.new.totals self.new.number }
         ensures number { self.new.number ≡ self.old.number + 1 }
         ensures reader { self.new.reader ≡ self.old.reader }
         ensures handed_out { self.new.handed_out ≡ self.old.handed_out }
     {
         let is_same = is_given_back(&self.reader, step, line.bytes(), &mut self.text);
-        self.totals = counted(self.totals, &self.reader, step, line.bytes());
+        self.observed = observed_with(self.observed, &self.reader, step);
+        self.totals = counted(self.totals, &self.reader, step, self.observed, line.bytes());
         self.number += 1;
         if self.not_standard.is_none() && !(line.plain() && is_same) {
             self.not_standard = Some(self.number);
@@ -134,13 +149,77 @@ impl Checker {
             → IfErr result (λ at. RunsOutAt check_filter lines (line_shown line.entry)
             [] at ⊎ (fault_so_far (with_next lines (line_shown line.entry)) ≡ Some at)) }
     {
-        match self.reader.take(line.bytes()) {
+        match take_line(&mut self.reader, &mut self.names, line.bytes()) {
             Ok(step) => {
                 self.count(step, line);
                 Ok(())
             }
             Err(fault) => Err(self.fail(fault)),
         }
+    }
+}
+
+/// Takes a line, while no fault has ended the reading. `OutOfMemory` comes only at a good line that may take some.
+#[inline(always)]
+fn take_line(
+    reader: &mut RinexReader,
+    names: &mut Identifiers,
+    line: &[u8],
+) -> Result<RinexStep, Fault>
+    requires running { is_ended reader.old.stage ≡ false }
+    requires named { is_open_stage reader.old.stage ≡ true → AreNamed names.old reader.old.rows.rows }
+    ensures takes { (kept : Written) → IfOk result
+        (λ step. TakesRinexLine (made_at reader.old line.now kept) reader.old line.now step reader.new) }
+    ensures refuses { (kept : Written) → IfErr result
+        (λ fault. RefusesRinexLine (made_at reader.old line.now kept) reader.old line.now fault) }
+    ensures counting { (observed : ℕ)
+        → (is_open_stage reader.old.stage ≡ true → IsObserved observed reader.old.rows.rows)
+        → IfOk result (λ step. IsCounting step observed reader.new) }
+    ensures named { OnOk result
+        (is_open_stage reader.new.stage ≡ true → AreNamed names.new reader.new.rows.rows) }
+{
+    if let Stage::Open = reader.stage {
+        take_row(reader, names, line)
+    } else {
+        reader.take(line)
+    }
+}
+
+/// Takes a line of an open epoch. `OutOfMemory` comes only at a good line of a new satellite.
+fn take_row(
+    reader: &mut RinexReader,
+    names: &mut Identifiers,
+    line: &[u8],
+) -> Result<RinexStep, Fault>
+    requires open { is_open_stage reader.old.stage ≡ true }
+    requires named { AreNamed names.old reader.old.rows.rows }
+    ensures takes { (kept : Written) → IfOk result
+        (λ step. TakesRinexLine (made_at reader.old line.now kept) reader.old line.now step reader.new) }
+    ensures refuses { (kept : Written) → IfErr result
+        (λ fault. RefusesRinexLine (made_at reader.old line.now kept) reader.old line.now fault) }
+    ensures steps { IfOk result (λ step. is_row step ≡ true) }
+    ensures named { OnOk result (AreNamed names.new reader.new.rows.rows) }
+    ensures rows { OnOk result (reader.new.rows.rows ≡ reader.old.rows.rows ++ reader.new.row ∷ []) }
+    ensures few { OnOk result (length reader.new.rows.rows ≤ SATELLITES_LIMIT) }
+{
+    reader.read_row(line)?;
+    match names.put(reader.count(), reader.row().name()) {
+        Ok(true) => Ok(reader.take_row()),
+        Ok(false) => Err(Fault::RepeatedSatellite),
+        Err(_) => Err(Fault::OutOfMemory),
+    }
+}
+
+/// How many observations the rows of the epoch have, with that of a line that was taken.
+fn observed_with(observed: u64, reader: &RinexReader, step: RinexStep) -> u64
+    requires counting { IsCounting step observed reader.now }
+    ensures begun { step ≡ RinexStep.Begun → IsObserved result reader.now.rows.rows }
+    ensures row { is_row step ≡ true → IsObserved result reader.now.rows.rows }
+{
+    match step {
+        RinexStep::Begun => 0,
+        RinexStep::Row | RinexStep::Epoch => observed + reader.row().observations() as u64,
+        _ => observed,
     }
 }
 

@@ -1,13 +1,17 @@
 //! What a compaction keeps between two lines of RINEX, and what it does with the next one.
 
-ghost use Rattle.std.specs.Prelude.{◌≡◌, ◌≤◌, true};
+ghost use Rattle.std.specs.Prelude.{◌≡◌, ◌≤◌, [], true, false, length, is_some, Some, OnErr, OnOk, IfSome};
 ghost use Rattle.crx_faults.specs.declared.limits.TheConstants.{INPUT_LIMIT};
-ghost use Rattle.crx_compact.specs.OpenEpochs.{is_idle};
+ghost use Rattle.crx_faults.specs.meaning.Seen.{Content};
+ghost use Rattle.crx_compact.specs.Encoding.{tail_in};
+ghost use Rattle.crx_compact.specs.Steps.{lines_after_tail, tail_after};
+ghost use Rattle.crx_compact.specs.Written.{epoch_by_rows};
+ghost use Rattle.crx_rinex.specs.meaning.EpochLines.{ObservationHead};
+ghost use Rattle.crx_reading.specs.RinexStages.{is_open_stage};
 ghost use Rattle.crx_reading.specs.meaning.Compacted.{is_at_every};
 
 use crate::settled::{Settled, after_end, after_fault};
-use crx_compact::Columns;
-use crx_compact::ready_lines::ReadyLines;
+use crx_compact::Encoder;
 use crx_faults::{At, Fault};
 use crx_options::Options;
 use crx_reading::rinex_reader::{RinexReader, RinexStep};
@@ -15,6 +19,7 @@ use crx_reading::stage::Stage;
 use crx_rinex::begins_epoch;
 use crx_runs::Step;
 use std::alloc::{AllocError, Global};
+use std::marker::Model;
 
 /// What a compaction keeps between two lines.
 #[derive(Drop)]
@@ -25,10 +30,29 @@ pub(crate) struct Compaction {
     /// How many epochs were accepted.
     index: u64,
     reader: RinexReader,
-    columns: Columns,
-    ghost idle: { is_idle columns ≡ true },
-    ghost counted: { index ≤ number },
-    ghost within: { number ≤ INPUT_LIMIT },
+    encoder: Encoder,
+}
+
+impl Model for Compaction {
+    ghost use Rattle.crx_filter.specs.CompactionParts.{CompactionParts, BelongTogether};
+
+    ghost Value = { CompactionParts };
+
+    ghost view = { λ c. record {
+      options = c.options;
+      number = c.number;
+      index = c.index;
+      reader = c.reader;
+      encoder = c.encoder;
+    } };
+
+    ghost invariant = { λ c. BelongTogether (record {
+      options = c.options;
+      number = c.number;
+      index = c.index;
+      reader = c.reader;
+      encoder = c.encoder;
+    }) };
 }
 
 /// Whether an epoch of this index, from 0, stands in full because the user wants one at every so many.
@@ -41,49 +65,73 @@ fn is_at_every(every: Option<u32>, index: u64) -> bool
     }
 }
 
+/// Makes the compact lines of an epoch whose rows have all come. After `AllocError` everything is forgotten.
+fn end_epoch(reader: &RinexReader, encoder: &mut Encoder) -> Result<(), AllocError>
+    requires open { encoder.old.is_open ≡ true }
+    requires whole { IfSome reader.now.head (λ head. length encoder.old.rows ≡ head.count) }
+    requires begun { is_some reader.now.head ≡ true }
+    ensures lines { (head : ObservationHead) → reader.now.head ≡ Some head → OnOk result (encoder.new.pending
+        ≡ lines_after_tail (tail_in encoder.old) (epoch_by_rows head encoder.old.rows)) }
+    ensures before { (head : ObservationHead) → reader.now.head ≡ Some head → OnOk result (encoder.new.before
+        ≡ Some (tail_after (tail_in encoder.old) (epoch_by_rows head encoder.old.rows))) }
+    ensures forgotten { OnErr result (encoder.new.pending ≡ []) }
+    ensures closed { encoder.new.is_open ≡ false }
+    ensures rows { encoder.new.rows ≡ [] }
+{
+    let Some(head) = reader.head() else {
+        unreachable!()
+    };
+    encoder.end(head)
+}
+
 impl Compaction {
-    ghost use Rattle.std.specs.Prelude.{◌+◌, ◌<◌, ◌⊎◌, ◌≢◌, [], length, OnOk, OnErr, IfOk, IfErr, Ok, Err, Some, None, false};
-    ghost use Rattle.crx_faults.specs.meaning.Seen.{ReadLine, Content, Overlong};
+    ghost use Rattle.std.specs.Prelude.{◌+◌, ◌<◌, ◌↔◌, Ok, Err, None, drop, slice_get, if◌then◌else◌, IfOk, IfErr, IsTrue};
+    ghost use Rattle.std.specs.Borrow.{sem};
+    ghost use Rattle.std.specs.Io.BufRead.{Rests};
+    ghost use Rattle.std.specs.Option.{option_copied};
+    ghost use Rattle.crx_faults.specs.meaning.Lines.{lines_text};
+    ghost use Rattle.crx_filter.specs.contracts.compaction.Compaction.{the_row};
+    ghost use Rattle.crx_faults.specs.meaning.Seen.{ReadLine, Overlong};
     ghost use Rattle.crx_faults.specs.declared.limits.TheConstants.{LINE_LIMIT};
-    ghost use Rattle.crx_rinex.specs.meaning.Observations.{Epoch as ObservationEpoch};
-    ghost use Rattle.crx_rinex.specs.meaning.Units.{Observation};
-    ghost use Rattle.crx_reading.specs.CompactionByLine.{compact_written, compaction, compaction_seen, written_kept};
-    ghost use Rattle.crx_reading.specs.RinexReaders.{made_at, TakesRinexLine};
-    ghost use Rattle.crx_reading.specs.declared.rinex_reader.RinexReader.{RinexReader};
+    ghost use Rattle.crx_reading.specs.CompactionByLine.{compaction, compaction_seen};
     ghost use Rattle.crx_runs.specs.Engines.{answer_given};
     ghost use Rattle.crx_reading.specs.LineByLine.{Ended, failed_step, seen_end, seen_next};
     ghost use Rattle.crx_reading.specs.meaning.Reading.{can_go_on};
     ghost use Rattle.crx_faults.specs.meaning.Faults.{is_skippable};
-    ghost use Rattle.crx_compact.specs.ReadyLines.{pending_lines};
-    ghost use Rattle.crx_reading.specs.RinexStages.{is_whole, open_epoch};
+    ghost use Rattle.crx_reading.specs.RinexReaders.{epoch_open};
     ghost use Rattle.crx_filter.specs.EngineSteps.{Steps, step_made, settled_seen};
-    ghost use Rattle.crx_reading.specs.Stages.{is_ended, is_settled};
-    ghost use Rattle.crx_filter.specs.CompactionState.{compaction_state, compaction_state_with};
+    ghost use Rattle.crx_reading.specs.Stages.{is_settled};
+    ghost use Rattle.crx_filter.specs.CompactionState.{compaction_ready, compaction_state, copied_lines};
 
     /// A compaction before the first line of its input.
-    pub(crate) fn new(alloc: Global, options: Options) -> Compaction
-        ensures { compaction_state result ≡ compaction_seen options [] }
+    pub(crate) fn new(alloc: Global, options: Options) -> Result<Compaction, AllocError>
+        ensures seen { IfOk result (λ c. compaction_state c ≡ compaction_seen options []) }
+        ensures drained { IfOk result (λ c. compaction_ready c ≡ []) }
     {
-        Compaction {
+        let encoder = Encoder::new(alloc)?;
+        Ok(Compaction {
             options,
             number: 0,
             index: 0,
             reader: RinexReader::new(alloc),
-            columns: Columns::new(alloc),
-        }
+            encoder,
+        })
     }
 
-    /// The run has stopped.
+    /// The run has stopped; no epoch is open.
     fn settle(&mut self, settled: Settled) -> Result<Step, At>
         requires settled { is_settled settled.stage ≡ true }
         requires within { settled.number ≤ INPUT_LIMIT }
         requires counted { self.old.index ≤ settled.number }
+        requires emptied { settled.is_emptied ≡ false → is_open_stage self.old.reader.stage ≡ false }
+        requires drained { settled.is_emptied ≡ false → compaction_ready self.old ≡ [] }
         ensures value { result ≡ settled.answer }
         ensures seen { compaction_state self.new ≡ settled_seen compaction
-            (compaction_state self.old) (open_epoch self.old.reader.types self.old.reader.epoch) settled }
+            (compaction_state self.old) (epoch_open self.old.reader) settled }
+        ensures drained { compaction_ready self.new ≡ [] }
     {
         if settled.is_emptied {
-            self.columns.reset();
+            self.encoder.reset();
         }
         self.reader.stage = settled.stage;
         self.number = settled.number;
@@ -92,12 +140,12 @@ impl Compaction {
 
     /// The next line has a fault; whether reading may go on at it. Nothing is ready then.
     #[inline(never)]
-    fn fail(&mut self, fault: Fault, goes_on: bool, ready: &mut ReadyLines) -> Result<Step, At>
+    fn fail(&mut self, fault: Fault, goes_on: bool) -> Result<Step, At>
         requires within { self.old.number < INPUT_LIMIT }
         ensures fails { (line : ReadLine) → can_go_on line ≡ goes_on
-            → step_made result (pending_lines ready.new) (compaction_state self.new)
+            → step_made result (compaction_ready self.new) (compaction_state self.new)
             ≡ failed_step compaction (compaction_state self.old) line fault }
-        ensures drained { pending_lines ready.new ≡ [] }
+        ensures drained { compaction_ready self.new ≡ [] }
         ensures ended { IfErr result (λ at. (compaction_state self.new).phase ≡ Ended at) }
         ensures fatal { is_skippable fault ≡ false
             → result ≡ Err (record { line = self.old.number + 1; fault = fault }) }
@@ -105,7 +153,6 @@ impl Compaction {
             → (compaction_state self.new).number ≡ self.old.number + 1 }
         ensures choices { (compaction_state self.new).choices ≡ (compaction_state self.old).choices }
     {
-        ready.clear();
         let settled = after_fault(
             self.reader.stage,
             self.number,
@@ -116,130 +163,128 @@ impl Compaction {
         self.settle(settled)
     }
 
-    /// A line that is copied: the next epoch stands in full.
-    fn copy(&mut self) -> Step
+    /// Makes a line ready that is copied: the next epoch is in full.
+    fn copy(&mut self, step: RinexStep, line: &[u8])
         requires within { self.old.number < INPUT_LIMIT }
-        ensures value { result ≡ Step.Ready }
+        requires short { length line.now ≤ LINE_LIMIT }
+        requires closed { is_open_stage self.old.reader.stage ≡ false }
+        ensures ready { compaction_ready self.new ≡ copied_lines self.old.options.date step line.now }
         ensures seen { compaction_state self.new
             ≡ record (compaction_state self.old) {
               number = self.old.number + 1;
               kept = record { index = self.old.index; tail = None };
             } }
     {
-        self.columns.reset();
+        match step {
+            RinexStep::Header { is_first } => {
+                self.encoder
+                    .copy_header(self.options.date(), is_first, line);
+            }
+            _ => self.encoder.copy(line),
+        }
         self.number += 1;
-        Step::Ready
     }
 
-    /// Makes the lines of the epoch that the reader holds, and counts it. After `AllocError` nothing is counted.
-    fn encode(&mut self, ready: &mut ReadyLines) -> Result<Step, AllocError>
+    /// An epoch has ended: it is counted, and its lines are ready, unless memory ran out.
+    fn conclude(&mut self, ended: Result<(), AllocError>) -> Result<Step, At>
         requires within { self.old.number < INPUT_LIMIT }
-        requires whole { is_whole self.old.reader.epoch ≡ true }
-        ensures value { OnOk result (result ≡ Ok Step.Ready) }
-        ensures lines { (epoch : ObservationEpoch) → self.old.reader.epoch ≡ Some epoch
-            → OnOk result (pending_lines ready.new
-            ≡ compact_written (compaction_state self.old) (Observation epoch)) }
-        ensures seen { (epoch : ObservationEpoch) → self.old.reader.epoch ≡ Some epoch
-            → OnOk result (compaction_state self.new
+        requires closed { is_open_stage self.old.reader.stage ≡ false }
+        requires drained { OnErr ended (compaction_ready self.old ≡ []) }
+        ensures value { OnOk ended (result ≡ Ok Step.Ready) }
+        ensures seen { OnOk ended (compaction_state self.new
             ≡ record (compaction_state self.old) {
               number = self.old.number + 1;
-              kept = written_kept (compaction_state self.old) (Observation epoch);
+              kept = record { index = self.old.index + 1; tail = self.old.encoder.before };
             }) }
-        ensures number { OnErr result (self.new.number ≡ self.old.number) }
+        ensures lines { OnOk ended (compaction_ready self.new ≡ compaction_ready self.old) }
+        ensures refused { OnErr ended (result
+            ≡ Err (record { line = self.old.number + 1; fault = Fault.OutOfMemory })) }
+        ensures drained { OnErr ended (compaction_ready self.new ≡ []) }
+        ensures nothing { OnErr result (compaction_ready self.new ≡ []) }
+        ensures ended { IfErr result (λ at. (compaction_state self.new).phase ≡ Ended at) }
+        ensures counted { (compaction_state self.new).number ≡ self.old.number + 1 }
         ensures choices { (compaction_state self.new).choices ≡ (compaction_state self.old).choices }
     {
-        let Some(epoch) = self.reader.epoch() else {
-            unreachable!()
-        };
-        let full = is_at_every(self.options.every(), self.index);
-        if ready.encode(&mut self.columns, epoch, full).is_err() {
-            return Err(AllocError);
+        if ended.is_err() {
+            return self.fail(Fault::OutOfMemory, false);
         }
         self.number += 1;
         self.index += 1;
         Ok(Step::Ready)
     }
 
-    /// The reader took a line after which something is to be written, and it is counted.
-    #[inline(never)]
-    fn accept(&mut self, step: RinexStep, line: &[u8], ready: &mut ReadyLines) -> Result<Step, At>
-        requires within { self.old.number < INPUT_LIMIT }
-        requires short { length line.now ≤ LINE_LIMIT }
-        requires drained { pending_lines ready.old ≡ [] }
-        requires some { step ≢ RinexStep.Nothing }
-        requires whole { step ≡ RinexStep.Epoch → is_whole self.old.reader.epoch ≡ true }
-        ensures steps { (reader : RinexReader) → TakesRinexLine
-            (made_at reader line.now (compaction_state self.old).kept) reader line.now step self.old.reader
-            → Steps compaction (compaction_state_with reader self.old)
-            (Content line.now) result (pending_lines ready.new) (compaction_state self.new) }
-        ensures ended { IfErr result (λ at. (compaction_state self.new).phase ≡ Ended at) }
-        ensures nothing { OnErr result (pending_lines ready.new ≡ []) }
-        ensures choices { (compaction_state self.new).choices ≡ (compaction_state self.old).choices }
-    {
-        match step {
-            RinexStep::Nothing => unreachable!(),
-            RinexStep::Header { is_first } => {
-                ready.copy_header(self.options.date(), is_first, line);
-                Ok(self.copy())
-            }
-            RinexStep::Event => {
-                ready.copy(line);
-                Ok(self.copy())
-            }
-            RinexStep::Record => {
-                ready.copy(line);
-                Ok(self.copy())
-            }
-            RinexStep::Epoch => match self.encode(ready) {
-                Ok(step) => Ok(step),
-                Err(_) => self.fail(Fault::OutOfMemory, false, ready),
-            },
-        }
-    }
-
     /// Takes the next line: see [`Compactor::feed`](crate::compactor::Compactor::feed). `true` says that nothing is to be written or
     /// reported after it; else the answer is put into its place. Most lines are rows of an open epoch: they are taken without an answer
     /// and a step, which would be set to zero at each line.
     #[inline(always)]
-    pub(crate) fn feed(
-        &mut self,
-        line: &[u8],
-        ready: &mut ReadyLines,
-        answer: &mut Result<Step, At>,
-    ) -> bool
+    pub(crate) fn feed(&mut self, line: &[u8], answer: &mut Result<Step, At>) -> bool
         requires within { self.old.number < INPUT_LIMIT }
         requires short { length line.now ≤ LINE_LIMIT }
-        requires drained { pending_lines ready.old ≡ [] }
+        requires drained { compaction_ready self.old ≡ [] }
         ensures steps { Steps compaction (compaction_state self.old) (Content line.now)
-            (answer_given result answer.new) (pending_lines ready.new) (compaction_state self.new) }
+            (answer_given result answer.new) (compaction_ready self.new) (compaction_state self.new) }
         ensures ended { IfErr (answer_given result answer.new)
             (λ at. (compaction_state self.new).phase ≡ Ended at) }
-        ensures nothing { OnErr (answer_given result answer.new) (pending_lines ready.new ≡ []) }
+        ensures nothing { OnErr (answer_given result answer.new) (compaction_ready self.new ≡ []) }
         ensures choices { (compaction_state self.new).choices ≡ (compaction_state self.old).choices }
     {
-        if self.reader.take_row(line) {
+        if let Stage::Open = self.reader.stage {
+            return self.row(line, answer);
+        }
+        self.unit(line, answer)
+    }
+
+    /// Takes a line of an open epoch as [`Compaction::feed`] does: its row is written as soon as it is read.
+    #[inline(always)]
+    fn row(&mut self, line: &[u8], answer: &mut Result<Step, At>) -> bool
+        requires open { is_open_stage self.old.reader.stage ≡ true }
+        requires within { self.old.number < INPUT_LIMIT }
+        requires drained { compaction_ready self.old ≡ [] }
+        ensures steps { Steps compaction (compaction_state self.old) (Content line.now)
+            (answer_given result answer.new) (compaction_ready self.new) (compaction_state self.new) }
+        ensures ended { IfErr (answer_given result answer.new)
+            (λ at. (compaction_state self.new).phase ≡ Ended at) }
+        ensures nothing { OnErr (answer_given result answer.new) (compaction_ready self.new ≡ []) }
+        ensures choices { (compaction_state self.new).choices ≡ (compaction_state self.old).choices }
+    {
+        if let Err(fault) = self.reader.read_row(line) {
+            *answer = self.fail(fault, begins_epoch(line));
+            return false;
+        }
+        match self.encoder.encode_row(self.reader.row()) {
+            Ok(true) => {}
+            Ok(false) => {
+                *answer = self.fail(Fault::RepeatedSatellite, false);
+                return false;
+            }
+            Err(_) => {
+                // The encoder has forgotten the open epoch.
+                self.reader.stage = Stage::Looking;
+                *answer = self.fail(Fault::OutOfMemory, false);
+                return false;
+            }
+        }
+        if let RinexStep::Row = self.reader.take_row() {
             self.number += 1;
             return true;
         }
-        self.feed_other(line, ready, answer)
+        let ended = end_epoch(&self.reader, &mut self.encoder);
+        *answer = self.conclude(ended);
+        false
     }
 
-    /// Takes the next line as [`Compaction::feed`] does, where it isn't a row that the reader takes at once.
+    /// Takes a line of no open epoch as [`Compaction::feed`] does.
     #[inline(never)]
-    fn feed_other(
-        &mut self,
-        line: &[u8],
-        ready: &mut ReadyLines,
-        answer: &mut Result<Step, At>,
-    ) -> bool
+    fn unit(&mut self, line: &[u8], answer: &mut Result<Step, At>) -> bool
+        requires closed { is_open_stage self.old.reader.stage ≡ false }
         requires within { self.old.number < INPUT_LIMIT }
         requires short { length line.now ≤ LINE_LIMIT }
-        requires drained { pending_lines ready.old ≡ [] }
+        requires drained { compaction_ready self.old ≡ [] }
         ensures steps { Steps compaction (compaction_state self.old) (Content line.now)
-            (answer_given result answer.new) (pending_lines ready.new) (compaction_state self.new) }
+            (answer_given result answer.new) (compaction_ready self.new) (compaction_state self.new) }
         ensures ended { IfErr (answer_given result answer.new)
             (λ at. (compaction_state self.new).phase ≡ Ended at) }
-        ensures nothing { OnErr (answer_given result answer.new) (pending_lines ready.new ≡ []) }
+        ensures nothing { OnErr (answer_given result answer.new) (compaction_ready self.new ≡ []) }
         ensures choices { (compaction_state self.new).choices ≡ (compaction_state self.old).choices }
     {
         if let Stage::Ended(at) = self.reader.stage {
@@ -248,29 +293,43 @@ impl Compaction {
             return false;
         }
         match self.reader.take(line) {
-            Ok(step) => {
-                if let RinexStep::Nothing = step {
-                    self.number += 1;
-                    return true;
-                }
-                *answer = self.accept(step, line, ready);
-                false
-            }
             Err(fault) => {
-                *answer = self.fail(fault, begins_epoch(line), ready);
+                *answer = self.fail(fault, begins_epoch(line));
                 false
             }
+            Ok(step) => match step {
+                RinexStep::Nothing => {
+                    self.number += 1;
+                    true
+                }
+                RinexStep::Begun => {
+                    self.encoder
+                        .begin(is_at_every(self.options.every(), self.index));
+                    if !self.reader.is_whole() {
+                        self.number += 1;
+                        return true;
+                    }
+                    let ended = end_epoch(&self.reader, &mut self.encoder);
+                    *answer = self.conclude(ended);
+                    false
+                }
+                _ => {
+                    self.copy(step, line);
+                    *answer = Ok(Step::Ready);
+                    false
+                }
+            },
         }
     }
 
     /// Takes the next line, which is too long: see [`Compactor::overlong`](crate::compactor::Compactor::overlong).
-    pub(crate) fn overlong(&mut self, ready: &mut ReadyLines) -> Result<Step, At>
+    pub(crate) fn overlong(&mut self) -> Result<Step, At>
         requires within { self.old.number < INPUT_LIMIT }
-        requires drained { pending_lines ready.old ≡ [] }
-        ensures steps { step_made result (pending_lines ready.new) (compaction_state self.new)
+        requires drained { compaction_ready self.old ≡ [] }
+        ensures steps { step_made result (compaction_ready self.new) (compaction_state self.new)
             ≡ seen_next compaction (compaction_state self.old) Overlong }
         ensures ended { IfErr result (λ at. (compaction_state self.new).phase ≡ Ended at) }
-        ensures drained { pending_lines ready.new ≡ [] }
+        ensures drained { compaction_ready self.new ≡ [] }
         ensures choices { (compaction_state self.new).choices ≡ (compaction_state self.old).choices }
     {
         match self.reader.stage {
@@ -282,18 +341,47 @@ impl Compaction {
                 self.number += 1;
                 Ok(Step::Quiet)
             }
-            _ => self.fail(Fault::LineTooLong, false, ready),
+            _ => self.fail(Fault::LineTooLong, false),
         }
     }
 
     /// Takes the end of the input: see [`Compactor::end`](crate::compactor::Compactor::end).
     pub(crate) fn end(&mut self) -> Result<Step, At>
+        requires drained { compaction_ready self.old ≡ [] }
         ensures steps { step_made result [] (compaction_state self.new)
             ≡ seen_end compaction (compaction_state self.old) }
         ensures ended { IfErr result (λ at. (compaction_state self.new).phase ≡ Ended at) }
+        ensures drained { compaction_ready self.new ≡ [] }
         ensures choices { (compaction_state self.new).choices ≡ (compaction_state self.old).choices }
     {
         let settled = after_end(self.reader.stage, self.number, self.options.skip());
         self.settle(settled)
+    }
+
+    /// Whether none of the lines that were ready is pending.
+    pub(crate) fn is_drained(&self) -> bool
+        ensures value { IsTrue result ↔ (compaction_ready self.now ≡ []) }
+    {
+        self.encoder.is_drained()
+    }
+
+    /// Borrows the next of the lines that are ready, without its line end; `None` once none is pending.
+    pub(crate) fn next_line(&mut self) -> Option<&[u8]>
+        ensures value { option_copied result ≡ slice_get (compaction_ready self.old) 0 }
+        // That line is no longer pending, and nothing else changes.
+        ensures* after_borrow { sem 𝓛 (Rests the_row self.entry (λ new. (compaction_ready new
+            ≡ drop 1 (compaction_ready self.old)) × (compaction_state new ≡ compaction_state self.old))) }
+    {
+        self.encoder.next_line()
+    }
+
+    /// Borrows all lines that are ready as one text, each followed by LF; `None` where the next one is copied, and then they stay.
+    pub(crate) fn take_text(&mut self) -> Option<&[u8]>
+        ensures value { IfSome result (λ text. text.now ≡ lines_text (compaction_ready self.old)) }
+        ensures* after_borrow { sem 𝓛 (Rests the_row self.entry
+            (λ new. (compaction_ready new ≡ (if is_some result then [] else compaction_ready self.old))
+            × (compaction_state new ≡ compaction_state self.old))) }
+    {
+        self.encoder.take_text()
     }
 }

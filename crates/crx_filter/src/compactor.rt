@@ -1,7 +1,6 @@
 //! The engine that compacts RINEX one line at a time.
 
 use crate::compaction::Compaction;
-use crx_compact::ready_lines::ReadyLines;
 use crx_faults::At;
 use crx_lines::Line;
 use crx_options::Options;
@@ -14,7 +13,6 @@ use std::alloc::{AllocError, Global};
 #[derive(Drop)]
 pub struct Compactor {
     compaction: Compaction,
-    ready: ReadyLines,
     /// The answer to the line that was taken last, where something was to be written or reported.
     pub(crate) answer: Result<Step, At>,
 }
@@ -44,10 +42,9 @@ impl Compactor {
         ensures seen { IfOk result (λ c. compactor_seen c ≡ compaction_seen options []) }
         ensures drained { IfOk result (λ c. compactor_ready c ≡ []) }
     {
-        let ready = ReadyLines::new(alloc)?;
+        let compaction = Compaction::new(alloc, options)?;
         Ok(Compactor {
-            compaction: Compaction::new(alloc, options),
-            ready,
+            compaction,
             answer: Ok(Step::Quiet),
         })
     }
@@ -56,7 +53,7 @@ impl Compactor {
     pub fn is_drained(&self) -> bool
         ensures value { IsTrue result ↔ (compactor_ready self.now ≡ []) }
     {
-        self.ready.is_empty()
+        self.compaction.is_drained()
     }
 
     /// Borrows the next of the lines that are ready, without its line end; `None` once none is pending.
@@ -66,7 +63,7 @@ impl Compactor {
         ensures* after_borrow { sem 𝓛 (Rests the_row self.entry (λ new. (compactor_ready new
             ≡ drop 1 (compactor_ready self.old)) × (compactor_seen new ≡ compactor_seen self.old))) }
     {
-        self.ready.next_line()
+        self.compaction.next_line()
     }
 
     /// Borrows all lines that are ready as one text, each followed by LF; `None` where the next one is copied, and then they stay.
@@ -76,7 +73,7 @@ impl Compactor {
             (λ new. (compactor_ready new ≡ (if is_some result then [] else compactor_ready self.old))
             × (compactor_seen new ≡ compactor_seen self.old))) }
     {
-        self.ready.take_text()
+        self.compaction.take_text()
     }
 
     /// Takes the next line. `Quiet`: nothing is to be written yet; `Ready`: [`Compactor::next_line`] gives the lines; `Warned`: a fault is
@@ -120,8 +117,7 @@ impl Compactor {
         ensures nothing { OnErr (answer_given result self.new.answer) (compactor_ready self.new ≡ []) }
         ensures choices { (compactor_seen self.new).choices ≡ (compactor_seen self.old).choices }
     {
-        self.compaction
-            .feed(line, &mut self.ready, &mut self.answer)
+        self.compaction.feed(line, &mut self.answer)
     }
 
     /// Takes the next line where it is too long, by its number: [`Compactor::feed`] with the fault `LineTooLong`, unless a line that
@@ -142,7 +138,7 @@ impl Compactor {
         ensures repeated { (at : At) → (compactor_seen self.old).phase ≡ Ended at → result ≡ Err at }
     {
         let _ = number;
-        self.compaction.overlong(&mut self.ready)
+        self.compaction.overlong()
     }
 
     /// Takes the end of the input. No line is ready then.

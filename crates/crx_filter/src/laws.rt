@@ -2,7 +2,7 @@
 
 ghost use Rattle.std.specs.Prelude.{◌≡◌};
 ghost use Rattle.crx_filter.specs.Holdings.{compaction_with, compactor_with, compact_reader_with, expander_with, checker_with};
-ghost use Rattle.crx_filter.specs.declared.compaction.Compaction.{Compaction};
+ghost use Rattle.crx_filter.specs.declared.compaction.Compaction.TheInside.{Inside as CompactionInside};
 ghost use Rattle.crx_filter.specs.declared.compact_reader.CompactReader.{CompactReader};
 ghost use Rattle.crx_filter.specs.declared.compactor.Compactor.{Compactor};
 ghost use Rattle.crx_filter.specs.declared.expander.Expander.{Expander};
@@ -11,7 +11,7 @@ ghost use Rattle.crx_filter.specs.declared.checker.Checker.{Checker};
 /// What an engine holds, in full: one that takes over these parts of another is that other. So there is no part beside them, in which a
 /// record of the past lines could grow.
 pub fn engines_hold()
-    ensures compaction { (one other : Compaction) → compaction_with one other ≡ other }
+    ensures compaction { (one other : CompactionInside) → compaction_with one other ≡ other }
     ensures compactor { (one other : Compactor) → compactor_with one other ≡ other }
     ensures compact_reader { (one other : CompactReader) → compact_reader_with one other ≡ other }
     ensures expander { (one other : Expander) → expander_with one other ≡ other }

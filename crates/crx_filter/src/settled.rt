@@ -1,6 +1,6 @@
 //! What a fault and the end of the input make of a run, in either direction.
 
-ghost use Rattle.std.specs.Prelude.{◌≡◌, ◌+◌, ◌<◌, ◌≤◌, Option, true, false, IfErr, Err};
+ghost use Rattle.std.specs.Prelude.{◌≡◌, ◌+◌, ◌<◌, ◌≤◌, Option, Some, true, false, IfErr, Err};
 ghost use Rattle.crx_rinex.specs.meaning.EpochPlaces.{OpenEpoch};
 ghost use Rattle.crx_compact.specs.OpenEpochs.{OpenRawEpoch};
 ghost use Rattle.crx_faults.specs.declared.limits.TheConstants.{INPUT_LIMIT};
@@ -9,6 +9,7 @@ ghost use Rattle.crx_faults.specs.meaning.Faults.{is_skippable};
 ghost use Rattle.crx_reading.specs.CompactionByLine.{compaction};
 ghost use Rattle.crx_reading.specs.ExpansionByLine.{expansion};
 ghost use Rattle.crx_filter.specs.EngineSteps.{SettlesEnd, SettlesFault};
+ghost use Rattle.crx_reading.specs.RinexStages.{is_open_stage};
 ghost use Rattle.crx_reading.specs.Stages.{is_held, is_settled, seen_stage};
 
 use crx_faults::{At, Fault};
@@ -86,6 +87,7 @@ fn fault_at_end(stage: Stage) -> Option<Fault>
         → is_held stage held ≡ true → result ≡ fault_at_end_in (seen_stage held stage) }
     ensures compact { (held : Option OpenRawEpoch)
         → is_held stage held ≡ true → result ≡ fault_at_end_in (seen_stage held stage) }
+    ensures open { is_open_stage stage ≡ true → result ≡ Some Fault.Truncated }
 {
     match stage {
         Stage::FirstLines { count: 0 } => Some(Fault::NotCompact),
@@ -105,6 +107,7 @@ pub(crate) fn after_end(stage: Stage, number: u64, skip: bool) -> Settled
     ensures settled { is_settled result.stage ≡ true }
     ensures ended { IfErr result.answer (λ at. result.stage ≡ Stage.Ended at) }
     ensures counted { result.number ≡ number }
+    ensures open { is_open_stage stage ≡ true → result.is_emptied ≡ true }
 {
     if let Stage::Ended(at) = stage {
         return Settled {

@@ -33,31 +33,6 @@ impl Identifiers {
         }
     }
 
-    /// Each identifier is in the list once. The call does nothing; its caller knows this fact from then on.
-    #[inline(always)]
-    pub fn each_stands_once(&self)
-        ensures once { (place : ℕ) → place < length self.now
-            → is_among (λ (n : List ℕ). n) (get_or self.now place []) (take place self.now) ≡ false }
-    {
-        let _count = self.names.len();
-    }
-
-    /// The place of an identifier among the first so many.
-    pub fn place_of(&self, count: usize, name: [u8; NAME_WIDTH]) -> Option<usize>
-        requires { count ≤ length self.now }
-        ensures within { IfSome result (λ place. place < count) }
-        ensures place { IfSome result (λ place. get_or self.now place [] ≡ name) }
-        ensures new { IfSome result
-            (λ place. is_among (λ (n : List ℕ). n) name (take place self.now) ≡ false) }
-        ensures known { OnSome result (is_among (λ (n : List ℕ). n) name (take count self.now) ≡ true) }
-        ensures none { IfNone result (is_among (λ (n : List ℕ). n) name (take count self.now) ≡ false) }
-    {
-        let Some(place) = self.names.get_index_of(&name) else {
-            return None;
-        };
-        if place < count { Some(place) } else { None }
-    }
-
     /// Puts an identifier at a place, where none of those before it is the same: `false` comes where one is. Those before it
     /// stay in any case.
     #[inline(always)]

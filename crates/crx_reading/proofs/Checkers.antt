@@ -1,26 +1,36 @@
--- What a checker counts, by what a line makes.
-use Rattle.std.specs.Prelude.{unwrap_or}
-use Rattle.std.proofs.Common.{ℕ, ◌≡◌, Option, Some, Bool, true, List, [], ◌∷◌, ◌++◌, ap, sym, subst, ◌∙◌}
+-- What a checker counts, and what it prints, by what a line makes.
+use Rattle.std.proofs.Common.{ℕ, ◌≡◌, inl, inr, Option, Some, Bool, true, false, List, [], ◌∷◌, ◌++◌, map}
+use Rattle.std.proofs.Common.{ap, sym, subst, refl, ◌∙◌}
+use Rattle.std.specs.Str.{bytes_eq}
+use Rattle.std.proofs.lemmas.List.{map-append}
+use Rattle.std.proofs.lemmas.Option.{same_Some}
+use Rattle.crx_rinex.specs.Printing.{last_line}
+use Rattle.crx_rinex.specs.meaning.EpochLines.{ObservationHead}
 use Rattle.crx_rinex.specs.meaning.EpochPlaces.{OpenEpoch}
-use Rattle.crx_rinex.specs.meaning.Observations.{Epoch as ObservationEpoch}
-use Rattle.crx_header.specs.meaning.ObservationTypes.{Count}
-use Rattle.crx_rinex.specs.meaning.Printing.{printed_epoch}
+use Rattle.crx_rinex.specs.meaning.Observations.{Row, Epoch as ObservationEpoch}
+use Rattle.crx_rinex.specs.meaning.Printing.{printed_epoch, printed_head, printed_row}
 use Rattle.crx_rinex.specs.meaning.Units.{HeaderLine}
+use Rattle.crx_compact.proofs.Characters.{bytes_eq-same}
+use Rattle.crx_compact.specs.Written.{epoch_by_rows}
 use Rattle.crx_reading.specs.CompactionByLine.{is_before_header}
 use Rattle.crx_reading.specs.LineByLine.{Made, Moves}
-use Rattle.crx_reading.specs.RinexReaders.{reader_phase, TakesRinexLine}
+use Rattle.crx_reading.specs.RinexReaders.{reader_phase, epoch_open}
+use Rattle.crx_reading.specs.RinexReaders.{TakesRinexLine, MovesReader, CompletedEpoch}
 use Rattle.crx_reading.specs.meaning.Standard.{version_in}
 use Rattle.crx_reading.specs.CheckByLine.{Totals, totals_with, totals_made, printed_open, printed_made}
 use Rattle.crx_reading.specs.declared.rinex_reader.RinexReader.{RinexReader}
 use Rattle.crx_reading.specs.declared.rinex_reader.RinexStep.{RinexStep}
-use Rattle.crx_reading.specs.declared.rinex_reader.RinexStep.TheVariants.{Header, Nothing}
+use Rattle.crx_reading.specs.declared.rinex_reader.RinexStep.TheVariants.{Header}
 use Rattle.crx_reading.specs.declared.rinex_reader.RinexStep.TheVariants as Steps
 use Rattle.crx_reading.specs.declared.stage.Stage.{Stage}
-use Rattle.crx_reading.specs.declared.stage.Stage.TheVariants.{FirstLines, Between, Open, Looking, Closed, Ended}
+use Rattle.crx_reading.specs.declared.stage.Stage.TheVariants.{FirstLines, Between, Open, Looking}
+use Rattle.crx_reading.specs.declared.stage.Stage.TheVariants.{Closed, Ended}
 use Rattle.crx_reading.specs.declared.stage.Stage.TheVariants as Stages
 use Rattle.crx_reading.specs.Stages.{seen_stage}
-use Rattle.crx_reading.specs.RinexStages.{open_epoch}
-use Rattle.crx_reading.specs.Totals.{HasPrinted}
+use Rattle.crx_reading.specs.RinexStages.{is_open_stage}
+use Rattle.crx_reading.specs.Totals.{HasPrinted, IsLastRow}
+use Rattle.crx_reading.proofs.Choosing.{false-true}
+use Rattle.crx_reading.proofs.RinexSteps.{in-epoch}
 
 -- the header's first line says the version
 pub first-line : (totals : Totals) (made : Made ObservationEpoch OpenEpoch)
@@ -39,31 +49,89 @@ pub not-none : {X : Type 0} (lines : List (List ℕ)) (line : List ℕ) → [] �
 not-none [] line e = absurd (cc)
 not-none (first ∷ lines) line e = absurd (cc)
 
--- an epoch that is open is the one that is held
-open-printed : (types : List Count)
-    (held : Option ObservationEpoch) (stage : Stage) (epoch : ObservationEpoch) (lines : List (List ℕ)) (line : List ℕ)
-    → held ≡ Some epoch → printed_open (seen_stage (open_epoch types held) stage) ≡ lines ++ line ∷ []
-    → printed_open (seen_stage (open_epoch types held) stage) ≡ printed_epoch epoch
-open-printed types held (FirstLines count) epoch lines line e some = not-none lines line some
-open-printed types held (Stages.Header is_first) epoch lines line e some = not-none lines line some
-open-printed types held Between epoch lines line e some = not-none lines line some
-open-printed types held (Stages.Event left counted) epoch lines line e some = not-none lines line some
-open-printed types held Open epoch lines line e some = ap (λ o. printed_open (seen_stage (open_epoch types o) Open)) e
-open-printed types held Looking epoch lines line e some = not-none lines line some
-open-printed types held Closed epoch lines line e some = not-none lines line some
-open-printed types held (Ended at) epoch lines line e some = not-none lines line some
+-- where no epoch is open, none is printed
+closed-printed : (held : Option OpenEpoch)
+    (stage : Stage) → is_open_stage stage ≡ false → printed_open (seen_stage held stage) ≡ []
+closed-printed held Open closed = false-true (sym closed)
+closed-printed held (FirstLines count) closed = refl
+closed-printed held (Stages.Header is_first) closed = refl
+closed-printed held Between closed = refl
+closed-printed held (Stages.Event left counted) closed = refl
+closed-printed held Looking closed = refl
+closed-printed held Closed closed = refl
+closed-printed held (Ended at) closed = refl
 
-pub nothing-printed : (made : Made ObservationEpoch OpenEpoch)
-    (before after : RinexReader) (line : List ℕ) (epoch : ObservationEpoch)
-    → after.epoch ≡ Some epoch → TakesRinexLine made before line Nothing after
-    → HasPrinted made → printed_made made ≡ printed_epoch epoch
-nothing-printed made before after line epoch held takes some =
-    let printed : HasPrinted (Moves (reader_phase after)) = subst HasPrinted takes.0 some in
-    ap printed_made takes.0 ∙ open-printed after.types after.epoch after.stage epoch printed.0 printed.1 held printed.2
+-- so nothing is printed for a line that was passed over
+pub none-passed : {X : Type 0}
+    (made : Made ObservationEpoch OpenEpoch) (before after : RinexReader) (line : List ℕ)
+    → TakesRinexLine made before line Steps.Nothing after → HasPrinted made → X
+none-passed made before after line takes some =
+    let printed : HasPrinted (Moves (reader_phase after)) = subst HasPrinted takes.0.moved some in
+    not-none printed.0 printed.1 (sym (closed-printed (epoch_open after) after.stage takes.1) ∙ printed.2)
 
-pub epoch-printed : (made : Made ObservationEpoch OpenEpoch)
-    (before after : RinexReader) (line : List ℕ) (epoch : ObservationEpoch)
-    → after.epoch ≡ Some epoch → TakesRinexLine made before line Steps.Epoch after
-    → printed_made made ≡ printed_epoch epoch
-epoch-printed made before after line epoch held takes =
-    ap printed_made takes.is.unit_made ∙ ap (λ o. printed_epoch (unwrap_or o epoch)) (sym takes.held ∙ held)
+-- an epoch that is open is printed as that of its rows
+open-printed : (made : Made ObservationEpoch OpenEpoch) (before after : RinexReader) (head : ObservationHead)
+    → MovesReader made before after → is_open_stage after.stage ≡ true → after.head ≡ Some head
+    → printed_made made ≡ printed_epoch (epoch_by_rows head after.rows.rows)
+open-printed made before after head moves is held =
+    ap printed_made moves.moved ∙ printed (in-epoch after is).1.stage held
+  where
+    printed : after.stage ≡ Open → after.head ≡ Some head
+        → printed_open (reader_phase after) ≡ printed_epoch (epoch_by_rows head after.rows.rows)
+    printed stage held = rw (stage, held) refl
+
+-- and so is one that is complete
+complete-printed : (made : Made ObservationEpoch OpenEpoch)
+    (before after : RinexReader) (line : List ℕ) (head : ObservationHead)
+    → CompletedEpoch made line before after → after.head ≡ Some head
+    → printed_made made ≡ printed_epoch (epoch_by_rows head after.rows.rows)
+complete-printed made before after line head epoch held =
+    ap printed_made epoch.is.unit_made ∙ ap (λ h. printed_epoch (epoch_by_rows h after.rows.rows))
+    (same_Some epoch.head head (sym epoch.held ∙ held))
+
+-- the line of an epoch, where none of its rows has come
+pub begun-printed : (made : Made ObservationEpoch OpenEpoch)
+    (before after : RinexReader) (line : List ℕ) (head : ObservationHead)
+    → TakesRinexLine made before line Steps.Begun after → after.head ≡ Some head
+    → last_line (printed_made made) ≡ printed_head head.head head.clock
+begun-printed made before after line head (none, inl (is, moves)) held =
+    ap last_line (open-printed made before after head moves is held)
+    ∙ ap (λ rows. last_line (printed_epoch (epoch_by_rows head rows))) none
+begun-printed made before after line head (none, inr (is, epoch)) held =
+    ap last_line (complete-printed made before after line head epoch held)
+    ∙ ap (λ rows. last_line (printed_epoch (epoch_by_rows head rows))) none
+
+pub last-of : (lines : List (List ℕ)) (line : List ℕ) → last_line (lines ++ line ∷ []) ≡ line
+last-of [] line = refl
+last-of (first ∷ []) line = refl
+last-of (first ∷ next ∷ lines) line = last-of (next ∷ lines) line
+
+-- the last line of an epoch is that of its last row
+row-printed : (head : ObservationHead) (rows before : List Row) (row : Row)
+    → rows ≡ before ++ row ∷ [] → last_line (printed_epoch (epoch_by_rows head rows)) ≡ printed_row row
+row-printed head rows before row is =
+    let first = printed_head head.head head.clock in
+    ap (λ rs. last_line (first ∷ map printed_row rs)) is
+    ∙ ap (λ lines. last_line (first ∷ lines)) (map-append printed_row before (row ∷ []))
+    ∙ last-of (first ∷ map printed_row before) (printed_row row)
+
+pub part-printed : (made : Made ObservationEpoch OpenEpoch) (before after : RinexReader) (line : List ℕ)
+    → TakesRinexLine made before line Steps.Row after → IsLastRow after
+    → last_line (printed_made made) ≡ printed_row after.row
+part-printed made before after line takes is_last =
+    let at = in-epoch after takes.1 in
+    ap last_line (open-printed made before after at.0 takes.0 takes.1 at.1.held)
+    ∙ row-printed at.0 after.rows.rows is_last.0 after.row is_last.1
+
+pub whole-printed : (made : Made ObservationEpoch OpenEpoch) (before after : RinexReader) (line : List ℕ)
+    → TakesRinexLine made before line Steps.Epoch after → IsLastRow after
+    → last_line (printed_made made) ≡ printed_row after.row
+whole-printed made before after line takes is_last =
+    ap last_line (complete-printed made before after line takes.head takes takes.held)
+    ∙ row-printed takes.head after.rows.rows is_last.0 after.row is_last.1
+
+-- a line that is copied is given back
+pub copied-printed : (made : Made ObservationEpoch OpenEpoch) (line : List ℕ) → printed_made made ≡ line ∷ []
+    → true ≡ bytes_eq line (last_line (printed_made made))
+copied-printed made line is =
+    sym (bytes_eq-same line) ∙ ap (λ lines. bytes_eq line (last_line lines)) (sym is)

@@ -1,12 +1,13 @@
 -- What a reader of RINEX makes of the lines of an epoch, and of a line where one may begin.
-use Rattle.std.proofs.Common.{◌≡◌, ◌⊎◌, inl, inr, ℕ, zero, suc, ◌+◌, ◌-◌, ◌≤◌, ◌<◌, Bool, true, false, List, length}
-use Rattle.std.proofs.Common.{Option, Some, None, Result, Ok, Err, if◌then◌else◌, refl, sym, ap, subst, ◌∙◌, arith}
-use Rattle.std.proofs.Common.{nat_eq}
-use Rattle.std.specs.Prelude.{⊤, drop, not, ◌&&◌}
-use Rattle.std.proofs.lemmas.Bool.{and_from}
+use Rattle.std.proofs.Common.{◌≡◌, ◌⊎◌, inl, inr, ℕ, zero, suc, ◌+◌, ◌-◌, ◌<◌, ◌∷◌, ◌++◌, [], Bool}
+use Rattle.std.proofs.Common.{true, false, List, length, Option, Some, None, Result, Ok, Err}
+use Rattle.std.proofs.Common.{refl, sym, ap, subst, ◌∙◌, arith}
+use Rattle.std.specs.Prelude.{⊤, drop, not, ◌&&◌, ◌==◌, nat_lt}
+use Rattle.std.proofs.lemmas.Bool.{and_from, and_parts, eq-eqb, eqb-true, lt-ltb, ltb-true}
+use Rattle.std.proofs.lemmas.List.{length_push}
+use Rattle.std.proofs.lemmas.Option.{same_Some}
 use Rattle.std.specs.List.{list_all}
 use Rattle.std.specs.Result.{is_ok}
-use Rattle.std.proofs.lemmas.Bool.Decides.{nat_tests}
 use Rattle.crx_columns.specs.meaning.Columns.{columns, character_at, is_blank}
 use Rattle.crx_text.specs.meaning.Numbers.{clock_of}
 use Rattle.crx_faults.specs.meaning.Seen.{Content}
@@ -17,30 +18,29 @@ use Rattle.crx_rinex.specs.meaning.Observations.{Row, Epoch as ObservationEpoch}
 use Rattle.crx_rinex.specs.meaning.EpochLines.{HeadLine, EventHead, EpochHead, ObservationHead}
 use Rattle.crx_header.specs.meaning.EpochColumns.{begins_epoch, is_event_flag, is_event_line, records_in}
 use Rattle.crx_rinex.specs.meaning.EpochLines.{event_head, epoch_head}
-use Rattle.crx_header.specs.meaning.EpochColumns.{epoch_count, satellites_of}
+use Rattle.crx_header.specs.meaning.EpochColumns.{epoch_count}
 use Rattle.crx_rinex.specs.meaning.EpochLines.{head_of}
 use Rattle.crx_rinex.proofs.SoundEpochs.{with_clock}
-use Rattle.crx_rinex.specs.meaning.EpochPlaces.{OpenEpoch, begun_by, beginning_of, opened, epoch_of, row_if_new}
+use Rattle.crx_rinex.specs.meaning.EpochPlaces.{OpenEpoch, begun_by, beginning_of, opened, epoch_of, next_row}
 use Rattle.crx_rinex.specs.EpochPlaces.{Going, Whole, when_wanted, whole_or_going, after_row}
-use Rattle.crx_rinex.specs.Epochs.{begun, is_full_epoch, AddsRow}
-use Rattle.crx_rinex.specs.meaning.Epochs.{IsSoundEpoch}
+use Rattle.crx_rinex.specs.meaning.Epochs.{has_satellite}
 use Rattle.crx_header.specs.meaning.ObservationTypes.{Count}
 use Rattle.crx_rinex.specs.meaning.SatelliteLines.{row_of}
 use Rattle.crx_rinex.specs.meaning.Units.{EventLine}
-use Rattle.crx_reading.specs.CompactionByLine.{Written, compaction, epoch_written, is_next_row, is_whole_at_once}
-use Rattle.crx_reading.specs.CompactionByLine.{made_of_epoch_step, made_of_beginning, rinex_continues}
+use Rattle.crx_reading.specs.CompactionByLine.{Written, compaction, epoch_written, is_next_row}
+use Rattle.crx_reading.specs.CompactionByLine.{is_whole_at_once, made_of_epoch_step, made_of_beginning}
 use Rattle.crx_reading.specs.meaning.Items.{records_announced}
-use Rattle.crx_reading.specs.LineByLine.{Made, Completes, Moves, Phase, made_in}
+use Rattle.crx_reading.specs.LineByLine.{Made, Completes, Moves, InEpoch, Phase, made_in}
 use Rattle.crx_reading.specs.Memory.{may_take_memory}
 use Rattle.crx_reading.specs.Stages.{seen_stage, is_ended}
-use Rattle.crx_reading.specs.RinexStages.{seen_epoch, open_epoch}
-use Rattle.crx_reading.specs.RinexReaders.{reader_phase, made_at, CompletedEpoch, TakesRinexLine}
+use Rattle.crx_reading.specs.RinexStages.{open_epoch, is_open_stage, is_rinex_stage, wants_rows}
+use Rattle.crx_reading.specs.RinexReaders.{reader_phase, made_at, epoch_open}
+use Rattle.crx_reading.specs.RinexReaders.{BeginsEpoch, CompletedEpoch, MovesReader}
 use Rattle.crx_reading.specs.declared.rinex_reader.RinexReader.{RinexReader}
-use Rattle.crx_reading.specs.declared.rinex_reader.RinexStep.{RinexStep}
-use Rattle.crx_reading.specs.declared.rinex_reader.RinexStep.TheVariants.{Nothing, Epoch}
 use Rattle.crx_reading.specs.declared.stage.Stage.{Stage}
-use Rattle.crx_reading.specs.declared.stage.Stage.TheVariants.{Between, Open, Looking}
-use Rattle.crx_reading.proofs.Choosing.{by_bool}
+use Rattle.crx_reading.specs.declared.stage.Stage.TheVariants.{FirstLines, Header, Between, Event, Open}
+use Rattle.crx_reading.specs.declared.stage.Stage.TheVariants.{Looking, Closed, Ended}
+use Rattle.crx_reading.proofs.Choosing.{by_bool, false-true}
 
 -- ---- an epoch is whole, or wants rows
 
@@ -52,105 +52,196 @@ when-whole : (k : ℕ) (so_far : OpenEpoch) → k ≡ 0 → when_wanted k so_far
 when-whole zero so_far is = refl
 when-whole (suc k) so_far is = absurd (omega (arith, is))
 
-wants : (m n : ℕ) → nat_eq m n ≡ false → m ≤ n → 0 < n - m
-wants m n differ within = grind (arith, nat_tests)
+going-on : (so_far : OpenEpoch)
+    → length so_far.rows < so_far.head.count → whole_or_going so_far ≡ Going so_far
+going-on so_far less = when-going (so_far.head.count - length so_far.rows) so_far (omega (arith, less))
 
-wants-none : (m n : ℕ) → nat_eq m n ≡ true → n - m ≡ 0
-wants-none m n same = grind (arith, nat_tests)
+whole-now : (so_far : OpenEpoch)
+    → length so_far.rows ≡ so_far.head.count → whole_or_going so_far ≡ Whole (epoch_of so_far)
+whole-now so_far full = when-whole (so_far.head.count - length so_far.rows) so_far (omega (arith, full))
 
-going-on : (types : List Count) (epoch : ObservationEpoch) → is_full_epoch epoch ≡ false
-    → IsSoundEpoch epoch → whole_or_going (seen_epoch types epoch) ≡ Going (seen_epoch types epoch)
-going-on types epoch part sound = when-going (satellites_of epoch.head - length epoch.rows)
-    (seen_epoch types epoch) (wants (length epoch.rows) (satellites_of epoch.head) part sound.within)
+-- ---- what a reader has then
 
-whole-now : (types : List Count) (epoch : ObservationEpoch)
-    → is_full_epoch epoch ≡ true → whole_or_going (seen_epoch types epoch) ≡ Whole epoch
-whole-now types epoch full = when-whole (satellites_of epoch.head - length epoch.rows)
-    (seen_epoch types epoch) (wants-none (length epoch.rows) (satellites_of epoch.head) full)
+-- an epoch with this line, of which these rows have come
+abbrev pub open_by_rows : List Count → ObservationHead → List Row → OpenEpoch
+open_by_rows types head rows = record { types = types; head = head; rows = rows }
 
--- ---- what a reader holds then
+-- the parts of a reader say this of the epoch that was begun last
+pub record HasParts (after : RinexReader)
+    (types : List Count) (head : ObservationHead) (rows : List Row) : Type 0 where
+  pub types_then : after.types ≡ types
+  pub held : after.head ≡ Some head
+  pub rows_then : after.rows.rows ≡ rows
 
-pub whole-taken : (made : Made ObservationEpoch OpenEpoch)
-    (before after : RinexReader) (line : List ℕ) (epoch : ObservationEpoch)
-    → made ≡ made_of_epoch_step (whole_or_going (seen_epoch before.types epoch)) → may_take_memory
+whole-taken : (made : Made ObservationEpoch OpenEpoch)
+    (before after : RinexReader) (line : List ℕ) (head : ObservationHead) (rows : List Row)
+    → made ≡ made_of_epoch_step (whole_or_going (open_by_rows before.types head rows)) → may_take_memory
     (epoch_written before.types before.types) is_next_row (reader_phase before) (Content line) ≡ true
-    → is_full_epoch epoch ≡ true → after.epoch ≡ Some epoch → after.types ≡ before.types → after.stage ≡ Between
+    → length rows ≡ head.count → HasParts after before.types head rows → after.stage ≡ Between
     → CompletedEpoch made line before after
-whole-taken made before after line epoch is allowed full holds types stage = record {
-  epoch = epoch;
-  held = holds;
+whole-taken made before after line head rows is allowed full parts stage = record {
+  head = head;
+  held = parts.held;
   is = record {
-    unit_made = is ∙ ap made_of_epoch_step (whole-now before.types epoch full);
-    phase_then = ap (seen_stage (open_epoch after.types after.epoch)) stage;
-    types_then = types;
+    unit_made = is ∙ ap made_of_epoch_step (whole-now (open_by_rows before.types head rows) full)
+        ∙ ap (λ rs. made_of_epoch_step (Whole (epoch_of (open_by_rows before.types head rs))))
+        (sym parts.rows_then);
+    phase_then = ap (seen_stage (epoch_open after)) stage;
+    types_then = parts.types_then;
+    closed = ap is_open_stage stage;
   };
-  full = full;
+  counted = ap length parts.rows_then ∙ full;
   allowed = allowed;
 }
 
 -- the same where rows are still to come
-pub part-taken : (made : Made ObservationEpoch OpenEpoch)
-    (types : List Count) (held : Option ObservationEpoch) (now : List Count) (stage : Stage) (epoch : ObservationEpoch)
-    → made ≡ made_of_epoch_step (whole_or_going (seen_epoch types epoch)) → IsSoundEpoch epoch
-    → is_full_epoch epoch ≡ false → held ≡ Some epoch → now ≡ types → stage ≡ Open
-    → (made ≡ Moves (seen_stage (open_epoch now held) stage)) × (now ≡ types) × (is_ended stage ≡ false)
-part-taken made types held now stage epoch is sound part holds same open_stage = (
-  is ∙ ap made_of_epoch_step (going-on types epoch part sound)
-      ∙ sym (held-phase holds same open_stage),
-  same,
-  ap is_ended open_stage,
-)
+part-taken : (made : Made ObservationEpoch OpenEpoch)
+    (before after : RinexReader) (head : ObservationHead) (rows : List Row)
+    → made ≡ made_of_epoch_step (whole_or_going (open_by_rows before.types head rows))
+    → length rows < head.count → HasParts after before.types head rows → after.stage ≡ Open
+    → MovesReader made before after
+part-taken made before after head rows is part parts stage = record {
+  moved = is ∙ ap made_of_epoch_step (going-on (open_by_rows before.types head rows) part)
+      ∙ ap (λ (phase : Phase OpenEpoch). Moves phase) (sym held-phase);
+  types_then = parts.types_then;
+  goes_on = ap is_ended stage;
+}
   where
-    held-phase : held ≡ Some epoch → now ≡ types → stage ≡ Open
-        → Moves (seen_stage (open_epoch now held) stage) ≡ made_of_epoch_step (Going (seen_epoch types epoch))
-    held-phase a b c = rw (a, b, c) refl
+    held-phase : reader_phase after ≡ InEpoch (open_by_rows before.types head rows)
+    held-phase =
+        ap (λ s. seen_stage (epoch_open after) s) stage
+        ∙ ap (λ o. seen_stage (open_epoch after.types o after.rows.rows) Open) parts.held
+        ∙ ap (λ ts. InEpoch (open_by_rows ts head after.rows.rows)) parts.types_then
+        ∙ ap (λ rs. InEpoch (open_by_rows before.types head rs)) parts.rows_then
 
 -- ---- a satellite line
 
-row-added : (types : List Count) (epoch after : ObservationEpoch) (read : Result Row Fault) → AddsRow epoch read after
-    → made_of_epoch_step (after_row (seen_epoch types epoch) read)
-    ≡ made_of_epoch_step (whole_or_going (seen_epoch types after))
-row-added types epoch after (Ok row) added =
-    ap (λ (e : ObservationEpoch). made_of_epoch_step (whole_or_going (seen_epoch types e))) (sym added)
-row-added types epoch after (Err fault) added = absurd added
+-- an epoch with this line is open, and wants rows
+pub record IsInEpoch (r : RinexReader) (head : ObservationHead) : Type 0 where
+  pub stage : r.stage ≡ Open
+  pub held : r.head ≡ Some head
+  pub counted : r.count ≡ length r.rows.rows
+  pub wants : r.count < head.count
 
-row-read : (types : List Count) (epoch after : ObservationEpoch) (line : List ℕ)
-    → begins_epoch line ≡ false → AddsRow epoch (row_if_new epoch.rows (row_of types line)) after
-    → rinex_continues (seen_epoch types epoch) (Content line)
-    ≡ made_of_epoch_step (whole_or_going (seen_epoch types after))
-row-read types epoch after line other added =
-    rw other (row-added types epoch after (row_if_new epoch.rows (row_of types line)) added)
+abbrev AwaitsRow : Stage → Option ObservationHead → ℕ → List Row → Type 0
+AwaitsRow stage held count rows = (head : ObservationHead)
+    × (stage ≡ Open) × (held ≡ Some head) × (count ≡ length rows) × (count < head.count)
 
-pub row-made : (before : RinexReader) (line : List ℕ) (kept : Written) (epoch after : ObservationEpoch)
-    → before.stage ≡ Open → before.epoch ≡ Some epoch → begins_epoch line ≡ false
-    → AddsRow epoch (row_if_new epoch.rows (row_of before.types line)) after
-    → made_at before line kept ≡ made_of_epoch_step (whole_or_going (seen_epoch before.types after))
-row-made before line kept epoch after stage holds other added =
-    ap (λ (phase : Phase OpenEpoch). made_in compaction phase before.types kept (Content line))
-    (in-epoch before epoch stage holds) ∙ row-read before.types epoch after line other added
+wanting : (held : Option ObservationHead) (count : ℕ) (rows : List Row)
+    → wants_rows held count rows ≡ true → AwaitsRow Open held count rows
+wanting None count rows wants = false-true wants
+wanting (Some head) count rows wants =
+    let both = and_parts (count == length rows) (nat_lt count head.count) wants in
+    (head, refl, refl, eqb-true count (length rows) both.0, ltb-true count head.count both.1)
+
+awaits : (stage : Stage) (held : Option ObservationHead) (count : ℕ) (rows : List Row)
+    → is_rinex_stage stage held count rows ≡ true
+    → is_open_stage stage ≡ true → AwaitsRow stage held count rows
+awaits Open held count rows consistent is = wanting held count rows consistent
+awaits (FirstLines lines) held count rows consistent is = false-true is
+awaits (Header is_first) held count rows consistent is = false-true is
+awaits Between held count rows consistent is = false-true is
+awaits (Event left counted) held count rows consistent is = false-true is
+awaits Looking held count rows consistent is = false-true is
+awaits Closed held count rows consistent is = false-true is
+awaits (Ended at) held count rows consistent is = false-true is
+
+pub in-epoch : (r : RinexReader) → is_open_stage r.stage ≡ true → (head : ObservationHead) × IsInEpoch r head
+in-epoch r is =
+    let a = awaits r.stage r.head r.count r.rows.rows r.consistent is in
+    (a.0, record { stage = a.1; held = a.2; counted = a.3; wants = a.4 })
+
+pub in-its-epoch : (r : RinexReader) (head : ObservationHead)
+    → is_open_stage r.stage ≡ true → r.head ≡ Some head → IsInEpoch r head
+in-its-epoch r head is held =
+    let at = in-epoch r is in
+    let same = same_Some at.0 head (sym at.1.held ∙ held) in
+    record {
+      stage = at.1.stage;
+      held = held;
+      counted = at.1.counted;
+      wants = subst (λ (h : ObservationHead). r.count < h.count) same at.1.wants;
+    }
+
+-- so many rows of an epoch with this line are not all of them: it stays open
+pub stays-open : (stage : Stage) (held : Option ObservationHead)
+    (head : ObservationHead) (count : ℕ) (rows : List Row)
+    → stage ≡ Open → held ≡ Some head → count ≡ length rows → count < head.count
+    → is_rinex_stage stage held count rows ≡ true
+stays-open stage held head count rows is is_head counted more =
+    rw (is, is_head) (and_from (count == length rows) (nat_lt count head.count)
+    (eq-eqb count (length rows) counted) (lt-ltb count head.count more))
+
+-- what its next line makes
+row-made : (r : RinexReader) (head : ObservationHead) (line : List ℕ)
+    (kept : Written) (row : Result Row Fault)
+    → IsInEpoch r head → next_row (open_by_rows r.types head r.rows.rows) line ≡ row
+    → made_at r line kept ≡ made_of_epoch_step (after_row (open_by_rows r.types head r.rows.rows) row)
+row-made r head line kept row at is =
+    ap (λ (phase : Phase OpenEpoch). made_in compaction phase r.types kept (Content line))
+    (phase-in r head at) ∙ ap (λ (read : Result Row Fault).
+    made_of_epoch_step (after_row (open_by_rows r.types head r.rows.rows) read)) is
   where
-    in-epoch : (before : RinexReader) (epoch : ObservationEpoch) → before.stage ≡ Open
-        → before.epoch ≡ Some epoch → reader_phase before ≡ seen_stage (open_epoch before.types (Some epoch)) Open
-    in-epoch before epoch stage holds = rw (stage, holds) refl
+    phase-in : (r : RinexReader) (head : ObservationHead)
+        → IsInEpoch r head → reader_phase r ≡ InEpoch (open_by_rows r.types head r.rows.rows)
+    phase-in r head at = rw (at.stage, at.held) refl
 
-good-added : (epoch after : ObservationEpoch) (read : Result Row Fault) → AddsRow epoch read after → is_ok read ≡ true
-good-added epoch after (Ok row) added = refl
-good-added epoch after (Err fault) added = absurd added
+-- a row of a satellite that has not come
+new-row : (so_far : OpenEpoch) (line : List ℕ) (row : Row) → begins_epoch line ≡ false
+    → row_of so_far.types line ≡ Ok row → has_satellite row.name so_far.rows ≡ false
+    → next_row so_far line ≡ Ok row
+new-row so_far line row other read new = rw (other, read, new) refl
 
 -- such a line may take memory
-pub row-good : (first : List ℕ → Bool) (before : RinexReader) (line : List ℕ) (epoch : ObservationEpoch)
-    → before.stage ≡ Open → before.epoch ≡ Some epoch → begins_epoch line ≡ false
-    → is_ok (row_if_new epoch.rows (row_of before.types line)) ≡ true
-    → may_take_memory first is_next_row (reader_phase before) (Content line) ≡ true
-row-good first before line epoch stage holds other good = rw (stage, holds, other) good
+pub row-allowed : (first : List ℕ → Bool)
+    (r : RinexReader) (line : List ℕ) (row : Row) → is_open_stage r.stage ≡ true
+    → begins_epoch line ≡ false → row_of r.types line ≡ Ok row → has_satellite row.name r.rows.rows ≡ false
+    → may_take_memory first is_next_row (reader_phase r) (Content line) ≡ true
+row-allowed first r line row is other read new =
+    let at = in-epoch r is in
+    allowed r at.0 at.1 (ap (λ (o : Result Row Fault). is_ok o)
+    (new-row (open_by_rows r.types at.0 r.rows.rows) line row other read new))
+  where
+    allowed : (r : RinexReader) (head : ObservationHead) → IsInEpoch r head
+        → is_ok (next_row (open_by_rows r.types head r.rows.rows) line) ≡ true
+        → may_take_memory first is_next_row (reader_phase r) (Content line) ≡ true
+    allowed r head at good = rw (at.stage, at.held) (and_from (not (begins_epoch line))
+        (is_ok (next_row (open_by_rows r.types head r.rows.rows) line)) (ap not other) good)
 
-pub row-allowed : (first : List ℕ → Bool) (before : RinexReader) (line : List ℕ) (epoch after : ObservationEpoch)
-    → before.stage ≡ Open → before.epoch ≡ Some epoch → begins_epoch line ≡ false
-    → AddsRow epoch (row_if_new epoch.rows (row_of before.types line)) after
-    → may_take_memory first is_next_row (reader_phase before) (Content line) ≡ true
-row-allowed first before line epoch after stage holds other added =
-    row-good first before line epoch stage holds other
-    (good-added epoch after (row_if_new epoch.rows (row_of before.types line)) added)
+new-made : (r : RinexReader) (head : ObservationHead) (line : List ℕ) (kept : Written) (row : Row)
+    → IsInEpoch r head → begins_epoch line ≡ false → row_of r.types line ≡ Ok row
+    → has_satellite row.name r.rows.rows ≡ false → made_at r line kept
+    ≡ made_of_epoch_step (whole_or_going (open_by_rows r.types head (r.rows.rows ++ row ∷ [])))
+new-made r head line kept row at other read new =
+    row-made r head line kept (Ok row) at
+    (new-row (open_by_rows r.types head r.rows.rows) line row other read new)
+
+-- the row is the last one of its epoch
+pub last-row-taken : (before after : RinexReader) (head : ObservationHead) (line : List ℕ) (kept : Written)
+    → is_open_stage before.stage ≡ true → before.head ≡ Some head → row_of before.types line ≡ Ok before.row
+    → begins_epoch line ≡ false → has_satellite before.row.name before.rows.rows ≡ false
+    → before.count + 1 ≡ head.count → HasParts after before.types head (before.rows.rows ++ before.row ∷ [])
+    → after.stage ≡ Between → CompletedEpoch (made_at before line kept) line before after
+last-row-taken before after head line kept is held read other new full parts stage =
+    let at = in-its-epoch before head is held in
+    let counted = at.counted in
+    whole-taken (made_at before line kept) before after line head (before.rows.rows ++ before.row ∷ [])
+    (new-made before head line kept before.row at other read new)
+    (row-allowed (epoch_written before.types before.types) before line before.row is other read new)
+    (omega (arith, counted, full, length_push before.rows.rows before.row)) parts stage
+
+-- or others are to come
+pub row-taken : (before after : RinexReader) (head : ObservationHead) (line : List ℕ) (kept : Written)
+    → is_open_stage before.stage ≡ true → before.head ≡ Some head → row_of before.types line ≡ Ok before.row
+    → begins_epoch line ≡ false → has_satellite before.row.name before.rows.rows ≡ false
+    → before.count + 1 < head.count → HasParts after before.types head (before.rows.rows ++ before.row ∷ [])
+    → after.stage ≡ Open → MovesReader (made_at before line kept) before after
+row-taken before after head line kept is held read other new part parts stage =
+    let at = in-its-epoch before head is held in
+    let counted = at.counted in
+    part-taken (made_at before line kept) before after head (before.rows.rows ++ before.row ∷ [])
+    (new-made before head line kept before.row at other read new)
+    (omega (arith, counted, part, length_push before.rows.rows before.row)) parts stage
 
 -- ---- where an epoch or an event may begin
 
@@ -230,54 +321,46 @@ begin-allowed before line (inr looking) epoch whole =
     rw looking.0 (and_from (begins_epoch line)
     (not (is_event_line line) && begun) epoch.1 (and_from (not (is_event_line line)) begun (ap not epoch.0) whole))
 
--- an epoch that begins with a line, seen in either way
-pub begun-made : (types : List Count) (line : List ℕ) (head : ObservationHead)
-    → head_of line ≡ Ok (EpochHead head.head head.count head.clock) → satellites_of head.head ≡ head.count
-    → made_of_beginning types (beginning_of line) ≡ made_of_epoch_step (whole_or_going (seen_epoch types (begun head)))
-begun-made types line head read counts =
-    ap (λ (r : Result HeadLine Fault). made_of_beginning types (begun_by line r)) read
-    ∙ ap (λ (n : ℕ). let h : ObservationHead = record { head = head.head; count = n; clock = head.clock } in
-    made_of_epoch_step (whole_or_going (opened types h))) (sym counts)
-
 pub event-made : (types : List Count) (line : List ℕ) (flag count : ℕ) → head_of line ≡ Ok (EventHead flag count)
     → made_of_beginning types (beginning_of line) ≡ Completes (EventLine line)
 event-made types line flag count read =
     ap (λ (r : Result HeadLine Fault). made_of_beginning types (begun_by line r)) read
 
--- what a reader makes of the line that begins an epoch
-pub begun-taken : (before after : RinexReader) (line : List ℕ) (kept : Written) (head : ObservationHead)
-    (step : RinexStep) → Begins before line → head_of line ≡ Ok (EpochHead head.head head.count head.clock)
-    → satellites_of head.head ≡ head.count
-    → IsSoundEpoch (begun head) → after.epoch ≡ Some (begun head) → after.types ≡ before.types
-    → after.stage ≡ (if is_full_epoch (begun head) then Between else Open)
-    → step ≡ (if is_full_epoch (begun head) then Epoch else Nothing)
-    → TakesRinexLine (made_at before line kept) before line step after
-begun-taken before after line kept head step begins read counts sound holds types stage is =
-    by_bool (is_full_epoch (begun head))
-    (λ full. subst (λ s. TakesRinexLine (made_at before line kept) before line s after) (sym (is ∙ whole-step full))
-    (whole-taken (made_at before line kept) before after line
-    (begun head) made (begin-allowed before line begins (epoch-line line head.head head.count head.clock read)
-    (whole-line full)) full holds types (stage ∙ whole-stage full)))
-    (λ part. subst (λ s. TakesRinexLine (made_at before line kept) before line s after) (sym (is ∙ part-step part))
-    (part-taken (made_at before line kept) before.types after.epoch after.types after.stage
-    (begun head) made sound part holds types (stage ∙ part-stage part)))
-  where
-    made : made_at before line kept ≡ made_of_epoch_step (whole_or_going (seen_epoch before.types (begun head)))
-    made = begin-made before line kept begins ∙ begun-made before.types line head read counts
+-- an epoch that begins with a line
+begun-made : (types : List Count) (line : List ℕ) (head : ObservationHead)
+    → head_of line ≡ Ok (EpochHead head.head head.count head.clock)
+    → made_of_beginning types (beginning_of line) ≡ made_of_epoch_step (whole_or_going (opened types head))
+begun-made types line head read =
+    ap (λ (r : Result HeadLine Fault). made_of_beginning types (begun_by line r)) read
 
-    whole-line : is_full_epoch (begun head) ≡ true
-        → is_whole_at_once (made_of_beginning before.types (beginning_of line)) ≡ true
-    whole-line full = ap is_whole_at_once (begun-made before.types line head read counts
-        ∙ ap made_of_epoch_step (whole-now before.types (begun head) full))
+-- what a reader makes of the line that begins an epoch: it is whole with it
+pub begun-whole : (before after : RinexReader) (line : List ℕ) (kept : Written) (head : ObservationHead)
+    → Begins before line → head_of line ≡ Ok (EpochHead head.head head.count head.clock) → head.count ≡ 0
+    → HasParts after before.types head [] → after.stage ≡ Between
+    → BeginsEpoch (made_at before line kept) line before after
+begun-whole before after line kept head begins read none parts stage =
+    let made = begun-made before.types line head read in
+    let whole = ap made_of_epoch_step (whole-now (opened before.types head) (sym none)) in (
+      parts.rows_then,
+      inr (
+        ap is_open_stage stage,
+        whole-taken (made_at before line kept) before after line head []
+            (begin-made before line kept begins ∙ made)
+            (begin-allowed before line begins (epoch-line line head.head head.count head.clock read)
+            (ap is_whole_at_once (made ∙ whole))) (sym none) parts stage,
+      ),
+    )
 
-    whole-step : is_full_epoch (begun head) ≡ true → (if is_full_epoch (begun head) then Epoch else Nothing) ≡ Epoch
-    whole-step full = rw full refl
-
-    part-step : is_full_epoch (begun head) ≡ false → (if is_full_epoch (begun head) then Epoch else Nothing) ≡ Nothing
-    part-step part = rw part refl
-
-    whole-stage : is_full_epoch (begun head) ≡ true → (if is_full_epoch (begun head) then Between else Open) ≡ Between
-    whole-stage full = rw full refl
-
-    part-stage : is_full_epoch (begun head) ≡ false → (if is_full_epoch (begun head) then Between else Open) ≡ Open
-    part-stage part = rw part refl
+-- or rows are to come
+pub begun-part : (before after : RinexReader) (line : List ℕ) (kept : Written) (head : ObservationHead)
+    → Begins before line → head_of line ≡ Ok (EpochHead head.head head.count head.clock) → 0 < head.count
+    → HasParts after before.types head [] → after.stage ≡ Open
+    → BeginsEpoch (made_at before line kept) line before after
+begun-part before after line kept head begins read some parts stage = (
+  parts.rows_then,
+  inl (
+    ap is_open_stage stage,
+    part-taken (made_at before line kept) before after head []
+        (begin-made before line kept begins ∙ begun-made before.types line head read) some parts stage,
+  ),
+)

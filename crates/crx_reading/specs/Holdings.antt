@@ -3,6 +3,7 @@
 -- lines could grow.
 use Rattle.crx_options.specs.declared.options.Options.TheInside.{Inside as OptionsInside}
 use Rattle.crx_reading.specs.declared.line_number.LineNumber.TheInside.{Inside as LineNumberInside}
+use Rattle.crx_compact.specs.Holdings.{rows_with}
 use Rattle.crx_reading.specs.declared.rinex_reader.RinexReader.{RinexReader}
 
 -- options, with the parts of another
@@ -23,9 +24,11 @@ line_number_with one other = record one {
 -- a reader of RINEX, with the parts of another
 abbrev pub rinex_reader_with : RinexReader → RinexReader → RinexReader
 rinex_reader_with one other = record one {
-  alloc = other.alloc;
   stage = other.stage;
   types = other.types;
-  epoch = other.epoch;
+  head = other.head;
+  count = other.count;
+  row = other.row;
+  rows = rows_with one.rows other.rows;
   consistent = other.consistent;
 }

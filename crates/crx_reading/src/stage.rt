@@ -1,14 +1,15 @@
 //! Where a run is between two lines, in either direction.
 
-ghost use Rattle.std.specs.Prelude.{◌≡◌, List, Option, Bool, true, false, if◌then◌else◌};
+ghost use Rattle.std.specs.Prelude.{ℕ, ◌≡◌, List, Option, Bool, true, false, if◌then◌else◌};
 ghost use Rattle.crx_rinex.specs.meaning.EpochPlaces.{OpenEpoch};
 ghost use Rattle.crx_compact.specs.OpenEpochs.{OpenRawEpoch};
 ghost use Rattle.crx_reading.specs.LineByLine.{is_in_epoch, may_skip, with_records_left, InHeader, BetweenUnits};
 ghost use Rattle.crx_reading.specs.meaning.Items.{counts_types};
 ghost use Rattle.crx_reading.specs.Stages.{seen_stage, is_held, is_settled};
-ghost use Rattle.crx_reading.specs.RinexStages.{is_rinex_stage};
+ghost use Rattle.crx_reading.specs.RinexStages.{is_open_stage, is_rinex_stage};
 ghost use Rattle.crx_header.specs.meaning.Header.{is_end_of_header};
-ghost use Rattle.crx_rinex.specs.meaning.Observations.{Epoch};
+ghost use Rattle.crx_rinex.specs.meaning.Observations.{Row};
+ghost use Rattle.crx_rinex.specs.meaning.EpochLines.{ObservationHead};
 
 use crx_faults::At;
 use crx_header::is_end;
@@ -52,6 +53,7 @@ impl Stage {
             → is_held self.now held ≡ true → result ≡ is_in_epoch (seen_stage held self.now) }
         ensures compact { (held : Option OpenRawEpoch)
             → is_held self.now held ≡ true → result ≡ is_in_epoch (seen_stage held self.now) }
+        ensures value { result ≡ is_open_stage self.now }
     {
         matches!(self, Stage::Open)
     }
@@ -78,7 +80,9 @@ pub fn after_header_line(line: &[u8]) -> Stage
         → seen_stage held result ≡ (if is_end_of_header line.now then BetweenUnits else InHeader false) }
     ensures compact { (held : Option OpenRawEpoch)
         → seen_stage held result ≡ (if is_end_of_header line.now then BetweenUnits else InHeader false) }
-    ensures consistent { (epoch : Option Epoch) → is_rinex_stage result epoch ≡ true }
+    ensures consistent { (head : Option ObservationHead) (count : ℕ) (rows : List Row)
+        → is_rinex_stage result head count rows ≡ true }
+    ensures closed { is_open_stage result ≡ false }
 {
     if is_end(line) {
         Stage::Between
@@ -91,7 +95,9 @@ pub fn after_header_line(line: &[u8]) -> Stage
 pub fn with_records_left(left: usize, counted: bool) -> Stage
     ensures rinex { (held : Option OpenEpoch) → seen_stage held result ≡ with_records_left left counted }
     ensures compact { (held : Option OpenRawEpoch) → seen_stage held result ≡ with_records_left left counted }
-    ensures consistent { (epoch : Option Epoch) → is_rinex_stage result epoch ≡ true }
+    ensures consistent { (head : Option ObservationHead) (count : ℕ) (rows : List Row)
+        → is_rinex_stage result head count rows ≡ true }
+    ensures closed { is_open_stage result ≡ false }
 {
     if left == 0 {
         Stage::Between

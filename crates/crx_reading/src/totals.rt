@@ -1,9 +1,8 @@
 //! What a check counts, and which lines it finds standard.
 
-ghost use Rattle.std.specs.Prelude.{◌≡◌, ◌≤◌, ◌<◌, ◌*◌, ◌+◌, ℕ, Some, true};
+ghost use Rattle.std.specs.Prelude.{◌≡◌, ◌<◌, ◌+◌, ℕ};
 ghost use Rattle.std.specs.Str.{bytes_eq};
-ghost use Rattle.std.specs.Option.{option_copied};
-ghost use Rattle.crx_faults.specs.declared.limits.TheConstants.{INPUT_LIMIT, SATELLITES_LIMIT, TYPES_LIMIT};
+ghost use Rattle.crx_faults.specs.declared.limits.TheConstants.{INPUT_LIMIT};
 ghost use Rattle.crx_rinex.specs.meaning.EpochPlaces.{OpenEpoch};
 ghost use Rattle.crx_rinex.specs.meaning.Observations.{Epoch as ObservationEpoch};
 ghost use Rattle.crx_rinex.specs.Printing.{last_line};
@@ -11,18 +10,25 @@ ghost use Rattle.crx_reading.specs.CompactionByLine.{is_before_header};
 ghost use Rattle.crx_reading.specs.LineByLine.{Made};
 ghost use Rattle.crx_reading.specs.RinexReaders.{reader_phase, TakesRinexLine};
 ghost use Rattle.crx_reading.specs.CheckByLine.{printed_made, totals_made};
-ghost use Rattle.crx_reading.specs.Totals.{totals_held, AreBounded, HasPrinted};
+ghost use Rattle.crx_reading.specs.Totals.{totals_held, AreBounded, HasObserved, HasPrinted, HasRow};
 ghost use Rattle.crx_reading.specs.declared.rinex_reader.RinexReader.{RinexReader};
 
 use crate::report::Totals;
 use crate::rinex_reader::{RinexReader, RinexStep};
 use crx_header::padded;
-use crx_rinex::print_last_line;
+use crx_rinex::print_head;
 use crx_text::Text;
 
-/// The totals with those of a line that was taken, by what it was.
-pub fn counted(totals: Totals, reader: &RinexReader, step: RinexStep, line: &[u8]) -> Totals
+/// The totals with those of a line that was taken, by what it was; the rows of the epoch so far have so many observations.
+pub fn counted(
+    totals: Totals,
+    reader: &RinexReader,
+    step: RinexStep,
+    observed: u64,
+    line: &[u8],
+) -> Totals
     requires bounded { (number : ℕ) × AreBounded totals number × (number < INPUT_LIMIT) }
+    requires observed { HasObserved step observed reader.now.rows.rows }
     ensures value { (before : RinexReader) (made : Made ObservationEpoch OpenEpoch)
         → TakesRinexLine made before line.now step reader.now
         → totals_held result ≡ totals_made
@@ -38,35 +44,40 @@ pub fn counted(totals: Totals, reader: &RinexReader, step: RinexStep, line: &[u8
             events: totals.events + 1,
             ..totals
         },
-        RinexStep::Epoch => {
-            let observations = match reader.epoch() {
-                Some(epoch) => epoch.observations() as u64,
-                None => 0,
-            };
+        RinexStep::Begun | RinexStep::Epoch => {
+            if !reader.is_whole() {
+                return totals;
+            }
             Totals {
                 epochs: totals.epochs + 1,
-                observations: totals.observations + observations,
+                observations: totals.observations + observed,
                 ..totals
             }
         }
-        RinexStep::Header { is_first: false } | RinexStep::Record | RinexStep::Nothing => totals,
+        RinexStep::Header { is_first: false }
+        | RinexStep::Record
+        | RinexStep::Row
+        | RinexStep::Nothing => totals,
     }
 }
 
 /// Whether printing gives back a line that was taken, by what it was: the lines that aren't of epochs are copied.
 pub fn is_given_back(reader: &RinexReader, step: RinexStep, line: &[u8], text: &mut Text) -> bool
     ensures value { (before : RinexReader) (made : Made ObservationEpoch OpenEpoch)
-        → TakesRinexLine made before line.now step reader.now → HasPrinted made
+        → TakesRinexLine made before line.now step reader.now → HasPrinted made → HasRow step reader.now
         → result ≡ bytes_eq line.now (last_line (printed_made made)) }
 {
     match step {
-        RinexStep::Header { .. } | RinexStep::Event | RinexStep::Record => true,
-        RinexStep::Nothing | RinexStep::Epoch => match reader.epoch() {
-            Some(epoch) => {
-                print_last_line(epoch, text);
-                line == text.bytes()
-            }
-            None => false,
-        },
+        RinexStep::Header { .. } | RinexStep::Event | RinexStep::Record | RinexStep::Nothing => {
+            return true;
+        }
+        RinexStep::Begun => {
+            let Some(head) = reader.head() else {
+                return false;
+            };
+            print_head(head, text);
+        }
+        RinexStep::Row | RinexStep::Epoch => reader.row().print(text),
     }
+    line == text.bytes()
 }

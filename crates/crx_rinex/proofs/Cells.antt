@@ -7,7 +7,7 @@ use Rattle.std.proofs.lemmas.List.Elements.{All-replicate, All-set}
 use Rattle.std.proofs.lemmas.List.Folds.{concat-append, list_all-append}
 use Rattle.std.specs.Prelude.{slice_set}
 use Rattle.std.proofs.lemmas.List.{take_more_set, length-set, take_at, take-append-le, drop_all, length-drop, take-take}
-use Rattle.std.proofs.lemmas.List.{length-append, length-replicate, append_assoc}
+use Rattle.std.proofs.lemmas.List.{length-append, length-replicate, take-replicate, append_assoc}
 use Rattle.std.proofs.lemmas.Option.{option_and_then_some, same_Some, none-some}
 use Rattle.crx_columns.specs.meaning.Columns.{character_at}
 use Rattle.crx_columns.specs.meaning.EachPlace.{each_place}
@@ -140,6 +140,20 @@ sound-blank name m named small =
       paired = length-replicate (2 * m) 32 ∙ ap (λ (n : ℕ). 2 * n) (sym (length-replicate {A = Option ℤ} m None));
       kept = all_kept_blanks (2 * m);
     }
+
+-- and so is one that takes its blanks out of longer lists of them
+pub sound-cleared : (name : List ℕ) (m n : ℕ) → is_identifier name ≡ true → IsAllowedCount m → m ≤ n
+    → IsSoundRow (record {
+      name = name;
+      values = take m (replicate {A = Option ℤ} n None);
+      flags = take (2 * m) (replicate {A = ℕ} (2 * n) 32);
+    })
+sound-cleared name m n named small within =
+    rw (
+      take-replicate {X = Option ℤ} m n None within,
+      take-replicate {X = ℕ} (2 * m) (2 * n) 32 (omega (arith, within)),
+    )
+    (sound-blank name m named small)
 
 -- a value of which every number that it has fits its columns
 pub is-value : (value : Option ℤ)

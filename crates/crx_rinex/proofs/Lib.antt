@@ -6,6 +6,4 @@ pub mod Ranges
 pub mod ReadingBack
 pub mod Rows
 pub mod SoundEpochs
-pub mod LastLines
-pub mod GoodRows
 pub mod Copied

@@ -3,6 +3,7 @@
 -- past lines could grow.
 use Rattle.crx_header.specs.declared.types.Types.TheInside.{Inside as TypesInside}
 use Rattle.crx_rinex.specs.declared.satellite_row.SatRow.TheInside.{Inside as SatRowInside}
+use Rattle.crx_rinex.specs.declared.row_buffer.RowBuffer.TheInside.{Inside as RowBufferInside}
 use Rattle.crx_header.specs.declared.identifiers.Identifiers.TheInside.{Inside as IdentifiersInside}
 use Rattle.crx_rinex.specs.declared.epoch_line.EpochLine.TheInside.{Inside as EpochLineInside}
 use Rattle.crx_rinex.specs.declared.epoch.Epoch.TheInside.{Inside as EpochInside}
@@ -18,6 +19,15 @@ types_with one other = record one {
 abbrev pub row_with_parts : SatRowInside → SatRowInside → SatRowInside
 row_with_parts one other = record one {
   name = other.name;
+  values = other.values;
+  flags = other.flags;
+}
+
+-- the row of the line read last, with the parts of another
+abbrev pub row_buffer_with : RowBufferInside → RowBufferInside → RowBufferInside
+row_buffer_with one other = record one {
+  name = other.name;
+  count = other.count;
   values = other.values;
   flags = other.flags;
 }
@@ -39,10 +49,7 @@ epoch_line_with one other = record one {
 -- an epoch, with the parts of another
 abbrev pub epoch_with : EpochInside → EpochInside → EpochInside
 epoch_with one other = record one {
-  alloc = other.alloc;
   head = other.head;
   rows = other.rows;
-  count = other.count;
   names = other.names;
-  known = other.known;
 }

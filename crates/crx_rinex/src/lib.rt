@@ -6,6 +6,8 @@ pub mod epoch;
 pub mod epoch_line;
 pub mod laws;
 pub mod printed;
+pub mod row_buffer;
+pub mod rows_so_far;
 pub mod satellite_row;
 
 pub use crx_header::{
@@ -15,5 +17,7 @@ pub use crx_header::{
 };
 pub use epoch::Epoch;
 pub use epoch_line::{EpochLine, Head};
-pub use printed::{Printed, print_head, print_last_line};
+pub use printed::{Printed, print_head};
+pub use row_buffer::RowBuffer;
+pub use rows_so_far::RowsSoFar;
 pub use satellite_row::SatRow;

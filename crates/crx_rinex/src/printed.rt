@@ -6,7 +6,6 @@ ghost use Rattle.std.specs.Borrow.{sem};
 ghost use Rattle.std.specs.Io.BufRead.{Rests};
 ghost use Rattle.std.specs.Option.{option_copied};
 ghost use Rattle.crx_faults.specs.declared.limits.TheConstants.{SATELLITES_LIMIT};
-ghost use Rattle.crx_rinex.specs.Printing.{last_line};
 ghost use Rattle.crx_rinex.specs.meaning.Printing.{printed_epoch, printed_head};
 ghost use Rattle.crx_rinex.specs.contracts.printed.Printed.{the_row};
 
@@ -85,16 +84,6 @@ fn print_line(epoch: &Epoch, index: usize, text: &mut Text) -> bool
     };
     row.print(text);
     true
-}
-
-/// Replaces a text by the last of an epoch's lines so far, as it is printed: that of its last row, or its epoch line where it has no row.
-pub fn print_last_line(epoch: &Epoch, text: &mut Text)
-    ensures value { text.new ≡ last_line (printed_epoch epoch.now) }
-{
-    match epoch.last_row() {
-        Some(row) => row.print(text),
-        None => print_head(epoch.head(), text),
-    }
 }
 
 /// Replaces a text by the printed epoch line, without blanks at its end.

@@ -1,13 +1,12 @@
 //! Satellite lines. RINEX 3.05, table A3, OBSERVATION record, A1,I2.2,m(F14.3,I1,I1).
 
-ghost use Rattle.std.specs.Prelude.{ℕ, ◌≡◌, ◌≤◌, ◌<◌, ◌+◌, ◌-◌, ◌*◌, ◌++◌, ◌⊎◌, slice_set, true, None, Some, Ok, Err, is_some, length, All, IfOk, IfErr, IfSome, OnOk, OnErr, IfNone, MatchBool, ◌≢◌, MatchResult, slice_get, take, drop};
+ghost use Rattle.std.specs.Prelude.{◌≡◌, ◌≤◌, ◌<◌, ◌+◌, ◌-◌, ◌*◌, ◌++◌, ◌⊎◌, slice_set, true, None, Some, Ok, Err, is_some, length, All, IfOk, IfErr, IfSome, OnOk, MatchBool, MatchResult, slice_get, drop, filter};
 ghost use Rattle.std.specs.Bool.{OnTrue, OnFalse};
 ghost use Rattle.std.specs.List.{list_all};
-ghost use Rattle.std.specs.Option.{option_map, ForSome};
-ghost use Rattle.std.specs.Result.{is_ok};
+ghost use Rattle.std.specs.Option.{ForSome};
 ghost use Rattle.crx_columns.specs.meaning.Columns.{character_at, columns, is_blank};
 ghost use Rattle.crx_faults.specs.declared.limits.TheConstants.{CELL_WIDTH, LINE_LIMIT, NAME_WIDTH, OBSERVATION_WIDTH, TYPES_LIMIT};
-ghost use Rattle.crx_text.specs.meaning.Numbers.{observation_of, observation_text, IsValue};
+ghost use Rattle.crx_text.specs.meaning.Numbers.{observation_of, IsValue};
 ghost use Rattle.crx_text.specs.Numbers.{IsObservation};
 ghost use Rattle.crx_columns.specs.meaning.Texts.{is_kept};
 ghost use Rattle.crx_header.specs.meaning.ObservationTypes.{IsAllowedCount};
@@ -22,10 +21,8 @@ use crx_columns::columns::character;
 use crx_faults::Fault;
 use crx_faults::limits::{CELL_WIDTH, NAME_WIDTH, OBSERVATION_WIDTH, TYPES_LIMIT};
 use crx_header::cells::{cells_within, put_indicators, put_indicators_within};
-use crx_header::columns::first_identifier;
 use crx_header::{
-    Types, after_columns, all_blank, identifier, is_same_identifier, padded, put_flags,
-    types_of_satellite,
+    Types, after_columns, all_blank, identifier, padded, put_flags, types_of_satellite,
 };
 use crx_text::{Text, all_kept, obs_print_cell, obs_read, obs_read_into};
 use std::alloc::Global;
@@ -79,89 +76,6 @@ impl SatRow {
             values,
             flags,
         })
-    }
-
-    /// Reads another satellite line into the row, with the meaning and the faults of [`SatRow::read`], and then `OutOfMemory`:
-    /// memory is asked for only where the line is good, and the row never had so many types before.
-    ///
-    /// After `BadSatellite` and `OutOfMemory` the row is as it was; after `BadField` and `BadFlags` it keeps its identifier,
-    /// and all of its values are missing, or it is as it was.
-    pub fn read_again(&mut self, types: &Types, line: &[u8]) -> Result<(), Fault>
-        ensures ok { OnOk result (row_of types.now line.now ≡ Ok self.new) }
-        ensures name { OnOk result (self.new.name ≡ columns line.now 1 NAME_WIDTH) }
-        ensures sound { OnOk result (IsSoundRow self.new) }
-        // A row that has as many types takes no memory, and a bad line takes none.
-        ensures refused { IfErr result (λ fault. (row_of types.now line.now ≡ Err fault)
-            ⊎ ((fault ≡ Fault.OutOfMemory) × (is_ok (row_of types.now line.now) ≡ true)
-            × (types_of_satellite types.now line.now ≢ Some (length self.old.values)))) }
-        ensures err { IfErr result (λ fault. (self.new ≡ self.old)
-            ⊎ (((fault ≡ Fault.BadField) ⊎ (fault ≡ Fault.BadFlags))
-            × (self.new ≡ blank_row self.old.name (length self.new.values)))) }
-    {
-        let Some(count) = types_of_satellite(types, line) else {
-            return Err(Fault::BadSatellite);
-        };
-        self.read_values(count, line)?;
-        self.name = identifier(line, 1);
-        Ok(())
-    }
-
-    /// Whether a line begins with the row's identifier.
-    #[inline(always)]
-    pub(crate) fn is_of(&self, line: &[u8]) -> bool
-        ensures { OnTrue result (columns line.now 1 NAME_WIDTH ≡ self.now.name) }
-    {
-        if line.len() < NAME_WIDTH {
-            return false;
-        }
-        is_same_identifier(first_identifier(line), self.name)
-    }
-
-    /// Reads another line of the row's satellite as [`SatRow::read_again`] does: the identifier isn't looked at again, nor written.
-    #[inline(always)]
-    pub(crate) fn read_known(&mut self, types: &Types, line: &[u8]) -> Result<(), Fault>
-        requires { columns line.now 1 NAME_WIDTH ≡ self.old.name }
-        ensures ok { OnOk result (row_of types.now line.now ≡ Ok self.new) }
-        ensures name { self.new.name ≡ self.old.name }
-        ensures sound { IsSoundRow self.new }
-        ensures refused { IfErr result (λ fault. (row_of types.now line.now ≡ Err fault)
-            ⊎ ((fault ≡ Fault.OutOfMemory) × (is_ok (row_of types.now line.now) ≡ true)
-            × (types_of_satellite types.now line.now ≢ Some (length self.old.values)))) }
-        ensures err { IfErr result (λ fault. (self.new ≡ self.old)
-            ⊎ (((fault ≡ Fault.BadField) ⊎ (fault ≡ Fault.BadFlags))
-            × (self.new ≡ blank_row self.old.name (length self.new.values)))) }
-    {
-        let Some(count) = types.count(self.name[0]) else {
-            return Err(Fault::BadSatellite);
-        };
-        self.read_values(count, line)
-    }
-
-    /// Reads the cells of a line of so many types into the row, which keeps its identifier. The faults of the line come first, then
-    /// `OutOfMemory`, as by [`SatRow::read_again`].
-    #[inline(always)]
-    fn read_values(&mut self, count: usize, line: &[u8]) -> Result<(), Fault>
-        requires { IsAllowedCount count }
-        ensures ok { OnOk result (row_with count line.now (values_in count line.now)
-            ≡ Ok (record self.new { name = columns line.now 1 NAME_WIDTH })) }
-        ensures refused { IfErr result (λ fault.
-            (row_with count line.now (values_in count line.now) ≡ Err fault)
-            ⊎ ((fault ≡ Fault.OutOfMemory)
-            × (is_ok (row_with count line.now (values_in count line.now)) ≡ true)
-            × (length self.old.values ≢ count))) }
-        ensures err { IfErr result (λ fault. (self.new ≡ self.old)
-            ⊎ (((fault ≡ Fault.BadField) ⊎ (fault ≡ Fault.BadFlags))
-            × (self.new ≡ blank_row self.old.name (length self.new.values)))) }
-        ensures name { self.new.name ≡ self.old.name }
-        ensures sound { IsSoundRow self.new }
-    {
-        resize_for(&mut self.values, &mut self.flags, count, line)?;
-        if let Err(fault) = read_cells(line, &mut self.values, &mut self.flags) {
-            self.values.fill(None);
-            self.flags.fill(b' ');
-            return Err(fault);
-        }
-        Ok(())
     }
 
     /// A row of m missing values, with blank indicators. `OutOfMemory` is its one refusal.
@@ -240,7 +154,7 @@ impl SatRow {
         ensures value { result ≡ observations_of self.now }
         ensures within { result ≤ TYPES_LIMIT }
     {
-        self.values.iter().filter(|value| value.is_some()).count()
+        count_values(&self.values)
     }
 
     /// Replaces a text by the printed satellite line, without blanks at its end.
@@ -248,92 +162,41 @@ impl SatRow {
         ensures value { text.new ≡ printed_row self.now }
         ensures sound { IsSoundRow self.now }
     {
-        text.clear();
-        let _ = text.extend(&self.name);
-        print_cells(&self.values, &self.flags, text);
-        text.trim_end_blanks();
+        print_row(self.name, &self.values, &self.flags, text);
     }
 }
 
-/// Gives cells the size for m types; `false` where there is no memory, and then they are as they were.
-fn resize_cells(values: &mut Vec<Option<i64>>, flags: &mut Vec<u8>, m: usize) -> bool
-    requires paired { length flags.old.items ≡ 2 * length values.old.items }
-    requires few { m ≤ TYPES_LIMIT }
-    ensures ok { OnTrue result ((length values.new.items ≡ m) × (length flags.new.items ≡ 2 * m)) }
-    ensures err { OnFalse result ((values.new.items ≡ values.old.items)
-        × (flags.new.items ≡ flags.old.items)) }
+/// How many values aren't missing.
+pub(crate) fn count_values(values: &[Option<i64>]) -> usize
+    ensures value { result ≡ length (filter is_some values.now) }
+    ensures within { result ≤ length values.now }
 {
-    if values.len() == m {
-        return true;
-    }
-    if flags.resize(2 * m, b' ').is_err() {
-        return false;
-    }
-    if values.resize(m, None).is_err() {
-        flags.truncate(2 * values.len());
-        return false;
-    }
-    true
+    values.iter().filter(|value| value.is_some()).count()
 }
 
-/// Gives cells the size for m types, which they mostly have. Where memory has to be asked for, the fault of a line of so many types
-/// comes first, and `OutOfMemory` for a good line alone; after either they are as they were.
-#[inline(always)]
-fn resize_for(
-    values: &mut Vec<Option<i64>>,
-    flags: &mut Vec<u8>,
-    m: usize,
-    line: &[u8],
-) -> Result<(), Fault>
-    requires paired { length flags.old.items ≡ 2 * length values.old.items }
-    requires few { m ≤ TYPES_LIMIT }
-    ensures ok { OnOk result ((length values.new.items ≡ m) × (length flags.new.items ≡ 2 * m)) }
-    ensures same { OnErr result ((values.new.items ≡ values.old.items)
-        × (flags.new.items ≡ flags.old.items)) }
-    ensures refused { IfErr result (λ fault. (row_with m line.now (values_in m line.now) ≡ Err fault)
-        ⊎ ((fault ≡ Fault.OutOfMemory)
-        × (is_ok (row_with m line.now (values_in m line.now)) ≡ true) × (length values.old.items ≢ m))) }
+/// Replaces a text by the printed line of a row, without blanks at its end.
+pub(crate) fn print_row(
+    name: [u8; NAME_WIDTH],
+    values: &[Option<i64>],
+    flags: &[u8],
+    text: &mut Text,
+)
+    requires sound { IsSoundRow (record { name = name; values = values.now; flags = flags.now }) }
+    ensures value { text.new ≡ printed_row (record { name = name; values = values.now; flags = flags.now }) }
 {
-    if values.len() == m {
-        return Ok(());
-    }
-    resize_other(values, flags, m, line)
-}
-
-/// Gives cells the size for m types as [`resize_for`] does, where they have another. The line is read for its fault only where memory
-/// has to be asked for.
-#[inline(never)]
-fn resize_other(
-    values: &mut Vec<Option<i64>>,
-    flags: &mut Vec<u8>,
-    m: usize,
-    line: &[u8],
-) -> Result<(), Fault>
-    requires paired { length flags.old.items ≡ 2 * length values.old.items }
-    requires few { m ≤ TYPES_LIMIT }
-    ensures ok { OnOk result ((length values.new.items ≡ m) × (length flags.new.items ≡ 2 * m)) }
-    ensures same { OnErr result ((values.new.items ≡ values.old.items)
-        × (flags.new.items ≡ flags.old.items)) }
-    ensures refused { IfErr result (λ fault. (row_with m line.now (values_in m line.now) ≡ Err fault)
-        ⊎ ((fault ≡ Fault.OutOfMemory)
-        × (is_ok (row_with m line.now (values_in m line.now)) ≡ true))) }
-{
-    let has_room = values.capacity() >= m && flags.capacity() / 2 >= m;
-    if has_room && resize_cells(values, flags, m) {
-        return Ok(());
-    }
-    if let Some(fault) = cells_fault(line, m) {
-        return Err(fault);
-    }
-    if !resize_cells(values, flags, m) {
-        return Err(Fault::OutOfMemory);
-    }
-    Ok(())
+    text.clear();
+    let _ = text.extend(&name);
+    print_cells(values, flags, text);
+    text.trim_end_blanks();
 }
 
 /// Reads the cells of a satellite line, and looks at what stands after the last. `BadField` comes where a field is neither
 /// blank nor a number, or something stands after the last cell; then `BadFlags` where an indicator may not stand there.
-fn read_cells(line: &[u8], values: &mut [Option<i64>], flags: &mut [u8]) -> Result<(), Fault>
+pub(crate) fn read_cells(
+    line: &[u8],
+    values: &mut [Option<i64>],
+    flags: &mut [u8],
+) -> Result<(), Fault>
     requires paired { length flags.old ≡ 2 * length values.old }
     requires few { length values.old ≤ TYPES_LIMIT }
     ensures ok { OnOk result (row_with (length values.old) line.now (values_in (length values.old) line.now)
@@ -384,32 +247,6 @@ fn read_other_cells(
         return Err(Fault::BadFlags);
     }
     Ok(())
-}
-
-/// The first fault of the cells of a satellite line for so many types, found without memory.
-#[inline(never)]
-fn cells_fault(line: &[u8], m: usize) -> Option<Fault>
-    requires { m ≤ TYPES_LIMIT }
-    ensures some { IfSome result (λ fault. row_with m line.now (values_in m line.now) ≡ Err fault) }
-    ensures none { IfNone result (is_ok (row_with m line.now (values_in m line.now)) ≡ true) }
-{
-    let mut values = [None; TYPES_LIMIT];
-    let mut flags = [b' '; 2 * TYPES_LIMIT];
-    match read_cells(line, &mut values[..m], &mut flags[..2 * m]) {
-        Ok(()) => None,
-        Err(fault) => Some(fault),
-    }
-}
-
-/// The first fault of a satellite line, found without memory.
-pub(crate) fn row_fault(types: &Types, line: &[u8]) -> Option<Fault>
-    ensures some { IfSome result (λ fault. row_of types.now line.now ≡ Err fault) }
-    ensures none { IfNone result (is_ok (row_of types.now line.now) ≡ true) }
-{
-    match types_of_satellite(types, line) {
-        Some(m) => cells_fault(line, m),
-        None => Some(Fault::BadSatellite),
-    }
 }
 
 /// Takes the last cell, where those before it have been read, and the line ends with the cell's value: mostly both of its indicators

@@ -8,7 +8,7 @@ use crate::rinex::{ONE_TYPE, TWO_TYPES, types_of};
 use crx_compact::Columns;
 use crx_faults::Fault;
 use crx_header::Types;
-use crx_rinex::{Epoch, Head};
+use crx_rinex::{Epoch, Head, SatRow};
 use std::alloc::Global;
 
 mod cases;
@@ -36,7 +36,12 @@ fn epoch_of(alloc: Global, types: &Types, lines: &str) -> Result<Owned<Epoch>, F
         if epoch.value.is_full() {
             return Err(Fault::BadEpoch);
         }
-        epoch.value.read_row(types, line.as_bytes())?;
+        if let Err((_, fault)) = epoch
+            .value
+            .push(SatRow::read(alloc, types, line.as_bytes())?)
+        {
+            return Err(fault);
+        }
     }
     Ok(epoch)
 }

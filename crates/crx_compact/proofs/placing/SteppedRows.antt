@@ -1,11 +1,10 @@
 -- What is stored of one satellite among those that have come changes: its row, and no other one.
 use Rattle.std.proofs.Common.{◌≡◌, ℕ, zero, suc, ◌-◌, ◌<◌, ◌≤◌, List, [], ◌∷◌, ◌++◌, length, map, take, slice_get}
-use Rattle.std.proofs.Common.{Option, Some, None, option_map, refl, ap, sym, ◌∙◌, subst, arith, slice_set, slice_index_or}
+use Rattle.std.proofs.Common.{Option, Some, None, option_map, refl, ap, sym, ◌∙◌}
+use Rattle.std.proofs.Common.{arith, slice_set, slice_index_or}
 use Rattle.std.specs.Prelude.{flat_map}
-use Rattle.std.specs.Str.{bytes_eq}
 use Rattle.std.proofs.lemmas.List.{length-map, length-take, length-take-le}
 use Rattle.std.proofs.lemmas.Option.{none-some, same_Some, slice_get-map}
-use Rattle.indexmap.specs.IndexMap.{IndexMap, IsUnique}
 use Rattle.crx_columns.proofs.EachPlace.{index-each_place}
 use Rattle.crx_columns.specs.meaning.Columns.{without_end_blanks}
 use Rattle.crx_columns.specs.meaning.EachPlace.{each_place}
@@ -14,12 +13,11 @@ use Rattle.crx_rinex.specs.meaning.Observations.{Row}
 use Rattle.crx_compact.specs.ArcSteps.{arc_of_value, code_of_value}
 use Rattle.crx_compact.specs.ArcTails.{ArcTail}
 use Rattle.crx_compact.specs.Cells.{arc_at_place, arcs_of_cells, code_at_place, codes_of_cells}
-use Rattle.crx_compact.specs.Entries.{Entry, rooms_of}
+use Rattle.crx_compact.specs.Entries.{Entry}
 use Rattle.crx_compact.specs.meaning.Cells.{cell_text}
-use Rattle.crx_compact.specs.Placing.{HasRoom, SatelliteTail, cells_for, padded, row_tail_of, row_of_entry}
+use Rattle.crx_compact.specs.Placing.{SatelliteTail, cells_for, padded, row_tail_of, row_of_entry}
 use Rattle.crx_compact.specs.Steps.{flags_held, row_line_after, row_tail_after}
 use Rattle.crx_compact.specs.Tails.{RowTail}
-use Rattle.crx_compact.proofs.placing.EntryChanges.{room-there}
 
 get-take : {X : Type 0} (n i : ℕ) (xs : List X) → i < n → slice_get (take n xs) i ≡ slice_get xs i
 get-take zero i xs within = absurd (omega (arith, within))
@@ -50,16 +48,6 @@ pub row-is : (placed i : ℕ) (es : List Entry) (e : Entry) (row : RowTail) → 
 row-is placed i es e row within there also =
     same_Some (row_of_entry e) row (sym (row-there placed i es e within there) ∙ also)
 
--- the room that is there for a row of the satellite at an index
-pub room-at : {S : Type 0} (m : IndexMap (List ℕ) SatelliteTail S) (placed i : ℕ) (name other : List ℕ)
-    (satellite : SatelliteTail) (count : ℕ) → IsUnique bytes_eq m → slice_get m.entries i ≡ Some (name, satellite)
-    → i < placed → ((row : RowTail) → slice_get (rows_of placed m.entries) i ≡ Some row → row.name ≡ other)
-    → HasRoom other count (rooms_of m.entries) → count ≤ satellite.room
-room-at m placed i name other satellite count unique there within named has =
-    let same : name ≡ other = named (row_tail_of name satellite) (row-there placed i m.entries (name, satellite) within there) in
-    room-there m i name satellite satellite unique there count
-    (subst (λ (n : List ℕ). HasRoom n count (rooms_of m.entries)) (sym same) has)
-
 -- ---- the last row
 
 pub last-is : {X : Type 0} (xs ys : List X) (x y : X) (i : ℕ) → xs ≡ ys ++ y ∷ [] → i ≡ length xs - 1
@@ -86,6 +74,16 @@ last-is (w ∷ xs) (z ∷ ys) x y (suc i) e is =
     drop_one [] = []
     drop_one (x ∷ xs) = xs
 
+-- the last row is that of the satellite that came last
+pub last-row-is : (placed : ℕ) (es : List Entry) (e : Entry) (before : List RowTail) (row : RowTail)
+    → 0 < length (rows_of placed es) → placed ≤ length es → slice_get es (placed - 1) ≡ Some e
+    → rows_of placed es ≡ before ++ row ∷ [] → row_of_entry e ≡ row
+last-row-is placed es e before row some all there is =
+    let few = among-placed placed 0 es some in
+    let counted = rows-counted placed es all in
+    let ends = last-is (rows_of placed es) before row row (placed - 1) is (omega (arith, counted)) in
+    row-is placed (placed - 1) es e row (omega (arith, few)) there ends.0
+
 -- a satellite by another count of types
 pub padded-is : (name : List ℕ) (count : ℕ) (satellite made after : SatelliteTail)
     → made.flags ≡ satellite.flags → made.cells ≡ satellite.cells
@@ -109,33 +107,33 @@ cell-there n k cells within = index-each_place n k (λ place. slice_index_or cel
     (λ past. absurd (omega (arith, within, past)))
 
 -- the satellite's row after a row of RINEX
-pub written-row : (name : List ℕ) (row : Row) (satellite marked after : SatelliteTail) → name ≡ row.name
+pub written-row : (row : Row) (satellite marked after : SatelliteTail)
     → marked ≡ record satellite {
       flags = without_end_blanks row.flags;
       cells = cells_for (length row.values) satellite.cells;
     }
     → after ≡ record marked { cells = arcs_of_cells marked.cells row.values }
-    → row_tail_of name after ≡ row_tail_after (Some (row_tail_of name satellite)) row
-written-row name row satellite marked after same marks arcs =
+    → row_tail_of row.name after ≡ row_tail_after (Some (row_tail_of row.name satellite)) row
+written-row row satellite marked after marks arcs =
     let n = length row.values in
     let cells : arcs_of_cells marked.cells row.values ≡ arcs_of_cells satellite.cells row.values =
     ap (λ (s : SatelliteTail). arcs_of_cells s.cells row.values) marks
     ∙ each_place-below n (arc_at_place (cells_for n satellite.cells) row.values)
     (arc_at_place satellite.cells row.values)
     (λ k within. ap (arc_of_value (slice_index_or row.values k None)) (cell-there n k satellite.cells within)) in
-    ap (row_tail_of name) arcs
-    ∙ (λ j. record { name = same j; flags = (marks j).flags; cells = cells j })
+    ap (row_tail_of row.name) arcs
+    ∙ (λ j. record { name = row.name; flags = (marks j).flags; cells = cells j })
 
 -- and its line
-pub written-line : (name : List ℕ) (row : Row) (satellite marked : SatelliteTail) (part : List ℕ)
+pub written-line : (row : Row) (satellite marked : SatelliteTail) (part : List ℕ)
     → marked ≡ record satellite {
       flags = without_end_blanks row.flags;
       cells = cells_for (length row.values) satellite.cells;
     }
     → part ≡ text_difference satellite.flags row.flags
     → without_end_blanks (flat_map cell_text (codes_of_cells marked.cells row.values) ++ part)
-    ≡ row_line_after (Some (row_tail_of name satellite)) row
-written-line name row satellite marked part marks is =
+    ≡ row_line_after (Some (row_tail_of row.name satellite)) row
+written-line row satellite marked part marks is =
     let n = length row.values in
     let codes : codes_of_cells marked.cells row.values ≡ codes_of_cells satellite.cells row.values =
     ap (λ (s : SatelliteTail). codes_of_cells s.cells row.values) marks

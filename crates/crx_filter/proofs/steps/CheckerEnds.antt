@@ -1,5 +1,5 @@
 -- A checker takes the end of the input.
-use Rattle.std.proofs.Common.{ℕ, ◌≡◌, true, false, List, Option, Some, None, Result, Ok, Err, refl, ap, sym, ◌∙◌}
+use Rattle.std.proofs.Common.{ℕ, ◌≡◌, false, List, Option, Some, None, Result, Ok, Err, refl, ap, sym, ◌∙◌}
 use Rattle.crx_faults.specs.meaning.Lines.{InputLine}
 use Rattle.crx_faults.specs.declared.fault.At.{At}
 use Rattle.crx_rinex.specs.meaning.EpochPlaces.{OpenEpoch}
@@ -10,7 +10,7 @@ use Rattle.crx_filter.specs.Laws.{failed_by}
 use Rattle.crx_reading.specs.LineByLine.{Phase, InFirstLines}
 use Rattle.crx_reading.specs.LineByLine.{Step as SeenStep, seen_end}
 use Rattle.crx_reading.specs.RinexReaders.{reader_phase}
-use Rattle.crx_reading.specs.RinexStages.{open_epoch, is_rinex_stage}
+use Rattle.crx_reading.specs.RinexReaders.{epoch_open}
 use Rattle.crx_reading.specs.meaning.Standard.{whole_reading_of, findings_of}
 use Rattle.crx_reading.specs.CheckByLine.{Totals, checking, CheckSeen, no_choices, check_seen, found_by}
 use Rattle.crx_filter.specs.CheckerState.{checker_state_with}
@@ -22,7 +22,7 @@ use Rattle.crx_reading.specs.declared.rinex_reader.RinexReader.{RinexReader}
 use Rattle.crx_filter.specs.declared.settled.Settled.{Settled}
 use Rattle.crx_filter.proofs.standard.CheckEnded.{check-ended}
 use Rattle.crx_filter.proofs.following.Following.{seen_in}
-use Rattle.crx_filter.proofs.steps.EngineLemmas.{held-open}
+use Rattle.crx_filter.proofs.steps.EngineLemmas.{held-by_reader}
 
 -- the end is the same whatever is kept of the epochs
 end-same : (number : ℕ) (phase : Phase OpenEpoch) (types : List Count) (totals : Totals) (kept : Written)
@@ -38,17 +38,17 @@ ok-none step = refl
 -- the fault of the whole reading is the one that is answered
 pub end-fault : (reader : RinexReader)
     (number : ℕ) (totals : Held) (named : Option ℕ) (lines : List InputLine) (settled : Settled)
-    → SettlesEnd compaction reader.stage number false settled → is_rinex_stage reader.stage reader.epoch ≡ true
+    → SettlesEnd compaction reader.stage number false settled
     → checker_state_with reader number totals named ≡ check_seen lines
     → (whole_reading_of lines).fault ≡ failed_by (answer_of_step settled.answer)
-end-fault reader number totals named lines settled settles consistent same =
+end-fault reader number totals named lines settled settles same =
     let kept : Written = record { index = 0; tail = None } in
     let now : CheckSeen = checker_state_with reader number totals named in
     let step = settles (seen_in no_choices number (reader_phase reader) reader.types kept)
-    (open_epoch reader.types reader.epoch) None
+    (epoch_open reader) None
     (record {
       is_phase = refl;
-      is_open = held-open reader.types reader.stage reader.epoch consistent;
+      is_open = held-by_reader reader;
       is_count = refl;
       is_skip = refl;
     }) in

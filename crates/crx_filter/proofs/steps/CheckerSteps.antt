@@ -21,7 +21,9 @@ use Rattle.crx_reading.specs.LineByLine.{Phase, InFirstLines, InHeader, BetweenU
 use Rattle.crx_reading.specs.LineByLine.{Closed, Ended, Seen, Step, Made, Moves, Fails, made_in}
 use Rattle.crx_reading.specs.LineByLine.{with_records_left, phase_after, types_after, step_of_made}
 use Rattle.crx_reading.specs.Memory.{takes_memory}
-use Rattle.crx_reading.specs.RinexReaders.{reader_phase, made_at, Completed, TakesRinexLine, RefusesRinexLine}
+use Rattle.crx_compact.specs.Written.{epoch_by_rows}
+use Rattle.crx_reading.specs.RinexReaders.{reader_phase, made_at, Completed, CompletedEpoch, MovesReader}
+use Rattle.crx_reading.specs.RinexReaders.{TakesRinexLine, RefusesRinexLine}
 use Rattle.crx_reading.specs.meaning.Standard.{is_standard_line}
 use Rattle.crx_reading.specs.CheckByLine.{Totals, checking, totals_with, totals_made, printed_open, printed_made}
 use Rattle.crx_reading.specs.CheckByLine.{earliest, CheckSeen, no_choices, check_seen, check_step, check_next}
@@ -31,7 +33,8 @@ use Rattle.crx_filter.specs.CheckerState.{checker_state_with, is_reading}
 use Rattle.crx_reading.specs.declared.report.Totals.{Totals as Held}
 use Rattle.crx_reading.specs.declared.rinex_reader.RinexReader.{RinexReader}
 use Rattle.crx_reading.specs.declared.rinex_reader.RinexStep.{RinexStep}
-use Rattle.crx_reading.specs.declared.rinex_reader.RinexStep.TheVariants.{Nothing, Header, Event, Record, Epoch}
+use Rattle.crx_reading.specs.declared.rinex_reader.RinexStep.TheVariants.{Nothing, Header, Event, Record, Begun, Row}
+use Rattle.crx_reading.specs.declared.rinex_reader.RinexStep.TheVariants.{Epoch}
 use Rattle.crx_filter.proofs.steps.EngineAnswers.{seen-short, seen-long}
 use Rattle.crx_filter.proofs.following.Following.{seen_in}
 use Rattle.crx_filter.proofs.following.MemoryOfRinex.{check-allowed}
@@ -74,24 +77,42 @@ completed-steps number totals line before after made unit h =
           (totals_with totals (is_before_header (reader_phase before)) unit)) (sym h.types_then),
     )
 
+moved-steps : (number : ℕ) (totals : Totals) (line : ReadLine) (before after : RinexReader)
+    (made : Made ObservationEpoch OpenEpoch)
+    → MovesReader made before after → StepsTo number totals line before after made
+moved-steps number totals line before after made h =
+    subst (StepsTo number totals line before after) (sym h.moved) (
+      refl,
+      ap (λ k. seen_in no_choices (number + 1) (reader_phase after) before.types k)
+          (kept-always (reader_phase after) totals)
+          ∙ ap (λ t. seen_in no_choices (number + 1) (reader_phase after) t totals) (sym h.types_then),
+    )
+
+epoch-steps : (number : ℕ) (totals : Totals) (line : ReadLine) (content : List ℕ) (before after : RinexReader)
+    (made : Made ObservationEpoch OpenEpoch)
+    → CompletedEpoch made content before after → StepsTo number totals line before after made
+epoch-steps number totals line content before after made h =
+    completed-steps number totals line before after made (Observation (epoch_by_rows h.head after.rows.rows)) h.is
+
 steps-to : (number : ℕ) (totals : Totals) (line : ReadLine)
     (content : List ℕ) (before after : RinexReader) (made : Made ObservationEpoch OpenEpoch) (step : RinexStep)
     → TakesRinexLine made before content step after → StepsTo number totals line before after made
 steps-to number totals line content before after made Nothing h =
-    subst (StepsTo number totals line before after) (sym h.0) (
-      refl,
-      ap (λ k. seen_in no_choices (number + 1) (reader_phase after) before.types k)
-          (kept-always (reader_phase after) totals)
-          ∙ ap (λ t. seen_in no_choices (number + 1) (reader_phase after) t totals) (sym h.1),
-    )
+    moved-steps number totals line before after made h.0
 steps-to number totals line content before after made (Header is_first) h =
     completed-steps number totals line before after made (HeaderLine content) h.0
 steps-to number totals line content before after made Event h =
     completed-steps number totals line before after made (EventLine content) h
 steps-to number totals line content before after made Record h =
     completed-steps number totals line before after made (EventRecord content) h
+steps-to number totals line content before after made Begun (none, inl opened) =
+    moved-steps number totals line before after made opened.1
+steps-to number totals line content before after made Begun (none, inr whole) =
+    epoch-steps number totals line content before after made whole.1
+steps-to number totals line content before after made Row h =
+    moved-steps number totals line before after made h.0
 steps-to number totals line content before after made Epoch h =
-    completed-steps number totals line before after made (Observation h.epoch) h.is
+    epoch-steps number totals line content before after made h
 
 -- ---- lines can come on
 
@@ -141,19 +162,28 @@ completed-reading : (before after : RinexReader) (made : Made ObservationEpoch O
     → is_reading (reader_phase before) ≡ true → is_reading (reader_phase after) ≡ true
 completed-reading before after made unit h e = ap is_reading h.phase_then ∙ unit-reading (reader_phase before) unit e
 
+moved-reading : (before after : RinexReader) (made : Made ObservationEpoch OpenEpoch)
+    → MovesReader made before after → HasPrinted made → is_reading (reader_phase after) ≡ true
+moved-reading before after made h some =
+    let printed : HasPrinted (Moves (reader_phase after)) = subst HasPrinted h.moved some in
+    open-reading (reader_phase after) printed.0 printed.1 printed.2
+
 pub still-reading : (before after : RinexReader)
     (content : List ℕ) (made : Made ObservationEpoch OpenEpoch) (step : RinexStep)
     → TakesRinexLine made before content step after
     → HasPrinted made → is_reading (reader_phase before) ≡ true → is_reading (reader_phase after) ≡ true
-still-reading before after content made Nothing h some e =
-    let printed : HasPrinted (Moves (reader_phase after)) = subst HasPrinted h.0 some in
-    open-reading (reader_phase after) printed.0 printed.1 printed.2
+still-reading before after content made Nothing h some e = moved-reading before after made h.0 some
 still-reading before after content made (Header is_first) h some e =
     completed-reading before after made (HeaderLine content) h.0 e
 still-reading before after content made Event h some e = completed-reading before after made (EventLine content) h e
 still-reading before after content made Record h some e = completed-reading before after made (EventRecord content) h e
+still-reading before after content made Begun (none, inl opened) some e =
+    moved-reading before after made opened.1 some
+still-reading before after content made Begun (none, inr whole) some e =
+    completed-reading before after made (Observation (epoch_by_rows whole.1.head after.rows.rows)) whole.1.is e
+still-reading before after content made Row h some e = moved-reading before after made h.0 some
 still-reading before after content made Epoch h some e =
-    completed-reading before after made (Observation h.epoch) h.is e
+    completed-reading before after made (Observation (epoch_by_rows h.head after.rows.rows)) h.is e
 
 -- ---- what is seen then
 

@@ -6,7 +6,8 @@ use Rattle.crx_faults.specs.meaning.Seen.{ReadLine, Content, Overlong}
 use Rattle.crx_faults.specs.declared.fault.At.{At}
 use Rattle.crx_faults.specs.declared.fault.Fault.{Fault}
 use Rattle.crx_faults.specs.declared.fault.Fault.TheVariants.{OutOfMemory}
-use Rattle.crx_rinex.specs.meaning.Observations.{Epoch}
+use Rattle.crx_rinex.specs.meaning.EpochLines.{ObservationHead}
+use Rattle.crx_rinex.specs.meaning.Observations.{Row}
 use Rattle.crx_header.specs.meaning.ObservationTypes.{Count}
 use Rattle.crx_reading.specs.LineByLine.{Phase, Ended as SeenEnded, Seen, Direction}
 use Rattle.crx_reading.specs.LineByLine.{Failed, Step as SeenStep, made_in, may_skip}
@@ -15,7 +16,9 @@ use Rattle.crx_reading.specs.Memory.{may_take_memory, takes_memory}
 use Rattle.crx_faults.specs.meaning.Faults.{is_skippable}
 use Rattle.crx_filter.specs.EngineSteps.{answer_of_step, step_made, RanOut, Steps}
 use Rattle.crx_reading.specs.Stages.{is_held}
+use Rattle.crx_reading.specs.RinexReaders.{epoch_open}
 use Rattle.crx_reading.specs.RinexStages.{open_epoch, is_rinex_stage}
+use Rattle.crx_reading.specs.declared.rinex_reader.RinexReader.{RinexReader}
 use Rattle.crx_runs.specs.declared.engine.Step.{Step}
 use Rattle.crx_runs.specs.declared.engine.Step.TheVariants.{Quiet}
 use Rattle.crx_reading.specs.declared.stage.Stage.{Stage}
@@ -23,11 +26,15 @@ use Rattle.crx_reading.specs.declared.stage.Stage.TheVariants.{Open}
 use Rattle.crx_reading.proofs.Choosing.{false-true}
 
 -- in the stage of an open epoch one is held
-pub held-open : (types : List Count) (stage : Stage) (epoch : Option Epoch)
-    → is_rinex_stage stage epoch ≡ true → is_held stage (open_epoch types epoch) ≡ true
-held-open types Open None is = false-true is
-held-open types Open (Some epoch) is = refl
-held-open types stage epoch is = refl
+pub held-open : (types : List Count) (stage : Stage) (head : Option ObservationHead) (count : ℕ) (rows : List Row)
+    → is_rinex_stage stage head count rows ≡ true → is_held stage (open_epoch types head rows) ≡ true
+held-open types Open None count rows is = false-true is
+held-open types Open (Some head) count rows is = refl
+held-open types stage head count rows is = refl
+
+-- a reader of RINEX holds the epoch that its stage has open
+pub held-by_reader : (r : RinexReader) → is_held r.stage (epoch_open r) ≡ true
+held-by_reader r = held-open r.types r.stage r.head r.count r.rows.rows r.consistent
 
 -- a step in its parts
 pub same-step : {O K : Type 0} (one two : Result Step At) (lines handed_out : List (List ℕ)) (seen after : Seen O K)

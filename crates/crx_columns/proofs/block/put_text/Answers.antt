@@ -1,5 +1,5 @@
-use Rattle.std.proofs.Common.{◌≡◌, ◌≤◌, ℕ, ◌+◌, List, ◌++◌, length, take, sym, ap, ◌∙◌, arith}
-use Rattle.std.proofs.lemmas.Slice.{take-put_mid}
+use Rattle.std.proofs.Common.{◌≡◌, ◌≤◌, ℕ, ◌+◌, ◌-◌, List, ◌++◌, length, take, drop, sym, ap, ◌∙◌, arith}
+use Rattle.std.proofs.lemmas.Slice.{drop-put_mid, take-put_mid}
 use borrow.Rule.Slice.PartMut.{put_mid}
 use Rattle.crx_columns.proofs.block.put_text.Goals as goal
 
@@ -14,3 +14,15 @@ pub returns-clause-put : goal.returns-clause-put
 returns-clause-put c =
     put c.args.bytes.now c.copy_from_slice.new.self
     c.args.text.now c.args.start _ c.copy_from_slice.ensures.after c.requires
+
+rest : (bytes part text : List ℕ) (start : ℕ) → part ≡ text → start + length text ≤ length bytes
+    → drop (start + length text) (put_mid start (start + length text - start) bytes part)
+    ≡ drop (start + length text) bytes
+rest bytes part text start is room =
+    drop-put_mid start (start + length text - start) bytes part (start + length text) (omega (arith))
+    (omega (arith, room)) (ap (λ (t : List ℕ). length t) is ∙ omega (arith))
+
+pub returns-clause-rest : goal.returns-clause-rest
+returns-clause-rest c =
+    rest c.args.bytes.now c.copy_from_slice.new.self
+    c.args.text.now c.args.start c.copy_from_slice.ensures.after c.requires

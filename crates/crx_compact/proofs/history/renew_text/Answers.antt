@@ -1,33 +1,46 @@
-use Rattle.std.proofs.Common.{◌≡◌, ◌≤◌, ◌++◌, List, ℕ, true, length, take, sym, ap, ◌∙◌, subst, refl}
-use Rattle.std.specs.List.{list_all}
+use Rattle.std.proofs.Common.{◌≡◌, ◌≤◌, ◌++◌, ◌+◌, ◌*◌, List, ℕ, length, take, sym, ap, ◌∙◌, arith}
+use Rattle.std.specs.List.{flat_map}
+use Rattle.std.proofs.lemmas.List.{length-take, take-take, take_at}
 use Rattle.crx_columns.specs.meaning.Columns.{without_end_blanks}
-use Rattle.crx_columns.specs.meaning.Texts.{is_kept}
-use Rattle.crx_faults.specs.declared.limits.TheConstants.{LINE_LIMIT}
-use Rattle.crx_compact.specs.meaning.Compaction.{epoch_text}
-use Rattle.crx_compact.proofs.SoundTexts.{trimmed-fits, trimmed-plain}
+use Rattle.crx_columns.proofs.EndBlanks.{few_kept, take_kept}
+use Rattle.crx_compact.specs.Tails.{RowTail}
 use Rattle.crx_compact.proofs.history.renew_text.Goals as goal
-use Rattle.crx_columns.proofs.EndBlanks.{take_kept}
 
--- what is left of a text by the count of its characters without the blanks at its end
-left : (text whole two : List ℕ) (trimmed : List ℕ) (count : ℕ)
-    → text ≡ whole → trimmed ≡ without_end_blanks text → count ≡ length trimmed
-    → two ≡ take count text → two ≡ without_end_blanks whole
-left text whole two trimmed count a b e f =
-    f ∙ ap (λ n. take n text) (e ∙ ap length b) ∙ take_kept text ∙ ap without_end_blanks a
+-- what is left of the front of a text by the count of its characters without the blanks at its end
+left : (text whole : List ℕ) (front count : ℕ) → take front text ≡ whole
+    → count ≡ length (without_end_blanks whole) → take count text ≡ without_end_blanks whole
+left text whole front count is counted =
+    let few : count ≤ front =
+    omega (arith, counted, few_kept whole, ap length is, length-take front text) in
+    sym (take-take count front text few) ∙ ap (take count) is ∙ ap (λ n. take n whole) counted
+    ∙ take_kept whole
 
-pub returns-in-Ok-clause-ok : goal.returns-in-Ok-clause-ok
-returns-in-Ok-clause-ok c =
-    left c.push_epoch_text.new.text.items
-    (epoch_text c.args.epoch.now) c.truncate.new.self.items c.trim_end-end.result.now _
-    (c.in-Ok.ensures ∙ ap (λ t. t ++ epoch_text c.args.epoch.now) c.clear.ensures.items)
-    (c.trim_end-end.ensures.value ∙ ap without_end_blanks c.deref.ensures.value) refl c.truncate.ensures.items
-
-pub returns-in-Ok-clause-within : goal.returns-in-Ok-clause-within
-returns-in-Ok-clause-within c =
-    let P : List ℕ → Type 0 = λ t. length t ≤ LINE_LIMIT in
-    subst P (sym {A = List ℕ} (returns-in-Ok-clause-ok c)) (trimmed-fits c.args.epoch.now c.requires)
-
-pub returns-in-Ok-clause-plain : goal.returns-in-Ok-clause-plain
-returns-in-Ok-clause-plain c =
-    let P : List ℕ → Type 0 = λ t. list_all is_kept t ≡ true in
-    subst P (sym {A = List ℕ} (returns-in-Ok-clause-ok c)) (trimmed-plain c.args.epoch.now c.requires)
+pub returns-clause-ok : goal.returns-clause-ok
+returns-clause-ok c =
+    let head = c.args.head.now.head in
+    let names : List ℕ = flat_map (λ (row : RowTail). row.name) c.args.satellites.now.rows in
+    let room = c.make_long.new.text.len in
+    let columned = c.put_text.new.bytes in
+    let named = c.put_names.new.text in
+    let kept = length c.trim_end-end.result.now in
+    let size : ℕ = 41 + 3 * c.count.result in
+    let one = c.put_text.auto.bytes in
+    let two = c.put_names.auto.text in
+    let first = c.deref_mut.ensures.len in
+    let second = c.deref_mut-2.ensures.len in
+    let long : length columned ≡ room = omega (arith, one, first, c.make_long.new.text.ok.0) in
+    let longer : length named ≡ room = omega (arith, two, second) in
+    let before : c.deref_mut-2.result.now ≡ columned =
+    c.deref_mut-2.ensures.value ∙ take_at columned _ room long in
+    let after : c.deref.result.now ≡ named = c.deref.ensures.value ∙ take_at named _ room longer in
+    let wide = ap length c.columns.ensures.value ∙ c.columns.ensures.sound.width in
+    let placed = c.put_text.ensures.end in
+    let end : c.put_text.result ≡ 41 = omega (arith, placed, wide) in
+    let headed : take 41 columned ≡ head =
+    ap (λ n. take n columned) (sym end) ∙ c.put_text.ensures.put ∙ c.columns.ensures.value in
+    let whole : take size named ≡ head ++ names =
+    ap (λ n. take (41 + 3 * n) named) (c.count.ensures.value ∙ sym c.requires.counted) ∙ c.put_names.ensures
+    ∙ (λ j. (ap (take 41) before ∙ headed) j ++ names) in
+    c.truncate.ensures.items ∙ ap (take kept) (sym c.deref.ensures.value ∙ after)
+    ∙ left named (head ++ names) size kept whole (ap length (c.trim_end-end.ensures.value
+    ∙ ap (λ (text : List ℕ). without_end_blanks (take size text)) after ∙ ap without_end_blanks whole))

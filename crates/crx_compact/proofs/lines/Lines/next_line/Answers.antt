@@ -2,17 +2,18 @@ use Rattle.std.proofs.Common.{◌≡◌, [], refl, ◌<◌, ◌≤◌, ◌+◌, 
 use Rattle.std.specs.Prelude.{slice_get}
 use Rattle.std.proofs.Math.ListN.{drop_of_length-le}
 use Rattle.std.proofs.lemmas.List.{length-take-le}
-use Rattle.crx_compact.specs.LineLists.{AreCut, PendingLines, cut}
-use Rattle.crx_compact.proofs.LineTexts.{NextLine, next-line}
+use Rattle.crx_compact.specs.LineLists.{AreCut, HasFront, PendingLines, cut}
+use Rattle.crx_compact.proofs.LineTexts.{NextLine, front-kept, next-line}
 use Rattle.crx_compact.proofs.Lists.{get_or-take}
 use Rattle.crx_compact.proofs.lines.Lines.next_line.Goals as goal
 
 -- not all lines were borrowed yet, so there is a next one
-line-there : (lengths bytes : List ℕ) (many filled past past_bytes count : ℕ)
+line-there : (lengths bytes : List ℕ) (many filled past past_bytes reserved front count : ℕ)
     → AreCut (take many lengths) (take filled bytes) past past_bytes × (many ≤ length lengths)
-    × (filled ≤ length bytes) → (past ≡ many → ⊥) → count ≡ get_or lengths past count
+    × (filled ≤ length bytes) × HasFront front past past_bytes × HasFront reserved many filled
+    → (past ≡ many → ⊥) → count ≡ get_or lengths past count
     → NextLine (take many lengths) bytes filled past past_bytes count
-line-there lengths bytes many filled past past_bytes count h other here =
+line-there lengths bytes many filled past past_bytes reserved front count h other here =
     let all : length (take many lengths) ≡ many = length-take-le many lengths h.1 in
     let within = h.0.past_within in
     let less : past < many = omega (arith, within, all, other) in
@@ -34,8 +35,8 @@ pub overflow_add-end : goal.overflow_add-end
 overflow_add-end c =
     let inside = c.self.inside in
     let next_line = line-there inside.lengths.items inside.bytes.items inside.count inside.filled
-    inside.handed_out
-    inside.handed_out_bytes c.index.result.now c.self.invariant c.if-self.false c.index.ensures in
+    inside.handed_out inside.handed_out_bytes inside.reserved inside.front c.index.result.now
+    c.self.invariant c.if-self.false c.index.ensures in
     held-within _ inside.filled (length inside.bytes.items) inside.bytes.len inside.bytes.cap
     (less _ _ next_line.within)
     c.self.invariant.2 inside.bytes.ok.0 inside.bytes.ok.1 inside.bytes.small
@@ -44,8 +45,8 @@ pub overflow_add-self-2 : goal.overflow_add-self-2
 overflow_add-self-2 c =
     let inside = c.self.inside in
     let next_line = line-there inside.lengths.items inside.bytes.items inside.count inside.filled
-    inside.handed_out
-    inside.handed_out_bytes c.index.result.now c.self.invariant c.if-self.false c.index.ensures in
+    inside.handed_out inside.handed_out_bytes inside.reserved inside.front c.index.result.now
+    c.self.invariant c.if-self.false c.index.ensures in
     held-within _ inside.filled (length inside.bytes.items) inside.bytes.len inside.bytes.cap
     (next _ _ next_line.within)
     c.self.invariant.2 inside.bytes.ok.0 inside.bytes.ok.1 inside.bytes.small
@@ -54,16 +55,21 @@ pub invariant_of-self-2 : goal.invariant_of-self-2
 invariant_of-self-2 c =
     let inside = c.self.inside in
     let next_line = line-there inside.lengths.items inside.bytes.items inside.count inside.filled
-    inside.handed_out
-    inside.handed_out_bytes c.index.result.now c.self.invariant c.if-self.false c.index.ensures in
-    (next_line.still, c.self.invariant.1, c.self.invariant.2)
+    inside.handed_out inside.handed_out_bytes inside.reserved inside.front c.index.result.now
+    c.self.invariant c.if-self.false c.index.ensures in (
+      next_line.still,
+      c.self.invariant.1,
+      c.self.invariant.2,
+      front-kept _ _ _ _ _ c.self.invariant.3 (omega arith) (omega arith),
+      c.self.invariant.4,
+    )
 
 pub slice_bounds-result-end : goal.slice_bounds-result-end
 slice_bounds-result-end c =
     let inside = c.self.inside in
     let next_line = line-there inside.lengths.items inside.bytes.items inside.count inside.filled
-    inside.handed_out
-    inside.handed_out_bytes c.index.result.now c.self.invariant c.if-self.false c.index.ensures in
+    inside.handed_out inside.handed_out_bytes inside.reserved inside.front c.index.result.now
+    c.self.invariant c.if-self.false c.index.ensures in
     let within = next_line.within in
     let kept = c.self.invariant.2 in
     let seen = ap length c.deref.ensures.value in
@@ -73,8 +79,8 @@ pub returns : goal.returns
 returns c =
     let inside = c.self.inside in
     let next_line = line-there inside.lengths.items inside.bytes.items inside.count inside.filled
-    inside.handed_out
-    inside.handed_out_bytes c.index.result.now c.self.invariant c.if-self.false c.index.ensures in
+    inside.handed_out inside.handed_out_bytes inside.reserved inside.front c.index.result.now
+    c.self.invariant c.if-self.false c.index.ensures in
     rw (← c.self.view_is, c.deref.ensures.value) (
       (
         refl,
@@ -83,6 +89,8 @@ returns c =
           lines = ls;
           free_lines = length inside.lengths.items - inside.count;
           free_bytes = length inside.bytes.items - inside.filled;
+          reserved = inside.reserved;
+          front = inside.front;
         }) next_line.left,
       ),
       record {
@@ -111,6 +119,8 @@ returns-then-self c =
           lines = ls;
           free_lines = c.args.self.now.free_lines;
           free_bytes = c.args.self.now.free_bytes;
+          reserved = c.args.self.now.reserved;
+          front = c.args.self.now.front;
         }) (none ∙ sym (ap (drop 1) none)),
       ),
       record {

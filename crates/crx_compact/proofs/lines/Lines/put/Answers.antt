@@ -1,7 +1,7 @@
 use Rattle.std.proofs.Common.{◌≡◌, ◌<◌, ◌+◌, ◌++◌, ◌∷◌, [], List, ℕ, drop, length, set, take, ap, ◌∙◌, arith}
 use Rattle.std.proofs.lemmas.List.{length-set, take_at, take_more_set}
 use Rattle.crx_compact.specs.LineLists.{AreCut, PendingLines}
-use Rattle.crx_compact.proofs.LineTexts.{Pushed, line-pushed}
+use Rattle.crx_compact.proofs.LineTexts.{Pushed, front-kept, line-pushed}
 use Rattle.crx_compact.proofs.lines.Lines.put.Goals as goal
 
 -- a line that is put after so many others, with its length after theirs
@@ -37,6 +37,8 @@ invariant_of-self c =
           c.deref_mut.ensures.value)).still,
       omega (arith, room, length-set inside.lengths.items inside.count (length line)),
       omega (arith, a, seen, free', view'),
+      c.self.invariant.3,
+      front-kept _ _ _ _ _ c.self.invariant.4 (omega arith) (omega arith),
     )
 
 pub returns-clause-lines : goal.returns-clause-lines

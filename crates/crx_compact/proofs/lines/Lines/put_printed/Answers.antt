@@ -3,7 +3,7 @@ use Rattle.std.proofs.lemmas.List.{length-set, take_at}
 use Rattle.crx_rinex.specs.meaning.Printing.{printed_row}
 use Rattle.crx_compact.specs.LineLists.{PendingLines}
 use Rattle.crx_compact.specs.ShownRows.{shown_row}
-use Rattle.crx_compact.proofs.LineTexts.{row-pushed}
+use Rattle.crx_compact.proofs.LineTexts.{front-kept, row-pushed}
 use Rattle.crx_compact.proofs.Lists.{HasAt, has-at}
 use Rattle.crx_compact.proofs.lines.Lines.put_printed.Goals as goal
 
@@ -28,6 +28,8 @@ invariant_of-self c =
       pushed.still,
       omega (arith, free, view, length-set inside.lengths.items inside.count c.print_line-length.result),
       omega (arith, within, length-set bytes (inside.filled + c.print_line-length.result) 10),
+      c.self.invariant.3,
+      front-kept _ _ _ _ _ c.self.invariant.4 (omega arith) (omega arith),
     )
 
 pub returns-clause-lines : goal.returns-clause-lines

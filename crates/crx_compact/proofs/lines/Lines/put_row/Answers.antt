@@ -1,8 +1,9 @@
 use Rattle.std.proofs.Common.{◌+◌, ◌++◌, List, ℕ, Some, drop, length, take, ap, ◌∙◌, arith}
 use Rattle.std.proofs.lemmas.List.{length-set, take_at}
 use Rattle.crx_compact.specs.LineLists.{PendingLines}
+use Rattle.crx_compact.specs.Placing.{row_of_parts}
 use Rattle.crx_compact.specs.Steps.{row_line_after}
-use Rattle.crx_compact.proofs.LineTexts.{row-pushed}
+use Rattle.crx_compact.proofs.LineTexts.{front-kept, row-pushed}
 use Rattle.crx_compact.proofs.Lists.{HasAt, has-at}
 use Rattle.crx_compact.proofs.lines.Lines.put_row.Goals as goal
 
@@ -12,7 +13,8 @@ invariant_of-self c =
     let bytes = c.write_line-length.new.bytes in
     let at : HasAt c.args.satellites.now.rows c.args.index =
     has-at c.args.satellites.now.rows c.args.index c.requires.within in
-    let line : List ℕ = row_line_after (Some at.it) c.args.row.now in
+    let line : List ℕ =
+    row_line_after (Some at.it) (row_of_parts at.it.name c.args.values.now c.args.flags.now) in
     let a = c.write_line-length.auto.bytes in
     let b = c.deref_mut.ensures.len in
     let free = c.requires.free_line in
@@ -27,13 +29,16 @@ invariant_of-self c =
       pushed.still,
       omega (arith, free, view, length-set inside.lengths.items inside.count c.write_line-length.result),
       omega (arith, within, length-set bytes (inside.filled + c.write_line-length.result) 10),
+      c.self.invariant.3,
+      front-kept _ _ _ _ _ c.self.invariant.4 (omega arith) (omega arith),
     )
 
 pub returns-clause-lines : goal.returns-clause-lines
 returns-clause-lines c = λ old there.
     let inside = c.self.inside in
     let bytes = c.write_line-length.new.bytes in
-    let line : List ℕ = row_line_after (Some old) c.args.row.now in
+    let line : List ℕ =
+    row_line_after (Some old) (row_of_parts old.name c.args.values.now c.args.flags.now) in
     let a = c.write_line-length.auto.bytes in
     let b = c.deref_mut.ensures.len in
     let free = c.requires.free_line in

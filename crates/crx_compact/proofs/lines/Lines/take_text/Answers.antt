@@ -18,6 +18,8 @@ returns c =
           lines = ls;
           free_lines = length inside.lengths.items - inside.count;
           free_bytes = length inside.bytes.items - inside.filled;
+          reserved = inside.reserved;
+          front = inside.front;
         }) (none-left lengths inside.bytes.items inside.filled inside.count all),
       ),
       record {

@@ -11,11 +11,9 @@ first-header : (date program line copied : List ℕ) (made : List (List ℕ)) (t
 first-header date program line copied made turn is_first first at_turn held none is =
     rw (first, at_turn, held, none) (ap (λ (p : List ℕ). version_line ∷ p ∷ line ∷ []) is)
 
-pub returns-then-is_first : goal.returns-then-is_first
-returns-then-is_first c = record {
-  copied =
-      first-header c.args.date.now c.hold.new.self.program.value
-      c.args.line.now c.hold.new.self.copied.value c.hold.new.self.made.lines c.hold.new.self.turn c.args.is_first
-      (search c.if-is_first) c.hold.ensures.turn c.hold.ensures.copied c.hold.ensures.made
-      (search rules);
-}
+pub returns-then-is_first-clause-copied : goal.returns-then-is_first-clause-copied
+returns-then-is_first-clause-copied c =
+    first-header c.args.date.now c.hold.new.self.program.value c.args.line.now
+    c.hold.new.self.copied.value c.hold.new.self.made.lines c.hold.new.self.turn c.args.is_first
+    (search c.if-is_first) c.hold.ensures.turn c.hold.ensures.copied c.hold.ensures.made
+    (search rules)

@@ -11,25 +11,21 @@ use Rattle.crx_compact.proofs.satellite.SatelliteHistory.change_indicators.Goals
 
 pub copy_indicators-requires-clause-sized : goal.copy_indicators-requires-clause-sized
 copy_indicators-requires-clause-sized c =
-    let flags = ap length c.flags-2.ensures.value in
-    let paired = c.flags-2.ensures.sound.paired in
-    let values = ap length c.values.ensures.value in
+    let paired = c.requires.paired in
     let cells = ap (λ (t : SatelliteTail). length t.cells) c.resize.ensures.resized
-    ∙ length-each_place (length c.values.result.now) _ in
-    omega (arith, flags, paired, values, cells)
+    ∙ length-each_place c.args.count _ in
+    omega (arith, paired, cells)
 
 pub returns-clause-marks : goal.returns-clause-marks
 returns-clause-marks c =
     let inside = c.self.inside in
-    let flags : List ℕ = c.args.row.now.flags in
+    let flags : List ℕ = c.args.flags.now in
     let held : List ℕ = take (2 * inside.count) inside.indicators.items in
     let seen : List ℕ = take (2 * inside.count) c.deref.result.now in
     c.trim_end_blanks.ensures.trimmed
     ∙ ap without_end_blanks (c.append_difference.ensures.appended
-    ∙ ap (λ (t : List ℕ). t ++ by_position mark_of seen c.flags.result.now) c.requires.empty)
-    ∙ ap (λ (t : List ℕ). text_difference (take (2 * inside.count) t) c.flags.result.now)
-    c.deref.ensures.value
-    ∙ ap (text_difference held) c.flags.ensures.value
+    ∙ ap (λ (t : List ℕ). t ++ by_position mark_of seen flags) c.requires.empty)
+    ∙ ap (λ (t : List ℕ). text_difference (take (2 * inside.count) t) flags) c.deref.ensures.value
     ∙ sym (before-trimmed held flags)
     ∙ ap (λ (t : SatelliteTail). text_difference t.flags flags) c.self.view_is
 
@@ -38,13 +34,14 @@ returns-clause-short c =
     let inside = c.self.inside in
     let held : List ℕ = take (2 * inside.count) inside.indicators.items in
     let own = ap (λ (t : SatelliteTail). length t.flags) c.self.view_is in
+    let room = ap (λ (t : SatelliteTail). t.room) c.self.view_is in
     let within = c.self.invariant.1 in
     let few = c.self.invariant.2 in
     let kept = few_kept held in
     let old : length c.args.self.now.flags ≤ 800 =
     omega (arith, own, within, few, kept, length-take (2 * inside.count) inside.indicators.items) in
-    let paired = c.flags-2.ensures.sound.paired in
-    let most = c.flags-2.ensures.sound.counted.1 in
-    let new : length c.args.row.now.flags ≤ 800 = omega (arith, paired, most) in
-    let marks = difference-length 800 c.args.self.now.flags c.args.row.now.flags old new in
+    let paired = c.requires.paired in
+    let most = c.requires.room in
+    let new : length c.args.flags.now ≤ 800 = omega (arith, paired, most, room, few) in
+    let marks = difference-length 800 c.args.self.now.flags c.args.flags.now old new in
     omega (arith, ap length (returns-clause-marks c), marks)

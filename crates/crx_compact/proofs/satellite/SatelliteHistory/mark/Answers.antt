@@ -8,20 +8,18 @@ use Rattle.crx_compact.proofs.SoundTexts.{before-trimmed, same-text}
 use Rattle.crx_compact.proofs.satellite.SatelliteHistory.mark.Goals as goal
 
 -- the row's indicators are those that are stored
-same-flags : (c : goal.Then-is_same_text) → c.args.row.now.flags
+same-flags : (c : goal.Then-is_same_text) → c.args.flags.now
     ≡ take (2 * c.self.inside.count) c.self.inside.indicators.items
 same-flags c =
-    sym c.flags.ensures.value ∙ c.if-is_same_text.ensures.same
-    ∙ ap (take (2 * c.self.inside.count)) c.deref.ensures.value
+    c.if-is_same_text.ensures.same ∙ ap (take (2 * c.self.inside.count)) c.deref.ensures.value
 
 pub returns-then-is_same_text-clause-marked : goal.returns-then-is_same_text-clause-marked
 returns-then-is_same_text-clause-marked c =
     let inside = c.self.inside in
-    let row = c.args.row.now in
     let same = same-flags c in
     let within = c.self.invariant.1 in
     let paired = c.self.invariant.3 in
-    let paired' = c.flags.ensures.sound.paired in
+    let paired' = c.requires.paired in
     let many = length-take-le inside.count inside.arcs.items within in
     let long = length-take-le (2 * inside.count) inside.indicators.items (omega (arith, within, paired)) in
     rw (← c.self.view_is) (
@@ -31,15 +29,15 @@ returns-then-is_same_text-clause-marked c =
       room = length inside.arcs.items;
     }) (sym same)
     ∙ ap {B = SatelliteTail} (λ cells. record {
-      flags = without_end_blanks row.flags;
+      flags = without_end_blanks c.args.flags.now;
       cells = cells;
       room = length inside.arcs.items;
-    }) (sym (same-cells (take inside.count inside.arcs.items) (length row.values)
+    }) (sym (same-cells (take inside.count inside.arcs.items) c.args.count
     (omega (arith, ap length same, paired', many, long)))))
 
 pub returns-then-is_same_text-clause-marks : goal.returns-then-is_same_text-clause-marks
 returns-then-is_same_text-clause-marks c =
-    let flags : List ℕ = c.args.row.now.flags in
+    let flags : List ℕ = c.args.flags.now in
     let own = sym (ap (λ (t : SatelliteTail). t.flags) c.self.view_is)
     ∙ ap without_end_blanks (sym (same-flags c)) in
     c.clear.ensures.emptied

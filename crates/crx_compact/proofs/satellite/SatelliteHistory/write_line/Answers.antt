@@ -14,20 +14,19 @@ abbrev cells_text : List (Option ArcTail) → List (Option ℤ) → List ℕ
 cells_text arcs values = flat_map cell_text (codes_of_cells arcs values)
 
 -- the cells and the marks that were written, as a line
-written-line : (arcs first own : List (Option ArcTail)) (values row : List (Option ℤ))
+written-line : (arcs first own : List (Option ArcTail)) (values : List (Option ℤ))
     (bytes newer new marks : List ℕ)
-    (count at cells_end end : ℕ) → arcs ≡ first → take count first ≡ own → values ≡ row → length row ≡ count
+    (count at cells_end end : ℕ) → arcs ≡ first → take count first ≡ own → length values ≡ count
     → take cells_end newer ≡ take at bytes ++ cells_text (take (length values) arcs) values
     → take end new ≡ take cells_end newer ++ marks → end ≤ length new → at ≤ length bytes
-    → LineWritten new bytes (cells_text own row) marks at end
-written-line arcs first own values row bytes newer new marks
-    count at cells_end end a f v many cells all long room =
+    → LineWritten new bytes (cells_text own values) marks at end
+written-line arcs first own values bytes newer new marks
+    count at cells_end end a f many cells all long room =
     let same : take (length values) arcs ≡ own =
-    ap (λ (n : ℕ). take n arcs) (ap length v ∙ many) ∙ ap (take count) a ∙ f in
-    line-written new bytes (cells_text own row) marks at end
+    ap (λ (n : ℕ). take n arcs) many ∙ ap (take count) a ∙ f in
+    line-written new bytes (cells_text own values) marks at end
     (all ∙ ap (λ (t : List ℕ). t ++ marks) (cells
-    ∙ ap (λ (cs : List (Option ArcTail)). take at bytes ++ cells_text cs values) same
-    ∙ ap (λ (vs : List (Option ℤ)). take at bytes ++ cells_text own vs) v))
+    ∙ ap (λ (cs : List (Option ArcTail)). take at bytes ++ cells_text cs values) same))
     long room
 
 -- what was written is within the bytes, and no longer than the room for it
@@ -51,8 +50,8 @@ line-fits bytes new line cells marks count at cells_end end w e within all room 
     }
 
 fits : (c : goal.After-trim_end) → LineFits c.args.bytes.now c.put_text-end.new.bytes c.trim_end.result.now
-    (cells_text c.args.self.now.cells c.args.row.now.values) c.args.marks.now
-    (length c.args.row.now.values) c.args.at
+    (cells_text c.args.self.now.cells c.args.values.now) c.args.marks.now
+    (length c.args.values.now) c.args.at
 fits c =
     let inside = c.self.inside in
     let cells = ap (λ (t : SatelliteTail). t.cells) c.self.view_is in
@@ -61,17 +60,16 @@ fits c =
     let own = ap length cells in
     let room = c.requires.room in
     let within = c.write_first_cells-end.ensures.within in
-    let values = ap length c.values.ensures.value in
     let end = c.put_text-end.ensures.end in
     let a = c.write_first_cells-end.auto.bytes in
     let b = c.put_text-end.auto.bytes in
-    line-fits _ _ _ _ _ (length c.args.row.now.values) c.args.at c.write_first_cells-end.result
+    line-fits _ _ _ _ _ (length c.args.values.now) c.args.at c.write_first_cells-end.result
     c.put_text-end.result
-    (written-line _ _ _ _ _ _ c.write_first_cells-end.new.bytes _ _ inside.count c.args.at _ _
-    c.deref_mut.ensures.value cells c.values.ensures.value (omega (arith, many, counted, own))
+    (written-line _ _ _ _ _ c.write_first_cells-end.new.bytes _ _ inside.count c.args.at _ _
+    c.deref_mut.ensures.value cells (omega (arith, many, counted, own))
     c.write_first_cells-end.ensures.written c.put_text-end.ensures.put
-    (omega (arith, room, within, values, end, a, b)) (omega (arith, room)))
-    c.trim_end.ensures.value (omega (arith, within, values)) end room (omega (arith, a, b))
+    (omega (arith, room, within, end, a, b)) (omega (arith, room)))
+    c.trim_end.ensures.value (omega (arith, within)) end room (omega (arith, a, b))
 
 pub returns-clause-line : goal.returns-clause-line
 returns-clause-line c = let line = fits c in line.is

@@ -69,6 +69,8 @@ returns c =
             reading = is_open.reading;
             bounded = is_open.bounded;
             none_handed_out = is_open.none_handed_out;
+            named = is_open.named;
+            observed = is_open.observed;
           },
           λ lines ended. ended,
         ),

@@ -1,4 +1,4 @@
-use Rattle.std.proofs.Common.{None}
+use Rattle.std.proofs.Common.{[], None}
 use Rattle.crx_compact.specs.OpenEpochs.{tail_held}
 use Rattle.crx_filter.proofs.CompactSteps.{idle-stage, begun-wants}
 use Rattle.crx_filter.proofs.compact_reader.CompactReader.begin.Goals as goal
@@ -6,7 +6,7 @@ use Rattle.crx_filter.proofs.compact_reader.CompactReader.begin.Goals as goal
 pub invariant_of-self : goal.invariant_of-self
 invariant_of-self c = record {
   consistent = idle-stage c.with_records_left-self.result c.args.self.now.columns
-      (c.with_records_left-self.ensures.consistent None) c.requires.idle;
+      (c.with_records_left-self.ensures.consistent None 0 []) c.requires.idle;
 }
 
 pub invariant_of-self-2 : goal.invariant_of-self-2

@@ -1,4 +1,4 @@
-use Rattle.std.proofs.Common.{None, ap}
+use Rattle.std.proofs.Common.{[], None, ap}
 use Rattle.crx_compact.specs.OpenEpochs.{is_idle}
 use Rattle.crx_filter.proofs.CompactSteps.{idle-stage}
 use Rattle.crx_filter.proofs.compact_reader.CompactReader.header_line.Goals as goal
@@ -6,5 +6,5 @@ use Rattle.crx_filter.proofs.compact_reader.CompactReader.header_line.Goals as g
 pub invariant_of-self-2 : goal.invariant_of-self-2
 invariant_of-self-2 c = record {
   consistent = idle-stage c.after_header_line-self.result c.reset.new.self
-      (c.after_header_line-self.ensures.consistent None) (ap is_idle c.reset.ensures.emptied);
+      (c.after_header_line-self.ensures.consistent None 0 []) (ap is_idle c.reset.ensures.emptied);
 }

@@ -5,8 +5,7 @@ use Rattle.crx_lines.specs.Reading.{line_shown}
 use Rattle.crx_faults.specs.meaning.Seen.{Content}
 use Rattle.crx_filter.specs.EngineSteps.{Steps}
 use Rattle.crx_reading.specs.CompactionByLine.{compaction}
-use Rattle.crx_filter.specs.CompactionState.{compaction_state}
-use Rattle.crx_compact.specs.ReadyLines.{pending_lines}
+use Rattle.crx_filter.specs.CompactionState.{compaction_ready, compaction_state}
 use Rattle.crx_filter.proofs.following.DirectionSteps.{compaction-goes}
 use Rattle.crx_filter.proofs.steps.EngineAnswers.{answers-seen, seen-within}
 use Rattle.crx_filter.proofs.steps.EngineLemmas.{repeats}
@@ -18,7 +17,7 @@ returns-clause-answers c = λ lines notices taken awaited.
     let new = c.take_line-is_quiet.new.self in
     let now = compaction_state new.compaction in
     let line = line_shown c.args.line in
-    let ready = pending_lines new.ready in
+    let ready = compaction_ready new.compaction in
     answers-seen compaction-goes _ before now lines notices line (Content c.bytes.result.now) ready
     c.answer_given.result
     (λ ls ns shown. shown.0) c.take_line-is_quiet.ensures.choices

@@ -1,8 +1,7 @@
 use Rattle.std.proofs.Common.{inl}
 use Rattle.crx_faults.specs.meaning.Seen.{Overlong}
 use Rattle.crx_reading.specs.CompactionByLine.{compaction}
-use Rattle.crx_filter.specs.CompactionState.{compaction_state}
-use Rattle.crx_compact.specs.ReadyLines.{pending_lines}
+use Rattle.crx_filter.specs.CompactionState.{compaction_ready, compaction_state}
 use Rattle.crx_filter.proofs.following.DirectionSteps.{compaction-goes}
 use Rattle.crx_filter.proofs.steps.EngineAnswers.{answers-seen, seen-long}
 use Rattle.crx_filter.proofs.steps.EngineLemmas.{repeats}
@@ -12,7 +11,7 @@ pub returns-clause-answers : goal.returns-clause-answers
 returns-clause-answers c = λ lines notices line taken awaited long.
     answers-seen compaction-goes _ (compaction_state c.args.self.now.compaction)
     (compaction_state c.overlong.new.self)
-    lines notices line Overlong (pending_lines c.overlong.new.ready) c.overlong.result
+    lines notices line Overlong (compaction_ready c.overlong.new.self) c.overlong.result
     (λ ls ns shown. shown.0) c.overlong.ensures.choices (seen-long line long) taken awaited
     (inl c.overlong.ensures.steps)
 

@@ -1,11 +1,12 @@
-use Rattle.std.proofs.Common.{◌≡◌, Bool, ℕ, List, Ok, ap, refl, ◌∙◌}
+use Rattle.std.proofs.Common.{◌≡◌, Bool, ℕ, List, Ok, ap, refl, arith, ◌∙◌}
 use Rattle.crx_rinex.specs.meaning.EpochPlaces.{OpenEpoch}
 use Rattle.crx_rinex.specs.Heads.{head_line}
 use Rattle.crx_rinex.specs.declared.epoch_line.Head.{Head}
 use Rattle.crx_reading.specs.CompactionByLine.{Written}
 use Rattle.crx_reading.specs.meaning.Items.{records_announced, counts_types}
 use Rattle.crx_reading.specs.LineByLine.{with_records_left}
-use Rattle.crx_reading.proofs.RinexSteps.{begin-made, event-made, event-counts, begun-taken}
+use Rattle.crx_reading.proofs.RinexSteps.{begin-made, event-made, event-counts, begun-part, begun-whole}
+use Rattle.crx_reading.proofs.rinex_reader.RinexReader.begin.Goals.{then-count-eq0, else-count-eq0}
 use Rattle.crx_reading.proofs.rinex_reader.RinexReader.begin.Goals as goal
 
 event-phase : (line : List ℕ) (count : ℕ) (counted : Bool)
@@ -24,11 +25,22 @@ returns-in-Event-clause-takes c = λ (kept : Written).
           c.counts_types.result (event-counts c.args.line.now _ c.in-Event.count (c.in_ok-count.ensures.value
           ∙ ap (λ (h : Head). Ok (head_line h)) c.in-Event.is)) c.counts_types.ensures.value;
       types_then = refl;
+      closed = c.with_records_left-self.ensures.closed;
     }
 
-pub returns-in-Epoch-clause-takes : goal.returns-in-Epoch-clause-takes
-returns-in-Epoch-clause-takes c = λ (kept : Written).
-    begun-taken c.args.self.now c.begin_epoch.new.self c.args.line.now kept c.in-Epoch.head c.begin_epoch.result
-    c.requires.stage (c.in_ok-count.ensures.value ∙ ap (λ (h : Head). Ok (head_line h)) c.in-Epoch.is)
-    c.begin_epoch.ensures.counted c.begin_epoch.ensures.sound
-    c.begin_epoch.ensures.held c.begin_epoch.ensures.types c.begin_epoch.ensures.stage c.begin_epoch.ensures.value
+pub returns-after-count-eq0-clause-takes : goal.returns-after-count-eq0-clause-takes
+returns-after-count-eq0-clause-takes c = λ (kept : Written).
+    let read = c.in_ok-count.ensures.value ∙ ap (λ (h : Head). Ok (head_line h)) c.in-Epoch.is in
+    let count = c.count.ensures.value in
+    elim c.if-count-eq0.branch [
+      | then-count-eq0 w ↦
+          let none = w.if-count-eq0.true in
+          begun-whole c.args.self.now _ c.args.line.now kept c.in-Epoch.head c.requires.stage read
+          (omega (arith, count, none))
+          (record { types_then = refl; held = refl; rows_then = c.new-self.ensures.rows }) w.self-is
+      | else-count-eq0 w ↦
+          let some = w.if-count-eq0.false in
+          begun-part c.args.self.now _ c.args.line.now kept c.in-Epoch.head c.requires.stage read
+          (omega (arith, count, some))
+          (record { types_then = refl; held = refl; rows_then = c.new-self.ensures.rows }) w.self-is
+    ]

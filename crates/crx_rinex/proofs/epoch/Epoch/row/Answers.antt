@@ -1,4 +1,4 @@
-use Rattle.std.proofs.Common.{List, length, take, slice_get, ap, ◌∙◌, arith}
+use Rattle.std.proofs.Common.{List, length, slice_get, ap, ◌∙◌, arith}
 use Rattle.crx_rinex.specs.meaning.Observations.{Row, Epoch}
 use Rattle.crx_rinex.proofs.Copied.{copied-get}
 use Rattle.crx_rinex.proofs.Rows.{satellites_few}
@@ -12,6 +12,6 @@ returns-clause-within c =
 
 pub returns-clause-value : goal.returns-clause-value
 returns-clause-value c =
-    copied-get (take c.self.inside.count c.deref.result.now) c.args.index c.get.result c.get.ensures.lookup
-    ∙ ap (λ (rs : List Row). slice_get (take c.self.inside.count rs) c.args.index) c.deref.ensures.value
+    copied-get c.deref.result.now c.args.index c.get.result c.get.ensures.lookup
+    ∙ ap (λ (rs : List Row). slice_get rs c.args.index) c.deref.ensures.value
     ∙ ap (λ (e : Epoch). slice_get e.rows c.args.index) c.self.view_is

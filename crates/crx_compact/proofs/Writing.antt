@@ -1,0 +1,85 @@
+-- An epoch whose rows are written one by one: one row more.
+use Rattle.std.proofs.Common.{◌≡◌, ◌-◌, ◌++◌, ◌∷◌, [], ℕ, List, Bool, Some, true, false, not, length}
+use Rattle.std.proofs.Common.{slice_get, slice_set, ap, sym, ◌∙◌}
+use Rattle.std.proofs.lemmas.Bool.{not-true}
+use Rattle.std.proofs.lemmas.List.{map-append}
+use Rattle.std.proofs.lemmas.List.Elements.{All-append}
+use Rattle.crx_header.specs.meaning.Satellites.{is_among}
+use Rattle.crx_header.proofs.Apart.{among-map, apart-push}
+use Rattle.crx_rinex.specs.meaning.Epochs.{has_satellite}
+use Rattle.crx_rinex.specs.meaning.Observations.{Row}
+use Rattle.crx_rinex.specs.meaning.SatelliteLines.{IsSoundRow}
+use Rattle.crx_compact.specs.Placing.{HasCome, OpenHistory, PlacedRows, row_or_blank, row_tail_named}
+use Rattle.crx_compact.specs.Steps.{row_line_after, row_line_in, row_tail_after, row_tail_in}
+use Rattle.crx_compact.specs.Tails.{RowTail, Tail}
+use Rattle.crx_compact.specs.Written.{AreRowsWritten}
+use Rattle.crx_compact.proofs.ComeRows.{awaited-after, come-line, come-name, come-tail}
+use Rattle.crx_compact.proofs.RowByRow.{only}
+use Rattle.crx_compact.proofs.placing.SteppedRows.{last-is}
+
+-- a satellite has come where it has a row
+pub come-already : (after : Tail) (rows : List Row) (history : OpenHistory) (lines : List (List ℕ))
+    (placed : PlacedRows) (name : List ℕ)
+    → placed ≡ history.satellites → AreRowsWritten after rows history lines
+    → is_among (λ (t : RowTail). t.name) name placed.rows ≡ has_satellite name rows
+come-already after rows history lines placed name same written =
+    let tail_name = λ (t : RowTail). t.name in
+    ap (λ (p : PlacedRows). is_among tail_name name p.rows) same
+    ∙ ap (is_among tail_name name) written.rows_after ∙ among-map tail_name (row_tail_in after.rows) name rows
+
+-- a satellite that comes for the first time has no row yet
+pub no-row : (after : Tail) (rows : List Row) (history : OpenHistory) (lines : List (List ℕ))
+    (placed : PlacedRows) (name : List ℕ) (is_new : Bool)
+    → placed ≡ history.satellites → is_new ≡ not (is_among (λ (t : RowTail). t.name) name placed.rows)
+    → is_new ≡ true → AreRowsWritten after rows history lines → has_satellite name rows ≡ false
+no-row after rows history lines placed name is_new same answer new written =
+    sym (come-already after rows history lines placed name same written)
+    ∙ not-true (is_among (λ (t : RowTail). t.name) name placed.rows) (sym answer ∙ new)
+
+-- the row that has come last, and its satellite
+pub record IsLast (name : List ℕ) (before rows : List RowTail) (index : ℕ) (kept : RowTail) : Type 0 where
+  pub there : slice_get rows index ≡ Some kept
+  pub put : (left : RowTail) → slice_set rows index left ≡ before ++ left ∷ []
+  pub named : kept.name ≡ name
+
+pub come-last : (name : List ℕ) (before after : PlacedRows) (rows : List RowTail) (index : ℕ)
+    → HasCome name before after → rows ≡ after.rows → index ≡ length rows - 1
+    → IsLast name before.rows rows index (row_or_blank name before.rest)
+come-last name before after rows index come same last =
+    let kept = row_or_blank name before.rest in
+    let is = same ∙ come.rows in
+    record {
+      there = (last-is rows before.rows kept kept index is last).0;
+      put = λ left. (last-is rows before.rows left kept index is last).1;
+      named = come-name name before.rest;
+    }
+
+pub written-next : (after : Tail) (rows : List Row) (row : Row) (old new : OpenHistory) (come : PlacedRows)
+    (lines more : List (List ℕ)) (placed : PlacedRows) → placed ≡ old.satellites
+    → AreRowsWritten after rows old lines → IsSoundRow row → has_satellite row.name rows ≡ false
+    → HasCome row.name placed come
+    → new.satellites.rows ≡ placed.rows ++ row_tail_after (Some (row_or_blank row.name placed.rest)) row ∷ []
+    → new.satellites.rest ≡ come.rest
+    → more ≡ lines ++ row_line_after (Some (row_or_blank row.name placed.rest)) row ∷ []
+    → new.text ≡ old.text → new.clock ≡ old.clock
+    → AreRowsWritten after (rows ++ row ∷ []) new more
+written-next after rows row old new come lines more placed same written sound fresh has left rest line
+    text clock =
+    let awaited = λ (name : List ℕ) (absent : has_satellite name rows ≡ false).
+    ap (λ (p : PlacedRows). row_tail_named name p.rest) same ∙ written.others name absent in
+    let next = awaited-after (λ (r : Row). r.name) rows row after.rows placed come awaited has in
+    record {
+      text = text ∙ written.text;
+      clock = clock ∙ written.clock;
+      rows_after = left
+          ∙ (λ j. (ap (λ (p : PlacedRows). p.rows) same ∙ written.rows_after) j
+          ++ come-tail placed.rest after.rows row (awaited row.name fresh) j ∷ [])
+          ∙ sym (map-append (row_tail_in after.rows) rows (row ∷ []));
+      others = λ name absent. ap (row_tail_named name) rest ∙ next name absent;
+      lines_made = line
+          ∙ (λ j. written.lines_made j
+          ++ come-line placed.rest after.rows row (awaited row.name fresh) j ∷ [])
+          ∙ sym (map-append (row_line_in after.rows) rows (row ∷ []));
+      sound = All-append IsSoundRow rows (row ∷ []) written.sound (only IsSoundRow row sound);
+      apart = apart-push (λ (r : Row). r.name) rows row written.apart fresh;
+    }

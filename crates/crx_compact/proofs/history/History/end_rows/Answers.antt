@@ -1,0 +1,79 @@
+use Rattle.std.proofs.Common.{◌≡◌, ◌++◌, ◌∷◌, List, ℕ, map, arith, ap, length, ◌∙◌}
+use Rattle.std.specs.List.{flat_map}
+use Rattle.std.specs.Result.{is_ok}
+use Rattle.std.proofs.lemmas.List.Folds.{flat_map-map}
+use Rattle.crx_columns.specs.meaning.Columns.{without_end_blanks}
+use Rattle.crx_columns.specs.meaning.Texts.{text_difference}
+use Rattle.crx_rinex.specs.meaning.Observations.{Row}
+use Rattle.crx_text.proofs.CodeTexts.{code_text_length}
+use Rattle.crx_text.specs.meaning.Codes.{code_text}
+use Rattle.crx_compact.specs.ArcSteps.{arc_of_value, code_of_value}
+use Rattle.crx_compact.specs.meaning.Compaction.{epoch_text}
+use Rattle.crx_compact.specs.Placing.{OpenHistory, PlacedRows}
+use Rattle.crx_compact.specs.Steps.{row_tail_in}
+use Rattle.crx_compact.specs.Tails.{RowTail, Tail}
+use Rattle.crx_compact.specs.Written.{AreRowsWritten, epoch_by_rows}
+use Rattle.crx_compact.proofs.Making.{ok-unless}
+use Rattle.crx_compact.proofs.Results.{by_ok}
+use Rattle.crx_compact.proofs.SoundTexts.{difference-trimmed}
+use Rattle.crx_compact.proofs.history.History.end_rows.Goals as goal
+
+-- an empty text has room for a code
+pub unwrap-requires : goal.unwrap-requires
+unwrap-requires c =
+    let short = code_text_length c.push.result c.push.ensures.printable in
+    let empty = ap length c.clear.ensures.emptied in
+    ok-unless c.code_print.result (λ failed. let full = c.code_print.ensures.full.0 failed in
+    omega (arith, short, empty, full))
+
+-- the rows of an epoch that has ended, and its text
+ended : (after : Tail) (rows : List Row) (lines : List (List ℕ)) (old : OpenHistory) (seen end : PlacedRows)
+    → AreRowsWritten after rows old lines → seen ≡ old.satellites → end.rows ≡ seen.rows
+    → end.rows ≡ map (row_tail_in after.rows) rows
+ended after rows lines old seen end written same kept =
+    kept ∙ ap (λ (p : PlacedRows). p.rows) same ∙ written.rows_after
+
+named : (after : Tail) (rows : List Row) (head text : List ℕ) (end : List RowTail)
+    → end ≡ map (row_tail_in after.rows) rows
+    → text ≡ without_end_blanks (head ++ flat_map (λ (row : RowTail). row.name) end)
+    → text ≡ without_end_blanks (head ++ flat_map (λ (row : Row). row.name) rows)
+named after rows head text end is made =
+    made ∙ ap (λ (names : List ℕ). without_end_blanks (head ++ names))
+    (ap (flat_map (λ (row : RowTail). row.name)) is
+    ∙ flat_map-map (λ (row : RowTail). row.name) (row_tail_in after.rows) rows)
+
+pub returns-clause-after : goal.returns-clause-after
+returns-clause-after c = λ after rows written.
+    let head = c.args.head.now in
+    let satellites = ap (λ (h : OpenHistory). h.satellites) c.self.view_is in
+    let is = ended after rows c.args.lines.now.lines c.args.self.now c.self.inside.satellites c.end.new.self
+    written satellites (ap (λ (p : PlacedRows). p.rows) c.end.ensures.ended) in
+    let text = named after rows head.head c.renew_text.new.text.items c.end.new.self.rows is
+    c.in_ok-renew_text.ensures.ok in
+    let clock = c.push.ensures.arc
+    ∙ (λ j. arc_of_value (c.clock.ensures.value j) ((ap (λ (h : OpenHistory). h.clock) c.self.view_is
+    ∙ written.clock) j)) in
+    (λ j. record { text = (ap (λ v. v.items) c.swap.ensures.x_after ∙ text) j; clock = clock j; rows = is j })
+
+pub returns-clause-lines : goal.returns-clause-lines
+returns-clause-lines c = λ after rows written.
+    let head = c.args.head.now in
+    let whole = epoch_text (epoch_by_rows head rows) in
+    let satellites = ap (λ (h : OpenHistory). h.satellites) c.self.view_is in
+    let is = ended after rows c.args.lines.now.lines c.args.self.now c.self.inside.satellites c.end.new.self
+    written satellites (ap (λ (p : PlacedRows). p.rows) c.end.ensures.ended) in
+    let text = named after rows head.head c.renew_text.new.text.items c.end.new.self.rows is
+    c.in_ok-renew_text.ensures.ok in
+    let before = c.deref.ensures.value ∙ ap (λ (h : OpenHistory). h.text) c.self.view_is ∙ written.text in
+    let first : c.bytes-2.result.now ≡ text_difference after.text whole =
+    c.bytes-2.ensures.value ∙ c.mark_change.ensures
+    ∙ (λ j. text_difference (before j) ((c.deref-2.ensures.value ∙ text) j))
+    ∙ difference-trimmed after.text whole in
+    let code = c.push.ensures.code
+    ∙ (λ j. code_of_value (c.clock.ensures.value j) ((ap (λ (h : OpenHistory). h.clock) c.self.view_is
+    ∙ written.clock) j)) in
+    let second : c.bytes.result.now ≡ code_text (code_of_value head.clock after.clock) =
+    c.bytes.ensures.value ∙ by_ok c.code_print.result (ap is_ok c.unwrap.ensures) c.code_print.ensures.ok
+    ∙ ap (λ (t : List ℕ). t ++ code_text c.push.result) c.clear.ensures.emptied ∙ ap code_text code in
+    c.put_front-2.ensures.lines
+    ∙ (λ j. first j ∷ (c.put_front.ensures.lines ∙ (λ i. second i ∷ written.lines_made i)) j)

@@ -1,0 +1,2 @@
+-- What the walks of a kept tail share.
+pub mod Made

@@ -1,0 +1,78 @@
+use Rattle.std.proofs.Common.{◌≡◌, ◌-◌, arith, subst, sym}
+use Rattle.std.proofs.lemmas.Result.{on_ok_weaker}
+use Rattle.indexmap.specs.IndexMap.{set_value_at}
+use Rattle.indexmap.specs.Layout.{length-set_value_at}
+use Rattle.crx_compact.specs.Entries.{rooms_of}
+use Rattle.crx_compact.specs.Placing.{HasRoom, row_of_entry}
+use Rattle.crx_compact.specs.Tails.{RowTail}
+use Rattle.crx_compact.proofs.placing.EntryChanges.{has-room, rest-unchanged, room-there, rooms-changed}
+use Rattle.crx_compact.proofs.placing.Found.{found-there}
+use Rattle.crx_compact.proofs.placing.Prepared.{front-same, rows-same}
+use Rattle.crx_compact.proofs.placing.SteppedRows.{among-placed, last-row-is}
+use Rattle.crx_compact.proofs.satellites.Satellites.make_room_last.Goals as goal
+
+pub invariant_of-self : goal.invariant_of-self
+invariant_of-self c =
+    let known = c.self.inside.known.entries in
+    let all = c.self.invariant.1 in (
+      c.self.invariant.0,
+      omega (arith, all, length-set_value_at known (c.self.inside.placed - 1) c.make_room.new.self),
+    )
+
+pub returns-clause-rows : goal.returns-clause-rows
+returns-clause-rows c =
+    let known = c.self.inside.known.entries in
+    let last = c.self.inside.placed - 1 in
+    let few = c.self.invariant.0 in
+    let all = c.self.invariant.1 in
+    rw (← c.self.view_is)
+    (front-same c.pair_mut-satellite.result.0.now last known known
+    (set_value_at known last c.make_room.new.self)
+    (found-there _ last known _ c.pair_mut-satellite.ensures.value)
+    (rows-same known last _ _ c.make_room.new.self c.pair_mut-satellite.ensures.value
+    c.make_room.ensures.flags c.make_room.ensures.cells) c.self.inside.placed (omega (arith, few, all)))
+
+pub returns-clause-rest : goal.returns-clause-rest
+returns-clause-rest c =
+    let known = c.self.inside.known.entries in
+    let some = among-placed c.self.inside.placed 0 known (rw (← c.self.view_is) at c.requires.some) in
+    rw (← c.self.view_is)
+    (rest-unchanged c.self.inside.placed c.self.inside.live (c.self.inside.placed - 1) known _ _
+    c.make_room.new.self (omega (arith, some)) c.self.invariant.0 c.pair_mut-satellite.ensures.value)
+
+pub returns-clause-room : goal.returns-clause-room
+returns-clause-room c =
+    let known = c.self.inside.known.entries in
+    let last = c.self.inside.placed - 1 in
+    let few = c.self.invariant.0 in
+    let all = c.self.invariant.1 in
+    let there = c.pair_mut-satellite.ensures.value in
+    let rooms = rooms_of (set_value_at known last c.make_room.new.self) in
+    on_ok_weaker c.make_room.result (λ within before row is.
+    subst (λ (kept : RowTail). HasRoom kept.name c.args.count rooms)
+    (last-row-is c.self.inside.placed known _ before row (rw (← c.self.view_is) at c.requires.some)
+    (omega (arith, few, all)) there (rw (← c.self.view_is) at is))
+    (has-room c.self.inside.known last _ _ c.make_room.new.self c.pair_mut-satellite.ensures.unique there
+    c.args.count within)) c.make_room.ensures.room
+
+pub returns-clause-rooms : goal.returns-clause-rooms
+returns-clause-rooms c name count =
+    rw (← c.self.view_is)
+    (rooms-changed c.self.inside.known (c.self.inside.placed - 1) _ _ c.make_room.new.self
+    c.pair_mut-satellite.ensures.unique c.pair_mut-satellite.ensures.value c.make_room.ensures.kept name
+    count)
+
+pub returns-clause-known : goal.returns-clause-known
+returns-clause-known c before row is has =
+    let known = c.self.inside.known.entries in
+    let few = c.self.invariant.0 in
+    let all = c.self.invariant.1 in
+    let there = c.pair_mut-satellite.ensures.value in
+    let last : row_of_entry (c.pair_mut-satellite.result.0.now, c.pair_mut-satellite.result.1.now) ≡ row =
+    last-row-is c.self.inside.placed known _ before row (rw (← c.self.view_is) at c.requires.some)
+    (omega (arith, few, all)) there (rw (← c.self.view_is) at is) in
+    c.make_room.ensures.known
+    (room-there c.self.inside.known (c.self.inside.placed - 1) _ _ c.make_room.new.self
+    c.pair_mut-satellite.ensures.unique there c.args.count
+    (subst (λ (kept : RowTail). HasRoom kept.name c.args.count (rooms_of known)) (sym last)
+    (rw (← c.self.view_is) at has)))

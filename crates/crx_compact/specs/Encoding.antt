@@ -1,0 +1,34 @@
+-- An encoder between two lines: the tail of the epochs before; and of the epoch that is open, whether it is in full, and its rows so far.
+use Rattle.std.specs.Prelude.{◌≡◌, ℕ, List, [], Bool, true, false, Option, None, Some, if◌then◌else◌}
+use Rattle.crx_compact.specs.Placing.{OpenHistory, IsBetween, tail_of_history}
+use Rattle.crx_compact.specs.Steps.{tail_written_after}
+use Rattle.crx_compact.specs.Tails.{Tail}
+use Rattle.crx_compact.specs.Written.{AreRowsWritten}
+use Rattle.crx_compact.specs.declared.lines.TheConstants.{FIRST_LINES}
+use Rattle.crx_rinex.specs.meaning.Observations.{Row}
+
+-- the tail of the epochs before, or none; whether an epoch is open, and then whether it is in full, and its rows so far; and the lines that
+-- are pending
+pub record EncoderState : Type 0 where
+  pub before : Option Tail
+  pub is_open : Bool
+  pub in_full : Bool
+  pub rows : List Row
+  pub pending : List (List ℕ)
+
+-- the tail that the rows of the open epoch are written after
+abbrev pub tail_in : EncoderState → Tail
+tail_in state = tail_written_after state.in_full state.before
+
+-- nothing is open, and the history is that after the epochs before
+pub record IsClosed (before : Option Tail) (is_kept : Bool) (rows : List Row) (history : OpenHistory) : Type 0 where
+  pub tail : before ≡ (if is_kept then Some (tail_of_history history) else None)
+  pub between : IsBetween history
+  pub none : rows ≡ []
+
+-- what holds of an encoder's parts: whether an epoch is open; the tail before, whether one is kept, whether the open epoch is in full, its rows
+-- so far, the history, the lines that are made, and how many can be put in front of them
+abbrev pub IsEncoding : Bool → Option Tail → Bool → Bool → List Row → OpenHistory → List (List ℕ) → ℕ → Type 0
+IsEncoding false before is_kept in_full rows history made front = IsClosed before is_kept rows history
+IsEncoding true before is_kept in_full rows history made front =
+    AreRowsWritten (tail_written_after in_full before) rows history made × (front ≡ FIRST_LINES)
