@@ -57,7 +57,7 @@ enum {
     /*
      * A fault ended the run; `code` and `line` say which, and where. The output holds what stood before it: header lines, event lines and
      * whole epochs; that of a check is empty. After RNXCMP_INPUT_TOO_LONG and RNXCMP_OUT_OF_MEMORY a call over a whole input has changed
-     * neither room, and both lengths are 0; the texts of a handle may be cut anywhere after RNXCMP_OUT_OF_MEMORY.
+     * neither room, and both lengths are 0; those of a handle then hold what the lines before make.
      */
     RNXCMP_FAULT = 1,
     /* Units were skipped, and the messages say which. For a check: the file is accepted, but isn't standard. */
@@ -185,9 +185,9 @@ int rnxcmp_check(const void *input, size_t input_length, void *output, size_t ou
  * - after RNXCMP_OUTPUT_LIMIT it is what the first lines make, as many as keep to the limit;
  * - after RNXCMP_INPUT_TOO_LONG it is what the lines make that have line ends, and then the message of this; a call over such an input
  *   knows its length before it reads, so it answers line 0 and gives no text;
- * - after RNXCMP_OUT_OF_MEMORY it is what the lines before `line` make and a part of what that line makes (or what all lines make and a part
- *   of what the end makes), and then the message of this or nothing; or, where the message of a fault at `line` couldn't be stored, both
- *   texts but for that message.
+ * - after RNXCMP_OUT_OF_MEMORY it is what the lines before `line` make (or all lines, where it is the end that asked for memory), of the
+ *   messages maybe also warnings of that line, and then the message of this or nothing, each a whole line; or, where the message of a fault
+ *   at `line` couldn't be stored, both texts but for that message.
  * So there is one message of an error at most. The output never has more than `max_output` bytes (0: no limit).
  *
  * What a handle keeps is bounded, whatever was fed: of the last line at most 8194 bytes, as long as it has no line end (a longer one is

@@ -10,21 +10,22 @@ use Rattle.crx_runs.specs.meaning.Results.{FilterResult}
 use Rattle.rnxcmp_c.specs.declared.answer.Answer.{Answer}
 use Rattle.rnxcmp_c.specs.declared.answer.TheConstants.{OUTPUT_LIMIT}
 use Rattle.rnxcmp_c.specs.meaning.Answers.{HasNoMemory}
-use Rattle.rnxcmp_c.specs.meaning.Handles.{HandlePast, IsLineReached, KeptTexts, RunHasEnded, RunHasResult}
+use Rattle.rnxcmp_c.specs.Handles.{IsLineReached}
+use Rattle.rnxcmp_c.specs.meaning.Handles.{BothTexts, HandlePast, RunHasEnded, RunHasResult}
 use Rattle.rnxcmp_c.specs.meaning.Handles.{RunIs}
 use Rattle.rnxcmp_c.specs.meaning.Handles.{Task, Expand, Check, result_for}
 use Rattle.rnxcmp_c.specs.meaning.Ended.{CheckPromises, ExpansionPromises}
 use Rattle.rnxcmp_c.proofs.Kept.{brings-back, judges-status, saves-all_else}
 use Rattle.rnxcmp_c.proofs.Lossless.{brings-back_passed}
 
-module _ (past : HandlePast) (kept : KeptTexts) (answer : Answer) where
+module _ (past : HandlePast) (kept : BothTexts) (answer : Answer) where
   -- a run has its result where neither memory nor a limit ended it
   pub result-where : (is_line : ℕ → Type 0) (task : Task) → RunHasEnded is_line task past kept answer →
       (HasNoMemory answer → ⊥)
       → (answer.status ≡ OUTPUT_LIMIT → ⊥) → RunHasResult (result_for task past.fed) past kept answer
   result-where is_line task (inl result) memory limit = result
   result-where is_line task (inr (inl over)) memory limit = absurd (limit (ap (λ
-      (a : Answer). a.status) over.0.answered))
+      (a : Answer). a.status) over.passes.answered))
   result-where is_line task (inr (inr ran)) memory limit = absurd (memory (ap (λ
       (a : Answer). a.code) ran.answered))
 

@@ -1,7 +1,7 @@
 -- A run goes on by the bytes that are fed.
 use Rattle.std.proofs.Common.{◌≡◌, ◌≢◌, ◌⊎◌, inl, inr, ℕ, ◌+◌, ◌-◌, ◌<◌, ◌≤◌, true, false, ◌||◌, List, [], ◌∷◌, ◌++◌, ⊎_elim}
 use Rattle.std.proofs.Common.{length, take, drop, slice_index, None, refl, sym, ap, ◌∙◌, subst, arith, append-nil}
-use Rattle.std.proofs.Common.{Bool, append_assoc, is_some, length-append, length-take}
+use Rattle.std.proofs.Common.{Option, append_assoc, is_some, length-append, length-take}
 use Rattle.std.proofs.Math.Seq.{take-append-add}
 use Rattle.std.proofs.lemmas.List.{drop_more, get_or-take, take-append-drop, take-append-le}
 use Rattle.std.proofs.lemmas.List.Elements.{All-append, All-from_get_or}
@@ -18,9 +18,9 @@ use Rattle.crx_runs.specs.meaning.Results.{Begins, Course, are_some}
 use Rattle.rnxcmp_c.specs.declared.held.Held.{Held}
 use Rattle.rnxcmp_c.specs.Waiting.{waiting}
 use Rattle.rnxcmp_c.specs.Counting.{take-of_taken}
-use Rattle.rnxcmp_c.specs.Going.{IsText, IsGoing, IsBroken, MovesOn, EndsThere, LineStops}
+use Rattle.rnxcmp_c.specs.Going.{IsText, IsGoing, IsBroken, MovesOn, EndsThere}
 use Rattle.rnxcmp_c.specs.meaning.Handles.{HandlePast, fed_with}
-use Rattle.rnxcmp_c.specs.meaning.Handles.{IsPartBetween, StopsSoon, with_one_more}
+use Rattle.rnxcmp_c.specs.meaning.Handles.{StopsSoon, with_one_more}
 use Rattle.rnxcmp_c.specs.Going.{piece_line, IsAll, IsCutBy, IsFailed, LineFails, RanOutAt, RunsShort}
 use Rattle.rnxcmp_c.specs.Going.{StopsShort}
 use Rattle.rnxcmp_c.specs.Going.{AddsWithin, EndsPastLimit, IsKeptWithin, IsPastLimit}
@@ -103,59 +103,32 @@ more-text : (whole taken kept more then : List ℕ) (after : List ℕ) → after
 more-text whole taken kept more then after grows is was =
     grows ∙ ap (λ t. t ++ more) is ∙ append_assoc taken kept more ∙ ap (λ t. taken ++ t) (sym was)
 
--- what was taken of a text that was cut short, and then what is kept, is a part of it
-part-of : (before after taken kept then text : List ℕ) → before ≡ taken ++ kept → then ≡ kept ++ text
-    → (text ≡ []) ⊎ Begins after (before ++ text) → IsPartBetween before after (taken ++ then)
-part-of before after taken kept then text is grows first =
-    let whole : taken ++ then ≡ before ++ text =
-    ap (λ t. taken ++ t) grows ∙ sym (append_assoc taken kept text) ∙ ap (λ t. t ++ text) (sym is) in
-    record {
-      begins = record { rest = text; same = whole };
-      first = ⊎_elim (λ none. inl (whole ∙ ap (λ t. before ++ t) none ∙ append-nil before))
-          (λ begins. inr (subst (Begins after) (sym whole) begins)) first;
-    }
-
--- both texts of a line, or of the end, that was taken in part
-pub cut-by : (before after : Course) (takes : Bool) (old new : Held) (past : HandlePast)
-    → IsText before old past
-    → StopsShort takes before after old.output new.output old.messages new.messages
-    → IsCutBy before after takes new past
-cut-by before after takes old new past text short = record {
-  output_is = part-of before.output after.output past.output (waiting old.output) (waiting new.output)
-      short.output_cut.text text.wrote short.output_cut.wrote short.output_cut.first;
-  warnings_are = part-of (notices_text before.warnings) (notices_text after.warnings) past.messages
-      (waiting old.messages) (waiting new.messages) short.messages_cut.text text.reported
-      short.messages_cut.reported
-      short.messages_cut.first;
-  asked = ⊎_elim (λ takes. inl takes)
-      (λ less. inr (⊎_elim
-      (λ output. inl (omega (
-        arith,
-        output.short,
-        ap length text.wrote,
-        length-append past.output (waiting old.output),
-        length-append past.output (waiting new.output),
-      )))
-      (λ messages. inr (omega (
-        arith,
-        messages.short,
-        ap length text.reported,
-        length-append past.messages (waiting old.messages),
-        length-append past.messages (waiting new.messages),
-      ))) less))
-      short.asked;
+-- both texts where memory ran out at a line, or at the end
+pub cut-by : (before after : Course) (memory : Option (List At)) (old new : Held) (past : HandlePast)
+    → before.fault ≡ None → IsText before old past → StopsShort memory before after old new
+    → IsCutBy before after memory new past
+cut-by before after memory old new past good text short = record {
+  notices = short.notices;
+  asked = short.asked;
+  own = short.own;
+  made = record {
+    good = good;
+    output = text.wrote ∙ ap (λ t. past.output ++ t) (sym short.wrote);
+    messages = ap (λ t. t ++ notices_text short.notices) text.reported
+        ∙ append_assoc past.messages (waiting old.messages) (notices_text short.notices)
+        ∙ ap (λ t. past.messages ++ t) (sym short.reported);
+  };
 }
 
 -- where no write had failed before, one did
-pub lacking-by : (before after : Course) (takes : Bool) (old new : Held) → AreUnfailed old
-    → StopsShort takes before after old.output new.output old.messages new.messages
-    → IsMemoryLacking takes new
-lacking-by before after takes old new good short =
+pub lacking-by : (before after : Course) (memory : Option (List At)) (old new : Held) → AreUnfailed old
+    → StopsShort memory before after old new → IsMemoryLacking (is_some memory) new
+lacking-by before after memory old new good short =
     ⊎_elim (λ takes. inl takes)
     (λ less. inr (⊎_elim
-    (λ output. inl (λ none. absurd (omega (arith, none, output.failed, good.output))))
-    (λ messages. inr (λ none. absurd (omega (arith, none, messages.failed, good.messages)))) less))
-    short.asked
+    (λ output. inl (λ none. absurd (omega (arith, none, output, good.output))))
+    (λ messages. inr (λ none. absurd (omega (arith, none, messages, good.messages)))) less))
+    short.lacking
 
 -- a prefix of a prefix
 pub begins-then : (all mid first : List ℕ) → Begins all mid → Begins mid first → Begins all first
@@ -389,6 +362,7 @@ module _ (filter : Filter) (shows : List InputLine → List Awaited → Type 0)
             (line-then rest more).1
                 ∙ append_assoc (ended_lines_of past.fed) (line ∷ []) (line-then rest more).0,
           );
+          good = is.good;
           limited = omega (arith, there, passes.limit, same.limit);
           within = omega (arith, all, passes.limit, same.limit);
           over = omega (arith, all, passes.over, passes.limit, same.limit, same.left);
@@ -418,9 +392,8 @@ module _ (filter : Filter) (shows : List InputLine → List Awaited → Type 0)
         }
 
     breaks-short : (new : Held) (rest : List ℕ) (at : At) → RanOutAt (length (ended_lines_of past.fed) + 1) at
-        → StopsShort (is_some (filter.memory_after (ended_lines_of past.fed) line))
-        (filter.so_far (ended_lines_of past.fed)) (filter.so_far (with_next (ended_lines_of past.fed) line))
-        mid.output new.output mid.messages new.messages
+        → StopsShort (filter.memory_after (ended_lines_of past.fed) line)
+        (filter.so_far (ended_lines_of past.fed)) (filter.so_far (with_next (ended_lines_of past.fed) line)) mid new
         → RunsShort past.fed filter new (fed_with past (piece ++ 10 ∷ rest)) at
     breaks-short new rest at memory short =
         let lines : List InputLine = ended_lines_of past.fed in
@@ -447,10 +420,11 @@ module _ (filter : Filter) (shows : List InputLine → List Awaited → Type 0)
             (line-then rest others).1 ∙ append_assoc lines (line ∷ []) (line-then rest others).0,
           );
           number = memory.1;
-          cut = cut-by (filter.so_far lines) (filter.so_far (with_next lines line)) _ mid new past (record {
-            wrote = is.text.wrote ∙ ap (λ t. past.output ++ t) (sym same.output);
-            reported = is.text.reported ∙ ap (λ t. past.messages ++ t) (sym same.messages);
-          }) short;
+          cut = cut-by (filter.so_far lines) (filter.so_far (with_next lines line)) _ mid new
+              (fed_with past (piece ++ 10 ∷ rest)) is.good (record {
+                wrote = is.text.wrote ∙ ap (λ t. past.output ++ t) (sym same.output);
+                reported = is.text.reported ∙ ap (λ t. past.messages ++ t) (sym same.messages);
+              }) short;
           lacking = lacking-by _ _ _ mid new (record {
             output = same.output_good ∙ is.unfailed.output;
             messages = same.messages_good ∙ is.unfailed.messages;
@@ -464,8 +438,7 @@ module _ (filter : Filter) (shows : List InputLine → List Awaited → Type 0)
 
     pub breaks : (new : Held) (rest : List ℕ) (stop : Stop)
         → StepStops (length (ended_lines_of past.fed) + 1)
-        (is_some (filter.memory_after (ended_lines_of past.fed) line)) (filter.so_far
-        (ended_lines_of past.fed))
+        (filter.memory_after (ended_lines_of past.fed) line) (filter.so_far (ended_lines_of past.fed))
         (filter.so_far (with_next (ended_lines_of past.fed) line)) mid new stop
         → RunBreaks past.fed filter new (fed_with past (piece ++ 10 ∷ rest)) stop
     breaks new rest (Fault at) (inl memory, adds) =
@@ -534,6 +507,11 @@ text-ends before after old new past at text ends = record {
       text.reported ends.reported;
 }
 
+-- a line, or the end, ended the run
+abbrev AtLine : ℕ → Option (List At) → Course → Course → Held → Held → At → Type 0
+AtLine number memory before after old new at = (RanOutAt number at × StopsShort memory before after old new)
+    ⊎ EndsThere before after old.output new.output old.messages new.messages at
+
 -- what a limit leaves after some lines
 abbrev IsLeft : Filter → List InputLine → Held → Type 0
 IsLeft filter lines held = 0 < held.limit → held.left + length (filter.so_far lines).output ≡ held.limit
@@ -558,21 +536,20 @@ module _ (filter : Filter) (mid : Held) (past : HandlePast) (lines : List InputL
             omega (arith, left before, within.left before, within.limit, ap length grown.wrote);
       })
 
-  pub ends-badly : (number : ℕ) → number ≡ length lines → (at : At)
-      → LineStops number false (filter.so_far lines) (filter.whole lines) mid.output new.output mid.messages
-      new.messages at
+  pub ends-badly : (filter.so_far lines).fault ≡ None → (number : ℕ) → number ≡ length lines → (at : At)
+      → AtLine number None (filter.so_far lines) (filter.whole lines) mid new at
       → LineFails filter new past at
-  ends-badly number last at (inl memory) =
+  ends-badly sound number last at (inl memory) =
       inl (record {
         ran_out = (memory.0.0, memory.0.1 ∙ last ∙ ap length (sym whole));
         lines = lines;
         others = [];
         first = whole ∙ sym (append-nil lines);
         number = memory.0.1 ∙ last;
-        cut = cut-by (filter.so_far lines) (filter.whole lines) false mid new past text memory.1;
-        lacking = lacking-by (filter.so_far lines) (filter.whole lines) false mid new good memory.1;
+        cut = cut-by (filter.so_far lines) (filter.whole lines) None mid new past sound text memory.1;
+        lacking = lacking-by (filter.so_far lines) (filter.whole lines) None mid new good memory.1;
       })
-  ends-badly number last at (inr ends) =
+  ends-badly sound number last at (inr ends) =
       inr (subst (λ ls. IsFailed (filter.whole ls) new past at) (sym whole) (record {
         fault = ends.fault;
         text = text-ends (filter.so_far lines) (filter.whole lines) mid new past at text ends;
@@ -580,13 +557,15 @@ module _ (filter : Filter) (mid : Held) (past : HandlePast) (lines : List InputL
 
 -- the end, or a line before it, ended the run after some lines
 module _ (filter : Filter) (mid : Held) (past : HandlePast) (lines : List InputLine)
-    (text : IsText (filter.so_far lines) mid past) (left : IsLeft filter lines mid) (new : Held) where
+    (text : IsText (filter.so_far lines) mid past) (left : IsLeft filter lines mid) (new : Held)
+    (sound : (filter.so_far lines).fault ≡ None) where
   pub passes-after : (others : List InputLine) → lines_of past.fed ≡ lines ++ others
       → PassesLimit (filter.so_far lines) (with_one_more filter lines others) mid new → EndsPastLimit filter new past
   passes-after others first passes = record {
     lines = lines;
     others = others;
     first = first;
+    good = sound;
     limited = omega (arith, passes.limited, passes.limit);
     within = omega (arith, left passes.limited, passes.limit);
     over = omega (arith, left passes.limited, passes.over, passes.limit);
@@ -598,10 +577,10 @@ module _ (filter : Filter) (mid : Held) (past : HandlePast) (lines : List InputL
 
   pub ends-stopped : (flag : mid.warned ≡ are_some (filter.so_far lines).warnings) → AreUnfailed mid
       → (whole : lines_of past.fed ≡ lines) → (number : ℕ) → number ≡ length lines → (stop : Stop)
-      → StepStops number false (filter.so_far lines) (filter.whole lines) mid new stop
+      → StepStops number None (filter.so_far lines) (filter.whole lines) mid new stop
       → RunFails filter new past stop
   ends-stopped flag good whole number last (Fault at) stops = (
-    ends-badly filter mid past lines text flag good whole new number last at stops.0,
+    ends-badly filter mid past lines text flag good whole new sound number last at stops.0,
     adds-kept (filter.so_far lines) mid new past text.wrote left stops.1,
   )
   ends-stopped flag good whole number last Limit passes =
@@ -638,6 +617,9 @@ module _ (filter : Filter) (shows : List InputLine → List Awaited → Type 0)
       last-text = text-grows (filter.so_far (ended_lines_of past.fed)) (filter.so_far last) shown held mid past is.text
           moved
 
+      pub last-sound : (filter.so_far last).fault ≡ None
+      last-sound = moved.kept.good
+
       pub last-good : AreUnfailed mid
       last-good = record {
         output = moved.kept.output_good ∙ is.unfailed.output;
@@ -649,10 +631,9 @@ module _ (filter : Filter) (shows : List InputLine → List Awaited → Type 0)
 
     -- it ended the run
     pub last-fails : IsLawful filter → (at : At)
-        → LineStops (length (ended_lines_of past.fed) + 1)
-        (is_some (filter.memory_after (ended_lines_of past.fed) (piece_line is.tail false)))
-        (filter.so_far (ended_lines_of past.fed)) (filter.so_far last)
-        held.output mid.output held.messages mid.messages at
+        → AtLine (length (ended_lines_of past.fed) + 1)
+        (filter.memory_after (ended_lines_of past.fed) (piece_line is.tail false))
+        (filter.so_far (ended_lines_of past.fed)) (filter.so_far last) held mid at
         → LineFails filter mid past at
     last-fails lawful at (inl memory) =
         let ended : List InputLine = ended_lines_of past.fed in
@@ -666,7 +647,7 @@ module _ (filter : Filter) (shows : List InputLine → List Awaited → Type 0)
           others = piece_line is.tail false ∷ [];
           first = whole;
           number = memory.0.1;
-          cut = cut-by (filter.so_far ended) (filter.so_far last) _ held mid past is.text memory.1;
+          cut = cut-by (filter.so_far ended) (filter.so_far last) _ held mid past is.good is.text memory.1;
           lacking = lacking-by (filter.so_far ended) (filter.so_far last) _ held mid is.unfailed memory.1;
         })
     last-fails lawful at (inr ends) =
@@ -686,7 +667,7 @@ module _ (filter : Filter) (shows : List InputLine → List Awaited → Type 0)
 
     pub last-stopped : IsLawful filter → (stop : Stop)
         → StepStops (length (ended_lines_of past.fed) + 1)
-        (is_some (filter.memory_after (ended_lines_of past.fed) (piece_line is.tail false)))
+        (filter.memory_after (ended_lines_of past.fed) (piece_line is.tail false))
         (filter.so_far (ended_lines_of past.fed)) (filter.so_far last) held mid stop
         → RunFails filter mid past stop
     last-stopped lawful (Fault at) stops = (
@@ -694,5 +675,5 @@ module _ (filter : Filter) (shows : List InputLine → List Awaited → Type 0)
       adds-kept (filter.so_far (ended_lines_of past.fed)) held mid past is.text.wrote is.left stops.1,
     )
     last-stopped lawful Limit passes =
-        passes-after filter held past (ended_lines_of past.fed) is.text is.left mid (piece_line is.tail false ∷ [])
-        (all-but_last some) passes
+        passes-after filter held past (ended_lines_of past.fed) is.text is.left mid is.good
+        (piece_line is.tail false ∷ []) (all-but_last some) passes

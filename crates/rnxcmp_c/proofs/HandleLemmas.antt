@@ -16,10 +16,11 @@ use Rattle.rnxcmp_c.specs.Handles.{ReaderStands, RunIsOverLimit}
 use Rattle.rnxcmp_c.specs.Handles.{ReaderHasEnded, answer_now}
 use Rattle.rnxcmp_c.specs.Holding.{HoldsNothing}
 use Rattle.rnxcmp_c.proofs.PieceLemmas.{none-or}
-use Rattle.rnxcmp_c.specs.Handles.{StandsBy}
+use Rattle.rnxcmp_c.specs.Handles.{IsLineReached, StandsBy}
 use Rattle.rnxcmp_c.specs.Handles.{RunIsOutOfMemory}
 use Rattle.rnxcmp_c.specs.meaning.Handles.{Task, HandlePast, fed_with, limit_for, nothing_fed, result_for, IsMisused}
-use Rattle.rnxcmp_c.specs.meaning.Handles.{IsLineEnded, IsLineReached, allowed_after, filter_for}
+use Rattle.rnxcmp_c.specs.meaning.Handles.{allowed_after, filter_for}
+use Rattle.rnxcmp_c.specs.Going.{IsLineEnded}
 use Rattle.crx_runs.specs.meaning.Filters.{Filter}
 use Rattle.rnxcmp_c.specs.meaning.Answers.{line_in}
 use Rattle.rnxcmp_c.specs.declared.answer.Answer.{Answer}

@@ -1,12 +1,12 @@
 -- What the state of a reader says of its run, in the words of the promise.
-use Rattle.std.proofs.Common.{◌≡◌, inl, inr, ⊎_elim, ℕ, ◌<◌, ◌≤◌, List, [], ◌∷◌, ◌++◌, length, map, reverse}
-use Rattle.std.proofs.Common.{take, drop, append_assoc, Option, Some, None, is_some, true, false, arith, refl}
-use Rattle.std.proofs.Common.{sym, ap, ◌∙◌, subst, append-nil}
+use Rattle.std.proofs.Common.{◌≡◌, ◌⊎◌, inl, inr, ⊎_elim, ℕ, ◌<◌, ◌≤◌, List, [], ◌∷◌, ◌++◌, length, map}
+use Rattle.std.proofs.Common.{reverse, take, drop, append_assoc, Option, Some, None, is_some, true, false}
+use Rattle.std.proofs.Common.{arith, refl, sym, ap, ◌∙◌, subst, append-nil}
 use Rattle.std.proofs.lemmas.List.{map-append, reverse-append}
 use Rattle.crx_faults.specs.meaning.Lines.{InputLine, lines_of}
 use Rattle.crx_faults.specs.meaning.Seen.{ReadLine, ended_lines_of, seen}
 use Rattle.crx_faults.specs.declared.fault.At.{At}
-use Rattle.crx_faults.specs.declared.fault.Fault.TheVariants.{InputTooLong}
+use Rattle.crx_faults.specs.declared.fault.Fault.TheVariants.{InputTooLong, OutOfMemory}
 use Rattle.crx_reading.specs.meaning.Compacted.{rinex_place, whole_rinex}
 use Rattle.crx_reading.specs.meaning.Directions.{compact_reading, rinex_reading}
 use Rattle.crx_reading.specs.meaning.Expanded.{whole_compact}
@@ -18,13 +18,16 @@ use Rattle.crx_filter.proofs.reading.Prefixes.{AreMore, whole-items}
 use Rattle.crx_runs.specs.meaning.Filters.{Filter, with_next}
 use Rattle.crx_runs.specs.meaning.Messages.{error_text, notices_text}
 use Rattle.crx_runs.specs.meaning.Results.{Begins}
+use Rattle.crx_runs.specs.meaning.Spans.{AreNext}
 use Rattle.crx_runs.specs.declared.outcome.Outcome.{Outcome}
 use Rattle.rnxcmp_c.specs.Going.{IsGoing}
 use Rattle.rnxcmp_c.specs.Handles.{ReaderRuns, ReaderStands, RunIsOutOfMemory, RunIsOverLimit}
-use Rattle.rnxcmp_c.specs.Handles.{RunIsTooLong, StandsBy, answer_now, fault_now, shows_of, status_now}
+use Rattle.rnxcmp_c.specs.Handles.{IsLineReached, RunIsTooLong, StandsBy, answer_now, fault_now, shows_of}
+use Rattle.rnxcmp_c.specs.Handles.{state_now, status_now}
 use Rattle.rnxcmp_c.specs.Handles.{Feeds, FeedsBy, FeedsBytes, HasFedBy, HasPassedBy}
 use Rattle.rnxcmp_c.specs.Handles.{HasEndedBy, ReaderHasEnded, ReaderIsOver}
-use Rattle.rnxcmp_c.specs.Opened.{have_ended, texts_in}
+use Rattle.rnxcmp_c.specs.Holding.{texts_of_held}
+use Rattle.rnxcmp_c.specs.Opened.{have_ended, run_in, texts_in}
 use Rattle.rnxcmp_c.specs.Waiting.{waiting}
 use Rattle.rnxcmp_c.specs.declared.answer.Answer.{Answer}
 use Rattle.rnxcmp_c.specs.declared.answer.TheConstants.{OUTPUT_LIMIT}
@@ -32,18 +35,19 @@ use Rattle.rnxcmp_c.specs.declared.held.Held.{Held}
 use Rattle.rnxcmp_c.specs.declared.limits.TheConstants.{READY_LIMIT}
 use Rattle.rnxcmp_c.specs.declared.reader.Reader.{Reader}
 use Rattle.rnxcmp_c.specs.meaning.Answers.{fault_code_in, line_in}
-use Rattle.rnxcmp_c.specs.meaning.Handles.{HandlePast, HandlePromise, IsPartBetween, KeptTexts, RunHasEnded}
-use Rattle.rnxcmp_c.specs.meaning.Handles.{RunHasNoMemory}
-use Rattle.rnxcmp_c.specs.meaning.Handles.{RunHasResult, RunIsFull, RunIsLimited, RunWasEnded, TakesBytes}
-use Rattle.rnxcmp_c.specs.meaning.Handles.{Task, Compact}
-use Rattle.rnxcmp_c.specs.meaning.Handles.{Expand, Check, allowed_after, fault_message, fed_with, filter_for}
-use Rattle.rnxcmp_c.specs.meaning.Handles.{handle_answer, limit_for, made_by_lines, messages_made}
-use Rattle.rnxcmp_c.specs.meaning.Handles.{output_made, ready}
-use Rattle.rnxcmp_c.specs.meaning.Handles.{IsLastLine, IsLineEnded, IsLineReached, result_for, with_one_more}
+use Rattle.rnxcmp_c.specs.meaning.Handles.{BothTexts, HandlePast, HandlePromise}
+use Rattle.rnxcmp_c.specs.Handles.{IsLastLine}
+use Rattle.rnxcmp_c.specs.Going.{IsLineEnded}
+use Rattle.rnxcmp_c.specs.meaning.Handles.{RunHasEnded, RunHasNoMemory, RunHasResult, RunIsFull, RunIsLimited}
+use Rattle.rnxcmp_c.specs.meaning.Handles.{RunWasEnded, TakesBytes, Task, Compact, Expand, Check}
+use Rattle.rnxcmp_c.specs.meaning.Handles.{allowed_after, fault_message, fed_with, filter_for, handle_answer}
+use Rattle.rnxcmp_c.specs.meaning.Handles.{limit_for, made_by_lines, ready, result_for, texts_made}
+use Rattle.rnxcmp_c.specs.meaning.Handles.{with_one_more}
+use Rattle.rnxcmp_c.proofs.Cut.{begins-next}
 use Rattle.rnxcmp_c.proofs.GoingLemmas.{begins-then, notices-both}
 use Rattle.rnxcmp_c.proofs.HandleLemmas.{feeds-answer, none-fed}
 use Rattle.rnxcmp_c.proofs.PieceLemmas.{none-or}
-use Rattle.rnxcmp_c.proofs.ReaderLemmas.{fault-at, filter-is, lawful-for, one_more-first, output-for}
+use Rattle.rnxcmp_c.proofs.ReaderLemmas.{fault-at, filter-is, lawful-for, output-for}
 
 -- ---- warnings
 
@@ -105,15 +109,8 @@ module _ (task : Task) (input : List ℕ) (lines others : List InputLine) (first
       (subst (λ ls. Begins (notices_text ((filter_for task).whole ls).warnings)
       (notices_text ((filter_for task).so_far lines).warnings)) (sym first) (warned-first task lines others))
 
--- so does what they make with the next one, or with the end; and a part of that
+-- so do the warnings of the next one, or of the end
 module _ (task : Task) (input : List ℕ) (lines : List InputLine) where
-  output-next : (others : List InputLine) → lines_of input ≡ lines ++ others
-      → Begins (result_for task input).output (with_one_more (filter_for task) lines others).output
-  output-next others first =
-      subst (λ t. Begins t (with_one_more (filter_for task) lines others).output)
-      (sym (output-for task input ∙ ap (λ ls. ((filter_for task).whole ls).output) first))
-      (one_more-first (filter_for task) (lawful-for task) lines others)
-
   messages-next : (others : List InputLine) → lines_of input ≡ lines ++ others
       → Begins (result_for task input).messages
       (notices_text (with_one_more (filter_for task) lines others).warnings)
@@ -125,35 +122,30 @@ module _ (task : Task) (input : List ℕ) (lines : List InputLine) where
       messages-first task input (with_next lines line) others (first ∙ sym (append_assoc lines
       (line ∷ []) others))
 
-  output-part : (others : List InputLine) → lines_of input ≡ lines ++ others → (text : List ℕ)
-      → IsPartBetween ((filter_for task).so_far lines).output (with_one_more
-      (filter_for task) lines others).output text
-      → Begins (result_for task input).output text
-  output-part others first text part =
-      ⊎_elim (λ same. subst (Begins (result_for task input).output) (sym same)
-      (output-first task input lines others first))
-      (λ begins. begins-then _ _ _ (output-next others first) begins) part.first
-
-  messages-part : (others : List InputLine) → lines_of input ≡ lines ++ others → (text : List ℕ)
-      → IsPartBetween (notices_text ((filter_for task).so_far lines).warnings)
-      (notices_text (with_one_more (filter_for task) lines others).warnings) text
-      → Begins (result_for task input).messages text
-  messages-part others first text part =
-      ⊎_elim (λ same. subst (Begins (result_for task input).messages) (sym same)
+  -- the warnings of the lines before it, and then some of its own
+  messages-own : (others : List InputLine) → lines_of input ≡ lines ++ others → (notices : List At)
+      → (notices ≡ []) ⊎ AreNext ((filter_for task).so_far lines)
+      (with_one_more (filter_for task) lines others) notices
+      → Begins (result_for task input).messages
+      (notices_text ((filter_for task).so_far lines).warnings ++ notices_text notices)
+  messages-own others first notices own =
+      let before : List At = ((filter_for task).so_far lines).warnings in
+      ⊎_elim
+      (λ none. subst (Begins (result_for task input).messages)
+      (sym (ap (λ ns. notices_text before ++ notices_text ns) none ∙ append-nil (notices_text before)))
       (messages-first task input lines others first))
-      (λ begins. begins-then _ _ _ (messages-next others first) begins) part.first
+      (λ next. begins-then _ _ _ (messages-next others first)
+      (begins-next ((filter_for task).so_far lines) (with_one_more (filter_for task) lines others) notices
+      next)) own
 
 -- ---- answers
-
-abbrev kept_in : Reader → KeptTexts
-kept_in reader = record { output = waiting reader.held.output; messages = waiting reader.held.messages }
 
 abbrev answer_by : Option Outcome → Reader → Answer
 answer_by outcome reader =
     handle_answer (status_now outcome) (line_in (fault_now outcome)) (fault_code_in (fault_now outcome))
-    (kept_in reader)
+    (texts_of_held reader.held)
 
-answers-same : (kept : KeptTexts) (status then : ℕ) (fault found : Option At) → status ≡ then → fault ≡ found
+answers-same : (kept : BothTexts) (status then : ℕ) (fault found : Option At) → status ≡ then → fault ≡ found
     → handle_answer status (line_in fault) (fault_code_in fault) kept
     ≡ handle_answer then (line_in found) (fault_code_in found) kept
 answers-same kept status then fault found same is =
@@ -163,15 +155,21 @@ answers-same kept status then fault found same is =
 -- ---- the cases
 
 module _ (task : Task) (reader : Reader) (past : HandlePast) where
-  runs-on : ReaderRuns task reader past → HandlePromise false task past (kept_in reader) (answer_by None reader)
+  runs-on : ReaderRuns task reader past
+      → HandlePromise (state_now None) task past (texts_of_held reader.held) (answer_by None reader)
   runs-on runs =
       let going = subst (λ (f : Filter). IsGoing f (shows_of reader.engine) reader.held past)
       (filter-is task reader.engine runs.is_of) runs.going in
       let lines = ended_lines_of past.fed in
       record {
+        answered = refl;
         run = record {
           answered = refl;
-          made = record { good = going.good; output = going.text.wrote; messages = going.text.reported };
+          made = record {
+            good = going.good;
+            output = going.text.wrote;
+            messages = append-nil (notices_text (made_by_lines task past.fed).warnings) ∙ going.text.reported;
+          };
           begun = λ (more : List ℕ). record {
             output = subst (Begins (result_for task (past.fed ++ more)).output) going.text.wrote
                 (output-first task (past.fed ++ more) lines (lines_of (going.tail ++ more)) (going.cut more));
@@ -187,122 +185,140 @@ module _ (task : Task) (reader : Reader) (past : HandlePast) where
   short-of_memory : (is_line : ℕ → Type 0) (outcome : Outcome) (input : List ℕ)
       → RunIsOutOfMemory (filter_for task) (limit_for task) is_line input
       (result_for task input) reader outcome past
-      → RunHasNoMemory is_line task (record past { fed = input }) (kept_in reader) (answer_by
+      → RunHasNoMemory is_line task (record past { fed = input }) (texts_of_held reader.held) (answer_by
       (Some outcome) reader)
-  short-of_memory is_line outcome input ran = record {
-    answered = answers-same (kept_in reader) outcome.status 1 outcome.fault _ ran.status
-        (fault-at outcome.fault ran.memory);
-    made = ⊎_elim (λ by. inl (by.at, by.made)) (λ hidden. inr hidden) ran.made;
-    output = ⊎_elim
-        (λ by. output-part task input by.made.lines by.made.others by.made.first _ by.made.cut.output_is)
-        (λ hidden. record {
-          rest = [];
-          same = hidden.output_is ∙ sym (append-nil (output_made past
-              (kept_in reader)));
-        })
-        ran.made;
-    messages = ⊎_elim
-        (λ by.
-        let begins = messages-part task input by.made.lines by.made.others by.made.first _
-        by.made.cut.warnings_are in
-        ⊎_elim
-        (λ same. inl (record {
-          first = by.made.warnings;
-          begins = begins;
-          whole = same ∙ sym (append-nil by.made.warnings);
-        }))
-        (λ more. inr (record { first = by.made.warnings; begins = begins; whole = more })) by.made.said)
-        (λ hidden. inl (record {
-          first = messages_made past (kept_in reader);
-          begins = record { rest = error_text (result_for task input).fault; same = hidden.messages_are };
-          whole = sym (append-nil (messages_made past (kept_in reader)));
-        }))
-        ran.made;
-  }
+  short-of_memory is_line outcome input ran =
+      let kept = texts_of_held reader.held in
+      let texts = texts_made past kept in
+      let answered = answers-same kept outcome.status 1 outcome.fault _ ran.status
+      (fault-at outcome.fault ran.memory) in
+      ⊎_elim
+      (λ by.
+      let stops = by.made in
+      let before : List ℕ = notices_text ((filter_for task).so_far stops.lines).warnings in
+      let own : List ℕ = notices_text stops.notices in
+      record {
+        answered = answered;
+        made = inl (by.at, stops);
+        begun = record { output = texts.output; messages = before ++ own };
+        begins = record {
+          output = subst (Begins (result_for task input).output) stops.made.output
+              (output-first task input stops.lines stops.others stops.first);
+          messages = messages-own task input stops.lines stops.others stops.first stops.notices stops.own;
+        };
+        output = refl;
+        messages = ⊎_elim
+            (λ none. inl (sym stops.made.messages ∙ ap (λ t. before ++ (own ++ t)) none
+            ∙ ap (λ t. before ++ t) (append-nil own)))
+            (λ more. inr (sym stops.made.messages ∙ ap (λ t. before ++ (own ++ t)) more
+            ∙ sym (append_assoc before own (fault_message (line_in outcome.fault) OutOfMemory))))
+            stops.last_is;
+      })
+      (λ hidden. record {
+        answered = answered;
+        made = inr hidden;
+        begun = texts;
+        begins = record {
+          output = record { rest = []; same = hidden.output_is ∙ sym (append-nil texts.output) };
+          messages = record { rest = error_text (result_for task input).fault; same = hidden.messages_are };
+        };
+        output = refl;
+        messages = inl refl;
+      })
+      ran.made
 
   is-full : (outcome : Outcome) → RunIsTooLong (filter_for task) (limit_for task) reader outcome past
-      → RunIsFull task past (kept_in reader) (answer_by (Some outcome) reader)
+      → RunIsFull task past (texts_of_held reader.held) (answer_by (Some outcome) reader)
   is-full outcome long = ⊎_elim
       (λ said. inl (record {
         full = long.full;
-        answered = answers-same (kept_in reader) outcome.status 1 outcome.fault _ long.status said.0;
-        output = long.output;
-        messages = sym said.1
-            ∙ ap (λ (n : ℕ). notices_text (made_by_lines task past.fed).warnings ++ fault_message n
-            InputTooLong)
-            (sym (ap line_in said.0));
+        answered = answers-same (texts_of_held reader.held) outcome.status 1 outcome.fault _ long.status said.0;
+        made = record {
+          good = long.good;
+          output = long.output;
+          messages = ap
+              (λ (n : ℕ). notices_text (made_by_lines task past.fed).warnings ++ fault_message n InputTooLong)
+              (ap line_in said.0) ∙ said.1;
+        };
       }))
       (λ hidden. inr (record {
         full = long.full;
-        answered = answers-same (kept_in reader) outcome.status 1 outcome.fault _ long.status hidden.0;
-        output = long.output;
-        messages = sym hidden.1;
+        answered = answers-same (texts_of_held reader.held) outcome.status 1 outcome.fault _ long.status hidden.0;
+        made = record {
+          good = long.good;
+          output = long.output;
+          messages = append-nil (notices_text (made_by_lines task past.fed).warnings) ∙ hidden.1;
+        };
       }))
       long.said
 
   over-limit : (outcome : Outcome) (input : List ℕ)
       → RunIsOverLimit (filter_for task) (limit_for task) input (result_for task input) reader outcome past
-      → RunIsLimited task (record past { fed = input }) (kept_in reader) (answer_by (Some outcome) reader)
-  over-limit outcome input over = (
-    record {
-      answered = answers-same (kept_in reader) outcome.status OUTPUT_LIMIT outcome.fault None over.status
-          over.fault;
-      exceeds = (over.limited, over.longer);
-      begun = record {
-        output = subst (Begins (result_for task input).output) over.output
-            (output-first task input over.lines over.others over.first);
-        messages = subst (Begins (result_for task input).messages) over.messages
-            (messages-first task input over.lines over.others over.first);
-      };
-    },
-    record {
-      lines = over.lines;
-      others = over.others;
-      first = over.first;
-      within = over.within;
-      over = over.over;
-      output = over.output;
-      messages = over.messages;
-    },
-  )
+      → RunIsLimited task (record past { fed = input }) (texts_of_held reader.held)
+      (answer_by (Some outcome) reader)
+  over-limit outcome input over =
+      let warnings : List ℕ = notices_text ((filter_for task).so_far over.lines).warnings in
+      let messages = sym (append-nil warnings) ∙ over.made.messages in
+      record {
+        passes = record {
+          answered = answers-same (texts_of_held reader.held) outcome.status OUTPUT_LIMIT outcome.fault None
+              over.status over.fault;
+          exceeds = (over.limited, over.longer);
+          begun = record {
+            output = subst (Begins (result_for task input).output) over.made.output
+                (output-first task input over.lines over.others over.first);
+            messages = subst (Begins (result_for task input).messages) messages
+                (messages-first task input over.lines over.others over.first);
+          };
+        };
+        lines = over.lines;
+        others = over.others;
+        first = over.first;
+        within = over.within;
+        over = over.over;
+        made = over.made;
+      }
 
   has-result : (outcome : Outcome) (input : List ℕ)
       → ReaderIsOver (limit_for task) (result_for task input) reader outcome past
-      → RunHasResult (result_for task input) past (kept_in reader) (answer_by (Some outcome) reader)
+      → RunHasResult (result_for task input) past (texts_of_held reader.held) (answer_by (Some outcome) reader)
   has-result outcome input over = record {
-    answered = answers-same (kept_in reader) outcome.status _ outcome.fault _ over.status over.fault;
+    answered = answers-same (texts_of_held reader.held) outcome.status _ outcome.fault _ over.status over.fault;
     output = over.output;
     messages = over.messages;
   }
 
   stands-by : (outcome : Option Outcome) → StandsBy task reader past outcome
-      → HandlePromise (is_some outcome) task past (kept_in reader) (answer_by outcome reader)
+      → HandlePromise (state_now outcome) task past (texts_of_held reader.held) (answer_by outcome reader)
   stands-by None runs = runs-on runs
   stands-by (Some outcome) (inl ran) = record {
+    answered = refl;
     run = inl (inr (inr (short-of_memory (IsLineReached past.fed) outcome past.fed ran)));
     within = ran.within;
   }
   stands-by (Some outcome) (inr (inl over)) = record {
+    answered = refl;
     run = inl (inr (inl (over-limit outcome past.fed over)));
-    within = λ limited. omega (arith, over.within, ap length over.output);
+    within = λ limited. omega (arith, over.within, ap length over.made.output);
   }
   stands-by (Some outcome) (inr (inr (inl long))) = record {
-    run = inr
-        (is-full outcome long);
+    answered = refl;
+    run = inr (is-full outcome long);
     within = long.within;
   }
   stands-by (Some outcome) (inr (inr (inr over))) = record {
+    answered = refl;
     run = inl (inl (has-result outcome past.fed over));
     within = over.within;
   }
 
   pub reader-promise : ReaderStands task reader past
-      → HandlePromise (is_some reader.outcome) task past (kept_in reader) (answer_now reader)
+      → HandlePromise (state_now reader.outcome) task past (texts_of_held reader.held) (answer_now reader)
   reader-promise stands = stands-by reader.outcome stands
 
   ended-by : (outcome : Option Outcome) → HasEndedBy task reader past outcome
       → (is_some outcome ≡ true)
-      × RunHasEnded (IsLastLine past.fed) task past (kept_in reader) (answer_by outcome reader)
+      × RunHasEnded (IsLastLine past.fed) task past (texts_of_held reader.held) (answer_by outcome reader)
   ended-by None ended = absurd ended
   ended-by (Some outcome) (inl ran) =
       (refl, inr (inr (short-of_memory (IsLastLine past.fed) outcome past.fed ran)))
@@ -310,12 +326,12 @@ module _ (task : Task) (reader : Reader) (past : HandlePast) where
   ended-by (Some outcome) (inr (inr over)) = (refl, inl (has-result outcome past.fed over))
 
   pub reader-ended : ReaderHasEnded task reader past
-      → (is_some reader.outcome ≡ true) × RunHasEnded (IsLastLine past.fed) task past (kept_in reader)
+      → (is_some reader.outcome ≡ true) × RunHasEnded (IsLastLine past.fed) task past (texts_of_held reader.held)
       (answer_now reader)
   reader-ended ended = ended-by reader.outcome ended
 
   fed-ended : (before left : List ℕ) (outcome : Option Outcome) → is_some outcome ≡ true
-      → HasFedBy before task reader past outcome → RunWasEnded task before past left (kept_in reader)
+      → HasFedBy before task reader past outcome → RunWasEnded task before past left (texts_of_held reader.held)
       (answer_by outcome reader)
   fed-ended before left None ended fed = absurd (cc)
   fed-ended before left (Some outcome) ended (inl memory) =
@@ -326,11 +342,11 @@ module _ (task : Task) (reader : Reader) (past : HandlePast) where
   fed-ended before left (Some outcome) ended (inr (inr over)) =
       inl (over.0, λ (more : List ℕ). has-result outcome (past.fed ++ more) (over.1 more))
 
-  passed-ended : (before left : List ℕ) → 0 < length left → (outcome : Option Outcome)
-      → HasPassedBy task reader past outcome → RunWasEnded task before past left (kept_in reader)
+  passed-ended : (left : List ℕ) → 0 < length left → (outcome : Option Outcome)
+      → HasPassedBy task reader past outcome → RunWasEnded task past.fed past left (texts_of_held reader.held)
       (answer_by outcome reader)
-  passed-ended before left some None passed = absurd passed
-  passed-ended before left some (Some outcome) long = inr (inr (inr (some, is-full outcome long)))
+  passed-ended left some None passed = absurd passed
+  passed-ended left some (Some outcome) long = inr (inr (inr (some, refl, is-full outcome long)))
 
   passed-some : (outcome : Option Outcome) → HasPassedBy task reader past outcome → is_some outcome ≡ true
   passed-some None passed = absurd passed
@@ -339,7 +355,7 @@ module _ (task : Task) (reader : Reader) (past : HandlePast) where
 -- what bytes have ended
 module _ (task : Task) (old new : Reader) (past : HandlePast) (bytes : List ℕ) (used : ℕ) (answer : Answer) where
   abbrev Ended : HandlePast → ℕ → Type 0
-  Ended then count = RunWasEnded task past.fed then (drop count bytes) (kept_in new) (answer_now new)
+  Ended then count = RunWasEnded task past.fed then (drop count bytes) (texts_of_held new.held) (answer_now new)
 
   feeds-ended : (outcome : Option Outcome) → is_some outcome ≡ false → is_some new.outcome ≡ true
       → FeedsBy task old new past bytes used answer outcome → Ended (fed_with past (take used bytes)) used
@@ -354,7 +370,7 @@ module _ (task : Task) (old new : Reader) (past : HandlePast) (bytes : List ℕ)
       (λ none. subst (λ (then : HandlePast). Ended then used)
       (none-fed past bytes used (feeds.over more none).0)
       (subst (Ended past) (sym (feeds.over more none).0)
-      (passed-ended task new past past.fed bytes more new.outcome (feeds.over more none).1)))
+      (passed-ended task new past bytes more new.outcome (feeds.over more none).1)))
       (λ some. goes_on (λ h. some)) (none-or (length (allowed_after past bytes))))
       (none-or (length bytes))
   feeds-ended (Some outcome) runs ended feeds = absurd (cc)
@@ -368,7 +384,7 @@ module _ (task : Task) (old new : Reader) (past : HandlePast) (bytes : List ℕ)
       (drop used bytes) (texts_in l)
       answer) (sym holds)
       (subst (λ (a : Answer). RunWasEnded task past.fed (fed_with past (take used bytes)) (drop used bytes)
-      (kept_in new) a)
+      (texts_of_held new.held) a)
       (sym (feeds-answer task old new past answer bytes used old.outcome runs feeds))
       (feeds-ended old.outcome runs (sym (ap have_ended holds) ∙ ended) feeds))
 
@@ -376,7 +392,7 @@ module _ (task : Task) (old new : Reader) (past : HandlePast) (bytes : List ℕ)
   takes-all : (outcome : Option Outcome) → new.outcome ≡ outcome
       → FeedsBytes task old new past bytes used answer
       → used < length (allowed_after past bytes)
-      → (is_some new.outcome ≡ false) × (READY_LIMIT ≤ ready (kept_in new))
+      → (is_some new.outcome ≡ false) × (READY_LIMIT ≤ ready (texts_of_held new.held))
   takes-all None is feeds less = (ap (λ (o : Option Outcome). is_some o) is, feeds.all is less)
   takes-all (Some outcome) is feeds less =
       absurd (omega (
@@ -392,7 +408,7 @@ module _ (task : Task) (old new : Reader) (past : HandlePast) (bytes : List ℕ)
 
   takes-bytes : (outcome : Option Outcome) → is_some outcome ≡ false
       → FeedsBy task old new past bytes used answer outcome
-      → TakesBytes task past bytes used (kept_in old) (kept_in new) (is_some new.outcome)
+      → TakesBytes task past bytes used (texts_of_held old.held) (texts_of_held new.held) (is_some new.outcome)
   takes-bytes None runs feeds = record {
     within = feeds.within;
     some = feeds.some;
@@ -401,7 +417,7 @@ module _ (task : Task) (old new : Reader) (past : HandlePast) (bytes : List ℕ)
     still = λ some full.
         let still = feeds.still some full in (
           still.0,
-          ap (λ (h : Held). let kept : KeptTexts = record {
+          ap (λ (h : Held). let kept : BothTexts = record {
             output = waiting h.output;
             messages = waiting h.messages;
           } in kept) still.1,
@@ -421,7 +437,7 @@ module _ (task : Task) (old new : Reader) (past : HandlePast) (bytes : List ℕ)
       subst (λ (l : List Reader). TakesBytes task past bytes used (texts_in l) (texts_in news)
       (have_ended news))
       (sym held)
-      (subst (λ (l : List Reader). TakesBytes task past bytes used (kept_in old) (texts_in l)
+      (subst (λ (l : List Reader). TakesBytes task past bytes used (texts_of_held old.held) (texts_in l)
       (have_ended l)) (sym holds)
       (takes-bytes old.outcome (sym (ap have_ended held) ∙ runs) feeds))
 
@@ -429,10 +445,11 @@ module _ (task : Task) (old new : Reader) (past : HandlePast) (bytes : List ℕ)
 module _ (task : Task) (readers : List Reader) (reader : Reader) (past : HandlePast) (answer : Answer)
     (holds : readers ≡ reader ∷ []) (answers : answer ≡ answer_now reader) where
   pub handle-promise : ReaderStands task reader past
-      → HandlePromise (have_ended readers) task past (texts_in readers) answer
+      → HandlePromise (run_in readers) task past (texts_in readers) answer
   handle-promise stands =
-      subst (λ (l : List Reader). HandlePromise (have_ended l) task past (texts_in l) answer) (sym holds)
-      (subst (λ (a : Answer). HandlePromise (is_some reader.outcome) task past (kept_in reader) a) (sym answers)
+      subst (λ (l : List Reader). HandlePromise (run_in l) task past (texts_in l) answer) (sym holds)
+      (subst (λ (a : Answer). HandlePromise (state_now reader.outcome) task past (texts_of_held reader.held) a)
+      (sym answers)
       (reader-promise task reader past stands))
 
   pub handle-ended : ReaderHasEnded task reader past
@@ -441,5 +458,5 @@ module _ (task : Task) (readers : List Reader) (reader : Reader) (past : HandleP
       subst (λ (l : List Reader). (have_ended l ≡ true) × RunHasEnded (IsLastLine past.fed) task past
       (texts_in l) answer) (sym holds)
       (subst (λ (a : Answer). (is_some reader.outcome ≡ true) × RunHasEnded (IsLastLine past.fed) task past
-      (kept_in reader) a) (sym answers)
+      (texts_of_held reader.held) a) (sym answers)
       (reader-ended task reader past ended))

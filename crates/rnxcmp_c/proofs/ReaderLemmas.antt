@@ -1,7 +1,7 @@
 -- A reader's run has ended as the whole run of its input does.
 use Rattle.std.proofs.Common.{◌≡◌, ◌⊎◌, inl, inr, ⊎_elim, ℕ, List, [], ◌++◌, Option, Some, None, refl, sym, ap, ◌∙◌, subst}
 use Rattle.std.proofs.Common.{◌<◌, ◌≤◌, ◌+◌, ◌∷◌, is_some, arith, length, append-nil, append_assoc}
-use Rattle.std.proofs.Common.{length-append}
+use Rattle.std.proofs.Common.{length-append, take}
 use Rattle.crx_faults.specs.meaning.Lines.{InputLine, lines_of}
 use Rattle.crx_faults.specs.declared.limits.TheConstants.{INPUT_LIMIT}
 use Rattle.crx_faults.specs.declared.fault.At.{At}
@@ -20,7 +20,7 @@ use Rattle.crx_runs.specs.meaning.Runs.{FaultIs}
 use Rattle.rnxcmp_c.specs.Holding.{IsMemoryLacking}
 use Rattle.rnxcmp_c.specs.Waiting.{waiting}
 use Rattle.rnxcmp_c.specs.Going.{Breaks, EndsShort, IsAll, IsCutBy, IsGoing, IsText, LineFails, RunsShort}
-use Rattle.rnxcmp_c.specs.Going.{EndsPastLimit, IsPastLimit, RunBreaks, RunFails}
+use Rattle.rnxcmp_c.specs.Going.{EndsPastLimit, IsPastLimit, RunBreaks, RunFails, line_reached}
 use Rattle.rnxcmp_c.specs.declared.stop.Stop.{Stop}
 use Rattle.rnxcmp_c.specs.declared.stop.Stop.TheVariants.{Fault, Limit}
 use Rattle.rnxcmp_c.specs.Handles.{IsOf, ReaderIsOver, IsPut, IsPutDown, IsPutSilently}
@@ -30,9 +30,7 @@ use Rattle.rnxcmp_c.specs.Handles.{HasFedBy, HasEndedBy, engine_filter, has_ende
 use Rattle.rnxcmp_c.specs.meaning.Answers.{KeepsToLimit, line_in}
 use Rattle.rnxcmp_c.specs.Handles.{status_at_end}
 use Rattle.rnxcmp_c.specs.meaning.Handles.{Task, HandlePast, limit_for, result_for, Compact, Expand, Check}
-use Rattle.rnxcmp_c.specs.meaning.Handles.{IsCutBetween, fault_message, filter_for, line_reached}
-use Rattle.rnxcmp_c.specs.meaning.Handles.{next_takes_memory}
-use Rattle.rnxcmp_c.specs.meaning.Handles.{with_one_more}
+use Rattle.rnxcmp_c.specs.meaning.Handles.{fault_message, filter_for, memory_next, with_one_more}
 use Rattle.rnxcmp_c.specs.declared.engines.AnyEngine.{AnyEngine}
 use Rattle.rnxcmp_c.specs.declared.engines.AnyEngine.TheVariants.{Compacting, Expanding, Checking}
 use Rattle.rnxcmp_c.specs.declared.held.Held.{Held}
@@ -142,52 +140,69 @@ pub fault-at : (fault : Option At) → FaultIs OutOfMemory fault
 fault-at None is = absurd is
 fault-at (Some at) is = ap (λ (f : FaultOf). let a : At = record at { fault = f } in Some a) is
 
+-- the line that was reached is the last of those with the next one
+reached-lines : (lines others : List InputLine) → line_reached lines others ≡ length (lines ++ take 1 others)
+reached-lines lines [] = ap length (sym (append-nil lines))
+reached-lines lines (line ∷ others) = sym (length-append lines (line ∷ []))
+
 -- the run is out of memory at such a line
 module _ (filter : Filter) (limit : ℕ) (is_line : ℕ → Type 0) (input : List ℕ) (result : FilterResult)
     (reader : Reader) (mid : Held) (outcome : Outcome) (past : HandlePast) (line : ℕ)
     (short : IsShort mid reader.held outcome line)
     (few : KeepsToLimit limit (past.output ++ waiting mid.output)) where
-  said-or_not : ((past.messages ++ waiting reader.held.messages) ≡ (past.messages ++ waiting mid.messages))
-      ⊎ ((past.messages ++ waiting reader.held.messages)
-      ≡ (past.messages ++ waiting mid.messages) ++ fault_message (line_in outcome.fault) OutOfMemory)
-  said-or_not = ⊎_elim (λ same. inl (ap (λ t. past.messages ++ t) same))
-      (λ more. inr (ap (λ t. past.messages ++ t) more
-      ∙ sym (append_assoc past.messages (waiting mid.messages) (error_text outcome.fault))
-      ∙ ap (λ (f : Option At). (past.messages ++ waiting mid.messages) ++ error_text f)
-      (fault-at outcome.fault short.memory)))
+  abbrev last : List ℕ → Type 0
+  last text = (text ≡ []) ⊎ (text ≡ fault_message (line_in outcome.fault) OutOfMemory)
+
+  said-or_not : (text : List ℕ) × last text × (waiting reader.held.messages ≡ waiting mid.messages ++ text)
+  said-or_not = ⊎_elim (λ same. ([], inl refl, same ∙ sym (append-nil (waiting mid.messages))))
+      (λ more. (
+        error_text outcome.fault,
+        inr (ap error_text (fault-at outcome.fault short.memory)),
+        more,
+      ))
       short.messages
 
   short-at : is_line line → (lines others : List InputLine) → lines_of input ≡ lines ++ others
       → line ≡ line_reached lines others
-      → IsCutBy (filter.so_far lines) (with_one_more filter lines others)
-      (next_takes_memory filter lines others) mid past
-      → IsMemoryLacking (next_takes_memory filter lines others) mid
+      → IsCutBy (filter.so_far lines) (with_one_more filter lines others) (memory_next filter lines others)
+      mid past
+      → IsMemoryLacking (is_some (memory_next filter lines others)) mid
       → RunIsOutOfMemory filter limit is_line input result reader outcome past
-  short-at at lines others first number cut lacking = record {
-    memory = short.memory;
-    status = short.status;
-    made = inl (record {
-      at = subst is_line (sym short.line_is) at;
-      made = record {
-        lines = lines;
-        others = others;
-        first = first;
-        line_is = short.line_is ∙ number;
-        warnings = past.messages ++ waiting mid.messages;
-        cut = subst (λ t. IsCutBetween (filter.so_far lines) (with_one_more filter lines others)
-            (next_takes_memory filter lines others) (past.output ++ t)
-            (past.messages ++ waiting mid.messages))
-            (sym short.output) cut;
-        said = said-or_not;
-      };
-      lacking = ⊎_elim (λ takes. inl takes)
-          (λ failed. inr (⊎_elim
-          (λ output. inl (λ none. output (sym short.output_good ∙ none)))
-          (λ messages. inr (λ none. messages (sym short.messages_good ∙ none))) failed))
-          lacking;
-    });
-    within = subst (λ t. KeepsToLimit limit (past.output ++ t)) (sym short.output) few;
-  }
+  short-at at lines others first number cut lacking =
+      let said = said-or_not in
+      record {
+        memory = short.memory;
+        status = short.status;
+        made = inl (record {
+          at = subst is_line (sym short.line_is) at;
+          made = record {
+            lines = lines;
+            others = others;
+            first = first;
+            line_is = short.line_is ∙ number ∙ reached-lines lines others;
+            notices = cut.notices;
+            asked = cut.asked;
+            own = cut.own;
+            last = said.0;
+            last_is = said.1;
+            made = record {
+              good = cut.made.good;
+              output = cut.made.output ∙ ap (λ t. past.output ++ t) (sym short.output);
+              messages = sym (append_assoc (notices_text (filter.so_far lines).warnings)
+                  (notices_text cut.notices) said.0)
+                  ∙ ap (λ t. t ++ said.0) cut.made.messages
+                  ∙ append_assoc past.messages (waiting mid.messages) said.0
+                  ∙ ap (λ t. past.messages ++ t) (sym said.2);
+            };
+          };
+          lacking = ⊎_elim (λ takes. inl takes)
+              (λ failed. inr (⊎_elim
+              (λ output. inl (λ none. output (sym short.output_good ∙ none)))
+              (λ messages. inr (λ none. messages (sym short.messages_good ∙ none))) failed))
+              lacking;
+        });
+        within = subst (λ t. KeepsToLimit limit (past.output ++ t)) (sym short.output) few;
+      }
 
 module _ (task : Task) (engine : AnyEngine) (is : IsOf task engine)
     (reader : Reader) (mid : Held) (outcome : Outcome) (past : HandlePast) (at : At)
@@ -287,9 +302,9 @@ module _ (task : Task) (reader : Reader) (mid : Held) (outcome : Outcome) (past 
   is-over_limit : (input : List ℕ) (lines others : List InputLine) → lines_of input ≡ lines ++ others
       → 0 < limit_for task → length ((filter_for task).so_far lines).output ≤ limit_for task
       → limit_for task < length (with_one_more (filter_for task) lines others).output
-      → IsText ((filter_for task).so_far lines) mid past
+      → ((filter_for task).so_far lines).fault ≡ None → IsText ((filter_for task).so_far lines) mid past
       → RunIsOverLimit (filter_for task) (limit_for task) input (result_for task input) reader outcome past
-  is-over_limit input lines others first limited within over text =
+  is-over_limit input lines others first limited within over good text =
       let filter = filter_for task in
       let longer : Begins (result_for task input).output (with_one_more filter lines others).output =
       subst (λ t. Begins t (with_one_more filter lines others).output)
@@ -305,8 +320,12 @@ module _ (task : Task) (reader : Reader) (mid : Held) (outcome : Outcome) (past 
         first = first;
         within = within;
         over = over;
-        output = text.wrote ∙ ap (λ (h : Held). past.output ++ waiting h.output) (sym stopped.1);
-        messages = text.reported ∙ ap (λ (h : Held). past.messages ++ waiting h.messages) (sym stopped.1);
+        made = record {
+          good = good;
+          output = text.wrote ∙ ap (λ (h : Held). past.output ++ waiting h.output) (sym stopped.1);
+          messages = append-nil (notices_text (filter.so_far lines).warnings) ∙ text.reported
+              ∙ ap (λ (h : Held). past.messages ++ waiting h.messages) (sym stopped.1);
+        };
       }
 
   module _ (engine : AnyEngine) (is : IsOf task engine) (limit : mid.limit ≡ limit_for task) where
@@ -319,13 +338,13 @@ module _ (task : Task) (reader : Reader) (mid : Held) (outcome : Outcome) (past 
         let passes = subst (λ (f : Filter). IsPastLimit f mid past) (filter-is task engine is) limited in
         inr (inl (λ more. is-over_limit (past.fed ++ more) passes.lines (passes.line ∷ (passes.first more).0)
         (passes.first more).1 (limited-by passes.limited) (omega (arith, passes.within, limit))
-        (omega (arith, passes.over, limit)) passes.text))
+        (omega (arith, passes.over, limit)) passes.good passes.text))
 
     pub passes-at_end : EndsPastLimit (engine_filter engine) mid past → HasEndedBy task reader past (Some outcome)
     passes-at_end before =
         let passes = subst (λ (f : Filter). EndsPastLimit f mid past) (filter-is task engine is) before in
         inr (inl (is-over_limit past.fed passes.lines passes.others passes.first (limited-by passes.limited)
-        (omega (arith, passes.within, limit)) (omega (arith, passes.over, limit)) passes.text))
+        (omega (arith, passes.within, limit)) (omega (arith, passes.over, limit)) passes.good passes.text))
 
 -- what stopped a run is how it has ended
 pub stops-over : (before : List ℕ) (task : Task) (engine : AnyEngine) → IsOf task engine → (reader : Reader)

@@ -1,14 +1,14 @@
 -- What was taken from a handle was kept before, and how its run stands doesn't change by that.
-use Rattle.std.proofs.Common.{◌≡◌, ◌⊎◌, ⊎_elim, inl, inr, ℕ, List, ◌++◌, Option, Some, None, sym, ap, ◌∙◌}
+use Rattle.std.proofs.Common.{◌≡◌, ⊎_elim, inl, inr, ℕ, List, ◌++◌, Option, Some, None, sym, ap, ◌∙◌}
 use Rattle.std.proofs.Common.{subst, append_assoc}
-use Rattle.crx_faults.specs.declared.fault.Fault.TheVariants.{OutOfMemory}
 use Rattle.crx_faults.specs.meaning.Seen.{ended_lines_of}
 use Rattle.crx_runs.specs.declared.outcome.Outcome.{Outcome}
 use Rattle.crx_runs.specs.meaning.Messages.{error_text, notices_text}
-use Rattle.rnxcmp_c.specs.Handles.{IsSaid, RanOutBy, ReaderStands, StandsBy, too_long_after}
-use Rattle.rnxcmp_c.specs.meaning.Handles.{Task, HandlePast, limit_for, result_for, taken_with}
-use Rattle.rnxcmp_c.specs.meaning.Handles.{HidesFault, IsCutBetween, IsLineReached, fault_message, filter_for}
-use Rattle.rnxcmp_c.specs.meaning.Handles.{next_takes_memory, with_one_more}
+use Rattle.crx_runs.specs.meaning.Results.{Course}
+use Rattle.rnxcmp_c.specs.Handles.{IsLineReached, IsSaid, RanOutBy, ReaderStands, StandsBy, too_long_after}
+use Rattle.rnxcmp_c.specs.Holding.{texts_of_held}
+use Rattle.rnxcmp_c.specs.meaning.Handles.{HandlePast, HidesFault, IsMadeByLines, Task, filter_for, limit_for}
+use Rattle.rnxcmp_c.specs.meaning.Handles.{result_for, taken_with, texts_made}
 use Rattle.rnxcmp_c.specs.meaning.Answers.{KeepsToLimit, line_in}
 use Rattle.rnxcmp_c.specs.Waiting.{waiting}
 use Rattle.rnxcmp_c.specs.declared.pending.Pending.{Pending}
@@ -35,6 +35,14 @@ module _ (task : Task) (old : Reader) (past : HandlePast) (output messages : Pen
   same-messages : past.messages ++ waiting old.held.messages ≡ then.messages ++ waiting messages
   same-messages = sym (regrouped past.messages told (waiting messages) (waiting old.held.messages) reported)
 
+  same-made : (course : Course) (after : List ℕ) → IsMadeByLines course after (texts_made past (texts_of_held old.held))
+      → IsMadeByLines course after (texts_made then (texts_of_held new.held))
+  same-made course after made = record {
+    good = made.good;
+    output = made.output ∙ same-output;
+    messages = made.messages ∙ same-messages;
+  }
+
   ran-out : (outcome : Outcome)
       → RanOutBy (filter_for task) (IsLineReached past.fed) past.fed old (line_in outcome.fault) past
       → RanOutBy (filter_for task) (IsLineReached past.fed) past.fed new (line_in outcome.fault) then
@@ -45,14 +53,12 @@ module _ (task : Task) (old : Reader) (past : HandlePast) (output messages : Pen
       others = by.made.others;
       first = by.made.first;
       line_is = by.made.line_is;
-      warnings = by.made.warnings;
-      cut = subst (λ t. IsCutBetween ((filter_for task).so_far by.made.lines)
-          (with_one_more (filter_for task) by.made.lines by.made.others)
-          (next_takes_memory (filter_for task) by.made.lines by.made.others) t by.made.warnings) same-output
-          by.made.cut;
-      said = subst (λ t. (t ≡ by.made.warnings)
-          ⊎ (t ≡ by.made.warnings ++ fault_message
-          (line_in outcome.fault) OutOfMemory)) same-messages by.made.said;
+      notices = by.made.notices;
+      asked = by.made.asked;
+      own = by.made.own;
+      last = by.made.last;
+      last_is = by.made.last_is;
+      made = same-made _ _ by.made.made;
     };
     lacking = ⊎_elim (λ takes. inl takes)
         (λ failed. inr (⊎_elim
@@ -62,10 +68,8 @@ module _ (task : Task) (old : Reader) (past : HandlePast) (output messages : Pen
   }
 
   hidden : (outcome : Outcome)
-      → HidesFault (result_for task past.fed) (line_in outcome.fault) (past.output ++ waiting old.held.output)
-      (past.messages ++ waiting old.held.messages)
-      → HidesFault (result_for task past.fed) (line_in outcome.fault) (then.output ++ waiting output)
-      (then.messages ++ waiting messages)
+      → HidesFault (result_for task past.fed) (line_in outcome.fault) (texts_made past (texts_of_held old.held))
+      → HidesFault (result_for task past.fed) (line_in outcome.fault) (texts_made then (texts_of_held new.held))
   hidden outcome hides = record {
     faulty = hides.faulty;
     line_is = hides.line_is;
@@ -120,8 +124,7 @@ module _ (task : Task) (old : Reader) (past : HandlePast) (output messages : Pen
     first = over.first;
     within = over.within;
     over = over.over;
-    output = over.output ∙ same-output;
-    messages = over.messages ∙ same-messages;
+    made = same-made _ _ over.made;
   }))
   stands-by (Some outcome) (inr (inr (inl long))) = inr (inr (inl (record {
     full = long.full;

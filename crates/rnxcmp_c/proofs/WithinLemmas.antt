@@ -1,21 +1,31 @@
 -- The output stays within its limit, or what a line made is let go of.
-use Rattle.std.proofs.Common.{◌≡◌, ℕ, ◌<◌, ◌≤◌, ◌++◌, length, take, sym, ap, ◌∙◌, subst, arith, length-append}
-use Rattle.std.proofs.Common.{⊎_elim, Bool, Result, Ok, Err, IfErr, IsOk, OnOk}
+use Rattle.std.proofs.Common.{◌≡◌, ℕ, ◌<◌, ◌≤◌, List, [], ◌++◌, length, take, refl, sym, ap}
+use Rattle.std.proofs.Common.{◌∙◌, subst, arith, length-append, ◌⊎◌, inl, inr, ⊎_elim, append-nil, is_some}
+use Rattle.std.proofs.Common.{Option, Result, Ok, Err, IfErr, IsOk, OnOk}
 use Rattle.std.proofs.lemmas.List.{take_at}
 use Rattle.std.proofs.lemmas.Result.{IfErr-at_err}
 use Rattle.crx_faults.specs.declared.fault.At.{At}
+use Rattle.crx_faults.specs.declared.fault.Fault.TheVariants.{OutOfMemory}
+use Rattle.crx_runs.specs.declared.taking.Halt.{Halt}
+use Rattle.crx_runs.specs.declared.taking.Halt.TheVariants.{Fault as Faulty, Unwritten, Unreported}
 use Rattle.crx_runs.specs.meaning.Messages.{notices_text}
-use Rattle.crx_runs.specs.meaning.Results.{Course}
-use Rattle.rnxcmp_c.specs.Going.{LineStops, MovesOn, MovesWithin, PassesLimit, StepStops}
-use Rattle.rnxcmp_c.specs.Holding.{IsCutBack, StaysWithin, StopsCounted}
+use Rattle.crx_runs.specs.meaning.Results.{Begins, Course}
+use Rattle.rnxcmp_c.specs.Going.{EndsThere, LosesText, MovesOn, MovesWithin, PassesLimit}
+use Rattle.rnxcmp_c.specs.Going.{RanOutAt, StepStops, StopsBy, StopsShort}
+use Rattle.rnxcmp_c.specs.Holding.{AreCutTo, IsCutBack, StaysWithin, StopsCounted}
 use Rattle.rnxcmp_c.specs.Waiting.{waiting}
 use Rattle.rnxcmp_c.specs.declared.held.Held.{Held}
 use Rattle.rnxcmp_c.specs.declared.held.Mark.{Mark}
 use Rattle.rnxcmp_c.specs.declared.stop.Stop.{Stop}
 use Rattle.rnxcmp_c.specs.declared.stop.Stop.TheVariants.{Fault, Limit}
 
-ok-not-err : {T : Type 0} (done : T) (at : At) → ◌≡◌ {A = Result T At} (Ok done) (Err at) → ⊥
-ok-not-err done at e = cc
+ok-not-err : {T : Type 0} (done : T) (halt : Halt) → ◌≡◌ {A = Result T Halt} (Ok done) (Err halt) → ⊥
+ok-not-err done halt e = cc
+
+-- a text that was cut back to where it was
+cut-to : (old mid new more : List ℕ) (mark : ℕ) → mid ≡ old ++ more → mark ≡ length old → new ≡ take mark mid
+    → new ≡ old
+cut-to old mid new more mark grew marked cut = cut ∙ ap (take mark) grew ∙ take_at old more mark (sym marked)
 
 module _ (before after : Course) (shown : Type 0) (old mid new : Held)
     (moved : MovesOn before after shown old mid) where
@@ -50,15 +60,15 @@ module _ (before after : Course) (shown : Type 0) (old mid new : Held)
     );
   }
 
-  pub passes-limit : (mark messages : ℕ) → mark ≡ length (waiting old.output)
-      → messages ≡ length (waiting old.messages) → mid.limit ≡ old.limit → mid.left ≡ old.left
-      → IsCutBack mark messages mid new → PassesLimit before after old new
-  passes-limit mark messages marked told limit left cut = record {
-    limited = subst (λ (n : ℕ). 0 < n) limit cut.limited;
-    limit = cut.limit ∙ limit;
+  pub passes-limit : (mark : Mark) → mark.output ≡ length (waiting old.output)
+      → mark.messages ≡ length (waiting old.messages) → mid.limit ≡ old.limit → mid.left ≡ old.left
+      → IsCutBack mark mid new → PassesLimit before after old new
+  passes-limit mark marked told limit left back = record {
+    limited = subst (λ (n : ℕ). 0 < n) limit back.limited;
+    limit = back.cut.limit ∙ limit;
     over = omega (
       arith,
-      cut.over,
+      back.over,
       marked,
       left,
       ap length moved.kept.wrote,
@@ -66,130 +76,200 @@ module _ (before after : Course) (shown : Type 0) (old mid new : Held)
       ap length moved.kept.output_is,
       length-append before.output moved.kept.text,
     );
-    output_is = cut.output_is ∙ ap (take mark) moved.kept.wrote
-        ∙ take_at (waiting old.output) moved.kept.text mark (sym marked);
-    messages_are = cut.messages_are ∙ ap (take messages) moved.kept.reported
-        ∙ take_at (waiting old.messages) (notices_text moved.kept.notices) messages (sym told);
+    output_is = cut-to _ _ _ moved.kept.text mark.output moved.kept.wrote marked back.cut.output_is;
+    messages_are = cut-to _ _ _ (notices_text moved.kept.notices) mark.messages moved.kept.reported told
+        back.cut.messages_are;
   }
 
--- where memory ran out at a line, or a fault ended the run there
-module _ (number : ℕ) (takes : Bool) (before after : Course) (old mid new : Held) (at : At)
-    (stopped : LineStops number takes before after old.output mid.output old.messages mid.messages at) where
-  pub more-output-stopped : length (waiting old.output) ≤ length (waiting mid.output)
-  more-output-stopped = ⊎_elim
-      (λ short. omega (
-        arith,
-        ap length short.1.output_cut.wrote,
-        length-append
-            (waiting old.output) short.1.output_cut.text,
-      ))
-      (λ ends. omega (arith, ap length ends.wrote)) stopped
+-- what of both texts was kept of a line, or of the end, that ended the run
+pub record HasPart (before after : Course) (old mid : Held) : Type 0 where
+  pub text : List ℕ
+  pub told : List ℕ
+  pub wrote : waiting mid.output ≡ waiting old.output ++ text
+  pub first : (text ≡ []) ⊎ Begins after.output (before.output ++ text)
+  pub reported : waiting mid.messages ≡ waiting old.messages ++ told
 
-  pub more-messages-stopped : length (waiting old.messages) ≤ length (waiting mid.messages)
-  more-messages-stopped = ⊎_elim
-      (λ short. omega (
-        arith,
-        ap length short.1.messages_cut.reported,
-        length-append
-            (waiting old.messages) short.1.messages_cut.text,
-      ))
-      (λ ends. omega (arith, ap length ends.reported, length-append (waiting old.messages) (notices_text ends.notices)))
-      stopped
+module _ (number : ℕ) (memory : Option (List At)) (before after : Course) (old mid : Held) where
+  abbrev Stops : Halt → Type 0
+  Stops halt = StopsBy number memory before after old.output mid.output old.messages mid.messages halt
 
-  pub stops-within : (mark : ℕ) → mark ≡ length (waiting old.output) → mid.limit ≡ old.limit → mid.left ≡ old.left
-      → StaysWithin mark mid new → StepStops number takes before after old new (Fault at)
-  stops-within mark marked limit left stays = (
-    subst (λ (h : Held). LineStops number takes before after old.output h.output old.messages h.messages at)
-        (sym stays.same) stopped,
+  same-output : waiting mid.output ≡ waiting old.output → waiting mid.output ≡ waiting old.output ++ []
+  same-output same = same ∙ sym (append-nil (waiting old.output))
+
+  lost-part : LosesText before after old.output mid.output old.messages mid.messages
+      → HasPart before after old mid
+  lost-part loses = record {
+    text = loses.text;
+    told = loses.told;
+    wrote = loses.wrote;
+    first = loses.first;
+    reported = loses.reported;
+  }
+
+  pub part-of : (halt : Halt) → Stops halt → HasPart before after old mid
+  part-of (Faulty at) (inl lacks) = record {
+    text = [];
+    told = notices_text lacks.1.notices;
+    wrote = same-output lacks.1.wrote;
+    first = inl refl;
+    reported = lacks.1.reported;
+  }
+  part-of (Faulty at) (inr ends) = record {
+    text = [];
+    told = notices_text ends.notices;
+    wrote = same-output ends.wrote;
+    first = inl refl;
+    reported = ends.reported;
+  }
+  part-of Unwritten loses = lost-part loses
+  part-of Unreported loses = lost-part loses
+
+  -- what ended the run at a line, once it is counted
+  fault-stops : (new : Held) (at : At) → new ≡ record mid { left = new.left } → Stops (Faulty at)
+      → (RanOutAt number at × StopsShort memory before after old new)
+      ⊎ EndsThere before after old.output new.output old.messages new.messages at
+  fault-stops new at same (inl lacks) = inl (
+    lacks.0,
     record {
-      limit = ap (λ (h : Held). h.limit) stays.same ∙ limit;
-      left = λ limited. omega (
-        arith,
-        stays.left (subst (λ (n : ℕ). 0 < n) (sym limit) limited),
-        marked,
-        left,
-        ap (λ (h : Held). length (waiting h.output)) stays.same,
-      );
+      notices = lacks.1.notices;
+      asked = inl lacks.1.allowed;
+      own = lacks.1.own;
+      wrote = ap (λ (h : Held). waiting h.output) same ∙ lacks.1.wrote;
+      reported = ap (λ (h : Held). waiting h.messages) same ∙ lacks.1.reported;
+      lacking = inl (ap (λ (m : Option (List At)). is_some m) lacks.1.allowed);
     },
   )
+  fault-stops new at same (inr ends) =
+      inr (subst (λ (h : Held). EndsThere before after old.output h.output old.messages h.messages at)
+      (sym same) ends)
 
-  pub stops-over : (mark messages : ℕ) → mark ≡ length (waiting old.output)
-      → messages ≡ length (waiting old.messages) → mid.limit ≡ old.limit → mid.left ≡ old.left
-      → IsCutBack mark messages mid new → PassesLimit before after old new
-  stops-over mark messages marked told limit left cut = ⊎_elim
-      (λ short. record {
-        limited = subst (λ (n : ℕ). 0 < n) limit cut.limited;
-        limit = cut.limit ∙ limit;
-        over =
-            let wrote = length-append (waiting old.output) short.1.output_cut.text in
-            ⊎_elim
-            (λ none. omega (
-              arith,
-              cut.over,
-              marked,
-              ap length short.1.output_cut.wrote,
-              wrote,
-              ap length
-                  none,
-            ))
-            (λ begins. omega (
-              arith,
-              cut.over,
-              marked,
-              left,
-              ap length short.1.output_cut.wrote,
-              wrote,
-              ap length begins.same,
-              length-append (before.output ++ short.1.output_cut.text) begins.rest,
-              length-append before.output short.1.output_cut.text,
-            )) short.1.output_cut.first;
-        output_is = cut.output_is ∙ ap (take mark) short.1.output_cut.wrote
-            ∙ take_at (waiting old.output) short.1.output_cut.text mark (sym marked);
-        messages_are = cut.messages_are ∙ ap (take messages) short.1.messages_cut.reported
-            ∙ take_at (waiting old.messages) short.1.messages_cut.text messages (sym told);
-      })
-      (λ ends. absurd (omega (arith, cut.over, marked, ap length ends.wrote))) stopped
-
--- whatever a step came to, its output was counted after a mark
-module _ (number : ℕ) (takes : Bool) (before after : Course) (shown : Type 0) (old mid : Held) where
-  pub more-output-either : {T : Type 0} (taken : Result T At) → OnOk taken (MovesOn before after shown old mid)
-      → IfErr taken (λ at. LineStops number takes before after old.output mid.output old.messages
-      mid.messages at)
-      → length (waiting old.output) ≤ length (waiting mid.output)
-  more-output-either (Ok done) moved stopped = more-output before after shown old mid mid moved
-  more-output-either (Err at) moved stopped = more-output-stopped number takes before after old mid mid at
-      stopped
-
-  pub more-messages-either : {T : Type 0} (taken : Result T At) → OnOk taken (MovesOn before after shown old mid)
-      → IfErr taken (λ at. LineStops number takes before after old.output mid.output old.messages
-      mid.messages at)
-      → length (waiting old.messages) ≤ length (waiting mid.messages)
-  more-messages-either (Ok done) moved stopped = more-messages before after shown old mid mid moved
-  more-messages-either (Err at) moved stopped = more-messages-stopped number takes before after old mid mid
-      at stopped
+  lost-stops : (new counted : Held) (mark : Mark) → mark.output ≡ length (waiting old.output)
+      → mark.messages ≡ length (waiting old.messages) → counted ≡ record mid { left = counted.left }
+      → AreCutTo mark counted new → LosesText before after old.output mid.output old.messages mid.messages
+      → StopsShort memory before after old new
+  lost-stops new counted mark marked told same cut loses = record {
+    notices = [];
+    asked = inr (refl, ⊎_elim (λ output. inl output.longer) (λ messages. inr messages.longer) loses.lost);
+    own = inl refl;
+    wrote = cut-to _ _ _ loses.text mark.output
+        (ap (λ (h : Held). waiting h.output) same ∙ loses.wrote) marked cut.output_is;
+    reported = cut-to _ _ _ loses.told mark.messages
+        (ap (λ (h : Held). waiting h.messages) same ∙ loses.reported) told cut.messages_are
+        ∙ sym (append-nil (waiting old.messages));
+    lacking = inr (⊎_elim
+        (λ output. inl (cut.output_good ∙ ap (λ (h : Held). h.output.failures) same ∙ output.failed))
+        (λ messages. inr (cut.messages_good ∙ ap (λ (h : Held). h.messages.failures) same ∙ messages.failed))
+        loses.lost);
+  }
 
   module _ (new : Held) (mark : Mark) (marked : mark.output ≡ length (waiting old.output))
       (told : mark.messages ≡ length (waiting old.messages)) (limit : mid.limit ≡ old.limit)
       (left : mid.left ≡ old.left) where
-    pub step-stays : {T : Type 0} (taken : Result T At) → OnOk taken (MovesOn before after shown old mid)
+    stops-within : (at : At) → Stops (Faulty at) → StaysWithin mark.output mid new
+        → StepStops number memory before after old new (Fault at)
+    stops-within at stopped stays = (
+      fault-stops new at stays.same stopped,
+      record {
+        limit = ap (λ (h : Held). h.limit) stays.same ∙ limit;
+        left = λ limited. omega (
+          arith,
+          stays.left (subst (λ (n : ℕ). 0 < n) (sym limit) limited),
+          marked,
+          left,
+          ap (λ (h : Held). length (waiting h.output)) stays.same,
+        );
+      },
+    )
+
+    stops-lost : (at : At) → at ≡ record { line = number; fault = OutOfMemory }
+        → LosesText before after old.output mid.output old.messages mid.messages
+        → (counted : Held) → StaysWithin mark.output mid counted → AreCutTo mark counted new
+        → StepStops number memory before after old new (Fault at)
+    stops-lost at is loses counted stays cut =
+        let short = lost-stops new counted mark marked told stays.same cut loses in (
+          inl ((ap (λ (a : At). a.fault) is, ap (λ (a : At). a.line) is), short),
+          record {
+            limit = cut.limit ∙ ap (λ (h : Held). h.limit) stays.same ∙ limit;
+            left = λ limited. omega (arith, ap length short.wrote);
+          },
+        )
+
+    stops-over : HasPart before after old mid → IsCutBack mark mid new → PassesLimit before after old new
+    stops-over part back = record {
+      limited = subst (λ (n : ℕ). 0 < n) limit back.limited;
+      limit = back.cut.limit ∙ limit;
+      over =
+          let wrote = length-append (waiting old.output) part.text in
+          ⊎_elim
+          (λ none. omega (arith, back.over, marked, ap length part.wrote, wrote, ap length none))
+          (λ begins. omega (
+            arith,
+            back.over,
+            marked,
+            left,
+            ap length part.wrote,
+            wrote,
+            ap length begins.same,
+            length-append (before.output ++ part.text) begins.rest,
+            length-append before.output part.text,
+          )) part.first;
+      output_is = cut-to _ _ _ part.text mark.output part.wrote marked back.cut.output_is;
+      messages_are = cut-to _ _ _ part.told mark.messages part.reported told back.cut.messages_are;
+    }
+
+-- whatever a step came to, its output was counted after a mark
+module _ (number : ℕ) (memory : Option (List At)) (before after : Course) (shown : Type 0)
+    (old mid : Held) where
+  abbrev Ended : {T : Type 0} → Result T Halt → Type 0
+  Ended taken =
+      IfErr taken (λ halt. StopsBy number memory before after old.output mid.output old.messages mid.messages
+      halt)
+
+  pub more-output-either : {T : Type 0} (taken : Result T Halt)
+      → OnOk taken (MovesOn before after shown old mid)
+      → Ended taken → length (waiting old.output) ≤ length (waiting mid.output)
+  more-output-either (Ok done) moved stopped = more-output before after shown old mid mid moved
+  more-output-either (Err halt) moved stopped =
+      let part = part-of number memory before after old mid halt stopped in
+      omega (arith, ap length part.wrote, length-append (waiting old.output) part.text)
+
+  pub more-messages-either : {T : Type 0} (taken : Result T Halt)
+      → OnOk taken (MovesOn before after shown old mid)
+      → Ended taken → length (waiting old.messages) ≤ length (waiting mid.messages)
+  more-messages-either (Ok done) moved stopped = more-messages before after shown old mid mid moved
+  more-messages-either (Err halt) moved stopped =
+      let part = part-of number memory before after old mid halt stopped in
+      omega (arith, ap length part.reported, length-append (waiting old.messages) part.told)
+
+  module _ (new : Held) (mark : Mark) (marked : mark.output ≡ length (waiting old.output))
+      (told : mark.messages ≡ length (waiting old.messages)) (limit : mid.limit ≡ old.limit)
+      (left : mid.left ≡ old.left) where
+    pub step-stays : {T : Type 0} (taken : Result T Halt) → OnOk taken (MovesOn before after shown old mid)
         → IsOk taken → StaysWithin mark.output mid new → MovesWithin before after shown old new
     step-stays (Ok done) moved good stays =
         stays-within before after shown old mid new moved mark.output marked limit left stays
-    step-stays (Err at) moved good stays = absurd (cc)
+    step-stays (Err halt) moved good stays = absurd (cc)
 
-    pub step-stops : {T : Type 0} (taken : Result T At) → OnOk taken (MovesOn before after shown old mid)
-        → IfErr taken (λ at. LineStops number takes before after old.output mid.output old.messages
-        mid.messages at)
-        → (stop : Stop) → StopsCounted taken mark mid new stop
-        → StepStops number takes before after old new stop
-    step-stops (Ok done) moved stopped (Fault at) stays = absurd (ok-not-err done at stays.0)
-    step-stops (Ok done) moved stopped Limit cut =
-        passes-limit before after shown old mid new moved mark.output mark.messages marked told limit left cut
-    step-stops (Err other) moved stopped (Fault at) stays =
-        stops-within number takes before after old mid new at
-        (IfErr-at_err (λ e. LineStops number takes before after old.output mid.output old.messages
-        mid.messages e)
-        stays.0 stopped) mark.output marked limit left stays.1
-    step-stops (Err other) moved stopped Limit cut =
-        stops-over number takes before after old mid new other stopped mark.output mark.messages marked told
-        limit left cut
+    pub step-stops : {T : Type 0} (taken : Result T Halt) → OnOk taken (MovesOn before after shown old mid)
+        → Ended taken → (stop : Stop) → StopsCounted taken mark number mid new stop
+        → StepStops number memory before after old new stop
+    step-stops (Ok done) moved stopped (Fault at) (inl stays) = absurd (ok-not-err done (Faulty at) stays.0)
+    step-stops (Ok done) moved stopped (Fault at) (inr lost) =
+        ⊎_elim (λ e. absurd (ok-not-err done Unwritten e)) (λ e. absurd (ok-not-err done Unreported e)) lost.0
+    step-stops (Ok done) moved stopped Limit back =
+        passes-limit before after shown old mid new moved mark marked told limit left back
+    step-stops (Err halt) moved stopped (Fault at) (inl stays) =
+        stops-within number memory before after old mid new mark marked told limit left at
+        (IfErr-at_err (λ h. StopsBy number memory before after old.output mid.output old.messages mid.messages h)
+        stays.0 stopped) stays.1
+    step-stops (Err halt) moved stopped (Fault at) (inr lost) =
+        stops-lost number memory before after old mid new mark marked told limit left at lost.1
+        (⊎_elim
+        (λ e. IfErr-at_err (λ h. StopsBy number memory before after old.output mid.output old.messages mid.messages h)
+        e stopped)
+        (λ e. IfErr-at_err (λ h. StopsBy number memory before after old.output mid.output old.messages mid.messages h)
+        e stopped) lost.0)
+        lost.2.0 lost.2.1 lost.2.2
+    step-stops (Err halt) moved stopped Limit back =
+        stops-over number memory before after old mid new mark marked told limit left
+        (part-of number memory before after old mid halt stopped) back

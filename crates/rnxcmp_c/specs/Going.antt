@@ -1,7 +1,6 @@
 -- A run between two calls, by the bytes that were fed and the texts that were taken.
 use Rattle.std.specs.Prelude.{◌≡◌, ◌⊎◌, ◌<◌, ◌≤◌, ℕ, ◌+◌, Bool, true, ◌||◌, List, [], ◌∷◌, ◌++◌, length, take}
-use Rattle.std.specs.Prelude.{Some, None}
-use Rattle.std.specs.Prelude.{is_some}
+use Rattle.std.specs.Prelude.{Option, Some, None, is_some}
 use Rattle.crx_faults.specs.meaning.Lines.{InputLine, line_of, lines_of}
 use Rattle.crx_faults.specs.meaning.Seen.{ended_lines_of}
 use Rattle.crx_lines.specs.Reading.{HasNoFeed}
@@ -12,17 +11,17 @@ use Rattle.crx_runs.specs.Engines.{Awaited}
 use Rattle.crx_runs.specs.meaning.Filters.{Filter, with_next}
 use Rattle.crx_runs.specs.meaning.Messages.{notices_text}
 use Rattle.crx_runs.specs.meaning.Results.{Begins, Course, are_some}
+use Rattle.crx_runs.specs.meaning.Spans.{AreNext}
 use Rattle.crx_runs.specs.declared.taking.Halt.{Halt}
 use Rattle.crx_runs.specs.declared.taking.Halt.TheVariants.{Fault as Faulty, Unwritten, Unreported}
 use Rattle.rnxcmp_c.specs.Waiting.{waiting}
 use Rattle.rnxcmp_c.specs.declared.pending.Pending.{Pending}
 use Rattle.rnxcmp_c.specs.declared.held.Held.{Held}
 use Rattle.rnxcmp_c.specs.declared.limits.TheConstants.{LINE_ROOM, READY_LIMIT}
-use Rattle.rnxcmp_c.specs.Holding.{AreUnfailed, IsMemoryLacking, ready_in}
+use Rattle.rnxcmp_c.specs.Holding.{AreUnfailed, IsMemoryLacking, texts_of_held, ready_in}
 use Rattle.rnxcmp_c.specs.meaning.Answers.{KeepsToLimit}
-use Rattle.rnxcmp_c.specs.meaning.Handles.{HandlePast, IsCutBetween, IsLineEnded, line_reached}
-use Rattle.rnxcmp_c.specs.meaning.Handles.{next_takes_memory}
-use Rattle.rnxcmp_c.specs.meaning.Handles.{with_one_more}
+use Rattle.rnxcmp_c.specs.meaning.Handles.{AsksMemory, HandlePast, IsMadeByLines}
+use Rattle.rnxcmp_c.specs.meaning.Handles.{memory_next, texts_made, with_one_more}
 use Rattle.rnxcmp_c.specs.declared.stop.Stop.{Stop}
 use Rattle.rnxcmp_c.specs.declared.stop.Stop.TheVariants.{Fault, Limit}
 
@@ -67,50 +66,63 @@ pub record EndsThere (before after : Course) (output then_output messages then_m
 abbrev pub RanOutAt : ℕ → At → Type 0
 RanOutAt number at = (at.fault ≡ OutOfMemory) × (at.line ≡ number)
 
--- of what a line adds to the output, or the end, a prefix was kept
-pub record IsCutShort (before after : Course) (output then_output : Pending) : Type 0 where
-  pub text : List ℕ
-  pub wrote : waiting then_output ≡ waiting output ++ text
-  pub first : (text ≡ []) ⊎ Begins after.output (before.output ++ text)
-
--- of its warnings a prefix was kept too
-pub record AreCutShort (before after : Course) (messages then_messages : Pending) : Type 0 where
-  pub text : List ℕ
-  pub reported : waiting then_messages ≡ waiting messages ++ text
-  pub first : (text ≡ []) ⊎ Begins (notices_text after.warnings) (notices_text before.warnings ++ text)
+-- there was no memory for the line itself, once these of its warnings were reported
+pub record LacksMemory (memory : Option (List At)) (before after : Course)
+    (output then_output messages then_messages : Pending) : Type 0 where
+  pub notices : List At
+  pub allowed : memory ≡ Some notices
+  pub own : (notices ≡ []) ⊎ AreNext before after notices
+  pub wrote : waiting then_output ≡ waiting output
+  pub reported : waiting then_messages ≡ waiting messages ++ notices_text notices
 
 -- a text was to become longer by what stands between two others, and it failed to take all of that
 pub record FailsToTake (before after : List ℕ) (old new : Pending) : Type 0 where
   pub failed : new.failures ≡ one_more old.failures
-  pub short : length (waiting new) + length before < length (waiting old) + length after
+  pub longer : length before < length after
 
--- the line takes memory, or one of the texts failed to take all of it
-abbrev pub IsMemoryAsked : Bool → Course → Course → Pending → Pending → Pending → Pending → Type 0
-IsMemoryAsked takes before after output then_output messages then_messages = (takes ≡ true)
-    ⊎ (FailsToTake before.output after.output output then_output
-    ⊎ FailsToTake (notices_text before.warnings) (notices_text after.warnings) messages then_messages)
+-- one of both texts failed to take all that a line, or the end, adds to it
+abbrev pub FailsOneText : Course → Course → Pending → Pending → Pending → Pending → Type 0
+FailsOneText before after output then_output messages then_messages =
+    FailsToTake before.output after.output output then_output
+    ⊎ FailsToTake (notices_text before.warnings) (notices_text after.warnings) messages then_messages
 
--- a line, or the end, was taken in part
-pub record StopsShort (takes : Bool) (before after : Course)
-    (output then_output messages then_messages : Pending)
-    : Type 0 where
-  pub output_cut : IsCutShort before after output then_output
-  pub messages_cut : AreCutShort before after messages then_messages
-  pub asked : IsMemoryAsked takes before after output then_output messages then_messages
+-- so both texts became longer by parts of that
+pub record LosesText (before after : Course)
+    (output then_output messages then_messages : Pending) : Type 0 where
+  pub text : List ℕ
+  pub told : List ℕ
+  pub wrote : waiting then_output ≡ waiting output ++ text
+  pub first : (text ≡ []) ⊎ Begins after.output (before.output ++ text)
+  pub reported : waiting then_messages ≡ waiting messages ++ told
+  pub lost : FailsOneText before after output then_output messages then_messages
 
--- memory ran out, or a fault ended the run
-abbrev pub LineStops : ℕ → Bool → Course → Course → Pending → Pending → Pending → Pending → At → Type 0
-LineStops number takes before after output then_output messages then_messages at =
-    (RanOutAt number at × StopsShort takes before after output then_output messages then_messages)
+-- there was no memory for a line, or a fault ended the run
+abbrev pub LineStops : ℕ → Option (List At) → Course → Course → Pending → Pending → Pending → Pending → At
+    → Type 0
+LineStops number memory before after output then_output messages then_messages at =
+    (RanOutAt number at × LacksMemory memory before after output then_output messages then_messages)
     ⊎ EndsThere before after output then_output messages then_messages at
 
-abbrev pub StopsBy : ℕ → Bool → Course → Course → Pending → Pending → Pending → Pending → Halt → Type 0
-StopsBy number takes before after output then_output messages then_messages (Faulty at) =
-    LineStops number takes before after output then_output messages then_messages at
-StopsBy number takes before after output then_output messages then_messages Unwritten =
-    StopsShort takes before after output then_output messages then_messages
-StopsBy number takes before after output then_output messages then_messages Unreported =
-    StopsShort takes before after output then_output messages then_messages
+-- what a line, or the end, left that ended the run
+abbrev pub StopsBy : ℕ → Option (List At) → Course → Course → Pending → Pending → Pending → Pending → Halt
+    → Type 0
+StopsBy number memory before after output then_output messages then_messages (Faulty at) =
+    LineStops number memory before after output then_output messages then_messages at
+StopsBy number memory before after output then_output messages then_messages Unwritten =
+    LosesText before after output then_output messages then_messages
+StopsBy number memory before after output then_output messages then_messages Unreported =
+    LosesText before after output then_output messages then_messages
+
+-- memory ran out at a line, or at the end: for itself, once these of its warnings were reported, or for one
+-- of both texts, which are as before then
+pub record StopsShort (memory : Option (List At)) (before after : Course) (old new : Held) : Type 0 where
+  pub notices : List At
+  pub asked : AsksMemory memory before after notices
+  pub own : (notices ≡ []) ⊎ AreNext before after notices
+  pub wrote : waiting new.output ≡ waiting old.output
+  pub reported : waiting new.messages ≡ waiting old.messages ++ notices_text notices
+  pub lacking : (is_some memory ≡ true) ⊎ ((new.output.failures ≡ one_more old.output.failures)
+      ⊎ (new.messages.failures ≡ one_more old.messages.failures))
 
 -- ---- the limit of the output
 
@@ -134,11 +146,12 @@ pub record AddsWithin (old new : Held) : Type 0 where
   pub left : 0 < old.limit → length (waiting new.output) ≤ old.left + length (waiting old.output)
 
 -- what ended the run: a fault, or memory that ran out, and the output stays within its limit; or that limit
-abbrev pub StepStops : ℕ → Bool → Course → Course → Held → Held → Stop → Type 0
-StepStops number takes before after old new (Fault at) =
-    LineStops number takes before after old.output new.output old.messages new.messages at
+abbrev pub StepStops : ℕ → Option (List At) → Course → Course → Held → Held → Stop → Type 0
+StepStops number memory before after old new (Fault at) =
+    ((RanOutAt number at × StopsShort memory before after old new)
+    ⊎ EndsThere before after old.output new.output old.messages new.messages at)
     × AddsWithin old new
-StepStops number takes before after old new Limit = PassesLimit before after old new
+StepStops number memory before after old new Limit = PassesLimit before after old new
 
 -- ---- a run
 
@@ -180,12 +193,18 @@ pub record IsBroken (filter : Filter) (held : Held) (past : HandlePast) (at : At
   pub fault : (filter.so_far lines).fault ≡ Some at
   pub text : IsText (filter.so_far lines) held past
 
--- memory ran out between what is made before a line or the end and with it: what was taken of both texts and
--- then what is kept is a part of that
-abbrev pub IsCutBy : Course → Course → Bool → Held → HandlePast → Type 0
-IsCutBy before after takes held past =
-    IsCutBetween before after takes (past.output ++ waiting held.output)
-    (past.messages ++ waiting held.messages)
+-- memory ran out between what is made before a line, or the end, and with it: what was taken of both texts
+-- and then what is kept is what is made before, with these warnings more
+pub record IsCutBy (before after : Course) (memory : Option (List At)) (held : Held)
+    (past : HandlePast) : Type 0 where
+  pub notices : List At
+  pub asked : AsksMemory memory before after notices
+  pub own : (notices ≡ []) ⊎ AreNext before after notices
+  pub made : IsMadeByLines before (notices_text notices) (texts_made past (texts_of_held held))
+
+-- the number of a line whose line end is among the bytes that came after others
+abbrev pub IsLineEnded : List ℕ → List ℕ → ℕ → Type 0
+IsLineEnded before fed line = (length (ended_lines_of before) < line) × (line ≤ length (ended_lines_of fed))
 
 -- memory ran out in a line whose LF came after some bytes, the one that comes after these lines, whatever
 -- follows
@@ -198,7 +217,7 @@ pub record RunsShort (before : List ℕ) (filter : Filter) (held : Held) (past :
   pub first : (more : List ℕ) → (rest : List InputLine) × (lines_of (past.fed ++ more) ≡ lines ++ line ∷ rest)
   pub number : at.line ≡ length lines + 1
   pub cut : IsCutBy (filter.so_far lines) (filter.so_far (with_next lines line))
-      (is_some (filter.memory_after lines line)) held past
+      (filter.memory_after lines line) held past
   pub lacking : IsMemoryLacking (is_some (filter.memory_after lines line)) held
 
 -- memory ran out, or a fault ended the run
@@ -211,6 +230,7 @@ pub record IsPastLimit (filter : Filter) (held : Held) (past : HandlePast) : Typ
   pub lines : List InputLine
   pub line : InputLine
   pub first : (more : List ℕ) → (rest : List InputLine) × (lines_of (past.fed ++ more) ≡ lines ++ line ∷ rest)
+  pub good : (filter.so_far lines).fault ≡ None
   pub limited : 0 < held.limit
   pub within : length (filter.so_far lines).output ≤ held.limit
   pub over : held.limit < length (filter.so_far (with_next lines line)).output
@@ -239,6 +259,11 @@ pub record IsFailed (course : Course) (held : Held) (past : HandlePast) (at : At
   pub fault : course.fault ≡ Some at
   pub text : IsText course held past
 
+-- the number of the line that comes after some lines; of the last of them where none does
+abbrev pub line_reached : List InputLine → List InputLine → ℕ
+line_reached lines [] = length lines
+line_reached lines (line ∷ more) = length lines + 1
+
 -- memory ran out at the last line, or at the end after it
 pub record EndsShort (filter : Filter) (held : Held) (past : HandlePast) (at : At) : Type 0 where
   pub ran_out : RanOutAt (length (lines_of past.fed)) at
@@ -247,15 +272,15 @@ pub record EndsShort (filter : Filter) (held : Held) (past : HandlePast) (at : A
   pub first : lines_of past.fed ≡ lines ++ others
   pub number : at.line ≡ line_reached lines others
   pub cut : IsCutBy (filter.so_far lines) (with_one_more filter lines others)
-      (next_takes_memory filter lines others) held
-      past
-  pub lacking : IsMemoryLacking (next_takes_memory filter lines others) held
+      (memory_next filter lines others) held past
+  pub lacking : IsMemoryLacking (is_some (memory_next filter lines others)) held
 
 -- the output of some of the first lines is within its limit, and with one line more, or the end, it isn't
 pub record EndsPastLimit (filter : Filter) (held : Held) (past : HandlePast) : Type 0 where
   pub lines : List InputLine
   pub others : List InputLine
   pub first : lines_of past.fed ≡ lines ++ others
+  pub good : (filter.so_far lines).fault ≡ None
   pub limited : 0 < held.limit
   pub within : length (filter.so_far lines).output ≤ held.limit
   pub over : held.limit < length (with_one_more filter lines others).output

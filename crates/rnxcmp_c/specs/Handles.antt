@@ -21,12 +21,11 @@ use Rattle.crx_filter.specs.ExpanderState.{expander_state}
 use Rattle.crx_reading.specs.ExpansionByLine.{expansion, expansion_seen}
 use Rattle.crx_runs.specs.declared.outcome.Outcome.{Outcome}
 use Rattle.crx_runs.specs.meaning.Runs.{FaultIs}
-use Rattle.rnxcmp_c.specs.Going.{IsGoing}
-use Rattle.rnxcmp_c.specs.meaning.Handles.{IsLastLine, IsLineEnded, IsLineReached}
-use Rattle.rnxcmp_c.specs.meaning.Handles.{HandlePast, HidesFault, IsMisused, StopsForMemory, StopsSoon, Task}
-use Rattle.rnxcmp_c.specs.meaning.Handles.{Compact, Expand}
-use Rattle.rnxcmp_c.specs.meaning.Handles.{Check, allowed_after, fed_with, filter_for, limit_for, result_for}
-use Rattle.rnxcmp_c.specs.meaning.Handles.{next_takes_memory, with_one_more}
+use Rattle.rnxcmp_c.specs.Going.{IsGoing, IsLineEnded}
+use Rattle.rnxcmp_c.specs.meaning.Handles.{HandlePast, HidesFault, IsMadeByLines, IsMisused}
+use Rattle.rnxcmp_c.specs.meaning.Handles.{RunState, StopsForMemory, StopsSoon, Task, Compact, Expand, Check}
+use Rattle.rnxcmp_c.specs.meaning.Handles.{allowed_after, fed_with, filter_for, handle_answer, limit_for}
+use Rattle.rnxcmp_c.specs.meaning.Handles.{memory_next, result_for, texts_made, with_one_more}
 use Rattle.rnxcmp_c.specs.meaning.Answers.{KeepsToLimit, fault_code_in, line_in}
 use Rattle.rnxcmp_c.specs.declared.answer.Answer.{Answer}
 use Rattle.rnxcmp_c.specs.declared.answer.TheConstants.{OUTPUT_LIMIT}
@@ -34,7 +33,7 @@ use Rattle.rnxcmp_c.specs.declared.engines.AnyEngine.{AnyEngine}
 use Rattle.rnxcmp_c.specs.declared.engines.AnyEngine.TheVariants.{Compacting, Expanding, Checking}
 use Rattle.rnxcmp_c.specs.declared.held.Held.{Held}
 use Rattle.rnxcmp_c.specs.declared.limits.TheConstants.{READY_LIMIT}
-use Rattle.rnxcmp_c.specs.Holding.{IsMemoryLacking, ready_in}
+use Rattle.rnxcmp_c.specs.Holding.{IsMemoryLacking, texts_of_held, ready_in}
 use Rattle.rnxcmp_c.specs.Waiting.{IsTextRefused, waiting}
 use Rattle.rnxcmp_c.specs.declared.reader.Reader.{Reader}
 use Rattle.rnxcmp_c.specs.declared.stop.Stop.{Stop}
@@ -109,14 +108,13 @@ pub record ReaderIsOver (limit : ℕ) (result : FilterResult) (reader : Reader) 
   pub messages : result.messages ≡ past.messages ++ waiting reader.held.messages
   pub within : KeepsToLimit limit (past.output ++ waiting reader.held.output)
 
--- memory ran out at such a line, or at the end, which takes memory, or a write to one of the texts failed.
--- What was taken of both texts and then what is kept is a part of what is made there
+-- memory ran out at such a line, or at the end, which takes memory, or a write to one of the texts failed;
+-- what was taken of both texts and then what is kept is what is made before it
 pub record RanOutBy (filter : Filter) (is_line : ℕ → Type 0) (input : List ℕ) (reader : Reader) (line : ℕ)
     (past : HandlePast) : Type 0 where
   pub at : is_line line
-  pub made : StopsForMemory filter input line (past.output ++ waiting reader.held.output)
-      (past.messages ++ waiting reader.held.messages)
-  pub lacking : IsMemoryLacking (next_takes_memory filter made.lines made.others) reader.held
+  pub made : StopsForMemory filter input line (texts_made past (texts_of_held reader.held))
+  pub lacking : IsMemoryLacking (is_some (memory_next filter made.lines made.others)) reader.held
 
 -- memory ran out, which is status 1: at such a line, or for the message of the fault that the result has; the
 -- output is within its limit
@@ -125,8 +123,7 @@ pub record RunIsOutOfMemory (filter : Filter) (limit : ℕ) (is_line : ℕ → T
   pub memory : FaultIs OutOfMemory outcome.fault
   pub status : outcome.status ≡ 1
   pub made : RanOutBy filter is_line input reader (line_in outcome.fault) past
-      ⊎ HidesFault result (line_in outcome.fault)
-      (past.output ++ waiting reader.held.output) (past.messages ++ waiting reader.held.messages)
+      ⊎ HidesFault result (line_in outcome.fault) (texts_made past (texts_of_held reader.held))
   pub within : KeepsToLimit limit (past.output ++ waiting reader.held.output)
 
 -- the output would be longer than it may be. What was taken of both texts and then what is kept is what the first lines
@@ -142,8 +139,7 @@ pub record RunIsOverLimit (filter : Filter) (limit : ℕ) (input : List ℕ)
   pub first : lines_of input ≡ lines ++ others
   pub within : length (filter.so_far lines).output ≤ limit
   pub over : limit < length (with_one_more filter lines others).output
-  pub output : (filter.so_far lines).output ≡ past.output ++ waiting reader.held.output
-  pub messages : notices_text (filter.so_far lines).warnings ≡ past.messages ++ waiting reader.held.messages
+  pub made : IsMadeByLines (filter.so_far lines) [] (texts_made past (texts_of_held reader.held))
 
 -- the message of a fault came after the warnings, and the fault ended the run; or there was no memory for it
 abbrev pub IsSaid : At → List ℕ → List ℕ → Option At → Type 0
@@ -163,6 +159,14 @@ pub record RunIsTooLong (filter : Filter) (limit : ℕ) (reader : Reader) (outco
       (ended_lines_of past.fed)).warnings)
       (past.messages ++ waiting reader.held.messages) outcome.fault
   pub within : KeepsToLimit limit (past.output ++ waiting reader.held.output)
+
+-- the number of the last line of the bytes that were fed
+abbrev pub IsLastLine : List ℕ → ℕ → Type 0
+IsLastLine fed line = line ≡ length (lines_of fed)
+
+-- the number of one of their lines, or 0 where there is none
+abbrev pub IsLineReached : List ℕ → ℕ → Type 0
+IsLineReached fed line = line ≤ length (lines_of fed)
 
 -- where a run is: it goes on; or it has ended, with the result of the bytes that were fed, unless memory ran out, the
 -- output would be longer than it may be, or the input was
@@ -262,16 +266,19 @@ abbrev pub fault_now : Option Outcome → Option At
 fault_now None = None
 fault_now (Some outcome) = outcome.fault
 
--- how the run stands, 0 while it goes on; the fault that ended it; and how many bytes are kept of the output and of the
--- messages
-abbrev pub answer_now : Reader → Answer
-answer_now reader = record {
-  line = line_in (fault_now reader.outcome);
-  output_length = length (waiting reader.held.output);
-  messages_length = length (waiting reader.held.messages);
-  status = status_now reader.outcome;
-  code = fault_code_in (fault_now reader.outcome);
+-- how a run is
+abbrev pub state_now : Option Outcome → RunState
+state_now outcome = record {
+  has_ended = is_some outcome;
+  status = status_now outcome;
+  line = line_in (fault_now outcome);
+  code = fault_code_in (fault_now outcome);
 }
+
+-- how the run is, and how many bytes are kept of the output and of the messages
+abbrev pub answer_now : Reader → Answer
+answer_now reader = handle_answer (status_now reader.outcome) (line_in (fault_now reader.outcome))
+    (fault_code_in (fault_now reader.outcome)) (texts_of_held reader.held)
 
 -- so many more bytes were fed, a line's after another's, as long as little enough waited to be taken, and no more; or
 -- there were some, and no more may be fed, which ends the run

@@ -1,11 +1,18 @@
 -- What is held of a run between two calls, and how it is counted.
 use Rattle.std.specs.Prelude.{◌≡◌, ◌≢◌, ◌⊎◌, ◌<◌, ℕ, ◌+◌, Bool, true, false, [], length, take, Result, Err}
-use Rattle.crx_faults.specs.declared.fault.At.{At}
+use Rattle.crx_faults.specs.declared.fault.Fault.TheVariants.{OutOfMemory}
+use Rattle.crx_runs.specs.declared.taking.Halt.{Halt}
+use Rattle.crx_runs.specs.declared.taking.Halt.TheVariants.{Fault as Faulty, Unwritten, Unreported}
+use Rattle.rnxcmp_c.specs.meaning.Handles.{BothTexts}
 use Rattle.rnxcmp_c.specs.Waiting.{waiting}
 use Rattle.rnxcmp_c.specs.declared.held.Held.{Held}
 use Rattle.rnxcmp_c.specs.declared.held.Mark.{Mark}
 use Rattle.rnxcmp_c.specs.declared.stop.Stop.{Stop}
 use Rattle.rnxcmp_c.specs.declared.stop.Stop.TheVariants.{Fault, Limit}
+
+-- what waits of both texts to be taken
+abbrev pub texts_of_held : Held → BothTexts
+texts_of_held held = record { output = waiting held.output; messages = waiting held.messages }
 
 -- how many bytes of both texts wait to be taken
 abbrev pub ready_in : Held → ℕ
@@ -36,15 +43,29 @@ pub record StaysWithin (mark : ℕ) (old new : Held) : Type 0 where
   pub same : new ≡ record old { left = new.left }
   pub left : 0 < old.limit → new.left + length (waiting old.output) ≡ old.left + mark
 
--- more was added after so many bytes than the output may have, and both texts were cut back
-pub record IsCutBack (output messages : ℕ) (old new : Held) : Type 0 where
-  pub limited : 0 < old.limit
+-- what came of both texts since a mark was let go of
+pub record AreCutTo (mark : Mark) (old new : Held) : Type 0 where
   pub limit : new.limit ≡ old.limit
-  pub over : old.left + output < length (waiting old.output)
-  pub output_is : waiting new.output ≡ take output (waiting old.output)
-  pub messages_are : waiting new.messages ≡ take messages (waiting old.messages)
+  pub output_is : waiting new.output ≡ take mark.output (waiting old.output)
+  pub messages_are : waiting new.messages ≡ take mark.messages (waiting old.messages)
+  pub output_good : new.output.failures ≡ old.output.failures
+  pub messages_good : new.messages.failures ≡ old.messages.failures
 
--- what ended the run, once the output since a mark was counted: the fault of the step, or the limit of the output
-abbrev pub StopsCounted : {T : Type 0} → Result T At → Mark → Held → Held → Stop → Type 0
-StopsCounted taken mark old new (Fault at) = (taken ≡ Err at) × StaysWithin mark.output old new
-StopsCounted taken mark old new Limit = IsCutBack mark.output mark.messages old new
+-- more came of the output since a mark than it may have, and both texts were cut back to the mark
+pub record IsCutBack (mark : Mark) (old new : Held) : Type 0 where
+  pub limited : 0 < old.limit
+  pub over : old.left + mark.output < length (waiting old.output)
+  pub cut : AreCutTo mark old new
+
+-- one of both texts couldn't be kept
+abbrev pub IsTextLost : {T : Type 0} → Result T Halt → Type 0
+IsTextLost taken = (taken ≡ Err Unwritten) ⊎ (taken ≡ Err Unreported)
+
+-- what ended the run, once the output since a mark was counted: the fault of the step; one of both texts that
+-- couldn't be kept, which is out of memory at a line of this number; or the limit of the output
+abbrev pub StopsCounted : {T : Type 0} → Result T Halt → Mark → ℕ → Held → Held → Stop → Type 0
+StopsCounted taken mark number old new (Fault at) =
+    ((taken ≡ Err (Faulty at)) × StaysWithin mark.output old new)
+    ⊎ (IsTextLost taken × (at ≡ record { line = number; fault = OutOfMemory })
+    × ((mid : Held) × StaysWithin mark.output old mid × AreCutTo mark mid new))
+StopsCounted taken mark number old new Limit = IsCutBack mark old new

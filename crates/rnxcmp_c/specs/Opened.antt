@@ -1,7 +1,7 @@
 -- What a handle is, between two calls.
-use Rattle.std.specs.Prelude.{◌≡◌, ℕ, Bool, true, false, List, [], ◌∷◌, is_some}
-use Rattle.rnxcmp_c.specs.Handles.{Ends, Feeds, ReaderStands, answer_now}
-use Rattle.rnxcmp_c.specs.meaning.Handles.{HandlePast, KeptTexts, Task}
+use Rattle.std.specs.Prelude.{◌≡◌, ℕ, Bool, true, List, [], ◌∷◌, None}
+use Rattle.rnxcmp_c.specs.Handles.{Ends, Feeds, ReaderStands, answer_now, state_now}
+use Rattle.rnxcmp_c.specs.meaning.Handles.{BothTexts, HandlePast, RunState, Task}
 use Rattle.rnxcmp_c.specs.declared.answer.Answer.{Answer}
 use Rattle.rnxcmp_c.specs.declared.handle.Handle.{Handle}
 use Rattle.rnxcmp_c.specs.declared.reader.Reader.{Reader}
@@ -35,20 +35,27 @@ abbrev pub messages_kept : List Reader → List ℕ
 messages_kept [] = []
 messages_kept (reader ∷ more) = waiting reader.held.messages
 
-abbrev pub texts_in : List Reader → KeptTexts
+abbrev pub texts_in : List Reader → BothTexts
 texts_in held = record { output = output_kept held; messages = messages_kept held }
 
+abbrev pub run_in : List Reader → RunState
+run_in [] = state_now None
+run_in (reader ∷ more) = state_now reader.outcome
+
 abbrev pub have_ended : List Reader → Bool
-have_ended [] = false
-have_ended (reader ∷ more) = is_some reader.outcome
+have_ended held = (run_in held).has_ended
 
 -- both texts that a handle keeps
-abbrev pub texts_kept : Handle → KeptTexts
+abbrev pub texts_kept : Handle → BothTexts
 texts_kept handle = texts_in handle.place.held
 
--- whether the run of a handle has ended
+-- how the run of a handle is
+abbrev pub run_state : Handle → RunState
+run_state handle = run_in handle.place.held
+
+-- whether it has ended
 abbrev pub has_ended : Handle → Bool
-has_ended handle = have_ended handle.place.held
+has_ended handle = (run_state handle).has_ended
 
 -- what became of a handle's run by some bytes, by the end of the input, and by a look at it
 pub record FeedsHandle (task : Task) (old new : Handle) (past : HandlePast) (bytes : List ℕ) (used : ℕ)

@@ -8,10 +8,11 @@ ghost use Rattle.std.specs.Prelude.{◌≡◌, ◌⊎◌, ℕ, [], IfSome, drop,
 ghost use Rattle.crx_options.specs.meaning.Choices.{Choices, choices_of, is_date};
 ghost use Rattle.crx_faults.specs.declared.fault.Fault.TheVariants.{InputTooLong, OutOfMemory};
 ghost use Rattle.crx_faults.specs.meaning.Faults.{code_of_fault};
+ghost use Rattle.crx_faults.specs.meaning.Lines.{lines_of};
 ghost use Rattle.rnxcmp_c.specs.Handles.{IsFresh};
-ghost use Rattle.rnxcmp_c.specs.meaning.Handles.{HandlePast, HandlePromise, IsLastLine, IsMisused, RunHasEnded, RunWasEnded, TakesBytes, Task, fed_with, limit_for, nothing_fed, taken_with};
+ghost use Rattle.rnxcmp_c.specs.meaning.Handles.{HandlePast, HandlePromise, IsMisused, RunHasEnded, RunWasEnded, TakesBytes, Task, fed_with, limit_for, nothing_fed, taken_with};
 ghost use Rattle.rnxcmp_c.specs.Holding.{HoldsNothing};
-ghost use Rattle.rnxcmp_c.specs.Opened.{AnswersHandle, EndedAlike, EndsHandle, FeedsHandle, HandleStands, Holds, IsSoundHandle, IsUnchanged, has_ended, messages_kept, output_kept, texts_kept};
+ghost use Rattle.rnxcmp_c.specs.Opened.{AnswersHandle, EndedAlike, EndsHandle, FeedsHandle, HandleStands, Holds, IsSoundHandle, IsUnchanged, has_ended, messages_kept, output_kept, run_state, texts_kept};
 ghost use Rattle.rnxcmp_c.specs.declared.reader.Reader.{Reader};
 ghost use Rattle.rnxcmp_c.specs.meaning.Answers.{HasNoMemory, bare_answer, placed};
 ghost use Rattle.rnxcmp_c.specs.meaning.Ended.{CheckPromises, ExpansionPromises};
@@ -207,7 +208,7 @@ pub extern "C" fn rnxcmp_c_feed(
         → HandleStands task handle.new (fed_with past (take used.new bytes.now)) }
     ensures promise { (task : Task) (past : HandlePast) → HandleStands task handle.old past
         → has_ended handle.old ≡ false
-        → HandlePromise (has_ended handle.new) task (fed_with past (take used.new bytes.now))
+        → HandlePromise (run_state handle.new) task (fed_with past (take used.new bytes.now))
         (texts_kept handle.new) result }
     ensures takes { (task : Task) (past : HandlePast) → HandleStands task handle.old past
         → has_ended handle.old ≡ false → TakesBytes task past bytes.now used.new
@@ -243,11 +244,11 @@ pub extern "C" fn rnxcmp_c_end(alloc: Global, handle: &mut Handle) -> Answer
         → HandleStands task handle.new past }
     ensures promise { (task : Task) (past : HandlePast) → HandleStands task handle.old past
         → has_ended handle.old ≡ false
-        → HandlePromise (has_ended handle.new) task past (texts_kept handle.new) result }
+        → HandlePromise (run_state handle.new) task past (texts_kept handle.new) result }
     ensures ended { (task : Task) (past : HandlePast) → HandleStands task handle.old past
         → has_ended handle.old ≡ false
         → (has_ended handle.new ≡ true)
-        × RunHasEnded (IsLastLine past.fed) task past (texts_kept handle.new) result }
+        × RunHasEnded (λ line. line ≡ length (lines_of past.fed)) task past (texts_kept handle.new) result }
     ensures misused { (task : Task) (past : HandlePast) → HandleStands task handle.old past
         → has_ended handle.old ≡ true
         → IsMisused result × (handle.new.place.held ≡ handle.old.place.held) }
@@ -295,9 +296,9 @@ pub extern "C" fn rnxcmp_c_take(
     ensures stands { (task : Task) (past : HandlePast) → HandleStands task handle.old past
         → HandleStands task handle.new (taken_with past (take (length output.old) (output_kept handle.old.place.held))
         (take (length messages.old) (messages_kept handle.old.place.held))) }
-    ensures still { has_ended handle.new ≡ has_ended handle.old }
+    ensures still { run_state handle.new ≡ run_state handle.old }
     ensures promise { (task : Task) (past : HandlePast) → HandleStands task handle.old past
-        → HandlePromise (has_ended handle.new) task
+        → (run_state handle.new ≡ run_state handle.old) × HandlePromise (run_state handle.new) task
         (taken_with past (take (length output.old) (output_kept handle.old.place.held))
         (take (length messages.old) (messages_kept handle.old.place.held))) (texts_kept handle.new) result }
     ensures expansion { (choices : Choices) (limit : ℕ) (past : HandlePast)

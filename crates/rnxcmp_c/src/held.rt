@@ -36,7 +36,7 @@ pub(crate) struct Mark {
 impl Held {
     ghost use Rattle.std.specs.Prelude.{◌≡◌, ◌<◌, ◌≤◌, false, length, true, IfOk};
     ghost use Rattle.rnxcmp_c.specs.Waiting.{waiting};
-    ghost use Rattle.rnxcmp_c.specs.Holding.{HoldsNothing, IsCutBack, StaysWithin, ready_in};
+    ghost use Rattle.rnxcmp_c.specs.Holding.{AreCutTo, HoldsNothing, IsCutBack, StaysWithin, ready_in};
     ghost use Rattle.rnxcmp_c.specs.declared.limits.TheConstants.{READY_LIMIT};
 
     /// What is held before the first byte.
@@ -80,18 +80,27 @@ impl Held {
         requires output { mark.output ≤ length (waiting self.old.output) }
         requires messages { mark.messages ≤ length (waiting self.old.messages) }
         ensures good { result ≡ true → StaysWithin mark.output self.old self.new }
-        ensures over { result ≡ false → IsCutBack mark.output mark.messages self.old self.new }
+        ensures over { result ≡ false → IsCutBack mark self.old self.new }
     {
         if self.limit == 0 {
             return true;
         }
         let added = (self.output.count() - mark.output) as u64;
         if added > self.left {
-            self.output.cut(mark.output);
-            self.messages.cut(mark.messages);
+            self.cut_back(mark);
             return false;
         }
         self.left -= added;
         true
+    }
+
+    /// Lets go of what came of both texts since a mark.
+    pub(crate) fn cut_back(&mut self, mark: Mark)
+        requires output { mark.output ≤ length (waiting self.old.output) }
+        requires messages { mark.messages ≤ length (waiting self.old.messages) }
+        ensures { AreCutTo mark self.old self.new }
+    {
+        self.output.cut(mark.output);
+        self.messages.cut(mark.messages);
     }
 }

@@ -6,7 +6,7 @@ ghost use Rattle.rnxcmp_c.specs.declared.answer.Answer.{Answer};
 ghost use Rattle.rnxcmp_c.specs.declared.held.Held.{Held};
 ghost use Rattle.rnxcmp_c.specs.declared.reader.Reader.{Reader};
 ghost use Rattle.rnxcmp_c.specs.meaning.Answers.{AnswersWithin, IsTooLong, KeepsToLimit, Rooms};
-ghost use Rattle.rnxcmp_c.specs.meaning.Handles.{CallAnswersAlike, CallAnswersTooLong, HandlePast, KeptTexts, RunHasResult, RunHasTooMuch, RunPassesLimit, Task, all_taken, limit_for, nothing_kept, result_for};
+ghost use Rattle.rnxcmp_c.specs.meaning.Handles.{BothTexts, CallAnswersAlike, CallAnswersTooLong, HandlePast, RunHasResult, RunHasTooMuch, RunPassesLimit, Task, fed_with, limit_for, nothing_fed, nothing_kept, result_for, taken_with};
 
 /// What a handle holds, in full, and how much that is beside its engine, whatever was fed: one that takes over these parts of another is
 /// that other. So there is no part beside them, in which a record of the past lines could grow.
@@ -25,17 +25,19 @@ pub fn a_handle_answers_as_a_call()
         → KeepsToLimit (limit_for task) past.output
         → AnswersWithin (limit_for task) (result_for task past.fed) call before after
         → length past.output ≤ length before.output → CallAnswersAlike past answer call before after }
-    ensures limit { (task : Task) (past : HandlePast) (kept : KeptTexts)
+    ensures limit { (task : Task) (past : HandlePast) (kept : BothTexts)
         (answer call : Answer) (before after : Rooms) → RunPassesLimit task past kept answer
         → AnswersWithin (limit_for task) (result_for task past.fed) call before after
         → (call.status ≡ answer.status) × (call.code ≡ answer.code) × (call.line ≡ answer.line) }
-    ensures long { (task : Task) (past : HandlePast) (kept : KeptTexts)
+    ensures long { (task : Task) (past : HandlePast) (kept : BothTexts)
         (answer call : Answer) (before after : Rooms) → RunHasTooMuch task past kept answer
         → IsTooLong call before after → CallAnswersTooLong past answer call before after }
     ensures instance { (task : Task) (fed : List ℕ)
         → KeepsToLimit (limit_for task) (result_for task fed).output
         → (answer : Answer) × (call : Answer) × (before : Rooms) × (after : Rooms)
-        × RunHasResult (result_for task fed) (all_taken task fed) nothing_kept answer
+        × RunHasResult (result_for task fed)
+        (taken_with (fed_with nothing_fed fed) (result_for task fed).output (result_for task fed).messages)
+        nothing_kept answer
         × AnswersWithin (limit_for task) (result_for task fed) call before after
         × (length (result_for task fed).output ≤ length before.output) }
 {}

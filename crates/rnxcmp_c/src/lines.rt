@@ -1,15 +1,15 @@
 //! Lines out of the bytes that are fed, through an engine.
 
-ghost use Rattle.std.specs.Prelude.{◌≡◌, ◌⊎◌, ◌≤◌, ◌<◌, ◌+◌, ◌-◌, ℕ, List, [], length, take, drop, false, true, is_some, IsOk, OnOk, OnErr, IfOk, IfErr};
-ghost use Rattle.crx_faults.specs.declared.fault.At.{At};
+ghost use Rattle.std.specs.Prelude.{◌≡◌, ◌⊎◌, ◌≤◌, ◌<◌, ◌+◌, ◌-◌, ℕ, List, [], length, take, drop, None, false, true, IsOk, OnOk, OnErr, IfOk, IfErr};
+ghost use Rattle.crx_faults.specs.declared.fault.Fault.TheVariants.{OutOfMemory};
 ghost use Rattle.crx_faults.specs.declared.limits.TheConstants.{INPUT_LIMIT};
 ghost use Rattle.crx_faults.specs.meaning.Lines.{InputLine, ends_with_return, lines_of, without_return};
 ghost use Rattle.crx_lines.specs.Reading.{HasNoFeed};
 ghost use Rattle.crx_runs.specs.Lawful.{IsLawful};
 ghost use Rattle.crx_runs.specs.meaning.Filters.{with_next};
-ghost use Rattle.rnxcmp_c.specs.Going.{IsAll, IsGoing, IsKept, IsTaken, LineStops, MovesOn, MovesWithin, RunBreaks, RunFails, StepStops, StopsBy, piece_line};
+ghost use Rattle.rnxcmp_c.specs.Going.{IsAll, IsGoing, IsKept, IsTaken, MovesOn, MovesWithin, RunBreaks, RunFails, StepStops, StopsBy, piece_line};
 ghost use Rattle.rnxcmp_c.specs.meaning.Handles.{HandlePast, StopsSoon, fed_with};
-ghost use Rattle.rnxcmp_c.specs.Holding.{StaysWithin, StopsCounted, ready_in};
+ghost use Rattle.rnxcmp_c.specs.Holding.{AreCutTo, StaysWithin, StopsCounted, ready_in};
 ghost use Rattle.rnxcmp_c.specs.Waiting.{waiting};
 ghost use Rattle.rnxcmp_c.specs.declared.limits.TheConstants.{LINE_ROOM, READY_LIMIT};
 
@@ -22,22 +22,6 @@ use crx_lines::Line;
 use crx_lines::feed::feed_from;
 use crx_runs::Engine;
 use crx_runs::taking::{Halt, take_end, take_line, take_overlong};
-
-/// The fault that ended a run at a line: where the output or the messages couldn't be kept, memory ran out.
-fn fault_of(halt: Halt, line: u64) -> At
-    ensures fault { (at : At) → halt ≡ Halt.Fault at → result ≡ at }
-    ensures unwritten { halt ≡ Halt.Unwritten → result.fault ≡ Fault.OutOfMemory }
-    ensures unreported { halt ≡ Halt.Unreported → result.fault ≡ Fault.OutOfMemory }
-    ensures line { (halt ≡ Halt.Unwritten) ⊎ (halt ≡ Halt.Unreported) → result.line ≡ line }
-{
-    match halt {
-        Halt::Fault(at) => at,
-        Halt::Unwritten | Halt::Unreported => At {
-            line,
-            fault: Fault::OutOfMemory,
-        },
-    }
-}
 
 /// Whether a CR ends some bytes.
 fn has_return(bytes: &[u8]) -> bool
@@ -84,7 +68,7 @@ fn give_line<E: Engine>(
     ensures stops { (lines : List InputLine) (whole : List ℕ) → E.shows engine.old lines []
         → bytes.now ≡ take LINE_ROOM whole
         → IfErr result (λ halt. StopsBy (length lines + 1)
-        (is_some ((E.filter engine.old).memory_after lines (piece_line whole is_ended)))
+        ((E.filter engine.old).memory_after lines (piece_line whole is_ended))
         ((E.filter engine.old).so_far lines)
         ((E.filter engine.old).so_far (with_next lines (piece_line whole is_ended)))
         output.old output.new messages.old messages.new halt) }
@@ -103,7 +87,7 @@ fn give_line<E: Engine>(
 }
 
 /// Takes what is kept of a line as a line, and lets go of it.
-fn take_piece<E: Engine>(engine: &mut E, held: &mut Held, is_ended: bool) -> Result<(), At>
+fn take_piece<E: Engine>(engine: &mut E, held: &mut Held, is_ended: bool) -> Result<(), Halt>
     requires drained { E.ready engine.old ≡ [] }
     requires running { E.is_open engine.old }
     requires next { held.old.number ≡ E.taken engine.old }
@@ -123,11 +107,11 @@ fn take_piece<E: Engine>(engine: &mut E, held: &mut Held, is_ended: bool) -> Res
         held.old held.new) }
     ensures stops { (lines : List InputLine) (whole : List ℕ) → E.shows engine.old lines []
         → held.old.tail.bytes.items ≡ take LINE_ROOM whole
-        → IfErr result (λ at. LineStops (length lines + 1)
-        (is_some ((E.filter engine.old).memory_after lines (piece_line whole is_ended)))
+        → IfErr result (λ halt. StopsBy (length lines + 1)
+        ((E.filter engine.old).memory_after lines (piece_line whole is_ended))
         ((E.filter engine.old).so_far lines)
         ((E.filter engine.old).so_far (with_next lines (piece_line whole is_ended)))
-        held.old.output held.new.output held.old.messages held.new.messages at) }
+        held.old.output held.new.output held.old.messages held.new.messages halt) }
 {
     let number = held.number + 1;
     let warned = give_line(
@@ -137,28 +121,43 @@ fn take_piece<E: Engine>(engine: &mut E, held: &mut Held, is_ended: bool) -> Res
         held.tail.as_slice(),
         number,
         is_ended,
-    )
-    .map_err(|halt| fault_of(halt, number))?;
+    )?;
     held.tail.clear();
     held.number = number;
     held.warned = held.warned || warned;
     Ok(())
 }
 
-/// Counts the output since a mark, whatever a step came to: where it is more than there may be, that ends the run.
-fn counted(held: &mut Held, mark: Mark, taken: Result<(), At>) -> Result<(), Stop>
+/// One of the texts couldn't be kept: memory ran out at the line of this number, and what came of both since a mark is let go of.
+fn out_of_memory(held: &mut Held, mark: Mark, number: u64) -> Stop
+    requires output { mark.output ≤ length (waiting held.old.output) }
+    requires messages { mark.messages ≤ length (waiting held.old.messages) }
+    ensures cut { AreCutTo mark held.old held.new }
+    ensures stop { result ≡ Stop.Fault (record { line = number; fault = OutOfMemory }) }
+{
+    held.cut_back(mark);
+    Stop::Fault(At {
+        line: number,
+        fault: Fault::OutOfMemory,
+    })
+}
+
+/// Counts the output since a mark, whatever the step of a line came to: where it is more than there may be, that ends the run.
+fn counted(held: &mut Held, mark: Mark, number: u64, taken: Result<(), Halt>) -> Result<(), Stop>
     requires output { mark.output ≤ length (waiting held.old.output) }
     requires messages { mark.messages ≤ length (waiting held.old.messages) }
     ensures limit { held.new.limit ≡ held.old.limit }
     ensures good { OnOk result (IsOk taken × StaysWithin mark.output held.old held.new) }
-    ensures stops { IfErr result (StopsCounted taken mark held.old held.new) }
+    ensures stops { IfErr result (StopsCounted taken mark number held.old held.new) }
 {
     if !held.count_since(mark) {
         return Err(Stop::Limit);
     }
     match taken {
         Ok(()) => Ok(()),
-        Err(at) => Err(Stop::Fault(at)),
+        Err(Halt::Fault(at)) => Err(Stop::Fault(at)),
+        Err(Halt::Unwritten) => Err(out_of_memory(held, mark, number)),
+        Err(Halt::Unreported) => Err(out_of_memory(held, mark, number)),
     }
 }
 
@@ -184,13 +183,14 @@ fn take_within<E: Engine>(engine: &mut E, held: &mut Held, is_ended: bool) -> Re
     ensures stops { (lines : List InputLine) (whole : List ℕ) → E.shows engine.old lines []
         → held.old.tail.bytes.items ≡ take LINE_ROOM whole
         → IfErr result (StepStops (length lines + 1)
-        (is_some ((E.filter engine.old).memory_after lines (piece_line whole is_ended)))
+        ((E.filter engine.old).memory_after lines (piece_line whole is_ended))
         ((E.filter engine.old).so_far lines)
         ((E.filter engine.old).so_far (with_next lines (piece_line whole is_ended))) held.old held.new) }
 {
     let mark = held.mark();
+    let number = held.number + 1;
     let taken = take_piece(engine, held, is_ended);
-    counted(held, mark, taken)
+    counted(held, mark, number, taken)
 }
 
 /// Takes the first of some bytes, and answers how many: a line's, with its LF; where no LF is among them, all of them.
@@ -267,7 +267,7 @@ pub(crate) fn take_bytes<E: Engine>(
 }
 
 /// Gives the end of the input to an engine.
-fn end_run<E: Engine>(engine: &mut E, held: &mut Held) -> Result<(), At>
+fn end_run<E: Engine>(engine: &mut E, held: &mut Held) -> Result<(), Halt>
     requires drained { E.ready engine.old ≡ [] }
     requires running { E.is_open engine.old }
     requires within { E.taken engine.old ≤ INPUT_LIMIT }
@@ -278,14 +278,11 @@ fn end_run<E: Engine>(engine: &mut E, held: &mut Held) -> Result<(), At>
         → OnOk result (MovesOn ((E.filter engine.old).so_far lines) ((E.filter engine.old).whole lines)
         (E.has_ended engine.new lines) held.old held.new) }
     ensures stops { (lines : List InputLine) → E.shows engine.old lines []
-        → IfErr result (λ at. LineStops held.old.number false
+        → IfErr result (λ halt. StopsBy held.old.number None
         ((E.filter engine.old).so_far lines) ((E.filter engine.old).whole lines)
-        held.old.output held.new.output held.old.messages held.new.messages at) }
+        held.old.output held.new.output held.old.messages held.new.messages halt) }
 {
-    let number = held.number;
-    let warned = take_end(engine, &mut held.output, &mut held.messages).map_err(|halt| fault_of(
-        halt, number,
-    ))?;
+    let warned = take_end(engine, &mut held.output, &mut held.messages)?;
     held.warned = held.warned || warned;
     Ok(())
 }
@@ -302,12 +299,13 @@ fn end_within<E: Engine>(engine: &mut E, held: &mut Held) -> Result<(), Stop>
         → OnOk result (MovesWithin ((E.filter engine.old).so_far lines) ((E.filter engine.old).whole lines)
         (E.has_ended engine.new lines) held.old held.new) }
     ensures stops { (lines : List InputLine) → E.shows engine.old lines []
-        → IfErr result (StepStops held.old.number false ((E.filter engine.old).so_far lines)
+        → IfErr result (StepStops held.old.number None ((E.filter engine.old).so_far lines)
         ((E.filter engine.old).whole lines) held.old held.new) }
 {
     let mark = held.mark();
+    let number = held.number;
     let taken = end_run(engine, held);
-    counted(held, mark, taken)
+    counted(held, mark, number, taken)
 }
 
 /// Whether there are no bytes.

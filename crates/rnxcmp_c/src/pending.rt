@@ -113,7 +113,8 @@ impl Pending {
     /// Keeps the first bytes that wait, and lets go of those after them.
     pub(crate) fn cut(&mut self, count: usize)
         requires { count ≤ length (waiting self.old) }
-        ensures { waiting self.new ≡ take count (waiting self.old) }
+        ensures first { waiting self.new ≡ take count (waiting self.old) }
+        ensures counts { CountsAlike self.old self.new }
     {
         let passed = self.passed;
         self.bytes.copy_within(passed..passed + count, 0);

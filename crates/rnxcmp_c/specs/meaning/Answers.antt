@@ -1,4 +1,4 @@
--- What a call answers, and what stands in the caller's memory after it.
+-- What a call answers, and what is in the caller's memory after it.
 use Rattle.std.specs.Prelude.{◌≡◌, ◌<◌, ◌≤◌, ℕ, List, ◌++◌, take, drop, length, nat_le, Option, Some, None, if◌then◌else◌}
 use Rattle.crx_faults.specs.meaning.Faults.{code_of_fault}
 use Rattle.crx_faults.specs.declared.fault.At.{At}
@@ -7,32 +7,34 @@ use Rattle.crx_runs.specs.meaning.Results.{FilterResult}
 use Rattle.rnxcmp_c.specs.declared.answer.Answer.{Answer}
 use Rattle.rnxcmp_c.specs.declared.answer.TheConstants.{NO_ROOM, BAD_DATE, OUTPUT_LIMIT}
 
--- the bytes in the caller's two rooms, at one moment
+-- These are the bytes in the caller's two rooms at one moment.
 pub record Rooms : Type 0 where
   pub output : List ℕ
   pub messages : List ℕ
 
+-- These are rooms with such bytes.
 abbrev pub rooms : List ℕ → List ℕ → Rooms
 rooms output messages = record { output = output; messages = messages }
 
--- some room once a text was put there: the text as far as it fits, and after it what stood there
+-- A room in which a text was placed has the text as far as it fits, and after it what it had there before.
 abbrev pub placed : List ℕ → List ℕ → List ℕ
 placed text room = take (length room) text ++ drop (length text) room
 
--- the number of the fault that ended a run, and its line; 0 where none did
+-- This is the number of the fault that ended a run; 0 where none did.
 abbrev pub fault_code_in : Option At → ℕ
 fault_code_in None = 0
 fault_code_in (Some at) = code_of_fault at.fault
 
+-- This is the line of that fault; 0 where there is none.
 abbrev pub line_in : Option At → ℕ
 line_in None = 0
 line_in (Some at) = at.line
 
--- the status of a result in so much room for its output
+-- The status of a result is its own where the room has so many bytes that its output fits, and else NO_ROOM.
 abbrev pub status_in : FilterResult → ℕ → ℕ
 status_in result room = if nat_le (length result.output) room then result.status else NO_ROOM
 
--- a call answered this result, and put its output and its messages into the caller's rooms
+-- A call answered this result, and put its output and its messages into the caller's rooms.
 pub record IsAnswer (result : FilterResult) (answer : Answer) (before after : Rooms) : Type 0 where
   pub status : answer.status ≡ status_in result (length before.output)
   pub code : answer.code ≡ fault_code_in result.fault
@@ -42,47 +44,43 @@ pub record IsAnswer (result : FilterResult) (answer : Answer) (before after : Ro
   pub output : after.output ≡ placed result.output before.output
   pub messages : after.messages ≡ placed result.messages before.messages
 
--- an output isn't longer than it may be; 0 is no limit
+-- An output isn't longer than it may be; 0 is no limit.
 abbrev pub KeepsToLimit : ℕ → List ℕ → Type 0
 KeepsToLimit most output = 0 < most → length output ≤ most
 
--- it is longer
+-- An output is longer than it may be.
 abbrev pub ExceedsLimit : ℕ → List ℕ → Type 0
 ExceedsLimit most output = (0 < most) × (most < length output)
 
 -- ---- where there is no result
 
--- an answer with a status, a line and a fault's number alone
+-- This is an answer that has a status, a line and a fault's number alone.
 abbrev pub bare_answer : ℕ → ℕ → ℕ → Answer
 bare_answer status line code =
     record { line = line; output_length = 0; messages_length = 0; status = status; code = code }
 
--- nothing in the caller's rooms was changed
-abbrev pub IsUntouched : Rooms → Rooms → Type 0
-IsUntouched before after = after ≡ before
-
--- the date was refused
+-- The date was refused, and nothing in the caller's rooms was changed.
 abbrev pub IsDateRefused : Answer → Rooms → Rooms → Type 0
-IsDateRefused answer before after = (answer ≡ bare_answer BAD_DATE 0 0) × IsUntouched before after
+IsDateRefused answer before after = (answer ≡ bare_answer BAD_DATE 0 0) × (after ≡ before)
 
--- the input is longer than the limit
+-- The input is longer than the limit, and nothing in the rooms was changed.
 abbrev pub IsTooLong : Answer → Rooms → Rooms → Type 0
-IsTooLong answer before after = (answer ≡ bare_answer 1 0 (code_of_fault InputTooLong)) × IsUntouched before after
+IsTooLong answer before after = (answer ≡ bare_answer 1 0 (code_of_fault InputTooLong)) × (after ≡ before)
 
--- the output is longer than it may be
+-- The output is longer than it may be, and nothing in the rooms was changed.
 abbrev pub IsOverLimit : Answer → Rooms → Rooms → Type 0
-IsOverLimit answer before after = (answer ≡ bare_answer OUTPUT_LIMIT 0 0) × IsUntouched before after
+IsOverLimit answer before after = (answer ≡ bare_answer OUTPUT_LIMIT 0 0) × (after ≡ before)
 
--- a call answered this result, or that its output is longer than it may be
+-- A call answered this result, or that its output is longer than it may be.
 pub record AnswersWithin (most : ℕ) (result : FilterResult) (answer : Answer) (before after : Rooms) : Type 0 where
   pub within : (ExceedsLimit most result.output → ⊥) → IsAnswer result answer before after
   pub over : ExceedsLimit most result.output → IsOverLimit answer before after
 
--- the number that says that memory ran out
+-- The number in an answer says that memory ran out.
 abbrev pub HasNoMemory : Answer → Type 0
 HasNoMemory answer = answer.code ≡ code_of_fault OutOfMemory
 
--- memory ran out, at some line
+-- Memory ran out at some line, and nothing in the rooms was changed.
 abbrev pub CallIsOutOfMemory : Answer → Rooms → Rooms → Type 0
 CallIsOutOfMemory answer before after = (answer ≡ bare_answer 1 answer.line (code_of_fault OutOfMemory))
-    × IsUntouched before after
+    × (after ≡ before)

@@ -4,7 +4,7 @@ use Rattle.std.specs.Prelude.{◌≡◌, true}
 use Rattle.crx_filter.specs.meaning.Lossless.{SaysThatItComesBack}
 use Rattle.crx_options.specs.meaning.Choices.{Choices}
 use Rattle.rnxcmp_c.specs.declared.answer.Answer.{Answer}
-use Rattle.rnxcmp_c.specs.meaning.Handles.{HandlePast, KeptTexts, RunHasResult}
+use Rattle.rnxcmp_c.specs.meaning.Handles.{HandlePast, BothTexts, RunHasResult}
 use Rattle.rnxcmp_c.specs.meaning.Lossless.{CallBringsBackWhatPasses}
 use Rattle.rnxcmp_c.specs.meaning.Promises.{CallBringsBackWhatWasCompacted, CallJudgesStandard}
 use Rattle.rnxcmp_c.specs.meaning.Promises.{CallSavesAllElse}
@@ -12,7 +12,7 @@ use Rattle.rnxcmp_c.specs.meaning.Stretches.{CallKeepsUndamaged, CallWritesWhole
 
 -- an expansion: what passes a check comes back; so does what was compacted; and where faults are skipped, all
 -- but what is damaged is there, or all that is whole before a cut
-pub record ExpansionPromises (choices : Choices) (past : HandlePast) (kept : KeptTexts)
+pub record ExpansionPromises (choices : Choices) (past : HandlePast) (kept : BothTexts)
     (answer : Answer) : Type 0 where
   pub lossless : CallBringsBackWhatPasses (λ whole. RunHasResult whole past kept answer) past.fed
   pub way_back : CallBringsBackWhatWasCompacted (λ whole. RunHasResult whole past kept answer) past.fed

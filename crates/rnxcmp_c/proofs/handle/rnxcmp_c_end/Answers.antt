@@ -1,7 +1,8 @@
 use Rattle.std.proofs.Common.{ℕ, [], ◌∷◌, sym, ap, ◌∙◌, subst}
 use Rattle.crx_options.specs.meaning.Choices.{Choices}
 use Rattle.rnxcmp_c.specs.Handles.{ReaderStands}
-use Rattle.rnxcmp_c.specs.meaning.Handles.{HandlePast, IsLastLine, Task, Expand, Check}
+use Rattle.rnxcmp_c.specs.meaning.Handles.{HandlePast, Task, Expand, Check}
+use Rattle.rnxcmp_c.specs.Handles.{IsLastLine}
 use Rattle.rnxcmp_c.specs.declared.reader.Reader.{Reader}
 use Rattle.rnxcmp_c.specs.Opened.{have_ended}
 use Rattle.rnxcmp_c.proofs.EndedLemmas.{run-check, run-expansion}

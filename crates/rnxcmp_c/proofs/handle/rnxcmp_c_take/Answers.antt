@@ -1,9 +1,8 @@
-use Rattle.std.proofs.Common.{ℕ, List, [], ◌∷◌, length, take, drop, Option, is_some, sym, ap, ◌∙◌, subst}
-use Rattle.crx_runs.specs.declared.outcome.Outcome.{Outcome}
+use Rattle.std.proofs.Common.{ℕ, List, [], ◌∷◌, length, take, drop, sym, ap, ◌∙◌, subst}
 use Rattle.crx_options.specs.meaning.Choices.{Choices}
-use Rattle.rnxcmp_c.specs.Handles.{ReaderStands}
-use Rattle.rnxcmp_c.specs.meaning.Handles.{HandlePast, IsLineReached, Task, Expand, Check, taken_with}
-use Rattle.rnxcmp_c.specs.Opened.{have_ended, messages_kept, output_kept}
+use Rattle.rnxcmp_c.specs.Handles.{IsLineReached, ReaderStands, state_now}
+use Rattle.rnxcmp_c.specs.meaning.Handles.{HandlePast, Task, Expand, Check, taken_with}
+use Rattle.rnxcmp_c.specs.Opened.{messages_kept, output_kept, run_in}
 use Rattle.rnxcmp_c.specs.meaning.Answers.{placed}
 use Rattle.rnxcmp_c.specs.declared.reader.Reader.{Reader}
 use Rattle.rnxcmp_c.proofs.EndedLemmas.{ended-where, run-check, run-expansion}
@@ -94,21 +93,24 @@ returns-clause-sound c = λ is_open.
 pub returns-clause-still : goal.returns-clause-still
 returns-clause-still c =
     let holds = c.take_out-reader.ensures.reader ∙ ap (λ (r : Reader). r ∷ []) (sym c.deref_mut.ensures.value) in
-    ap have_ended c.put_in.ensures.reader ∙ ap (λ (o : Option Outcome). is_some o) c.hand_out-answer.ensures.same
-    ∙ sym (ap have_ended holds)
+    ap run_in c.put_in.ensures.reader ∙ ap state_now c.hand_out-answer.ensures.same ∙ sym (ap run_in holds)
 
 pub returns-clause-promise : goal.returns-clause-promise
 returns-clause-promise c = λ (task : Task) (past : HandlePast) stands.
     let holds = c.take_out-reader.ensures.reader ∙ ap (λ (r : Reader). r ∷ []) (sym c.deref_mut.ensures.value) in
     let same = one-held c.args.handle.now.place.held stands.reader c.deref_mut.result.now stands.holds holds in
-    let new = c.hand_out-answer.new.self in
-    handle-promise task _ new
-    (taken_with past (take (length c.args.output.now) (output_kept c.args.handle.now.place.held))
-    (take (length c.args.messages.now) (messages_kept c.args.handle.now.place.held)))
-    c.hand_out-answer.result c.put_in.ensures.reader c.hand_out-answer.ensures.answer
-    (subst (λ (l : List Reader). ReaderStands task new (taken_with past (take (length c.args.output.now) (output_kept l))
-    (take (length c.args.messages.now) (messages_kept l)))) (sym holds)
-    (c.hand_out-answer.ensures.stands task past (subst (λ (r : Reader). ReaderStands task r past) same stands.stands)))
+    let new = c.hand_out-answer.new.self in (
+      returns-clause-still c,
+      handle-promise task _ new
+          (taken_with past (take (length c.args.output.now) (output_kept c.args.handle.now.place.held))
+          (take (length c.args.messages.now) (messages_kept c.args.handle.now.place.held)))
+          c.hand_out-answer.result c.put_in.ensures.reader c.hand_out-answer.ensures.answer
+          (subst (λ (l : List Reader). ReaderStands task new
+          (taken_with past (take (length c.args.output.now) (output_kept l))
+          (take (length c.args.messages.now) (messages_kept l)))) (sym holds)
+          (c.hand_out-answer.ensures.stands task past
+          (subst (λ (r : Reader). ReaderStands task r past) same stands.stands))),
+    )
 
 pub returns-clause-expansion : goal.returns-clause-expansion
 returns-clause-expansion c = λ (choices : Choices) (limit : ℕ)

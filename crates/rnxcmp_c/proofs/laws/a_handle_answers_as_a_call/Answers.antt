@@ -2,7 +2,8 @@ use Rattle.std.proofs.Common.{◌≡◌, ◌≤◌, ℕ, List, length, arith, re
 use Rattle.crx_runs.specs.meaning.Results.{FilterResult}
 use Rattle.rnxcmp_c.specs.declared.answer.Answer.{Answer}
 use Rattle.rnxcmp_c.specs.meaning.Answers.{ExceedsLimit, Rooms, fault_code_in, line_in, placed, rooms, status_in}
-use Rattle.rnxcmp_c.specs.meaning.Handles.{HandlePast, KeptTexts, Task, handle_answer, limit_for, nothing_kept, result_for}
+use Rattle.rnxcmp_c.specs.meaning.Handles.{BothTexts, HandlePast, Task, handle_answer, limit_for}
+use Rattle.rnxcmp_c.specs.meaning.Handles.{nothing_kept, result_for}
 use Rattle.rnxcmp_c.proofs.Kept.{status-where_it_fits}
 use Rattle.rnxcmp_c.proofs.laws.a_handle_answers_as_a_call.Goals as goal
 
@@ -31,7 +32,7 @@ returns-clause-same c = λ (task : Task) (past : HandlePast) (answer call : Answ
     }
 
 pub returns-clause-limit : goal.returns-clause-limit
-returns-clause-limit c = λ (task : Task) (past : HandlePast) (kept : KeptTexts) (answer call : Answer)
+returns-clause-limit c = λ (task : Task) (past : HandlePast) (kept : BothTexts) (answer call : Answer)
     (before after : Rooms) run answers.
     let over = (answers.over run.exceeds).0 in (
       ap (λ (a : Answer). a.status) over ∙ sym (ap (λ (a : Answer). a.status) run.answered),
@@ -40,7 +41,7 @@ returns-clause-limit c = λ (task : Task) (past : HandlePast) (kept : KeptTexts)
     )
 
 pub returns-clause-long : goal.returns-clause-long
-returns-clause-long c = λ (task : Task) (past : HandlePast) (kept : KeptTexts) (answer call : Answer)
+returns-clause-long c = λ (task : Task) (past : HandlePast) (kept : BothTexts) (answer call : Answer)
     (before after : Rooms) much long. record {
       status = ap (λ (a : Answer). a.status) long.0 ∙ sym (ap (λ (a : Answer). a.status) much.answered);
       code = ap (λ (a : Answer). a.code) long.0 ∙ sym (ap (λ (a : Answer). a.code) much.answered);

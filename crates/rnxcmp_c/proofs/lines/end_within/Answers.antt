@@ -1,4 +1,4 @@
-use Rattle.std.proofs.Common.{ℕ, ◌≤◌, List, false, length, sym, subst}
+use Rattle.std.proofs.Common.{ℕ, ◌≤◌, List, None, length, sym, subst}
 use Rattle.std.proofs.lemmas.Result.{IfErr-weaker, on_ok_weaker}
 use Rattle.crx_faults.specs.meaning.Lines.{InputLine}
 use Rattle.rnxcmp_c.specs.Waiting.{waiting}
@@ -22,7 +22,7 @@ counted-requires-clause-messages g c =
 pub returns-clause-done : goal.returns-clause-done
 returns-clause-done g c = λ (lines : List InputLine) shown.
     on_ok_weaker c.counted.result
-    (λ p. step-stays 0 false _ _ _ c.args.held.now c.end_run-taken.new.held c.counted.new.held
+    (λ p. step-stays 0 None _ _ _ c.args.held.now c.end_run-taken.new.held c.counted.new.held
     c.mark-mark.result
     c.mark-mark.ensures.output c.mark-mark.ensures.messages c.end_run-taken.ensures.limit
     c.end_run-taken.ensures.left c.end_run-taken.result (c.end_run-taken.ensures.done lines shown) p.0 p.1)

@@ -1,4 +1,4 @@
-use Rattle.std.proofs.Common.{◌≡◌, ◌+◌, ℕ, List, [], is_some, length, IfErr, IfOk, ap, subst, ◌∙◌, ◌<◌, ◌≤◌}
+use Rattle.std.proofs.Common.{◌≡◌, ◌+◌, ℕ, List, [], length, IfErr, IfOk, ap, subst, ◌∙◌, ◌<◌, ◌≤◌}
 use Rattle.std.proofs.Common.{rules}
 use Rattle.std.proofs.lemmas.Bool.{lt-ltb}
 use Rattle.std.proofs.lemmas.Result.{IfErr-weaker, IfOk-weaker}
@@ -64,7 +64,7 @@ returns-clause-stops g c = λ (lines : List InputLine) (whole : List ℕ) shown 
     let same : line_shown c.of.result ≡ piece_line c.args.bytes.now c.args.is_ended =
     elim c.if-is_ended.branch [ then-is_ended w ↦ search rules | else-is_ended w ↦ search rules ] in
     subst (λ (line : InputLine). IfErr c.take_line.result (λ halt. StopsBy (length lines + 1)
-    (is_some (filter.memory_after lines line)) (filter.so_far lines) (filter.so_far (with_next lines line))
+    (filter.memory_after lines line) (filter.so_far lines) (filter.so_far (with_next lines line))
     c.args.output.now c.take_line.new.writer c.args.messages.now c.take_line.new.messages halt))
     (same ∙ ap (λ (bs : List ℕ). piece_line bs c.args.is_ended) all)
     (IfErr-weaker c.take_line.result _ _

@@ -1,5 +1,5 @@
-use Rattle.std.proofs.Common.{◌≡◌, ℕ, ◌+◌, ◌<◌, List, [], ◌∷◌, length, OnOk, IfErr, sym, ap, subst, false, ◌∙◌}
-use Rattle.std.proofs.Common.{arith, length-append, length-take}
+use Rattle.std.proofs.Common.{◌≡◌, ℕ, ◌+◌, ◌<◌, List, [], ◌∷◌, length, OnOk, IfErr, None, sym, ap, subst}
+use Rattle.std.proofs.Common.{false, ◌∙◌, arith, length-append, length-take}
 use Rattle.rnxcmp_c.specs.declared.limits.TheConstants.{LINE_ROOM}
 use Rattle.std.proofs.lemmas.Result.{on_ok_weaker, IfErr-weaker, err_from_is_err_and}
 use Rattle.crx_faults.specs.meaning.Lines.{InputLine}
@@ -9,7 +9,7 @@ use Rattle.rnxcmp_c.specs.Going.{MovesWithin, StepStops, piece_line}
 use Rattle.rnxcmp_c.specs.meaning.Handles.{HandlePast}
 use Rattle.rnxcmp_c.proofs.GoingLemmas.{all-ended, all-but_last, ends-well, ends-stopped, last-text}
 use Rattle.rnxcmp_c.proofs.GoingLemmas.{last-flag, last-good}
-use Rattle.rnxcmp_c.proofs.GoingLemmas.{last-left, last-stopped}
+use Rattle.rnxcmp_c.proofs.GoingLemmas.{last-left, last-sound, last-stopped}
 use Rattle.rnxcmp_c.proofs.lines.take_last.Goals as goal
 
 pub returns-then-is_blank-clause-ended : goal.returns-then-is_blank-clause-ended
@@ -42,7 +42,7 @@ returns-then-is_blank-clause-fails g c = λ (past : HandlePast) is.
     let whole = all-ended filter (g.E.Engine.shows c.args.engine.now) c.args.held.now past is none in
     IfErr-weaker c.end_within.result _ _
     (λ stop stops. ends-stopped filter c.args.held.now past (ended_lines_of past.fed) is.text is.left
-    c.end_within.new.held is.flag is.unfailed whole c.args.held.now.number is.number stop stops)
+    c.end_within.new.held is.good is.flag is.unfailed whole c.args.held.now.number is.number stop stops)
     (c.end_within.ensures.stops (ended_lines_of past.fed) is.shown)
 
 pub returns-clause-ended : goal.returns-clause-ended
@@ -98,11 +98,13 @@ returns-clause-fails g c = λ (past : HandlePast) is.
     let last : mid.number ≡ length lines = c.in_ok-take_within.ensures.number ∙ ap (λ n. n + 1) is.number
     ∙ sym (length-append (ended_lines_of past.fed) (piece_line is.tail false ∷ [])) in
     let stops = subst (λ (f : Filter). IfErr c.end_within-2.result
-    (StepStops mid.number false (f.so_far lines) (f.whole lines) mid new))
+    (StepStops mid.number None (f.so_far lines) (f.whole lines) mid new))
     c.in_ok-take_within.ensures.filter (c.end_within-2.ensures.stops lines moved.kept.is_shown) in
     IfErr-weaker c.end_within-2.result _ _
     (λ stop e. ends-stopped filter mid past lines (last-text filter shows held past is mid some _ moved)
-    (last-left filter shows held past is mid some _ within) new (last-flag filter shows held past is mid some _ moved)
+    (last-left filter shows held past is mid some _ within) new
+    (last-sound filter shows held past is mid some _ moved)
+    (last-flag filter shows held past is mid some _ moved)
     (last-good filter shows held past is mid some _ moved)
     (all-but_last filter shows held past is some) mid.number last stop e) stops
 

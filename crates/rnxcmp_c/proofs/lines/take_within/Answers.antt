@@ -1,7 +1,8 @@
-use Rattle.std.proofs.Common.{ℕ, ◌≤◌, List, false, length, sym, subst}
+use Rattle.std.proofs.Common.{◌≡◌, ℕ, ◌+◌, ◌≤◌, List, [], None, IfErr, length, ap, sym, subst, ◌∙◌}
 use Rattle.std.proofs.lemmas.List.{take_all}
 use Rattle.std.proofs.lemmas.Result.{IfErr-weaker, on_ok_weaker}
 use Rattle.crx_faults.specs.meaning.Lines.{InputLine}
+use Rattle.rnxcmp_c.specs.Holding.{StopsCounted}
 use Rattle.rnxcmp_c.specs.Waiting.{waiting}
 use Rattle.rnxcmp_c.specs.declared.limits.TheConstants.{LINE_ROOM}
 use Rattle.rnxcmp_c.proofs.WithinLemmas.{more-messages-either, more-output-either, step-stays, step-stops}
@@ -28,7 +29,7 @@ counted-requires-clause-messages g c =
 pub returns-clause-done : goal.returns-clause-done
 returns-clause-done g c = λ (lines : List InputLine) (whole : List ℕ) shown kept.
     on_ok_weaker c.counted.result
-    (λ p. step-stays 0 false _ _ _ c.args.held.now c.take_piece-taken.new.held c.counted.new.held
+    (λ p. step-stays 0 None _ _ _ c.args.held.now c.take_piece-taken.new.held c.counted.new.held
     c.mark-mark.result
     c.mark-mark.ensures.output c.mark-mark.ensures.messages c.take_piece-taken.ensures.limit
     c.take_piece-taken.ensures.left c.take_piece-taken.result
@@ -37,6 +38,8 @@ returns-clause-done g c = λ (lines : List InputLine) (whole : List ℕ) shown k
 
 pub returns-clause-stops : goal.returns-clause-stops
 returns-clause-stops g c = λ (lines : List InputLine) (whole : List ℕ) shown kept.
+    let number : c.args.held.now.number ≡ length lines =
+    c.requires.next ∙ g.met.E.Engine.counted c.args.engine.now lines [] shown in
     IfErr-weaker c.counted.result _ _
     (λ stop s. step-stops _ _ _ _ _ c.args.held.now c.take_piece-taken.new.held c.counted.new.held
     c.mark-mark.result
@@ -44,4 +47,5 @@ returns-clause-stops g c = λ (lines : List InputLine) (whole : List ℕ) shown 
     c.take_piece-taken.ensures.left c.take_piece-taken.result
     (c.take_piece-taken.ensures.done lines whole shown kept)
     (c.take_piece-taken.ensures.stops lines whole shown kept) stop s)
-    c.counted.ensures.stops
+    (subst (λ (n : ℕ). IfErr c.counted.result (StopsCounted c.take_piece-taken.result c.mark-mark.result n
+    c.take_piece-taken.new.held c.counted.new.held)) (ap (λ n. n + 1) number) c.counted.ensures.stops)
