@@ -1,4 +1,4 @@
--- An encoder between two lines: the tail of the epochs before; and of the epoch that is open, whether it is in full, and its rows so far.
+-- An encoder between two lines: the tail of the epochs before; and of the open epoch, whether it was asked for in full, and its rows so far.
 use Rattle.std.specs.Prelude.{◌≡◌, ℕ, List, [], Bool, true, false, Option, None, Some, if◌then◌else◌}
 use Rattle.crx_compact.specs.Placing.{OpenHistory, IsBetween, tail_of_history}
 use Rattle.crx_compact.specs.Steps.{tail_written_after}
@@ -7,8 +7,8 @@ use Rattle.crx_compact.specs.Written.{AreRowsWritten}
 use Rattle.crx_compact.specs.declared.lines.TheConstants.{FIRST_LINES}
 use Rattle.crx_rinex.specs.meaning.Observations.{Row}
 
--- the tail of the epochs before, or none; whether an epoch is open, and then whether it is in full, and its rows so far; and the lines that
--- are pending
+-- the tail of the epochs before, or none; whether an epoch is open, and then whether it was asked for in full, and its rows so far; and the
+-- lines that are pending
 pub record EncoderState : Type 0 where
   pub before : Option Tail
   pub is_open : Bool

@@ -14,7 +14,7 @@ pub record AreCut (lengths text : List ℕ) (past past_bytes : ℕ) : Type 0 whe
   pub bytes_within : past_bytes ≤ length text
   pub whole : lines_text (cut (drop past lengths) (drop past_bytes text)) ≡ drop past_bytes text
 
--- lines that are pending; how many lines more, of how many bytes, there is room for; for how many lines room is always kept in front of the
+-- lines that are pending; how many lines more, of how many bytes, there is room for; for how many lines room is left in front of the
 -- first one; and how many can be put there now
 pub record PendingLines : Type 0 where
   pub lines : List (List ℕ)
@@ -23,6 +23,6 @@ pub record PendingLines : Type 0 where
   pub reserved : ℕ
   pub front : ℕ
 
--- so many lines, each as long as a line may be, and of so many bytes, are room for some more
+-- there is place for so many lines, each as long as a line may be, among so many lines and bytes
 abbrev pub HasFront : ℕ → ℕ → ℕ → Type 0
 HasFront front lines bytes = (front ≤ lines) × (front * (LINE_LIMIT + 1) ≤ bytes)

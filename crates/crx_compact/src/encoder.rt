@@ -24,10 +24,10 @@ pub struct Encoder {
     history: History,
     /// Whether an epoch came since everything was last forgotten.
     is_kept: bool,
-    /// Whether the open epoch is in full.
+    /// Whether the open epoch was asked for in full; it is in full also where nothing is kept.
     in_full: bool,
     ready: ReadyLines,
-    part: Text,
+    part: Box<Text>,
     /// The tail of the epochs before the open one, whose rows change the history in place.
     before: KeptTail,
     /// The rows of the open epoch so far.
@@ -70,12 +70,13 @@ impl Encoder {
         ensures pending { IfOk result (λ e. e.pending ≡ []) }
     {
         let ready = ReadyLines::new(alloc)?;
+        let part = Box::new(alloc, Text::new())?;
         Ok(Encoder {
             history: History::new(alloc),
             is_kept: false,
             in_full: false,
             ready,
-            part: Text::new(),
+            part,
             before: KeptTail::none(),
             rows: RowsSoFar::new(),
         })
@@ -122,7 +123,8 @@ impl Encoder {
         self.ready.copy_header(date, is_first, line);
     }
 
-    /// Begins an epoch: in full, where that is asked for or there is no epoch before, else as differences from the epoch before.
+    /// Begins an epoch, in place of all lines: in full, where that is asked for or there is no epoch before, else as differences from the
+    /// epoch before.
     pub fn begin(&mut self, full: bool)
         requires closed { self.old.is_open ≡ false }
         ensures begun { self.new ≡ record self.old { is_open = true; in_full = full; rows = []; pending = [] } }

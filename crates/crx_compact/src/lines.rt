@@ -30,15 +30,15 @@ pub(crate) const FIRST_LINES: usize = 2;
 pub struct Lines {
     /// The lines; the bytes after them are of earlier, longer texts, and mean nothing.
     bytes: Vec<u8>,
-    /// How many of the bytes are lines.
+    /// How many of the bytes are lines, the room in front of them among these.
     filled: usize,
     /// The length of each line; those after the lines are of earlier ones, and mean nothing.
     lengths: Vec<usize>,
-    /// How many lines there are.
+    /// How many lines there are, with those for which room is left in front.
     count: usize,
     handed_out: usize,
     handed_out_bytes: usize,
-    /// For how many lines there is always room in front of the first one.
+    /// For how many lines room is left in front of the first one, whenever all lines are dropped.
     reserved: usize,
     /// How many lines can be put in front of those that are pending.
     front: usize,

@@ -210,7 +210,7 @@ fn take_row(
     }
 }
 
-/// How many observations the rows of the epoch have, with that of a line that was taken.
+/// How many observations the rows of the epoch have, with those of a line that was taken.
 fn observed_with(observed: u64, reader: &RinexReader, step: RinexStep) -> u64
     requires counting { IsCounting step observed reader.now }
     ensures begun { step ≡ RinexStep.Begun → IsObserved result reader.now.rows.rows }
