@@ -1,3 +1,4 @@
+pub mod Words
 pub mod reading
 pub mod following
 pub mod steps

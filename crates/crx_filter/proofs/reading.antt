@@ -1,4 +1,5 @@
 -- How the reading of a file goes from line to line, where it stops, and what was accepted.
+pub mod Each
 pub mod Resuming
 pub mod WhatStands
 pub mod KeptThroughout

@@ -1,33 +1,23 @@
 -- The reading of a block of compact text whose lines but the first don't begin with >: some epochs, and then it ends
 -- between two units, inside an epoch, or, after a warning, looking for a line that begins with >.
-use Rattle.std.proofs.Common.{ℕ, zero, suc, ◌≡◌, ◌+◌, ◌-◌, ◌<◌, max, ◌⊎◌, inl, inr, true, false, cond, List, [], ◌∷◌}
-use Rattle.std.proofs.Common.{◌++◌, length, drop, refl, ap, sym, ◌∙◌, subst, arith, append_assoc}
-use Rattle.std.specs.Prelude.{⊤, ◌&&◌, ◌==◌}
-use Rattle.std.specs.List.{AllByRecursion}
-use Rattle.std.proofs.lemmas.List.{length-drop}
-use Rattle.crx_columns.specs.meaning.Columns.{character_at}
-use Rattle.crx_faults.specs.meaning.Seen.{ReadLine, Content, Overlong}
-use Rattle.crx_faults.specs.declared.fault.At.{At}
-use Rattle.crx_faults.specs.declared.fault.Fault.{Fault}
-use Rattle.crx_faults.specs.declared.fault.Fault.TheVariants.{Truncated}
-use Rattle.crx_header.specs.meaning.EpochColumns.{begins_epoch, is_event_flag, is_event_line}
-use Rattle.crx_rinex.specs.meaning.Places.{Place, Here, Wrong, Wanted, one_line}
-use Rattle.crx_rinex.specs.meaning.Units.{Unit as FileUnit, Observation}
-use Rattle.crx_compact.specs.meaning.CompactPlaces.{ReadEpoch, epoch_at}
-use Rattle.crx_reading.specs.meaning.Items.{Item, Accepted, Warned, records_left, types_in_force}
-use Rattle.crx_reading.specs.meaning.Reading.{Reading, AtLines, Looking, is_skipped, looked_for, reading_within}
-use Rattle.crx_reading.specs.meaning.Reading.{reading_from}
-use Rattle.crx_faults.specs.meaning.Faults.{is_skippable}
-use Rattle.crx_reading.specs.meaning.Expanded.{raws_kept, event_line, as_observation, compact_epoch_place}
-use Rattle.crx_reading.specs.meaning.Expanded.{compact_place}
-use Rattle.crx_filter.specs.Anew.{IsBetweenUnits}
+use Rattle.crx_filter.proofs.Words.{ℕ, zero, suc, ◌≡◌, ◌+◌, ◌-◌, ◌<◌, max, ◌⊎◌, inl, inr, true, false, cond}
+use Rattle.crx_filter.proofs.Words.{List, [], ◌∷◌, ◌++◌, length, drop, refl, ap, sym, ◌∙◌, subst, arith}
+use Rattle.crx_filter.proofs.Words.{append_assoc, ⊤, ◌&&◌, ◌==◌, AllByRecursion, length-drop, character_at}
+use Rattle.crx_filter.proofs.Words.{ReadLine, Content, Overlong, At, Fault, Truncated, begins_epoch}
+use Rattle.crx_filter.proofs.Words.{is_event_flag, is_event_line, Place, Here, Wrong, Wanted, one_line}
+use Rattle.crx_filter.proofs.Words.{FileUnit, Observation, ReadEpoch, epoch_at, Item, Accepted, Warned}
+use Rattle.crx_filter.proofs.Words.{records_left, types_in_force, Reading, AtLines, Looking, is_skipped}
+use Rattle.crx_filter.proofs.Words.{looked_for, reading_within, reading_from, is_skippable, raws_kept}
+use Rattle.crx_filter.proofs.Words.{event_line, as_observation, compact_epoch_place, compact_place}
+use Rattle.crx_filter.proofs.Words.{IsBetweenUnits}
 use Rattle.crx_filter.proofs.reading.Resuming.{by_place, here-within, wrong-stays, within-here, within-wrong}
 use Rattle.crx_filter.proofs.reading.Resuming.{within-wanted, fault-skipped, looked-on}
 use Rattle.crx_filter.proofs.following.Following.{body-place}
 use Rattle.crx_filter.proofs.reading.ForwardCompact.{compact-forward}
-use Rattle.crx_filter.proofs.reading.EpochFaults.{IsSkippableAt, epoch-skippable}
+use Rattle.crx_filter.proofs.reading.EpochFaults.{IsSkippableAt, epoch-skippable, place-observation}
 use Rattle.crx_filter.proofs.damage.CutOff.{epoch-cut}
 use Rattle.crx_filter.proofs.following.Expansion.{observation-wanted}
+use Rattle.crx_filter.proofs.reading.Each.{all-drop}
 
 -- ---- the lines of a block
 
@@ -47,18 +37,12 @@ inside-text [] h = tt
 inside-text (Overlong ∷ lines) h = h.0
 inside-text (Content line ∷ lines) h = (ap (λ b. b && is_event_flag (character_at line 32)) h.0, h.1)
 
-inside-drop : (count : ℕ) (lines : List ReadLine)
-    → AllByRecursion IsInside lines → AllByRecursion IsInside (drop count lines)
-inside-drop zero lines h = h
-inside-drop (suc count) [] h = tt
-inside-drop (suc count) (line ∷ lines) h = inside-drop count lines h.1
-
 block-drop : (count : ℕ) (lines : List ReadLine)
     → 0 < count → IsBlockText lines → AllByRecursion IsInside (drop count lines)
 block-drop zero lines some h = absurd (omega (arith, some))
 block-drop (suc count) [] some h = tt
 block-drop (suc count) (Overlong ∷ lines) some h = absurd h
-block-drop (suc count) (Content line ∷ lines) some h = inside-drop count lines h.1
+block-drop (suc count) (Content line ∷ lines) some h = all-drop IsInside count lines h.1
 
 -- ---- what stands at such lines
 
@@ -68,11 +52,9 @@ place-between items lines h = body-place (λ (before : List (Item ReadEpoch)).
     compact_epoch_place (types_in_force before) (raws_kept before)) items lines h.header h.none
 
 pub place-inside : (items : List (Item ReadEpoch)) (line : List ℕ) (lines : List ReadLine)
-    → IsBetweenUnits items → is_event_line line ≡ false
-    → compact_place items (Content line ∷ lines)
+    → IsBetweenUnits items → is_event_line line ≡ false → compact_place items (Content line ∷ lines)
     ≡ as_observation (epoch_at (types_in_force items) (raws_kept items) (Content line ∷ lines))
-place-inside items line lines h e =
-    place-between items (Content line ∷ lines) h
+place-inside items line lines h e = place-between items (Content line ∷ lines) h
     ∙ ap (λ b. cond b (one_line (event_line line))
     (as_observation (epoch_at (types_in_force items) (raws_kept items) (Content line ∷ lines)))) e
 
@@ -81,11 +63,6 @@ pub observation-here : (p : Place ReadEpoch) (unit : FileUnit ReadEpoch) (count 
 observation-here (Here read n) unit count e = (read, cc)
 observation-here (Wrong k fault) unit count e = absurd (cc)
 observation-here Wanted unit count e = absurd (cc)
-
-pub observation-skippable : (p : Place ReadEpoch) → IsSkippableAt p → IsSkippableAt (as_observation p)
-observation-skippable (Here read count) h = tt
-observation-skippable (Wrong offset fault) h = h
-observation-skippable Wanted h = tt
 
 epoch-here : (items : List (Item ReadEpoch)) (lines : List ReadLine) (unit : FileUnit ReadEpoch) (count : ℕ)
     → IsBetweenUnits items → IsBlockText lines → compact_place items lines ≡ Here unit count
@@ -96,32 +73,32 @@ epoch-here items (Content line ∷ lines) unit count h text e =
     observation-here (epoch_at (types_in_force items) (raws_kept items) (Content line ∷ lines)) unit count
     (sym (place-inside items line lines h text.0) ∙ e)
 
-fault-here : (items : List (Item ReadEpoch)) (lines : List ReadLine) (offset : ℕ) (fault : Fault) → IsBetweenUnits items
+fault-here : (items : List (Item ReadEpoch)) (lines : List ReadLine) (offset : ℕ) (fault : Fault)
+    → IsBetweenUnits items
     → IsBlockText lines → compact_place items lines ≡ Wrong offset fault → is_skippable fault ≡ true
 fault-here items [] offset fault h text e = let never = sym (place-between items [] h) ∙ e in absurd (cc)
 fault-here items (Overlong ∷ lines) offset fault h text e = absurd text
 fault-here items (Content line ∷ lines) offset fault h text e =
     subst (λ p. IsSkippableAt p) (sym (place-inside items line lines h text.0) ∙ e)
-    (observation-skippable (epoch_at (types_in_force items) (raws_kept items) (Content line ∷ lines))
+    (place-observation is_skippable (epoch_at (types_in_force items) (raws_kept items) (Content line ∷ lines))
     (epoch-skippable (types_in_force items) (raws_kept items) (Content line ∷ lines)))
 
 pub skipped-here : (items : List (Item ReadEpoch)) (fault : Fault)
     → IsBetweenUnits items → is_skippable fault ≡ true → is_skipped true items fault ≡ true
-skipped-here items fault h may =
-    ap (λ b. b && ((records_left items == 0) && is_skippable fault)) h.header
+skipped-here items fault h may = ap (λ b. b && ((records_left items == 0) && is_skippable fault)) h.header
     ∙ ap (λ n. (n == 0) && is_skippable fault) h.none ∙ may
 
 -- the next line that begins with > cuts an epoch off
 pub place-cut : (items : List (Item ReadEpoch)) (first : List ℕ) (lines : List ReadLine) (line : List ℕ)
     (rest : List ReadLine) → IsBetweenUnits items → is_event_line first ≡ false → begins_epoch line ≡ true
     → compact_place items (Content first ∷ lines) ≡ Wanted
-    → compact_place items (Content first ∷ (lines ++ Content line ∷ rest)) ≡ Wrong (suc (length lines)) Truncated
+    → compact_place items (Content first ∷ (lines ++ Content line ∷ rest))
+    ≡ Wrong (suc (length lines)) Truncated
 place-cut items first lines line rest h none begins e =
     let wanted : epoch_at (types_in_force items) (raws_kept items) (Content first ∷ lines) ≡ Wanted =
     observation-wanted _ (sym (place-inside items first lines h none) ∙ e) in
     let cut : compact_place items (Content first ∷ (lines ++ Content line ∷ []))
-    ≡ Wrong (suc (length lines)) Truncated =
-    place-inside items first (lines ++ Content line ∷ []) h none
+    ≡ Wrong (suc (length lines)) Truncated = place-inside items first (lines ++ Content line ∷ []) h none
     ∙ ap as_observation (epoch-cut (types_in_force items) (raws_kept items) first lines line begins wanted) in
     ap (λ ls. compact_place items (Content first ∷ ls)) (sym (append_assoc lines (Content line ∷ []) rest))
     ∙ wrong-stays compact_place compact-forward items
@@ -147,8 +124,7 @@ reads-types items (read ∷ later) = reads-types (Accepted (Observation read) �
 
 -- a reading has stopped where more lines could make an epoch, or looks for a line that begins with > after a warning
 abbrev pub EndsBlock : List (Item ReadEpoch) → Reading ReadEpoch → Type 0
-EndsBlock items r =
-    ((number : ℕ) × (rest : List ReadLine) × IsBlockText rest
+EndsBlock items r = ((number : ℕ) × (rest : List ReadLine) × IsBlockText rest
     × (compact_place items rest ≡ Wanted) × (r ≡ record { items = items; stop = AtLines number rest }))
     ⊎ ((at : At) × (number : ℕ) × (r ≡ record { items = Warned at ∷ items; stop = Looking number }))
 
@@ -185,24 +161,28 @@ within-block (suc units) items number lines few h text = by_place (compact_place
     let same : reading_within compact_place true (suc units) items number lines ≡ reading_within
     compact_place true units (Accepted (Observation read) ∷ items) (number + count) (drop count lines) =
     within-here compact_place true units items number lines unit count e ∙ ap (λ u.
-    reading_within compact_place true units (Accepted u ∷ items) (number + count) (drop count lines)) epoch.1 in
+    reading_within compact_place true units (Accepted u ∷ items) (number + count) (drop count lines))
+    epoch.1 in
     record {
       reads = read ∷ rest.reads;
-      ends = subst (EndsBlock (with_reads (Accepted (Observation read) ∷ items) rest.reads)) (sym same) rest.ends;
+      ends = subst (EndsBlock (with_reads (Accepted (Observation read) ∷ items) rest.reads))
+          (sym same) rest.ends;
     })
     (λ offset fault e.
     let at : At = record { line = number + offset; fault = fault } in
     let on : is_skipped true items fault ≡ true =
     skipped-here items fault h (fault-here items lines offset fault h text e) in
     let none = none-found (reading_within compact_place true units (Warned at ∷ items)) (Warned at ∷ items)
-    (number + max offset 1) (drop (max offset 1) lines) (block-drop (max offset 1) lines (omega arith) text) in
+    (number + max offset 1) (drop (max offset 1) lines) (block-drop (max offset 1) lines
+    (omega arith) text) in
     record {
       reads = [];
       ends = inr (
         at,
         none.0,
         within-wrong compact_place true units items number lines offset fault e
-            ∙ fault-skipped true (reading_within compact_place true units) items number lines offset fault on ∙ none.1,
+            ∙ fault-skipped true (reading_within compact_place true units) items number lines offset fault on
+            ∙ none.1,
       );
     })
     (λ e. record {
@@ -211,5 +191,6 @@ within-block (suc units) items number lines few h text = by_place (compact_place
     })
 
 pub block-read : (items : List (Item ReadEpoch)) (number : ℕ) (lines : List ReadLine)
-    → IsBetweenUnits items → IsBlockText lines → IsBlockRead items (reading_from compact_place true items number lines)
+    → IsBetweenUnits items → IsBlockText lines → IsBlockRead items
+    (reading_from compact_place true items number lines)
 block-read items number lines h text = within-block (length lines + 1) items number lines (omega arith) h text

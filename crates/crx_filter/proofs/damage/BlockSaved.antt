@@ -1,25 +1,13 @@
 -- What is read after a damaged block is what the undamaged text has there.
-use Rattle.std.proofs.Common.{ℕ, ◌≡◌, ◌+◌, ◌≤◌, true, false, cond, List, [], ◌∷◌, ◌++◌, map, length, Option, None, refl}
-use Rattle.std.proofs.Common.{ap, sym, ◌∙◌, subst, append_assoc, append-nil}
-use Rattle.std.proofs.lemmas.Bool.{and_parts}
-use Rattle.crx_faults.specs.meaning.Lines.{InputLine, pieces_of, lines_of}
-use Rattle.crx_faults.specs.meaning.Seen.{ReadLine, Content, Overlong, seen}
-use Rattle.crx_faults.specs.declared.fault.At.{At}
-use Rattle.crx_rinex.specs.meaning.Observations.{Epoch}
-use Rattle.crx_header.specs.meaning.EpochColumns.{begins_epoch, is_event_line}
-use Rattle.crx_rinex.specs.meaning.Units.{Observation}
-use Rattle.crx_compact.specs.meaning.CompactPlaces.{ReadEpoch}
-use Rattle.crx_options.specs.meaning.Choices.{Choices}
-use Rattle.crx_reading.specs.meaning.Items.{Item, Accepted, Warned, header_has_ended, records_announced, records_left}
-use Rattle.crx_reading.specs.meaning.Items.{types_in_force}
-use Rattle.crx_reading.specs.meaning.Reading.{Reading, WholeReading, AtLines, reading_from, ended_reading}
-use Rattle.crx_filter.specs.Laws.{continued_reading, AreInPlace}
-use Rattle.crx_reading.specs.meaning.Compacted.{compact_unit, compact_lines}
-use Rattle.crx_header.specs.meaning.CompactHeader.{version_line, program_line}
-use Rattle.crx_reading.specs.meaning.Expanded.{compact_place}
-use Rattle.crx_reading.specs.meaning.WayBack.{HaveNoReturns}
-use Rattle.crx_filter.specs.Anew.{IsBetweenUnits, GoOnAlike, starts_anew}
-use Rattle.crx_reading.specs.meaning.Damage.{lines_of_epochs, with_epochs, IsDamaged}
+use Rattle.crx_filter.proofs.Words.{ℕ, ◌≡◌, ◌+◌, ◌≤◌, true, false, cond, List, [], ◌∷◌, ◌++◌, map, length}
+use Rattle.crx_filter.proofs.Words.{Option, None, refl, ap, sym, ◌∙◌, subst, append_assoc, append-nil}
+use Rattle.crx_filter.proofs.Words.{and_parts, pieces_of, lines_of, ReadLine, Content, Overlong, seen, At}
+use Rattle.crx_filter.proofs.Words.{Epoch, begins_epoch, is_event_line, Observation, ReadEpoch, Choices, Item}
+use Rattle.crx_filter.proofs.Words.{Accepted, Warned, header_has_ended, records_announced, records_left}
+use Rattle.crx_filter.proofs.Words.{types_in_force, Reading, WholeReading, AtLines, reading_from}
+use Rattle.crx_filter.proofs.Words.{ended_reading, continued_reading, AreInPlace, compact_unit, compact_lines}
+use Rattle.crx_filter.proofs.Words.{version_line, program_line, compact_place, HaveNoReturns, IsBetweenUnits}
+use Rattle.crx_filter.proofs.Words.{GoOnAlike, starts_anew, lines_of_epochs, with_epochs, IsDamaged}
 use Rattle.crx_filter.proofs.reading.Resuming.{within-wanted, resumed}
 use Rattle.crx_filter.proofs.reading.Anew.{depends-on_types}
 use Rattle.crx_filter.proofs.reading.ForwardCompact.{compact-forward}
@@ -29,10 +17,11 @@ use Rattle.crx_filter.proofs.wayback.Reading.{lines_back}
 use Rattle.crx_filter.proofs.wayback.WayBack.{IsSettled, whole-settled, lines-same}
 use Rattle.crx_filter.proofs.wayback.Standard.{NoReturn, whole-copied, plain-no_return}
 use Rattle.crx_filter.proofs.damage.BlockReading.{IsBlockRead, with_reads, reads-between, reads-types}
-use Rattle.crx_filter.proofs.damage.GoingOn.{with_warnings, warned-between, warned-types, GoesOnAt, EndsAfter, block-goes_on}
-use Rattle.crx_filter.proofs.damage.GoingOn.{block-ends, ends-well}
+use Rattle.crx_filter.proofs.damage.GoingOn.{with_warnings, warned-between, warned-types, GoesOnAt, EndsAfter}
+use Rattle.crx_filter.proofs.damage.GoingOn.{block-goes_on, block-ends, ends-well}
 use Rattle.crx_filter.proofs.damage.TextAfter.{lines_on, written-on, reads-on}
-use Rattle.crx_filter.proofs.damage.SavedText.{header-append, left-append}
+use Rattle.crx_filter.proofs.damage.SavedText.{left-append}
+use Rattle.crx_filter.proofs.reading.Each.{header-append}
 
 -- ---- the epochs of a block
 
@@ -44,7 +33,8 @@ epochs-append before (epoch ∷ one) two = epochs-append (Accepted (Observation 
 pub epochs-in_place : (before : List (Item Epoch)) (epochs : List Epoch)
     → AreInPlace (with_epochs before epochs) → AreInPlace before
 epochs-in_place before [] h = h
-epochs-in_place before (epoch ∷ later) h = let more = epochs-in_place (Accepted (Observation epoch) ∷ before) later h in
+epochs-in_place before (epoch ∷ later) h = let more = epochs-in_place
+    (Accepted (Observation epoch) ∷ before) later h in
     more.1
 
 pub rest-in_place : (later before : List (Item Epoch)) → AreInPlace (later ++ before) → AreInPlace before
@@ -67,7 +57,8 @@ pub epochs-types : (before : List (Item Epoch)) (epochs : List Epoch)
 epochs-types before [] = refl
 epochs-types before (epoch ∷ later) = epochs-types (Accepted (Observation epoch) ∷ before) later
 
-pub epochs-lines : (choices : Choices) (before : List (Item Epoch)) (epochs : List Epoch) → lines_back choices.every
+pub epochs-lines : (choices : Choices) (before : List (Item Epoch)) (epochs : List Epoch)
+    → lines_back choices.every
     (with_epochs before epochs) ≡ lines_back choices.every before ++ lines_of_epochs choices before epochs
 epochs-lines choices before [] = sym (append-nil (lines_back choices.every before))
 epochs-lines choices before (epoch ∷ later) =
@@ -78,10 +69,10 @@ epochs-lines choices before (epoch ∷ later) =
 -- ---- how compact text is read up to some items
 
 pub back-between : (every : Option ℕ) (items : List (Item Epoch))
-    → AreInPlace items → header_has_ended items ≡ true → records_left items ≡ 0 → IsBetweenUnits (read_back every items)
+    → AreInPlace items → header_has_ended items ≡ true → records_left items ≡ 0
+    → IsBetweenUnits (read_back every items)
 back-between every items h header none = record {
-  header = header-same (known_back every) items
-      ∙ header;
+  header = header-same (known_back every) items ∙ header;
   none = left-same (known_back every) items h ∙ none;
 }
 
@@ -115,7 +106,8 @@ anew-saved : (every : Option ℕ) (after block : List (Item Epoch))
     (items : List (Item ReadEpoch)) (r : Reading ReadEpoch) (line : List ℕ) (tail : List ReadLine)
     → IsUndamaged every after block → map Content (lines_on every after block) ≡ Content line ∷ tail
     → starts_anew 0 (Content line ∷ tail) ≡ true
-    → IsBetweenUnits items → types_in_force items ≡ types_in_force block → GoesOnAt items (Content line ∷ tail) r
+    → IsBetweenUnits items → types_in_force items ≡ types_in_force block
+    → GoesOnAt items (Content line ∷ tail) r
     → IsSaved items (read_back every block) (read_back every (after ++ block)) (ended_reading true r)
 anew-saved every after block items r line tail h e anew between types g =
     let x : List (Item ReadEpoch) = with_warnings g.warnings items in
@@ -126,8 +118,8 @@ anew-saved every after block items r line tail h e anew between types g =
     let y_between : IsBetweenUnits y = back-between every block placed h.header h.left in
     let alike : GoOnAlike x y (reading_from compact_place true x g.number (Content line ∷ tail))
     (reading_from compact_place true y g.number (Content line ∷ tail)) =
-    depends-on_types true x y g.number (Content line ∷ tail) x_between y_between (warned-types g.warnings items
-    ∙ types ∙ sym (types-same (known_back every) block placed)) anew in
+    depends-on_types true x y g.number (Content line ∷ tail) x_between y_between
+    (warned-types g.warnings items ∙ types ∙ sym (types-same (known_back every) block placed)) anew in
     let last : ℕ = g.number + length (lines_on every after block) in
     let both : ◌≡◌ {A = Reading ReadEpoch}
     (record { items = alike.more ++ y; stop = alike.stop }) (record { items = all; stop = AtLines last [] }) =
@@ -151,8 +143,9 @@ anew-saved every after block items r line tail h e anew between types g =
     }
 
 -- what comes after a block that was read, whatever it is
-pub tail-saved : (every : Option ℕ) (after block : List (Item Epoch)) (before : List (Item ReadEpoch)) (number : ℕ)
-    (lines tail : List ReadLine) (b : IsBlockRead before (reading_from compact_place true before number lines))
+pub tail-saved : (every : Option ℕ) (after block : List (Item Epoch)) (before : List (Item ReadEpoch))
+    (number : ℕ) (lines tail : List ReadLine) (b : IsBlockRead before
+    (reading_from compact_place true before number lines))
     → IsUndamaged every after block → map Content (lines_on every after block) ≡ tail
     → starts_anew 0 tail ≡ true → IsBetweenUnits before → types_in_force before ≡ types_in_force block
     → IsSaved (with_reads before b.reads) (read_back every block) (read_back every (after ++ block))
@@ -167,7 +160,8 @@ tail-saved every after block before number lines [] b h e anew between types =
       more = [];
       rest = ap (λ (s : Reading ReadEpoch). s.items)
           (sym (within-wanted compact_place true 0 y 0 [] (compact-forward.wants y))
-          ∙ ap (λ ls. reading_from compact_place true y 0 ls) (sym e) ∙ reads-on every true 0 after block h.in_place);
+          ∙ ap (λ ls. reading_from compact_place true y 0 ls) (sym e)
+          ∙ reads-on every true 0 after block h.in_place);
       same = ap (λ ls. ended_reading true (reading_from compact_place true before number ls))
           (append-nil lines) ∙ end.same;
     }
@@ -175,22 +169,23 @@ tail-saved every after block before number lines (Overlong ∷ tail) b h e anew 
 tail-saved every after block before number lines (Content line ∷ tail) b h e anew between types =
     let r : Reading ReadEpoch = reading_from compact_place true before number lines in
     let begins : begins_epoch line ≡ true = (and_parts
-    (begins_epoch line) (cond (is_event_line line) (starts_anew (records_announced line) tail) true) anew).0 in
+    (begins_epoch line) (cond (is_event_line line) (starts_anew (records_announced line) tail) true)
+    anew).0 in
     subst (λ (s : Reading ReadEpoch). IsSaved
-    (with_reads before b.reads) (read_back every block) (read_back every (after ++ block)) (ended_reading true s))
+    (with_reads before b.reads) (read_back every block) (read_back every (after ++ block))
+    (ended_reading true s))
     (sym (resumed compact_place compact-forward true before number lines (Content line ∷ tail)))
-    (anew-saved every after block (with_reads before b.reads) (continued_reading compact_place true r (Content line
+    (anew-saved every after block (with_reads before b.reads)
+    (continued_reading compact_place true r (Content line
     ∷ tail)) line tail h e anew (reads-between before b.reads between) (reads-types before b.reads ∙ types)
     (block-goes_on before r b line tail between begins))
 
 -- ---- a damaged text, and what is known of it
 
-abbrev pub contents : List InputLine → List (List ℕ)
-contents lines = map (λ (line : InputLine). line.content) lines
-
 -- the items of a standard file, with the epochs of one block among them
 pub record IsPlaced (choices : Choices)
-    (before : List (Item Epoch)) (first : Epoch) (others : List Epoch) (after : List (Item Epoch)) : Type 0 where
+    (before : List (Item Epoch)) (first : Epoch) (others : List Epoch)
+    (after : List (Item Epoch)) : Type 0 where
   pub settled : IsSettled (after ++ with_epochs before (first ∷ others))
   pub no_returns : HaveNoReturns (after ++ with_epochs before (first ∷ others))
 
@@ -198,14 +193,15 @@ pub placed : (input : List ℕ) (choices : Choices) (damaged : List ℕ) (d : Is
     → IsPlaced choices d.before d.first d.others d.after
 placed input choices damaged d = record {
   settled = subst IsSettled d.parts (whole-settled false input d.standard.good);
-  no_returns = subst HaveNoReturns d.parts
-      (whole-copied NoReturn false (map seen (lines_of input)) (plain-no_return (pieces_of input) d.standard.plain));
+  no_returns = subst HaveNoReturns d.parts (whole-copied NoReturn false (map seen (lines_of input))
+      (plain-no_return (pieces_of input) d.standard.plain));
 }
 
 -- the compact text of all items is that up to the block's end and that after it
 pub text-parts : (choices : Choices) (after block : List (Item Epoch))
     → AreInPlace (after ++ block) → header_has_ended (after ++ block) ≡ true → header_has_ended block ≡ true
-    → compact_lines choices (after ++ block) ≡ compact_lines choices block ++ lines_on choices.every after block
+    → compact_lines choices (after ++ block) ≡ compact_lines choices block ++ lines_on choices.every
+    after block
 text-parts choices after block h all header =
     lines-same choices (after ++ block) h (started (after ++ block) all)
     ∙ ap (λ ls. version_line ∷ program_line choices.date ∷ ls) (written-on choices.every after block)

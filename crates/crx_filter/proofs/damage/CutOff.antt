@@ -1,25 +1,14 @@
 -- Where an epoch of compact text wants more lines, a line that begins with > cuts it off.
-use Rattle.std.proofs.Common.{ℕ, suc, ◌≡◌, ◌+◌, ◌-◌, true, cond, List, [], ◌∷◌, ◌++◌, length, drop, Result, Ok, Err}
-use Rattle.std.proofs.Common.{refl, ap, sym, ◌∙◌, subst, arith}
-use Rattle.std.proofs.lemmas.List.{drop-append-le, length-drop}
-use Rattle.crx_columns.specs.meaning.Columns.{without_end_blanks}
-use Rattle.crx_text.specs.meaning.Codes.{code_of}
-use Rattle.crx_faults.specs.meaning.Seen.{ReadLine, Content, Overlong}
-use Rattle.crx_faults.specs.declared.fault.Fault.{Fault}
-use Rattle.crx_faults.specs.declared.fault.Fault.TheVariants.{BadClock, Truncated}
-use Rattle.crx_header.specs.meaning.EpochColumns.{begins_epoch}
-use Rattle.crx_header.specs.meaning.ObservationTypes.{Count}
-use Rattle.crx_rinex.specs.meaning.Places.{Place, Here, Wrong, Wanted, after_lines, then_place, one_line, first_line}
-use Rattle.crx_rinex.specs.Steady.{IsSteady, Remains}
+use Rattle.crx_filter.proofs.Words.{ℕ, suc, ◌≡◌, ◌+◌, ◌-◌, true, cond, List, [], ◌∷◌, ◌++◌, length, drop}
+use Rattle.crx_filter.proofs.Words.{Result, Ok, Err, refl, ap, sym, ◌∙◌, subst, arith, drop-append-le}
+use Rattle.crx_filter.proofs.Words.{length-drop, without_end_blanks, code_of, ReadLine, Content, Overlong}
+use Rattle.crx_filter.proofs.Words.{Fault, BadClock, Truncated, begins_epoch, Count, Place, Here, Wrong}
+use Rattle.crx_filter.proofs.Words.{Wanted, after_lines, then_place, one_line, first_line, IsSteady, Remains}
+use Rattle.crx_filter.proofs.Words.{Satellite, RawEpoch, Past, past_of_line, BegunEpoch, ReadEpoch}
+use Rattle.crx_filter.proofs.Words.{epoch_begun, clock_line_read, cell_read, satellite_line_read, rows_read}
+use Rattle.crx_filter.proofs.Words.{epoch_of_rows, epoch_after_line, epoch_at}
 use Rattle.crx_rinex.proofs.Steady.{steady-first_line}
 use Rattle.crx_compact.proofs.Marks.{row_of_line}
-use Rattle.crx_compact.specs.meaning.EpochText.{Satellite}
-use Rattle.crx_compact.specs.meaning.Expansion.{RawEpoch}
-use Rattle.crx_compact.specs.meaning.Past.{Past, past_of_line}
-use Rattle.crx_compact.specs.meaning.CompactPlaces.{BegunEpoch, ReadEpoch, epoch_begun, clock_line_read}
-use Rattle.crx_compact.specs.meaning.Cells.{cell_read}
-use Rattle.crx_compact.specs.meaning.CompactPlaces.{satellite_line_read, rows_read, epoch_of_rows}
-use Rattle.crx_compact.specs.meaning.CompactPlaces.{epoch_after_line, epoch_at}
 use Rattle.crx_compact.proofs.reading.SteadyEpochs.{steady-rows_read}
 use Rattle.crx_filter.proofs.following.Lines.{one_line-decided}
 
@@ -42,15 +31,18 @@ cut-first read h [] line begins e = ap one_line (h line begins)
 cut-first read h (Overlong ∷ lines) line begins e = absurd (cc)
 cut-first read h (Content first ∷ lines) line begins e = absurd (one_line-decided (read first) e)
 
-cut-then : {X Y : Type 0} (first : List ReadLine → Place X) (next : X → List ReadLine → Place Y) → IsSteady first
+cut-then : {X Y : Type 0} (first : List ReadLine → Place X) (next : X → List ReadLine → Place Y)
+    → IsSteady first
     → IsCutOff first → ((x : X) → IsCutOff (next x)) → IsCutOff (λ lines. then_place (first lines) lines next)
 cut-then first next steady one two lines line begins e = by-first (first lines) refl
   where
     by-first : (p : Place _) → first lines ≡ p → then_place
-        (first (lines ++ Content line ∷ [])) (lines ++ Content line ∷ []) next ≡ Wrong (length lines) Truncated
+        (first (lines ++ Content line ∷ [])) (lines ++ Content line ∷ []) next
+        ≡ Wrong (length lines) Truncated
     by-first (Here x count) f =
         let stays : Remains (length lines) (Here x count) (first (lines ++ Content line ∷ [])) = subst
-        (λ p. Remains (length lines) p (first (lines ++ Content line ∷ []))) f (steady lines (Content line ∷ [])) in
+        (λ p. Remains (length lines) p (first (lines ++ Content line ∷ []))) f
+        (steady lines (Content line ∷ [])) in
         let within = stays.0 in
         let rest : drop count (lines ++ Content line ∷ []) ≡ drop count lines ++ Content line ∷ [] =
         drop-append-le count lines (Content line ∷ []) within in
@@ -67,7 +59,8 @@ cut-then first next steady one two lines line begins e = by-first (first lines) 
 
 -- ---- an epoch's lines
 
-clock-cut : (past : Past) (line : List ℕ) → begins_epoch line ≡ true → clock_line_read past line ≡ Err Truncated
+clock-cut : (past : Past) (line : List ℕ) → begins_epoch line ≡ true → clock_line_read past line
+    ≡ Err Truncated
 clock-cut past line begins = ap
     (λ b. cond b (Err Truncated) (cell_read BadClock past.clock (code_of (without_end_blanks line)))) begins
 
@@ -88,8 +81,8 @@ rows-cut past (satellite ∷ satellites) =
 after_line-cut : (begun : BegunEpoch) → IsCutOff (epoch_after_line begun)
 after_line-cut begun =
     cut-then (λ lines. first_line lines (clock_line_read begun.past)) (λ clock others. then_place
-    (rows_read begun.past begun.satellites others) others (λ rows rest. Here (epoch_of_rows begun clock rows) 0))
-    (steady-first_line (clock_line_read begun.past))
+    (rows_read begun.past begun.satellites others) others
+    (λ rows rest. Here (epoch_of_rows begun clock rows) 0)) (steady-first_line (clock_line_read begun.past))
     (cut-first (clock_line_read begun.past) (clock-cut begun.past)) (λ clock.
     cut-then (rows_read begun.past begun.satellites) (λ rows rest. Here (epoch_of_rows begun clock rows) 0)
     (steady-rows_read begun.past begun.satellites) (rows-cut begun.past begun.satellites) (λ rows.
@@ -98,8 +91,8 @@ after_line-cut begun =
 begun-cut : (r : Result BegunEpoch Fault) (first : ReadLine) (lines : List ReadLine) (line : List ℕ)
     → begins_epoch line ≡ true
     → then_place (one_line r) (first ∷ lines) (λ begun others. epoch_after_line begun others) ≡ Wanted
-    → then_place (one_line r) (first ∷ (lines ++ Content line ∷ [])) (λ begun others. epoch_after_line begun others)
-    ≡ Wrong (suc (length lines)) Truncated
+    → then_place (one_line r) (first ∷ (lines ++ Content line ∷ []))
+    (λ begun others. epoch_after_line begun others) ≡ Wrong (suc (length lines)) Truncated
 begun-cut (Ok begun) first lines line begins e =
     let inside : epoch_after_line begun lines ≡ Wanted = after-wanted 1 (epoch_after_line begun lines) e in
     let counted : 1 + length lines ≡ suc (length lines) = omega arith in
@@ -108,9 +101,9 @@ begun-cut (Ok begun) first lines line begins e =
 begun-cut (Err fault) first lines line begins e = absurd (cc)
 
 -- an epoch whose first line has come
-pub epoch-cut : (types : List Count) (older : List RawEpoch) (first : List ℕ) (lines : List ReadLine) (line : List ℕ)
-    → begins_epoch line ≡ true
-    → epoch_at types older (Content first ∷ lines) ≡ Wanted
-    → epoch_at types older (Content first ∷ (lines ++ Content line ∷ [])) ≡ Wrong (suc (length lines)) Truncated
+pub epoch-cut : (types : List Count) (older : List RawEpoch) (first : List ℕ) (lines : List ReadLine)
+    (line : List ℕ) → begins_epoch line ≡ true → epoch_at types older (Content first ∷ lines) ≡ Wanted
+    → epoch_at types older (Content first ∷ (lines ++ Content line ∷ []))
+    ≡ Wrong (suc (length lines)) Truncated
 epoch-cut types older first lines line begins e =
     begun-cut (epoch_begun types first (past_of_line older first)) (Content first) lines line begins e

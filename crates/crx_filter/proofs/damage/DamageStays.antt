@@ -1,37 +1,20 @@
 -- Damage to compact text stays in its block: what an expansion writes and reports, from the lines of the damaged text
 -- on.
-use Rattle.std.proofs.Common.{ℕ, suc, ◌≡◌, ◌+◌, ◌⊎◌, inl, inr, true, List, [], ◌∷◌, ◌++◌, map, length, drop, take}
-use Rattle.std.proofs.Common.{reverse, Option, None, refl, ap, sym, ◌∙◌, subst, append_assoc, append-nil}
-use Rattle.std.specs.List.{AllByRecursion, flat_map, list_all}
-use Rattle.std.proofs.lemmas.List.{append_cancel_left, map-append, take-append-drop}
-use Rattle.std.proofs.Math.Seq.{drop-append_seam}
-use Rattle.crx_faults.specs.meaning.Lines.{Piece, pieces_of, lines_of}
-use Rattle.crx_faults.specs.meaning.Seen.{ReadLine, Content, seen}
-use Rattle.crx_faults.specs.declared.fault.At.{At}
-use Rattle.crx_rinex.specs.meaning.Observations.{Epoch}
-use Rattle.crx_rinex.specs.meaning.Epochs.{IsWholeEpoch}
-use Rattle.crx_rinex.specs.meaning.Printing.{printed_epoch}
-use Rattle.crx_faults.specs.meaning.Lines.{lines_text}
-use Rattle.crx_rinex.specs.meaning.Units.{Observation}
-use Rattle.crx_compact.specs.meaning.Compaction.{epoch_line}
-use Rattle.crx_compact.specs.meaning.CompactPlaces.{ReadEpoch}
-use Rattle.crx_compact.specs.Laws.{LinesCanStand}
-use Rattle.crx_options.specs.meaning.Choices.{Choices, is_date}
-use Rattle.crx_reading.specs.meaning.Items.{Item, Accepted, header_has_ended, records_left, types_in_force}
-use Rattle.crx_reading.specs.meaning.Reading.{Reading, WholeReading, reading_from, ended_reading}
-use Rattle.crx_runs.specs.meaning.Messages.{notices_text}
-use Rattle.crx_reading.specs.meaning.Written.{warnings_in}
+use Rattle.crx_filter.proofs.Words.{ℕ, suc, ◌≡◌, ◌+◌, ◌⊎◌, inl, inr, true, List, [], ◌∷◌, ◌++◌, map, length}
+use Rattle.crx_filter.proofs.Words.{drop, take, reverse, Option, None, refl, ap, sym, ◌∙◌, subst}
+use Rattle.crx_filter.proofs.Words.{append_assoc, append-nil, AllByRecursion, flat_map, list_all, map-append}
+use Rattle.crx_filter.proofs.Words.{drop-append_seam, Piece, pieces_of, lines_of, ReadLine, Content, seen, At}
+use Rattle.crx_filter.proofs.Words.{Epoch, IsWholeEpoch, printed_epoch, lines_text, Observation, epoch_line}
+use Rattle.crx_filter.proofs.Words.{ReadEpoch, LinesCanStand, Choices, is_date, Item, Accepted}
+use Rattle.crx_filter.proofs.Words.{header_has_ended, records_left, types_in_force, Reading, WholeReading}
+use Rattle.crx_filter.proofs.Words.{reading_from, ended_reading, notices_text, warnings_in, result_of}
+use Rattle.crx_filter.proofs.Words.{marked_epochs, compact_unit, compact_lines, version_line, program_line}
+use Rattle.crx_filter.proofs.Words.{whole_rinex, compact_place, expanded_unit, whole_compact, expanded}
+use Rattle.crx_filter.proofs.Words.{expanded_lines, whole_of, printed_items, AreInPlace, ItemsAreRead}
+use Rattle.crx_filter.proofs.Words.{IsBetweenUnits, lines_of_epochs, with_epochs, lines_after, IsDamaged}
+use Rattle.std.proofs.lemmas.List.{append_cancel_left, take-append-drop}
 use Rattle.crx_runs.specs.meaning.Results.{status_after}
-use Rattle.crx_reading.specs.meaning.Written.{result_of}
-use Rattle.crx_reading.specs.meaning.Compacted.{marked_epochs, compact_unit, compact_lines}
-use Rattle.crx_header.specs.meaning.CompactHeader.{version_line, program_line}
-use Rattle.crx_reading.specs.meaning.Compacted.{whole_rinex}
-use Rattle.crx_reading.specs.meaning.Expanded.{compact_place, expanded_unit, whole_compact, expanded}
-use Rattle.crx_filter.specs.Expanded.{expanded_lines}
-use Rattle.crx_reading.specs.meaning.Standard.{whole_of, printed_items}
-use Rattle.crx_filter.specs.Laws.{AreInPlace, ItemsAreRead}
-use Rattle.crx_filter.specs.Anew.{IsBetweenUnits}
-use Rattle.crx_reading.specs.meaning.Damage.{lines_of_epochs, with_epochs, lines_after, IsDamaged, IsSalvaged}
+use Rattle.crx_reading.specs.meaning.Damage.{IsSalvaged}
 use Rattle.crx_filter.specs.Damage.{IsOfCompaction}
 use Rattle.crx_filter.proofs.reading.WhatWasRead.{items-read}
 use Rattle.crx_filter.proofs.wayback.Carried.{started, types-same}
@@ -41,16 +24,20 @@ use Rattle.crx_filter.proofs.wayback.Items.{marked_now, read_back, epoch-stands}
 use Rattle.crx_filter.proofs.wayback.Reading.{lines_back}
 use Rattle.crx_filter.proofs.wayback.WayBack.{lines-same, lines-clean, printed-same, no-warnings, whole-after}
 use Rattle.crx_filter.proofs.wayback.Standard.{same-reading}
-use Rattle.crx_filter.proofs.damage.BlockReading.{IsInside, IsBlockText, IsBlockRead, inside-text, with_reads, block-read}
+use Rattle.crx_filter.proofs.damage.BlockReading.{IsInside, IsBlockText, IsBlockRead, inside-text, with_reads}
+use Rattle.crx_filter.proofs.damage.BlockReading.{block-read}
 use Rattle.crx_filter.proofs.damage.GoingOn.{with_warnings}
 use Rattle.crx_filter.proofs.damage.TextAfter.{lines_on, written-on, one-more, text-anew}
-use Rattle.crx_filter.proofs.damage.DamagedText.{damaged-cut, instead-inside, text-append, clean-append, clean-both}
-use Rattle.crx_filter.proofs.damage.SavedText.{epochs_in, lines-append, lines-warned, lines-read, warnings-append, warnings-with}
-use Rattle.crx_filter.proofs.damage.SavedText.{warnings-read, none-first, few-reversed, whole-block, epochs_of, epochs-ended}
+use Rattle.crx_filter.proofs.damage.DamagedText.{damaged-cut, instead-inside, text-append}
+use Rattle.crx_filter.proofs.damage.SavedText.{epochs_in, lines-append, lines-warned, lines-read}
+use Rattle.crx_filter.proofs.damage.SavedText.{warnings-append, warnings-with, warnings-read, none-first}
+use Rattle.crx_filter.proofs.damage.SavedText.{few-reversed, whole-block, epochs_of, epochs-ended}
 use Rattle.crx_filter.proofs.damage.SavedText.{epochs-back}
-use Rattle.crx_filter.proofs.damage.BlockSaved.{epochs-append, epochs-in_place, rest-in_place, epochs-header, epochs-left}
-use Rattle.crx_filter.proofs.damage.BlockSaved.{epochs-types, epochs-lines, back-between, up_to, IsSaved, IsUndamaged}
-use Rattle.crx_filter.proofs.damage.BlockSaved.{tail-saved, contents, IsPlaced, placed, text-parts}
+use Rattle.crx_filter.proofs.damage.BlockSaved.{epochs-append, epochs-in_place, rest-in_place, epochs-header}
+use Rattle.crx_filter.proofs.damage.BlockSaved.{epochs-left, epochs-types, epochs-lines, back-between, up_to}
+use Rattle.crx_filter.proofs.damage.BlockSaved.{IsSaved, IsUndamaged, tail-saved, IsPlaced, placed}
+use Rattle.crx_filter.proofs.damage.BlockSaved.{text-parts}
+use Rattle.crx_filter.proofs.reading.Each.{all-append, all-parts, contents}
 
 -- ---- the parts of a damaged text
 
@@ -66,10 +53,6 @@ front_of choices before first = version_line
 
 abbrev block_of : List (Item Epoch) → Epoch → List Epoch → List (Item Epoch)
 block_of before first others = with_epochs before (first ∷ others)
-
-all-last : {X : Type 0} (P : X → Type 0) (one two : List X) → AllByRecursion P (one ++ two) → AllByRecursion P two
-all-last P [] two h = h
-all-last P (x ∷ one) two h = all-last P one two h.1
 
 module _ (choices : Choices) (before : List (Item Epoch)) (first : Epoch)
     (others : List Epoch) (after : List (Item Epoch)) (p : IsPlaced choices before first others after) where
@@ -111,16 +94,16 @@ module _ (choices : Choices) (before : List (Item Epoch)) (first : Epoch)
 
   all-clean : AllByRecursion IsClean (lines_back choices.every (block_of before first others))
       × AllByRecursion IsClean (lines_on choices.every after (block_of before first others))
-  all-clean =
-      clean-both (lines_back choices.every (block_of before first others))
+  all-clean = all-parts IsClean (lines_back choices.every (block_of before first others))
       (lines_on choices.every after (block_of before first others))
-      (subst (AllByRecursion IsClean) (written-on choices.every after (block_of before first others)) (lines-clean
-      choices.every (after ++ (block_of before first others)) p.settled.in_place p.settled.copied p.no_returns))
+      (subst (AllByRecursion IsClean) (written-on choices.every after (block_of before first others))
+      (lines-clean choices.every (after ++ (block_of before first others)) p.settled.in_place p.settled.copied
+      p.no_returns))
 
   block-clean : AllByRecursion IsClean (lines_back choices.every before)
       × AllByRecursion IsClean (lines_of_epochs choices before (first ∷ others))
   block-clean =
-      clean-both (lines_back choices.every before) (lines_of_epochs choices before (first ∷ others))
+      all-parts IsClean (lines_back choices.every before) (lines_of_epochs choices before (first ∷ others))
       (subst (AllByRecursion IsClean) (epochs-lines choices before (first ∷ others)) all-clean.0)
 
   front-clean : is_date choices.date ≡ true → AllByRecursion IsClean (front_of choices before first)
@@ -128,7 +111,7 @@ module _ (choices : Choices) (before : List (Item Epoch)) (first : Epoch)
     version-clean,
     (
       program-clean choices.date dated,
-      clean-append (lines_back choices.every before)
+      all-append IsClean (lines_back choices.every before)
           (first_line_of choices before first ∷ []) block-clean.0 ((block-clean.1).0, tt),
     ),
   )
@@ -140,25 +123,26 @@ module _ (choices : Choices) (before : List (Item Epoch)) (first : Epoch)
 
   pub lines-parts : compact_lines choices (after ++ (block_of before first others)) ≡ compact_lines choices
       (block_of before first others) ++ lines_on choices.every after (block_of before first others)
-  lines-parts = text-parts choices after (block_of before first others) p.settled.in_place p.settled.header block-header
+  lines-parts = text-parts choices after (block_of before first others) p.settled.in_place p.settled.header
+      block-header
 
-  pub after-same : lines_after choices (block_of before first others) (after ++ (block_of before first others))
-      ≡ lines_on choices.every after (block_of before first others)
+  pub after-same : lines_after choices (block_of before first others)
+      (after ++ (block_of before first others)) ≡ lines_on choices.every after (block_of before first others)
   after-same = ap (drop (length (compact_lines choices (block_of before first others)))) lines-parts
       ∙ drop-append_seam (compact_lines choices (block_of before first others))
       (lines_on choices.every after (block_of before first others))
 
   pub block-parts : compact_lines choices (block_of before first others)
       ≡ compact_lines choices before ++ lines_of_epochs choices before (first ∷ others)
-  block-parts =
-      lines-same choices (block_of before first others) block-in_place
+  block-parts = lines-same choices (block_of before first others) block-in_place
       (started (block_of before first others) block-header)
-      ∙ ap (λ ls. version_line ∷ program_line choices.date ∷ ls) (epochs-lines choices before (first ∷ others))
+      ∙ ap (λ ls. version_line ∷ program_line choices.date ∷ ls)
+      (epochs-lines choices before (first ∷ others))
       ∙ sym (ap (λ ls. ls ++ lines_of_epochs choices before (first ∷ others))
       (lines-same choices before first-in_place.1 (started before before-header)))
 
-  none-after : (bytes : List ℕ) → (after ≡ []) ⊎ (list_all (λ (piece : Piece). piece.is_ended) (pieces_of bytes) ≡ true)
-      → (lines_on choices.every after (block_of before first others) ≡ [])
+  none-after : (bytes : List ℕ) → (after ≡ []) ⊎ (list_all (λ (piece : Piece). piece.is_ended)
+      (pieces_of bytes) ≡ true) → (lines_on choices.every after (block_of before first others) ≡ [])
       ⊎ (list_all (λ (piece : Piece). piece.is_ended) (pieces_of bytes) ≡ true)
   none-after bytes (inl e) = inl (ap (λ items. lines_on choices.every items (block_of before first others)) e)
   none-after bytes (inr e) = inr e
@@ -168,17 +152,18 @@ module _ (choices : Choices) (before : List (Item Epoch)) (first : Epoch)
       → (after ≡ []) ⊎ (list_all (λ (piece : Piece). piece.is_ended) (pieces_of instead) ≡ true)
       → map seen (lines_of (lines_text
       (compact_lines choices before ++ take 1 (compact_unit choices before (Observation first))) ++ instead
-      ++ lines_text (lines_after choices (block_of before first others) (after ++ (block_of before first others)))))
-      ≡ map Content (front_of choices before first)
-      ++ (map seen (lines_of instead) ++ map Content (lines_on choices.every after (block_of before first others)))
+      ++ lines_text (lines_after choices (block_of before first others)
+      (after ++ (block_of before first others))))) ≡ map Content (front_of choices before first)
+      ++ (map seen (lines_of instead) ++ map Content (lines_on choices.every after
+      (block_of before first others)))
   lines-cut instead dated ends =
       let rest : List (List ℕ) = lines_after choices
       (block_of before first others) (after ++ block_of before first others) in
       ap (λ t. map seen (lines_of t)) (append_assoc (lines_text (compact_lines choices before
       ++ take 1 (compact_unit choices before (Observation first)))) instead (lines_text rest))
       ∙ ap (λ ls. map seen (lines_of (lines_text ls ++ (instead ++ lines_text rest)))) front-same
-      ∙ ap (λ ls. map seen (lines_of (lines_text (front_of choices before first) ++ (instead ++ lines_text ls))))
-      after-same
+      ∙ ap (λ ls. map seen (lines_of (lines_text (front_of choices before first)
+      ++ (instead ++ lines_text ls)))) after-same
       ∙ damaged-cut (front_of choices before first) instead (lines_on choices.every after
       (block_of before first others)) (front-clean dated) all-clean.1 (none-after instead ends)
 
@@ -189,12 +174,14 @@ module _ (choices : Choices) (before : List (Item Epoch)) (first : Epoch)
       (read_back choices.every before) (3 + length (lines_back choices.every before)) lines
   block-reading lines = up_to choices.every before lines first-in_place.1
 
-  pub types-kept : types_in_force (read_back choices.every before) ≡ types_in_force (block_of before first others)
+  pub types-kept : types_in_force (read_back choices.every before)
+      ≡ types_in_force (block_of before first others)
   types-kept = before-types ∙ sym (epochs-types before (first ∷ others))
 
   -- the epochs that are read of the block are whole
   pub epochs-whole : (lines : List ReadLine) (b : IsBlockRead (read_back choices.every before) (reading_from
-      compact_place true (read_back choices.every before) (3 + length (lines_back choices.every before)) lines))
+      compact_place true (read_back choices.every before)
+      (3 + length (lines_back choices.every before)) lines))
       → AllByRecursion (IsWholeEpoch (types_in_force before)) (epochs_in b.reads)
   epochs-whole lines b =
       let r : Reading ReadEpoch = reading_from compact_place true
@@ -208,18 +195,18 @@ module _ (choices : Choices) (before : List (Item Epoch)) (first : Epoch)
 
   -- the epochs of a block up to one of them are in place
   own-in_place : (count : ℕ) → AreInPlace (with_epochs before (take (suc count) (first ∷ others)))
-  own-in_place count =
-      epochs-in_place (with_epochs before (take (suc count) (first ∷ others))) (drop (suc count) (first ∷ others))
-      (subst AreInPlace (epochs-append before (take (suc count) (first ∷ others)) (drop (suc count) (first ∷ others)))
-      (subst (λ es. AreInPlace (with_epochs before es))
+  own-in_place count = epochs-in_place (with_epochs before (take (suc count) (first ∷ others)))
+      (drop (suc count) (first ∷ others))
+      (subst AreInPlace (epochs-append before (take (suc count) (first ∷ others))
+      (drop (suc count) (first ∷ others))) (subst (λ es. AreInPlace (with_epochs before es))
       (sym (take-append-drop (suc count) (first ∷ others))) block-in_place))
 
   -- where the lines begin with those of some of its epochs, what is read goes on after these
   own-reading : (lines rest : List (List ℕ)) (count : ℕ)
       → lines ≡ drop 1 (lines_of_epochs choices before (take (suc count) (first ∷ others))) ++ rest
-      → reading_from compact_place true (read_back choices.every before) (3 + length (lines_back choices.every before))
-      (Content (first_line_of choices before first) ∷ map Content lines)
-      ≡ reading_from compact_place true
+      → reading_from compact_place true (read_back choices.every before)
+      (3 + length (lines_back choices.every before))
+      (Content (first_line_of choices before first) ∷ map Content lines) ≡ reading_from compact_place true
       (read_back choices.every (with_epochs before (take (suc count) (first ∷ others)))) (3 + length
       (lines_back choices.every (with_epochs before (take (suc count) (first ∷ others))))) (map Content rest)
   own-reading lines rest count e =
@@ -229,7 +216,8 @@ module _ (choices : Choices) (before : List (Item Epoch)) (first : Epoch)
       let same : Content (first_line_of choices before first) ∷ map Content lines
       ≡ map Content own_lines ++ map Content rest =
       ap (λ ls. Content (first_line_of choices before first) ∷ map Content ls) e
-      ∙ ap (λ ls. Content (first_line_of choices before first) ∷ ls) (map-append Content (drop 1 own_lines) rest) in
+      ∙ ap (λ ls. Content (first_line_of choices before first) ∷ ls)
+      (map-append Content (drop 1 own_lines) rest) in
       let joined : map Content (lines_back choices.every (with_epochs before own)) ++ map Content rest
       ≡ map Content old ++ (map Content own_lines ++ map Content rest) =
       ap (λ ls. map Content ls ++ map Content rest) (epochs-lines choices before own)
@@ -241,7 +229,8 @@ module _ (choices : Choices) (before : List (Item Epoch)) (first : Epoch)
       ∙ up_to choices.every (with_epochs before own) (map Content rest) (own-in_place count)
 
   pub own-epochs : (lines : List (List ℕ)) (b : IsBlockRead (read_back choices.every before)
-      (reading_from compact_place true (read_back choices.every before) (3 + length (lines_back choices.every before))
+      (reading_from compact_place true (read_back choices.every before)
+      (3 + length (lines_back choices.every before))
       (Content (first_line_of choices before first) ∷ map Content lines)))
       → AllByRecursion IsInside (map Content lines) → (count : ℕ) (rest : List (List ℕ))
       → lines ≡ drop 1 (lines_of_epochs choices before (take (suc count) (first ∷ others))) ++ rest
@@ -254,22 +243,22 @@ module _ (choices : Choices) (before : List (Item Epoch)) (first : Epoch)
       let between : IsBetweenUnits then_items = back-between choices.every (with_epochs before own)
       (own-in_place count) (epochs-header before own before-header) (epochs-left before own before-left) in
       let left_inside : AllByRecursion IsInside (map Content rest) =
-      all-last IsInside (map Content (drop 1 (lines_of_epochs choices before own))) (map Content rest)
+      (all-parts IsInside (map Content (drop 1 (lines_of_epochs choices before own))) (map Content rest)
       (subst (AllByRecursion IsInside) (ap (map Content) e
-      ∙ map-append Content (drop 1 (lines_of_epochs choices before own)) rest) inside) in
-      let later : IsBlockRead then_items (reading_from compact_place true then_items number (map Content rest)) =
+      ∙ map-append Content (drop 1 (lines_of_epochs choices before own)) rest) inside)).1 in
+      let later : IsBlockRead then_items (reading_from compact_place true then_items number
+      (map Content rest)) =
       block-read then_items number (map Content rest) between (inside-text (map Content rest) left_inside) in
       let same : epochs_of start ++ epochs_in b.reads ≡ epochs_of start ++ (own ++ epochs_in later.reads) =
       sym (epochs-ended start b.reads (reading_from compact_place true start (3 + length
-      (lines_back choices.every before)) (Content (first_line_of choices before first) ∷ map Content lines)) b.ends)
-      ∙ ap (λ (s : Reading ReadEpoch). epochs_of s.items) (own-reading lines rest count e)
+      (lines_back choices.every before)) (Content (first_line_of choices before first) ∷ map Content
+      lines)) b.ends) ∙ ap (λ (s : Reading ReadEpoch). epochs_of s.items) (own-reading lines rest count e)
       ∙ epochs-ended then_items later.reads
       (reading_from compact_place true then_items number (map Content rest)) later.ends
       ∙ ap (λ es. es ++ epochs_in later.reads) (epochs-back choices.every before own)
       ∙ append_assoc (epochs_of start) own (epochs_in later.reads) in (
         epochs_in later.reads,
-        append_cancel_left
-            (epochs_of start) (epochs_in b.reads) (own ++ epochs_in later.reads) same,
+        append_cancel_left (epochs_of start) (epochs_in b.reads) (own ++ epochs_in later.reads) same,
       )
 
 -- ---- what is written and reported
@@ -286,9 +275,11 @@ output-same every before block all reads warnings more rest =
     let first : List (List ℕ) = printed_items before ++ flat_map printed_epoch (epochs_in reads) in
     let parts : printed_items all ≡ printed_items block ++ expanded_lines more =
     sym (printed-same every all) ∙ ap expanded_lines (sym rest)
-    ∙ lines-append more (read_back every block) ∙ ap (λ ls. ls ++ expanded_lines more) (printed-same every block) in
+    ∙ lines-append more (read_back every block) ∙ ap (λ ls. ls ++ expanded_lines more)
+    (printed-same every block) in
     let dropped : drop (length (printed_items block)) (printed_items all) ≡ expanded_lines more =
-    ap (drop (length (printed_items block))) parts ∙ drop-append_seam (printed_items block) (expanded_lines more) in
+    ap (drop (length (printed_items block))) parts ∙ drop-append_seam (printed_items block)
+    (expanded_lines more) in
     let saved : expanded_lines (with_warnings warnings items) ≡ first =
     lines-warned warnings items ∙ lines-read start reads
     ∙ ap (λ ls. ls ++ flat_map printed_epoch (epochs_in reads)) (printed-same every before) in
@@ -304,10 +295,8 @@ warnings-same every before block all reads warnings more rest =
     let none : warnings_in more ≡ [] = none-first (warnings_in more) (warnings_in (read_back every block))
     (sym (warnings-append more (read_back every block)) ∙ ap warnings_in rest ∙ no-warnings every all) in
     warnings-append more (with_warnings warnings items)
-    ∙ ap (λ w. w ++ warnings_in (with_warnings warnings items)) none
-    ∙ warnings-with warnings items
-    ∙ ap (λ w. warnings ++ w) (warnings-read start reads ∙ no-warnings every before)
-    ∙ append-nil warnings
+    ∙ ap (λ w. w ++ warnings_in (with_warnings warnings items)) none ∙ warnings-with warnings items
+    ∙ ap (λ w. warnings ++ w) (warnings-read start reads ∙ no-warnings every before) ∙ append-nil warnings
 
 -- ---- the law
 
@@ -327,10 +316,12 @@ saved-lines input choices expanding damaged dated skips d =
     let full : List ℕ = first_line_of choices d.before d.first in
     let lines : List ReadLine = Content full ∷ map Content cs in
     let tail : List ReadLine = map Content (lines_on choices.every d.after block) in
-    let known : IsUndamaged choices.every d.after block = undamaged choices d.before d.first d.others d.after p in
+    let known : IsUndamaged choices.every d.after block =
+    undamaged choices d.before d.first d.others d.after p in
     let between : IsBetweenUnits start = before-between choices d.before d.first d.others d.after p in
     let b : IsBlockRead start (reading_from compact_place true start number lines) = block-read
-    start number lines between (block_text choices d.before d.first d.others d.after p (map Content cs) inside.1) in
+    start number lines between (block_text choices d.before d.first d.others d.after p
+    (map Content cs) inside.1) in
     let items : List (Item ReadEpoch) = with_reads start b.reads in
     let s : IsSaved items (read_back choices.every block) (read_back choices.every whole_items)
     (ended_reading true (reading_from compact_place true start number (lines ++ tail))) =
@@ -341,7 +332,8 @@ saved-lines input choices expanding damaged dated skips d =
     let cut : map seen (lines_of damaged)
     ≡ Content version_line ∷ Content (program_line choices.date) ∷ (map Content old ++ (lines ++ tail)) =
     ap (λ t. map seen (lines_of t)) d.text
-    ∙ ap (λ all. map seen (lines_of (lines_text (compact_lines choices d.before ++ take 1 (compact_unit choices d.before
+    ∙ ap (λ all. map seen (lines_of (lines_text (compact_lines choices d.before ++ take 1
+    (compact_unit choices d.before
     (Observation d.first))) ++ d.instead ++ lines_text (lines_after choices block all)))) d.parts
     ∙ lines-cut choices d.before d.first d.others d.after p d.instead dated d.ended
     ∙ ap (λ ls. map Content (front_of choices d.before d.first) ++ (ls ++ tail)) inside.0
@@ -349,13 +341,12 @@ saved-lines input choices expanding damaged dated skips d =
     (one-more old full (map Content cs ++ tail)) in
     let whole : whole_compact expanding.skip (map seen (lines_of damaged))
     ≡ record { items = s.more ++ last; fault = None } =
-    ap (λ skip. whole_compact skip (map seen (lines_of damaged))) skips
-    ∙ ap (whole_compact true) cut
+    ap (λ skip. whole_compact skip (map seen (lines_of damaged))) skips ∙ ap (whole_compact true) cut
     ∙ whole-after true choices.date (map Content old ++ (lines ++ tail))
     ∙ ap (ended_reading true) (block-reading choices d.before d.first d.others d.after p (lines ++ tail))
     ∙ s.same in
-    let text : expanded_lines (s.more ++ last) ≡ (printed_items d.before ++ flat_map printed_epoch (epochs_in b.reads))
-    ++ drop (length (printed_items block)) (printed_items whole_items) =
+    let text : expanded_lines (s.more ++ last) ≡ (printed_items d.before ++ flat_map printed_epoch
+    (epochs_in b.reads)) ++ drop (length (printed_items block)) (printed_items whole_items) =
     output-same choices.every d.before block whole_items b.reads s.warnings s.more s.rest in
     let warned : warnings_in (s.more ++ last) ≡ s.warnings =
     warnings-same choices.every d.before block whole_items b.reads s.warnings s.more s.rest in
@@ -376,8 +367,8 @@ saved-lines input choices expanding damaged dated skips d =
     })
 
 -- what is damaged is what the compaction writes, but for the lines of the block after its first
-pub of-compaction : (input : List ℕ) (choices : Choices) (damaged : List ℕ) (d : IsDamaged input choices damaged)
-    → IsOfCompaction input choices damaged d
+pub of-compaction : (input : List ℕ) (choices : Choices) (damaged : List ℕ)
+    (d : IsDamaged input choices damaged) → IsOfCompaction input choices damaged d
 of-compaction input choices damaged d =
     let p : IsPlaced choices d.before d.first d.others d.after = placed input choices damaged d in
     let block : List (Item Epoch) = block_of d.before d.first d.others in
@@ -391,5 +382,5 @@ of-compaction input choices damaged d =
     ∙ ap (λ ls. lines_text (ls ++ lines_on choices.every d.after block))
     (block-parts choices d.before d.first d.others d.after p)
     ∙ text-append head (lines_on choices.every d.after block)
-    ∙ ap (λ ls. lines_text head ++ lines_text ls) (sym (after-same choices d.before d.first d.others d.after p))
-    ∙ ap (λ all. lines_text head ++ lines_text (lines_after choices block all)) (sym d.parts)
+    ∙ ap (λ ls. lines_text head ++ lines_text ls) (sym (after-same choices d.before d.first d.others
+    d.after p)) ∙ ap (λ all. lines_text head ++ lines_text (lines_after choices block all)) (sym d.parts)

@@ -1,34 +1,23 @@
 -- Damaged compact text, cut into lines: those that the compaction wrote before the block and after it, and the lines in
 -- place of the block's.
-use Rattle.std.proofs.Common.{ℕ, ◌≡◌, ◌≢◌, ◌⊎◌, inl, inr, Bool, true, false, not, cond, List, [], ◌∷◌, ◌++◌, map, refl}
-use Rattle.std.proofs.Common.{ap, sym, ◌∙◌, subst, append_assoc, append-nil}
-use Rattle.std.specs.Prelude.{◌==◌}
-use Rattle.std.specs.List.{AllByRecursion, list_all}
-use Rattle.std.proofs.lemmas.Bool.Decides.{eqb_tells}
-use Rattle.std.proofs.lemmas.List.{map-append}
-use Rattle.std.proofs.lemmas.Grind.{flat_map-append}
-use Rattle.std.proofs.lemmas.Bool.{and_parts}
-use Rattle.crx_faults.specs.meaning.Lines.{Piece, InputLine, pieces_of, onto_first, line_of, lines_of, is_long}
-use Rattle.crx_faults.specs.meaning.Seen.{Content, Overlong, seen}
+use Rattle.crx_filter.proofs.Words.{ℕ, ◌≡◌, ◌≢◌, ◌⊎◌, inl, inr, Bool, true, false, not, cond, List, [], ◌∷◌}
+use Rattle.crx_filter.proofs.Words.{◌++◌, map, refl, ap, sym, ◌∙◌, subst, append_assoc, append-nil, ◌==◌}
+use Rattle.crx_filter.proofs.Words.{AllByRecursion, list_all, eqb_tells, map-append, flat_map-append}
+use Rattle.crx_filter.proofs.Words.{and_parts, Piece, InputLine, pieces_of, onto_first, line_of, lines_of}
+use Rattle.crx_filter.proofs.Words.{is_long, Content, Overlong, seen, begins_epoch, lines_text, not-true}
 use Rattle.crx_lines.proofs.PieceLemmas.{EachEnded, pieces-first}
-use Rattle.crx_header.specs.meaning.EpochColumns.{begins_epoch}
-use Rattle.crx_faults.specs.meaning.Lines.{lines_text}
 use Rattle.crx_reading.specs.meaning.Damage.{may_replace}
 use Rattle.crx_filter.proofs.wayback.Cut.{IsClean, seen-clean}
 use Rattle.crx_filter.proofs.damage.BlockReading.{IsInside}
-use Rattle.std.proofs.lemmas.Bool.{not-true}
+use Rattle.crx_filter.proofs.reading.Each.{contents}
 
 -- ---- pieces of two texts, one after the other
-
-abbrev contents : List InputLine → List (List ℕ)
-contents lines = map (λ (line : InputLine). line.content) lines
 
 pub each-ended : (ps : List Piece) → list_all (λ (piece : Piece). piece.is_ended) ps ≡ true → EachEnded ps
 each-ended [] e = tt
 each-ended (p ∷ ps) e = (
   (and_parts p.is_ended (list_all (λ (piece : Piece). piece.is_ended) ps) e).0,
-  each-ended ps
-      (and_parts p.is_ended (list_all (λ (piece : Piece). piece.is_ended) ps) e).1,
+  each-ended ps (and_parts p.is_ended (list_all (λ (piece : Piece). piece.is_ended) ps) e).1,
 )
 
 onto-append : (b : ℕ) (ps qs : List Piece)
@@ -39,34 +28,35 @@ onto-append b (p ∷ ps) qs e = (e, refl)
 byte-append : (b : ℕ) (one two : List ℕ)
     → (EachEnded (pieces_of one) → pieces_of (one ++ two) ≡ pieces_of one ++ pieces_of two)
     → ((b == 10) ≡ true) × (b ≡ 10) ⊎ ((b == 10) ≡ false) × (b ≢ 10)
-    → EachEnded (cond (b == 10) (record { bytes = []; is_ended = true } ∷ pieces_of one) (onto_first b (pieces_of one)))
+    → EachEnded (cond (b == 10) (record { bytes = []; is_ended = true } ∷ pieces_of one)
+    (onto_first b (pieces_of one)))
     → cond (b == 10) (record { bytes = []; is_ended = true } ∷ pieces_of (one ++ two))
     (onto_first b (pieces_of (one ++ two)))
     ≡ cond (b == 10) (record { bytes = []; is_ended = true } ∷ pieces_of one)
     (onto_first b (pieces_of one)) ++ pieces_of two
 byte-append b one two h (inl is) =
-    let P : Bool → Type 0 =
-    λ t. EachEnded (cond t (record { bytes = []; is_ended = true } ∷ pieces_of one) (onto_first b (pieces_of one)))
-    → cond t (record { bytes = []; is_ended = true } ∷ pieces_of (one ++ two)) (onto_first b (pieces_of (one ++ two)))
-    ≡ cond t (record { bytes = []; is_ended = true } ∷ pieces_of one) (onto_first b (pieces_of one)) ++ pieces_of two in
+    let P : Bool → Type 0 = λ t. EachEnded (cond t (record { bytes = []; is_ended = true } ∷ pieces_of one)
+    (onto_first b (pieces_of one))) → cond t (record { bytes = []; is_ended = true } ∷ pieces_of (one ++ two))
+    (onto_first b (pieces_of (one ++ two))) ≡ cond t (record { bytes = []; is_ended = true } ∷ pieces_of one)
+    (onto_first b (pieces_of one)) ++ pieces_of two in
     subst P (sym is.0) (λ e. ap (λ ps. record { bytes = []; is_ended = true } ∷ ps) (h e.1))
 byte-append b one two h (inr is) =
-    let P : Bool → Type 0 =
-    λ t. EachEnded (cond t (record { bytes = []; is_ended = true } ∷ pieces_of one) (onto_first b (pieces_of one)))
-    → cond t (record { bytes = []; is_ended = true } ∷ pieces_of (one ++ two)) (onto_first b (pieces_of (one ++ two)))
-    ≡ cond t (record { bytes = []; is_ended = true } ∷ pieces_of one) (onto_first b (pieces_of one)) ++ pieces_of two in
+    let P : Bool → Type 0 = λ t. EachEnded (cond t (record { bytes = []; is_ended = true } ∷ pieces_of one)
+    (onto_first b (pieces_of one))) → cond t (record { bytes = []; is_ended = true } ∷ pieces_of (one ++ two))
+    (onto_first b (pieces_of (one ++ two))) ≡ cond t (record { bytes = []; is_ended = true } ∷ pieces_of one)
+    (onto_first b (pieces_of one)) ++ pieces_of two in
     subst P (sym is.0) (λ e.
     let onto = onto-append b (pieces_of one) (pieces_of two) e in
     ap (onto_first b) (h onto.0) ∙ onto.1)
 
-pieces-append : (one two : List ℕ) → EachEnded (pieces_of one) → pieces_of (one ++ two) ≡ pieces_of one ++ pieces_of two
+pieces-append : (one two : List ℕ) → EachEnded (pieces_of one) → pieces_of (one ++ two)
+    ≡ pieces_of one ++ pieces_of two
 pieces-append [] two e = refl
 pieces-append (b ∷ one) two e = byte-append b one two (pieces-append one two) (eqb_tells b 10) e
 
-pub lines-append : (one two : List ℕ)
-    → EachEnded (pieces_of one) → map seen (lines_of (one ++ two)) ≡ map seen (lines_of one) ++ map seen (lines_of two)
-lines-append one two e =
-    ap (λ ps. map seen (map line_of ps)) (pieces-append one two e)
+pub lines-append : (one two : List ℕ) → EachEnded (pieces_of one) → map seen (lines_of (one ++ two))
+    ≡ map seen (lines_of one) ++ map seen (lines_of two)
+lines-append one two e = ap (λ ps. map seen (map line_of ps)) (pieces-append one two e)
     ∙ ap (map seen) (map-append line_of (pieces_of one) (pieces_of two))
     ∙ map-append seen (map line_of (pieces_of one)) (map line_of (pieces_of two))
 
@@ -94,19 +84,20 @@ pub damaged-cut : (front : List (List ℕ)) (instead : List ℕ) (rest : List (L
     ≡ map Content front ++ (map seen (lines_of instead) ++ map Content rest)
 damaged-cut front instead rest h k (inl none) =
     let last : map seen (lines_of instead) ≡ map seen (lines_of instead) ++ map Content rest =
-    subst (λ (ls : List (List ℕ)). map seen (lines_of instead) ≡ map seen (lines_of instead) ++ map Content ls)
+    subst (λ (ls : List (List ℕ)). map seen (lines_of instead)
+    ≡ map seen (lines_of instead) ++ map Content ls)
     (sym none) (sym (append-nil (map seen (lines_of instead)))) in
     let text : instead ++ lines_text rest ≡ instead =
     ap (λ (ls : List (List ℕ)). instead ++ lines_text ls) none ∙ append-nil instead in
-    front-cut front (instead ++ lines_text rest) h
-    ∙ ap (λ t. map Content front ++ map seen (lines_of t)) text
+    front-cut front (instead ++ lines_text rest) h ∙ ap (λ t. map Content front ++ map seen (lines_of t)) text
     ∙ ap (λ ls. map Content front ++ ls) last
 damaged-cut front instead rest h k (inr all) =
     let last : map seen (lines_of (lines_text rest)) ≡ map Content rest =
     ap (λ t. map seen (lines_of t)) (sym (append-nil (lines_text rest)))
     ∙ front-cut rest [] k ∙ append-nil (map Content rest) in
     front-cut front (instead ++ lines_text rest) h
-    ∙ ap (λ ls. map Content front ++ ls) (lines-append instead (lines_text rest) (each-ended (pieces_of instead) all))
+    ∙ ap (λ ls. map Content front ++ ls) (lines-append instead (lines_text rest)
+    (each-ended (pieces_of instead) all))
     ∙ ap (λ ls. map Content front ++ (map seen (lines_of instead) ++ ls)) last
 
 -- ---- the lines in place of the block's
@@ -131,14 +122,3 @@ instead-inside (line ∷ lines) e =
 
 pub text-append : (one two : List (List ℕ)) → lines_text (one ++ two) ≡ lines_text one ++ lines_text two
 text-append one two = flat_map-append (λ (line : List ℕ). line ++ 10 ∷ []) one two
-
-pub clean-append : (one two : List (List ℕ))
-    → AllByRecursion IsClean one → AllByRecursion IsClean two → AllByRecursion IsClean (one ++ two)
-clean-append [] two h k = k
-clean-append (line ∷ one) two h k = (h.0, clean-append one two h.1 k)
-
--- those of two lists of lines are clean where both are
-pub clean-both : (one two : List (List ℕ))
-    → AllByRecursion IsClean (one ++ two) → AllByRecursion IsClean one × AllByRecursion IsClean two
-clean-both [] two h = (tt, h)
-clean-both (line ∷ one) two h = let rest = clean-both one two h.1 in ((h.0, rest.0), rest.1)

@@ -1,23 +1,16 @@
 -- After a damaged block: reading goes on at the next line that begins with >, with at most one warning before it.
-use Rattle.std.proofs.Common.{ℕ, suc, ◌≡◌, ◌+◌, ◌≤◌, max, inl, inr, true, false, List, [], ◌∷◌, ◌++◌, length, drop, Some, None}
-use Rattle.std.proofs.Common.{refl, ap, sym, ◌∙◌, subst, arith, length-append}
-use Rattle.std.proofs.Math.Seq.{drop-append_seam}
-use Rattle.crx_faults.specs.meaning.Seen.{ReadLine, Content, Overlong}
-use Rattle.crx_faults.specs.declared.fault.At.{At}
-use Rattle.crx_faults.specs.declared.fault.Fault.TheVariants.{Truncated}
-use Rattle.crx_header.specs.meaning.EpochColumns.{begins_epoch, is_event_line}
-use Rattle.crx_rinex.specs.meaning.Places.{Wanted}
-use Rattle.crx_compact.specs.meaning.CompactPlaces.{ReadEpoch}
-use Rattle.crx_reading.specs.meaning.Items.{Item, Warned, header_has_ended, records_left, types_in_force}
-use Rattle.crx_reading.specs.meaning.Reading.{Reading, WholeReading, AtLines, is_skipped, looked_for, reading_within}
-use Rattle.crx_reading.specs.meaning.Reading.{reading_from, fault_at_end, ended_with, ended_reading}
-use Rattle.crx_filter.specs.Laws.{continued_reading}
-use Rattle.crx_reading.specs.meaning.Expanded.{compact_place}
-use Rattle.crx_filter.specs.Anew.{IsBetweenUnits}
+use Rattle.crx_filter.proofs.Words.{ℕ, suc, ◌≡◌, ◌+◌, ◌≤◌, max, inl, inr, true, false, List, [], ◌∷◌, ◌++◌}
+use Rattle.crx_filter.proofs.Words.{length, drop, Some, None, refl, ap, sym, ◌∙◌, subst, arith, length-append}
+use Rattle.crx_filter.proofs.Words.{drop-append_seam, ReadLine, Content, Overlong, At, Truncated}
+use Rattle.crx_filter.proofs.Words.{begins_epoch, is_event_line, Wanted, ReadEpoch, Item, Warned}
+use Rattle.crx_filter.proofs.Words.{header_has_ended, records_left, types_in_force, Reading, WholeReading}
+use Rattle.crx_filter.proofs.Words.{AtLines, is_skipped, looked_for, reading_within, reading_from}
+use Rattle.crx_filter.proofs.Words.{fault_at_end, ended_with, ended_reading, continued_reading, compact_place}
+use Rattle.crx_filter.proofs.Words.{IsBetweenUnits}
 use Rattle.crx_filter.proofs.reading.Resuming.{enough-units, within-wrong, fault-skipped, looked-here}
 use Rattle.crx_filter.proofs.reading.ForwardCompact.{compact-forward}
-use Rattle.crx_filter.proofs.damage.BlockReading.{IsBlockText, EndsBlock, IsBlockRead, with_reads, reads-between, skipped-here}
-use Rattle.crx_filter.proofs.damage.BlockReading.{place-cut}
+use Rattle.crx_filter.proofs.damage.BlockReading.{IsBlockText, EndsBlock, IsBlockRead, with_reads}
+use Rattle.crx_filter.proofs.damage.BlockReading.{reads-between, skipped-here, place-cut}
 
 -- some warnings after these items, the newest first
 abbrev pub with_warnings : List At → List (Item ReadEpoch) → List (Item ReadEpoch)
@@ -36,7 +29,8 @@ warned-types [] items = refl
 warned-types (at ∷ older) items = warned-types older items
 
 -- reading goes on at some lines, after these items and at most one warning
-pub record GoesOnAt (items : List (Item ReadEpoch)) (tail : List ReadLine) (r : Reading ReadEpoch) : Type 0 where
+pub record GoesOnAt (items : List (Item ReadEpoch)) (tail : List ReadLine)
+    (r : Reading ReadEpoch) : Type 0 where
   pub warnings : List At
   pub few : length warnings ≤ 1
   pub number : ℕ
@@ -68,8 +62,8 @@ open-goes_on items number first rest line tail h no_event e begins =
       number = number + n;
       same = enough-units compact_place compact-forward true
           (length all + 1) (suc (length all)) items number all (omega arith) (omega arith)
-          ∙ within-wrong compact_place true
-          (length all) items number all offset Truncated (place-cut items first rest line tail h no_event begins e)
+          ∙ within-wrong compact_place true (length all) items number all offset Truncated
+          (place-cut items first rest line tail h no_event begins e)
           ∙ fault-skipped true read items number all offset Truncated on
           ∙ ap (λ ls. looked_for (read (Warned at ∷ items)) (Warned at ∷ items) (number + n) ls) left
           ∙ looked-here (read (Warned at ∷ items)) (Warned at ∷ items) (number + n) (Content line) tail begins
@@ -77,9 +71,11 @@ open-goes_on items number first rest line tail h no_event e begins =
           (Warned at ∷ items) (number + n) (Content line ∷ tail) (omega (arith, counted)) (omega arith);
     }
 
-cut-goes_on : (items : List (Item ReadEpoch)) (number : ℕ) (rest : List ReadLine) (line : List ℕ) (tail : List ReadLine)
+cut-goes_on : (items : List (Item ReadEpoch)) (number : ℕ) (rest : List ReadLine) (line : List ℕ)
+    (tail : List ReadLine)
     → IsBetweenUnits items → IsBlockText rest → compact_place items rest ≡ Wanted → begins_epoch line ≡ true
-    → GoesOnAt items (Content line ∷ tail) (reading_from compact_place true items number (rest ++ Content line ∷ tail))
+    → GoesOnAt items (Content line ∷ tail) (reading_from compact_place true items number
+    (rest ++ Content line ∷ tail))
 cut-goes_on items number [] line tail h text e begins =
     record { warnings = []; few = omega arith; number = number; same = refl }
 cut-goes_on items number (Overlong ∷ rest) line tail h text e begins = absurd text
@@ -90,20 +86,22 @@ goes_on : (items : List (Item ReadEpoch)) (r : Reading ReadEpoch) (line : List �
     → IsBetweenUnits items → EndsBlock items r → begins_epoch line ≡ true
     → GoesOnAt items (Content line ∷ tail) (continued_reading compact_place true r (Content line ∷ tail))
 goes_on items r line tail h (inl (number, rest, text, e, is)) begins =
-    subst (λ (s : Reading ReadEpoch). GoesOnAt items (Content line ∷ tail) (continued_reading compact_place true s
+    subst (λ (s : Reading ReadEpoch). GoesOnAt items (Content line ∷ tail)
+    (continued_reading compact_place true s
     (Content line ∷ tail))) (sym is) (cut-goes_on items number rest line tail h text e begins)
 goes_on items r line tail h (inr (at, number, is)) begins = record {
   warnings = at ∷ [];
   few = omega arith;
   number = number;
   same = ap (λ s. continued_reading compact_place true s (Content line ∷ tail)) is ∙ looked-here
-      (reading_from compact_place true (Warned at ∷ items)) (Warned at ∷ items) number (Content line) tail begins;
+      (reading_from compact_place true (Warned at ∷ items)) (Warned at ∷ items) number
+      (Content line) tail begins;
 }
 
 -- after a block that was read, at a line that begins with >
 pub block-goes_on : (items : List (Item ReadEpoch)) (r : Reading ReadEpoch)
-    (h : IsBlockRead items r) (line : List ℕ) (tail : List ReadLine) → IsBetweenUnits items → begins_epoch line ≡ true
-    → GoesOnAt (with_reads items h.reads)
+    (h : IsBlockRead items r) (line : List ℕ) (tail : List ReadLine) → IsBetweenUnits items
+    → begins_epoch line ≡ true → GoesOnAt (with_reads items h.reads)
     (Content line ∷ tail) (continued_reading compact_place true r (Content line ∷ tail))
 block-goes_on items r h line tail between begins =
     goes_on (with_reads items h.reads) r line tail (reads-between items h.reads between) h.ends begins
@@ -118,7 +116,8 @@ pub record EndsAfter (items : List (Item ReadEpoch)) (whole : WholeReading ReadE
 
 -- the end after whole units is good
 pub ends-well : (items : List (Item ReadEpoch)) (number : ℕ) → IsBetweenUnits items
-    → ended_reading true (record { items = items; stop = AtLines number [] }) ≡ record { items = items; fault = None }
+    → ended_reading true (record { items = items; stop = AtLines number [] })
+    ≡ record { items = items; fault = None }
 ends-well [] number h = let never = h.header in absurd (cc)
 ends-well (item ∷ before) number h = ap (ended_with true (item ∷ before) (number + 0)) (good h.header h.none)
   where
@@ -132,13 +131,13 @@ pub ends-inside : (items : List (Item ReadEpoch)) (number : ℕ) (line : ReadLin
 ends-inside [] number line rest h = let never = h.header in absurd (cc)
 ends-inside (item ∷ before) number line rest h =
     let at : At = record { line = number + length (line ∷ rest); fault = Truncated } in
-    let on : is_skipped true (item ∷ before) Truncated ≡ true = skipped-here (item ∷ before) Truncated h refl in
+    let on : is_skipped true (item ∷ before) Truncated ≡ true =
+    skipped-here (item ∷ before) Truncated h refl in
     record { warnings = at ∷ []; few = omega arith; same = skips on }
   where
     skips : is_skipped true (item ∷ before) Truncated ≡ true
         → ended_with true (item ∷ before) (number + length (line ∷ rest)) (Some Truncated) ≡ record {
-          items = Warned
-              (record { line = number + length (line ∷ rest); fault = Truncated }) ∷ item ∷ before;
+          items = Warned (record { line = number + length (line ∷ rest); fault = Truncated }) ∷ item ∷ before;
           fault = None;
         }
     skips on = rw (on, ended_with) refl
@@ -156,4 +155,5 @@ ends-after items r h (inr (at, number, is)) =
 -- after a block that was read, at the end of the input
 pub block-ends : (items : List (Item ReadEpoch)) (r : Reading ReadEpoch) (h : IsBlockRead items r)
     → IsBetweenUnits items → EndsAfter (with_reads items h.reads) (ended_reading true r)
-block-ends items r h between = ends-after (with_reads items h.reads) r (reads-between items h.reads between) h.ends
+block-ends items r h between = ends-after (with_reads items h.reads) r
+    (reads-between items h.reads between) h.ends

@@ -1,23 +1,10 @@
 -- What is written and reported after damage: the texts of items one after another, and the epochs among them.
-use Rattle.std.proofs.Common.{ℕ, ◌≡◌, ◌≤◌, ◌-◌, inl, inr, Bool, true, false, List, [], ◌∷◌, ◌++◌, map, length, reverse}
-use Rattle.std.proofs.Common.{Option, refl, ap, sym, ◌∙◌, arith, subst, append_assoc, append-nil}
-use Rattle.std.specs.Prelude.{◌||◌}
-use Rattle.std.specs.List.{AllByRecursion, flat_map}
-use Rattle.crx_faults.specs.declared.fault.At.{At}
-use Rattle.crx_rinex.specs.meaning.Observations.{Epoch}
-use Rattle.crx_rinex.specs.meaning.Epochs.{IsWholeEpoch}
-use Rattle.crx_rinex.specs.meaning.Printing.{printed_epoch}
-use Rattle.crx_rinex.specs.meaning.Units.{HeaderLine, EventLine, EventRecord, Observation}
-use Rattle.crx_compact.specs.meaning.CompactPlaces.{ReadEpoch}
-use Rattle.crx_compact.specs.ReadingLaws.{IsGood}
-use Rattle.crx_reading.specs.meaning.Items.{Item, Accepted, Warned, ends_header, header_has_ended, records_left}
-use Rattle.crx_reading.specs.meaning.Items.{types_in_force}
-use Rattle.crx_reading.specs.meaning.Reading.{Reading}
-use Rattle.crx_reading.specs.meaning.Written.{warnings_in}
-use Rattle.crx_reading.specs.meaning.Expanded.{compact_place, expanded_unit}
-use Rattle.crx_filter.specs.Expanded.{expanded_lines}
-use Rattle.crx_filter.specs.Laws.{ItemsAreRead}
-use Rattle.crx_reading.specs.meaning.Damage.{with_epochs}
+use Rattle.crx_filter.proofs.Words.{ℕ, ◌≡◌, ◌≤◌, ◌-◌, inl, inr, List, [], ◌∷◌, ◌++◌, map, length, reverse}
+use Rattle.crx_filter.proofs.Words.{Option, refl, ap, sym, ◌∙◌, arith, subst, append_assoc, append-nil}
+use Rattle.crx_filter.proofs.Words.{AllByRecursion, flat_map, At, Epoch, IsWholeEpoch, printed_epoch}
+use Rattle.crx_filter.proofs.Words.{HeaderLine, EventLine, EventRecord, Observation, ReadEpoch, IsGood, Item}
+use Rattle.crx_filter.proofs.Words.{Accepted, Warned, records_left, types_in_force, Reading, warnings_in}
+use Rattle.crx_filter.proofs.Words.{compact_place, expanded_unit, expanded_lines, ItemsAreRead, with_epochs}
 use Rattle.crx_filter.proofs.wayback.ExpandedWhole.{AreGoodEpochs, epochs-good}
 use Rattle.crx_filter.proofs.wayback.Items.{read_back}
 use Rattle.crx_filter.proofs.damage.BlockReading.{EndsBlock, with_reads}
@@ -31,7 +18,8 @@ epochs_in reads = map (λ (read : ReadEpoch). read.epoch) reads
 pub lines-append : (later before : List (Item ReadEpoch))
     → expanded_lines (later ++ before) ≡ expanded_lines before ++ expanded_lines later
 lines-append [] before = sym (append-nil (expanded_lines before))
-lines-append (Accepted unit ∷ later) before = ap (λ ls. ls ++ expanded_unit before unit) (lines-append later before)
+lines-append (Accepted unit ∷ later) before = ap (λ ls. ls ++ expanded_unit before unit)
+    (lines-append later before)
     ∙ append_assoc (expanded_lines before) (expanded_lines later) (expanded_unit before unit)
 lines-append (Warned at ∷ later) before = lines-append later before
 
@@ -41,11 +29,12 @@ lines-warned [] items = refl
 lines-warned (at ∷ older) items = lines-warned older items
 
 pub lines-read : (items : List (Item ReadEpoch)) (reads : List ReadEpoch)
-    → expanded_lines (with_reads items reads) ≡ expanded_lines items ++ flat_map printed_epoch (epochs_in reads)
+    → expanded_lines (with_reads items reads) ≡ expanded_lines items ++ flat_map printed_epoch
+    (epochs_in reads)
 lines-read items [] = sym (append-nil (expanded_lines items))
-lines-read items (read ∷ later) =
-    lines-read (Accepted (Observation read) ∷ items) later
-    ∙ append_assoc (expanded_lines items) (printed_epoch read.epoch) (flat_map printed_epoch (epochs_in later))
+lines-read items (read ∷ later) = lines-read (Accepted (Observation read) ∷ items) later
+    ∙ append_assoc (expanded_lines items) (printed_epoch read.epoch)
+    (flat_map printed_epoch (epochs_in later))
 
 -- ---- what is reported
 
@@ -76,16 +65,6 @@ few-reversed (at ∷ next ∷ older) few = absurd (omega (arith, few))
 
 -- ---- between two units
 
-pub header-append : (later before : List (Item ReadEpoch))
-    → header_has_ended before ≡ true → header_has_ended (later ++ before) ≡ true
-header-append [] before h = h
-header-append (item ∷ later) before h = ap (λ b. ends_header item || b) (header-append later before h)
-    ∙ either (ends_header item)
-  where
-    either : (b : Bool) → (b || true) ≡ true
-    either true = refl
-    either false = refl
-
 -- records are left after some items as they are after others
 pub left-append : (later one two : List (Item ReadEpoch))
     → records_left one ≡ records_left two → records_left (later ++ one) ≡ records_left (later ++ two)
@@ -101,10 +80,12 @@ left-append (Warned at ∷ later) one two e = refl
 good-before : (items : List (Item ReadEpoch)) (reads : List ReadEpoch)
     → AreGoodEpochs (with_reads items reads) → AreGoodEpochs items
 good-before items [] h = h
-good-before items (read ∷ later) h = let more = good-before (Accepted (Observation read) ∷ items) later h in more.1
+good-before items (read ∷ later) h = let more = good-before
+    (Accepted (Observation read) ∷ items) later h in more.1
 
 whole-reads : (items : List (Item ReadEpoch)) (reads : List ReadEpoch)
-    → AreGoodEpochs (with_reads items reads) → AllByRecursion (IsWholeEpoch (types_in_force items)) (epochs_in reads)
+    → AreGoodEpochs (with_reads items reads) → AllByRecursion (IsWholeEpoch (types_in_force items))
+    (epochs_in reads)
 whole-reads items [] h = tt
 whole-reads items (read ∷ later) h =
     let one = good-before (Accepted (Observation read) ∷ items) later h in
@@ -120,8 +101,8 @@ read-ends items r (inr (at, number, is)) h = let all =
 pub whole-block : (items : List (Item ReadEpoch)) (reads : List ReadEpoch) (r : Reading ReadEpoch)
     → EndsBlock (with_reads items reads) r → ItemsAreRead compact_place r.items
     → AllByRecursion (IsWholeEpoch (types_in_force items)) (epochs_in reads)
-whole-block items reads r ends h =
-    whole-reads items reads (epochs-good (with_reads items reads) (read-ends (with_reads items reads) r ends h))
+whole-block items reads r ends h = whole-reads items reads (epochs-good (with_reads items reads)
+    (read-ends (with_reads items reads) r ends h))
 
 -- ---- which epochs were read
 
@@ -142,8 +123,8 @@ epochs-read items (read ∷ later) = epochs-read (Accepted (Observation read) �
 
 pub epochs-ended : (items : List (Item ReadEpoch)) (reads : List ReadEpoch) (r : Reading ReadEpoch)
     → EndsBlock (with_reads items reads) r → epochs_of r.items ≡ epochs_of items ++ epochs_in reads
-epochs-ended items reads r (inl (number, rest, text, e, is)) = ap (λ (s : Reading ReadEpoch). epochs_of s.items) is
-    ∙ epochs-read items reads
+epochs-ended items reads r (inl (number, rest, text, e, is)) =
+    ap (λ (s : Reading ReadEpoch). epochs_of s.items) is ∙ epochs-read items reads
 epochs-ended items reads r (inr (at, number, is)) = ap (λ (s : Reading ReadEpoch). epochs_of s.items) is
     ∙ epochs-read items reads
 

@@ -1,52 +1,45 @@
 -- The compact text that a compaction writes after a block: it is read, whatever the line numbers are, as its units; and
 -- all starts anew at its first line.
-use Rattle.std.proofs.Common.{ℕ, zero, suc, ◌≡◌, ◌+◌, ◌-◌, ◌<◌, Bool, true, false, cond, List, [], ◌∷◌, ◌++◌, map}
-use Rattle.std.proofs.Common.{length, Option, refl, ap, sym, ◌∙◌, arith, length-append, append-nil, append_assoc}
-use Rattle.std.specs.Prelude.{◌&&◌, ◌||◌}
-use Rattle.std.proofs.lemmas.List.{map-append, length-map}
-use Rattle.std.proofs.lemmas.Bool.{and_parts}
-use Rattle.crx_columns.specs.meaning.Columns.{character_at}
-use Rattle.crx_faults.specs.meaning.Seen.{ReadLine, Content}
-use Rattle.crx_rinex.specs.meaning.Observations.{Epoch}
-use Rattle.crx_header.specs.meaning.EpochColumns.{begins_epoch, is_event_flag, is_event_line}
-use Rattle.crx_rinex.specs.meaning.Places.{Here}
-use Rattle.crx_rinex.specs.meaning.Units.{HeaderLine, EventLine, EventRecord, Observation}
-use Rattle.crx_compact.specs.meaning.Compaction.{Marked, compact_epoch, epoch_line}
-use Rattle.crx_compact.specs.Laws.{LinesCanStand, has_no_epochs}
-use Rattle.crx_options.specs.meaning.Choices.{Choices}
-use Rattle.crx_reading.specs.meaning.Items.{Item, Accepted, Warned, ends_header, header_has_ended, records_announced}
-use Rattle.crx_reading.specs.meaning.Items.{records_left}
-use Rattle.crx_reading.specs.meaning.Reading.{AtLines, reading_from}
-use Rattle.crx_filter.specs.Laws.{continued_reading, AreInPlace}
-use Rattle.crx_reading.specs.meaning.Written.{written_lines}
-use Rattle.crx_reading.specs.meaning.Compacted.{is_interrupted, is_at_every, is_in_full, marked_epochs, epochs_accepted}
-use Rattle.crx_reading.specs.meaning.Expanded.{compact_place}
-use Rattle.crx_filter.specs.Anew.{starts_anew}
-use Rattle.crx_reading.specs.meaning.Damage.{BeginsAnew}
+use Rattle.crx_filter.proofs.Words.{ℕ, zero, suc, ◌≡◌, ◌+◌, ◌-◌, ◌<◌, Bool, true, false, cond, List, [], ◌∷◌}
+use Rattle.crx_filter.proofs.Words.{◌++◌, map, length, Option, refl, ap, sym, ◌∙◌, arith, length-append}
+use Rattle.crx_filter.proofs.Words.{append-nil, append_assoc, ◌&&◌, ◌||◌, map-append, length-map, and_parts}
+use Rattle.crx_filter.proofs.Words.{character_at, ReadLine, Content, Epoch, begins_epoch, is_event_flag}
+use Rattle.crx_filter.proofs.Words.{is_event_line, Here, HeaderLine, EventLine, EventRecord, Observation}
+use Rattle.crx_filter.proofs.Words.{Marked, compact_epoch, epoch_line, LinesCanStand, Choices, Item, Accepted}
+use Rattle.crx_filter.proofs.Words.{Warned, header_has_ended, records_announced, records_left, AtLines}
+use Rattle.crx_filter.proofs.Words.{reading_from, continued_reading, AreInPlace, written_lines}
+use Rattle.crx_filter.proofs.Words.{is_interrupted, is_at_every, is_in_full, marked_epochs, epochs_accepted}
+use Rattle.crx_filter.proofs.Words.{compact_place, starts_anew, BeginsAnew}
+use Rattle.crx_compact.specs.Laws.{has_no_epochs}
 use Rattle.crx_filter.proofs.reading.Resuming.{within-wanted, resumed}
 use Rattle.crx_filter.proofs.reading.ForwardCompact.{compact-forward}
 use Rattle.crx_filter.proofs.wayback.Carried.{one-unit, at-line}
-use Rattle.crx_filter.proofs.wayback.Items.{marked_now, body_unit, unit_back, read_back, unit-here, epoch-stands}
+use Rattle.crx_filter.proofs.wayback.Items.{marked_now, body_unit, unit_back, read_back, unit-here}
+use Rattle.crx_filter.proofs.wayback.Items.{epoch-stands}
+use Rattle.crx_filter.proofs.reading.Each.{header-append}
 
 -- the lines of some items after others
 abbrev pub lines_on : Option ℕ → List (Item Epoch) → List (Item Epoch) → List (List ℕ)
 lines_on every [] before = []
-lines_on every (Accepted unit ∷ later) before = lines_on every later before ++ body_unit every (later ++ before) unit
+lines_on every (Accepted unit ∷ later) before = lines_on every later before ++ body_unit every
+    (later ++ before) unit
 lines_on every (Warned at ∷ later) before = lines_on every later before
 
 pub written-on : (every : Option ℕ) (later before : List (Item Epoch)) → written_lines
-    (body_unit every) (later ++ before) ≡ written_lines (body_unit every) before ++ lines_on every later before
+    (body_unit every) (later ++ before) ≡ written_lines (body_unit every) before ++ lines_on every
+    later before
 written-on every [] before = sym (append-nil (written_lines (body_unit every) before))
 written-on every (Accepted unit ∷ later) before =
     ap (λ ls. ls ++ body_unit every (later ++ before) unit) (written-on every later before) ∙ append_assoc
-    (written_lines (body_unit every) before) (lines_on every later before) (body_unit every (later ++ before) unit)
+    (written_lines (body_unit every) before) (lines_on every later before)
+    (body_unit every (later ++ before) unit)
 written-on every (Warned at ∷ later) before = written-on every later before
 
 -- ---- they are read as their units
 
 pub reads-on : (every : Option ℕ) (skip : Bool) (number : ℕ) (later before : List (Item Epoch))
-    → AreInPlace (later ++ before)
-    → reading_from compact_place skip (read_back every before) number (map Content (lines_on every later before))
+    → AreInPlace (later ++ before) → reading_from compact_place skip (read_back every before) number
+    (map Content (lines_on every later before))
     ≡ record {
       items = read_back every (later ++ before);
       stop = AtLines (number + length (lines_on every later before)) [];
@@ -62,14 +55,18 @@ reads-on every skip number (Accepted unit ∷ later) before h =
     let all : length (first ++ more) ≡ length first + length more = length-append first more in
     let here : compact_place (read_back every (later ++ before)) (map Content more)
     ≡ Here (unit_back every (later ++ before) unit) (length (map Content more)) =
-    unit-here every (later ++ before) unit h ∙ ap (λ n. Here (unit_back every (later ++ before) unit) n) (sym same) in
-    ap (λ ls. reading_from compact_place skip (read_back every before) number ls) (map-append Content first more)
-    ∙ resumed compact_place compact-forward skip (read_back every before) number (map Content first) (map Content more)
-    ∙ ap (λ r. continued_reading compact_place skip r (map Content more)) (reads-on every skip number later before h.1)
+    unit-here every (later ++ before) unit h ∙ ap (λ n. Here (unit_back every (later ++ before) unit) n)
+    (sym same) in
+    ap (λ ls. reading_from compact_place skip (read_back every before) number ls)
+    (map-append Content first more)
+    ∙ resumed compact_place compact-forward skip (read_back every before) number (map Content first)
+    (map Content more) ∙ ap (λ r. continued_reading compact_place skip r (map Content more))
+    (reads-on every skip number later before h.1)
     ∙ one-unit compact_place compact-forward skip (read_back every (later ++ before))
     (number + length first) (map Content more) (unit_back every (later ++ before) unit) here
     ∙ at-line (Accepted (unit_back every (later ++ before) unit) ∷ read_back every (later ++ before))
-    (number + length first + length (map Content more)) (number + length (first ++ more)) (omega (arith, same, all))
+    (number + length first + length (map Content more)) (number + length (first ++ more))
+    (omega (arith, same, all))
 
 -- ---- all starts anew
 
@@ -110,16 +107,6 @@ first-full choices block epoch (Accepted (Observation other) ∷ items) h none =
 first-full choices block epoch (Warned at ∷ items) h none =
     interrupted-full choices.every (Warned at ∷ (items ++ block)) refl
 
-pub header-stays : (items block : List (Item Epoch))
-    → header_has_ended block ≡ true → header_has_ended (items ++ block) ≡ true
-header-stays [] block h = h
-header-stays (item ∷ items) block h = ap (λ b. ends_header item || b) (header-stays items block h)
-    ∙ either (ends_header item)
-  where
-    either : (b : Bool) → (b || true) ≡ true
-    either true = refl
-    either false = refl
-
 pub one-more : (first : List (List ℕ)) (line : List ℕ) (more : List ReadLine)
     → map Content (first ++ line ∷ []) ++ more ≡ map Content first ++ Content line ∷ more
 one-more first line more = ap (λ ls. ls ++ more) (map-append Content first (line ∷ []))
@@ -129,10 +116,11 @@ event-begins : (line : List ℕ) → is_event_line line ≡ true → begins_epoc
 event-begins line e = (and_parts (begins_epoch line) (is_event_flag (character_at line 32)) e).0
 
 anew-event : (line : List ℕ) (more : List ReadLine)
-    → is_event_line line ≡ true → starts_anew 0 (Content line ∷ more) ≡ starts_anew (records_announced line) more
+    → is_event_line line ≡ true → starts_anew 0 (Content line ∷ more)
+    ≡ starts_anew (records_announced line) more
 anew-event line more e =
-    ap (λ b. b && cond (is_event_line line) (starts_anew (records_announced line) more) true) (event-begins line e)
-    ∙ ap (λ b. cond b (starts_anew (records_announced line) more) true) e
+    ap (λ b. b && cond (is_event_line line) (starts_anew (records_announced line) more) true)
+    (event-begins line e) ∙ ap (λ b. cond b (starts_anew (records_announced line) more) true) e
 
 anew-epoch : (line : List ℕ) (more : List ReadLine)
     → begins_epoch line ≡ true → is_event_line line ≡ false → starts_anew 0 (Content line ∷ more) ≡ true
@@ -151,11 +139,12 @@ GoesAnew choices block items =
     (more : List ReadLine) → starts_anew 0 (map Content (lines_on choices.every items block) ++ more)
     ≡ cond (has_observation items) true (starts_anew (records_left (items ++ block)) more)
 
-goes-anew : (choices : Choices) (block items : List (Item Epoch)) → header_has_ended block ≡ true → records_left block
+goes-anew : (choices : Choices) (block items : List (Item Epoch)) → header_has_ended block ≡ true
+    → records_left block
     ≡ 0 → AreInPlace (items ++ block) → BeginsAnew choices block items → GoesAnew choices block items
 goes-anew choices block [] header none h k more = ap (λ n. starts_anew n more) (sym none)
 goes-anew choices block (Accepted (HeaderLine line) ∷ items) header none h k more = let never = sym (h.0).0
-    ∙ header-stays items block header in absurd (cc)
+    ∙ header-append items block header in absurd (cc)
 goes-anew choices block (Accepted (EventLine line) ∷ items) header none h k more =
     ap (starts_anew 0) (one-more (lines_on choices.every items block) line more)
     ∙ goes-anew choices block items header none h.1
@@ -166,7 +155,8 @@ goes-anew choices block (Accepted (EventRecord line) ∷ items) header none h k 
     ap (starts_anew 0) (one-more (lines_on choices.every items block) line more)
     ∙ goes-anew choices block items header none h.1
     (begins-rest choices block (Accepted (EventRecord line)) items k) (Content line ∷ more)
-    ∙ ap (λ b. cond (has_observation items) true b) (anew-record (records_left (items ++ block)) line more (h.0).1)
+    ∙ ap (λ b. cond (has_observation items) true b) (anew-record (records_left (items ++ block)) line more
+    (h.0).1)
 goes-anew choices block (Accepted (Observation epoch) ∷ items) header none h k more =
     let before : List (Item Epoch) = items ++ block in
     let m : Marked = marked_now choices.every before epoch in
@@ -178,11 +168,13 @@ goes-anew choices block (Accepted (Observation epoch) ∷ items) header none h k
     ∙ ap (starts_anew 0) (append_assoc (map Content first) (map Content lines) more)
     ∙ goes-anew choices block items header none h.1
     (begins-rest choices block (Accepted (Observation epoch)) items k) (map Content lines ++ more)
-    ∙ by_observation (has_observation items) refl (starts_anew (records_left before) (map Content lines ++ more))
+    ∙ by_observation (has_observation items) refl (starts_anew (records_left before)
+    (map Content lines ++ more))
     (λ no_epoch.
     ap (λ n. starts_anew n (map Content lines ++ more)) (h.0).1
     ∙ anew-epoch (epoch_line m older) (map Content (tail_of lines) ++ more) (stands.first
-    ∙ ap (λ b. b || has_no_epochs older) (first-full choices block epoch items k no_epoch)) (stands.no_event).0)
+    ∙ ap (λ b. b || has_no_epochs older) (first-full choices block epoch items k no_epoch))
+    (stands.no_event).0)
   where
     tail_of : List (List ℕ) → List (List ℕ)
     tail_of [] = []

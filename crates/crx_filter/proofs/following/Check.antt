@@ -1,20 +1,9 @@
 -- A check line by line reads as the whole reading does, and keeps its totals.
-use Rattle.std.proofs.Common.{ℕ, ◌+◌, false, List, [], length, refl, ap}
-use Rattle.std.proofs.Common.{arith}
-use Rattle.crx_faults.specs.meaning.Seen.{ReadLine}
-use Rattle.crx_rinex.specs.meaning.Observations.{Epoch}
-use Rattle.crx_rinex.specs.meaning.Units.{Unit as FileUnit, Observation, printed_unit}
-use Rattle.crx_rinex.specs.meaning.EpochPlaces.{epoch_place}
-use Rattle.crx_reading.specs.meaning.Items.{Item, types_in_force}
-use Rattle.crx_reading.specs.meaning.Written.{warnings_in}
-use Rattle.crx_reading.specs.meaning.Reading.{Reading}
-use Rattle.crx_filter.specs.Laws.{IsEndedBy}
-use Rattle.crx_reading.specs.meaning.Compacted.{rinex_place, whole_rinex}
-use Rattle.crx_reading.specs.meaning.Directions.{rinex_reading}
-use Rattle.crx_reading.specs.CompactionByLine.{rinex_open}
-use Rattle.crx_reading.specs.LineByLine.{seen_of, seen_end}
-use Rattle.crx_reading.specs.meaning.Standard.{printed_items}
-use Rattle.crx_reading.specs.CheckByLine.{Totals, checking, totals_of, no_choices}
+use Rattle.crx_filter.proofs.Words.{ℕ, ◌+◌, false, List, [], length, refl, ap, arith, ReadLine, Epoch}
+use Rattle.crx_filter.proofs.Words.{FileUnit, Observation, printed_unit, epoch_place, Item, types_in_force}
+use Rattle.crx_filter.proofs.Words.{warnings_in, Reading, IsEndedBy, rinex_place, whole_rinex, rinex_reading}
+use Rattle.crx_filter.proofs.Words.{rinex_open, seen_of, seen_end, printed_items, Totals, checking, totals_of}
+use Rattle.crx_filter.proofs.Words.{no_choices}
 use Rattle.crx_filter.proofs.reading.Forward.{rinex-forward}
 use Rattle.crx_filter.proofs.following.Following.{seen_in, IsCarriedOut}
 use Rattle.crx_filter.proofs.following.Rinex.{AreSame, either-same, agree-begins, agree-continues, no-lines}
@@ -55,13 +44,14 @@ check-carried_out = record {
 }
 
 -- the end of the input
-pub check-end : (lines : List ReadLine)
-    → IsEndedBy (printed_items (rinex_reading false lines).items)
+pub check-end : (lines : List ReadLine) → IsEndedBy (printed_items (rinex_reading false lines).items)
     (printed_items (whole_rinex false lines).items) (warnings_in (rinex_reading false lines).items)
     (warnings_in (whole_rinex false lines).items) (whole_rinex false lines).fault
-    (seen_end checking (seen_of checking rinex_open totals_of no_choices (length lines) (rinex_reading false lines)))
+    (seen_end checking (seen_of checking rinex_open totals_of no_choices (length lines)
+    (rinex_reading false lines)))
 check-end lines =
     let r : Reading Epoch = rinex_reading false lines in
-    let stopped = reading-stopped rinex_place rinex-forward false [] 1 (length lines + 1) lines (omega arith) in
+    let stopped = reading-stopped rinex_place rinex-forward false [] 1 (length lines + 1) lines
+    (omega arith) in
     next-end _ checking rinex_open
     totals_of printed_after no_choices check-carried_out r.items r.stop (length lines) stopped

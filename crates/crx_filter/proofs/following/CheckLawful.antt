@@ -1,13 +1,8 @@
 -- A check as a filter: a fault of the lines so far is that of all lines.
-use Rattle.std.proofs.Common.{◌≡◌, false, [], ◌++◌, map, Some, refl, ap, sym, ◌∙◌}
-use Rattle.std.proofs.lemmas.List.{map-append}
-use Rattle.crx_faults.specs.meaning.Seen.{seen}
-use Rattle.crx_rinex.specs.meaning.Observations.{Epoch}
-use Rattle.crx_reading.specs.meaning.Reading.{WholeReading}
-use Rattle.crx_runs.specs.Lawful.{IsLawful}
-use Rattle.crx_reading.specs.meaning.Compacted.{whole_rinex}
-use Rattle.crx_reading.specs.meaning.Standard.{whole_reading_of, findings_of}
-use Rattle.crx_reading.specs.meaning.Directions.{report_unless, check_filter}
+use Rattle.crx_filter.proofs.Words.{◌≡◌, false, [], ◌++◌, map, Some, refl, ap, sym, ◌∙◌, map-append, seen}
+use Rattle.crx_filter.proofs.Words.{Epoch, WholeReading, IsLawful, whole_rinex, whole_reading_of, findings_of}
+use Rattle.crx_filter.proofs.Words.{check_filter}
+use Rattle.crx_reading.specs.meaning.Directions.{report_unless}
 use Rattle.crx_filter.proofs.reading.StaysEnded.{rinex-stays}
 use Rattle.crx_filter.proofs.reading.FineReadings.{rinex-found, rinex-found-at-end}
 
@@ -16,8 +11,9 @@ check-lawful = record {
   nothing = refl;
   decided = λ lines more at e.
       let stays = rinex-stays false (map seen lines) (map seen more) at e in
-      let fault : WholeReading.fault (whole_reading_of (lines ++ more)) ≡ Some at = ap (λ ls. WholeReading.fault
-      (whole_rinex false ls)) (map-append seen lines more) ∙ ap (λ (w : WholeReading Epoch). w.fault) stays.ended in
+      let fault : WholeReading.fault (whole_reading_of (lines ++ more)) ≡ Some at =
+      ap (λ ls. WholeReading.fault (whole_rinex false ls)) (map-append seen lines more)
+      ∙ ap (λ (w : WholeReading Epoch). w.fault) stays.ended in
       ap (λ o. record { output = report_unless o (findings_of (lines ++ more)); warnings = []; fault = o }) fault
       ∙ ap (λ o. record { output = []; warnings = []; fault = o }) (sym e);
   grows = λ lines more. record { rest = []; same = refl };

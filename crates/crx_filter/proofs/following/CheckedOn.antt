@@ -1,24 +1,14 @@
 -- A check is given one line more.
-use Rattle.std.proofs.Common.{ℕ, ◌≡◌, ◌+◌, true, false, cond, List, [], ◌∷◌, ◌++◌, map, length, Option, Some, None}
-use Rattle.std.proofs.Common.{refl, ap, sym, ◌∙◌, subst, arith, length-append, append-nil, append_assoc}
-use Rattle.std.proofs.lemmas.List.{map-append, length-map}
-use Rattle.std.proofs.lemmas.Option.{none-some}
-use Rattle.crx_faults.specs.meaning.Lines.{InputLine}
-use Rattle.crx_faults.specs.meaning.Seen.{ReadLine, seen}
-use Rattle.crx_faults.specs.declared.fault.At.{At}
-use Rattle.crx_rinex.specs.meaning.Observations.{Epoch}
-use Rattle.crx_rinex.specs.Printing.{last_line}
-use Rattle.crx_reading.specs.meaning.Reading.{Reading}
-use Rattle.crx_reading.specs.meaning.Directions.{rinex_reading}
-use Rattle.crx_reading.specs.CompactionByLine.{rinex_open}
-use Rattle.crx_reading.specs.LineByLine.{Seen, Step, made_in, seen_next, seen_of, phase_of}
-use Rattle.crx_filter.specs.Laws.{Fed, fed, fed_once, failed_by, is_again}
-use Rattle.crx_reading.specs.meaning.Reading.{fault_of_stop}
-use Rattle.crx_reading.specs.meaning.Standard.{printed_items, is_standard_line, first_not_standard}
-use Rattle.crx_reading.specs.CheckByLine.{Totals, checking, totals_of, printed_open, printed_so_far, printed_made}
-use Rattle.crx_reading.specs.CheckByLine.{earliest, CheckSeen, no_choices, check_seen, check_next}
+use Rattle.crx_filter.proofs.Words.{ℕ, ◌≡◌, ◌+◌, true, false, cond, List, [], ◌∷◌, ◌++◌, map, length, Option}
+use Rattle.crx_filter.proofs.Words.{Some, None, refl, ap, sym, ◌∙◌, subst, arith, length-append, append-nil}
+use Rattle.crx_filter.proofs.Words.{append_assoc, map-append, length-map, none-some, InputLine, ReadLine}
+use Rattle.crx_filter.proofs.Words.{seen, At, Epoch, last_line, Reading, rinex_reading, rinex_open, Seen}
+use Rattle.crx_filter.proofs.Words.{Step, made_in, seen_next, seen_of, phase_of, Fed, fed, fed_once}
+use Rattle.crx_filter.proofs.Words.{failed_by, is_again, fault_of_stop, printed_items, is_standard_line}
+use Rattle.crx_filter.proofs.Words.{first_not_standard, Totals, checking, totals_of, printed_open}
+use Rattle.crx_filter.proofs.Words.{printed_so_far, printed_made, earliest, CheckSeen, no_choices, check_seen}
+use Rattle.crx_filter.proofs.Words.{check_next, OpenEpoch}
 use Rattle.crx_filter.specs.CheckingLaws.{IsCheckedOn}
-use Rattle.crx_rinex.specs.meaning.EpochPlaces.{OpenEpoch}
 use Rattle.crx_filter.proofs.following.Following.{fed-once}
 use Rattle.crx_filter.proofs.reading.StaysEnded.{rinex-stays}
 use Rattle.crx_filter.proofs.following.Check.{check-carried_out}
@@ -28,11 +18,13 @@ use Rattle.crx_filter.proofs.standard.CheckLines.{phase-reached, line-grows, nev
 -- ---- what is seen of the lines
 
 abbrev pub reading_seen : List ReadLine → Seen OpenEpoch Totals
-reading_seen lines = seen_of checking rinex_open totals_of no_choices (length lines) (rinex_reading false lines)
+reading_seen lines = seen_of checking rinex_open totals_of no_choices (length lines)
+    (rinex_reading false lines)
 
-pub same-seen : (lines : List InputLine) → CheckSeen.reading (check_seen lines) ≡ reading_seen (map seen lines)
-same-seen lines = ap (λ n. seen_of checking rinex_open totals_of no_choices n (rinex_reading false (map seen lines)))
-    (sym (length-map lines seen))
+pub same-seen : (lines : List InputLine) → CheckSeen.reading (check_seen lines)
+    ≡ reading_seen (map seen lines)
+same-seen lines = ap (λ n. seen_of checking rinex_open totals_of no_choices n
+    (rinex_reading false (map seen lines))) (sym (length-map lines seen))
 
 once-again : (lines : List ReadLine) (line : ReadLine)
     → is_again (seen_next checking (reading_seen lines) line).answer ≡ false
@@ -63,8 +55,7 @@ one-on lines line =
     let step : Step OpenEpoch Totals = seen_next checking s line in
     let once : fed checking s line ≡ fed_once step = fed-once checking s line (once-again lines line) in
     let h = more-line check-carried_out 1 (length lines) (length (lines ++ line ∷ [])) lines
-    (lines ++ line ∷ []) line
-    (omega arith) (length-append lines (line ∷ [])) refl in
+    (lines ++ line ∷ []) line (omega arith) (length-append lines (line ∷ [])) refl in
     let before : Reading Epoch = rinex_reading false lines in
     let after : Reading Epoch = rinex_reading false (lines ++ line ∷ []) in
     let next : reading_seen (lines ++ line ∷ []) ≡ step.next = h.next
@@ -73,7 +64,8 @@ one-on lines line =
     ∙ ap (λ (f : Fed OpenEpoch Totals). printed_items before.items ++ f.handed_out) once in
     let failed : fault_of_stop after.stop ≡ failed_by step.answer = h.failed
     ∙ ap (λ (f : Fed OpenEpoch Totals). f.failed) once in
-    let phase : phase_of rinex_open after ≡ step.next.phase = ap (λ (t : Seen OpenEpoch Totals). t.phase) next in
+    let phase : phase_of rinex_open after ≡ step.next.phase =
+    ap (λ (t : Seen OpenEpoch Totals). t.phase) next in
     record {
       fault = failed;
       next = next;
@@ -83,31 +75,37 @@ one-on lines line =
           ∙ append_assoc (printed_items before.items) step.handed_out (printed_open step.next.phase)
           ∙ ap (λ ls. printed_items before.items ++ ls)
           (line-grows (length lines) s.phase s.types s.kept line (phase-reached lines) (sym failed ∙ none))
-          ∙ sym (append_assoc (printed_items before.items) (printed_open s.phase) (given_back lines line ∷ []));
+          ∙ sym (append_assoc (printed_items before.items) (printed_open s.phase)
+          (given_back lines line ∷ []));
     }
 
 -- ---- as many lines are printed as have come
 
 one-less : (lines : List ReadLine) (line : ReadLine)
     → fault_of_stop (rinex_reading false (lines ++ line ∷ [])).stop ≡ None → (o : Option At)
-    → fault_of_stop (rinex_reading false lines).stop ≡ o → fault_of_stop (rinex_reading false lines).stop ≡ None
+    → fault_of_stop (rinex_reading false lines).stop ≡ o
+    → fault_of_stop (rinex_reading false lines).stop ≡ None
 one-less lines line none None e = e
 one-less lines line none (Some at) e =
     let stays = rinex-stays false lines (line ∷ []) at e in
     absurd (none-some at (sym none ∙ ap (λ (r : Reading Epoch). fault_of_stop r.stop) stays.same ∙ e))
 
-good-before : (lines : List ReadLine) (line : ReadLine) → fault_of_stop (rinex_reading false (lines ++ line ∷ [])).stop
+good-before : (lines : List ReadLine) (line : ReadLine) → fault_of_stop
+    (rinex_reading false (lines ++ line ∷ [])).stop
     ≡ None → fault_of_stop (rinex_reading false lines).stop ≡ None
 good-before lines line none = one-less lines line none (fault_of_stop (rinex_reading false lines).stop) refl
 
 all-before : (more lines : List ReadLine) → fault_of_stop (rinex_reading false (lines ++ more)).stop ≡ None
     → fault_of_stop (rinex_reading false lines).stop ≡ None
-all-before [] lines none = subst (λ ls. fault_of_stop (rinex_reading false ls).stop ≡ None) (append-nil lines) none
+all-before [] lines none = subst (λ ls. fault_of_stop (rinex_reading false ls).stop ≡ None)
+    (append-nil lines) none
 all-before (line ∷ more) lines none = good-before lines line (all-before more (lines ++ line ∷ [])
-    (subst (λ ls. fault_of_stop (rinex_reading false ls).stop ≡ None) (sym (append_assoc lines (line ∷ []) more)) none))
+    (subst (λ ls. fault_of_stop (rinex_reading false ls).stop ≡ None)
+    (sym (append_assoc lines (line ∷ []) more)) none))
 
 as-many-on : (more lines : List ReadLine) → length (printed_of lines) ≡ length lines → fault_of_stop
-    (rinex_reading false (lines ++ more)).stop ≡ None → length (printed_of (lines ++ more)) ≡ length (lines ++ more)
+    (rinex_reading false (lines ++ more)).stop ≡ None → length (printed_of (lines ++ more))
+    ≡ length (lines ++ more)
 as-many-on [] lines h none = ap (λ ls. length (printed_of ls)) (append-nil lines)
     ∙ h ∙ ap length (sym (append-nil lines))
 as-many-on (line ∷ more) lines h none =
@@ -117,7 +115,8 @@ as-many-on (line ∷ more) lines h none =
     let one = one-on lines line in
     let first : length (printed_of (lines ++ line ∷ [])) ≡ length (lines ++ line ∷ []) =
     ap length (one.printed (all-before more (lines ++ line ∷ []) good)) ∙ length-append
-    (printed_of lines) (given_back lines line ∷ []) ∙ ap (λ n. n + 1) h ∙ sym (length-append lines (line ∷ [])) in
+    (printed_of lines) (given_back lines line ∷ []) ∙ ap (λ n. n + 1) h
+    ∙ sym (length-append lines (line ∷ [])) in
     subst (λ ls. length (printed_of ls) ≡ length ls) same (as-many-on more (lines ++ line ∷ []) first good)
 
 pub as-many : (lines : List ReadLine)
@@ -127,8 +126,7 @@ as-many lines none = as-many-on lines [] refl none
 -- ---- the first line that isn't standard
 
 first-on : (number : ℕ) (lines : List InputLine) (texts : List (List ℕ)) (line : InputLine) (text : List ℕ)
-    → length texts ≡ length lines
-    → first_not_standard number (lines ++ line ∷ []) (texts ++ text ∷ [])
+    → length texts ≡ length lines → first_not_standard number (lines ++ line ∷ []) (texts ++ text ∷ [])
     ≡ earliest (first_not_standard number lines texts) (is_standard_line line text) (number + length lines)
 first-on number [] [] line text e = ap (λ n. earliest None (is_standard_line line text) n) (omega arith)
 first-on number [] (t ∷ texts) line text e = absurd (cc)
@@ -138,10 +136,12 @@ first-on number (l ∷ lines) (t ∷ texts) line text e =
     let rest = first-on (number + 1) lines texts line text same in
     let counted : (number + 1) + length lines ≡ number + length (l ∷ lines) = omega arith in
     elim (is_standard_line l t) as (λ b. cond b (first_not_standard (number + 1) (lines ++ line ∷ []) (texts
-    ++ text ∷ [])) (Some number) ≡ earliest (cond b (first_not_standard (number + 1) lines texts) (Some number))
+    ++ text ∷ [])) (Some number) ≡ earliest (cond b (first_not_standard (number + 1) lines texts)
+    (Some number))
     (is_standard_line line text) (number + length (l ∷ lines))) [
       | true ↦ rest
-          ∙ ap (λ n. earliest (first_not_standard (number + 1) lines texts) (is_standard_line line text) n) counted
+          ∙ ap (λ n. earliest (first_not_standard (number + 1) lines texts)
+          (is_standard_line line text) n) counted
       | false ↦ refl
     ]
 
@@ -149,14 +149,16 @@ first-on number (l ∷ lines) (t ∷ texts) line text e =
 
 pub checked-on : (lines : List InputLine) (line : InputLine) → IsCheckedOn lines line
 checked-on lines line =
-    let split : map seen (lines ++ line ∷ []) ≡ map seen lines ++ seen line ∷ [] = map-append seen lines (line ∷ []) in
+    let split : map seen (lines ++ line ∷ []) ≡ map seen lines ++ seen line ∷ [] =
+    map-append seen lines (line ∷ []) in
     let one = one-on (map seen lines) (seen line) in
     let same : CheckSeen.reading (check_seen lines) ≡ reading_seen (map seen lines) = same-seen lines in
     record {
       once = ap (λ (s : Seen OpenEpoch Totals). is_again (seen_next checking s (seen line)).answer) same
           ∙ once-again (map seen lines) (seen line);
       fault = ap (λ ls. fault_of_stop (rinex_reading false ls).stop) split ∙ one.fault
-          ∙ ap (λ (s : Seen OpenEpoch Totals). failed_by (seen_next checking s (seen line)).answer) (sym same);
+          ∙ ap (λ (s : Seen OpenEpoch Totals). failed_by (seen_next checking s (seen line)).answer)
+          (sym same);
       next = λ none.
           let good : fault_of_stop (rinex_reading false (map seen lines ++ seen line ∷ [])).stop ≡ None =
           subst (λ ls. fault_of_stop (rinex_reading false ls).stop ≡ None) split none in
@@ -175,8 +177,8 @@ checked-on lines line =
           ∙ ap (λ n. earliest (first_not_standard 1 lines (printed_so_far lines))
           (is_standard_line line (given_back (map seen lines) (seen line))) n) (omega arith)
           ∙ ap (λ (s : Seen OpenEpoch Totals). earliest (first_not_standard 1 lines (printed_so_far lines))
-          (is_standard_line line (last_line (printed_made (made_in checking s.phase s.types s.kept (seen line)))))
-          (length lines + 1)) (sym same) in
+          (is_standard_line line (last_line (printed_made
+          (made_in checking s.phase s.types s.kept (seen line))))) (length lines + 1)) (sym same) in
           ap (λ (s : Seen OpenEpoch Totals). record {
             reading = s;
             not_standard = first_not_standard 1 (lines ++ line ∷ []) (printed_so_far (lines ++ line ∷ []));

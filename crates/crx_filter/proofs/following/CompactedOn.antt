@@ -1,12 +1,12 @@
 -- A compaction is given one line more.
-use Rattle.std.proofs.Common.{List, [], ◌∷◌, ◌++◌, length, refl, arith, length-append}
-use Rattle.crx_faults.specs.meaning.Seen.{ReadLine}
-use Rattle.crx_options.specs.meaning.Choices.{Choices}
+use Rattle.crx_filter.proofs.Words.{List, [], ◌∷◌, ◌++◌, length, refl, arith, length-append, ReadLine}
+use Rattle.crx_filter.proofs.Words.{Choices}
 use Rattle.crx_filter.specs.Laws.{IsCompactedOn}
 use Rattle.crx_filter.proofs.following.MoreLines.{more-line}
 use Rattle.crx_filter.proofs.following.Compaction.{compaction-carried_out}
 
-pub compacted-on : (choices : Choices) (lines : List ReadLine) (line : ReadLine) → IsCompactedOn choices lines line
+pub compacted-on : (choices : Choices) (lines : List ReadLine) (line : ReadLine)
+    → IsCompactedOn choices lines line
 compacted-on choices lines line = more-line (compaction-carried_out choices) 1 (length lines)
     (length (lines ++ line ∷ [])) lines (lines ++ line ∷ []) line (omega arith)
     (length-append lines (line ∷ [])) refl

@@ -1,19 +1,13 @@
 -- Compaction line by line reads, keeps and writes as the compaction of all lines does.
-use Rattle.std.proofs.Common.{◌≡◌, ◌+◌, Bool, true, false, List, [], ◌∷◌, Some, None, refl, ap, sym}
-use Rattle.std.proofs.Common.{◌∙◌}
-use Rattle.crx_rinex.specs.meaning.Observations.{Epoch}
-use Rattle.crx_rinex.specs.meaning.Units.{HeaderLine, EventLine, EventRecord, Observation}
-use Rattle.crx_rinex.specs.meaning.EpochPlaces.{epoch_place}
+use Rattle.crx_filter.proofs.Words.{◌≡◌, ◌+◌, Bool, true, false, List, [], ◌∷◌, Some, None, refl, ap, sym}
+use Rattle.crx_filter.proofs.Words.{◌∙◌, Epoch, HeaderLine, EventLine, EventRecord, Observation, epoch_place}
+use Rattle.crx_filter.proofs.Words.{Marked, Tail, lines_after_tail, tail_after, Choices, Item, Accepted}
+use Rattle.crx_filter.proofs.Words.{Warned, types_in_force, epochs_accepted, is_at_every, is_in_full}
+use Rattle.crx_filter.proofs.Words.{marked_epochs, compact_unit, Written, compaction, written_of, rinex_open}
 use Rattle.crx_rinex.proofs.SoundEpochs.{sound-epoch_place}
-use Rattle.crx_compact.specs.meaning.Compaction.{Marked}
 use Rattle.crx_compact.specs.Laws.{tail_before}
-use Rattle.crx_compact.specs.Tails.{Tail}
-use Rattle.crx_compact.specs.Steps.{no_tail, lines_after_tail, tail_after, tail_written_after}
+use Rattle.crx_compact.specs.Steps.{no_tail, tail_written_after}
 use Rattle.crx_compact.proofs.wayback.Tailing.{epoch-by_tail}
-use Rattle.crx_options.specs.meaning.Choices.{Choices}
-use Rattle.crx_reading.specs.meaning.Items.{Item, Accepted, Warned, types_in_force}
-use Rattle.crx_reading.specs.meaning.Compacted.{epochs_accepted, is_at_every, is_in_full, marked_epochs, compact_unit}
-use Rattle.crx_reading.specs.CompactionByLine.{Written, compaction, written_of, rinex_open}
 use Rattle.crx_filter.proofs.reading.Forward.{rinex-forward}
 use Rattle.crx_filter.proofs.reading.Types.{counts-in_force}
 use Rattle.crx_filter.proofs.following.Following.{seen_in, IsCarriedOut}
@@ -32,7 +26,8 @@ nothing-left false = refl
 -- what the next epoch is written after
 same-tail : (choices : Choices) (items : List (Item Epoch)) (epoch : Epoch)
     → tail_before (marked choices items epoch) (marked_epochs choices.every items)
-    ≡ tail_written_after (is_at_every choices.every (epochs_accepted items)) (written_of choices.every items).tail
+    ≡ tail_written_after (is_at_every choices.every (epochs_accepted items))
+    (written_of choices.every items).tail
 same-tail choices [] epoch = nothing-left (is_at_every choices.every 0)
 same-tail choices (Accepted (HeaderLine line) ∷ before) epoch =
     nothing-left (is_at_every choices.every (epochs_accepted before))
@@ -41,7 +36,8 @@ same-tail choices (Accepted (EventLine line) ∷ before) epoch =
 same-tail choices (Accepted (EventRecord line) ∷ before) epoch =
     nothing-left (is_at_every choices.every (epochs_accepted before))
 same-tail choices (Accepted (Observation last) ∷ before) epoch = refl
-same-tail choices (Warned at ∷ before) epoch = nothing-left (is_at_every choices.every (epochs_accepted before))
+same-tail choices (Warned at ∷ before) epoch = nothing-left
+    (is_at_every choices.every (epochs_accepted before))
 
 same-epochs : (choices : Choices)
     → AreSame compaction (written_of choices.every) (compact_unit choices) choices
@@ -52,13 +48,13 @@ same-epochs choices = record {
       whole.0.sound.apart in
       record {
         kept = λ number phase types kept either.
-            ap (λ (k : Written). compaction.kept_after (seen_in choices number phase types k) (Observation epoch))
-            (either-same either)
+            ap (λ (k : Written). compaction.kept_after (seen_in choices number phase types k)
+            (Observation epoch)) (either-same either)
             ∙ ap (λ (t : Tail). record { index = epochs_accepted items + 1; tail = Some t })
             (ap (λ t. tail_after t epoch) (sym (same-tail choices items epoch)) ∙ sym by_tail.tail);
         lines = λ number phase types kept either.
-            ap (λ (k : Written). compaction.written (seen_in choices number phase types k) (Observation epoch))
-            (either-same either)
+            ap (λ (k : Written). compaction.written (seen_in choices number phase types k)
+            (Observation epoch)) (either-same either)
             ∙ ap (λ t. lines_after_tail t epoch) (sym (same-tail choices items epoch)) ∙ sym by_tail.lines;
       };
 }

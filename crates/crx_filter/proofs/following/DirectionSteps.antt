@@ -1,22 +1,14 @@
 -- Both directions go line by line, in the words of their filters.
-use Rattle.std.proofs.Common.{ℕ, ◌≡◌, List, [], ◌∷◌, ◌++◌, map, ap, ◌∙◌}
-use Rattle.std.specs.Prelude.{reverse}
-use Rattle.std.proofs.lemmas.List.{length-map, map-append, reverse-append}
-use Rattle.std.proofs.lemmas.Grind.{flat_map-append}
-use Rattle.crx_faults.specs.meaning.Lines.{InputLine}
-use Rattle.crx_faults.specs.meaning.Seen.{ReadLine, seen}
-use Rattle.crx_faults.specs.declared.fault.At.{At}
-use Rattle.crx_options.specs.meaning.Choices.{Choices}
-use Rattle.crx_reading.specs.CompactionByLine.{compaction, compaction_seen}
-use Rattle.crx_reading.specs.meaning.Directions.{rinex_reading}
-use Rattle.crx_reading.specs.ExpansionByLine.{expansion, expansion_seen}
-use Rattle.crx_reading.specs.meaning.Directions.{compact_reading}
-use Rattle.crx_reading.specs.meaning.Directions.{compaction_filter, expansion_filter}
-use Rattle.crx_faults.specs.meaning.Lines.{lines_text}
-use Rattle.crx_filter.specs.Laws.{noticed_by}
-use Rattle.crx_reading.specs.meaning.Reading.{fault_of_stop}
-use Rattle.crx_reading.specs.meaning.Written.{warnings_in}
-use Rattle.crx_reading.specs.LineByLine.{seen_end}
+use Rattle.crx_filter.proofs.Words.{ℕ, ◌≡◌, List, [], ◌∷◌, ◌++◌, map, ap, ◌∙◌, reverse, length-map}
+use Rattle.crx_filter.proofs.Words.{map-append, reverse-append, flat_map-append, InputLine, ReadLine, seen}
+use Rattle.crx_filter.proofs.Words.{At, Choices, compaction, compaction_seen, rinex_reading, expansion}
+use Rattle.crx_filter.proofs.Words.{expansion_seen, compact_reading, compaction_filter, expansion_filter}
+use Rattle.crx_filter.proofs.Words.{lines_text, noticed_by, fault_of_stop, warnings_in, seen_end, true}
+use Rattle.crx_filter.proofs.Words.{length, Option, Some, refl, FileUnit, Item, Reading, WholeReading}
+use Rattle.crx_filter.proofs.Words.{written_lines, whole_course, memory_allowed, compaction_takes}
+use Rattle.crx_filter.proofs.Words.{compact_unit, rinex_place, whole_rinex, expanded_unit, whole_compact}
+use Rattle.crx_filter.proofs.Words.{compact_memory, course_so_far, Direction, Seen, Notice, seen_next}
+use Rattle.crx_filter.proofs.Words.{takes_memory, IsFollowed, IsEndedBy, IsReadyWhereHandedOut, fed}
 use Rattle.crx_filter.proofs.following.CompactedOn.{compacted-on}
 use Rattle.crx_filter.proofs.following.ExpandedOn.{expanded-on}
 use Rattle.crx_filter.proofs.following.MemoryOfCompactText.{expansion-allowed, expansion-allowed-again}
@@ -24,24 +16,14 @@ use Rattle.crx_filter.proofs.following.MemoryOfRinex.{compaction-allowed, compac
 use Rattle.crx_filter.proofs.reading.Ended.{compaction-ended, expansion-ended}
 use Rattle.crx_filter.proofs.output.Readiness.{compaction-ready, expansion-ready}
 use Rattle.crx_filter.proofs.steps.EngineAnswers.{GoesLineByLine}
-use Rattle.std.proofs.Common.{true, length, Option, Some, refl}
-use Rattle.crx_rinex.specs.meaning.Units.{Unit as FileUnit}
-use Rattle.crx_reading.specs.meaning.Items.{Item}
-use Rattle.crx_reading.specs.meaning.Reading.{Reading, WholeReading}
-use Rattle.crx_reading.specs.meaning.Written.{written_lines, whole_course}
-use Rattle.crx_reading.specs.meaning.Memory.{memory_allowed, compaction_takes}
-use Rattle.crx_reading.specs.meaning.Compacted.{compact_unit, rinex_place, whole_rinex}
-use Rattle.crx_reading.specs.meaning.Expanded.{expanded_unit, whole_compact}
-use Rattle.crx_reading.specs.meaning.Directions.{compact_memory, course_so_far}
-use Rattle.crx_reading.specs.LineByLine.{Direction, Seen, Notice, seen_next}
-use Rattle.crx_reading.specs.Memory.{takes_memory}
-use Rattle.crx_filter.specs.Laws.{IsFollowed, IsEndedBy, IsReadyWhereHandedOut, fed}
 
 text-then : (before after more : List (List ℕ))
     → after ≡ before ++ more → lines_text after ≡ lines_text before ++ lines_text more
-text-then before after more e = ap lines_text e ∙ flat_map-append (λ (line : List ℕ). line ++ 10 ∷ []) before more
+text-then before after more e = ap lines_text e ∙ flat_map-append
+    (λ (line : List ℕ). line ++ 10 ∷ []) before more
 
-warned-then : (before after more : List At) → after ≡ more ++ before → reverse after ≡ reverse before ++ reverse more
+warned-then : (before after more : List At) → after ≡ more ++ before → reverse after
+    ≡ reverse before ++ reverse more
 warned-then before after more e = ap reverse e ∙ reverse-append more before
 
 -- a direction whose filter reads its lines and writes its units goes line by line where its reading does
@@ -55,8 +37,7 @@ goes-by : {E U O K : Type 0} (direction : Direction U O K) (seen_after : List Re
     (fault_of_stop (reading (lines ++ line ∷ [])).stop) (fed direction (seen_after lines) line))
     → ((lines : List ReadLine) → IsEndedBy (written_lines unit_lines (reading lines).items)
     (written_lines unit_lines (whole lines).items) (warnings_in (reading lines).items)
-    (warnings_in (whole lines).items)
-    (whole lines).fault (seen_end direction (seen_after lines)))
+    (warnings_in (whole lines).items) (whole lines).fault (seen_end direction (seen_after lines)))
     → ((lines : List ReadLine) → (seen_after lines).number ≡ length lines)
     → ((lines : List ReadLine) (line : ReadLine)
     → takes_memory direction (seen_after lines) line ≡ true → memory lines line ≡ Some [])
@@ -106,7 +87,8 @@ compaction-goes choices = goes-by compaction (compaction_seen choices) (compact_
     choices.skip (rinex_reading choices.skip lines) line) (compacted-on choices) (compaction-ended choices)
     (λ lines. refl) (compaction-allowed choices) (compaction-allowed-again choices) compaction-ready
 
-pub expansion-goes : (choices : Choices) → GoesLineByLine expansion (expansion_seen choices) (expansion_filter choices)
+pub expansion-goes : (choices : Choices) → GoesLineByLine expansion (expansion_seen choices)
+    (expansion_filter choices)
 expansion-goes choices = goes-by expansion (expansion_seen choices) expanded_unit
     (compact_reading choices.skip) (whole_compact choices.skip) (compact_memory choices.skip)
     (expanded-on choices)

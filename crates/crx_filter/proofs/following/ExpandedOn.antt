@@ -1,26 +1,14 @@
 -- An expansion is given one line more.
-use Rattle.std.proofs.Common.{ℕ, ◌≡◌, ◌+◌, ◌≤◌, Bool, List, [], ◌∷◌, ◌++◌, length, drop, Option, Some, None}
-use Rattle.std.proofs.Common.{Result, Ok, Err, refl, ap, sym, subst, arith, length-append}
-use Rattle.std.proofs.lemmas.List.{drop-append-le, length-drop}
-use Rattle.crx_faults.specs.meaning.Seen.{ReadLine, Content, Overlong}
-use Rattle.crx_faults.specs.declared.fault.Fault.{Fault}
-use Rattle.crx_faults.specs.declared.fault.Fault.TheVariants.{LineTooLong}
-use Rattle.crx_rinex.specs.meaning.Places.{Place, Here, Wrong, Wanted}
-use Rattle.crx_rinex.specs.Steady.{Remains}
-use Rattle.crx_compact.specs.meaning.CompactPlaces.{ReadEpoch}
-use Rattle.crx_compact.specs.OpenEpochs.{OpenRawEpoch}
-use Rattle.crx_compact.specs.Tails.{Tail}
-use Rattle.crx_options.specs.meaning.Choices.{Choices}
-use Rattle.crx_reading.specs.meaning.Reading.{Reading, AtFault, AtLines, reading_from}
-use Rattle.crx_filter.specs.Laws.{IsFollowed, IsExpandedOn, Fed, fed, fed_once}
-use Rattle.crx_reading.specs.meaning.Reading.{fault_of_stop}
-use Rattle.crx_faults.specs.meaning.Faults.{is_skippable}
-use Rattle.crx_reading.specs.meaning.Written.{warnings_in}
-use Rattle.crx_reading.specs.LineByLine.{Phase, InFirstLines, Ended, Seen, Fails, made_in, step_of_made}
-use Rattle.crx_reading.specs.LineByLine.{seen_next, seen_of}
-use Rattle.crx_reading.specs.meaning.Expanded.{compact_place, crinex_version, crinex_program, first_lines}
-use Rattle.crx_filter.specs.Expanded.{expanded_lines}
-use Rattle.crx_reading.specs.ExpansionByLine.{expansion, compact_open, tail_of_items}
+use Rattle.crx_filter.proofs.Words.{ℕ, ◌≡◌, ◌+◌, ◌≤◌, Bool, List, [], ◌∷◌, ◌++◌, length, drop, Option, Some}
+use Rattle.crx_filter.proofs.Words.{None, Result, Ok, Err, refl, ap, sym, subst, arith, length-append}
+use Rattle.crx_filter.proofs.Words.{drop-append-le, length-drop, ReadLine, Content, Overlong, Fault}
+use Rattle.crx_filter.proofs.Words.{LineTooLong, Place, Here, Wrong, Wanted, Remains, ReadEpoch, OpenRawEpoch}
+use Rattle.crx_filter.proofs.Words.{Tail, Choices, Reading, AtFault, AtLines, reading_from, IsFollowed, Fed}
+use Rattle.crx_filter.proofs.Words.{fed, fed_once, fault_of_stop, is_skippable, warnings_in, Phase}
+use Rattle.crx_filter.proofs.Words.{InFirstLines, Ended, Seen, Fails, made_in, step_of_made, seen_next}
+use Rattle.crx_filter.proofs.Words.{seen_of, compact_place, crinex_version, crinex_program, first_lines}
+use Rattle.crx_filter.proofs.Words.{expanded_lines, expansion, compact_open, tail_of_items}
+use Rattle.crx_filter.specs.Laws.{IsExpandedOn}
 use Rattle.crx_filter.proofs.reading.ForwardCompact.{steady-first_lines}
 use Rattle.crx_filter.proofs.following.Following.{seen_in, fed-once, failed-ends}
 use Rattle.crx_filter.proofs.following.MoreLines.{more-line}
@@ -34,7 +22,8 @@ abbrev pub reading_by : Bool → List ReadLine → Place (List (List ℕ)) → R
 reading_by skip lines p =
     elim p [
       | Here two count ↦ reading_from compact_place skip [] (count + 1) (drop count lines)
-      | Wrong offset fault ↦ record { items = []; stop = AtFault (record { line = offset + 1; fault = fault }) }
+      | Wrong offset fault ↦ record
+          { items = []; stop = AtFault (record { line = offset + 1; fault = fault }) }
       | Wanted ↦ record { items = []; stop = AtLines 1 lines }
     ]
 
@@ -84,8 +73,7 @@ after-both : (choices : Choices) (lines : List ReadLine) (line : ReadLine) (two 
     → count ≤ length lines → FollowsBy choices lines line (Here two count) (Here two count)
 after-both choices lines line two count within =
     more-line (expansion-carried_out choices) (count + 1) (length lines) (length (lines ++ line ∷ []))
-    (drop count lines)
-    (drop count (lines ++ line ∷ [])) line (omega (arith, length-drop count lines, within))
+    (drop count lines) (drop count (lines ++ line ∷ [])) line (omega (arith, length-drop count lines, within))
     (length-append lines (line ∷ [])) (drop-append-le count lines (line ∷ []) within)
 
 -- one of them has a fault: it is answered again
@@ -94,7 +82,8 @@ after-fault : (choices : Choices) (lines : List ReadLine) (line : ReadLine) (off
 after-fault choices lines line offset fault =
     let all : length (lines ++ line ∷ []) ≡ length lines + 1 = length-append lines (line ∷ []) in
     record {
-      next = ap (λ (n : ℕ). seen_in choices n (Ended (record { line = offset + 1; fault = fault })) [] None) all;
+      next = ap (λ (n : ℕ). seen_in choices n (Ended (record { line = offset + 1; fault = fault })) []
+          None) all;
       handed_out = refl;
       warned = refl;
       failed = refl;
@@ -102,7 +91,8 @@ after-fault choices lines line offset fault =
 
 -- a fault in the first two lines is never skipped
 ends : (choices : Choices) (count : ℕ) (line : ReadLine) (fault : Fault)
-    → fed_once (step_of_made expansion (seen_in choices count (InFirstLines count) [] None) line (Fails fault))
+    → fed_once (step_of_made expansion (seen_in choices count (InFirstLines count) [] None) line
+    (Fails fault))
     ≡ record {
       warned = [];
       failed = Some (record { line = count + 1; fault = fault });
@@ -110,7 +100,8 @@ ends : (choices : Choices) (count : ℕ) (line : ReadLine) (fault : Fault)
       next = seen_in choices (count + 1) (Ended (record { line = count + 1; fault = fault })) [] None;
     }
 ends choices count line fault = ap fed_once (failed-ends expansion
-    (seen_in choices count (InFirstLines count) [] None) line fault (never-before choices.skip (is_skippable fault)))
+    (seen_in choices count (InFirstLines count) [] None) line fault
+    (never-before choices.skip (is_skippable fault)))
 
 -- the first line
 first-line : (choices : Choices) (line : ReadLine)
@@ -119,7 +110,8 @@ first-line choices line = by-once choices [] line (by_line line)
   where
     by_result : (content : List ℕ) (r : Result (List ℕ) Fault)
         → crinex_version content ≡ r → FollowsOnce choices [] (Content content)
-    by_result content (Ok version) e = rw e (record { next = refl; handed_out = refl; warned = refl; failed = refl })
+    by_result content (Ok version) e =
+        rw e (record { next = refl; handed_out = refl; warned = refl; failed = refl })
     by_result content (Err fault) e = rw (e, ends choices 0 (Content content) fault)
         (record { next = refl; handed_out = refl; warned = refl; failed = refl })
 
@@ -173,21 +165,25 @@ before-header (Content first ∷ []) wanted = by_result (crinex_version first) r
   where
     by_result : (r : Result (List ℕ) Fault) → crinex_version first ≡ r → IsBeforeHeader (Content first ∷ [])
     by_result (Ok version) e = OneLine first version refl e
-    by_result (Err fault) e = let at : first_lines (Content first ∷ []) ≡ Wrong 0 fault = rw e refl in absurd (cc)
+    by_result (Err fault) e = let at : first_lines (Content first ∷ []) ≡ Wrong 0 fault = rw e refl in
+        absurd (cc)
 before-header (Content first ∷ line ∷ lines) wanted =
     absurd (two-lines first line lines (crinex_version first) refl wanted)
 
 by-first_lines : (choices : Choices) (lines : List ReadLine) (line : ReadLine) (p : Place (List (List ℕ)))
-    → first_lines lines ≡ p → FollowsBy choices lines line (first_lines lines) (first_lines (lines ++ line ∷ []))
+    → first_lines lines ≡ p → FollowsBy choices lines line (first_lines lines)
+    (first_lines (lines ++ line ∷ []))
 by-first_lines choices lines line (Here two count) e =
     let remains : Remains (length lines) (Here two count) (first_lines (lines ++ line ∷ [])) = subst
-    (λ p. Remains (length lines) p (first_lines (lines ++ line ∷ []))) e (steady-first_lines lines (line ∷ [])) in
+    (λ p. Remains (length lines) p (first_lines (lines ++ line ∷ []))) e
+    (steady-first_lines lines (line ∷ [])) in
     subst (λ p. FollowsBy choices lines line p (first_lines (lines ++ line ∷ []))) (sym e)
     (subst (λ q. FollowsBy choices lines line (Here two count) q)
     (sym remains.1) (after-both choices lines line two count remains.0))
 by-first_lines choices lines line (Wrong offset fault) e =
     let remains : Remains (length lines) (Wrong offset fault) (first_lines (lines ++ line ∷ [])) = subst
-    (λ p. Remains (length lines) p (first_lines (lines ++ line ∷ []))) e (steady-first_lines lines (line ∷ [])) in
+    (λ p. Remains (length lines) p (first_lines (lines ++ line ∷ []))) e
+    (steady-first_lines lines (line ∷ [])) in
     subst (λ p. FollowsBy choices lines line p (first_lines (lines ++ line ∷ []))) (sym e)
     (subst (λ q. FollowsBy choices lines line (Wrong offset fault) q)
     (sym remains.1) (after-fault choices lines line offset fault))
@@ -195,8 +191,8 @@ by-first_lines choices lines line Wanted e = by_lines (before-header lines e)
   where
     by_lines : IsBeforeHeader lines
         → FollowsBy choices lines line (first_lines lines) (first_lines (lines ++ line ∷ []))
-    by_lines (NoLine none) = subst (λ ls. FollowsBy choices ls line (first_lines ls) (first_lines (ls ++ line ∷ [])))
-        (sym none) (first-line choices line)
+    by_lines (NoLine none) = subst (λ ls. FollowsBy choices ls line (first_lines ls)
+        (first_lines (ls ++ line ∷ []))) (sym none) (first-line choices line)
     by_lines (OneLine first version one good) =
         subst (λ ls. FollowsBy choices ls line (first_lines ls) (first_lines (ls ++ line ∷ []))) (sym one)
         (subst (λ p. FollowsBy choices (Content first ∷ []) line p (first_lines (Content first ∷ line ∷ [])))
@@ -205,5 +201,6 @@ by-first_lines choices lines line Wanted e = by_lines (before-header lines e)
         wanted : crinex_version first ≡ Ok version → first_lines (Content first ∷ []) ≡ Wanted
         wanted h = rw h refl
 
-pub expanded-on : (choices : Choices) (lines : List ReadLine) (line : ReadLine) → IsExpandedOn choices lines line
+pub expanded-on : (choices : Choices) (lines : List ReadLine) (line : ReadLine)
+    → IsExpandedOn choices lines line
 expanded-on choices lines line = by-first_lines choices lines line (first_lines lines) refl

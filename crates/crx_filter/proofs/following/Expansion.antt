@@ -1,37 +1,25 @@
 -- Expansion line by line reads, keeps and writes as the expansion of all lines does.
-use Rattle.std.proofs.Common.{ℕ, suc, ◌≡◌, Bool, true, false, cond, List, [], ◌∷◌, ◌++◌, length, Option, Some, None}
-use Rattle.std.proofs.Common.{Result, Ok, Err, refl, ap, sym, ◌∙◌, true≢false}
-use Rattle.std.specs.Option.{is_some}
-use Rattle.std.proofs.lemmas.Option.{none-some}
-use Rattle.crx_faults.specs.meaning.Seen.{ReadLine, Content, Overlong}
-use Rattle.crx_faults.specs.declared.fault.Fault.{Fault}
-use Rattle.crx_faults.specs.declared.fault.Fault.TheVariants.{BadEpoch}
-use Rattle.crx_header.specs.meaning.EpochColumns.{is_event_line, records_in}
-use Rattle.crx_rinex.specs.meaning.Printing.{printed_epoch}
-use Rattle.crx_rinex.specs.meaning.Places.{Place, Here, Wrong, Wanted, one_line}
-use Rattle.crx_rinex.specs.meaning.Units.{Unit as FileUnit, EventLine}
-use Rattle.crx_compact.specs.meaning.Expansion.{RawEpoch}
-use Rattle.crx_compact.specs.meaning.CompactPlaces.{ReadEpoch, epoch_at}
-use Rattle.crx_compact.specs.Tails.{Tail, tail_left}
-use Rattle.crx_compact.specs.OpenEpochs.{epoch_after, OpenRawEpoch, HeldEpoch, RawStep, Going, Whole, Faulty}
-use Rattle.crx_compact.specs.OpenEpochs.{first_step, next_step, placed_as, held_after, place_of_step, place_of_steps}
-use Rattle.crx_compact.specs.OpenEpochs.{open_raw_after, open_raw_with}
+use Rattle.crx_filter.proofs.Words.{ℕ, suc, ◌≡◌, Bool, true, false, cond, List, [], ◌∷◌, ◌++◌, length, Option}
+use Rattle.crx_filter.proofs.Words.{Some, None, Result, Ok, Err, refl, ap, sym, ◌∙◌, true≢false, is_some}
+use Rattle.crx_filter.proofs.Words.{none-some, ReadLine, Content, Overlong, Fault, BadEpoch, is_event_line}
+use Rattle.crx_filter.proofs.Words.{records_in, printed_epoch, Place, Here, Wrong, Wanted, one_line, FileUnit}
+use Rattle.crx_filter.proofs.Words.{EventLine, RawEpoch, ReadEpoch, epoch_at, Tail, OpenRawEpoch, RawStep}
+use Rattle.crx_filter.proofs.Words.{first_step, next_step, open_raw_after, open_raw_with, Choices, Item}
+use Rattle.crx_filter.proofs.Words.{types_in_force, records_count_types, raws_kept, empties_state, event_line}
+use Rattle.crx_filter.proofs.Words.{as_observation, expanded_unit, Made, made_of_unit, made_of_raw_step}
+use Rattle.crx_filter.proofs.Words.{expansion, tail_of_items, begins_event, compact_open}
+use Rattle.crx_compact.specs.Tails.{tail_left}
+use Rattle.crx_compact.specs.OpenEpochs.{epoch_after, HeldEpoch, Going, Whole, Faulty, placed_as, held_after}
+use Rattle.crx_compact.specs.OpenEpochs.{place_of_step, place_of_steps}
 use Rattle.crx_compact.specs.ReadingLaws.{is_wanted}
 use Rattle.crx_compact.proofs.soundness.Soundness.{reads-soundly}
 use Rattle.crx_compact.proofs.reading.RawTailing.{place-by_tail, left-by_tail}
 use Rattle.crx_compact.proofs.reading.LineByLine.{steps-agree, wanted-where_open, steps-from_open}
-use Rattle.crx_options.specs.meaning.Choices.{Choices}
-use Rattle.crx_reading.specs.meaning.Items.{Item, types_in_force, records_count_types}
-use Rattle.crx_reading.specs.meaning.Expanded.{raws_kept, empties_state, event_line, as_observation}
-use Rattle.crx_reading.specs.meaning.Expanded.{expanded_unit}
-use Rattle.crx_reading.specs.LineByLine.{Made, made_of_unit}
-use Rattle.crx_reading.specs.ExpansionByLine.{made_of_raw_step, compact_begins, expansion, tail_of_items, begins_event}
-use Rattle.crx_reading.specs.ExpansionByLine.{compact_open}
+use Rattle.crx_reading.specs.ExpansionByLine.{compact_begins}
 use Rattle.crx_reading.proofs.Choosing.{by_bool}
-use Rattle.crx_filter.proofs.reading.ForwardCompact.{compact-forward}
+use Rattle.crx_filter.proofs.reading.ForwardCompact.{compact-forward, compact_beginning}
 use Rattle.crx_filter.proofs.following.Lines.{one_line-decided}
 use Rattle.crx_filter.proofs.following.Following.{IsSameEpoch, AgreeOn, IsCarriedOut}
-use Rattle.crx_filter.proofs.reading.ForwardCompact.{compact_beginning}
 
 abbrev pub Agrees : Choices → List (Item ReadEpoch) → List ReadLine → Made HeldEpoch OpenRawEpoch → Type 0
 Agrees choices items lines made =
@@ -58,7 +46,8 @@ placed-wrong : (tail : Option Tail) (p : Place ReadEpoch) (offset : ℕ) (fault 
 placed-wrong tail (Wrong k other) offset fault e = cc
 placed-wrong tail p offset fault e = absurd (cc)
 
-placed-wanted : (tail : Option Tail) (p : Place ReadEpoch) → placed_as (held_after tail) p ≡ Wanted → p ≡ Wanted
+placed-wanted : (tail : Option Tail) (p : Place ReadEpoch) → placed_as (held_after tail) p ≡ Wanted → p
+    ≡ Wanted
 placed-wanted tail Wanted e = refl
 placed-wanted tail p e = absurd (cc)
 
@@ -78,12 +67,12 @@ same-epoch choices items lines read held count here same = record {
 }
 
 -- what some lines make where no event begins, by the step that the last of them is
-agree-step : (choices : Choices) (items : List (Item ReadEpoch)) (lines : List ReadLine) (before : ℕ) (step : RawStep)
+agree-step : (choices : Choices) (items : List (Item ReadEpoch)) (lines : List ReadLine) (before : ℕ)
+    (step : RawStep)
     → compact_beginning items lines ≡ as_observation (epoch_at (types_in_force items) (raws_kept items) lines)
-    → placed_as (held_after (tail_of_items items)) (epoch_after (types_in_force items) (tail_of_items items) lines)
-    ≡ place_of_step before step
-    → compact_open items lines ≡ open_raw_after step []
-    → Agrees choices items lines (made_of_raw_step step)
+    → placed_as (held_after (tail_of_items items)) (epoch_after (types_in_force items)
+    (tail_of_items items) lines) ≡ place_of_step before step
+    → compact_open items lines ≡ open_raw_after step [] → Agrees choices items lines (made_of_raw_step step)
 agree-step choices items lines before (Going so_far) place placed opens =
     let here = place-by_tail (types_in_force items) (raws_kept items) lines
     ∙ placed-wanted (tail_of_items items) _ placed in
@@ -93,8 +82,7 @@ agree-step choices items lines before (Whole held) place placed opens =
     let here = place-by_tail (types_in_force items) (raws_kept items) lines ∙ h.here in (
       suc before,
       h.read,
-      place
-          ∙ ap as_observation here,
+      place ∙ ap as_observation here,
       same-epoch choices items lines h.read held (suc before) here h.same,
     )
 agree-step choices items lines before (Faulty fault) place placed opens =
@@ -109,7 +97,8 @@ steps-last step = refl
 
 agree-event : (choices : Choices) (items : List (Item ReadEpoch)) (content : List ℕ)
     → is_event_line content ≡ true → (o : Option ℕ) → records_in content ≡ o
-    → Agrees choices items (Content content ∷ []) (made_of_unit (elim o as (λ _. Result (FileUnit HeldEpoch) Fault)
+    → Agrees choices items (Content content ∷ []) (made_of_unit
+    (elim o as (λ _. Result (FileUnit HeldEpoch) Fault)
     [ Some count ↦ Ok (EventLine content) | None ↦ Err BadEpoch ]))
 agree-event choices items content is None e = (0, rw is (rw (e, event_line) refl))
 agree-event choices items content is (Some count) e = (1, rw is (rw (e, event_line) refl), refl)
@@ -119,17 +108,16 @@ pub agree-content : (choices : Choices) (items : List (Item ReadEpoch)) (content
     → Agrees choices items (Content content ∷ []) (cond b (made_of_unit (event_line content))
     (made_of_raw_step (first_step (types_in_force items) (tail_of_items items) (Content content))))
 agree-content choices items content true e = agree-event choices items content e (records_in content) refl
-agree-content choices items content false e =
-    agree-step choices items (Content content ∷ []) 0
+agree-content choices items content false e = agree-step choices items (Content content ∷ []) 0
     (first_step (types_in_force items) (tail_of_items items) (Content content)) (rw e refl)
     (steps-agree (types_in_force items) (tail_of_items items) (Content content ∷ [])
-    ∙ steps-last (first_step (types_in_force items) (tail_of_items items) (Content content)))
-    (rw e refl)
+    ∙ steps-last (first_step (types_in_force items) (tail_of_items items) (Content content))) (rw e refl)
 
 agree-begins : (choices : Choices) (items : List (Item ReadEpoch)) (line : ReadLine)
     → Agrees choices items (line ∷ []) (compact_begins (types_in_force items) (tail_of_items items) line)
 agree-begins choices items Overlong = (0, refl)
-agree-begins choices items (Content content) = agree-content choices items content (is_event_line content) refl
+agree-begins choices items (Content content) = agree-content choices items content
+    (is_event_line content) refl
 
 -- where an epoch is open, no event began
 no-event : (items : List (Item ReadEpoch)) (lines : List ReadLine) (so_far : OpenRawEpoch) (b : Bool)
@@ -217,7 +205,8 @@ expansion-carried_out choices = record {
   event_kept = λ items number phase types line. refl;
   event_lines = λ items number phase types kept line. refl;
   record_kept =
-      λ items number left types line. kept-record (empties_state (records_count_types items) line) (raws_kept items);
+      λ items number left types line. kept-record (empties_state (records_count_types items) line)
+      (raws_kept items);
   record_lines = λ items number phase types kept line. refl;
   warned = λ items at. refl;
   emptied_open = λ kept. refl;

@@ -1,37 +1,26 @@
 -- One line more, as it is fed and as it is read: the same in both directions.
-use Rattle.std.proofs.Common.{ℕ, zero, suc, ◌≡◌, ◌⊎◌, inl, inr, ◌+◌, ◌-◌, max, ◌<◌, ◌≤◌, Bool, true, false, cond, List}
-use Rattle.std.proofs.Common.{[], ◌∷◌, ◌++◌, length, drop, Option, Some, None, refl, ap, sym, subst, ◌∙◌, arith}
-use Rattle.std.proofs.Common.{length-append, append-nil}
-use Rattle.std.specs.Prelude.{◌&&◌}
-use Rattle.std.proofs.Math.Seq.{drop-length, drop-append_seam}
-use Rattle.crx_faults.specs.meaning.Seen.{ReadLine}
-use Rattle.crx_faults.specs.declared.fault.Fault.{Fault}
-use Rattle.crx_faults.specs.declared.fault.At.{At}
-use Rattle.crx_header.specs.meaning.Header.{is_end_of_header}
-use Rattle.crx_header.specs.meaning.ObservationTypes.{Count}
-use Rattle.crx_rinex.specs.meaning.Places.{Place, Here, Wrong, Wanted}
-use Rattle.crx_rinex.specs.Steady.{Remains, IsDecidedAfter}
-use Rattle.crx_rinex.specs.meaning.Units.{Unit as FileUnit, HeaderLine, EventLine, EventRecord, Observation}
-use Rattle.crx_options.specs.meaning.Choices.{Choices}
-use Rattle.crx_reading.specs.meaning.Items.{Item, Accepted, Warned, is_at_start, header_has_ended, records_announced}
-use Rattle.crx_reading.specs.meaning.Items.{records_left, counts_types, records_count_types, types_in_force}
-use Rattle.crx_reading.specs.meaning.UnitPlaces.{unit_place}
-use Rattle.crx_reading.specs.meaning.Reading.{Reading, AtFault, AtLines, Looking, is_skipped, can_go_on, looked_for}
-use Rattle.crx_reading.specs.meaning.Reading.{reading_within}
-use Rattle.crx_faults.specs.meaning.Faults.{is_skippable}
-use Rattle.crx_reading.specs.meaning.Written.{written_lines}
-use Rattle.crx_reading.specs.meaning.Written.{warnings_in}
-use Rattle.crx_reading.specs.LineByLine.{Phase, InHeader, BetweenUnits, InEvent, InEpoch, LookingOn}
-use Rattle.crx_reading.specs.LineByLine.{Ended, Seen, Made, Completes, Moves, Fails, Repeats, Direction, Quiet}
-use Rattle.crx_reading.specs.LineByLine.{Ready, Notice, Failed, Step, with_records_left, after_record, phase_after}
-use Rattle.crx_reading.specs.LineByLine.{types_after, may_skip, is_in_epoch, is_skipped_in, kept_in, after_unit}
-use Rattle.crx_reading.specs.LineByLine.{with_phase, after_warning, failed_step, step_of_made, seen_next, phase_in_body}
-use Rattle.crx_reading.specs.LineByLine.{phase_after_items, seen_of}
-use Rattle.crx_filter.specs.Laws.{IsReadForward, IsFollowed, Fed, fed, fed_once, fed_twice, is_again}
-use Rattle.crx_reading.specs.meaning.Reading.{fault_of_stop}
+use Rattle.crx_filter.proofs.Words.{ℕ, zero, suc, ◌≡◌, ◌⊎◌, inl, inr, ◌+◌, ◌-◌, max, ◌<◌, ◌≤◌, Bool, true}
+use Rattle.crx_filter.proofs.Words.{false, cond, List, [], ◌∷◌, ◌++◌, length, drop, Option, Some, None, refl}
+use Rattle.crx_filter.proofs.Words.{ap, sym, subst, ◌∙◌, arith, length-append, append-nil, ◌&&◌}
+use Rattle.crx_filter.proofs.Words.{drop-append_seam, ReadLine, Fault, At, is_end_of_header, Count, Place}
+use Rattle.crx_filter.proofs.Words.{Here, Wrong, Wanted, Remains, IsDecidedAfter, FileUnit, HeaderLine}
+use Rattle.crx_filter.proofs.Words.{EventLine, EventRecord, Observation, Choices, Item, Accepted, Warned}
+use Rattle.crx_filter.proofs.Words.{is_at_start, header_has_ended, records_announced, records_left}
+use Rattle.crx_filter.proofs.Words.{counts_types, records_count_types, types_in_force, unit_place, Reading}
+use Rattle.crx_filter.proofs.Words.{AtFault, AtLines, Looking, is_skipped, can_go_on, looked_for}
+use Rattle.crx_filter.proofs.Words.{reading_within, is_skippable, written_lines, warnings_in, Phase, InHeader}
+use Rattle.crx_filter.proofs.Words.{BetweenUnits, InEvent, InEpoch, LookingOn, Ended, Seen, Made, Completes}
+use Rattle.crx_filter.proofs.Words.{Moves, Fails, Repeats, Direction, Notice, Failed, Step, with_records_left}
+use Rattle.crx_filter.proofs.Words.{phase_after, types_after, may_skip, is_in_epoch, is_skipped_in, kept_in}
+use Rattle.crx_filter.proofs.Words.{with_phase, after_warning, failed_step, step_of_made, seen_next}
+use Rattle.crx_filter.proofs.Words.{phase_in_body, phase_after_items, seen_of, IsReadForward, IsFollowed, Fed}
+use Rattle.crx_filter.proofs.Words.{fed, fed_once, fed_twice, is_again, fault_of_stop}
+use Rattle.std.proofs.Math.Seq.{drop-length}
+use Rattle.crx_reading.specs.LineByLine.{Quiet, Ready, after_record, after_unit}
 use Rattle.crx_reading.proofs.Choosing.{by_bool}
 use Rattle.crx_filter.proofs.reading.Resuming.{here-within, wrong-within, within-here, within-wrong}
-use Rattle.crx_filter.proofs.reading.Resuming.{within-wanted, fault-skipped, fault-ends, looked-here, looked-on}
+use Rattle.crx_filter.proofs.reading.Resuming.{within-wanted, fault-skipped, fault-ends, looked-here}
+use Rattle.crx_filter.proofs.reading.Resuming.{looked-on}
 
 -- ---- what a direction has to keep to
 
@@ -43,7 +32,8 @@ seen_in choices number phase types kept =
 -- an epoch that is read, and the same as it comes line by line: what is kept after it, and its lines
 pub record IsSameEpoch {E U O K : Type 0} (direction : Direction U O K) (kept_of : List (Item E)
     → K) (unit_lines : List (Item E)
-    → FileUnit E → List (List ℕ)) (choices : Choices) (items : List (Item E)) (epoch : E) (held : U) : Type 0 where
+    → FileUnit E → List (List ℕ)) (choices : Choices) (items : List (Item E)) (epoch : E)
+    (held : U) : Type 0 where
   pub kept : (number : ℕ) (phase : Phase O) (types : List Count) (kept : K)
       → (kept ≡ kept_of items) ⊎ (kept ≡ direction.kept_open (kept_of items))
       → direction.kept_after (seen_in choices number phase types kept) (Observation held)
@@ -89,7 +79,8 @@ module _ {E U O K : Type 0} (beginning : List (Item E) → List ReadLine → Pla
     pub header_lines : (items : List (Item E)) (number : ℕ) (types : List Count) (line : List ℕ)
         → direction.written (seen_in choices number (InHeader (is_at_start items)) types (kept_of items))
         (HeaderLine line) ≡ unit_lines items (HeaderLine line)
-    pub event_kept : (items : List (Item E)) (number : ℕ) (phase : Phase O) (types : List Count) (line : List ℕ)
+    pub event_kept : (items : List (Item E)) (number : ℕ) (phase : Phase O) (types : List Count)
+        (line : List ℕ)
         → direction.kept_after (seen_in choices number phase types (kept_of items)) (EventLine line)
         ≡ kept_of (Accepted (EventLine line) ∷ items)
     pub event_lines : (items : List (Item E))
@@ -97,13 +88,14 @@ module _ {E U O K : Type 0} (beginning : List (Item E) → List ReadLine → Pla
         → direction.written (seen_in choices number phase types kept) (EventLine line)
         ≡ unit_lines items (EventLine line)
     pub record_kept : (items : List (Item E)) (number left : ℕ) (types : List Count) (line : List ℕ)
-        → direction.kept_after (seen_in choices number (InEvent left (records_count_types items)) types (kept_of items))
-        (EventRecord line) ≡ kept_of (Accepted (EventRecord line) ∷ items)
+        → direction.kept_after (seen_in choices number (InEvent left (records_count_types items)) types
+        (kept_of items)) (EventRecord line) ≡ kept_of (Accepted (EventRecord line) ∷ items)
     pub record_lines : (items : List (Item E))
         (number : ℕ) (phase : Phase O) (types : List Count) (kept : K) (line : List ℕ)
         → direction.written (seen_in choices number phase types kept) (EventRecord line)
         ≡ unit_lines items (EventRecord line)
-    pub warned : (items : List (Item E)) (at : At) → direction.emptied (kept_of items) ≡ kept_of (Warned at ∷ items)
+    pub warned : (items : List (Item E)) (at : At) → direction.emptied (kept_of items)
+        ≡ kept_of (Warned at ∷ items)
     pub emptied_open : (kept : K) → direction.emptied (direction.kept_open kept) ≡ direction.emptied kept
     pub open_open : (kept : K) → direction.kept_open (direction.kept_open kept) ≡ direction.kept_open kept
 
@@ -112,15 +104,18 @@ module _ {E U O K : Type 0} (beginning : List (Item E) → List ReadLine → Pla
 -- where an epoch or an event may begin
 pub body-place : {E : Type 0} (beginning : List (Item E)
     → List ReadLine → Place (FileUnit E)) (items : List (Item E)) (lines : List ReadLine)
-    → header_has_ended items ≡ true → records_left items ≡ 0 → unit_place beginning items lines ≡ beginning items lines
+    → header_has_ended items ≡ true → records_left items ≡ 0 → unit_place beginning items lines
+    ≡ beginning items lines
 body-place beginning items lines ended none = rw (ended, none) refl
 
-body-skipped : {E : Type 0} (skip : Bool) (items : List (Item E)) (fault : Fault) → header_has_ended items ≡ true
+body-skipped : {E : Type 0} (skip : Bool) (items : List (Item E)) (fault : Fault)
+    → header_has_ended items ≡ true
     → records_left items ≡ 0 → is_skipped skip items fault ≡ (skip && is_skippable fault)
 body-skipped skip items fault ended none = rw (ended, none) refl
 
 pub body-phase : {E O : Type 0} (items : List (Item E)) (so_far : Option O) → header_has_ended items ≡ true
-    → records_left items ≡ 0 → phase_after_items items so_far ≡ phase_in_body 0 (records_count_types items) so_far
+    → records_left items ≡ 0 → phase_after_items items so_far
+    ≡ phase_in_body 0 (records_count_types items) so_far
 body-phase items so_far ended none = rw (ended, none) refl
 
 pub records-phase : {O : Type 0} (left : ℕ) (counted : Bool)
@@ -139,10 +134,11 @@ kept-after_record : {U O K : Type 0} (direction : Direction U O K) (phase : Phas
 kept-after_record direction (InEvent left counted) kept = kept-with_records direction (left - 1) counted kept
 kept-after_record direction phase kept = refl
 
-kept-after_unit : {U O K : Type 0} (direction : Direction U O K) (phase : Phase O) (unit : FileUnit U) (kept : K)
-    → kept_in direction (phase_after phase unit) kept ≡ kept
+kept-after_unit : {U O K : Type 0} (direction : Direction U O K) (phase : Phase O) (unit : FileUnit U)
+    (kept : K) → kept_in direction (phase_after phase unit) kept ≡ kept
 kept-after_unit direction phase (HeaderLine line) kept = elim (is_end_of_header
-    line) as (λ b. kept_in direction (cond b BetweenUnits (InHeader false)) kept ≡ kept) [ true ↦ refl | false ↦ refl ]
+    line) as (λ b. kept_in direction (cond b BetweenUnits (InHeader false)) kept
+    ≡ kept) [ true ↦ refl | false ↦ refl ]
 kept-after_unit direction phase (EventLine line) kept =
     kept-with_records direction (records_announced line) (counts_types line) kept
 kept-after_unit direction phase (EventRecord line) kept = kept-after_record direction phase kept
@@ -151,18 +147,17 @@ kept-after_unit direction phase (Observation epoch) kept = refl
 -- ---- how a line is fed
 
 pub fed-once : {U O K : Type 0} (direction : Direction U O K) (seen : Seen O K) (line : ReadLine) → is_again
-    (seen_next direction seen line).answer ≡ false → fed direction seen line ≡ fed_once (seen_next direction seen line)
+    (seen_next direction seen line).answer ≡ false → fed direction seen line
+    ≡ fed_once (seen_next direction seen line)
 fed-once direction seen line e = rw (e, fed) refl
 
 pub fed-twice : {U O K : Type 0} (direction : Direction U O K) (seen : Seen O K) (line : ReadLine)
-    → is_again (seen_next direction seen line).answer ≡ true
-    → fed direction seen line ≡ fed_twice
+    → is_again (seen_next direction seen line).answer ≡ true → fed direction seen line ≡ fed_twice
     (seen_next direction seen line) (seen_next direction (seen_next direction seen line).next line)
 fed-twice direction seen line e = rw (e, fed) refl
 
-pub failed-ends : {U O K : Type 0} (direction : Direction U O K) (seen : Seen O K) (line : ReadLine) (fault : Fault)
-    → is_skipped_in seen fault ≡ false
-    → failed_step direction seen line fault
+pub failed-ends : {U O K : Type 0} (direction : Direction U O K) (seen : Seen O K) (line : ReadLine)
+    (fault : Fault) → is_skipped_in seen fault ≡ false → failed_step direction seen line fault
     ≡ record {
       answer = Failed (record { line = seen.number + 1; fault = fault });
       handed_out = [];
@@ -170,9 +165,8 @@ pub failed-ends : {U O K : Type 0} (direction : Direction U O K) (seen : Seen O 
     }
 failed-ends direction seen line fault e = rw e refl
 
-pub failed-skipped : {U O K : Type 0} (direction : Direction U O K) (seen : Seen O K) (line : ReadLine) (fault : Fault)
-    → is_skipped_in seen fault ≡ true
-    → failed_step direction seen line fault
+pub failed-skipped : {U O K : Type 0} (direction : Direction U O K) (seen : Seen O K) (line : ReadLine)
+    (fault : Fault) → is_skipped_in seen fault ≡ true → failed_step direction seen line fault
     ≡ record {
       answer = Notice (record { line = seen.number + 1; fault = fault }) (is_in_epoch seen.phase
           && can_go_on line);
@@ -194,8 +188,8 @@ module _ {E : Type 0} {place : List (Item E) → List ReadLine → Place (FileUn
 
     -- so a unit and a fault end with the next line
     here-last : (items : List (Item E)) (rest : List ReadLine) (line : ReadLine) (unit : FileUnit E)
-        (count : ℕ)
-        → place items rest ≡ Wanted → place items (rest ++ line ∷ []) ≡ Here unit count → count ≡ length rest + 1
+        (count : ℕ) → place items rest ≡ Wanted → place items (rest ++ line ∷ []) ≡ Here unit count → count
+        ≡ length rest + 1
     here-last items rest line unit count wanted e =
         let past : length rest < count = subst (IsDecidedAfter (length rest)) e
         (decided-after items rest line wanted) in
@@ -204,7 +198,8 @@ module _ {E : Type 0} {place : List (Item E) → List ReadLine → Place (FileUn
 
     pub wrong-last : (items : List (Item E)) (rest : List ReadLine) (line : ReadLine) (offset : ℕ)
         (fault : Fault)
-        → place items rest ≡ Wanted → place items (rest ++ line ∷ []) ≡ Wrong offset fault → offset ≡ length rest
+        → place items rest ≡ Wanted → place items (rest ++ line ∷ []) ≡ Wrong offset fault → offset
+        ≡ length rest
     wrong-last items rest line offset fault wanted e =
         let past : length rest ≤ offset = subst (IsDecidedAfter (length rest)) e
         (decided-after items rest line wanted) in
@@ -220,8 +215,8 @@ module _ {E : Type 0} {place : List (Item E) → List ReadLine → Place (FileUn
 
     -- a unit that the next line completes
     pub last-here : (skip : Bool) (units : ℕ)
-        (items : List (Item E)) (number : ℕ) (rest : List ReadLine) (line : ReadLine) (unit : FileUnit E) (count : ℕ)
-        → place items rest ≡ Wanted → place items (rest ++ line ∷ []) ≡ Here unit count
+        (items : List (Item E)) (number : ℕ) (rest : List ReadLine) (line : ReadLine) (unit : FileUnit E)
+        (count : ℕ) → place items rest ≡ Wanted → place items (rest ++ line ∷ []) ≡ Here unit count
         → reading_within place skip (suc units) items number (rest ++ line ∷ [])
         ≡ record { items = Accepted unit ∷ items; stop = AtLines (number + count) [] }
     last-here skip units items number rest line unit count wanted e =
@@ -234,8 +229,8 @@ module _ {E : Type 0} {place : List (Item E) → List ReadLine → Place (FileUn
 
     -- a fault that ends the run
     pub last-ends : (skip : Bool) (units : ℕ)
-        (items : List (Item E)) (number count : ℕ) (rest : List ReadLine) (line : ReadLine) (offset : ℕ) (fault : Fault)
-        → place items rest ≡ Wanted → place items (rest ++ line ∷ []) ≡ Wrong offset fault
+        (items : List (Item E)) (number count : ℕ) (rest : List ReadLine) (line : ReadLine) (offset : ℕ)
+        (fault : Fault) → place items rest ≡ Wanted → place items (rest ++ line ∷ []) ≡ Wrong offset fault
         → is_skipped skip items fault ≡ false → number + length rest ≡ count + 1
         → reading_within place skip (suc units) items number (rest ++ line ∷ [])
         ≡ record { items = items; stop = AtFault (record { line = count + 1; fault = fault }) }
@@ -248,11 +243,12 @@ module _ {E : Type 0} {place : List (Item E) → List ReadLine → Place (FileUn
 
     -- a fault that is skipped
     pub last-skipped : (skip : Bool) (units : ℕ)
-        (items : List (Item E)) (number count : ℕ) (rest : List ReadLine) (line : ReadLine) (offset : ℕ) (fault : Fault)
-        → place items rest ≡ Wanted → place items (rest ++ line ∷ []) ≡ Wrong offset fault
+        (items : List (Item E)) (number count : ℕ) (rest : List ReadLine) (line : ReadLine) (offset : ℕ)
+        (fault : Fault) → place items rest ≡ Wanted → place items (rest ++ line ∷ []) ≡ Wrong offset fault
         → is_skipped skip items fault ≡ true → number + length rest ≡ count + 1
         → reading_within place skip (suc units) items number (rest ++ line ∷ [])
-        ≡ looked_for (reading_within place skip units (Warned (record { line = count + 1; fault = fault }) ∷ items))
+        ≡ looked_for (reading_within place skip units (Warned
+        (record { line = count + 1; fault = fault }) ∷ items))
         (Warned (record { line = count + 1; fault = fault }) ∷ items)
         (number + max (length rest) 1) (drop (max (length rest) 1) (rest ++ line ∷ []))
     last-skipped skip units items number count rest line offset fault wanted e on counted =
@@ -262,7 +258,8 @@ module _ {E : Type 0} {place : List (Item E) → List ReadLine → Place (FileUn
         ∷ items)) (Warned (record { line = n; fault = fault }) ∷ items)
         (number + max k 1) (drop (max k 1) (rest ++ line ∷ [])) in
         within-wrong place skip units items number (rest ++ line ∷ []) offset fault e
-        ∙ fault-skipped skip (reading_within place skip units) items number (rest ++ line ∷ []) offset fault on
+        ∙ fault-skipped skip (reading_within place skip units) items number
+        (rest ++ line ∷ []) offset fault on
         ∙ ap (λ n. looked n offset) (omega (arith, last, counted)) ∙ ap (looked (count + 1)) last
 
 looked-through-later : (first : ReadLine) (rest : List ReadLine) (line : ReadLine)
@@ -284,7 +281,8 @@ pub skipped-same : {E O K : Type 0} (choices : Choices)
     → header_has_ended items ≡ true → records_left items ≡ 0 → may_skip phase ≡ true
     → is_skipped choices.skip items fault ≡ is_skipped_in (seen_in choices count phase types kept) fault
 skipped-same choices count phase types kept items fault ended none may =
-    body-skipped choices.skip items fault ended none ∙ ap (λ b. choices.skip && (b && is_skippable fault)) (sym may)
+    body-skipped choices.skip items fault ended none ∙ ap (λ b. choices.skip && (b && is_skippable fault))
+    (sym may)
 
 module _ {E U O K : Type 0} {beginning : List (Item E) → List ReadLine → Place (FileUnit E)}
     {direction : Direction U O K}
@@ -310,18 +308,16 @@ module _ {E U O K : Type 0} {beginning : List (Item E) → List ReadLine → Pla
   abbrev pub Follows : ℕ → List (Item E) → Reading E → Fed O K → Type 0
   Follows count items r line_fed =
       IsFollowed (seen_of direction open_with kept_of choices count r) (written_lines unit_lines items)
-      (written_lines unit_lines r.items) (warnings_in items) (warnings_in r.items) (fault_of_stop r.stop) line_fed
+      (written_lines unit_lines r.items) (warnings_in items) (warnings_in r.items)
+      (fault_of_stop r.stop) line_fed
 
   -- the next line completes a unit
   pub followed-unit : (count n : ℕ) (items : List (Item E)) (phase : Phase O) (kept : K) (unit : FileUnit E)
-      (same : FileUnit U)
-      → open_with (Accepted unit ∷ items) [] ≡ None
+      (same : FileUnit U) → open_with (Accepted unit ∷ items) [] ≡ None
       → phase_after_items {O = O} (Accepted unit ∷ items) None ≡ phase_after phase same
       → types_in_force (Accepted unit ∷ items) ≡ types_after phase (types_in_force items) same
-      → direction.kept_after (seen_at count phase items kept) same
-      ≡ kept_of (Accepted unit ∷ items)
-      → direction.written (seen_at count phase items kept) same ≡ unit_lines items unit
-      → Follows
+      → direction.kept_after (seen_at count phase items kept) same ≡ kept_of (Accepted unit ∷ items)
+      → direction.written (seen_at count phase items kept) same ≡ unit_lines items unit → Follows
       (count + 1) items (record { items = Accepted unit ∷ items; stop = AtLines n [] })
       (fed_once (record {
         answer = Ready;
@@ -342,14 +338,11 @@ module _ {E U O K : Type 0} {beginning : List (Item E) → List ReadLine → Pla
 
   -- the next line ends the run
   pub followed-end : (count : ℕ) (items : List (Item E)) (phase : Phase O) (kept : K) (line : ReadLine)
-      (fault : Fault)
-      → direction.emptied kept ≡ direction.emptied (kept_of items)
-      → is_skipped_in (seen_at count phase items kept) fault ≡ false
-      → Follows
-      (count + 1) items (record { items = items; stop = AtFault (record { line = count + 1; fault = fault }) })
+      (fault : Fault) → direction.emptied kept ≡ direction.emptied (kept_of items)
+      → is_skipped_in (seen_at count phase items kept) fault ≡ false → Follows (count + 1) items (record
+      { items = items; stop = AtFault (record { line = count + 1; fault = fault }) })
       (fed_once (failed_step direction (seen_at count phase items kept) line fault))
-  followed-end count items phase kept line fault emptied off =
-      subst (λ s. Follows (count + 1) items
+  followed-end count items phase kept line fault emptied off = subst (λ s. Follows (count + 1) items
       (record { items = items; stop = AtFault (record { line = count + 1; fault = fault }) }) (fed_once s))
       (sym (failed-ends direction (seen_at count phase items kept) line fault off))
       (record {
@@ -364,14 +357,12 @@ module _ {E U O K : Type 0} {beginning : List (Item E) → List ReadLine → Pla
       (fault : Fault)
       → direction.emptied kept ≡ kept_of (Warned (record { line = count + 1; fault = fault }) ∷ items)
       → is_skipped_in (seen_at count phase items kept) fault ≡ true
-      → (is_in_epoch phase && can_go_on line) ≡ false
-      → Follows (count + 1) items
+      → (is_in_epoch phase && can_go_on line) ≡ false → Follows (count + 1) items
       (record { items = Warned (record { line = count + 1; fault = fault }) ∷ items; stop = Looking n })
       (fed_once (failed_step direction (seen_at count phase items kept) line fault))
-  followed-skip count n items phase kept line fault emptied on off =
-      subst (λ s. Follows (count + 1) items
-      (record { items = Warned (record { line = count + 1; fault = fault }) ∷ items; stop = Looking n }) (fed_once s))
-      (sym (failed-skipped direction (seen_at count phase items kept) line fault on))
+  followed-skip count n items phase kept line fault emptied on off = subst (λ s. Follows (count + 1) items
+      (record { items = Warned (record { line = count + 1; fault = fault }) ∷ items; stop = Looking n })
+      (fed_once s)) (sym (failed-skipped direction (seen_at count phase items kept) line fault on))
       (record {
         next = seen-same choices (count + 1) _ _ _ _ _ _ refl refl (sym emptied)
             ∙ ap (λ (b : Bool). seen_in choices
@@ -383,12 +374,9 @@ module _ {E U O K : Type 0} {beginning : List (Item E) → List ReadLine → Pla
 
   -- the next line leaves an epoch open
   followed-open : (count n : ℕ) (items : List (Item E)) (lines : List ReadLine) (phase : Phase O) (kept : K)
-      (so_far : O)
-      → header_has_ended items ≡ true → records_left items ≡ 0
-      → open_with items lines ≡ Some so_far
-      → direction.kept_open kept ≡ direction.kept_open (kept_of items)
-      → Follows
-      (count + 1) items (record { items = items; stop = AtLines n lines })
+      (so_far : O) → header_has_ended items ≡ true → records_left items ≡ 0
+      → open_with items lines ≡ Some so_far → direction.kept_open kept ≡ direction.kept_open (kept_of items)
+      → Follows (count + 1) items (record { items = items; stop = AtLines n lines })
       (fed_once (record {
         answer = Quiet;
         handed_out = [];
@@ -420,14 +408,12 @@ module _ {E U O K : Type 0} {beginning : List (Item E) → List ReadLine → Pla
   pub emptied-same : (items : List (Item E)) (kept : K)
       → AreKept items kept → direction.emptied kept ≡ direction.emptied (kept_of items)
   emptied-same items kept (inl e) = ap direction.emptied e
-  emptied-same items kept (inr e) = ap direction.emptied e
-      ∙ h.emptied_open (kept_of items)
+  emptied-same items kept (inr e) = ap direction.emptied e ∙ h.emptied_open (kept_of items)
 
   open-same : (items : List (Item E)) (kept : K)
       → AreKept items kept → direction.kept_open kept ≡ direction.kept_open (kept_of items)
   open-same items kept (inl e) = ap direction.kept_open e
-  open-same items kept (inr e) = ap direction.kept_open e
-      ∙ h.open_open (kept_of items)
+  open-same items kept (inr e) = ap direction.kept_open e ∙ h.open_open (kept_of items)
 
   -- a fault that is skipped, no line being at hand to go on at
   skipped-looking : (units : ℕ)
@@ -441,39 +427,34 @@ module _ {E U O K : Type 0} {beginning : List (Item E) → List ReadLine → Pla
   skipped-looking units items phase kept number (first ∷ rest) line at inside off = (
     number + max (length (first ∷ rest)) 1 + 1,
     ap (looked_for (reads units (Warned at ∷ items)) (Warned at ∷ items)
-        (number + max (length (first ∷ rest)) 1))
-        (looked-through-later first rest line)
+        (number + max (length (first ∷ rest)) 1)) (looked-through-later first rest line)
         ∙ looked-on (reads units (Warned at ∷ items)) (Warned at ∷ items)
-        (number + max (length (first ∷ rest)) 1)
-        line [] (ap (λ b. b && can_go_on line) (sym inside) ∙ off),
+        (number + max (length (first ∷ rest)) 1) line [] (ap (λ b. b && can_go_on line) (sym inside) ∙ off),
   )
 
   -- a fault that is skipped, and reading goes on at this line
   pub skipped-again : (units : ℕ) (items : List (Item E)) (number count : ℕ) (rest : List ReadLine)
-      (line : ReadLine)
-      (at : At) → 0 < length rest → number + length rest ≡ count + 1 → can_go_on line ≡ true
+      (line : ReadLine) (at : At) → 0 < length rest → number + length rest ≡ count + 1 → can_go_on line ≡ true
       → looked_for (reads units (Warned at ∷ items))
       (Warned at ∷ items) (number + max (length rest) 1) (drop (max (length rest) 1) (rest ++ line ∷ []))
       ≡ reads units (Warned at ∷ items) (count + 1) (line ∷ [])
   skipped-again units items number count [] line at some counted on = absurd (omega (arith, some))
   skipped-again units items number count (first ∷ rest) line at some counted on =
       ap (looked_for (reads units (Warned at ∷ items)) (Warned at ∷ items)
-      (number + max (length (first ∷ rest)) 1))
-      (looked-through-later first rest line)
+      (number + max (length (first ∷ rest)) 1)) (looked-through-later first rest line)
       ∙ looked-here (reads units (Warned at ∷ items))
       (Warned at ∷ items) (number + max (length (first ∷ rest)) 1) line [] on
       ∙ ap (λ n. reads units (Warned at ∷ items) n (line ∷ [])) (omega (arith, counted))
 
   -- the next line, where it is given once
   pub body-once : (units : ℕ) (items : List (Item E))
-      (number count : ℕ) (rest : List ReadLine) (line : ReadLine) (phase : Phase O) (kept : K) (made : Made U O)
+      (number count : ℕ) (rest : List ReadLine) (line : ReadLine) (phase : Phase O) (kept : K)
+      (made : Made U O)
       → header_has_ended items ≡ true → records_left items ≡ 0 → beginning items rest ≡ Wanted
-      → Agrees items (rest ++ line ∷ []) made
-      → may_skip phase ≡ true → AreKept items kept
+      → Agrees items (rest ++ line ∷ []) made → may_skip phase ≡ true → AreKept items kept
       → IsInside items phase kept rest → number + length rest ≡ count + 1
       → is_again (step_of_made direction (seen_at count phase items kept) line made).answer ≡ false
-      → Follows (count + 1) items
-      (reads (suc units) items number (rest ++ line ∷ []))
+      → Follows (count + 1) items (reads (suc units) items number (rest ++ line ∷ []))
       (fed_once (step_of_made direction (seen_at count phase items kept) line made))
   body-once units items number count rest line phase kept
       (Completes (EventLine l)) ended none wanted agree may keeps inside counted quiet =
@@ -485,12 +466,9 @@ module _ {E U O K : Type 0} {beginning : List (Item E) → List ReadLine → Pla
       subst (λ r. Follows (count + 1) items r (fed_once (step_of_made
       direction (seen_at count phase items kept) line (Completes (EventLine l)))))
       (sym (last-here h.forward choices.skip units items number rest line
-      (EventLine l) agree.0 wanted_here here))
-      (followed-unit count
+      (EventLine l) agree.0 wanted_here here)) (followed-unit count
       (number + agree.0) items phase kept (EventLine l) (EventLine l)
-      (h.none_open (Accepted (EventLine l) ∷ items))
-      event-phase
-      refl
+      (h.none_open (Accepted (EventLine l) ∷ items)) event-phase refl
       (ap (λ k. direction.kept_after (seen_at count phase items k) (EventLine l)) same
       ∙ h.event_kept items count phase (types_in_force items) l)
       (h.event_lines items count phase (types_in_force items) kept l))
@@ -511,12 +489,9 @@ module _ {E U O K : Type 0} {beginning : List (Item E) → List ReadLine → Pla
       subst (λ r. Follows (count + 1) items r (fed_once (step_of_made
       direction (seen_at count phase items kept) line (Completes (Observation held)))))
       (sym (last-here h.forward choices.skip units items number rest line
-      (Observation agree.1) agree.0 wanted_here here))
-      (followed-unit count
+      (Observation agree.1) agree.0 wanted_here here)) (followed-unit count
       (number + agree.0) items phase kept (Observation agree.1) (Observation held)
-      (h.none_open (Accepted (Observation agree.1) ∷ items))
-      (rw ended refl)
-      refl
+      (h.none_open (Accepted (Observation agree.1) ∷ items)) (rw ended refl) refl
       (same.kept count phase (types_in_force items) kept keeps)
       (same.lines count phase (types_in_force items) kept keeps))
   body-once units items number count rest line phase kept
@@ -527,10 +502,8 @@ module _ {E U O K : Type 0} {beginning : List (Item E) → List ReadLine → Pla
       (sym (within-wanted place choices.skip units items number (rest ++ line ∷ []) here))
       (subst (λ p. Follows
       (count + 1) items (record { items = items; stop = AtLines number (rest ++ line ∷ []) })
-      (fed_once (step_of_made direction (seen_at count phase items kept) line (Moves p))))
-      (sym agree.1)
-      (followed-open count number items
-      (rest ++ line ∷ []) phase kept agree.0 ended none agree.3
+      (fed_once (step_of_made direction (seen_at count phase items kept) line (Moves p)))) (sym agree.1)
+      (followed-open count number items (rest ++ line ∷ []) phase kept agree.0 ended none agree.3
       (open-same items kept keeps)))
   body-once units items number count rest line phase kept
       (Fails fault) ended none wanted agree may keeps inside counted quiet =
@@ -546,15 +519,13 @@ module _ {E U O K : Type 0} {beginning : List (Item E) → List ReadLine → Pla
       let looking = skipped-looking units items phase kept number rest line at inside off in
       subst (λ r. Follows (count + 1) items r
       (fed_once (failed_step direction (seen_at count phase items kept) line fault)))
-      (sym (last-skipped h.forward choices.skip units items number count rest line agree.0 fault wanted_here here
-      (tested ∙ on) counted ∙ looking.1))
-      (followed-skip count looking.0 items phase kept line fault (emptied
-      ∙ h.warned items at) on off))
+      (sym (last-skipped h.forward choices.skip units items number count rest line agree.0 fault
+      wanted_here here (tested ∙ on) counted ∙ looking.1))
+      (followed-skip count looking.0 items phase kept line fault (emptied ∙ h.warned items at) on off))
       (λ off.
       subst (λ r. Follows (count + 1) items r
       (fed_once (failed_step direction (seen_at count phase items kept) line fault)))
       (sym (last-ends h.forward choices.skip units items number count rest line agree.0 fault wanted_here here
-      (tested ∙ off) counted))
-      (followed-end count items phase kept line fault emptied off))
+      (tested ∙ off) counted)) (followed-end count items phase kept line fault emptied off))
   body-once units items number count rest line phase kept
       made ended none wanted agree may keeps inside counted quiet = absurd agree

@@ -1,31 +1,18 @@
 -- Both directions are lawful filters.
-use Rattle.std.proofs.Common.{◌≡◌, List, ◌++◌, map, Option, Some, refl, sym, ap, subst, ◌∙◌}
-use Rattle.std.proofs.lemmas.List.{map-append}
-use Rattle.crx_faults.specs.meaning.Lines.{InputLine}
-use Rattle.crx_faults.specs.meaning.Seen.{ReadLine, seen}
-use Rattle.crx_faults.specs.declared.fault.At.{At}
-use Rattle.crx_rinex.specs.meaning.Observations.{Epoch}
-use Rattle.crx_compact.specs.meaning.CompactPlaces.{ReadEpoch}
-use Rattle.crx_options.specs.meaning.Choices.{Choices}
-use Rattle.crx_reading.specs.meaning.Reading.{WholeReading}
-use Rattle.crx_faults.specs.meaning.Lines.{lines_text}
-use Rattle.crx_runs.specs.meaning.Results.{Begins}
-use Rattle.crx_reading.specs.meaning.Written.{whole_course}
-use Rattle.crx_reading.specs.meaning.Reading.{fault_of_stop}
-use Rattle.crx_reading.specs.meaning.Compacted.{rinex_place, compact_unit, compact_lines, whole_rinex}
-use Rattle.crx_filter.specs.Compacted.{compacted_so_far}
-use Rattle.crx_reading.specs.meaning.Directions.{rinex_reading}
-use Rattle.crx_reading.specs.meaning.Expanded.{expanded_unit, whole_compact}
-use Rattle.crx_filter.specs.Expanded.{expanded_lines, expanded_so_far}
-use Rattle.crx_reading.specs.meaning.Directions.{compact_reading}
-use Rattle.crx_reading.specs.meaning.Directions.{course_so_far, compaction_filter, expansion_filter}
-use Rattle.crx_runs.specs.Lawful.{IsLawful}
+use Rattle.crx_filter.proofs.Words.{◌≡◌, List, ◌++◌, map, Option, Some, refl, sym, ap, subst, ◌∙◌, map-append}
+use Rattle.crx_filter.proofs.Words.{InputLine, ReadLine, seen, At, Epoch, ReadEpoch, Choices, WholeReading}
+use Rattle.crx_filter.proofs.Words.{lines_text, Begins, whole_course, fault_of_stop, rinex_place}
+use Rattle.crx_filter.proofs.Words.{compact_unit, compact_lines, whole_rinex, compacted_so_far, rinex_reading}
+use Rattle.crx_filter.proofs.Words.{expanded_unit, whole_compact, expanded_lines, expanded_so_far}
+use Rattle.crx_filter.proofs.Words.{compact_reading, course_so_far, compaction_filter, expansion_filter}
+use Rattle.crx_filter.proofs.Words.{IsLawful}
 use Rattle.crx_filter.proofs.reading.Forward.{rinex-forward}
 use Rattle.crx_filter.proofs.reading.Prefixes.{text-more, whole-items}
 use Rattle.crx_filter.proofs.reading.RinexPrefixes.{compacted-first}
 use Rattle.crx_filter.proofs.reading.CompactPrefixes.{whole-more, expanded-first}
 use Rattle.crx_filter.proofs.reading.StaysEnded.{rinex-stays, compact-stays}
-use Rattle.crx_filter.proofs.reading.FineReadings.{rinex-found, rinex-found-at-end, compact-found, compact-found-at-end}
+use Rattle.crx_filter.proofs.reading.FineReadings.{rinex-found, rinex-found-at-end, compact-found}
+use Rattle.crx_filter.proofs.reading.FineReadings.{compact-found-at-end}
 
 both : (lines more : List InputLine) → map seen (lines ++ more) ≡ map seen lines ++ map seen more
 both lines more = map-append seen lines more
@@ -33,21 +20,21 @@ both lines more = map-append seen lines more
 pub compaction-lawful : (choices : Choices) → IsLawful (compaction_filter choices)
 compaction-lawful choices = record {
   nothing = refl;
-  decided =
-      λ (lines more : List InputLine) (at : At) (e : fault_of_stop
+  decided = λ (lines more : List InputLine) (at : At) (e : fault_of_stop
       (rinex_reading choices.skip (map seen lines)).stop ≡ Some at).
       let s = rinex-stays choices.skip (map seen lines) (map seen more) at e in
-      ap (λ (ls : List ReadLine). whole_course (compact_unit choices) (whole_rinex choices.skip ls)) (both lines more)
-      ∙ ap (λ (w : WholeReading Epoch). whole_course (compact_unit choices) w) s.ended
+      ap (λ (ls : List ReadLine). whole_course (compact_unit choices) (whole_rinex choices.skip ls))
+      (both lines more) ∙ ap (λ (w : WholeReading Epoch). whole_course (compact_unit choices) w) s.ended
       ∙ ap (λ (f : Option At). record (course_so_far
       (compact_unit choices) (rinex_reading choices.skip (map seen lines))) { fault = f }) (sym e);
   grows = λ (lines more : List InputLine).
-      subst (λ (ls : List ReadLine). Begins (compacted_so_far ls choices) (compacted_so_far (map seen lines) choices))
+      subst (λ (ls : List ReadLine). Begins (compacted_so_far ls choices)
+      (compacted_so_far (map seen lines) choices))
       (sym (both lines more)) ((compacted-first choices (map seen lines)).longer (map seen more));
   goes_on = λ (lines more : List InputLine).
-      subst (λ (ls : List ReadLine). Begins (lines_text (compact_lines choices (whole_rinex choices.skip ls).items))
-      (compacted_so_far (map seen lines) choices)) (sym (both lines more))
-      (text-more (compact_unit choices)
+      subst (λ (ls : List ReadLine). Begins (lines_text (compact_lines choices
+      (whole_rinex choices.skip ls).items))
+      (compacted_so_far (map seen lines) choices)) (sym (both lines more)) (text-more (compact_unit choices)
       _ _ (whole-items rinex_place rinex-forward choices.skip 1 (map seen lines) (map seen more)));
   found = λ lines at e. rinex-found choices.skip (map seen lines) at e;
   found_at_end = λ lines at e. rinex-found-at-end choices.skip (map seen lines) at e;
@@ -56,19 +43,20 @@ compaction-lawful choices = record {
 pub expansion-lawful : (choices : Choices) → IsLawful (expansion_filter choices)
 expansion-lawful choices = record {
   nothing = refl;
-  decided =
-      λ (lines more : List InputLine) (at : At) (e : fault_of_stop
+  decided = λ (lines more : List InputLine) (at : At) (e : fault_of_stop
       (compact_reading choices.skip (map seen lines)).stop ≡ Some at).
       let s = compact-stays choices.skip (map seen lines) (map seen more) at e in
-      ap (λ (ls : List ReadLine). whole_course expanded_unit (whole_compact choices.skip ls)) (both lines more)
-      ∙ ap (λ (w : WholeReading ReadEpoch). whole_course expanded_unit w) s.ended
+      ap (λ (ls : List ReadLine). whole_course expanded_unit (whole_compact choices.skip ls))
+      (both lines more) ∙ ap (λ (w : WholeReading ReadEpoch). whole_course expanded_unit w) s.ended
       ∙ ap (λ (f : Option At). record (course_so_far expanded_unit
       (compact_reading choices.skip (map seen lines))) { fault = f }) (sym e);
   grows = λ (lines more : List InputLine).
-      subst (λ (ls : List ReadLine). Begins (expanded_so_far ls choices) (expanded_so_far (map seen lines) choices))
+      subst (λ (ls : List ReadLine). Begins (expanded_so_far ls choices)
+      (expanded_so_far (map seen lines) choices))
       (sym (both lines more)) ((expanded-first choices (map seen lines)).longer (map seen more));
   goes_on = λ (lines more : List InputLine).
-      subst (λ (ls : List ReadLine). Begins (lines_text (expanded_lines (whole_compact choices.skip ls).items))
+      subst (λ (ls : List ReadLine). Begins (lines_text (expanded_lines
+      (whole_compact choices.skip ls).items))
       (expanded_so_far (map seen lines) choices)) (sym (both lines more))
       (text-more expanded_unit _ _ (whole-more choices.skip (map seen lines) (map seen more) _ refl));
   found = λ lines at e. compact-found choices.skip (map seen lines) at e;

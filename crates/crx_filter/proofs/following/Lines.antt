@@ -1,57 +1,35 @@
 -- One line more, wherever a reading has stopped.
-use Rattle.std.proofs.Common.{ℕ, zero, suc, ◌≡◌, inl, inr, ◌+◌, ◌-◌, ◌<◌}
-use Rattle.std.proofs.Common.{Bool, true, false, not, cond, List, [], ◌∷◌}
-use Rattle.std.proofs.Common.{◌++◌, length, Option, Some, None, Result, Ok, Err}
-use Rattle.std.proofs.Common.{refl, ap, sym, subst, ◌∙◌, arith}
-use Rattle.std.proofs.Common.{length-append, append-nil, append_assoc, rules}
-use Rattle.std.specs.Prelude.{◌||◌, ◌&&◌, ◌==◌, ⊤, nat_lt}
-use Rattle.crx_faults.specs.meaning.Seen.{ReadLine, Content, Overlong}
-use Rattle.crx_faults.specs.declared.fault.Fault.{Fault}
-use Rattle.crx_faults.specs.declared.fault.Fault.TheVariants.{LineTooLong}
-use Rattle.crx_faults.specs.declared.fault.At.{At}
-use Rattle.crx_header.specs.meaning.Header.{is_end_of_header}
-use Rattle.crx_header.specs.meaning.ObservationTypes.{Count, types_of}
-use Rattle.crx_header.specs.ObservationTypes.{with_line}
+use Rattle.crx_filter.proofs.Words.{ℕ, zero, suc, ◌≡◌, inl, inr, ◌+◌, ◌-◌, ◌<◌, Bool, true, false, not, cond}
+use Rattle.crx_filter.proofs.Words.{List, [], ◌∷◌, ◌++◌, length, Option, Some, None, Result, Ok, Err, refl}
+use Rattle.crx_filter.proofs.Words.{ap, sym, subst, ◌∙◌, arith, length-append, append-nil, append_assoc}
+use Rattle.crx_filter.proofs.Words.{rules, ◌||◌, ◌&&◌, ◌==◌, ⊤, nat_lt, ReadLine, Content, Overlong, Fault}
+use Rattle.crx_filter.proofs.Words.{LineTooLong, At, is_end_of_header, Count, types_of, with_line, none-some}
+use Rattle.crx_filter.proofs.Words.{Place, Wanted, one_line, first_line, FileUnit, HeaderLine, EventRecord}
+use Rattle.crx_filter.proofs.Words.{Choices, Item, Accepted, Warned, is_at_start, header_has_ended}
+use Rattle.crx_filter.proofs.Words.{records_left, records_count_types, declaring_lines, types_in_force}
+use Rattle.crx_filter.proofs.Words.{unless_wrong, types_fault, header_line_fault, header_line, event_record}
+use Rattle.crx_filter.proofs.Words.{unit_place, Reading, Stop, AtFault, AtLines, Looking, is_skipped}
+use Rattle.crx_filter.proofs.Words.{can_go_on, reading_within, reading_from, is_skippable, continued_reading}
+use Rattle.crx_filter.proofs.Words.{IsReadForward, fed, fed_once, fed_twice, is_again, written_lines}
+use Rattle.crx_filter.proofs.Words.{warnings_in, Phase, InHeader, BetweenUnits, InEvent, InEpoch, LookingOn}
+use Rattle.crx_filter.proofs.Words.{Seen, Made, Completes, Fails, Direction, Notice, Step, made_of_unit}
+use Rattle.crx_filter.proofs.Words.{made_in, phase_after, types_after, may_skip, is_in_epoch, is_skipped_in}
+use Rattle.crx_filter.proofs.Words.{kept_in, after_warning, failed_step, step_of_made, seen_next}
+use Rattle.crx_filter.proofs.Words.{phase_in_body, phase_after_items, seen_of, and_parts}
 use Rattle.crx_header.proofs.Counts.{types_of-push}
-use Rattle.std.proofs.lemmas.Option.{none-some}
-use Rattle.crx_rinex.specs.meaning.Places.{Place, Wanted, one_line, first_line}
-use Rattle.crx_rinex.specs.meaning.Units.{Unit as FileUnit, HeaderLine, EventRecord}
-use Rattle.crx_options.specs.meaning.Choices.{Choices}
-use Rattle.crx_reading.specs.meaning.Items.{Item, Accepted, Warned, is_at_start}
-use Rattle.crx_reading.specs.meaning.Items.{header_has_ended, records_left}
-use Rattle.crx_reading.specs.meaning.Items.{records_count_types, declaring_lines, types_in_force}
-use Rattle.crx_reading.specs.meaning.UnitPlaces.{unless_wrong, types_fault, header_line_fault, header_line}
-use Rattle.crx_reading.specs.meaning.UnitPlaces.{event_record, unit_place}
-use Rattle.crx_reading.specs.meaning.Reading.{Reading, Stop, AtFault, AtLines, Looking, is_skipped, can_go_on}
-use Rattle.crx_reading.specs.meaning.Reading.{reading_within, reading_from}
-use Rattle.crx_faults.specs.meaning.Faults.{is_skippable}
-use Rattle.crx_filter.specs.Laws.{continued_reading, IsReadForward, fed, fed_once, fed_twice, is_again}
-use Rattle.crx_reading.specs.meaning.Written.{written_lines}
-use Rattle.crx_reading.specs.meaning.Written.{warnings_in}
-use Rattle.crx_reading.specs.LineByLine.{Phase, InHeader, BetweenUnits, InEvent, InEpoch}
-use Rattle.crx_reading.specs.LineByLine.{LookingOn, Seen, Made}
-use Rattle.crx_reading.specs.LineByLine.{Completes, Fails, Direction, Notice, Step, made_of_unit}
-use Rattle.crx_reading.specs.LineByLine.{made_in, phase_after, types_after, may_skip}
-use Rattle.crx_reading.specs.LineByLine.{is_in_epoch, is_skipped_in}
-use Rattle.crx_reading.specs.LineByLine.{kept_in, after_warning, failed_step, step_of_made}
-use Rattle.crx_reading.specs.LineByLine.{seen_next, phase_in_body}
-use Rattle.crx_reading.specs.LineByLine.{phase_after_items, seen_of}
 use Rattle.crx_reading.proofs.Choosing.{by_bool, false-true}
 use Rattle.crx_filter.proofs.reading.Resuming.{enough-units, looked-here, looked-on}
-use Rattle.crx_filter.proofs.following.Following.{IsCarriedOut, AreKept, IsInside, Follows, Agrees}
-use Rattle.crx_filter.proofs.following.Following.{place, reads, seen_at}
-use Rattle.crx_filter.proofs.following.Following.{emptied-same, skipped-same, body-place}
-use Rattle.crx_filter.proofs.following.Following.{body-phase, fed-once}
-use Rattle.crx_filter.proofs.following.Following.{fed-twice, failed-ends, failed-skipped}
-use Rattle.crx_filter.proofs.following.Following.{followed-unit, followed-end}
-use Rattle.crx_filter.proofs.following.Following.{last-here, last-ends, last-skipped}
-use Rattle.crx_filter.proofs.following.Following.{skipped-again, records-phase}
+use Rattle.crx_filter.proofs.following.Following.{IsCarriedOut, AreKept, IsInside, Follows, Agrees, place}
+use Rattle.crx_filter.proofs.following.Following.{reads, seen_at, emptied-same, skipped-same, body-place}
+use Rattle.crx_filter.proofs.following.Following.{body-phase, fed-once, fed-twice, failed-ends}
+use Rattle.crx_filter.proofs.following.Following.{failed-skipped, followed-unit, followed-end, last-here}
+use Rattle.crx_filter.proofs.following.Following.{last-ends, last-skipped, skipped-again, records-phase}
 use Rattle.crx_filter.proofs.following.Following.{body-once}
-use Rattle.std.proofs.lemmas.Bool.{and_parts}
 
 -- only in an epoch does a line come again
 pub quiet-elsewhere : {U O K : Type 0} (direction : Direction U O K) (seen : Seen O K) (line : ReadLine)
-    (made : Made U O) → is_in_epoch seen.phase ≡ false → is_again (step_of_made direction seen line made).answer ≡ false
+    (made : Made U O) → is_in_epoch seen.phase ≡ false → is_again
+    (step_of_made direction seen line made).answer ≡ false
 quiet-elsewhere direction seen line (Fails fault) e = by_bool (is_skipped_in seen fault)
     (λ on. ap (λ (s : Step _ _). is_again s.answer) (failed-skipped direction seen line fault on)
     ∙ ap (λ b. b && can_go_on line) e)
@@ -64,8 +42,8 @@ pub never-before : (skip b : Bool) → (skip && (false && b)) ≡ false
 never-before true b = refl
 never-before false b = refl
 
-header-phase : {E O : Type 0} (items : List (Item E)) (is_first : Bool) (line : List ℕ) → header_has_ended items ≡ false
-    → phase_after_items {O = O} (Accepted (HeaderLine line) ∷ items) None
+header-phase : {E O : Type 0} (items : List (Item E)) (is_first : Bool) (line : List ℕ)
+    → header_has_ended items ≡ false → phase_after_items {O = O} (Accepted (HeaderLine line) ∷ items) None
     ≡ phase_after {U = E} (InHeader is_first) (HeaderLine line)
 header-phase {E = E} {O = O} items is_first line e =
     let inside : Phase O = InHeader false in
@@ -75,10 +53,12 @@ header-phase {E = E} {O = O} items is_first line e =
     [ true ↦ refl | false ↦ refl ])
 
 pub never-in-event : (skip : Bool) (left : ℕ) (b : Bool) → (skip && ((suc left == 0) && b)) ≡ false
-never-in-event skip left b = let some : (suc left == 0) ≡ false = search rules in rw some (never-before skip b)
+never-in-event skip left b = let some : (suc left == 0) ≡ false = search rules in
+    rw some (never-before skip b)
 
 record-types : (counted : Bool) (lines : List (List ℕ)) (line : List ℕ) → types_of
-    (cond counted (lines ++ line ∷ []) lines) ≡ cond counted (with_line (types_of lines) line) (types_of lines)
+    (cond counted (lines ++ line ∷ []) lines) ≡ cond counted (with_line (types_of lines) line)
+    (types_of lines)
 record-types true lines line = types_of-push lines line
 record-types false lines line = refl
 
@@ -86,15 +66,16 @@ record-phase : {E O : Type 0} (items : List (Item E)) (left : ℕ) (line : List 
     → header_has_ended items ≡ true → records_left items ≡ suc left
     → phase_after_items {O = O} (Accepted (EventRecord line) ∷ items) None
     ≡ phase_after {U = E} (InEvent (suc left) (records_count_types items)) (EventRecord line)
-record-phase items left line ended some = rw (ended, some) (records-phase (suc left - 1) (records_count_types items))
+record-phase items left line ended some = rw (ended, some)
+    (records-phase (suc left - 1) (records_count_types items))
 
 pub header-place : {E : Type 0} (beginning : List (Item E) → List ReadLine → Place (FileUnit E))
-    (items : List (Item E))
-    (lines : List ReadLine) → header_has_ended items ≡ false
+    (items : List (Item E)) (lines : List ReadLine) → header_has_ended items ≡ false
     → unit_place beginning items lines ≡ first_line lines (header_line (is_at_start items))
 header-place beginning items lines e = rw e refl
 
-pub record-place : {E : Type 0} (beginning : List (Item E) → List ReadLine → Place (FileUnit E)) (items : List (Item E))
+pub record-place : {E : Type 0} (beginning : List (Item E) → List ReadLine → Place (FileUnit E))
+    (items : List (Item E))
     (left : ℕ) (lines : List ReadLine) → header_has_ended items ≡ true → records_left items ≡ suc left
     → unit_place beginning items lines ≡ first_line lines (event_record (records_count_types items))
 record-place beginning items left lines ended some = let more : nat_lt 0 (suc left) ≡ true = search rules in
@@ -123,8 +104,8 @@ IsStopped place items (Looking number) next = (number ≡ next)
     × (header_has_ended items ≡ true) × (records_left items ≡ 0)
 
 more-units : {E : Type 0} (place : List (Item E) → List ReadLine → Place (FileUnit E))
-    → IsReadForward place → (skip : Bool) (items : List (Item E)) (number : ℕ) (rest : List ReadLine) (line : ReadLine)
-    → reading_from place skip items number (rest ++ line ∷ [])
+    → IsReadForward place → (skip : Bool) (items : List (Item E)) (number : ℕ) (rest : List ReadLine)
+    (line : ReadLine) → reading_from place skip items number (rest ++ line ∷ [])
     ≡ reading_within place skip (suc (suc (length rest))) items number (rest ++ line ∷ [])
 more-units place h skip items number rest line =
     let all : length (rest ++ line ∷ []) ≡ length rest + 1 = length-append rest (line ∷ []) in
@@ -146,9 +127,8 @@ module _ {E U O K : Type 0} {beginning : List (Item E) → List ReadLine → Pla
     (h : IsCarriedOut beginning direction open_with kept_of unit_lines choices) where
   -- what is kept of a line that comes twice, in the order of its two steps
   followed-twice : (count : ℕ) (items : List (Item E)) (at : At) (r : Reading E) (next : Seen O K)
-      (two : Step O K)
-      → Follows h count (Warned at ∷ items) r (fed_once two)
-      → Follows h count items r (fed_twice (record { answer = Notice at true; handed_out = []; next = next }) two)
+      (two : Step O K) → Follows h count (Warned at ∷ items) r (fed_once two) → Follows h count items r
+      (fed_twice (record { answer = Notice at true; handed_out = []; next = next }) two)
   followed-twice count items at r next two f = record {
     next = f.next;
     handed_out = f.handed_out;
@@ -158,7 +138,8 @@ module _ {E U O K : Type 0} {beginning : List (Item E) → List ReadLine → Pla
 
   -- the next line where an epoch or an event may begin or in an epoch, given a second time where it is to come again
   body-line : (units : ℕ) (items : List (Item E))
-      (number count : ℕ) (rest : List ReadLine) (line : ReadLine) (phase : Phase O) (kept : K) (made : Made U O)
+      (number count : ℕ) (rest : List ReadLine) (line : ReadLine) (phase : Phase O) (kept : K)
+      (made : Made U O)
       → header_has_ended items ≡ true → records_left items ≡ 0 → beginning items rest ≡ Wanted
       → Agrees h items (rest ++ line ∷ []) made
       → may_skip phase ≡ true → AreKept h items kept → IsInside h items phase kept rest
@@ -171,8 +152,7 @@ module _ {E U O K : Type 0} {beginning : List (Item E) → List ReadLine → Pla
       by_bool (is_again (step made).answer)
       (λ on. subst (λ f. Follows h (count + 1) items after f)
       (sym (fed-twice direction seen line (ap (λ m. is_again (step m).answer) e ∙ on)
-      ∙ ap (λ m. fed_twice (step m) (seen_next direction (step m).next line)) e))
-      (again made agree on))
+      ∙ ap (λ m. fed_twice (step m) (seen_next direction (step m).next line)) e)) (again made agree on))
       (λ off. subst (λ f. Follows h (count + 1) items after f)
       (sym (fed-once direction seen line (ap (λ m. is_again (step m).answer) e ∙ off)
       ∙ ap (λ m. fed_once (step m)) e))
@@ -195,7 +175,8 @@ module _ {E U O K : Type 0} {beginning : List (Item E) → List ReadLine → Pla
           by_bool (is_skipped_in seen fault)
           (λ skipped.
           let both : (is_in_epoch phase && can_go_on line) ≡ true =
-          sym (ap (λ (s : Step _ _). is_again s.answer) (failed-skipped direction seen line fault skipped)) ∙ on in
+          sym (ap (λ (s : Step _ _). is_again s.answer) (failed-skipped direction seen line fault
+          skipped)) ∙ on in
           let each = and_parts (is_in_epoch phase) (can_go_on line) both in
           let looking : Seen O K = seen_at h count LookingOn items (direction.emptied kept) in
           let is_one : failed_step direction seen line fault
@@ -204,16 +185,14 @@ module _ {E U O K : Type 0} {beginning : List (Item E) → List ReadLine → Pla
           ∙ ap (λ (b : Bool). record {
             answer = Notice at b;
             handed_out = [];
-            next = after_warning direction
-                seen b;
+            next = after_warning direction seen b;
           }) both in
           let kept_then : direction.emptied kept ≡ kept_of (Warned at ∷ items) =
           emptied-same h items kept keeps ∙ h.warned items at in
           let made_then : Made U O = direction.begins (types_in_force items) (kept_of (Warned at ∷ items))
           line in
           let is_made : made_in direction LookingOn (types_in_force items) (direction.emptied kept) line
-          ≡ made_then =
-          made-looking direction (types_in_force items) (direction.emptied kept) line each.1
+          ≡ made_then = made-looking direction (types_in_force items) (direction.emptied kept) line each.1
           ∙ ap (λ k. direction.begins (types_in_force items) k line) kept_then in
           let some : 0 < length rest = within each.0 in
           let anew : Reading E = reads h 2 (Warned at ∷ items) (count + 1) (line ∷ []) in
@@ -222,16 +201,13 @@ module _ {E U O K : Type 0} {beginning : List (Item E) → List ReadLine → Pla
           (body-place beginning items rest ended none ∙ wanted)
           (body-place beginning items (rest ++ line ∷ []) ended none ∙ a.1)
           (skipped-same choices count phase (types_in_force items) kept items fault ended none may ∙ skipped)
-          counted
-          ∙ skipped-again h units items number count rest line at some counted each.1
+          counted ∙ skipped-again h units items number count rest line at some counted each.1
           ∙ enough-units (place h) h.forward choices.skip units 2
           (Warned at ∷ items) (count + 1) (line ∷ []) (omega (arith, enough, some)) (omega arith) in
           subst (λ r. Follows h (count + 1) items r
           (fed_twice (step (Fails fault)) (seen_next direction (step (Fails fault)).next line)))
-          (sym same_reading)
-          (subst (λ (s : Step O K). Follows h (count + 1) items anew
-          (fed_twice s (seen_next direction s.next line)))
-          (sym is_one)
+          (sym same_reading) (subst (λ (s : Step O K). Follows h (count + 1) items anew
+          (fed_twice s (seen_next direction s.next line))) (sym is_one)
           (subst (λ m. Follows h (count + 1) items anew (fed_twice (record {
             answer = Notice at true;
             handed_out = [];
@@ -241,16 +217,15 @@ module _ {E U O K : Type 0} {beginning : List (Item E) → List ReadLine → Pla
           (body-once h 1 (Warned at ∷ items) (count + 1) count [] line LookingOn (direction.emptied kept)
           made_then
           ended refl (h.wants (Warned at ∷ items)) (h.begins (Warned at ∷ items) line) refl (inl kept_then)
-          kept_then
-          (omega arith) (quiet-elsewhere direction looking line made_then refl))))))
-          (λ off. false-true (sym (ap (λ (s : Step _ _). is_again s.answer) (failed-ends direction seen line fault off))
-          ∙ on))
+          kept_then (omega arith) (quiet-elsewhere direction looking line made_then refl))))))
+          (λ off. false-true (sym (ap (λ (s : Step _ _). is_again s.answer)
+          (failed-ends direction seen line fault off)) ∙ on))
       again m a on = false-true on
 
   -- a line that is a unit of its own, or has a fault that is never skipped
   simple-line : (units : ℕ) (items : List (Item E))
-      (count : ℕ) (line : ReadLine) (phase : Phase O) (fault : Option Fault) (unit : FileUnit E) (same : FileUnit U)
-      → place h items (line ∷ []) ≡ one_line (unless_wrong unit fault)
+      (count : ℕ) (line : ReadLine) (phase : Phase O) (fault : Option Fault) (unit : FileUnit E)
+      (same : FileUnit U) → place h items (line ∷ []) ≡ one_line (unless_wrong unit fault)
       → ((f : Fault) → is_skipped choices.skip items f ≡ false)
       → ((f : Fault) → is_skipped_in (seen_at h count phase items (kept_of items)) f ≡ false)
       → phase_after_items {O = O} (Accepted unit ∷ items) None ≡ phase_after phase same
@@ -269,8 +244,7 @@ module _ {E U O K : Type 0} {beginning : List (Item E) → List ReadLine → Pla
       (followed-unit h count (count + 1 + 1) items phase
       (kept_of items) unit same (h.none_open (Accepted unit ∷ items)) phases types keeps lines)
   simple-line units items count line phase (Some fault) unit same here never never_in phases types keeps
-      lines =
-      subst (λ r. Follows h (count + 1) items r (fed_once
+      lines = subst (λ r. Follows h (count + 1) items r (fed_once
       (failed_step direction (seen_at h count phase items (kept_of items)) line fault)))
       (sym (last-ends h.forward choices.skip units items
       (count + 1) count [] line 0 fault (h.forward.wants items) here (never fault) (omega arith)))
@@ -278,8 +252,7 @@ module _ {E U O K : Type 0} {beginning : List (Item E) → List ReadLine → Pla
 
   -- a line outside an epoch is fed once
   line-once : (count : ℕ) (items : List (Item E)) (line : ReadLine) (phase : Phase O) (r : Reading E)
-      → is_in_epoch phase ≡ false
-      → Follows h (count + 1) items r
+      → is_in_epoch phase ≡ false → Follows h (count + 1) items r
       (fed_once (seen_next direction (seen_at h count phase items (kept_of items)) line))
       → Follows h (count + 1) items r (fed direction (seen_at h count phase items (kept_of items)) line)
   line-once count items line phase r outside follows =
@@ -295,10 +268,8 @@ module _ {E U O K : Type 0} {beginning : List (Item E) → List ReadLine → Pla
       → header_has_ended items ≡ false
       → Follows h (count + 1) items (reads h (suc units) items (count + 1) (line ∷ []))
       (fed direction (seen_at h count (InHeader (is_at_start items)) items (kept_of items)) line)
-  header-line units items count line e =
-      line-once count items line (InHeader (is_at_start items))
-      (reads h (suc units) items (count + 1) (line ∷ []))
-      refl (by_line line)
+  header-line units items count line e = line-once count items line (InHeader (is_at_start items))
+      (reads h (suc units) items (count + 1) (line ∷ [])) refl (by_line line)
     where
       simple : (content : List ℕ) (l : ReadLine) (fault : Option Fault)
           → place h items (l ∷ []) ≡ one_line (unless_wrong (HeaderLine content) fault)
@@ -306,12 +277,10 @@ module _ {E U O K : Type 0} {beginning : List (Item E) → List ReadLine → Pla
           (fed_once (step_of_made direction
           (seen_at h count (InHeader (is_at_start items)) items (kept_of items)) l
           (made_of_unit (unless_wrong (HeaderLine content) fault))))
-      simple content l fault here =
-          simple-line units items count l
+      simple content l fault here = simple-line units items count l
           (InHeader (is_at_start items)) fault (HeaderLine content) (HeaderLine content) here
           (λ f. rw e (never-before choices.skip ((records_left items == 0) && is_skippable f)))
-          (λ f. never-before choices.skip (is_skippable f))
-          (header-phase items (is_at_start items) content e)
+          (λ f. never-before choices.skip (is_skippable f)) (header-phase items (is_at_start items) content e)
           (types_of-push (declaring_lines items) content)
           (h.header_kept items count (types_in_force items) content)
           (h.header_lines items count (types_in_force items) content)
@@ -343,8 +312,7 @@ module _ {E U O K : Type 0} {beginning : List (Item E) → List ReadLine → Pla
       simple content l fault here =
           simple-line units items count l phase fault (EventRecord content) (EventRecord content) here
           (λ f. rw (ended, some) (never-in-event choices.skip left (is_skippable f)))
-          (λ f. never-before choices.skip (is_skippable f))
-          (record-phase items left content ended some)
+          (λ f. never-before choices.skip (is_skippable f)) (record-phase items left content ended some)
           (record-types (records_count_types items) (declaring_lines items) content)
           (h.record_kept items count (suc left) (types_in_force items) content)
           (h.record_lines items count phase (types_in_force items) (kept_of items) content)
@@ -379,29 +347,31 @@ module _ {E U O K : Type 0} {beginning : List (Item E) → List ReadLine → Pla
       (fed direction (seen_at h count (phase_after_items items (open_with items rest)) items
       (kept_in direction (phase_after_items items (open_with items rest)) (kept_of items))) line)
   lines-line items number count rest line wanted counted false in_header left left_is so_far open_is =
-      let none : rest ≡ [] =
-      only_none (header_line {E = E} (is_at_start items)) rest
+      let none : rest ≡ [] = only_none (header_line {E = E} (is_at_start items)) rest
       (sym (header-place beginning items rest in_header) ∙ wanted) in
       let first : number ≡ count + 1 = omega (arith, counted, ap length none) in
-      let phase : phase_after_items items (open_with items rest) ≡ InHeader (is_at_start items) = rw in_header refl in
+      let phase : phase_after_items items (open_with items rest) ≡ InHeader (is_at_start items) =
+      rw in_header refl in
       rw (phase, none, first) (header-line 1 items count line in_header)
   lines-line items number count rest line wanted counted true ended (suc left) left_is so_far open_is =
       let none : rest ≡ [] = only_none (event_record (records_count_types items)) rest
       (sym (record-place beginning items left rest ended left_is) ∙ wanted) in
       let first : number ≡ count + 1 = omega (arith, counted, ap length none) in
-      let phase : phase_after_items items (open_with items rest) ≡ InEvent (suc left) (records_count_types items) =
-      rw (ended, left_is) refl in
+      let phase : phase_after_items items (open_with items rest)
+      ≡ InEvent (suc left) (records_count_types items) = rw (ended, left_is) refl in
       rw (phase, none, first) (record-line 1 items count left line ended left_is)
   lines-line items number count rest line wanted counted true ended zero left_is None open_is =
       let none : rest ≡ [] =
       h.wanted_open items rest (sym (body-place beginning items rest ended left_is) ∙ wanted) open_is in
       let first : number ≡ count + 1 = omega (arith, counted, ap length none) in
       let phase : phase_after_items items (open_with items rest) ≡ BetweenUnits = body-phase items
-      (open_with items rest) ended left_is ∙ ap (λ o. phase_in_body 0 (records_count_types items) o) open_is in
+      (open_with items rest) ended left_is ∙ ap (λ o. phase_in_body 0 (records_count_types items) o)
+      open_is in
       rw (phase, none) (fresh-line items number count line BetweenUnits ended left_is refl refl first refl)
   lines-line items number count rest line wanted counted true ended zero left_is (Some so_far) open_is =
       let phase : phase_after_items items (open_with items rest) ≡ InEpoch so_far = body-phase items
-      (open_with items rest) ended left_is ∙ ap (λ o. phase_in_body 0 (records_count_types items) o) open_is in
+      (open_with items rest) ended left_is ∙ ap (λ o. phase_in_body 0 (records_count_types items) o)
+      open_is in
       rw (phase, more-units (place h) h.forward choices.skip items number rest line)
       (body-line (suc (length rest)) items number count rest line (InEpoch so_far)
       (direction.kept_open (kept_of items)) (direction.continues so_far line) ended left_is
@@ -420,10 +390,10 @@ module _ {E U O K : Type 0} {beginning : List (Item E) → List ReadLine → Pla
 
   -- one line more, wherever a reading has stopped
   pub next-line : (items : List (Item E)) (stop : Stop) (count : ℕ) (line : ReadLine)
-      → IsStopped (place h) items stop (count + 1)
-      → Follows h (count + 1) items
+      → IsStopped (place h) items stop (count + 1) → Follows h (count + 1) items
       (continued_reading (place h) choices.skip (record { items = items; stop = stop }) (line ∷ []))
-      (fed direction (seen_of direction open_with kept_of choices count (record { items = items; stop = stop })) line)
+      (fed direction (seen_of direction open_with kept_of choices count
+      (record { items = items; stop = stop })) line)
   next-line items (AtFault at) count line stopped =
       record {
         next = refl;
@@ -431,9 +401,9 @@ module _ {E U O K : Type 0} {beginning : List (Item E) → List ReadLine → Pla
         warned = refl;
         failed = refl;
       }
-  next-line items (AtLines number rest) count line stopped =
-      lines-line items number count rest
-      line stopped.0 stopped.1 (header_has_ended items) refl (records_left items) refl (open_with items rest) refl
+  next-line items (AtLines number rest) count line stopped = lines-line items number count rest
+      line stopped.0 stopped.1 (header_has_ended items) refl (records_left items) refl
+      (open_with items rest) refl
   next-line items (Looking number) count line stopped = by_bool (can_go_on line)
       (λ on. subst (λ r. Follows h (count + 1) items r (fed direction seen line))
       (sym (looked-here (reading_from (place h) choices.skip items) items number line [] on))

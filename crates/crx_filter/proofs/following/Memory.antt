@@ -1,40 +1,27 @@
 -- Where memory may run out at a line by what is seen before it, it may by what stands there.
-use Rattle.std.proofs.Common.{ℕ, zero, suc, ◌≡◌, ◌+◌, Bool, true, false, not, cond, List, [], ◌∷◌, ◌++◌, length}
-use Rattle.std.proofs.Common.{Option, Some, None, refl, ap, sym, subst, ◌∙◌, arith}
-use Rattle.std.specs.Prelude.{◌&&◌, nat_lt, is_none}
-use Rattle.std.specs.Option.{is_some}
-use Rattle.crx_faults.specs.meaning.Seen.{ReadLine, Content, Overlong}
-use Rattle.crx_faults.specs.declared.fault.Fault.{Fault}
-use Rattle.crx_faults.specs.declared.fault.At.{At}
-use Rattle.crx_header.specs.meaning.EpochColumns.{begins_epoch, is_event_line}
-use Rattle.crx_header.specs.meaning.ObservationTypes.{Count, count_in, count_of_types_line, is_types_line}
-use Rattle.crx_rinex.specs.meaning.Places.{Place, Wrong, Wanted, first_line, one_line}
-use Rattle.crx_rinex.specs.meaning.Units.{Unit as FileUnit, HeaderLine, EventRecord}
-use Rattle.crx_options.specs.meaning.Choices.{Choices}
-use Rattle.crx_reading.specs.meaning.Items.{Item, Warned, is_at_start, header_has_ended, records_left}
-use Rattle.crx_reading.specs.meaning.Items.{records_count_types, types_in_force}
-use Rattle.crx_reading.specs.meaning.Memory.{line_takes, memory_allowed, place_takes, takes_after_warning}
-use Rattle.crx_reading.specs.meaning.Reading.{Stop, AtFault, AtLines, Looking, is_skipped, can_go_on}
-use Rattle.crx_reading.specs.meaning.UnitPlaces.{event_record, header_line, header_line_fault, types_fault}
-use Rattle.crx_reading.specs.meaning.UnitPlaces.{unless_wrong}
-use Rattle.crx_filter.specs.Laws.{is_again}
-use Rattle.crx_reading.specs.LineByLine.{Answer, BetweenUnits, Direction, Ended, Failed, Fails, InEpoch}
-use Rattle.crx_reading.specs.LineByLine.{InEvent}
-use Rattle.crx_reading.specs.LineByLine.{InHeader, Made, Notice, Phase, Quiet, Ready, Seen, Step}
-use Rattle.crx_reading.specs.LineByLine.{after_warning, is_in_epoch, is_skipped_in, kept_in, phase_after_items}
-use Rattle.crx_reading.specs.LineByLine.{phase_in_body}
-use Rattle.crx_reading.specs.LineByLine.{seen_next, seen_of, step_of_made, with_phase}
-use Rattle.crx_reading.specs.Memory.{may_take_memory, takes_memory}
-use Rattle.std.proofs.Common.{rules}
-use Rattle.std.proofs.lemmas.Option.{none-some}
-use Rattle.crx_filter.proofs.following.Following.{AgreeOn, IsCarriedOut, body-phase, body-place, failed-ends, place}
-use Rattle.crx_filter.proofs.following.Following.{failed-skipped}
-use Rattle.crx_filter.proofs.following.Following.{seen_in, skipped-same, wrong-last}
-use Rattle.crx_reading.proofs.Choosing.{by_bool}
-use Rattle.std.proofs.lemmas.Bool.{and_parts, not-true}
+use Rattle.crx_filter.proofs.Words.{ℕ, zero, suc, ◌≡◌, ◌+◌, Bool, true, false, not, cond, List, [], ◌∷◌, ◌++◌}
+use Rattle.crx_filter.proofs.Words.{length, Option, Some, None, refl, ap, sym, subst, ◌∙◌, arith, ◌&&◌}
+use Rattle.crx_filter.proofs.Words.{nat_lt, is_some, ReadLine, Content, Overlong, Fault, At, begins_epoch}
+use Rattle.crx_filter.proofs.Words.{is_event_line, Count, count_in, is_types_line, Place, Wrong, Wanted}
+use Rattle.crx_filter.proofs.Words.{first_line, one_line, FileUnit, HeaderLine, EventRecord, Choices, Item}
+use Rattle.crx_filter.proofs.Words.{Warned, is_at_start, header_has_ended, records_left, records_count_types}
+use Rattle.crx_filter.proofs.Words.{types_in_force, memory_allowed, place_takes, Stop, AtFault, AtLines}
+use Rattle.crx_filter.proofs.Words.{Looking, is_skipped, can_go_on, event_record, header_line}
+use Rattle.crx_filter.proofs.Words.{header_line_fault, types_fault, unless_wrong, is_again, Answer}
+use Rattle.crx_filter.proofs.Words.{BetweenUnits, Direction, Ended, Failed, Fails, InEpoch, InEvent, InHeader}
+use Rattle.crx_filter.proofs.Words.{Made, Notice, Phase, Seen, Step, after_warning, is_in_epoch}
+use Rattle.crx_filter.proofs.Words.{is_skipped_in, kept_in, phase_after_items, phase_in_body, seen_next}
+use Rattle.crx_filter.proofs.Words.{seen_of, step_of_made, with_phase, may_take_memory, takes_memory, rules}
+use Rattle.crx_filter.proofs.Words.{none-some, and_parts, not-true}
+use Rattle.std.specs.Prelude.{is_none}
+use Rattle.crx_header.specs.meaning.ObservationTypes.{count_of_types_line}
+use Rattle.crx_reading.specs.meaning.Memory.{line_takes, takes_after_warning}
+use Rattle.crx_reading.specs.LineByLine.{Quiet, Ready}
+use Rattle.crx_filter.proofs.following.Following.{AgreeOn, IsCarriedOut, body-phase, body-place, failed-ends}
+use Rattle.crx_filter.proofs.following.Following.{place, failed-skipped, seen_in, skipped-same, wrong-last}
+use Rattle.crx_reading.proofs.Choosing.{by_bool, false-true}
 use Rattle.crx_filter.proofs.steps.EngineAnswers.{ComesAgain, comes-again}
 use Rattle.crx_filter.proofs.following.Lines.{IsStopped, only_none, header-place, record-place}
-use Rattle.crx_reading.proofs.Choosing.{false-true}
 
 -- ---- types lines
 
@@ -53,8 +40,8 @@ counts-well line = by_types (is_types_line line) refl (count_in line) refl
     by_types false is o e h = false-true h
 
 -- a header line, by its fault
-header-takes : {E : Type 0} (takes : ℕ → Bool → Bool) (items : List (Item E)) (is_first : Bool) (line : List ℕ)
-    → (is_some (count_of_types_line line) && is_none (header_line_fault is_first line)) ≡ true
+header-takes : {E : Type 0} (takes : ℕ → Bool → Bool) (items : List (Item E)) (is_first : Bool)
+    (line : List ℕ) → (is_some (count_of_types_line line) && is_none (header_line_fault is_first line)) ≡ true
     → place_takes takes items 0 (first_line (Content line ∷ []) (header_line is_first)) ≡ true
 header-takes {E = E} takes items is_first line = by_fault (header_line_fault is_first line) refl
   where
@@ -67,12 +54,13 @@ header-takes {E = E} takes items is_first line = by_fault (header_line_fault is_
 -- a record of an event
 record-takes : {E : Type 0} (takes : ℕ → Bool → Bool) (items : List (Item E)) (line : List ℕ)
     → (records_count_types items && is_some (count_of_types_line line)) ≡ true
-    → place_takes takes items 0 (first_line (Content line ∷ []) (event_record (records_count_types items))) ≡ true
+    → place_takes takes items 0 (first_line (Content line ∷ [])
+    (event_record (records_count_types items))) ≡ true
 record-takes {E = E} takes items line h =
     let each = and_parts (records_count_types items) (is_some (count_of_types_line line)) h in
     let well = counts-well line each.1 in
-    ap (λ (o : Option Fault). place_takes {E = E} takes items 0 (one_line (unless_wrong (EventRecord line) o)))
-    (ap (λ b. cond b (types_fault line) None) each.0 ∙ well.1)
+    ap (λ (o : Option Fault). place_takes {E = E} takes items 0
+    (one_line (unless_wrong (EventRecord line) o))) (ap (λ b. cond b (types_fault line) None) each.0 ∙ well.1)
     ∙ ap (λ b. b && is_types_line line) each.0 ∙ well.0
 
 -- ---- a direction that takes memory as its lines stand
@@ -80,8 +68,8 @@ record-takes {E = E} takes items line h =
 -- where a line may take memory by what is kept, it does by what stands at the lines: where an epoch or an event may begin, and in
 -- an epoch
 pub record TakesAsItStands {E U O K : Type 0} (beginning : List (Item E) → List ReadLine → Place (FileUnit E))
-    (direction : Direction U O K) (open_with : List (Item E) → List ReadLine → Option O) (kept_of : List (Item E) → K)
-    (takes : ℕ → Bool → Bool) : Type 0 where
+    (direction : Direction U O K) (open_with : List (Item E) → List ReadLine → Option O)
+    (kept_of : List (Item E) → K) (takes : ℕ → Bool → Bool) : Type 0 where
   pub first : (items : List (Item E)) (line : List ℕ) → is_event_line line ≡ false
       → direction.memory_first (types_in_force items) (kept_of items) line ≡ true
       → place_takes takes items 0 (beginning items (Content line ∷ [])) ≡ true
@@ -102,9 +90,9 @@ module _ {E U O K : Type 0} {beginning : List (Item E) → List ReadLine → Pla
       direction.memory_next phase line
 
   -- where an epoch or an event may begin
-  begins-takes : (items : List (Item E)) (line : List ℕ) → header_has_ended items ≡ true → records_left items ≡ 0
-      → (not (is_event_line line) && direction.memory_first (types_in_force items) (kept_of items) line) ≡ true
-      → line_takes (place h) takes items [] (Content line) ≡ true
+  begins-takes : (items : List (Item E)) (line : List ℕ) → header_has_ended items ≡ true
+      → records_left items ≡ 0 → (not (is_event_line line) && direction.memory_first (types_in_force items)
+      (kept_of items) line) ≡ true → line_takes (place h) takes items [] (Content line) ≡ true
   begins-takes items line ended none e =
       ap (place_takes takes items 0) (body-place beginning items (Content line ∷ []) ended none)
       ∙ t.first items line (not-true (is_event_line line) (and_parts (not (is_event_line line)) _ e).0)
@@ -119,7 +107,8 @@ module _ {E U O K : Type 0} {beginning : List (Item E) → List ReadLine → Pla
   lines-take items rest line wanted false in_header left left_is so_far open_is e =
       let none : rest ≡ [] = only_none (header_line {E = E} (is_at_start items)) rest
       (sym (header-place beginning items rest in_header) ∙ wanted) in
-      let phase : phase_after_items items (open_with items rest) ≡ InHeader (is_at_start items) = rw in_header refl in
+      let phase : phase_after_items items (open_with items rest) ≡ InHeader (is_at_start items) =
+      rw in_header refl in
       subst (λ ls. line_takes (place h) takes items ls line ≡ true) (sym none)
       (by_line line (subst (λ p. taken_in items line p ≡ true) phase e))
     where
@@ -132,38 +121,40 @@ module _ {E U O K : Type 0} {beginning : List (Item E) → List ReadLine → Pla
   lines-take items rest line wanted true ended (suc left) left_is so_far open_is e =
       let none : rest ≡ [] = only_none (event_record (records_count_types items)) rest
       (sym (record-place beginning items left rest ended left_is) ∙ wanted) in
-      let phase : phase_after_items items (open_with items rest) ≡ InEvent (suc left) (records_count_types items) =
-      rw (ended, left_is) refl in
+      let phase : phase_after_items items (open_with items rest)
+      ≡ InEvent (suc left) (records_count_types items) = rw (ended, left_is) refl in
       subst (λ ls. line_takes (place h) takes items ls line ≡ true) (sym none)
       (by_line line (subst (λ p. taken_in items line p ≡ true) phase e))
     where
       by_line : (l : ReadLine) → taken_in items l (InEvent (suc left) (records_count_types items)) ≡ true
           → line_takes (place h) takes items [] l ≡ true
       by_line Overlong e = false-true e
-      by_line (Content content) e =
-          ap (place_takes takes items 0) (record-place beginning items left (Content content ∷ []) ended left_is)
-          ∙ record-takes takes items content e
+      by_line (Content content) e = ap (place_takes takes items 0) (record-place beginning items left
+          (Content content ∷ []) ended left_is) ∙ record-takes takes items content e
   lines-take items rest line wanted true ended zero left_is None open_is e =
-      let wanted_here : beginning items rest ≡ Wanted = sym (body-place beginning items rest ended left_is) ∙ wanted in
+      let wanted_here : beginning items rest ≡ Wanted = sym (body-place beginning items rest ended left_is)
+      ∙ wanted in
       let none : rest ≡ [] = h.wanted_open items rest wanted_here open_is in
       let phase : phase_after_items items (open_with items rest) ≡ BetweenUnits = body-phase items
-      (open_with items rest) ended left_is ∙ ap (λ o. phase_in_body 0 (records_count_types items) o) open_is in
+      (open_with items rest) ended left_is ∙ ap (λ o. phase_in_body 0 (records_count_types items) o)
+      open_is in
       subst (λ ls. line_takes (place h) takes items ls line ≡ true) (sym none)
       (by_line line (subst (λ p. taken_in items line p ≡ true) phase e))
     where
-      by_line : (l : ReadLine) → taken_in items l BetweenUnits ≡ true → line_takes (place h) takes items [] l ≡ true
+      by_line : (l : ReadLine) → taken_in items l BetweenUnits ≡ true
+          → line_takes (place h) takes items [] l ≡ true
       by_line Overlong e = false-true e
       by_line (Content content) e = begins-takes items content ended left_is e
   lines-take items rest line wanted true ended zero left_is (Some so_far) open_is e =
       let phase : phase_after_items items (open_with items rest) ≡ InEpoch so_far = body-phase items
-      (open_with items rest) ended left_is ∙ ap (λ o. phase_in_body 0 (records_count_types items) o) open_is in
+      (open_with items rest) ended left_is ∙ ap (λ o. phase_in_body 0 (records_count_types items) o)
+      open_is in
       by_line line (subst (λ p. taken_in items line p ≡ true) phase e)
     where
       by_line : (l : ReadLine) → taken_in items l (InEpoch so_far) ≡ true
           → line_takes (place h) takes items rest l ≡ true
       by_line Overlong e = false-true e
-      by_line (Content content) e =
-          ap (place_takes takes items (length rest))
+      by_line (Content content) e = ap (place_takes takes items (length rest))
           (body-place beginning items (rest ++ Content content ∷ []) ended left_is)
           ∙ t.next items rest content so_far open_is (and_parts (not (begins_epoch content)) _ e).1
 
@@ -171,8 +162,7 @@ module _ {E U O K : Type 0} {beginning : List (Item E) → List ReadLine → Pla
   pub allowed-first : (items : List (Item E)) (stop : Stop) (count : ℕ) (line : ReadLine)
       → IsStopped (place h) items stop (count + 1)
       → takes_memory direction (seen_of direction open_with kept_of choices count
-      (record { items = items; stop = stop })) line
-      ≡ true
+      (record { items = items; stop = stop })) line ≡ true
       → memory_allowed (place h) takes choices.skip (record { items = items; stop = stop }) line ≡ Some []
   allowed-first items (AtFault at) count Overlong stopped e = false-true e
   allowed-first items (AtFault at) count (Content line) stopped e = false-true e
@@ -190,17 +180,17 @@ module _ {E U O K : Type 0} {beginning : List (Item E) → List ReadLine → Pla
 
   -- a line that cuts an epoch off, and is read anew after the warning
   cut-takes : (items : List (Item E)) (number count : ℕ) (rest : List ReadLine) (line : ReadLine) (so_far : O)
-      (next : Seen O K)
-      (notice : At) → place h items rest ≡ Wanted → number + length rest ≡ count + 1
+      (next : Seen O K) (notice : At) → place h items rest ≡ Wanted → number + length rest ≡ count + 1
       → header_has_ended items ≡ true → records_left items ≡ 0 → open_with items rest ≡ Some so_far
-      → (m : Made U O) → AgreeOn beginning direction open_with kept_of unit_lines choices items (rest ++ line ∷ []) m
+      → (m : Made U O) → AgreeOn beginning direction open_with kept_of unit_lines choices items
+      (rest ++ line ∷ []) m
       → record { answer = Notice notice true; handed_out = []; next = next } ≡ step_of_made direction
-      (seen_in choices count (InEpoch so_far) (types_in_force items) (direction.kept_open (kept_of items))) line m
-      → takes_memory direction next line ≡ true
-      → memory_allowed (place h) takes choices.skip (record { items = items; stop = AtLines number rest }) line
-      ≡ Some (notice ∷ [])
-  cut-takes items number count rest line so_far next notice wanted counted ended none open_is (Fails fault) a e taken =
-      by_bool (is_skipped_in before fault)
+      (seen_in choices count (InEpoch so_far) (types_in_force items)
+      (direction.kept_open (kept_of items))) line m → takes_memory direction next line ≡ true
+      → memory_allowed (place h) takes choices.skip (record
+      { items = items; stop = AtLines number rest }) line ≡ Some (notice ∷ [])
+  cut-takes items number count rest line so_far next notice wanted counted ended none open_is
+      (Fails fault) a e taken = by_bool (is_skipped_in before fault)
       (λ on.
       let is : record { answer = Notice notice true; handed_out = []; next = next } ≡ record {
         answer = Notice at (can_go_on line);
@@ -239,7 +229,8 @@ module _ {E U O K : Type 0} {beginning : List (Item E) → List ReadLine → Pla
       at = record { line = count + 1; fault = fault }
 
       before : Seen O K
-      before = seen_in choices count (InEpoch so_far) (types_in_force items) (direction.kept_open (kept_of items))
+      before = seen_in choices count (InEpoch so_far) (types_in_force items)
+          (direction.kept_open (kept_of items))
 
       noticed_or : At → Answer → At
       noticed_or other Quiet = other
@@ -257,25 +248,23 @@ module _ {E U O K : Type 0} {beginning : List (Item E) → List ReadLine → Pla
       kept_then : direction.emptied (direction.kept_open (kept_of items)) ≡ kept_of (Warned at ∷ items)
       kept_then = h.emptied_open (kept_of items) ∙ h.warned items at
 
-      anew : (l : ReadLine) → takes_memory direction (after_warning direction before (can_go_on line)) l ≡ true
-          → line_takes (place h) takes (Warned at ∷ items) [] l ≡ true
+      anew : (l : ReadLine) → takes_memory direction (after_warning direction before (can_go_on line))
+          l ≡ true → line_takes (place h) takes (Warned at ∷ items) [] l ≡ true
       anew Overlong t = false-true t
-      anew (Content content) t =
-          begins-takes (Warned at ∷ items) content ended refl
+      anew (Content content) t = begins-takes (Warned at ∷ items) content ended refl
           (subst (λ (k : K). (not (is_event_line content) && direction.memory_first (types_in_force items) k
-          content) ≡ true)
-          kept_then (and_parts (begins_epoch content) _ t).1)
+          content) ≡ true) kept_then (and_parts (begins_epoch content) _ t).1)
   cut-takes items number count rest line so_far next notice wanted counted ended none open_is m a e taken =
       let no : true ≡ false = ap (λ (s : Step O K). is_again s.answer) e in absurd (cc)
 
   -- memory may run out at a line after its warning
   pub allowed-again : (items : List (Item E)) (stop : Stop) (count : ℕ) (line : ReadLine) (next : Seen O K)
-      (notice : At)
-      → IsStopped (place h) items stop (count + 1)
+      (notice : At) → IsStopped (place h) items stop (count + 1)
       → record { answer = Notice notice true; handed_out = []; next = next } ≡ seen_next direction
       (seen_of direction open_with kept_of choices count (record { items = items; stop = stop })) line
       → takes_memory direction next line ≡ true
-      → memory_allowed (place h) takes choices.skip (record { items = items; stop = stop }) line ≡ Some (notice ∷ [])
+      → memory_allowed (place h) takes choices.skip (record { items = items; stop = stop }) line
+      ≡ Some (notice ∷ [])
   allowed-again items stop count line next notice stopped e taken =
       by_stop stop stopped (comes-again direction _ next line notice [] e) e
     where
@@ -284,35 +273,38 @@ module _ {E U O K : Type 0} {beginning : List (Item E) → List ReadLine → Pla
           (record { items = items; stop = s })) next line
           → record { answer = Notice notice true; handed_out = []; next = next } ≡ seen_next direction
           (seen_of direction open_with kept_of choices count (record { items = items; stop = s })) line
-          → memory_allowed (place h) takes choices.skip (record { items = items; stop = s }) line ≡ Some (notice ∷ [])
+          → memory_allowed (place h) takes choices.skip (record { items = items; stop = s }) line
+          ≡ Some (notice ∷ [])
       by_stop (AtFault at) stopped again e = false-true again.epoch
       by_stop (Looking number) stopped again e = false-true again.epoch
       by_stop (AtLines number rest) stopped again e =
           by_items (header_has_ended items) refl (records_left items) refl (open_with items rest) refl
         where
           in_phase : Phase O → Seen O K
-          in_phase phase = seen_in choices count phase (types_in_force items) (kept_in direction phase (kept_of items))
+          in_phase phase = seen_in choices count phase (types_in_force items)
+              (kept_in direction phase (kept_of items))
 
           by_items : (ended : Bool) → header_has_ended items ≡ ended → (left : ℕ) → records_left items ≡ left
               → (so_far : Option O) → open_with items rest ≡ so_far
-              → memory_allowed (place h) takes choices.skip (record { items = items; stop = AtLines number rest }) line
-              ≡ Some (notice ∷ [])
+              → memory_allowed (place h) takes choices.skip
+              (record { items = items; stop = AtLines number rest }) line ≡ Some (notice ∷ [])
           by_items false in_header left left_is so_far open_is =
               let phase : phase_after_items items (open_with items rest) ≡ InHeader (is_at_start items) =
               rw in_header refl in
               false-true (sym (ap is_in_epoch phase) ∙ again.epoch)
           by_items true ended (suc left) left_is so_far open_is =
               let phase : phase_after_items items (open_with items rest)
-              ≡ InEvent (suc left) (records_count_types items) =
-              rw (ended, left_is) refl in
+              ≡ InEvent (suc left) (records_count_types items) = rw (ended, left_is) refl in
               false-true (sym (ap is_in_epoch phase) ∙ again.epoch)
           by_items true ended zero left_is None open_is =
               let phase : phase_after_items items (open_with items rest) ≡ BetweenUnits = body-phase items
-              (open_with items rest) ended left_is ∙ ap (λ o. phase_in_body 0 (records_count_types items) o) open_is in
+              (open_with items rest) ended left_is ∙ ap (λ o. phase_in_body 0 (records_count_types items) o)
+              open_is in
               false-true (sym (ap is_in_epoch phase) ∙ again.epoch)
           by_items true ended zero left_is (Some so_far) open_is =
               let phase : phase_after_items items (open_with items rest) ≡ InEpoch so_far = body-phase items
-              (open_with items rest) ended left_is ∙ ap (λ o. phase_in_body 0 (records_count_types items) o) open_is in
-              cut-takes items number count rest line so_far next notice stopped.0 stopped.1 ended left_is open_is
-              (direction.continues so_far line) (h.continues items rest line so_far open_is)
+              (open_with items rest) ended left_is ∙ ap (λ o. phase_in_body 0 (records_count_types items) o)
+              open_is in
+              cut-takes items number count rest line so_far next notice stopped.0 stopped.1 ended
+              left_is open_is (direction.continues so_far line) (h.continues items rest line so_far open_is)
               (e ∙ ap (λ p. seen_next direction (in_phase p) line) phase) taken

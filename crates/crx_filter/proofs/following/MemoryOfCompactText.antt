@@ -1,49 +1,31 @@
 -- The memory that an expansion takes, as its lines stand.
-use Rattle.std.proofs.Common.{ℕ, ◌≡◌, Bool, true, false, List, [], ◌∷◌, ◌++◌, length, Option, Some, None, Result}
-use Rattle.std.proofs.Common.{Ok, Err, refl, ap, sym, ◌∙◌}
-use Rattle.std.proofs.lemmas.Option.{none-some}
-use Rattle.crx_faults.specs.meaning.Seen.{ReadLine, Content, Overlong}
-use Rattle.crx_faults.specs.declared.fault.Fault.{Fault}
-use Rattle.crx_header.specs.meaning.ObservationTypes.{Count}
-use Rattle.crx_compact.specs.meaning.CompactPlaces.{ReadEpoch, satellites_of_line}
-use Rattle.crx_compact.specs.meaning.EpochText.{Satellite}
-use Rattle.crx_compact.specs.OpenEpochs.{OpenRawEpoch, RawStep, Going, Whole, Faulty, first_step, is_faulty}
-use Rattle.crx_compact.specs.OpenEpochs.{before_clock, has_come, makes_epoch, next_step, tail_opened}
-use Rattle.crx_compact.specs.OpenEpochs.{open_raw_after, open_raw_with, opened_raw, opening, tail_for_line}
+use Rattle.crx_filter.proofs.Words.{ℕ, ◌≡◌, Bool, true, false, List, [], ◌∷◌, ◌++◌, length, Option, Some}
+use Rattle.crx_filter.proofs.Words.{None, Result, Ok, Err, refl, ap, sym, ◌∙◌, none-some, ReadLine, Content}
+use Rattle.crx_filter.proofs.Words.{Overlong, Fault, Count, ReadEpoch, satellites_of_line, Satellite}
+use Rattle.crx_filter.proofs.Words.{OpenRawEpoch, RawStep, first_step, next_step, open_raw_after}
+use Rattle.crx_filter.proofs.Words.{open_raw_with, Tail, and_then, Choices, Item, types_in_force, place_takes}
+use Rattle.crx_filter.proofs.Words.{begins_event, compact_open, expansion, made_of_raw_step, tail_of_items}
+use Rattle.crx_filter.proofs.Words.{subst, ◌+◌, ◌-◌, ◌≤◌, drop, arith, length-drop, At, Remains, Place, Here}
+use Rattle.crx_filter.proofs.Words.{Wrong, Wanted, expansion_seen, Notice, Seen, seen_next, takes_memory}
+use Rattle.crx_filter.proofs.Words.{compact_memory, compact_place, first_lines, memory_allowed, Reading}
+use Rattle.crx_filter.proofs.Words.{reading_from, and_parts, not-true}
+use Rattle.crx_compact.specs.OpenEpochs.{Going, Whole, Faulty, is_faulty, before_clock, has_come, makes_epoch}
+use Rattle.crx_compact.specs.OpenEpochs.{tail_opened, opened_raw, opening, tail_for_line}
 use Rattle.crx_compact.specs.HeldRows.{past_of_tail}
-use Rattle.crx_compact.specs.Tails.{Tail}
-use Rattle.crx_compact.specs.meaning.Sequences.{and_then}
-use Rattle.crx_options.specs.meaning.Choices.{Choices}
-use Rattle.crx_reading.specs.meaning.Items.{Item, types_in_force}
-use Rattle.crx_reading.specs.meaning.Memory.{expansion_takes, place_takes}
-use Rattle.crx_reading.specs.ExpansionByLine.{begins_event, compact_open, expansion, made_of_raw_step, tail_of_items}
+use Rattle.crx_reading.specs.meaning.Memory.{expansion_takes}
 use Rattle.crx_filter.proofs.following.Expansion.{Agrees, agree-content, agree-continues}
-use Rattle.crx_filter.proofs.reading.ForwardCompact.{compact_beginning}
+use Rattle.crx_filter.proofs.following.Expansion.{expansion-carried_out}
+use Rattle.crx_filter.proofs.reading.ForwardCompact.{compact_beginning, compact-forward, steady-first_lines}
 use Rattle.crx_reading.proofs.Choosing.{false-true}
 use Rattle.crx_filter.proofs.following.Memory.{TakesAsItStands, allowed-again, allowed-first}
-use Rattle.std.proofs.Common.{subst, ◌+◌, ◌-◌, ◌≤◌, drop, arith}
-use Rattle.std.proofs.lemmas.List.{length-drop}
-use Rattle.crx_faults.specs.declared.fault.At.{At}
-use Rattle.crx_rinex.specs.Steady.{Remains}
-use Rattle.crx_rinex.specs.meaning.Places.{Place, Here, Wrong, Wanted}
-use Rattle.crx_reading.specs.ExpansionByLine.{expansion_seen}
-use Rattle.crx_reading.specs.LineByLine.{Notice, Seen, seen_next}
-use Rattle.crx_reading.specs.Memory.{takes_memory}
-use Rattle.crx_reading.specs.meaning.Directions.{compact_memory}
-use Rattle.crx_reading.specs.meaning.Expanded.{compact_place, first_lines}
-use Rattle.crx_reading.specs.meaning.Memory.{memory_allowed}
-use Rattle.crx_reading.specs.meaning.Reading.{Reading, reading_from}
 use Rattle.crx_filter.proofs.following.ExpandedOn.{reading_by, seen_by}
-use Rattle.crx_filter.proofs.following.Expansion.{expansion-carried_out}
 use Rattle.crx_filter.proofs.following.Lines.{IsStopped}
-use Rattle.crx_filter.proofs.reading.ForwardCompact.{compact-forward, steady-first_lines}
 use Rattle.crx_filter.proofs.reading.Stopping.{reading-stopped}
-use Rattle.std.proofs.lemmas.Bool.{and_parts, not-true}
 use Rattle.crx_filter.proofs.steps.EngineAnswers.{comes-again}
 
 -- a step without a fault takes memory, where its line does
-step-takes : (choices : Choices) (items : List (Item ReadEpoch)) (lines : List ReadLine) (count : ℕ) (step : RawStep)
-    → ((is_whole : Bool) → expansion_takes count is_whole ≡ true) → is_faulty step ≡ false
+step-takes : (choices : Choices) (items : List (Item ReadEpoch)) (lines : List ReadLine) (count : ℕ)
+    (step : RawStep) → ((is_whole : Bool) → expansion_takes count is_whole ≡ true) → is_faulty step ≡ false
     → Agrees choices items lines (made_of_raw_step step)
     → place_takes expansion_takes items count (compact_beginning items lines) ≡ true
 step-takes choices items lines count (Going so_far) takes fine a =
@@ -53,8 +35,8 @@ step-takes choices items lines count (Whole held) takes fine a =
 step-takes choices items lines count (Faulty fault) takes fine a = absurd (cc)
 
 -- a step that makes an epoch takes memory, where the epoch's last line does
-last-takes : (choices : Choices) (items : List (Item ReadEpoch)) (lines : List ReadLine) (count : ℕ) (step : RawStep)
-    → expansion_takes count true ≡ true → makes_epoch step ≡ true
+last-takes : (choices : Choices) (items : List (Item ReadEpoch)) (lines : List ReadLine) (count : ℕ)
+    (step : RawStep) → expansion_takes count true ≡ true → makes_epoch step ≡ true
     → Agrees choices items lines (made_of_raw_step step)
     → place_takes expansion_takes items count (compact_beginning items lines) ≡ true
 last-takes choices items lines count (Going so_far) takes last a = absurd (cc)
@@ -78,7 +60,8 @@ opened-clock line before (Err fault) = refl
 by-tail : (types : List Count) (line : List ℕ) (tail : Option Tail)
     → clock_read (opening (opened_raw types line tail)) ≡ false
 by-tail types line None = refl
-by-tail types line (Some before) = opened-clock line before (satellites_of_line types (past_of_tail before) line)
+by-tail types line (Some before) = opened-clock line before
+    (satellites_of_line types (past_of_tail before) line)
 
 -- after its first line no epoch has a clock
 first-clock : (types : List Count) (tail : Option Tail) (line : ReadLine)
@@ -91,8 +74,7 @@ takes-next : (items : List (Item ReadEpoch)) (lines : List ReadLine) (so_far : O
     → compact_open items lines ≡ Some so_far → has_come so_far.clock ≡ true
     → expansion_takes (length lines) true ≡ true
 takes-next items [] so_far opens read = absurd (none-some so_far opens)
-takes-next items (line ∷ []) so_far opens read =
-    by_event (begins_event (line ∷ [])) refl
+takes-next items (line ∷ []) so_far opens read = by_event (begins_event (line ∷ [])) refl
   where
     clock_of : Option OpenRawEpoch → Bool
     clock_of None = false
@@ -139,7 +121,8 @@ expansion-takes choices = record {
 -- ---- where memory may run out
 
 -- the same by what stands at the first two lines
-abbrev memory_by : Choices → List ReadLine → ReadLine → Place (List (List ℕ)) → Place (List (List ℕ)) → Option (List At)
+abbrev memory_by : Choices → List ReadLine → ReadLine → Place (List (List ℕ)) → Place (List (List ℕ))
+    → Option (List At)
 memory_by choices lines line p read =
     elim p [
       | Here two count ↦
@@ -150,7 +133,8 @@ memory_by choices lines line p read =
 
 stopped-after : (choices : Choices) (lines : List ReadLine) (two : List (List ℕ)) (count : ℕ)
     → first_lines lines ≡ Here two count
-    → IsStopped compact_place (reading_from compact_place choices.skip [] (count + 1) (drop count lines)).items
+    → IsStopped compact_place (reading_from compact_place choices.skip [] (count + 1)
+    (drop count lines)).items
     (reading_from compact_place choices.skip [] (count + 1) (drop count lines)).stop (length lines + 1)
 stopped-after choices lines two count e =
     let remains : Remains (length lines) (Here two count) (first_lines (lines ++ [])) = subst
@@ -163,16 +147,16 @@ stopped-after choices lines two count e =
 pub expansion-allowed : (choices : Choices) (lines : List ReadLine) (line : ReadLine)
     → takes_memory expansion (expansion_seen choices lines) line ≡ true
     → compact_memory choices.skip lines line ≡ Some []
-expansion-allowed choices lines line e =
-    decided (first_lines lines) refl e
+expansion-allowed choices lines line e = decided (first_lines lines) refl e
   where
     decided : (p : Place (List (List ℕ))) → first_lines lines ≡ p
-        → takes_memory expansion (seen_by choices lines p) line ≡ true → memory_by choices lines line p p ≡ Some []
+        → takes_memory expansion (seen_by choices lines p) line ≡ true → memory_by choices lines line p p
+        ≡ Some []
     decided (Here two count) is t =
-        let r : Reading ReadEpoch = reading_from compact_place choices.skip [] (count + 1) (drop count lines) in
+        let r : Reading ReadEpoch = reading_from compact_place choices.skip [] (count + 1)
+        (drop count lines) in
         allowed-first (expansion-carried_out choices) (expansion-takes choices) r.items r.stop (length lines)
-        line
-        (stopped-after choices lines two count is) t
+        line (stopped-after choices lines two count is) t
     decided (Wrong offset fault) is t = never line t
       where
         never : (l : ReadLine) → takes_memory expansion (seen_by choices lines (Wrong offset fault)) l ≡ true
@@ -189,22 +173,21 @@ expansion-allowed choices lines line e =
 pub expansion-allowed-again : (choices : Choices) (lines : List ReadLine) (line : ReadLine)
     (next : Seen OpenRawEpoch (Option Tail)) (notice : At)
     → record { answer = Notice notice true; handed_out = []; next = next }
-    ≡ seen_next expansion (expansion_seen choices lines) line
-    → takes_memory expansion next line ≡ true
+    ≡ seen_next expansion (expansion_seen choices lines) line → takes_memory expansion next line ≡ true
     → compact_memory choices.skip lines line ≡ Some (notice ∷ [])
-expansion-allowed-again choices lines line next notice step e =
-    decided (first_lines lines) refl step
+expansion-allowed-again choices lines line next notice step e = decided (first_lines lines) refl step
   where
     decided : (p : Place (List (List ℕ))) → first_lines lines ≡ p
         → record { answer = Notice notice true; handed_out = []; next = next }
         ≡ seen_next expansion (seen_by choices lines p) line
         → memory_by choices lines line p p ≡ Some (notice ∷ [])
     decided (Here two count) is s =
-        let r : Reading ReadEpoch = reading_from compact_place choices.skip [] (count + 1) (drop count lines) in
+        let r : Reading ReadEpoch = reading_from compact_place choices.skip [] (count + 1)
+        (drop count lines) in
         allowed-again (expansion-carried_out choices) (expansion-takes choices) r.items r.stop (length lines)
-        line
-        next notice (stopped-after choices lines two count is) s e
+        line next notice (stopped-after choices lines two count is) s e
     decided (Wrong offset fault) is s =
-        false-true (comes-again expansion (seen_by choices lines (Wrong offset fault)) next line notice [] s).epoch
+        false-true (comes-again expansion (seen_by choices lines (Wrong offset fault)) next line notice []
+        s).epoch
     decided Wanted is s =
         false-true (comes-again expansion (seen_by choices lines Wanted) next line notice [] s).epoch

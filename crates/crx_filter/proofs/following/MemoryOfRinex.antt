@@ -1,35 +1,24 @@
 -- The memory that a compaction and a check take, as their lines stand.
-use Rattle.std.proofs.Common.{ℕ, zero, suc, ◌≡◌, Bool, true, false, List, [], ◌∷◌, ◌++◌, length, Some, Result}
-use Rattle.std.proofs.Common.{Ok, Err, refl, ap, ◌∙◌, ◌+◌, arith}
-use Rattle.crx_faults.specs.declared.fault.At.{At}
+use Rattle.crx_filter.proofs.Words.{ℕ, zero, suc, ◌≡◌, Bool, true, false, List, [], ◌∷◌, ◌++◌, length, Some}
+use Rattle.crx_filter.proofs.Words.{Result, Ok, Err, refl, ap, ◌∙◌, ◌+◌, arith, At, none-some, ReadLine}
+use Rattle.crx_filter.proofs.Words.{Content, Fault, OpenEpoch, next_row, rows_wanted, with_next_row, Epoch}
+use Rattle.crx_filter.proofs.Words.{Row, FileUnit, Observation, EpochStep, Going, Whole, Faulty, after_row}
+use Rattle.crx_filter.proofs.Words.{epoch_step, when_wanted, Choices, Item, types_in_force, compaction_takes}
+use Rattle.crx_filter.proofs.Words.{memory_allowed, place_takes, rinex_reading, Reading, takes_memory}
+use Rattle.crx_filter.proofs.Words.{checking, no_choices, totals_of, compaction, made_of_epoch_step}
+use Rattle.crx_filter.proofs.Words.{rinex_begins, Written, compaction_seen, rinex_open, written_of, Completes}
+use Rattle.crx_filter.proofs.Words.{Direction, Made, Notice, Seen, seen_next, seen_of, compact_unit}
+use Rattle.crx_filter.proofs.Words.{rinex_place}
 use Rattle.std.specs.Result.{is_ok}
-use Rattle.std.proofs.lemmas.Option.{none-some}
-use Rattle.crx_faults.specs.meaning.Seen.{ReadLine, Content}
-use Rattle.crx_faults.specs.declared.fault.Fault.{Fault}
-use Rattle.crx_rinex.specs.meaning.EpochPlaces.{OpenEpoch, next_row, rows_wanted, with_next_row}
-use Rattle.crx_rinex.specs.meaning.Observations.{Epoch, Row}
-use Rattle.crx_rinex.specs.meaning.Units.{Unit as FileUnit, Observation}
-use Rattle.crx_rinex.specs.EpochPlaces.{EpochStep, Going, Whole, Faulty, after_row, epoch_step, when_wanted}
-use Rattle.crx_options.specs.meaning.Choices.{Choices}
-use Rattle.crx_reading.specs.meaning.Items.{Item, types_in_force}
-use Rattle.crx_reading.specs.meaning.Memory.{check_takes, compaction_takes, memory_allowed, place_takes}
-use Rattle.crx_reading.specs.meaning.Directions.{rinex_reading}
-use Rattle.crx_reading.specs.meaning.Reading.{Reading}
-use Rattle.crx_reading.specs.Memory.{takes_memory}
-use Rattle.crx_reading.specs.CheckByLine.{checking, no_choices, totals_of}
-use Rattle.crx_reading.specs.CompactionByLine.{compaction, is_whole_at_once, made_of_epoch_step, rinex_begins}
-use Rattle.crx_reading.specs.CompactionByLine.{Written, compaction_seen, rinex_open, written_of}
-use Rattle.crx_reading.specs.LineByLine.{Completes, Direction, Made, Notice, Seen, seen_next}
-use Rattle.crx_reading.specs.LineByLine.{seen_of}
-use Rattle.crx_reading.specs.meaning.Compacted.{compact_unit, rinex_place}
+use Rattle.crx_reading.specs.meaning.Memory.{check_takes}
+use Rattle.crx_reading.specs.CompactionByLine.{is_whole_at_once}
 use Rattle.crx_filter.proofs.following.Check.{check-carried_out, printed_after}
 use Rattle.crx_filter.proofs.following.Compaction.{compaction-carried_out}
 use Rattle.crx_filter.proofs.following.Following.{AgreeOn}
 use Rattle.crx_reading.proofs.Choosing.{false-true}
 use Rattle.crx_filter.proofs.following.Memory.{TakesAsItStands, allowed-again, allowed-first}
-use Rattle.crx_filter.proofs.reading.Forward.{rinex-forward}
+use Rattle.crx_filter.proofs.reading.Forward.{rinex-forward, rinex_beginning}
 use Rattle.crx_filter.proofs.reading.Stopping.{reading-stopped}
-use Rattle.crx_filter.proofs.reading.Forward.{rinex_beginning}
 
 -- ---- satellites' lines
 
@@ -47,8 +36,8 @@ fine-row so_far (Err fault) e = false-true e
 fine-row so_far (Ok row) e = fine-when (rows_wanted (with_next_row so_far row)) (with_next_row so_far row)
 
 module _ {K : Type 0} (direction : Direction Epoch OpenEpoch K) (kept_of : List (Item Epoch) → K)
-    (unit_lines : List (Item Epoch) → FileUnit Epoch → List (List ℕ)) (choices : Choices) (items : List (Item Epoch))
-    (lines : List ReadLine) (takes : ℕ → Bool → Bool) where
+    (unit_lines : List (Item Epoch) → FileUnit Epoch → List (List ℕ)) (choices : Choices)
+    (items : List (Item Epoch)) (lines : List ReadLine) (takes : ℕ → Bool → Bool) where
   -- an epoch that is whole with its line
   whole-takes : takes 0 true ≡ true → (m : Made Epoch OpenEpoch) → is_whole_at_once m ≡ true
       → AgreeOn rinex_beginning direction rinex_open kept_of unit_lines choices items lines m
@@ -58,16 +47,16 @@ module _ {K : Type 0} (direction : Direction Epoch OpenEpoch K) (kept_of : List 
 
   step-takes : (count : ℕ) → ((is_whole : Bool) → takes count is_whole ≡ true)
       → (step : EpochStep) → is_fine step ≡ true
-      → AgreeOn rinex_beginning direction rinex_open kept_of unit_lines choices items lines (made_of_epoch_step step)
-      → place_takes takes items count (rinex_beginning items lines) ≡ true
+      → AgreeOn rinex_beginning direction rinex_open kept_of unit_lines choices items lines
+      (made_of_epoch_step step) → place_takes takes items count (rinex_beginning items lines) ≡ true
   step-takes count sure (Going so_far) e a = ap (place_takes takes items count) a.2 ∙ sure false
   step-takes count sure (Whole epoch) e a = ap (place_takes takes items count) a.2 ∙ sure true
   step-takes count sure (Faulty fault) e a = false-true e
 
 -- an epoch's line stands before it
 after-first : (takes : ℕ → Bool → Bool) → ((count : ℕ) (is_whole : Bool) → takes (suc count) is_whole ≡ true)
-    → (items : List (Item Epoch)) (lines : List ReadLine) (so_far : OpenEpoch) → rinex_open items lines ≡ Some so_far
-    → (is_whole : Bool) → takes (length lines) is_whole ≡ true
+    → (items : List (Item Epoch)) (lines : List ReadLine) (so_far : OpenEpoch) → rinex_open items lines
+    ≡ Some so_far → (is_whole : Bool) → takes (length lines) is_whole ≡ true
 after-first takes sure items [] so_far opens is_whole = absurd (none-some so_far opens)
 after-first takes sure items (line ∷ lines) so_far opens is_whole = sure (length lines) is_whole
 
@@ -77,13 +66,13 @@ pub compaction-takes : (choices : Choices)
     → TakesAsItStands rinex_beginning compaction rinex_open (written_of choices.every) compaction_takes
 compaction-takes choices = record {
   first = λ items line other good.
-      whole-takes compaction (written_of choices.every) (compact_unit choices) choices items (Content line ∷ [])
-      compaction_takes refl
+      whole-takes compaction (written_of choices.every) (compact_unit choices) choices items
+      (Content line ∷ []) compaction_takes refl
       (rinex_begins (types_in_force items) (written_of choices.every items) (Content line)) good
       ((compaction-carried_out choices).begins items (Content line));
   next = λ items lines line so_far opens good.
-      step-takes compaction (written_of choices.every) (compact_unit choices) choices items (lines ++ Content line ∷ [])
-      compaction_takes (length lines)
+      step-takes compaction (written_of choices.every) (compact_unit choices) choices items
+      (lines ++ Content line ∷ []) compaction_takes (length lines)
       (after-first compaction_takes (λ count is_whole. refl) items lines so_far opens)
       (epoch_step so_far (Content line)) (fine-row so_far (next_row so_far line) good)
       ((compaction-carried_out choices).continues items lines (Content line) so_far opens);
@@ -103,7 +92,8 @@ check-takes = record {
 
 pub compaction-allowed : (choices : Choices) (lines : List ReadLine) (line : ReadLine)
     → takes_memory compaction (compaction_seen choices lines) line ≡ true
-    → memory_allowed rinex_place compaction_takes choices.skip (rinex_reading choices.skip lines) line ≡ Some []
+    → memory_allowed rinex_place compaction_takes choices.skip (rinex_reading choices.skip lines) line
+    ≡ Some []
 compaction-allowed choices lines line e =
     let r : Reading Epoch = rinex_reading choices.skip lines in
     allowed-first (compaction-carried_out choices) (compaction-takes choices) r.items r.stop (length lines)
@@ -113,21 +103,18 @@ compaction-allowed choices lines line e =
 pub compaction-allowed-again : (choices : Choices) (lines : List ReadLine) (line : ReadLine)
     (next : Seen OpenEpoch Written) (notice : At)
     → record { answer = Notice notice true; handed_out = []; next = next }
-    ≡ seen_next compaction (compaction_seen choices lines) line
-    → takes_memory compaction next line ≡ true
+    ≡ seen_next compaction (compaction_seen choices lines) line → takes_memory compaction next line ≡ true
     → memory_allowed rinex_place compaction_takes choices.skip (rinex_reading choices.skip lines) line
     ≡ Some (notice ∷ [])
 compaction-allowed-again choices lines line next notice step e =
     let r : Reading Epoch = rinex_reading choices.skip lines in
     allowed-again (compaction-carried_out choices) (compaction-takes choices) r.items r.stop (length lines)
-    line
-    next notice (reading-stopped rinex_place rinex-forward choices.skip [] 1 (length lines + 1) lines
+    line next notice (reading-stopped rinex_place rinex-forward choices.skip [] 1 (length lines + 1) lines
     (omega arith)) step e
 
 pub check-allowed : (lines : List ReadLine) (line : ReadLine)
     → takes_memory checking (seen_of checking rinex_open totals_of no_choices (length lines)
-    (rinex_reading false lines)) line
-    ≡ true
+    (rinex_reading false lines)) line ≡ true
     → memory_allowed rinex_place check_takes false (rinex_reading false lines) line ≡ Some []
 check-allowed lines line e =
     let r : Reading Epoch = rinex_reading false lines in

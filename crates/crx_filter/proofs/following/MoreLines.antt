@@ -1,13 +1,7 @@
 -- One line more after some, where the reading begins with no items, at a line of any number.
-use Rattle.std.proofs.Common.{ℕ, ◌≡◌, ◌+◌, List, [], ◌∷◌, ◌++◌, length, Option, sym, subst}
-use Rattle.crx_faults.specs.meaning.Seen.{ReadLine}
-use Rattle.crx_rinex.specs.meaning.Places.{Place}
-use Rattle.crx_rinex.specs.meaning.Units.{Unit as FileUnit}
-use Rattle.crx_options.specs.meaning.Choices.{Choices}
-use Rattle.crx_reading.specs.meaning.Items.{Item}
-use Rattle.crx_reading.specs.meaning.Reading.{Reading, reading_from}
-use Rattle.crx_reading.specs.LineByLine.{Direction, Seen, seen_of}
-use Rattle.crx_filter.specs.Laws.{fed}
+use Rattle.crx_filter.proofs.Words.{ℕ, ◌≡◌, ◌+◌, List, [], ◌∷◌, ◌++◌, length, Option, sym, subst, ReadLine}
+use Rattle.crx_filter.proofs.Words.{Place, FileUnit, Choices, Item, Reading, reading_from, Direction, Seen}
+use Rattle.crx_filter.proofs.Words.{seen_of, fed}
 use Rattle.crx_filter.proofs.reading.Resuming.{resumed}
 use Rattle.crx_filter.proofs.reading.Stopping.{reading-stopped}
 use Rattle.crx_filter.proofs.following.Following.{IsCarriedOut, Follows, place}

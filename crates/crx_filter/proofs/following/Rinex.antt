@@ -1,29 +1,16 @@
 -- Lines of a RINEX file one by one: what the last of some lines makes is what stands at them. Every direction that
 -- reads RINEX goes this way.
-use Rattle.std.proofs.Common.{ℕ, zero, suc, ◌≡◌, ◌⊎◌, List, [], ◌∷◌, ◌++◌}
-use Rattle.std.proofs.Common.{length, Some, None, Result, Ok, Err, inl}
-use Rattle.std.proofs.Common.{inr, refl, sym, ◌∙◌}
-use Rattle.std.proofs.lemmas.Option.{none-some}
-use Rattle.crx_faults.specs.meaning.Seen.{ReadLine, Content, Overlong}
-use Rattle.crx_faults.specs.declared.fault.Fault.{Fault}
-use Rattle.crx_rinex.specs.meaning.Observations.{Epoch}
-use Rattle.crx_header.specs.meaning.ObservationTypes.{Count}
-use Rattle.crx_rinex.specs.meaning.Places.{Here, Wanted, after_lines, then_place}
-use Rattle.crx_rinex.specs.meaning.Units.{Unit as FileUnit, Observation}
-use Rattle.crx_rinex.specs.meaning.EpochPlaces.{OpenEpoch, Beginning, EventBegins, EpochBegins}
-use Rattle.crx_rinex.specs.meaning.EpochPlaces.{beginning_of, opened}
-use Rattle.crx_rinex.specs.meaning.EpochPlaces.{rows_wanted, epoch_of, rows_at, epoch_place}
-use Rattle.crx_rinex.specs.EpochPlaces.{EpochStep, Going, Whole, Faulty}
-use Rattle.crx_rinex.specs.EpochPlaces.{when_wanted, whole_or_going, epoch_step}
-use Rattle.crx_rinex.specs.EpochPlaces.{still_open, open_with, place_after}
-use Rattle.crx_rinex.proofs.OpenEpochs.{wanted-open, next-by_open}
-use Rattle.crx_options.specs.meaning.Choices.{Choices}
-use Rattle.crx_reading.specs.meaning.Items.{Item, types_in_force}
-use Rattle.crx_reading.specs.LineByLine.{Made, Direction}
-use Rattle.crx_reading.specs.CompactionByLine.{made_of_epoch_step, made_of_beginning, rinex_begins}
-use Rattle.crx_reading.specs.CompactionByLine.{rinex_open}
+use Rattle.crx_filter.proofs.Words.{ℕ, zero, suc, ◌≡◌, ◌⊎◌, List, [], ◌∷◌, ◌++◌, length, Some, None, Result}
+use Rattle.crx_filter.proofs.Words.{Ok, Err, inl, inr, refl, sym, ◌∙◌, none-some, ReadLine, Content, Overlong}
+use Rattle.crx_filter.proofs.Words.{Fault, Epoch, Count, Here, Wanted, after_lines, then_place, FileUnit}
+use Rattle.crx_filter.proofs.Words.{Observation, OpenEpoch, Beginning, EventBegins, EpochBegins, beginning_of}
+use Rattle.crx_filter.proofs.Words.{opened, rows_wanted, epoch_of, rows_at, epoch_place, EpochStep, Going}
+use Rattle.crx_filter.proofs.Words.{Whole, Faulty, when_wanted, epoch_step, Choices, Item, types_in_force}
+use Rattle.crx_filter.proofs.Words.{Made, Direction, made_of_epoch_step, made_of_beginning, rinex_begins}
+use Rattle.crx_filter.proofs.Words.{rinex_open}
+use Rattle.crx_rinex.specs.EpochPlaces.{whole_or_going, still_open, open_with, place_after}
+use Rattle.crx_rinex.proofs.OpenEpochs.{wanted-open, next-by_open, open_none}
 use Rattle.crx_filter.proofs.following.Following.{IsSameEpoch, AgreeOn}
-use Rattle.crx_rinex.proofs.OpenEpochs.{open_none}
 
 -- ---- what is asked of a direction
 
@@ -82,8 +69,7 @@ module _ {K : Type 0} {direction : Direction Epoch OpenEpoch K} {kept_of : List 
   agree-step items lines line (Faulty fault) place opens = (length lines, place)
 
   pub agree-continues : (items : List (Item Epoch)) (lines : List ReadLine) (line : ReadLine)
-      (so_far : OpenEpoch)
-      → rinex_open items lines ≡ Some so_far
+      (so_far : OpenEpoch) → rinex_open items lines ≡ Some so_far
       → Agrees items (lines ++ line ∷ []) (made_of_epoch_step (epoch_step so_far line))
   agree-continues items lines line so_far e =
       let decided = next-by_open (types_in_force items) lines line so_far e in

@@ -1,31 +1,20 @@
 -- Where the reading of compact text starts anew, it depends on the types in force alone.
-use Rattle.std.proofs.Common.{ℕ, zero, suc, ◌≡◌, ◌+◌, ◌-◌, ◌<◌, max, Bool, true, cond, List, [], ◌∷◌, ◌++◌}
-use Rattle.std.proofs.Common.{length, drop, Option, Some, None, refl, ap, sym, ◌∙◌, arith, subst}
-use Rattle.std.proofs.Common.{append_assoc}
-use Rattle.std.proofs.lemmas.Bool.{and_parts}
-use Rattle.std.specs.Prelude.{⊤}
-use Rattle.crx_faults.specs.meaning.Seen.{ReadLine, Content, Overlong}
-use Rattle.crx_faults.specs.declared.fault.Fault.{Fault}
-use Rattle.crx_faults.specs.declared.fault.At.{At}
-use Rattle.crx_header.specs.meaning.EpochColumns.{begins_epoch, is_event_line, records_in}
-use Rattle.crx_header.specs.meaning.ObservationTypes.{Count}
-use Rattle.crx_header.specs.ObservationTypes.{with_line}
-use Rattle.crx_rinex.specs.meaning.Places.{Place, Here, Wrong, Wanted, one_line, first_line}
-use Rattle.crx_rinex.specs.meaning.Units.{Unit as FileUnit, HeaderLine, EventLine, EventRecord, Observation}
+use Rattle.crx_filter.proofs.Words.{ℕ, zero, suc, ◌≡◌, ◌+◌, ◌-◌, ◌<◌, max, Bool, true, cond, List, [], ◌∷◌}
+use Rattle.crx_filter.proofs.Words.{◌++◌, length, drop, Option, Some, None, refl, ap, sym, ◌∙◌, arith, subst}
+use Rattle.crx_filter.proofs.Words.{append_assoc, and_parts, ⊤, ReadLine, Content, Overlong, Fault, At}
+use Rattle.crx_filter.proofs.Words.{begins_epoch, is_event_line, records_in, Count, with_line, Place, Here}
+use Rattle.crx_filter.proofs.Words.{Wrong, Wanted, one_line, first_line, FileUnit, HeaderLine, EventLine}
+use Rattle.crx_filter.proofs.Words.{EventRecord, Observation, RawEpoch, block_of, Past, past_of_block}
+use Rattle.crx_filter.proofs.Words.{past_of_epochs, ReadEpoch, epoch_at, Item, Accepted, Warned}
+use Rattle.crx_filter.proofs.Words.{header_has_ended, records_announced, records_left, records_count_types}
+use Rattle.crx_filter.proofs.Words.{declaring_lines, types_in_force, unless_wrong, types_fault, event_record}
+use Rattle.crx_filter.proofs.Words.{Reading, Stop, AtFault, AtLines, Looking, is_skipped, can_go_on}
+use Rattle.crx_filter.proofs.Words.{looked_for, reading_within, after_fault, raws_kept, empties_state}
+use Rattle.crx_filter.proofs.Words.{event_line, as_observation, compact_epoch_place, compact_place}
+use Rattle.crx_filter.proofs.Words.{starts_anew, GoOnAlike}
 use Rattle.crx_header.proofs.Counts.{types_of-push}
-use Rattle.crx_compact.specs.meaning.Expansion.{RawEpoch, block_of}
-use Rattle.crx_compact.specs.meaning.Past.{Past, past_of_block, past_of_epochs}
-use Rattle.crx_compact.specs.meaning.CompactPlaces.{ReadEpoch, epoch_at}
 use Rattle.crx_compact.proofs.reading.Forgetting.{forgets}
-use Rattle.crx_reading.specs.meaning.Items.{Item, Accepted, Warned, header_has_ended, records_announced, records_left}
-use Rattle.crx_reading.specs.meaning.Items.{records_count_types, declaring_lines, types_in_force}
-use Rattle.crx_reading.specs.meaning.UnitPlaces.{unless_wrong, types_fault, event_record}
-use Rattle.crx_reading.specs.meaning.Reading.{Reading, Stop, AtFault, AtLines, Looking, is_skipped, can_go_on}
-use Rattle.crx_reading.specs.meaning.Reading.{looked_for, reading_within, after_fault}
-use Rattle.crx_reading.specs.meaning.Expanded.{raws_kept, empties_state, event_line, as_observation}
-use Rattle.crx_reading.specs.meaning.Expanded.{compact_epoch_place}
-use Rattle.crx_reading.specs.meaning.Expanded.{compact_place}
-use Rattle.crx_filter.specs.Anew.{starts_anew, GoOnAlike, DependsOnTypes}
+use Rattle.crx_filter.specs.Anew.{DependsOnTypes}
 use Rattle.crx_reading.proofs.Choosing.{by_bool}
 use Rattle.crx_filter.proofs.reading.Resuming.{by_place}
 use Rattle.crx_filter.proofs.reading.WhatStands.{OfHere, first-line, unless-wrong, of-compact}
@@ -35,7 +24,8 @@ use Rattle.crx_filter.proofs.reading.ForwardCompact.{compact_beginning}
 
 -- ---- the types after a record
 
-record-types : (items : List (Item ReadEpoch)) (line : List ℕ) → types_in_force (Accepted (EventRecord line) ∷ items)
+record-types : (items : List (Item ReadEpoch)) (line : List ℕ)
+    → types_in_force (Accepted (EventRecord line) ∷ items)
     ≡ cond (records_count_types items) (with_line (types_in_force items) line) (types_in_force items)
 record-types items line = by_bool (records_count_types items)
     (λ on. rw on (types_of-push (declaring_lines items) line))
@@ -122,15 +112,13 @@ begin-by_block types one two (Content line ∷ lines) e =
 
 event-same : (a b : List (Item ReadEpoch)) (left : ℕ) (lines : List ReadLine)
     → AreAlike a b → records_left a ≡ suc left → compact_place a lines ≡ compact_place b lines
-event-same a b left lines h some =
-    record-place compact_beginning a left lines h.one some
+event-same a b left lines h some = record-place compact_beginning a left lines h.one some
     ∙ ap (λ c. first_line lines (event_record c)) (h.counts (omega (arith, some)))
     ∙ sym (record-place compact_beginning b left lines h.two (sym h.left ∙ some))
 
 place-same : (a b : List (Item ReadEpoch)) (lines : List ReadLine)
     → AreSame a b → (n : ℕ) → records_left a ≡ n → compact_place a lines ≡ compact_place b lines
-place-same a b lines h zero none =
-    body-place compact_beginning a lines h.alike.one none
+place-same a b lines h zero none = body-place compact_beginning a lines h.alike.one none
     ∙ begin-by_block (types_in_force a) (raws_kept a) (raws_kept b) lines h.block
     ∙ ap (λ types. compact_epoch_place types (raws_kept b) lines) h.alike.types
     ∙ sym (body-place compact_beginning b lines h.alike.two (sym h.alike.left ∙ none))
@@ -138,12 +126,13 @@ place-same a b lines h (suc left) some = event-same a b left lines h.alike some
 
 -- ---- which units can stand there
 
-epoch-follows : (items : List (Item ReadEpoch)) (p : Place ReadEpoch) → OfHere (MayFollow items) (as_observation p)
+epoch-follows : (items : List (Item ReadEpoch)) (p : Place ReadEpoch)
+    → OfHere (MayFollow items) (as_observation p)
 epoch-follows items (Here read count) = tt
 epoch-follows items p = tt
 
-begun-follows : (items : List (Item ReadEpoch)) (types : List Count) (raws : List RawEpoch) (lines : List ReadLine)
-    → OfHere (MayFollow items) (compact_epoch_place types raws lines)
+begun-follows : (items : List (Item ReadEpoch)) (types : List Count) (raws : List RawEpoch)
+    (lines : List ReadLine) → OfHere (MayFollow items) (compact_epoch_place types raws lines)
 begun-follows items types raws lines =
     of-compact (OfHere (MayFollow items)) types raws lines tt tt (λ line rest e. tt)
     (epoch-follows items (epoch_at types raws lines))
@@ -152,8 +141,8 @@ unit-follows : (items : List (Item ReadEpoch)) (lines : List ReadLine) → heade
     → (n : ℕ) → records_left items ≡ n → OfHere (MayFollow items) (compact_place items lines)
 unit-follows items lines ended zero none = rw (body-place compact_beginning items lines ended none)
     (begun-follows items (types_in_force items) (raws_kept items) lines)
-unit-follows items lines ended (suc left) some = rw (record-place compact_beginning items left lines ended some)
-    (first-line (MayFollow items) (event_record (records_count_types items)) lines
+unit-follows items lines ended (suc left) some = rw (record-place compact_beginning items left lines
+    ended some) (first-line (MayFollow items) (event_record (records_count_types items)) lines
     (λ line. unless-wrong (MayFollow items) (EventRecord line)
     (cond (records_count_types items) (types_fault line) None) (λ good. omega (arith, some))))
 
@@ -188,8 +177,7 @@ looked a b one two number (line ∷ lines) h = by_bool (can_go_on line)
 
 -- after the one and the other items, so many units are read alike
 abbrev ReadAlike : Bool → ℕ → List (Item ReadEpoch) → List (Item ReadEpoch) → ℕ → List ReadLine → Type 0
-ReadAlike skip units a b number lines =
-    GoOnAlike a b (reading_within compact_place skip units a number lines)
+ReadAlike skip units a b number lines = GoOnAlike a b (reading_within compact_place skip units a number lines)
     (reading_within compact_place skip units b number lines)
 
 -- one step: what stands there is the same, and what is read after it goes on alike
@@ -217,16 +205,16 @@ reads-same : (skip : Bool) (units : ℕ) (a b : List (Item ReadEpoch)) (number :
 reads-same skip zero a b number lines h = stopped (AtLines number lines)
 reads-same skip (suc units) a b number lines h =
     one-step skip units a b number lines h.alike (place-same a b lines h (records_left a) refl)
-    (λ unit count e. reads-same skip units (Accepted unit ∷ a) (Accepted unit ∷ b) (number + count) (drop count lines)
-    (same-unit a b unit (subst (OfHere (MayFollow a)) e (unit-follows a lines h.alike.one (records_left a) refl)) h))
+    (λ unit count e. reads-same skip units (Accepted unit ∷ a) (Accepted unit ∷ b) (number + count)
+    (drop count lines) (same-unit a b unit (subst (OfHere (MayFollow a)) e (unit-follows a lines h.alike.one
+    (records_left a) refl)) h))
     (λ at n ls. reads-same skip units (Warned at ∷ a) (Warned at ∷ b) n ls (same-warned a b at h.alike))
 
 -- ---- where all starts anew
 
 -- so it is where all starts anew, of so many units
 abbrev IsAnew : Bool → ℕ → Type 0
-IsAnew skip units =
-    (a b : List (Item ReadEpoch)) (number : ℕ) (lines : List ReadLine) (left : ℕ)
+IsAnew skip units = (a b : List (Item ReadEpoch)) (number : ℕ) (lines : List ReadLine) (left : ℕ)
     → AreAlike a b → records_left a ≡ left → starts_anew left lines ≡ true
     → ReadAlike skip units a b number lines
 
@@ -241,8 +229,7 @@ module _ (skip : Bool) (units : ℕ) (ih : IsAnew skip units)
 
   alike-step : (lines : List ReadLine) (p : Place (FileUnit ReadEpoch)) → compact_place a lines ≡ p
       → compact_place b lines ≡ p → Next lines p → ReadAlike skip (suc units) a b number lines
-  alike-step lines p e f next =
-      one-step skip units a b number lines h (e ∙ sym f)
+  alike-step lines p e f next = one-step skip units a b number lines h (e ∙ sym f)
       (λ unit count is. subst (Next lines) (sym e ∙ is) next)
       (λ at n ls. reads-same skip units (Warned at ∷ a) (Warned at ∷ b) n ls (same-warned a b at h))
 
@@ -297,7 +284,8 @@ module _ (skip : Bool) (units : ℕ) (ih : IsAnew skip units)
   anew-step : (lines : List ReadLine) (left : ℕ) → records_left a ≡ left → starts_anew left lines ≡ true
       → ReadAlike skip (suc units) a b number lines
   anew-step [] zero e anew = alike-step [] Wanted
-      (body-place compact_beginning a [] h.one e) (body-place compact_beginning b [] h.two (sym h.left ∙ e)) tt
+      (body-place compact_beginning a [] h.one e) (body-place compact_beginning b [] h.two
+      (sym h.left ∙ e)) tt
   anew-step (Overlong ∷ lines) zero e anew = absurd (cc)
   anew-step (Content line ∷ lines) zero e anew =
       let both = and_parts (begins_epoch line) _ anew in
@@ -305,7 +293,8 @@ module _ (skip : Bool) (units : ℕ) (ih : IsAnew skip units)
   anew-step lines (suc left) e anew =
       alike-step lines (first_line lines (event_record (records_count_types a)))
       (record-place compact_beginning a left lines h.one e)
-      (sym (event-same a b left lines h e) ∙ record-place compact_beginning a left lines h.one e) (next lines anew)
+      (sym (event-same a b left lines h e) ∙ record-place compact_beginning a left lines h.one e)
+      (next lines anew)
     where
       next : (lines : List ReadLine) → starts_anew (suc left) lines ≡ true
           → Next lines (first_line lines (event_record (records_count_types a)))
@@ -328,5 +317,4 @@ depends-on_types skip before other number lines one two types anew =
       left = one.none ∙ sym two.none;
       counts = λ some. (let none = one.none in absurd (omega (arith, some, none)));
       types = types;
-    })
-    one.none anew
+    }) one.none anew

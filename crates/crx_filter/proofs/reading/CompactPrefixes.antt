@@ -1,19 +1,9 @@
 -- What an expansion has written.
-use Rattle.std.proofs.Common.{ℕ, ◌≡◌, ◌+◌, List, [], ◌++◌, length, drop, sym, subst, refl, Bool, append-nil}
-use Rattle.std.proofs.lemmas.List.{drop-append-le}
-use Rattle.crx_faults.specs.meaning.Seen.{ReadLine}
-use Rattle.crx_rinex.specs.meaning.Places.{Place, Here, Wrong, Wanted}
-use Rattle.crx_rinex.specs.Steady.{Remains}
-use Rattle.crx_compact.specs.meaning.CompactPlaces.{ReadEpoch}
-use Rattle.crx_options.specs.meaning.Choices.{Choices}
-use Rattle.crx_reading.specs.meaning.Items.{Item}
-use Rattle.crx_reading.specs.meaning.Reading.{reading_from, whole_reading}
-use Rattle.crx_reading.specs.meaning.Expanded.{first_lines, compact_place, whole_compact, expanded_unit, expanded}
-use Rattle.crx_filter.specs.Expanded.{expanded_lines, expanded_so_far}
-use Rattle.crx_reading.specs.meaning.Directions.{compact_reading}
-use Rattle.crx_faults.specs.meaning.Lines.{lines_text}
-use Rattle.crx_runs.specs.meaning.Results.{Begins}
-use Rattle.crx_filter.specs.Laws.{IsWrittenFirst}
+use Rattle.crx_filter.proofs.Words.{ℕ, ◌≡◌, ◌+◌, List, [], ◌++◌, length, drop, sym, subst, refl, Bool}
+use Rattle.crx_filter.proofs.Words.{append-nil, drop-append-le, ReadLine, Place, Here, Wrong, Wanted, Remains}
+use Rattle.crx_filter.proofs.Words.{ReadEpoch, Choices, Item, reading_from, whole_reading, first_lines}
+use Rattle.crx_filter.proofs.Words.{compact_place, whole_compact, expanded_unit, expanded, expanded_lines}
+use Rattle.crx_filter.proofs.Words.{expanded_so_far, compact_reading, lines_text, Begins, IsWrittenFirst}
 use Rattle.crx_filter.proofs.reading.ForwardCompact.{compact-forward, steady-first_lines}
 use Rattle.crx_filter.proofs.reading.Prefixes.{AreMore, text-more, reading-items, whole-items}
 
@@ -27,15 +17,18 @@ remains lines more p e = subst
     (λ q. Remains (length lines) q (first_lines (lines ++ more))) e (steady-first_lines lines more)
 
 pub reading-at : (skip : Bool) (lines : List ReadLine) (two : List (List ℕ)) (count : ℕ) → first_lines lines
-    ≡ Here two count → compact_reading skip lines ≡ reading_from compact_place skip [] (count + 1) (drop count lines)
+    ≡ Here two count → compact_reading skip lines ≡ reading_from compact_place skip [] (count + 1)
+    (drop count lines)
 reading-at skip lines two count e = rw (e, compact_reading) refl
 
 pub whole-at : (skip : Bool) (lines : List ReadLine) (two : List (List ℕ)) (count : ℕ) → first_lines lines
-    ≡ Here two count → whole_compact skip lines ≡ whole_reading compact_place skip (count + 1) (drop count lines)
+    ≡ Here two count → whole_compact skip lines ≡ whole_reading compact_place skip (count + 1)
+    (drop count lines)
 whole-at skip lines two count e = rw (e, whole_compact) refl
 
 reading-more : (skip : Bool) (lines more : List ReadLine) (p : Place (List (List ℕ)))
-    → first_lines lines ≡ p → AreMore (compact_reading skip lines).items (compact_reading skip (lines ++ more)).items
+    → first_lines lines ≡ p → AreMore (compact_reading skip lines).items
+    (compact_reading skip (lines ++ more)).items
 reading-more skip lines more (Here two count) e =
     let h = remains lines more (Here two count) e in
     let same : drop count (lines ++ more) ≡ drop count lines ++ more = drop-append-le count lines more h.0 in
@@ -45,7 +38,8 @@ reading-more skip lines more (Wrong offset fault) e = rw (e, compact_reading) (f
 reading-more skip lines more Wanted e = rw (e, compact_reading) (from-none _)
 
 pub whole-more : (skip : Bool) (lines more : List ReadLine) (p : Place (List (List ℕ)))
-    → first_lines lines ≡ p → AreMore (compact_reading skip lines).items (whole_compact skip (lines ++ more)).items
+    → first_lines lines ≡ p → AreMore (compact_reading skip lines).items
+    (whole_compact skip (lines ++ more)).items
 whole-more skip lines more (Here two count) e =
     let h = remains lines more (Here two count) e in
     let same : drop count (lines ++ more) ≡ drop count lines ++ more = drop-append-le count lines more h.0 in
@@ -57,7 +51,8 @@ whole-more skip lines more Wanted e = rw (e, compact_reading) (from-none _)
 pub expanded-first : (choices : Choices) (lines : List ReadLine)
     → IsWrittenFirst expanded_so_far (λ input (c : Choices). (expanded input c).output) choices lines
 expanded-first choices lines = record {
-  longer = λ more. text-more expanded_unit _ _ (reading-more choices.skip lines more (first_lines lines) refl);
+  longer = λ more. text-more expanded_unit _ _ (reading-more choices.skip lines more
+      (first_lines lines) refl);
   whole = λ input more e.
       subst (λ all. Begins (lines_text (expanded_lines (whole_compact choices.skip all).items))
       (expanded_so_far lines choices)) (sym e)

@@ -1,41 +1,28 @@
 -- The end of the input, in both directions.
-use Rattle.std.proofs.Common.{ℕ, ◌≡◌, ◌+◌, ◌-◌, Bool, false, List, [], length, drop, Option, Some, None, refl, subst}
-use Rattle.std.proofs.Common.{arith, append-nil}
-use Rattle.std.proofs.lemmas.List.{length-drop}
-use Rattle.crx_faults.specs.meaning.Seen.{ReadLine}
-use Rattle.crx_rinex.specs.meaning.Observations.{Epoch}
-use Rattle.crx_rinex.specs.meaning.Places.{Place, Here, Wrong, Wanted}
-use Rattle.crx_rinex.specs.Steady.{Remains}
-use Rattle.crx_compact.specs.meaning.CompactPlaces.{ReadEpoch}
-use Rattle.crx_compact.specs.OpenEpochs.{OpenRawEpoch}
-use Rattle.crx_compact.specs.Tails.{Tail}
-use Rattle.crx_options.specs.meaning.Choices.{Choices}
-use Rattle.crx_reading.specs.meaning.Reading.{Reading, WholeReading, reading_from, ended_reading}
-use Rattle.crx_faults.specs.meaning.Faults.{is_skippable}
-use Rattle.crx_reading.specs.meaning.Written.{warnings_in}
-use Rattle.crx_reading.specs.LineByLine.{InFirstLines, Seen, seen_end, is_skipped_in}
-use Rattle.crx_reading.specs.meaning.Compacted.{rinex_place, compact_unit}
-use Rattle.crx_reading.specs.meaning.Directions.{rinex_reading}
-use Rattle.crx_reading.specs.CompactionByLine.{compaction, rinex_open, written_of}
-use Rattle.crx_reading.specs.meaning.Expanded.{compact_place, first_lines, fault_in_first_lines, expanded_unit}
-use Rattle.crx_filter.specs.Expanded.{expanded_lines}
-use Rattle.crx_reading.specs.ExpansionByLine.{expansion, compact_open, tail_of_items}
-use Rattle.crx_filter.specs.Laws.{IsEndedBy, IsCompactionEnded, IsExpansionEnded}
+use Rattle.crx_filter.proofs.Words.{ℕ, ◌≡◌, ◌+◌, ◌-◌, Bool, false, List, [], length, drop, Option, Some, None}
+use Rattle.crx_filter.proofs.Words.{refl, subst, arith, append-nil, length-drop, ReadLine, Epoch, Place, Here}
+use Rattle.crx_filter.proofs.Words.{Wrong, Wanted, Remains, ReadEpoch, OpenRawEpoch, Tail, Choices, Reading}
+use Rattle.crx_filter.proofs.Words.{WholeReading, reading_from, ended_reading, is_skippable, warnings_in}
+use Rattle.crx_filter.proofs.Words.{InFirstLines, Seen, seen_end, is_skipped_in, rinex_place, compact_unit}
+use Rattle.crx_filter.proofs.Words.{rinex_reading, compaction, rinex_open, written_of, compact_place}
+use Rattle.crx_filter.proofs.Words.{first_lines, fault_in_first_lines, expanded_unit, expanded_lines}
+use Rattle.crx_filter.proofs.Words.{expansion, compact_open, tail_of_items, IsEndedBy}
+use Rattle.crx_filter.specs.Laws.{IsCompactionEnded, IsExpansionEnded}
 use Rattle.crx_filter.proofs.reading.Forward.{rinex-forward}
-use Rattle.crx_filter.proofs.reading.ForwardCompact.{compact-forward, steady-first_lines}
+use Rattle.crx_filter.proofs.reading.ForwardCompact.{compact-forward, steady-first_lines, compact_beginning}
 use Rattle.crx_filter.proofs.following.Following.{seen_in}
 use Rattle.crx_filter.proofs.following.Lines.{never-before}
 use Rattle.crx_filter.proofs.reading.Stopping.{reading-stopped}
 use Rattle.crx_filter.proofs.following.Compaction.{compaction-carried_out}
 use Rattle.crx_filter.proofs.following.Expansion.{expansion-carried_out}
-use Rattle.crx_filter.proofs.reading.ForwardCompact.{compact_beginning}
 use Rattle.crx_filter.proofs.following.ExpandedOn.{reading_by, seen_by}
 use Rattle.crx_filter.proofs.reading.Ending.{next-end}
 
 pub compaction-ended : (choices : Choices) (lines : List ReadLine) → IsCompactionEnded choices lines
 compaction-ended choices lines =
     let r : Reading Epoch = rinex_reading choices.skip lines in
-    let stopped = reading-stopped rinex_place rinex-forward choices.skip [] 1 (length lines + 1) lines (omega arith) in
+    let stopped = reading-stopped rinex_place rinex-forward choices.skip [] 1 (length lines + 1) lines
+    (omega arith) in
     next-end _ compaction rinex_open (written_of choices.every)
     (compact_unit choices) choices (compaction-carried_out choices) r.items r.stop (length lines) stopped
 
@@ -43,7 +30,8 @@ compaction-ended choices lines =
 abbrev whole_by : Bool → List ReadLine → Place (List (List ℕ)) → WholeReading ReadEpoch
 whole_by skip lines p =
     elim p [
-      | Here two count ↦ ended_reading skip (reading_from compact_place skip [] (count + 1) (drop count lines))
+      | Here two count ↦ ended_reading skip (reading_from compact_place skip [] (count + 1)
+          (drop count lines))
       | Wrong offset fault ↦ record { items = []; fault = Some (record { line = offset + 1; fault = fault }) }
       | Wanted ↦ record {
         items = [];
@@ -52,9 +40,9 @@ whole_by skip lines p =
     ]
 
 abbrev EndsBy : Choices → List ReadLine → Place (List (List ℕ)) → Type 0
-EndsBy choices lines p =
-    IsEndedBy (expanded_lines (reading_by choices.skip lines p).items)
-    (expanded_lines (whole_by choices.skip lines p).items) (warnings_in (reading_by choices.skip lines p).items)
+EndsBy choices lines p = IsEndedBy (expanded_lines (reading_by choices.skip lines p).items)
+    (expanded_lines (whole_by choices.skip lines p).items)
+    (warnings_in (reading_by choices.skip lines p).items)
     (warnings_in (whole_by choices.skip lines p).items) (whole_by choices.skip lines p).fault
     (seen_end expansion (seen_by choices lines p))
 
@@ -74,7 +62,8 @@ by-first_lines choices lines (Here two count) e =
 by-first_lines choices lines (Wrong offset fault) e =
     record { once = refl; handed_out = refl; written = refl; warned = refl; failed = refl }
 by-first_lines choices lines Wanted e =
-    let seen : Seen OpenRawEpoch (Option Tail) = seen_in choices (length lines) (InFirstLines (length lines)) [] None in
+    let seen : Seen OpenRawEpoch (Option Tail) = seen_in choices (length lines)
+    (InFirstLines (length lines)) [] None in
     let off : is_skipped_in seen (fault_in_first_lines (length lines)) ≡ false =
     never-before choices.skip (is_skippable (fault_in_first_lines (length lines))) in
     rw off (record { once = refl; handed_out = refl; written = refl; warned = refl; failed = refl })

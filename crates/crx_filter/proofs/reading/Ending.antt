@@ -1,30 +1,20 @@
 -- The end of the input, wherever a reading has stopped.
-use Rattle.std.proofs.Common.{ℕ, zero, suc, ◌≡◌, ◌+◌, Bool, true, false, cond, List, [], ◌∷◌, length, Option, Some}
-use Rattle.std.proofs.Common.{None, refl, ap, sym, ◌∙◌, rules}
-use Rattle.std.specs.Prelude.{◌&&◌, ◌==◌, nat_lt}
-use Rattle.std.proofs.lemmas.Option.{none-some}
-use Rattle.crx_faults.specs.meaning.Seen.{ReadLine}
-use Rattle.crx_faults.specs.declared.fault.Fault.{Fault}
-use Rattle.crx_faults.specs.declared.fault.Fault.TheVariants.{MissingVersion, NoEndOfHeader, Truncated}
-use Rattle.crx_rinex.specs.meaning.Places.{Place, Wanted, first_line}
-use Rattle.crx_header.specs.meaning.ObservationTypes.{Count}
-use Rattle.crx_rinex.specs.meaning.Units.{Unit as FileUnit}
-use Rattle.crx_options.specs.meaning.Choices.{Choices}
-use Rattle.crx_reading.specs.meaning.Items.{Item, is_at_start, header_has_ended, records_left, records_count_types}
-use Rattle.crx_reading.specs.meaning.Items.{types_in_force}
-use Rattle.crx_reading.specs.meaning.UnitPlaces.{header_line, event_record, unit_place}
-use Rattle.crx_reading.specs.meaning.Reading.{WholeReading, Stop, AtFault, AtLines, Looking, is_skipped, fault_at_end}
-use Rattle.crx_reading.specs.meaning.Reading.{ended_with, ended_reading}
-use Rattle.crx_faults.specs.meaning.Faults.{is_skippable}
-use Rattle.crx_reading.specs.meaning.Written.{written_lines}
-use Rattle.crx_reading.specs.meaning.Written.{warnings_in}
-use Rattle.crx_reading.specs.LineByLine.{Phase, InHeader, BetweenUnits, InEvent, InEpoch, Direction, Step}
-use Rattle.crx_reading.specs.LineByLine.{is_skipped_in}
-use Rattle.crx_reading.specs.LineByLine.{kept_in, end_step, seen_end, phase_in_body, phase_after_items, seen_of}
-use Rattle.crx_filter.specs.Laws.{IsEndedBy}
+use Rattle.crx_filter.proofs.Words.{ℕ, zero, suc, ◌≡◌, ◌+◌, Bool, true, false, cond, List, [], ◌∷◌, length}
+use Rattle.crx_filter.proofs.Words.{Option, Some, None, refl, ap, sym, ◌∙◌, rules, ◌&&◌, ◌==◌, nat_lt}
+use Rattle.crx_filter.proofs.Words.{none-some, ReadLine, Fault, MissingVersion, Truncated, Place, Wanted}
+use Rattle.crx_filter.proofs.Words.{first_line, Count, FileUnit, Choices, Item, is_at_start, header_has_ended}
+use Rattle.crx_filter.proofs.Words.{records_left, records_count_types, types_in_force, header_line}
+use Rattle.crx_filter.proofs.Words.{event_record, unit_place, WholeReading, Stop, AtFault, AtLines, Looking}
+use Rattle.crx_filter.proofs.Words.{is_skipped, fault_at_end, ended_with, ended_reading, is_skippable}
+use Rattle.crx_filter.proofs.Words.{written_lines, warnings_in, Phase, InHeader, BetweenUnits, InEvent}
+use Rattle.crx_filter.proofs.Words.{InEpoch, Direction, Step, is_skipped_in, kept_in, seen_end, phase_in_body}
+use Rattle.crx_filter.proofs.Words.{phase_after_items, seen_of, IsEndedBy}
+use Rattle.crx_faults.specs.declared.fault.Fault.TheVariants.{NoEndOfHeader}
+use Rattle.crx_reading.specs.LineByLine.{end_step}
 use Rattle.crx_reading.proofs.Choosing.{by_bool}
 use Rattle.crx_filter.proofs.following.Following.{seen_in, IsCarriedOut, skipped-same, body-place, body-phase}
-use Rattle.crx_filter.proofs.following.Lines.{IsStopped, only_none, never-before, never-in-event, record-place}
+use Rattle.crx_filter.proofs.following.Lines.{IsStopped, only_none, never-before, never-in-event}
+use Rattle.crx_filter.proofs.following.Lines.{record-place}
 
 -- the end after some items, and as it is fed
 abbrev EndsAs : {E O K : Type 0}
@@ -35,8 +25,9 @@ EndsAs unit_lines items whole end = IsEndedBy (written_lines unit_lines items)
 -- where the phase means what the items mean
 ends-same : {E U O K : Type 0} (direction : Direction U O K) (unit_lines : List (Item E)
     → FileUnit E → List (List ℕ)) (choices : Choices)
-    (items : List (Item E)) (count : ℕ) (phase : Phase O) (types : List Count) (kept : K) (fault : Option Fault)
-    → ((f : Fault) → is_skipped choices.skip items f ≡ is_skipped_in (seen_in choices count phase types kept) f)
+    (items : List (Item E)) (count : ℕ) (phase : Phase O) (types : List Count) (kept : K)
+    (fault : Option Fault) → ((f : Fault) → is_skipped choices.skip items f ≡ is_skipped_in
+    (seen_in choices count phase types kept) f)
     → EndsAs unit_lines items (ended_with choices.skip items (count + 1) fault)
     (end_step direction (seen_in choices count phase types kept) fault)
 ends-same direction unit_lines choices items count phase types kept None same =
@@ -61,7 +52,8 @@ in-header (item ∷ before) e = rw e refl
 in-event : {E : Type 0} (items : List (Item E)) (left : ℕ)
     → header_has_ended items ≡ true → records_left items ≡ suc left → fault_at_end items [] ≡ Some Truncated
 in-event [] left e f = absurd (cc)
-in-event (item ∷ before) left e f = let more : nat_lt 0 (suc left) ≡ true = search rules in rw (e, f, more) refl
+in-event (item ∷ before) left e f = let more : nat_lt 0 (suc left) ≡ true = search rules in
+    rw (e, f, more) refl
 
 -- the end after whole units is good
 pub closes-well : {E : Type 0} (items : List (Item E))
@@ -77,20 +69,23 @@ in-epoch (item ∷ before) line lines e = refl
 -- the end where more lines are wanted
 lines-end : {E U O K : Type 0} (beginning : List (Item E) → List ReadLine
     → Place (FileUnit E)) (direction : Direction U O K) (open_with : List (Item E) → List ReadLine → Option O)
-    (kept_of : List (Item E) → K) (unit_lines : List (Item E) → FileUnit E → List (List ℕ)) (choices : Choices)
-    → IsCarriedOut beginning direction open_with kept_of unit_lines choices
+    (kept_of : List (Item E) → K) (unit_lines : List (Item E) → FileUnit E → List (List ℕ))
+    (choices : Choices) → IsCarriedOut beginning direction open_with kept_of unit_lines choices
     → (items : List (Item E)) (number count : ℕ) (rest : List ReadLine)
     → unit_place beginning items rest ≡ Wanted → number + length rest ≡ count + 1
     → (has_ended : Bool) → header_has_ended items ≡ has_ended
     → (left : ℕ) → records_left items ≡ left → (so_far : Option O) → open_with items rest ≡ so_far
     → EndsAs unit_lines items (ended_with choices.skip items (number + length rest) (fault_at_end items rest))
     (seen_end direction (seen_in choices count (phase_after_items items (open_with items rest))
-    (types_in_force items) (kept_in direction (phase_after_items items (open_with items rest)) (kept_of items))))
+    (types_in_force items) (kept_in direction (phase_after_items items (open_with items rest))
+    (kept_of items))))
 lines-end {E = E} {O = O} beginning direction open_with
-    kept_of unit_lines choices h items number count rest wanted counted false in_header left e_left so_far e_open =
+    kept_of unit_lines choices h items number count rest wanted counted false in_header left e_left so_far
+    e_open =
     let none : rest ≡ [] = only_none
     (header_line {E = E} (is_at_start items)) rest (sym (at_header rest in_header) ∙ wanted) in
-    let phase : phase_after_items items (open_with items rest) ≡ InHeader (is_at_start items) = rw in_header refl in
+    let phase : phase_after_items items (open_with items rest) ≡ InHeader (is_at_start items) =
+    rw in_header refl in
     let fault : fault_at_end items rest ≡ Some (cond (is_at_start items) MissingVersion NoEndOfHeader) =
     ap (λ ls. fault_at_end items ls) none ∙ in-header items in_header in
     rw (phase, fault, counted)
@@ -103,54 +98,60 @@ lines-end {E = E} {O = O} beginning direction open_with
         → unit_place beginning items ls ≡ first_line ls (header_line (is_at_start items))
     at_header ls e = rw e refl
 lines-end {O = O} beginning direction open_with
-    kept_of unit_lines choices h items number count rest wanted counted true has_ended (suc left) e_left so_far e_open =
+    kept_of unit_lines choices h items number count rest wanted counted true has_ended
+    (suc left) e_left so_far e_open =
     let none : rest ≡ [] = only_none (event_record (records_count_types items)) rest
     (sym (record-place beginning items left rest has_ended e_left) ∙ wanted) in
-    let phase : phase_after_items items (open_with items rest) ≡ InEvent (suc left) (records_count_types items) =
-    rw (has_ended, e_left) refl in
+    let phase : phase_after_items items (open_with items rest)
+    ≡ InEvent (suc left) (records_count_types items) = rw (has_ended, e_left) refl in
     let fault : fault_at_end items rest ≡ Some Truncated = ap (λ ls. fault_at_end items ls) none
     ∙ in-event items left has_ended e_left in
-    rw (phase, fault, counted)
-    (ends-same direction unit_lines choices items count
+    rw (phase, fault, counted) (ends-same direction unit_lines choices items count
     (InEvent (suc left) (records_count_types items)) (types_in_force items) (kept_of items) (Some Truncated)
     (λ f. rw (has_ended, e_left) (never-in-event choices.skip left (is_skippable f))
     ∙ sym (never-before choices.skip (is_skippable f))))
 lines-end {O = O} beginning direction open_with
-    kept_of unit_lines choices h items number count rest wanted counted true has_ended zero e_left None e_open =
+    kept_of unit_lines choices h items number count rest wanted counted true has_ended zero e_left None
+    e_open =
     let wanted' = sym (body-place beginning items rest has_ended e_left) ∙ wanted in
     let none : rest ≡ [] = h.wanted_open items rest wanted' e_open in
     let phase : phase_after_items items (open_with items rest) ≡ BetweenUnits = body-phase items
-    (open_with items rest) has_ended e_left ∙ ap (λ o. phase_in_body 0 (records_count_types items) o) e_open in
+    (open_with items rest) has_ended e_left ∙ ap (λ o. phase_in_body 0 (records_count_types items) o)
+    e_open in
     let fault : fault_at_end items rest ≡ None = ap (λ ls. fault_at_end items ls) none
     ∙ closes-well items has_ended e_left in
-    rw (phase, fault)
-    (ends-same direction unit_lines choices items count BetweenUnits (types_in_force items) (kept_of items) None
+    rw (phase, fault) (ends-same direction unit_lines choices items count BetweenUnits (types_in_force items)
+    (kept_of items) None
     (λ f. skipped-same {O = O} choices count BetweenUnits
     (types_in_force items) (kept_of items) items f has_ended e_left refl))
-lines-end {O = O} beginning direction open_with kept_of unit_lines choices h items number count [] wanted counted
-    true has_ended zero e_left (Some so_far) e_open = absurd (none-some so_far (sym (h.none_open items) ∙ e_open))
+lines-end {O = O} beginning direction open_with kept_of unit_lines choices h items number count []
+    wanted counted true has_ended zero e_left (Some so_far) e_open = absurd
+    (none-some so_far (sym (h.none_open items) ∙ e_open))
 lines-end {O = O} beginning direction open_with kept_of unit_lines choices h items number count
     (first ∷ rest) wanted counted true has_ended zero e_left (Some so_far) e_open =
-    let phase : phase_after_items items (open_with items (first ∷ rest)) ≡ InEpoch so_far = body-phase items (open_with
+    let phase : phase_after_items items (open_with items (first ∷ rest)) ≡ InEpoch so_far =
+    body-phase items (open_with
     items (first ∷ rest)) has_ended e_left ∙ ap (λ o. phase_in_body 0 (records_count_types items) o) e_open in
     let fault : fault_at_end items (first ∷ rest) ≡ Some Truncated = in-epoch items first rest has_ended in
-    rw (phase, fault, counted)
-    (ends-same direction unit_lines choices items count
+    rw (phase, fault, counted) (ends-same direction unit_lines choices items count
     (InEpoch so_far) (types_in_force items) (direction.kept_open (kept_of items)) (Some Truncated)
     (λ f. skipped-same choices count
-    (InEpoch so_far) (types_in_force items) (direction.kept_open (kept_of items)) items f has_ended e_left refl))
+    (InEpoch so_far) (types_in_force items) (direction.kept_open (kept_of items)) items f has_ended
+    e_left refl))
 
 pub next-end : {E U O K : Type 0} (beginning : List (Item E) → List ReadLine
     → Place (FileUnit E)) (direction : Direction U O K) (open_with : List (Item E) → List ReadLine → Option O)
-    (kept_of : List (Item E) → K) (unit_lines : List (Item E) → FileUnit E → List (List ℕ)) (choices : Choices)
-    → IsCarriedOut beginning direction open_with kept_of unit_lines choices
-    → (items : List (Item E)) (stop : Stop) (count : ℕ) → IsStopped (unit_place beginning) items stop (count + 1)
-    → EndsAs unit_lines items (ended_reading choices.skip (record { items = items; stop = stop }))
-    (seen_end direction (seen_of direction open_with kept_of choices count (record { items = items; stop = stop })))
+    (kept_of : List (Item E) → K) (unit_lines : List (Item E) → FileUnit E → List (List ℕ))
+    (choices : Choices) → IsCarriedOut beginning direction open_with kept_of unit_lines choices
+    → (items : List (Item E)) (stop : Stop) (count : ℕ) → IsStopped (unit_place beginning) items stop
+    (count + 1) → EndsAs unit_lines items (ended_reading choices.skip (record { items = items; stop = stop }))
+    (seen_end direction (seen_of direction open_with kept_of choices count
+    (record { items = items; stop = stop })))
 next-end beginning direction open_with kept_of unit_lines choices h items (AtFault at) count stopped =
     record { once = refl; handed_out = refl; written = refl; warned = refl; failed = refl }
 next-end beginning direction open_with kept_of unit_lines choices h items (Looking number) count stopped =
     record { once = refl; handed_out = refl; written = refl; warned = refl; failed = refl }
-next-end beginning direction open_with kept_of unit_lines choices h items (AtLines number rest) count stopped =
-    lines-end beginning direction open_with kept_of unit_lines choices h items number count rest stopped.0 stopped.1
-    (header_has_ended items) refl (records_left items) refl (open_with items rest) refl
+next-end beginning direction open_with kept_of unit_lines choices h items
+    (AtLines number rest) count stopped =
+    lines-end beginning direction open_with kept_of unit_lines choices h items number count rest stopped.0
+    stopped.1 (header_has_ended items) refl (records_left items) refl (open_with items rest) refl

@@ -1,38 +1,26 @@
 -- The faults of an epoch of compact text can all be skipped.
-use Rattle.std.proofs.Common.{ℕ, ℤ, suc, ◌≡◌, ◌+◌, ◌*◌, Bool, true, List, [], ◌∷◌, map, drop, Option, Some}
-use Rattle.std.proofs.Common.{None, Result, Ok, Err, refl}
-use Rattle.std.specs.Prelude.{⊤, not}
-use Rattle.std.specs.List.{list_all, list_any}
-use Rattle.std.specs.Str.{bytes_eq}
-use Rattle.crx_columns.specs.meaning.Columns.{columns, is_blank, without_end_blanks}
-use Rattle.crx_text.specs.meaning.Codes.{code_of}
-use Rattle.crx_faults.specs.meaning.Seen.{ReadLine, Content, Overlong}
+use Rattle.crx_filter.proofs.Words.{ℕ, ℤ, suc, ◌≡◌, ◌+◌, ◌*◌, Bool, true, List, [], ◌∷◌, map, drop, Option}
+use Rattle.crx_filter.proofs.Words.{Some, None, Result, Ok, Err, refl, ⊤, not, list_all, bytes_eq, columns}
+use Rattle.crx_filter.proofs.Words.{is_blank, without_end_blanks, code_of, ReadLine, Content, Overlong}
+use Rattle.crx_filter.proofs.Words.{HEAD_WIDTH, NAME_WIDTH, CLOCK_WIDTH, OBSERVATION_WIDTH, Fault, BadEpoch}
+use Rattle.crx_filter.proofs.Words.{BadClock, RepeatedSatellite, BadField, BadFlags, Truncated, LineTooLong}
+use Rattle.crx_filter.proofs.Words.{epoch_count, begins_epoch, Count, Place, Here, Wrong, Wanted, after_lines}
+use Rattle.crx_filter.proofs.Words.{then_place, one_line, first_line, types_of_satellite, BegunEpoch}
+use Rattle.crx_filter.proofs.Words.{satellites_of_line, epoch_begun, clock_line_read, cell_read}
+use Rattle.crx_filter.proofs.Words.{satellite_line_read, rows_read, epoch_of_rows, epoch_after_line, epoch_at}
+use Rattle.crx_filter.proofs.Words.{Satellite, is_printable, RawEpoch, block_of, Past, past_of_block}
+use Rattle.crx_filter.proofs.Words.{past_of_epochs, past_of_line, and_then, is_skippable, as_observation}
+use Rattle.std.specs.List.{list_any}
 use Rattle.crx_text.specs.declared.code.Code.{Code}
 use Rattle.crx_text.specs.declared.code.Code.TheVariants.{Missing, Start, Step}
-use Rattle.crx_faults.specs.declared.limits.TheConstants.{HEAD_WIDTH, NAME_WIDTH, CLOCK_WIDTH, OBSERVATION_WIDTH}
-use Rattle.crx_faults.specs.declared.fault.Fault.{Fault}
-use Rattle.crx_faults.specs.declared.fault.Fault.TheVariants.{BadEpoch, BadClock, RepeatedSatellite, BadField}
-use Rattle.crx_faults.specs.declared.fault.Fault.TheVariants.{OutOfRange, BadFlags, Truncated, LineTooLong}
-use Rattle.crx_header.specs.meaning.EpochColumns.{epoch_count, begins_epoch}
-use Rattle.crx_header.specs.meaning.ObservationTypes.{Count}
-use Rattle.crx_rinex.specs.meaning.Places.{Place, Here, Wrong, Wanted, after_lines, then_place, one_line, first_line}
-use Rattle.crx_header.specs.meaning.Satellites.{types_of_satellite}
-use Rattle.crx_compact.specs.meaning.CompactPlaces.{BegunEpoch, satellites_of_text}
-use Rattle.crx_compact.specs.meaning.CompactPlaces.{satellites_of_line, epoch_begun, clock_line_read}
-use Rattle.crx_compact.specs.meaning.Cells.{cell_read}
+use Rattle.crx_faults.specs.declared.fault.Fault.TheVariants.{OutOfRange}
+use Rattle.crx_compact.specs.meaning.CompactPlaces.{satellites_of_text, are_marks, row_of_cells}
 use Rattle.crx_compact.specs.meaning.Cells.{cells_of, after_cells, cells_read}
-use Rattle.crx_compact.specs.meaning.CompactPlaces.{are_marks, row_of_cells}
-use Rattle.crx_compact.specs.meaning.CompactPlaces.{satellite_line_read, rows_read}
-use Rattle.crx_compact.specs.meaning.CompactPlaces.{epoch_of_rows, epoch_after_line, epoch_at}
 use Rattle.crx_compact.specs.meaning.Differences.{value_at}
-use Rattle.crx_compact.specs.meaning.EpochText.{Satellite, satellite_before, satellites_named, names_in}
-use Rattle.crx_columns.specs.meaning.Texts.{is_printable}
-use Rattle.crx_compact.specs.meaning.Expansion.{RawEpoch}
+use Rattle.crx_compact.specs.meaning.EpochText.{satellite_before, satellites_named, names_in}
 use Rattle.crx_compact.specs.meaning.ArcValues.{Started, is_within, value_since, value_of, since_start}
-use Rattle.crx_compact.specs.meaning.Expansion.{block_of, code_in, raw_run_of}
-use Rattle.crx_compact.specs.meaning.Past.{Past, past_of_block, past_of_epochs, past_of_line}
-use Rattle.crx_compact.specs.meaning.Sequences.{and_then, before_all}
-use Rattle.crx_faults.specs.meaning.Faults.{is_skippable}
+use Rattle.crx_compact.specs.meaning.Expansion.{code_in, raw_run_of}
+use Rattle.crx_compact.specs.meaning.Sequences.{before_all}
 use Rattle.crx_compact.proofs.EpochLines.{satellites_counted}
 use Rattle.crx_compact.proofs.Marks.{row_with_marks, row_of_line}
 use Rattle.crx_filter.proofs.reading.WhatStands.{chosen}
@@ -74,6 +62,12 @@ module _ (test : Fault → Bool) where
   place-first long (Overlong ∷ lines) read a = long
   place-first long (Content line ∷ lines) read a = place-line (read line) (a line)
 
+  pub place-observation : {E : Type 0} (p : Place E) → FaultsPassAt test p
+      → FaultsPassAt test (as_observation p)
+  place-observation (Here epoch count) a = tt
+  place-observation (Wrong offset fault) a = a
+  place-observation Wanted a = tt
+
 -- ---- results and places whose faults can be skipped
 
 abbrev IsSkippableResult : {X : Type 0} → Result X Fault → Type 0
@@ -102,7 +96,8 @@ since-skippable width (Some arc) = chosen IsSkippableResult (is_within width (va
 value-skippable : (width : ℕ) (cells : List Code) → IsSkippableResult (value_of width cells)
 value-skippable width [] = tt
 value-skippable width (Missing ∷ older) = tt
-value-skippable width (Start order value ∷ older) = since-skippable width (since_start (Start order value ∷ older))
+value-skippable width (Start order value ∷ older) = since-skippable width
+    (since_start (Start order value ∷ older))
 value-skippable width (Step number ∷ older) = since-skippable width (since_start (Step number ∷ older))
 
 -- what is given to the lines of an epoch refuses them by faults that can be skipped
@@ -113,7 +108,8 @@ record IsSkippablePast (past : Past) : Type 0 where
 block-skippable : (block : List RawEpoch) → IsSkippablePast (past_of_block block)
 block-skippable block = record {
   clock = λ code. value-skippable CLOCK_WIDTH (code ∷ map (λ (e : RawEpoch). e.clock) block);
-  value = λ name place code. value-skippable OBSERVATION_WIDTH (code ∷ map (code_in place) (raw_run_of name block));
+  value = λ name place code. value-skippable OBSERVATION_WIDTH
+      (code ∷ map (code_in place) (raw_run_of name block));
 }
 
 abbrev IsSkippableOption : Option Past → Type 0
@@ -126,9 +122,11 @@ epochs-skippable (e ∷ older) = block-skippable (block_of (e ∷ older))
 
 past-skippable : (older : List RawEpoch) (line : List ℕ) → IsSkippableOption (past_of_line older line)
 past-skippable older line = chosen IsSkippableOption
-    (begins_epoch line) (Some (past_of_block [])) (past_of_epochs older) (block-skippable []) (epochs-skippable older)
+    (begins_epoch line) (Some (past_of_block [])) (past_of_epochs older) (block-skippable [])
+    (epochs-skippable older)
 
-before-skippable : (earlier : List (List ℕ)) (name : List ℕ) (count : Option ℕ) (others : Result (List Satellite) Fault)
+before-skippable : (earlier : List (List ℕ)) (name : List ℕ) (count : Option ℕ)
+    (others : Result (List Satellite) Fault)
     → IsSkippableResult others → IsSkippableResult (satellite_before earlier name count others)
 before-skippable earlier name None others a = refl
 before-skippable earlier name (Some count) others a =
@@ -153,8 +151,7 @@ counted-skippable types text (Some count) =
 
 satellites-skippable : (types : List Count) (past : Past) (line : List ℕ)
     → IsSkippableResult (satellites_of_line types past line)
-satellites-skippable types past line =
-    chosen IsSkippableResult (not (list_all is_printable line))
+satellites-skippable types past line = chosen IsSkippableResult (not (list_all is_printable line))
     (Err BadEpoch) (satellites_of_text types (past.text line)) refl
     (counted-skippable types (past.text line) (epoch_count (columns (past.text line) 1 HEAD_WIDTH)))
 
@@ -165,7 +162,8 @@ IsBegunWell (Err fault) = is_skippable fault ≡ true
 
 begun-well : (line : List ℕ) (past : Past)
     → IsSkippablePast past → (r : Result (List Satellite) Fault) → IsSkippableResult r
-    → IsBegunWell (and_then r (λ satellites. Ok (record { line = line; past = past; satellites = satellites })))
+    → IsBegunWell (and_then r
+    (λ satellites. Ok (record { line = line; past = past; satellites = satellites })))
 begun-well line past h (Ok satellites) a = h
 begun-well line past h (Err fault) a = a
 
@@ -183,17 +181,18 @@ cell-skippable malformed value (Some code) a b = skippable-and_then (value code)
 
 clock_line-skippable : (past : Past)
     → IsSkippablePast past → (line : List ℕ) → IsSkippableResult (clock_line_read past line)
-clock_line-skippable past h line =
-    chosen IsSkippableResult (begins_epoch line) (Err Truncated)
+clock_line-skippable past h line = chosen IsSkippableResult (begins_epoch line) (Err Truncated)
     (cell_read BadClock past.clock (code_of (without_end_blanks line)))
     refl (cell-skippable BadClock past.clock (code_of (without_end_blanks line)) refl h.clock)
 
 cells-skippable : (value : ℕ → Code → Result (Option ℤ) Fault) → ((place : ℕ) (c : Code)
-    → IsSkippableResult (value place c)) → (texts : List (List ℕ)) → IsSkippableResult (cells_read value texts)
+    → IsSkippableResult (value place c)) → (texts : List (List ℕ))
+    → IsSkippableResult (cells_read value texts)
 cells-skippable value h [] = tt
 cells-skippable value h (text ∷ texts) =
     skippable-and_then (cell_read BadField (value 0) (code_of text)) (λ cell. before_all cell
-    (cells_read (λ place. value (suc place)) texts)) (cell-skippable BadField (value 0) (code_of text) refl (h 0))
+    (cells_read (λ place. value (suc place)) texts)) (cell-skippable BadField (value 0)
+    (code_of text) refl (h 0))
     (λ cell. skippable-before cell (cells_read (λ place. value (suc place)) texts)
     (cells-skippable (λ place. value (suc place)) (λ place c. h (suc place) c) texts))
 
@@ -220,8 +219,7 @@ rows_read-skippable past h (satellite ∷ satellites) lines =
 
 after_line-skippable : (begun : BegunEpoch)
     → IsSkippablePast begun.past → (lines : List ReadLine) → IsSkippableAt (epoch_after_line begun lines)
-after_line-skippable begun h lines =
-    place-then is_skippable (first_line lines (clock_line_read begun.past))
+after_line-skippable begun h lines = place-then is_skippable (first_line lines (clock_line_read begun.past))
     lines _ (place-first is_skippable refl lines
     (clock_line_read begun.past) (clock_line-skippable begun.past h))
     (λ clock others. place-then is_skippable (rows_read begun.past begun.satellites others) others
@@ -230,8 +228,7 @@ after_line-skippable begun h lines =
 
 begun_line-skippable : (r : Result BegunEpoch Fault) → IsBegunWell r → (lines : List ReadLine)
     → IsSkippableAt (then_place (one_line r) lines (λ begun others. epoch_after_line begun others))
-begun_line-skippable (Ok begun) h lines =
-    place-after is_skippable 1 (epoch_after_line begun (drop 1 lines))
+begun_line-skippable (Ok begun) h lines = place-after is_skippable 1 (epoch_after_line begun (drop 1 lines))
     (after_line-skippable begun h (drop 1 lines))
 begun_line-skippable (Err fault) h lines = h
 

@@ -1,27 +1,16 @@
 -- A reading stops at faults of lines alone, and so does the end of the input.
-use Rattle.std.proofs.Common.{ℕ, zero, suc, ◌≡◌, ◌+◌, max, Bool, true, List, [], ◌∷◌, length, drop, Option, Some, None}
-use Rattle.std.proofs.Common.{refl, subst}
-use Rattle.std.specs.Prelude.{⊤, ◌==◌, nat_lt, not}
-use Rattle.crx_faults.specs.meaning.Seen.{ReadLine}
-use Rattle.crx_faults.specs.declared.fault.Fault.{Fault}
-use Rattle.crx_faults.specs.declared.fault.At.{At}
-use Rattle.crx_rinex.specs.meaning.Places.{Place}
-use Rattle.crx_rinex.specs.meaning.Units.{Unit as FileUnit}
-use Rattle.crx_reading.specs.meaning.Items.{Item, Accepted, Warned, header_has_ended, records_left}
-use Rattle.crx_reading.specs.meaning.Reading.{Reading, Stop, AtFault, AtLines, Looking, is_skipped, can_go_on}
-use Rattle.crx_reading.specs.meaning.Reading.{looked_for, reading_within, reading_from, fault_at_end, ended_with}
-use Rattle.crx_reading.specs.meaning.Reading.{after_fault}
-use Rattle.crx_reading.specs.meaning.Reading.{ended_reading, whole_reading}
-use Rattle.crx_reading.specs.meaning.Compacted.{rinex_place, whole_rinex}
-use Rattle.crx_reading.specs.meaning.Directions.{rinex_reading}
-use Rattle.crx_reading.specs.meaning.Expanded.{compact_place, first_lines, whole_compact, fault_in_first_lines}
-use Rattle.crx_reading.specs.meaning.Directions.{compact_reading}
-use Rattle.crx_reading.specs.meaning.Reading.{fault_of_stop}
-use Rattle.crx_runs.specs.Lawful.{is_of_lines}
+use Rattle.crx_filter.proofs.Words.{ℕ, zero, suc, ◌≡◌, ◌+◌, max, Bool, true, List, [], ◌∷◌, length, drop}
+use Rattle.crx_filter.proofs.Words.{Option, Some, None, refl, subst, ⊤, ◌==◌, nat_lt, not, ReadLine, Fault}
+use Rattle.crx_filter.proofs.Words.{At, Place, FileUnit, Item, Accepted, Warned, header_has_ended}
+use Rattle.crx_filter.proofs.Words.{records_left, Reading, Stop, AtFault, AtLines, Looking, is_skipped}
+use Rattle.crx_filter.proofs.Words.{can_go_on, looked_for, reading_within, reading_from, fault_at_end}
+use Rattle.crx_filter.proofs.Words.{ended_with, after_fault, ended_reading, whole_reading, rinex_place}
+use Rattle.crx_filter.proofs.Words.{whole_rinex, rinex_reading, compact_place, first_lines, whole_compact}
+use Rattle.crx_filter.proofs.Words.{fault_in_first_lines, compact_reading, fault_of_stop, is_of_lines}
 use Rattle.crx_reading.proofs.Choosing.{by_bool}
 use Rattle.crx_filter.proofs.reading.Resuming.{by_place, within-here, within-wrong, within-wanted}
-use Rattle.crx_filter.proofs.reading.WhatStands.{by_first}
-use Rattle.crx_filter.proofs.reading.LineFaults.{IsFineAt, IsFineFault, rinex-fine, compact-fine, first_lines-fine}
+use Rattle.crx_filter.proofs.reading.LineFaults.{IsFineAt, IsFineFault, rinex-fine, compact-fine}
+use Rattle.crx_filter.proofs.reading.LineFaults.{first_lines-fine}
 
 abbrev IsFineStop : Stop → Type 0
 IsFineStop (AtFault at) = is_of_lines at.fault ≡ true
@@ -41,8 +30,8 @@ looked-fine items read number (line ∷ lines) k = by_bool (can_go_on line)
     (λ off. rw (off, looked_for) (looked-fine items read (number + 1) lines k))
 
 within-fine : {E : Type 0} (place : List (Item E) → List ReadLine → Place (FileUnit E))
-    → IsFinePlace place → (skip : Bool) (units : ℕ) (items : List (Item E)) (number : ℕ) (lines : List ReadLine)
-    → IsFineStop (reading_within place skip units items number lines).stop
+    → IsFinePlace place → (skip : Bool) (units : ℕ) (items : List (Item E)) (number : ℕ)
+    (lines : List ReadLine) → IsFineStop (reading_within place skip units items number lines).stop
 within-fine place h skip zero items number lines = tt
 within-fine place h skip (suc units) items number lines = by_place (place items lines)
     (λ unit count e. rw (within-here place skip units items number lines unit count e)
@@ -52,15 +41,15 @@ within-fine place h skip (suc units) items number lines = by_place (place items 
     let fine = subst (λ (p : Place _). IsFineAt p) e (h items lines) in
     rw (within-wrong place skip units items number lines offset fault e)
     (by_bool (is_skipped skip items fault)
-    (λ on. rw (on, after_fault)
-    (looked-fine (Warned at ∷ items)
+    (λ on. rw (on, after_fault) (looked-fine (Warned at ∷ items)
     (reading_within place skip units (Warned at ∷ items)) (number + max offset 1) (drop (max offset 1) lines)
     (λ n ls. within-fine place h skip units (Warned at ∷ items) n ls)))
     (λ off. rw (off, after_fault) fine)))
     (λ e. rw (within-wanted place skip units items number lines e) tt)
 
 from-fine : {E : Type 0} (place : List (Item E) → List ReadLine → Place (FileUnit E)) → IsFinePlace place
-    → (skip : Bool) (number : ℕ) (lines : List ReadLine) → IsFineStop (reading_from place skip [] number lines).stop
+    → (skip : Bool) (number : ℕ) (lines : List ReadLine)
+    → IsFineStop (reading_from place skip [] number lines).stop
 from-fine place h skip number lines = within-fine place h skip (length lines + 1) [] number lines
 
 -- ---- the end of the input
@@ -69,17 +58,20 @@ abbrev IsFineEnd : Option At → Type 0
 IsFineEnd None = ⊤
 IsFineEnd (Some at) = is_of_lines at.fault ≡ true
 
-at_end-fine : {E : Type 0} (items : List (Item E)) (lines : List ReadLine) → IsFineFault (fault_at_end items lines)
+at_end-fine : {E : Type 0} (items : List (Item E)) (lines : List ReadLine)
+    → IsFineFault (fault_at_end items lines)
 at_end-fine [] lines = refl
 at_end-fine (item ∷ before) [] = by_bool (not (header_has_ended (item ∷ before)))
     (λ on. rw on refl)
-    (λ off. by_bool (nat_lt 0 (records_left (item ∷ before))) (λ more. rw (off, more) refl) (λ none. rw (off, none) tt))
+    (λ off. by_bool (nat_lt 0 (records_left (item ∷ before))) (λ more. rw (off, more) refl)
+    (λ none. rw (off, none) tt))
 at_end-fine (item ∷ before) (line ∷ lines) = refl
 
 with-fine : {E : Type 0} (skip : Bool) (items : List (Item E)) (number : ℕ) (fault : Option Fault)
     → IsFineFault fault → IsFineEnd (ended_with skip items number fault).fault
 with-fine skip items number None h = tt
-with-fine skip items number (Some fault) h = by_bool (is_skipped skip items fault) (λ on. rw on tt) (λ off. rw off h)
+with-fine skip items number (Some fault) h = by_bool (is_skipped skip items fault) (λ on. rw on tt)
+    (λ off. rw off h)
 
 ended-fine : {E : Type 0} (skip : Bool) (items : List (Item E)) (stop : Stop)
     → IsFineStop stop → IsFineEnd (ended_reading skip (record { items = items; stop = stop })).fault
@@ -89,14 +81,16 @@ ended-fine skip items (AtLines number lines) h =
 ended-fine skip items (Looking number) h = tt
 
 whole-fine : {E : Type 0} (place : List (Item E) → List ReadLine → Place (FileUnit E)) → IsFinePlace place
-    → (skip : Bool) (number : ℕ) (lines : List ReadLine) → IsFineEnd (whole_reading place skip number lines).fault
+    → (skip : Bool) (number : ℕ) (lines : List ReadLine)
+    → IsFineEnd (whole_reading place skip number lines).fault
 whole-fine place h skip number lines =
     let r : Reading _ = reading_from place skip [] number lines in
     ended-fine skip r.items r.stop (from-fine place h skip number lines)
 
 -- ---- both directions
 
-of-stop : (stop : Stop) (at : At) → IsFineStop stop → fault_of_stop stop ≡ Some at → is_of_lines at.fault ≡ true
+of-stop : (stop : Stop) (at : At) → IsFineStop stop → fault_of_stop stop
+    ≡ Some at → is_of_lines at.fault ≡ true
 of-stop (AtFault fault) at h e =
     let same : fault ≡ at = cc in
     subst (λ (a : At). is_of_lines a.fault ≡ true) same h
@@ -119,8 +113,9 @@ rinex-found-at-end skip lines at e =
     of-end (whole_rinex skip lines).fault at (whole-fine rinex_place rinex-fine skip 1 lines) e
 
 compact-stop : (skip : Bool) (lines : List ReadLine) → IsFineStop (compact_reading skip lines).stop
-compact-stop skip lines = by_first (first_lines lines)
-    (λ two count e. rw (e, compact_reading) (from-fine compact_place compact-fine skip (count + 1) (drop count lines)))
+compact-stop skip lines = by_place (first_lines lines)
+    (λ two count e. rw (e, compact_reading) (from-fine compact_place compact-fine skip (count + 1)
+    (drop count lines)))
     (λ offset fault e. rw (e, compact_reading)
     (subst (λ (p : Place (List (List ℕ))). IsFineAt p) e (first_lines-fine lines)))
     (λ e. rw (e, compact_reading) tt)
@@ -129,8 +124,9 @@ first-end-fine : (count : ℕ) → is_of_lines (fault_in_first_lines count) ≡ 
 first-end-fine count = by_bool (count == 0) (λ on. rw on refl) (λ off. rw off refl)
 
 compact-end : (skip : Bool) (lines : List ReadLine) → IsFineEnd (whole_compact skip lines).fault
-compact-end skip lines = by_first (first_lines lines)
-    (λ two count e. rw (e, whole_compact) (whole-fine compact_place compact-fine skip (count + 1) (drop count lines)))
+compact-end skip lines = by_place (first_lines lines)
+    (λ two count e. rw (e, whole_compact) (whole-fine compact_place compact-fine skip (count + 1)
+    (drop count lines)))
     (λ offset fault e. rw (e, whole_compact)
     (subst (λ (p : Place (List (List ℕ))). IsFineAt p) e (first_lines-fine lines)))
     (λ e. rw (e, whole_compact) (first-end-fine (length lines)))

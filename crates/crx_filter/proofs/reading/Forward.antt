@@ -1,19 +1,11 @@
 -- What stands at a line is certain as soon as its last line has come, in both directions.
-use Rattle.std.proofs.Common.{◌≡◌, Bool, true, false, not, cond, List, [], refl}
-use Rattle.crx_faults.specs.meaning.Seen.{ReadLine}
-use Rattle.crx_rinex.specs.meaning.Places.{Place, Wanted, first_line}
-use Rattle.crx_rinex.specs.Steady.{IsSteady}
-use Rattle.crx_rinex.specs.meaning.Units.{Unit as FileUnit}
-use Rattle.crx_rinex.specs.meaning.Observations.{Epoch}
-use Rattle.crx_rinex.specs.meaning.EpochPlaces.{epoch_place}
+use Rattle.crx_filter.proofs.Words.{◌≡◌, Bool, true, false, not, cond, List, [], refl, ReadLine, Place}
+use Rattle.crx_filter.proofs.Words.{Wanted, first_line, IsSteady, FileUnit, Epoch, epoch_place, Item}
+use Rattle.crx_filter.proofs.Words.{is_at_start, header_has_ended, records_left, records_count_types}
+use Rattle.crx_filter.proofs.Words.{types_in_force, header_line, event_record, unit_place, rinex_place}
+use Rattle.crx_filter.proofs.Words.{IsReadForward, nat_lt}
 use Rattle.crx_rinex.proofs.Steady.{steady-first_line}
 use Rattle.crx_rinex.proofs.OpenEpochs.{steady-epoch_place}
-use Rattle.crx_reading.specs.meaning.Items.{Item, is_at_start, header_has_ended, records_left, records_count_types}
-use Rattle.crx_reading.specs.meaning.Items.{types_in_force}
-use Rattle.crx_reading.specs.meaning.UnitPlaces.{header_line, event_record, unit_place}
-use Rattle.crx_reading.specs.meaning.Compacted.{rinex_place}
-use Rattle.crx_filter.specs.Laws.{IsReadForward}
-use Rattle.std.specs.Prelude.{nat_lt}
 
 -- where an epoch or an event may begin in RINEX
 abbrev pub rinex_beginning : List (Item Epoch) → List ReadLine → Place (FileUnit Epoch)
@@ -25,7 +17,8 @@ chosen_steady : {X : Type 0} (b : Bool) (one two : List ReadLine → Place X)
 chosen_steady true one two h k = h
 chosen_steady false one two h k = k
 
-chosen_wanted : {X : Type 0} (b : Bool) (one two : Place X) → one ≡ Wanted → two ≡ Wanted → cond b one two ≡ Wanted
+chosen_wanted : {X : Type 0} (b : Bool) (one two : Place X) → one ≡ Wanted → two ≡ Wanted → cond b one two
+    ≡ Wanted
 chosen_wanted true one two h k = h
 chosen_wanted false one two h k = k
 
@@ -34,11 +27,11 @@ pub unit_place-forward : {E : Type 0} (beginning : List (Item E) → List ReadLi
     → ((items : List (Item E)) → beginning items [] ≡ Wanted) → IsReadForward (unit_place beginning)
 unit_place-forward beginning steady wants = record {
   steady = λ items.
-      chosen_steady (not (header_has_ended items)) (λ lines. first_line lines (header_line (is_at_start items)))
+      chosen_steady (not (header_has_ended items)) (λ lines. first_line lines
+      (header_line (is_at_start items)))
       (λ lines. cond (nat_lt 0 (records_left items))
       (first_line lines (event_record (records_count_types items))) (beginning items lines))
-      (steady-first_line (header_line (is_at_start items)))
-      (chosen_steady (nat_lt 0 (records_left items))
+      (steady-first_line (header_line (is_at_start items))) (chosen_steady (nat_lt 0 (records_left items))
       (λ lines. first_line lines (event_record (records_count_types items))) (beginning items)
       (steady-first_line (event_record (records_count_types items))) (steady items));
   wants = λ items.

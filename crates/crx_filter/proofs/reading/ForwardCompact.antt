@@ -1,24 +1,13 @@
 -- What stands at a line of compact text is certain as soon as its last line has come.
-use Rattle.std.proofs.Common.{ℕ, suc, ◌<◌, List, [], ◌∷◌, ◌++◌, length, Result, Ok, Err, refl, ap, arith}
-use Rattle.crx_faults.specs.meaning.Seen.{ReadLine, Content, Overlong}
-use Rattle.crx_rinex.specs.meaning.Units.{Unit as FileUnit}
-use Rattle.crx_faults.specs.declared.fault.Fault.{Fault}
-use Rattle.crx_rinex.specs.meaning.Places.{Place, Here, Wrong, Wanted, then_place, one_line, first_line}
-use Rattle.crx_rinex.specs.Steady.{IsSteady, Remains, IsDecidedAfter}
-use Rattle.crx_header.specs.meaning.EpochColumns.{is_event_line}
-use Rattle.crx_header.specs.meaning.ObservationTypes.{Count}
+use Rattle.crx_filter.proofs.Words.{ℕ, suc, ◌<◌, List, [], ◌∷◌, ◌++◌, length, Result, Ok, Err, refl, ap}
+use Rattle.crx_filter.proofs.Words.{arith, ReadLine, Content, Overlong, FileUnit, Fault, Place, Here, Wrong}
+use Rattle.crx_filter.proofs.Words.{Wanted, then_place, one_line, first_line, IsSteady, Remains}
+use Rattle.crx_filter.proofs.Words.{IsDecidedAfter, is_event_line, Count, RawEpoch, past_of_line, ReadEpoch}
+use Rattle.crx_filter.proofs.Words.{epoch_begun, epoch_after_line, epoch_at, Item, types_in_force, raws_kept}
+use Rattle.crx_filter.proofs.Words.{event_line, as_observation, compact_epoch_place, compact_place}
+use Rattle.crx_filter.proofs.Words.{crinex_version, crinex_program, first_lines, IsReadForward}
 use Rattle.crx_rinex.proofs.Steady.{steady-here, steady-first_line, steady-then}
-use Rattle.crx_compact.specs.meaning.Expansion.{RawEpoch}
-use Rattle.crx_compact.specs.meaning.Past.{past_of_line}
-use Rattle.crx_compact.specs.meaning.CompactPlaces.{ReadEpoch, epoch_begun}
-use Rattle.crx_compact.specs.meaning.CompactPlaces.{epoch_after_line}
-use Rattle.crx_compact.specs.meaning.CompactPlaces.{epoch_at}
-use Rattle.crx_reading.specs.meaning.Items.{Item, types_in_force}
-use Rattle.crx_reading.specs.meaning.Expanded.{raws_kept, event_line, as_observation, compact_epoch_place}
-use Rattle.crx_reading.specs.meaning.Expanded.{compact_place}
-use Rattle.crx_reading.specs.meaning.Expanded.{crinex_version, crinex_program, first_lines}
 use Rattle.crx_reading.proofs.Choosing.{by_bool}
-use Rattle.crx_filter.specs.Laws.{IsReadForward}
 use Rattle.crx_filter.proofs.reading.Forward.{unit_place-forward}
 use Rattle.crx_compact.proofs.reading.SteadyEpochs.{steady-after_line}
 
@@ -28,7 +17,8 @@ compact_beginning items = compact_epoch_place (types_in_force items) (raws_kept 
 
 pub steady-epoch_at : (types : List Count) (older : List RawEpoch) → IsSteady (epoch_at types older)
 steady-epoch_at types older =
-    steady-then (λ lines. first_line lines (λ line. epoch_begun types line (past_of_line older line))) epoch_after_line
+    steady-then (λ lines. first_line lines (λ line. epoch_begun types line (past_of_line older line)))
+    epoch_after_line
     (steady-first_line (λ line. epoch_begun types line (past_of_line older line))) steady-after_line
 
 -- ---- where an epoch or an event may begin
@@ -49,24 +39,24 @@ line-decided : {X : Type 0} (r : Result X Fault) → IsDecidedAfter 0 (one_line 
 line-decided (Ok x) = omega arith
 line-decided (Err fault) = omega arith
 
-line-remains : {X : Type 0} (count : ℕ) (r : Result X Fault) → 0 < count → Remains count (one_line r) (one_line r)
+line-remains : {X : Type 0} (count : ℕ) (r : Result X Fault) → 0 < count
+    → Remains count (one_line r) (one_line r)
 line-remains count (Ok x) h = (omega (arith, h), refl)
 line-remains count (Err fault) h = (omega (arith, h), refl)
 
 steady-compact : (types : List Count) (older : List RawEpoch) → IsSteady (compact_epoch_place types older)
 steady-compact types older [] [] = tt
 steady-compact types older [] (Overlong ∷ more) =
-    observation-decided 0 (epoch_at types older (Overlong ∷ more)) (steady-epoch_at types older [] (Overlong ∷ more))
-steady-compact types older [] (Content line ∷ more) =
-    by_bool (is_event_line line)
+    observation-decided 0 (epoch_at types older (Overlong ∷ more))
+    (steady-epoch_at types older [] (Overlong ∷ more))
+steady-compact types older [] (Content line ∷ more) = by_bool (is_event_line line)
     (λ on. rw on (line-decided (event_line {E = ReadEpoch} line)))
     (λ off. rw off (observation-decided 0 (epoch_at types older (Content line ∷ more))
     (steady-epoch_at types older [] (Content line ∷ more))))
 steady-compact types older (Overlong ∷ lines) more =
     observation-remains (length (Overlong ∷ lines)) (epoch_at types older (Overlong ∷ lines))
     (epoch_at types older (Overlong ∷ (lines ++ more))) (steady-epoch_at types older (Overlong ∷ lines) more)
-steady-compact types older (Content line ∷ lines) more =
-    by_bool (is_event_line line)
+steady-compact types older (Content line ∷ lines) more = by_bool (is_event_line line)
     (λ on. rw on (line-remains (suc (length lines)) (event_line {E = ReadEpoch} line) (omega arith)))
     (λ off. rw off (observation-remains (suc (length lines)) (epoch_at types older (Content line ∷ lines))
     (epoch_at types older (Content line ∷ (lines ++ more)))
@@ -83,5 +73,6 @@ steady-first_lines =
     steady-then (λ lines. first_line lines crinex_version) (λ version others.
     then_place (first_line others crinex_program) others (λ program rest. Here (version ∷ program ∷ []) 0))
     (steady-first_line crinex_version)
-    (λ version. steady-then (λ lines. first_line lines crinex_program) (λ program rest. Here (version ∷ program ∷ []) 0)
+    (λ version. steady-then (λ lines. first_line lines crinex_program)
+    (λ program rest. Here (version ∷ program ∷ []) 0)
     (steady-first_line crinex_program) (λ program. steady-here (version ∷ program ∷ [])))

@@ -1,31 +1,17 @@
 -- What was accepted of a RINEX file is in place.
-use Rattle.std.proofs.Common.{ℕ, zero, suc, ◌≡◌, ◌+◌, true, false, cond, List, [], ◌∷◌, Option, Some, None}
-use Rattle.std.proofs.Common.{Result, Ok, Err, refl, ap, sym, subst, ◌∙◌, arith}
-use Rattle.std.specs.Prelude.{⊤, not, drop}
-use Rattle.std.specs.List.{list_all}
-use Rattle.crx_text.specs.meaning.Numbers.{clock_of}
-use Rattle.crx_faults.specs.declared.limits.TheConstants.{HEAD_WIDTH, CLOCK_WIDTH}
-use Rattle.std.specs.Option.{is_some}
-use Rattle.crx_faults.specs.meaning.Seen.{ReadLine, Content, Overlong}
-use Rattle.crx_columns.specs.meaning.Columns.{columns, character_at, is_blank}
-use Rattle.crx_faults.specs.declared.fault.Fault.{Fault}
-use Rattle.crx_faults.specs.declared.fault.Fault.TheVariants.{BadEpoch}
-use Rattle.crx_rinex.specs.meaning.Observations.{Epoch}
-use Rattle.crx_rinex.specs.meaning.Places.{Place, Here, Wrong, Wanted, after_lines, then_place, one_line, first_line}
-use Rattle.crx_rinex.specs.meaning.Units.{Unit as FileUnit, HeaderLine, EventLine, EventRecord, Observation}
-use Rattle.crx_header.specs.meaning.EpochColumns.{begins_epoch, is_event_flag, is_event_line, records_in, epoch_count}
-use Rattle.crx_rinex.specs.meaning.EpochLines.{event_head}
-use Rattle.crx_rinex.specs.meaning.EpochLines.{epoch_head, head_of}
-use Rattle.crx_header.specs.meaning.ObservationTypes.{Count}
-use Rattle.crx_rinex.specs.meaning.EpochPlaces.{Beginning, EventBegins, EpochBegins, opened, begun_by, beginning_of}
-use Rattle.crx_rinex.specs.meaning.EpochPlaces.{rest_at, unit_begun, epoch_place}
+use Rattle.crx_filter.proofs.Words.{ℕ, zero, suc, ◌≡◌, ◌+◌, true, false, cond, List, [], ◌∷◌, Option, Some}
+use Rattle.crx_filter.proofs.Words.{None, Result, Ok, Err, refl, ap, sym, subst, ◌∙◌, arith, ⊤, not, drop}
+use Rattle.crx_filter.proofs.Words.{list_all, clock_of, HEAD_WIDTH, CLOCK_WIDTH, is_some, ReadLine, Content}
+use Rattle.crx_filter.proofs.Words.{Overlong, columns, character_at, is_blank, Fault, BadEpoch, Epoch, Place}
+use Rattle.crx_filter.proofs.Words.{Here, Wrong, Wanted, after_lines, then_place, one_line, first_line}
+use Rattle.crx_filter.proofs.Words.{FileUnit, HeaderLine, EventLine, EventRecord, Observation, begins_epoch}
+use Rattle.crx_filter.proofs.Words.{is_event_flag, is_event_line, records_in, epoch_count, event_head}
+use Rattle.crx_filter.proofs.Words.{epoch_head, head_of, Count, Beginning, EventBegins, EpochBegins, opened}
+use Rattle.crx_filter.proofs.Words.{begun_by, beginning_of, rest_at, unit_begun, epoch_place, Item, Accepted}
+use Rattle.crx_filter.proofs.Words.{Warned, is_at_start, header_has_ended, records_left, records_count_types}
+use Rattle.crx_filter.proofs.Words.{types_in_force, types_fault, header_line_fault, header_line, event_record}
+use Rattle.crx_filter.proofs.Words.{rinex_place, ItemsAreRead, IsInPlace, AreInPlace}
 use Rattle.crx_rinex.proofs.SoundEpochs.{with_clock, sound-epoch_place}
-use Rattle.crx_reading.specs.meaning.Items.{Item, Accepted, Warned, is_at_start, header_has_ended, records_left}
-use Rattle.crx_reading.specs.meaning.Items.{records_count_types, types_in_force}
-use Rattle.crx_reading.specs.meaning.UnitPlaces.{types_fault, header_line_fault, header_line}
-use Rattle.crx_reading.specs.meaning.UnitPlaces.{event_record}
-use Rattle.crx_reading.specs.meaning.Compacted.{rinex_place}
-use Rattle.crx_filter.specs.Laws.{ItemsAreRead, IsInPlace, AreInPlace}
 use Rattle.crx_reading.proofs.Choosing.{by_bool}
 use Rattle.crx_filter.proofs.following.Following.{body-place}
 use Rattle.crx_filter.proofs.following.Lines.{record-place}
@@ -35,7 +21,7 @@ use Rattle.crx_filter.proofs.reading.Forward.{rinex_beginning}
 
 -- ---- an epoch or an event
 
-abbrev IsBegun : FileUnit Epoch → Type 0
+abbrev pub IsBegun : {E : Type 0} → FileUnit E → Type 0
 IsBegun (HeaderLine line) = ⊥
 IsBegun (EventLine line) = (is_event_line line ≡ true) × (is_some (records_in line) ≡ true)
 IsBegun (EventRecord line) = ⊥
@@ -57,8 +43,7 @@ clock-begun line head count (Some clock) = tt
 
 epoch-begun : (line : List ℕ) (o : Option ℕ) → OfOk IsEventBegun (begun_by line (epoch_head line o))
 epoch-begun line None = tt
-epoch-begun line (Some count) =
-    chosen (λ r. OfOk IsEventBegun (begun_by line r))
+epoch-begun line (Some count) = chosen (λ r. OfOk IsEventBegun (begun_by line r))
     (not (list_all is_blank (drop (HEAD_WIDTH + CLOCK_WIDTH) line))) (Err BadEpoch)
     (with_clock (columns line 1 HEAD_WIDTH) count (clock_of (columns line (HEAD_WIDTH + 1) CLOCK_WIDTH))) tt
     (clock-begun line (columns line 1 HEAD_WIDTH) count
@@ -71,10 +56,12 @@ line-begun line = by_bool (begins_epoch line)
     (λ other. rw (on, other, head_of) (epoch-begun line (epoch_count (columns line 1 HEAD_WIDTH)))))
     (λ off. rw (off, head_of) tt)
   where
-    is_event : begins_epoch line ≡ true → is_event_flag (character_at line 32) ≡ true → is_event_line line ≡ true
+    is_event : begins_epoch line ≡ true → is_event_flag (character_at line 32) ≡ true
+        → is_event_line line ≡ true
     is_event a b = rw (a, b) refl
 
-after-here : {X : Type 0} (P : X → Type 0) (count : ℕ) (p : Place X) → OfHere P p → OfHere P (after_lines count p)
+after-here : {X : Type 0} (P : X → Type 0) (count : ℕ) (p : Place X) → OfHere P p
+    → OfHere P (after_lines count p)
 after-here P count (Here x n) h = h
 after-here P count (Wrong offset fault) h = tt
 after-here P count Wanted h = tt
@@ -96,7 +83,8 @@ unit-begun types (Ok (EpochBegins head)) lines h =
 place-begun : (types : List Count) (lines : List ReadLine) → OfHere IsBegun (epoch_place types lines)
 place-begun types [] = tt
 place-begun types (Overlong ∷ lines) = tt
-place-begun types (Content line ∷ lines) = unit-begun types (beginning_of line) (Content line ∷ lines) (line-begun line)
+place-begun types (Content line ∷ lines) = unit-begun types (beginning_of line) (Content line ∷ lines)
+    (line-begun line)
 
 -- ---- a unit, wherever it stands
 
@@ -107,7 +95,8 @@ begun-in_place before (HeaderLine line) lines count ended none e h = absurd h
 begun-in_place before (EventLine line) lines count ended none e h = (ended, none, h.0, h.1)
 begun-in_place before (EventRecord line) lines count ended none e h = absurd h
 begun-in_place before (Observation epoch) lines count ended none e h = let whole =
-    sound-epoch_place (types_in_force before) lines epoch count (counts-in_force before) e in (ended, none, whole.0)
+    sound-epoch_place (types_in_force before) lines epoch count (counts-in_force before) e in
+    (ended, none, whole.0)
 
 in-body : (before : List (Item Epoch)) (unit : FileUnit Epoch) (lines : List ReadLine) (count : ℕ)
     → rinex_place before lines ≡ Here unit count
@@ -135,8 +124,8 @@ in-header before unit lines count e open_header =
     (λ line. unless-wrong (IsInPlace before)
     (HeaderLine line) (header_line_fault (is_at_start before) line) (λ good. (open_header, good))))
   where
-    at_header : (ls : List ReadLine)
-        → header_has_ended before ≡ false → rinex_place before ls ≡ first_line ls (header_line (is_at_start before))
+    at_header : (ls : List ReadLine) → header_has_ended before ≡ false → rinex_place before ls
+        ≡ first_line ls (header_line (is_at_start before))
     at_header ls e = rw e refl
 
 unit-in_place : (before : List (Item Epoch)) (unit : FileUnit Epoch) (lines : List ReadLine) (count : ℕ)

@@ -1,12 +1,7 @@
 -- What each step of a reading keeps holds of all that it has accepted.
-use Rattle.std.proofs.Common.{ℕ, zero, suc, ◌≡◌, ◌+◌, max, Bool, true, List, [], ◌∷◌, drop}
-use Rattle.crx_faults.specs.meaning.Seen.{ReadLine}
-use Rattle.crx_faults.specs.declared.fault.At.{At}
-use Rattle.crx_rinex.specs.meaning.Places.{Place, Here}
-use Rattle.crx_rinex.specs.meaning.Units.{Unit as FileUnit}
-use Rattle.crx_reading.specs.meaning.Items.{Item, Accepted, Warned}
-use Rattle.crx_reading.specs.meaning.Reading.{Reading, is_skipped, can_go_on, looked_for}
-use Rattle.crx_reading.specs.meaning.Reading.{after_fault, reading_within}
+use Rattle.crx_filter.proofs.Words.{ℕ, zero, suc, ◌≡◌, ◌+◌, max, Bool, true, List, [], ◌∷◌, drop, ReadLine}
+use Rattle.crx_filter.proofs.Words.{At, Place, Here, FileUnit, Item, Accepted, Warned, Reading, is_skipped}
+use Rattle.crx_filter.proofs.Words.{can_go_on, looked_for, after_fault, reading_within}
 use Rattle.crx_reading.proofs.Choosing.{by_bool}
 use Rattle.crx_filter.proofs.reading.Resuming.{by_place, within-here, within-wrong, within-wanted}
 

@@ -1,53 +1,38 @@
 -- The faults that a reading finds are those of lines, or of the end of the input.
-use Rattle.std.proofs.Common.{ℕ, ℤ, zero, suc, ◌≡◌, ◌+◌, ◌*◌, Bool, true, cond, List, drop, Option}
-use Rattle.std.proofs.Common.{Some, None, Result, Ok, Err, refl}
-use Rattle.std.specs.Prelude.{⊤, ◌==◌, ◌&&◌, not}
-use Rattle.std.specs.List.{list_all}
-use Rattle.std.specs.Str.{bytes_eq}
-use Rattle.crx_columns.specs.meaning.Columns.{columns, character_at, is_blank, without_blanks}
-use Rattle.crx_text.specs.meaning.Numbers.{clock_of}
-use Rattle.crx_faults.specs.meaning.Seen.{ReadLine}
-use Rattle.crx_faults.specs.declared.limits.TheConstants.{HEAD_WIDTH, NAME_WIDTH, CELL_WIDTH, CLOCK_WIDTH}
-use Rattle.crx_faults.specs.declared.fault.Fault.{Fault}
-use Rattle.crx_faults.specs.declared.fault.Fault.TheVariants.{InputTooLong, ReadFailed, WriteFailed, OutOfMemory}
-use Rattle.crx_faults.specs.declared.fault.Fault.TheVariants.{MissingVersion, UnsupportedVersion, NotObservation}
-use Rattle.crx_faults.specs.declared.fault.Fault.TheVariants.{BadTypesLine, NotCompact, BadProgLine, NotAnEpoch}
-use Rattle.crx_faults.specs.declared.fault.Fault.TheVariants.{BadEpoch, RepeatedSatellite, BadField, BadFlags, Truncated}
-use Rattle.crx_columns.specs.meaning.Texts.{is_kept}
+use Rattle.crx_filter.proofs.Words.{ℕ, ℤ, zero, suc, ◌≡◌, ◌+◌, ◌*◌, Bool, true, cond, List, drop, Option}
+use Rattle.crx_filter.proofs.Words.{Some, None, Result, Ok, Err, refl, ⊤, ◌==◌, ◌&&◌, not, list_all, bytes_eq}
+use Rattle.crx_filter.proofs.Words.{columns, character_at, is_blank, clock_of, ReadLine, HEAD_WIDTH}
+use Rattle.crx_filter.proofs.Words.{NAME_WIDTH, CLOCK_WIDTH, Fault, OutOfMemory, MissingVersion, BadEpoch}
+use Rattle.crx_filter.proofs.Words.{RepeatedSatellite, BadField, BadFlags, Truncated, is_kept, HeadLine}
+use Rattle.crx_filter.proofs.Words.{EventHead, EpochHead, is_event_flag, records_in, epoch_count}
+use Rattle.crx_filter.proofs.Words.{begins_epoch, event_head, epoch_head, head_of, OpenEpoch, Beginning}
+use Rattle.crx_filter.proofs.Words.{EventBegins, EpochBegins, opened, rows_wanted, with_next_row, next_row}
+use Rattle.crx_filter.proofs.Words.{rows_at, rest_at, begun_by, beginning_of, unit_begun, epoch_place}
+use Rattle.crx_filter.proofs.Words.{has_satellite, Row, Epoch, Count, Place, Here, Wrong, Wanted, first_line}
+use Rattle.crx_filter.proofs.Words.{types_of_satellite, row_of, FileUnit, HeaderLine, EventRecord}
+use Rattle.crx_filter.proofs.Words.{Observation, ReadEpoch, epoch_at, RawEpoch, CRINEX_PROGRAM_LABEL, Item}
+use Rattle.crx_filter.proofs.Words.{is_at_start, records_count_types, types_in_force, unless_wrong}
+use Rattle.crx_filter.proofs.Words.{types_fault, header_line_fault, header_line, event_record, unit_place}
+use Rattle.crx_filter.proofs.Words.{rinex_place, compact_epoch_place, compact_place, raws_kept}
+use Rattle.crx_filter.proofs.Words.{crinex_version, crinex_program, first_lines, is_skippable, is_of_lines}
+use Rattle.crx_columns.specs.meaning.Columns.{without_blanks}
+use Rattle.crx_faults.specs.declared.limits.TheConstants.{CELL_WIDTH}
+use Rattle.crx_faults.specs.declared.fault.Fault.TheVariants.{InputTooLong, ReadFailed, WriteFailed}
+use Rattle.crx_faults.specs.declared.fault.Fault.TheVariants.{UnsupportedVersion, NotObservation}
+use Rattle.crx_faults.specs.declared.fault.Fault.TheVariants.{BadTypesLine, NotCompact, BadProgLine}
+use Rattle.crx_faults.specs.declared.fault.Fault.TheVariants.{NotAnEpoch}
 use Rattle.crx_header.specs.meaning.Header.{is_supported, first_header_fault}
 use Rattle.crx_header.specs.declared.labels.TheConstants.{VERSION_LABEL}
 use Rattle.crx_header.specs.meaning.Label.{has_label}
-use Rattle.crx_rinex.specs.meaning.EpochLines.{HeadLine, EventHead, EpochHead}
-use Rattle.crx_header.specs.meaning.EpochColumns.{is_event_flag, records_in, epoch_count, begins_epoch}
-use Rattle.crx_rinex.specs.meaning.EpochLines.{event_head, epoch_head, head_of}
-use Rattle.crx_rinex.specs.meaning.EpochPlaces.{OpenEpoch, Beginning, EventBegins, EpochBegins, opened, rows_wanted}
-use Rattle.crx_rinex.specs.meaning.EpochPlaces.{with_next_row, row_if_new, next_row, row_at, rows_at, rest_at, begun_by}
-use Rattle.crx_rinex.specs.meaning.EpochPlaces.{beginning_of, unit_begun, epoch_place}
-use Rattle.crx_rinex.specs.meaning.Epochs.{has_satellite}
-use Rattle.crx_rinex.specs.meaning.Observations.{Row, Epoch}
-use Rattle.crx_header.specs.meaning.ObservationTypes.{Count, is_bad_types_line}
-use Rattle.crx_rinex.specs.meaning.Places.{Place, Here, Wrong, Wanted, first_line}
-use Rattle.crx_header.specs.meaning.Satellites.{types_of_satellite}
+use Rattle.crx_rinex.specs.meaning.EpochPlaces.{row_if_new, row_at}
+use Rattle.crx_header.specs.meaning.ObservationTypes.{is_bad_types_line}
 use Rattle.crx_rinex.specs.meaning.SatelliteLines.{values_in, flags_in, row_with, row_of_types}
-use Rattle.crx_rinex.specs.meaning.SatelliteLines.{row_of}
-use Rattle.crx_rinex.specs.meaning.Units.{Unit as FileUnit, HeaderLine, EventRecord, Observation}
-use Rattle.crx_compact.specs.meaning.CompactPlaces.{ReadEpoch, epoch_at}
-use Rattle.crx_compact.specs.meaning.Expansion.{RawEpoch}
-use Rattle.crx_header.specs.declared.crinex.TheConstants.{CRINEX_VERSION, CRINEX_VERSION_LABEL, CRINEX_PROGRAM_LABEL}
-use Rattle.crx_reading.specs.meaning.Items.{Item, is_at_start, records_count_types}
-use Rattle.crx_reading.specs.meaning.Items.{types_in_force}
-use Rattle.crx_reading.specs.meaning.UnitPlaces.{unless_wrong, types_fault, first_fault, header_line_fault, header_line}
-use Rattle.crx_reading.specs.meaning.UnitPlaces.{event_record, unit_place}
-use Rattle.crx_reading.specs.meaning.Compacted.{rinex_place}
-use Rattle.crx_reading.specs.meaning.Expanded.{as_observation, compact_epoch_place, compact_place}
-use Rattle.crx_reading.specs.meaning.Expanded.{raws_kept}
-use Rattle.crx_reading.specs.meaning.Expanded.{crinex_version, crinex_program, first_lines}
-use Rattle.crx_faults.specs.meaning.Faults.{is_skippable}
-use Rattle.crx_runs.specs.Lawful.{is_of_lines}
+use Rattle.crx_header.specs.declared.crinex.TheConstants.{CRINEX_VERSION, CRINEX_VERSION_LABEL}
+use Rattle.crx_reading.specs.meaning.UnitPlaces.{first_fault}
 use Rattle.crx_filter.proofs.reading.EpochFaults.{FaultsPass, FaultsPassAt, place-then, place-first}
+use Rattle.crx_filter.proofs.reading.EpochFaults.{IsSkippableAt, epoch-skippable, place-observation}
 use Rattle.crx_filter.proofs.reading.WhatStands.{chosen, of-unit, of-compact}
 use Rattle.crx_rinex.proofs.SoundEpochs.{with_clock}
-use Rattle.crx_filter.proofs.reading.EpochFaults.{IsSkippableAt, epoch-skippable}
 
 -- ---- results, options and places whose faults are those of lines
 
@@ -63,7 +48,8 @@ IsFineAt p = FaultsPassAt is_of_lines p
 
 -- ---- the header and an event's records
 
-fine-unless : {E : Type 0} (unit : FileUnit E) (o : Option Fault) → IsFineFault o → IsFine (unless_wrong unit o)
+fine-unless : {E : Type 0} (unit : FileUnit E) (o : Option Fault) → IsFineFault o
+    → IsFine (unless_wrong unit o)
 fine-unless unit None a = tt
 fine-unless unit (Some fault) a = a
 
@@ -75,17 +61,14 @@ types-fine : (line : List ℕ) → IsFineFault (types_fault line)
 types-fine line = chosen IsFineFault (is_bad_types_line line) (Some BadTypesLine) None refl tt
 
 version-fine : (line : List ℕ) → IsFineFault (first_header_fault line)
-version-fine line =
-    chosen IsFineFault (not (has_label VERSION_LABEL line)) (Some MissingVersion) _ refl
+version-fine line = chosen IsFineFault (not (has_label VERSION_LABEL line)) (Some MissingVersion) _ refl
     (chosen IsFineFault (not (is_supported (without_blanks (columns line 1 9))))
     (Some UnsupportedVersion) _ refl
     (chosen IsFineFault (not (character_at line 21 == 79)) (Some NotObservation) None refl tt))
 
 header-fine : (E : Type 0) (is_first : Bool) (line : List ℕ) → IsFine (header_line {E = E} is_first line)
-header-fine E is_first line =
-    fine-unless (HeaderLine line) (header_line_fault is_first line)
-    (fault-first (cond is_first (first_header_fault line) None)
-    (types_fault line)
+header-fine E is_first line = fine-unless (HeaderLine line) (header_line_fault is_first line)
+    (fault-first (cond is_first (first_header_fault line) None) (types_fault line)
     (chosen IsFineFault is_first (first_header_fault line) None (version-fine line) tt) (types-fine line))
 
 record-fine : (E : Type 0) (counted : Bool) (line : List ℕ) → IsFine (event_record {E = E} counted line)
@@ -96,8 +79,7 @@ record-fine E counted line = fine-unless (EventRecord line)
 unit-fine : {E : Type 0} (beginning : List (Item E) → List ReadLine → Place (FileUnit E))
     → ((items : List (Item E)) (lines : List ReadLine) → IsFineAt (beginning items lines))
     → (items : List (Item E)) (lines : List ReadLine) → IsFineAt (unit_place beginning items lines)
-unit-fine {E = E} beginning h items lines =
-    of-unit IsFineAt beginning items lines
+unit-fine {E = E} beginning h items lines = of-unit IsFineAt beginning items lines
     (place-first is_of_lines refl lines (header_line (is_at_start items)) (header-fine E (is_at_start items)))
     (place-first is_of_lines refl lines (event_record (records_count_types items))
     (record-fine E (records_count_types items))) (h items lines)
@@ -119,8 +101,7 @@ epoch_head-fine line (Some count) =
     (clock-fine (columns line 1 HEAD_WIDTH) count (clock_of (columns line (HEAD_WIDTH + 1) CLOCK_WIDTH)))
 
 head-fine : (line : List ℕ) → IsFine (head_of line)
-head-fine line =
-    chosen IsFine (not (begins_epoch line)) (Err NotAnEpoch) _ refl
+head-fine line = chosen IsFine (not (begins_epoch line)) (Err NotAnEpoch) _ refl
     (chosen IsFine (is_event_flag (character_at line 32))
     (event_head (character_at line 32) (records_in line))
     (epoch_head line (epoch_count (columns line 1 HEAD_WIDTH)))
@@ -155,8 +136,7 @@ next_row-fine so_far line =
 
 rows-fine : (so_far : OpenEpoch) (count : ℕ) (lines : List ReadLine) → IsFineAt (rows_at so_far count lines)
 rows-fine so_far zero lines = tt
-rows-fine so_far (suc count) lines =
-    place-then is_of_lines (row_at so_far lines) lines
+rows-fine so_far (suc count) lines = place-then is_of_lines (row_at so_far lines) lines
     (λ row rest. rows_at (with_next_row so_far row) count rest)
     (place-first is_of_lines refl lines (next_row so_far) (next_row-fine so_far))
     (λ row rest. rows-fine (with_next_row so_far row) count rest)
@@ -170,8 +150,7 @@ unit_begun-fine types (EpochBegins head) lines =
     (rows-fine (opened types head) (rows_wanted (opened types head)) lines) (λ epoch rest. tt)
 
 epoch-fine : (types : List Count) (lines : List ReadLine) → IsFineAt (epoch_place types lines)
-epoch-fine types lines =
-    place-then is_of_lines (first_line lines beginning_of) lines (unit_begun types)
+epoch-fine types lines = place-then is_of_lines (first_line lines beginning_of) lines (unit_begun types)
     (place-first is_of_lines refl lines beginning_of
     (λ line. begun-fine line (head_of line) (head-fine line))) (unit_begun-fine types)
 
@@ -194,26 +173,21 @@ place-skippable (Here x count) h = tt
 place-skippable (Wrong offset fault) h = skippable-fine fault h
 place-skippable Wanted h = tt
 
-observation-fine : {E : Type 0} (p : Place E) → IsFineAt p → IsFineAt (as_observation p)
-observation-fine (Here epoch count) a = tt
-observation-fine (Wrong offset fault) a = a
-observation-fine Wanted a = tt
-
 compact_epoch-fine : (types : List Count) (older : List RawEpoch) (lines : List ReadLine)
     → IsFineAt (compact_epoch_place types older lines)
-compact_epoch-fine types older lines =
-    of-compact IsFineAt types older lines tt refl (λ line rest e. tt)
-    (observation-fine (epoch_at types older lines)
+compact_epoch-fine types older lines = of-compact IsFineAt types older lines tt refl (λ line rest e. tt)
+    (place-observation is_of_lines (epoch_at types older lines)
     (place-skippable (epoch_at types older lines) (epoch-skippable types older lines)))
 
-pub compact-fine : (items : List (Item ReadEpoch)) (lines : List ReadLine) → IsFineAt (compact_place items lines)
+pub compact-fine : (items : List (Item ReadEpoch)) (lines : List ReadLine)
+    → IsFineAt (compact_place items lines)
 compact-fine items lines =
-    unit-fine (λ (before : List (Item ReadEpoch)). compact_epoch_place (types_in_force before) (raws_kept before))
+    unit-fine (λ (before : List (Item ReadEpoch)). compact_epoch_place (types_in_force before)
+    (raws_kept before))
     (λ before ls. compact_epoch-fine (types_in_force before) (raws_kept before) ls) items lines
 
 pub first_lines-fine : (lines : List ReadLine) → IsFineAt (first_lines lines)
-first_lines-fine lines =
-    place-then is_of_lines (first_line lines crinex_version) lines _
+first_lines-fine lines = place-then is_of_lines (first_line lines crinex_version) lines _
     (place-first is_of_lines refl lines crinex_version
     (λ line. chosen IsFine (bytes_eq (without_blanks (columns line 1 20)) CRINEX_VERSION
     && has_label CRINEX_VERSION_LABEL line) (Ok line) (Err NotCompact) tt refl))

@@ -1,19 +1,10 @@
 -- What is written for some lines stands at the beginning of what is written for more lines.
-use Rattle.std.proofs.Common.{ℕ, ◌≡◌, ◌+◌, Bool, List, [], ◌∷◌, ◌++◌, length}
-use Rattle.std.proofs.Common.{Option, Some, None, refl, ap, sym, subst, ◌∙◌, append_assoc, append-nil}
-use Rattle.std.proofs.lemmas.Grind.{flat_map-append}
-use Rattle.crx_faults.specs.meaning.Seen.{ReadLine}
-use Rattle.crx_faults.specs.declared.fault.Fault.{Fault}
-use Rattle.crx_rinex.specs.meaning.Places.{Place}
-use Rattle.crx_rinex.specs.meaning.Units.{Unit as FileUnit}
-use Rattle.crx_reading.specs.meaning.Items.{Item, Accepted, Warned}
-use Rattle.crx_reading.specs.meaning.Reading.{Reading, Stop, AtFault, AtLines, Looking, is_skipped}
-use Rattle.crx_reading.specs.meaning.Reading.{reading_within, reading_from, fault_at_end}
-use Rattle.crx_reading.specs.meaning.Reading.{ended_reading, ended_with, whole_reading}
-use Rattle.crx_filter.specs.Laws.{continued_reading, IsReadForward}
-use Rattle.crx_faults.specs.meaning.Lines.{lines_text}
-use Rattle.crx_runs.specs.meaning.Results.{Begins}
-use Rattle.crx_reading.specs.meaning.Written.{written_lines}
+use Rattle.crx_filter.proofs.Words.{ℕ, ◌≡◌, ◌+◌, Bool, List, [], ◌∷◌, ◌++◌, length, Option, Some, None, refl}
+use Rattle.crx_filter.proofs.Words.{ap, sym, subst, ◌∙◌, append_assoc, append-nil, flat_map-append, ReadLine}
+use Rattle.crx_filter.proofs.Words.{Fault, Place, FileUnit, Item, Accepted, Warned, Reading, Stop, AtFault}
+use Rattle.crx_filter.proofs.Words.{AtLines, Looking, is_skipped, reading_within, reading_from, fault_at_end}
+use Rattle.crx_filter.proofs.Words.{ended_reading, ended_with, whole_reading, continued_reading}
+use Rattle.crx_filter.proofs.Words.{IsReadForward, lines_text, Begins, written_lines}
 use Rattle.crx_reading.proofs.Choosing.{by_bool}
 use Rattle.crx_filter.proofs.reading.KeptThroughout.{IsKept, looked-kept, within-kept}
 use Rattle.crx_filter.proofs.reading.Resuming.{resumed}
@@ -46,13 +37,14 @@ more-kept place skip items = record {
 }
 
 within-items : {E : Type 0} (place : List (Item E) → List ReadLine
-    → Place (FileUnit E)) (skip : Bool) (units : ℕ) (items : List (Item E)) (number : ℕ) (lines : List ReadLine)
-    → AreMore items (reading_within place skip units items number lines).items
+    → Place (FileUnit E)) (skip : Bool) (units : ℕ) (items : List (Item E)) (number : ℕ)
+    (lines : List ReadLine) → AreMore items (reading_within place skip units items number lines).items
 within-items place skip units items number lines = (within-kept place skip (λ all ls. AreMore items all)
     (more-kept place skip items) units items number lines (no_more items)).1
 
 pub continued_reading-items : {E : Type 0} (place : List (Item E)
-    → List ReadLine → Place (FileUnit E)) (skip : Bool) (items : List (Item E)) (stop : Stop) (more : List ReadLine)
+    → List ReadLine → Place (FileUnit E)) (skip : Bool) (items : List (Item E)) (stop : Stop)
+    (more : List ReadLine)
     → AreMore items (continued_reading place skip (record { items = items; stop = stop }) more).items
 continued_reading-items place skip items (AtFault at) more = no_more items
 continued_reading-items place skip items (AtLines number lines) more =
@@ -78,8 +70,9 @@ ended-items skip items (Looking number) = no_more items
 
 -- ---- the text of more items
 
-pub written-more : {E : Type 0} (unit_lines : List (Item E) → FileUnit E → List (List ℕ)) (news items : List (Item E))
-    → (rest : List (List ℕ)) × (written_lines unit_lines (news ++ items) ≡ written_lines unit_lines items ++ rest)
+pub written-more : {E : Type 0} (unit_lines : List (Item E) → FileUnit E → List (List ℕ))
+    (news items : List (Item E)) → (rest : List (List ℕ)) × (written_lines unit_lines (news ++ items)
+    ≡ written_lines unit_lines items ++ rest)
 written-more unit_lines [] items = ([], sym (append-nil (written_lines unit_lines items)))
 written-more unit_lines (Accepted unit ∷ news) items =
     let h = written-more unit_lines news items in (
@@ -103,7 +96,8 @@ text-more unit_lines items all h =
 -- the items of the reading of some lines and more
 pub reading-items : {E : Type 0} (place : List (Item E) → List ReadLine → Place (FileUnit E))
     → IsReadForward place → (skip : Bool) (number : ℕ) (lines more : List ReadLine)
-    → AreMore (reading_from place skip [] number lines).items (reading_from place skip [] number (lines ++ more)).items
+    → AreMore (reading_from place skip [] number lines).items
+    (reading_from place skip [] number (lines ++ more)).items
 reading-items place h skip number lines more =
     let r : Reading _ = reading_from place skip [] number lines in
     subst (λ s. AreMore r.items (Reading.items s))
@@ -111,7 +105,9 @@ reading-items place h skip number lines more =
 
 pub whole-items : {E : Type 0} (place : List (Item E) → List ReadLine → Place (FileUnit E))
     → IsReadForward place → (skip : Bool) (number : ℕ) (lines more : List ReadLine)
-    → AreMore (reading_from place skip [] number lines).items (whole_reading place skip number (lines ++ more)).items
+    → AreMore (reading_from place skip [] number lines).items
+    (whole_reading place skip number (lines ++ more)).items
 whole-items place h skip number lines more =
     let all : Reading _ = reading_from place skip [] number (lines ++ more) in
-    more_of_more _ all.items _ (reading-items place h skip number lines more) (ended-items skip all.items all.stop)
+    more_of_more _ all.items _ (reading-items place h skip number lines more)
+    (ended-items skip all.items all.stop)

@@ -1,17 +1,11 @@
 -- A reading goes on from where it stopped, once more lines have come.
-use Rattle.std.proofs.Common.{ℕ, zero, suc, ◌≡◌, ◌+◌, max, ◌<◌, ◌≤◌, Bool, true, false, List, [], ◌∷◌, ◌++◌}
-use Rattle.std.proofs.Common.{length, drop, refl, arith, length-append}
-use Rattle.std.proofs.lemmas.List.{drop-append-le, length-drop}
-use Rattle.crx_faults.specs.meaning.Seen.{ReadLine}
-use Rattle.crx_faults.specs.declared.fault.Fault.{Fault}
-use Rattle.crx_faults.specs.declared.fault.At.{At}
-use Rattle.crx_rinex.specs.meaning.Places.{Place, Here, Wrong, Wanted}
-use Rattle.crx_rinex.specs.Steady.{Remains, IsDecidedAfter}
-use Rattle.crx_rinex.specs.meaning.Units.{Unit as FileUnit}
-use Rattle.crx_reading.specs.meaning.Items.{Item, Accepted, Warned}
-use Rattle.crx_reading.specs.meaning.Reading.{Reading, AtFault, AtLines, is_skipped, can_go_on, looked_for, after_fault}
-use Rattle.crx_reading.specs.meaning.Reading.{reading_within, reading_from}
-use Rattle.crx_filter.specs.Laws.{continued_reading, IsReadForward, IsResumed}
+use Rattle.crx_filter.proofs.Words.{ℕ, zero, suc, ◌≡◌, ◌+◌, max, ◌<◌, ◌≤◌, Bool, true, false, List, [], ◌∷◌}
+use Rattle.crx_filter.proofs.Words.{◌++◌, length, drop, refl, arith, length-append, drop-append-le}
+use Rattle.crx_filter.proofs.Words.{length-drop, ReadLine, Fault, At, Place, Here, Wrong, Wanted, Remains}
+use Rattle.crx_filter.proofs.Words.{IsDecidedAfter, FileUnit, Item, Accepted, Warned, Reading, AtFault}
+use Rattle.crx_filter.proofs.Words.{AtLines, is_skipped, can_go_on, looked_for, after_fault, reading_within}
+use Rattle.crx_filter.proofs.Words.{reading_from, continued_reading, IsReadForward}
+use Rattle.crx_filter.specs.Laws.{IsResumed}
 use Rattle.crx_reading.proofs.Choosing.{by_bool}
 
 -- ---- what stands at a place
@@ -93,9 +87,9 @@ module _ {E : Type 0} (read : ℕ → List ReadLine → Reading E) (items : List
       → looked_for read items number (line ∷ lines) ≡ looked_for read items (number + 1) lines
   looked-on e = rw (e, looked_for) refl
 
-pub by_place : {E X : Type 0} (p : Place (FileUnit E)) → ((unit : FileUnit E) (count : ℕ) → p ≡ Here unit count → X)
+pub by_place : {Y X : Type 0} (p : Place Y) → ((x : Y) (count : ℕ) → p ≡ Here x count → X)
     → ((offset : ℕ) (fault : Fault) → p ≡ Wrong offset fault → X) → (p ≡ Wanted → X) → X
-by_place (Here unit count) here wrong wanted = here unit count refl
+by_place (Here x count) here wrong wanted = here x count refl
 by_place (Wrong offset fault) here wrong wanted = wrong offset fault refl
 by_place Wanted here wrong wanted = wanted refl
 
@@ -110,13 +104,15 @@ looked-same items one two bound number (line ∷ lines) h short = by_bool (can_g
     (λ on. rw (on, looked_for) (h number (line ∷ lines) short))
     (λ off. rw (off, looked_for) (looked-same items one two bound (number + 1) lines h (omega arith)))
 
-pub enough-units : {E : Type 0} (place : List (Item E) → List ReadLine → Place (FileUnit E)) → IsReadForward place
+pub enough-units : {E : Type 0} (place : List (Item E) → List ReadLine → Place (FileUnit E))
+    → IsReadForward place
     → (skip : Bool) (one two : ℕ) (items : List (Item E)) (number : ℕ) (lines : List ReadLine)
     → length lines < one → length lines < two
     → reading_within place skip one items number lines ≡ reading_within place skip two items number lines
 enough-units place h skip zero two items number lines short_one short_two = absurd (omega arith)
 enough-units place h skip (suc one) zero items number lines short_one short_two = absurd (omega arith)
-enough-units place h skip (suc one) (suc two) items number lines short_one short_two = by_place (place items lines)
+enough-units place h skip (suc one) (suc two) items number lines short_one short_two =
+    by_place (place items lines)
     (λ unit count e.
     let within = here-within place h items lines unit count e in
     let some = within.0 in
@@ -142,10 +138,10 @@ enough-units place h skip (suc one) (suc two) items number lines short_one short
 -- ---- more lines
 
 looked-more : {E : Type 0} (place : List (Item E) → List ReadLine → Place (FileUnit E)) (skip : Bool)
-    (items : List (Item E)) (one two : ℕ → List ReadLine → Reading E) (bound number : ℕ) (lines more : List ReadLine)
-    → ((number : ℕ) (lines : List ReadLine)
-    → length lines < bound → two number (lines ++ more) ≡ continued_reading place skip (one number lines) more)
-    → ((number : ℕ) (lines : List ReadLine)
+    (items : List (Item E)) (one two : ℕ → List ReadLine → Reading E) (bound number : ℕ)
+    (lines more : List ReadLine) → ((number : ℕ) (lines : List ReadLine)
+    → length lines < bound → two number (lines ++ more) ≡ continued_reading place skip
+    (one number lines) more) → ((number : ℕ) (lines : List ReadLine)
     → length lines < suc (length more) → two number lines ≡ reading_from place skip items number lines)
     → length lines < bound → looked_for two items number (lines ++ more)
     ≡ continued_reading place skip (looked_for one items number lines) more
@@ -156,7 +152,8 @@ looked-more place skip items one two bound number (line ∷ lines) more h rest s
     (λ off. rw (off, looked_for)
     (looked-more place skip items one two bound (number + 1) lines more h rest (omega arith)))
 
-pub resumed-within : {E : Type 0} (place : List (Item E) → List ReadLine → Place (FileUnit E)) → IsReadForward place
+pub resumed-within : {E : Type 0} (place : List (Item E) → List ReadLine → Place (FileUnit E))
+    → IsReadForward place
     → (skip : Bool) (one two : ℕ) (items : List (Item E)) (number : ℕ) (lines more : List ReadLine)
     → length lines < one → length lines + length more < two
     → reading_within place skip two items number (lines ++ more)
@@ -176,26 +173,26 @@ resumed-within place h skip (suc one) (suc two) items number lines more short_on
       within-here place skip two items number (lines ++ more) unit count
           (here-stays place h items lines more unit count e),
       rest,
-    )
-    (resumed-within place h skip one two (Accepted unit ∷ items) (number + count)
+    ) (resumed-within place h skip one two (Accepted unit ∷ items) (number + count)
     (drop count lines) more (omega (arith, some, in_lines, left)) (omega (arith, some, in_lines, left))))
     (λ offset fault e.
     rw (
       within-wrong place skip one items number lines offset fault e,
       within-wrong place skip two items number (lines ++ more) offset fault
           (wrong-stays place h items lines more offset fault e),
-    )
-    (by_bool (is_skipped skip items fault)
+    ) (by_bool (is_skipped skip items fault)
     (λ on.
     let at : At = record { line = number + offset; fault = fault } in
     let n : ℕ = max offset 1 in
     let short = wrong-within place h items lines offset fault e in
     let left = length-drop (max offset 1) lines in
-    let rest : drop n (lines ++ more) ≡ drop n lines ++ more = drop-append-le n lines more (omega (arith, short)) in
+    let rest : drop n (lines ++ more) ≡ drop n lines ++ more =
+    drop-append-le n lines more (omega (arith, short)) in
     rw (on, after_fault, rest)
     (looked-more place skip (Warned at ∷ items) (reading_within place skip one (Warned at ∷ items))
     (reading_within place skip two (Warned at ∷ items)) (length lines) (number + n) (drop n lines) more
-    (λ m ls few. resumed-within place h skip one two (Warned at ∷ items) m ls more (omega arith) (omega arith))
+    (λ m ls few. resumed-within place h skip one two (Warned at ∷ items) m ls more (omega arith)
+    (omega arith))
     (λ m ls few. enough-units place h skip two
     (length ls + 1) (Warned at ∷ items) m ls (omega (arith, short, few, short_two)) (omega arith))
     (omega (arith, short, left))))
@@ -207,6 +204,6 @@ resumed-within place h skip (suc one) (suc two) items number lines more short_on
 -- the reading of some lines and more goes on from the reading of the first
 pub resumed : {E : Type 0} (place : List (Item E) → List ReadLine → Place (FileUnit E))
     → IsReadForward place → IsResumed place
-resumed place h skip items number lines more =
-    resumed-within place h skip (length lines + 1)
-    (length (lines ++ more) + 1) items number lines more (omega arith) (omega (arith, length-append lines more))
+resumed place h skip items number lines more = resumed-within place h skip (length lines + 1)
+    (length (lines ++ more) + 1) items number lines more (omega arith)
+    (omega (arith, length-append lines more))

@@ -1,12 +1,7 @@
 -- What a compaction has written.
-use Rattle.std.proofs.Common.{List, sym, subst}
-use Rattle.crx_faults.specs.meaning.Seen.{ReadLine}
-use Rattle.crx_options.specs.meaning.Choices.{Choices}
-use Rattle.crx_reading.specs.meaning.Compacted.{rinex_place, compact_unit, compact_lines, compacted, whole_rinex}
-use Rattle.crx_filter.specs.Compacted.{compacted_so_far}
-use Rattle.crx_faults.specs.meaning.Lines.{lines_text}
-use Rattle.crx_runs.specs.meaning.Results.{Begins}
-use Rattle.crx_filter.specs.Laws.{IsWrittenFirst}
+use Rattle.crx_filter.proofs.Words.{List, sym, subst, ReadLine, Choices, rinex_place, compact_unit}
+use Rattle.crx_filter.proofs.Words.{compact_lines, compacted, whole_rinex, compacted_so_far, lines_text}
+use Rattle.crx_filter.proofs.Words.{Begins, IsWrittenFirst}
 use Rattle.crx_filter.proofs.reading.Forward.{rinex-forward}
 use Rattle.crx_filter.proofs.reading.Prefixes.{text-more, reading-items, whole-items}
 
@@ -18,5 +13,6 @@ compacted-first choices lines = record {
   whole = λ input more e.
       subst (λ all. Begins (lines_text (compact_lines choices (whole_rinex choices.skip all).items))
       (compacted_so_far lines choices)) (sym e)
-      (text-more (compact_unit choices) _ _ (whole-items rinex_place rinex-forward choices.skip 1 lines more));
+      (text-more (compact_unit choices) _ _ (whole-items rinex_place rinex-forward choices.skip 1
+      lines more));
 }

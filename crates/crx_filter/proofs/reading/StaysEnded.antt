@@ -1,35 +1,26 @@
 -- Once a fault has ended the run, more lines change nothing.
-use Rattle.std.proofs.Common.{ℕ, ◌≡◌, ◌+◌, Bool, List, [], ◌++◌, length, drop, Option, Some, refl, ap, sym, subst, ◌∙◌}
-use Rattle.std.proofs.lemmas.List.{drop-append-le}
-use Rattle.std.proofs.lemmas.Option.{none-some}
-use Rattle.crx_faults.specs.meaning.Seen.{ReadLine}
-use Rattle.crx_faults.specs.declared.fault.At.{At}
-use Rattle.crx_rinex.specs.meaning.Places.{Place, Here, Wrong, Wanted}
-use Rattle.crx_rinex.specs.Steady.{Remains}
-use Rattle.crx_rinex.specs.meaning.Units.{Unit as FileUnit}
-use Rattle.crx_compact.specs.meaning.CompactPlaces.{ReadEpoch}
-use Rattle.crx_reading.specs.meaning.Items.{Item}
-use Rattle.crx_reading.specs.meaning.Reading.{Reading, Stop, AtFault, AtLines, reading_from, ended_reading}
-use Rattle.crx_reading.specs.meaning.Reading.{whole_reading}
-use Rattle.crx_filter.specs.Laws.{continued_reading, IsReadForward, StaysEnded}
-use Rattle.crx_reading.specs.meaning.Reading.{fault_of_stop}
-use Rattle.crx_reading.specs.meaning.Compacted.{rinex_place, whole_rinex}
-use Rattle.crx_reading.specs.meaning.Directions.{rinex_reading}
-use Rattle.crx_reading.specs.meaning.Expanded.{compact_place, first_lines, whole_compact}
-use Rattle.crx_reading.specs.meaning.Directions.{compact_reading}
+use Rattle.crx_filter.proofs.Words.{ℕ, ◌≡◌, ◌+◌, Bool, List, [], ◌++◌, length, drop, Option, Some, refl, ap}
+use Rattle.crx_filter.proofs.Words.{sym, subst, ◌∙◌, drop-append-le, none-some, ReadLine, At, Place, Here}
+use Rattle.crx_filter.proofs.Words.{Wrong, Wanted, Remains, FileUnit, ReadEpoch, Item, Reading, Stop, AtFault}
+use Rattle.crx_filter.proofs.Words.{AtLines, reading_from, ended_reading, whole_reading, continued_reading}
+use Rattle.crx_filter.proofs.Words.{IsReadForward, fault_of_stop, rinex_place, whole_rinex, rinex_reading}
+use Rattle.crx_filter.proofs.Words.{compact_place, first_lines, whole_compact, compact_reading}
+use Rattle.crx_filter.specs.Laws.{StaysEnded}
 use Rattle.crx_filter.proofs.reading.Resuming.{resumed}
 use Rattle.crx_filter.proofs.reading.Forward.{rinex-forward}
 use Rattle.crx_filter.proofs.reading.ForwardCompact.{compact-forward, steady-first_lines}
 use Rattle.crx_filter.proofs.reading.CompactPrefixes.{reading-at, whole-at}
 
 gone-same : {E : Type 0} (place : List (Item E) → List ReadLine → Place (FileUnit E))
-    (skip : Bool) (items : List (Item E)) (stop : Stop) (more : List ReadLine) (at : At) → fault_of_stop stop ≡ Some at
-    → continued_reading place skip (record { items = items; stop = stop }) more ≡ record { items = items; stop = stop }
+    (skip : Bool) (items : List (Item E)) (stop : Stop) (more : List ReadLine) (at : At) → fault_of_stop stop
+    ≡ Some at → continued_reading place skip (record { items = items; stop = stop }) more
+    ≡ record { items = items; stop = stop }
 gone-same place skip items (AtFault fault) more at e = refl
 gone-same place skip items stop more at e = absurd (none-some at e)
 
 ended-same : {E : Type 0} (skip : Bool) (items : List (Item E)) (stop : Stop) (at : At) → fault_of_stop stop
-    ≡ Some at → ended_reading skip (record { items = items; stop = stop }) ≡ record { items = items; fault = Some at }
+    ≡ Some at → ended_reading skip (record { items = items; stop = stop })
+    ≡ record { items = items; fault = Some at }
 ended-same skip items (AtFault fault) at e = ap (λ (o : Option At). record { items = items; fault = o }) e
 ended-same skip items stop at e = absurd (none-some at e)
 
@@ -39,26 +30,28 @@ stays-from : {E : Type 0} (place : List (Item E) → List ReadLine → Place (Fi
     → StaysEnded (reading_from place skip [] number) (whole_reading place skip number) lines more at
 stays-from place h skip number lines more at e =
     let r : Reading _ = reading_from place skip [] number lines in
-    let same : reading_from place skip [] number (lines ++ more) ≡ r = resumed place h skip [] number lines more
-    ∙ gone-same place skip r.items r.stop more at e in
+    let same : reading_from place skip [] number (lines ++ more) ≡ r =
+    resumed place h skip [] number lines more ∙ gone-same place skip r.items r.stop more at e in
     record {
       same = same;
-      ended = ap (λ (s : Reading _). ended_reading skip s) same
-          ∙ ended-same skip r.items r.stop at e;
+      ended = ap (λ (s : Reading _). ended_reading skip s) same ∙ ended-same skip r.items r.stop at e;
     }
 
-pub rinex-stays : (skip : Bool) (lines more : List ReadLine) (at : At) → fault_of_stop (rinex_reading skip lines).stop
+pub rinex-stays : (skip : Bool) (lines more : List ReadLine) (at : At)
+    → fault_of_stop (rinex_reading skip lines).stop
     ≡ Some at → StaysEnded (rinex_reading skip) (whole_rinex skip) lines more at
 rinex-stays skip lines more at e = stays-from rinex_place rinex-forward skip 1 lines more at e
 
 -- ---- compact text
 
-wrong-reading : (skip : Bool) (lines : List ReadLine) (offset : ℕ) (fault : _) → first_lines lines ≡ Wrong offset fault
-    → compact_reading skip lines ≡ record { items = []; stop = AtFault (record { line = offset + 1; fault = fault }) }
+wrong-reading : (skip : Bool) (lines : List ReadLine) (offset : ℕ) (fault : _) → first_lines lines
+    ≡ Wrong offset fault → compact_reading skip lines
+    ≡ record { items = []; stop = AtFault (record { line = offset + 1; fault = fault }) }
 wrong-reading skip lines offset fault e = rw (e, compact_reading) refl
 
-wrong-whole : (skip : Bool) (lines : List ReadLine) (offset : ℕ) (fault : _) → first_lines lines ≡ Wrong offset fault
-    → whole_compact skip lines ≡ record { items = []; fault = Some (record { line = offset + 1; fault = fault }) }
+wrong-whole : (skip : Bool) (lines : List ReadLine) (offset : ℕ) (fault : _) → first_lines lines
+    ≡ Wrong offset fault → whole_compact skip lines
+    ≡ record { items = []; fault = Some (record { line = offset + 1; fault = fault }) }
 wrong-whole skip lines offset fault e = rw (e, whole_compact) refl
 
 wanted-reading : (skip : Bool) (lines : List ReadLine)
@@ -75,7 +68,8 @@ by-first_lines skip lines more at (Here two count) e f =
     let now : compact_reading skip lines ≡ reading_from compact_place skip [] (count + 1) (drop count lines) =
     reading-at skip lines two count e in
     let s = stays-from compact_place compact-forward skip
-    (count + 1) (drop count lines) more at (sym (ap (λ (r : Reading ReadEpoch). fault_of_stop r.stop) now) ∙ f) in
+    (count + 1) (drop count lines) more at (sym (ap (λ (r : Reading ReadEpoch). fault_of_stop r.stop)
+    now) ∙ f) in
     record {
       same = reading-at skip (lines ++ more) two count h.1
           ∙ ap (λ ls. reading_from compact_place skip [] (count + 1) ls) split ∙ s.same ∙ sym now;
@@ -95,8 +89,10 @@ by-first_lines skip lines more at (Wrong offset fault) e f =
           ∙ ap (λ (r : Reading ReadEpoch). record { items = r.items; fault = Some at }) (sym now);
     }
 by-first_lines skip lines more at Wanted e f =
-    absurd (none-some at (sym (ap (λ (r : Reading ReadEpoch). fault_of_stop r.stop) (wanted-reading skip lines e)) ∙ f))
+    absurd (none-some at (sym (ap (λ (r : Reading ReadEpoch). fault_of_stop r.stop)
+    (wanted-reading skip lines e)) ∙ f))
 
 pub compact-stays : (skip : Bool) (lines more : List ReadLine) (at : At) → fault_of_stop
-    (compact_reading skip lines).stop ≡ Some at → StaysEnded (compact_reading skip) (whole_compact skip) lines more at
+    (compact_reading skip lines).stop ≡ Some at → StaysEnded (compact_reading skip)
+    (whole_compact skip) lines more at
 compact-stays skip lines more at e = by-first_lines skip lines more at (first_lines lines) refl e

@@ -1,15 +1,9 @@
 -- Where a reading stops: more lines are wanted there, or a line is looked for after the last.
-use Rattle.std.proofs.Common.{ℕ, zero, suc, ◌≡◌, ◌+◌, ◌-◌, max, ◌<◌, Bool, true, List, [], ◌∷◌, length}
-use Rattle.std.proofs.Common.{drop, refl, arith}
-use Rattle.std.proofs.lemmas.List.{length-drop}
-use Rattle.crx_faults.specs.meaning.Seen.{ReadLine}
-use Rattle.crx_faults.specs.declared.fault.At.{At}
-use Rattle.crx_rinex.specs.meaning.Places.{Place}
-use Rattle.crx_rinex.specs.meaning.Units.{Unit as FileUnit}
-use Rattle.crx_reading.specs.meaning.Items.{Item, Accepted, Warned, header_has_ended, records_left}
-use Rattle.crx_reading.specs.meaning.Reading.{Reading, is_skipped, can_go_on, looked_for, after_fault}
-use Rattle.crx_reading.specs.meaning.Reading.{reading_within, reading_from}
-use Rattle.crx_filter.specs.Laws.{IsReadForward}
+use Rattle.crx_filter.proofs.Words.{ℕ, zero, suc, ◌≡◌, ◌+◌, ◌-◌, max, ◌<◌, Bool, true, List, [], ◌∷◌, length}
+use Rattle.crx_filter.proofs.Words.{drop, refl, arith, length-drop, ReadLine, At, Place, FileUnit, Item}
+use Rattle.crx_filter.proofs.Words.{Accepted, Warned, header_has_ended, records_left, Reading, is_skipped}
+use Rattle.crx_filter.proofs.Words.{can_go_on, looked_for, after_fault, reading_within, reading_from}
+use Rattle.crx_filter.proofs.Words.{IsReadForward}
 use Rattle.crx_reading.proofs.Choosing.{by_bool}
 use Rattle.crx_filter.proofs.reading.Resuming.{by_place, here-within, wrong-within, within-here, within-wrong}
 use Rattle.crx_filter.proofs.reading.Resuming.{within-wanted}
@@ -17,19 +11,24 @@ use Rattle.crx_filter.proofs.reading.WhatWasRead.{allowed}
 use Rattle.crx_filter.proofs.following.Lines.{IsStopped}
 
 looked-stopped : {E : Type 0} (place : List (Item E) → List ReadLine → Place (FileUnit E))
-    (items : List (Item E)) (read : ℕ → List ReadLine → Reading E) (bound number next : ℕ) (lines : List ReadLine)
-    → header_has_ended items ≡ true → records_left items ≡ 0
+    (items : List (Item E)) (read : ℕ → List ReadLine → Reading E) (bound number next : ℕ)
+    (lines : List ReadLine) → header_has_ended items ≡ true → records_left items ≡ 0
     → ((n : ℕ) (ls : List ReadLine)
     → length ls < bound → n + length ls ≡ next → IsStopped place (read n ls).items (read n ls).stop next)
     → length lines < bound → number + length lines ≡ next
-    → IsStopped place (looked_for read items number lines).items (looked_for read items number lines).stop next
-looked-stopped place items read bound number next [] ended none h short counted = (omega (arith, counted), ended, none)
-looked-stopped place items read bound number next (line ∷ lines) ended none h short counted = by_bool (can_go_on line)
+    → IsStopped place (looked_for read items number lines).items
+    (looked_for read items number lines).stop next
+looked-stopped place items read bound number next [] ended none h short counted =
+    (omega (arith, counted), ended, none)
+looked-stopped place items read bound number next (line ∷ lines) ended none h short counted =
+    by_bool (can_go_on line)
     (λ on. rw (on, looked_for) (h number (line ∷ lines) short counted))
     (λ off. rw (off, looked_for)
-    (looked-stopped place items read bound (number + 1) next lines ended none h (omega arith) (omega (arith, counted))))
+    (looked-stopped place items read bound (number + 1) next lines ended none h (omega arith)
+    (omega (arith, counted))))
 
-within-stopped : {E : Type 0} (place : List (Item E) → List ReadLine → Place (FileUnit E)) → IsReadForward place
+within-stopped : {E : Type 0} (place : List (Item E) → List ReadLine → Place (FileUnit E))
+    → IsReadForward place
     → (skip : Bool) (units : ℕ) (items : List (Item E)) (number next : ℕ) (lines : List ReadLine)
     → length lines < units → number + length lines ≡ next
     → IsStopped place (reading_within place skip units items number lines).items
@@ -50,7 +49,8 @@ within-stopped place h skip (suc units) items number next lines short counted = 
     let at : At = record { line = number + offset; fault = fault } in
     let n : ℕ = max offset 1 in
     let few : offset < length lines = wrong-within place h items lines offset fault e in
-    let left : length (drop (max offset 1) lines) ≡ length lines - max offset 1 = length-drop (max offset 1) lines in
+    let left : length (drop (max offset 1) lines) ≡ length lines - max offset 1 =
+    length-drop (max offset 1) lines in
     rw (on, after_fault)
     (looked-stopped place (Warned at ∷ items) (reading_within place skip units (Warned at ∷ items))
     (length lines) (number + n) next (drop n lines) (allowed skip items fault on).0 refl
@@ -59,9 +59,9 @@ within-stopped place h skip (suc units) items number next lines short counted = 
     (λ off. rw (off, after_fault) tt)))
     (λ e. rw (within-wanted place skip units items number lines e) (e, counted))
 
-pub reading-stopped : {E : Type 0} (place : List (Item E) → List ReadLine → Place (FileUnit E)) → IsReadForward place
-    → (skip : Bool) (items : List (Item E)) (number next : ℕ) (lines : List ReadLine) → number + length lines ≡ next
-    → IsStopped place (reading_from place skip items number lines).items
+pub reading-stopped : {E : Type 0} (place : List (Item E) → List ReadLine → Place (FileUnit E))
+    → IsReadForward place → (skip : Bool) (items : List (Item E)) (number next : ℕ) (lines : List ReadLine)
+    → number + length lines ≡ next → IsStopped place (reading_from place skip items number lines).items
     (reading_from place skip items number lines).stop next
 reading-stopped place h skip items number next lines counted =
     within-stopped place h skip (length lines + 1) items number next lines (omega arith) counted

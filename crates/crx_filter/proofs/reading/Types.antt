@@ -1,12 +1,10 @@
 -- The counts of types in force are allowed, and no letter stands twice among them.
-use Rattle.std.proofs.Common.{ℕ, ◌≡◌, List, [], ◌∷◌, ◌++◌, Option, Some, None, refl, sym, subst}
-use Rattle.std.proofs.lemmas.List.Elements.{All-nil}
-use Rattle.crx_rinex.specs.meaning.Units.{HeaderLine, EventRecord}
-use Rattle.crx_header.specs.meaning.ObservationTypes.{Count, types_of, is_types_line, count_in}
-use Rattle.crx_header.specs.ObservationTypes.{AreCounts, IsCount, with_line, after_count}
+use Rattle.crx_filter.proofs.Words.{ℕ, ◌≡◌, List, [], ◌∷◌, ◌++◌, Option, Some, None, refl, sym, subst}
+use Rattle.crx_filter.proofs.Words.{All-nil, HeaderLine, EventRecord, Count, types_of, is_types_line}
+use Rattle.crx_filter.proofs.Words.{count_in, with_line, Item, Accepted, Warned, records_count_types}
+use Rattle.crx_filter.proofs.Words.{declaring_lines, types_in_force}
+use Rattle.crx_header.specs.ObservationTypes.{AreCounts, IsCount, after_count}
 use Rattle.crx_header.proofs.Counts.{types_of-push, AreCounts-with_count, count_in_allowed}
-use Rattle.crx_reading.specs.meaning.Items.{Item, Accepted, Warned, records_count_types, declaring_lines}
-use Rattle.crx_reading.specs.meaning.Items.{types_in_force}
 use Rattle.crx_reading.proofs.Choosing.{by_bool}
 
 no-counts : AreCounts []
@@ -29,7 +27,8 @@ one-more lines line h = subst AreCounts (sym (types_of-push lines line)) (after-
 
 pub counts-in_force : {E : Type 0} (items : List (Item E)) → AreCounts (types_in_force items)
 counts-in_force [] = no-counts
-counts-in_force (Accepted (HeaderLine line) ∷ before) = one-more (declaring_lines before) line (counts-in_force before)
+counts-in_force (Accepted (HeaderLine line) ∷ before) = one-more (declaring_lines before) line
+    (counts-in_force before)
 counts-in_force (Accepted (EventRecord line) ∷ before) = by_bool (records_count_types before)
     (λ on. rw on (one-more (declaring_lines before) line (counts-in_force before)))
     (λ off. rw off (counts-in_force before))

@@ -1,19 +1,11 @@
 -- What holds of each thing that can stand at some lines holds of the one that stands there.
-use Rattle.std.proofs.Common.{ℕ, ◌≡◌, Bool, true, false, cond, List, [], ◌∷◌, Option, Some, None, Result}
-use Rattle.std.proofs.Common.{Ok, Err, refl}
-use Rattle.std.specs.Prelude.{⊤, not, nat_lt}
-use Rattle.crx_faults.specs.meaning.Seen.{ReadLine, Content, Overlong}
-use Rattle.crx_faults.specs.declared.fault.Fault.{Fault}
-use Rattle.crx_faults.specs.declared.fault.Fault.TheVariants.{BadEpoch}
-use Rattle.crx_header.specs.meaning.EpochColumns.{is_event_line, records_in}
-use Rattle.crx_header.specs.meaning.ObservationTypes.{Count}
-use Rattle.crx_rinex.specs.meaning.Places.{Place, Here, Wrong, Wanted, one_line, first_line}
-use Rattle.crx_rinex.specs.meaning.Units.{Unit as FileUnit, EventLine}
-use Rattle.crx_compact.specs.meaning.CompactPlaces.{ReadEpoch, epoch_at}
-use Rattle.crx_compact.specs.meaning.Expansion.{RawEpoch}
-use Rattle.crx_reading.specs.meaning.Items.{Item, is_at_start, header_has_ended, records_left, records_count_types}
-use Rattle.crx_reading.specs.meaning.UnitPlaces.{unless_wrong, header_line, event_record, unit_place}
-use Rattle.crx_reading.specs.meaning.Expanded.{event_line, as_observation, compact_epoch_place}
+use Rattle.crx_filter.proofs.Words.{ℕ, ◌≡◌, Bool, true, false, cond, List, [], ◌∷◌, Option, Some, None}
+use Rattle.crx_filter.proofs.Words.{Result, Ok, Err, refl, ⊤, not, nat_lt, ReadLine, Content, Overlong, Fault}
+use Rattle.crx_filter.proofs.Words.{BadEpoch, is_event_line, records_in, Count, Place, Here, Wrong, Wanted}
+use Rattle.crx_filter.proofs.Words.{one_line, first_line, FileUnit, EventLine, ReadEpoch, epoch_at, RawEpoch}
+use Rattle.crx_filter.proofs.Words.{Item, is_at_start, header_has_ended, records_left, records_count_types}
+use Rattle.crx_filter.proofs.Words.{unless_wrong, header_line, event_record, unit_place, event_line}
+use Rattle.crx_filter.proofs.Words.{as_observation, compact_epoch_place}
 use Rattle.crx_reading.proofs.Choosing.{by_bool}
 
 -- what holds of a thing that stands somewhere
@@ -25,12 +17,6 @@ OfHere P Wanted = ⊤
 abbrev pub OfOk : {X : Type 0} → (X → Type 0) → Result X Fault → Type 0
 OfOk P (Ok x) = P x
 OfOk P (Err fault) = ⊤
-
-pub by_first : {Y X : Type 0} (p : Place Y) → ((x : Y) (count : ℕ) → p ≡ Here x count → X)
-    → ((offset : ℕ) (fault : Fault) → p ≡ Wrong offset fault → X) → (p ≡ Wanted → X) → X
-by_first (Here x count) here wrong wanted = here x count refl
-by_first (Wrong offset fault) here wrong wanted = wrong offset fault refl
-by_first Wanted here wrong wanted = wanted refl
 
 -- one of two things is chosen, and what holds of both holds of it
 pub chosen : {A : Type 0} (P : A → Type 0) (b : Bool) (x y : A) → P x → P y → P (cond b x y)
@@ -55,8 +41,7 @@ unless-wrong P unit (Some fault) h = tt
 -- wherever a unit may stand
 pub of-unit : {E : Type 0} (P : Place (FileUnit E) → Type 0)
     (beginning : List (Item E) → List ReadLine → Place (FileUnit E))
-    (items : List (Item E)) (lines : List ReadLine)
-    → P (first_line lines (header_line (is_at_start items)))
+    (items : List (Item E)) (lines : List ReadLine) → P (first_line lines (header_line (is_at_start items)))
     → P (first_line lines (event_record (records_count_types items)))
     → P (beginning items lines) → P (unit_place beginning items lines)
 of-unit P beginning items lines header records begun =

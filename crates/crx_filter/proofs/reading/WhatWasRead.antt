@@ -1,25 +1,16 @@
 -- What was accepted stood where it was read.
-use Rattle.std.proofs.Common.{ℕ, ◌≡◌, ◌+◌, Bool, true, List, [], length, drop, rules}
-use Rattle.std.proofs.lemmas.Bool.{and_parts}
-use Rattle.std.specs.Prelude.{◌==◌}
-use Rattle.crx_faults.specs.meaning.Seen.{ReadLine}
-use Rattle.crx_faults.specs.declared.fault.Fault.{Fault}
-use Rattle.crx_rinex.specs.meaning.Places.{Place}
-use Rattle.crx_rinex.specs.meaning.Units.{Unit as FileUnit}
-use Rattle.crx_reading.specs.meaning.Items.{Item, header_has_ended, records_left}
-use Rattle.crx_reading.specs.meaning.Reading.{is_skipped}
-use Rattle.crx_reading.specs.meaning.Reading.{reading_from}
-use Rattle.crx_faults.specs.meaning.Faults.{is_skippable}
-use Rattle.crx_reading.specs.meaning.Expanded.{compact_place, first_lines}
-use Rattle.crx_reading.specs.meaning.Directions.{compact_reading}
-use Rattle.crx_filter.specs.Laws.{ItemsAreRead}
-use Rattle.crx_filter.proofs.reading.WhatStands.{by_first}
+use Rattle.crx_filter.proofs.Words.{ℕ, ◌≡◌, ◌+◌, Bool, true, List, [], length, drop, rules, and_parts, ◌==◌}
+use Rattle.crx_filter.proofs.Words.{ReadLine, Fault, Place, FileUnit, Item, header_has_ended, records_left}
+use Rattle.crx_filter.proofs.Words.{is_skipped, reading_from, is_skippable, compact_place, first_lines}
+use Rattle.crx_filter.proofs.Words.{compact_reading, ItemsAreRead}
 use Rattle.crx_filter.proofs.reading.KeptThroughout.{IsKept, within-kept}
+use Rattle.crx_filter.proofs.reading.Resuming.{by_place}
 
 equal-zero : (n : ℕ) → (n == 0) ≡ true → n ≡ 0
 equal-zero n e = search rules
 
-pub allowed : {E : Type 0} (skip : Bool) (items : List (Item E)) (fault : Fault) → is_skipped skip items fault ≡ true
+pub allowed : {E : Type 0} (skip : Bool) (items : List (Item E)) (fault : Fault)
+    → is_skipped skip items fault ≡ true
     → (header_has_ended items ≡ true) × (records_left items ≡ 0) × (is_skippable fault ≡ true)
 allowed skip items fault e =
     let rest = (and_parts skip _ e).1 in
@@ -42,7 +33,7 @@ items-read place skip number lines = (within-kept place skip
 
 pub compact-items-read : (skip : Bool) (lines : List ReadLine)
     → ItemsAreRead compact_place (compact_reading skip lines).items
-compact-items-read skip lines = by_first (first_lines lines)
+compact-items-read skip lines = by_place (first_lines lines)
     (λ two count e. rw (e, compact_reading) (items-read compact_place skip (count + 1) (drop count lines)))
     (λ offset fault e. rw (e, compact_reading) tt)
     (λ e. rw (e, compact_reading) tt)

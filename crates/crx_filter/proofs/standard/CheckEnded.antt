@@ -1,27 +1,15 @@
 -- The end of the input, as a check takes it; and which files it names as standard.
-use Rattle.std.proofs.Common.{ℕ, ◌≡◌, ◌+◌, false, List, [], ◌∷◌, ◌++◌, map, length, Option, Some, None, refl, ap, sym}
-use Rattle.std.proofs.Common.{◌∙◌, append-nil}
-use Rattle.std.proofs.lemmas.List.{length-map}
-use Rattle.std.proofs.lemmas.Option.{none-some}
-use Rattle.crx_faults.specs.meaning.Lines.{InputLine}
-use Rattle.crx_faults.specs.meaning.Seen.{ReadLine, seen}
-use Rattle.crx_faults.specs.declared.fault.Fault.{Fault}
-use Rattle.crx_header.specs.meaning.ObservationTypes.{Count}
-use Rattle.crx_rinex.specs.meaning.Observations.{Epoch}
-use Rattle.crx_rinex.specs.meaning.Units.{printed_unit, HeaderLine}
-use Rattle.crx_rinex.specs.meaning.EpochPlaces.{OpenEpoch}
-use Rattle.crx_reading.specs.meaning.Items.{Item, Accepted, Warned, is_at_start}
-use Rattle.crx_reading.specs.meaning.Reading.{Reading, WholeReading, Stop, AtFault, AtLines, fault_at_end}
-use Rattle.crx_reading.specs.meaning.Reading.{ended_with, ended_reading}
-use Rattle.crx_reading.specs.meaning.Compacted.{rinex_place, whole_rinex}
-use Rattle.crx_reading.specs.meaning.Directions.{rinex_reading}
-use Rattle.crx_reading.specs.LineByLine.{Phase, InEpoch}
-use Rattle.crx_reading.specs.LineByLine.{Seen, kept_in, seen_end}
-use Rattle.crx_filter.specs.Laws.{AreInPlace, failed_by}
-use Rattle.crx_reading.specs.meaning.Reading.{fault_of_stop}
-use Rattle.crx_reading.specs.meaning.Standard.{printed_items, whole_reading_of, first_header_line, version_in}
-use Rattle.crx_reading.specs.CheckByLine.{Totals, checking, totals_of, version_accepted, printed_open, printed_so_far}
-use Rattle.crx_reading.specs.CheckByLine.{no_choices, check_seen}
+use Rattle.crx_filter.proofs.Words.{ℕ, ◌≡◌, ◌+◌, false, List, [], ◌∷◌, ◌++◌, map, length, Option, Some, None}
+use Rattle.crx_filter.proofs.Words.{refl, ap, sym, ◌∙◌, append-nil, length-map, none-some, InputLine}
+use Rattle.crx_filter.proofs.Words.{ReadLine, seen, Fault, Count, Epoch, printed_unit, HeaderLine, OpenEpoch}
+use Rattle.crx_filter.proofs.Words.{Item, Accepted, Warned, is_at_start, Reading, WholeReading, Stop, AtFault}
+use Rattle.crx_filter.proofs.Words.{AtLines, fault_at_end, ended_with, ended_reading, rinex_place}
+use Rattle.crx_filter.proofs.Words.{whole_rinex, rinex_reading, Phase, InEpoch, Seen, kept_in, seen_end}
+use Rattle.crx_filter.proofs.Words.{AreInPlace, failed_by, fault_of_stop, printed_items, whole_reading_of}
+use Rattle.crx_filter.proofs.Words.{Totals, checking, totals_of, printed_open, printed_so_far, no_choices}
+use Rattle.crx_filter.proofs.Words.{check_seen}
+use Rattle.crx_reading.specs.meaning.Standard.{first_header_line, version_in}
+use Rattle.crx_reading.specs.CheckByLine.{version_accepted}
 use Rattle.crx_filter.specs.CheckingLaws.{IsCheckEnded}
 use Rattle.crx_filter.proofs.following.Following.{seen_in}
 use Rattle.crx_filter.proofs.following.Check.{check-end}
@@ -52,13 +40,14 @@ good-stop : (items : List (Item Epoch)) (stop : Stop) → WholeReading.fault
 good-stop items (AtFault at) e = e
 good-stop items stop e = refl
 
-pub good-so_far : (lines : List ReadLine)
-    → WholeReading.fault (whole_rinex false lines) ≡ None → fault_of_stop (rinex_reading false lines).stop ≡ None
+pub good-so_far : (lines : List ReadLine) → WholeReading.fault (whole_rinex false lines) ≡ None
+    → fault_of_stop (rinex_reading false lines).stop ≡ None
 good-so_far lines e = let r : Reading Epoch = rinex_reading false lines in good-stop r.items r.stop e
 
 -- and no epoch is open
 none-open : (number : ℕ) (phase : Phase OpenEpoch) (types : List Count) (kept : Totals)
-    → failed_by (seen_end checking (seen_in no_choices number phase types kept)).answer ≡ None → printed_open phase ≡ []
+    → failed_by (seen_end checking (seen_in no_choices number phase types kept)).answer ≡ None
+    → printed_open phase ≡ []
 none-open number (InEpoch so_far) types kept e = absurd (none-some _ (sym e))
 none-open number phase types kept e = refl
 
@@ -67,10 +56,12 @@ none-open number phase types kept e = refl
 -- the header's first line is the first of all lines
 record IsFirst (items : List (Item Epoch)) : Type 0 where
   version : version_accepted items ≡ version_in (first_header_line (printed_items items))
-  some : is_at_start items ≡ false → (first : List ℕ) × (rest : List (List ℕ)) × (printed_items items ≡ first ∷ rest)
+  some : is_at_start items ≡ false → (first : List ℕ) × (rest : List (List ℕ))
+      × (printed_items items ≡ first ∷ rest)
 
 first-kept : (items : List (Item Epoch)) (more : List (List ℕ)) → IsFirst items
-    → is_at_start items ≡ false → version_accepted items ≡ version_in (first_header_line (printed_items items ++ more))
+    → is_at_start items ≡ false → version_accepted items
+    ≡ version_in (first_header_line (printed_items items ++ more))
 first-kept items more h e =
     let some = h.some e in
     h.version ∙ ap (λ ls. version_in (first_header_line ls)) (some.2)
@@ -117,16 +108,16 @@ check-ended lines =
     let r : Reading Epoch = rinex_reading false (map seen lines) in
     let items : WholeReading.items (whole_reading_of lines) ≡ r.items = whole-items (map seen lines) in
     let failed : WholeReading.fault (whole_reading_of lines)
-    ≡ failed_by (seen_end checking (check_seen lines).reading).answer =
-    (check-end (map seen lines)).failed
+    ≡ failed_by (seen_end checking (check_seen lines).reading).answer = (check-end (map seen lines)).failed
     ∙ ap (λ (s : Seen OpenEpoch Totals). failed_by (seen_end checking s).answer) (sym (same-seen lines)) in
     record {
       fault = failed;
       found = λ good.
           let s : Seen OpenEpoch Totals = (check_seen lines).reading in
-          let shut : printed_open s.phase ≡ [] = none-open s.number s.phase s.types s.kept (sym failed ∙ good) in
-          let printed : printed_so_far lines ≡ printed_items r.items = ap (λ ls. printed_items r.items ++ ls) shut
-          ∙ append-nil (printed_items r.items) in
+          let shut : printed_open s.phase ≡ [] = none-open s.number s.phase s.types s.kept
+          (sym failed ∙ good) in
+          let printed : printed_so_far lines ≡ printed_items r.items =
+          ap (λ ls. printed_items r.items ++ ls) shut ∙ append-nil (printed_items r.items) in
           let kept : s.kept ≡ totals_of r.items = kept-always s.phase (totals_of r.items) in
           rw (items, kept, version-same (map seen lines), printed) refl;
     }
@@ -142,4 +133,5 @@ whole-many lines good =
     let all : length (printed_items r.items ++ printed_open s.phase) ≡ length lines =
     as-many (map seen lines) (good-so_far (map seen lines) good) ∙ length-map lines seen in
     ap (λ (its : List (Item Epoch)). length (printed_items its)) (whole-items (map seen lines)) ∙ ap length
-    (sym (append-nil (printed_items r.items))) ∙ ap (λ ls. length (printed_items r.items ++ ls)) (sym shut) ∙ all
+    (sym (append-nil (printed_items r.items))) ∙ ap (λ ls. length (printed_items r.items ++ ls))
+    (sym shut) ∙ all

@@ -1,37 +1,24 @@
 -- The lines that printing gives back for some lines of a file, and for one line more.
-use Rattle.std.proofs.Common.{ℕ, zero, suc, ◌≡◌, ◌+◌, ◌-◌, Bool, true, false, cond, List, [], ◌∷◌}
-use Rattle.std.proofs.Common.{◌++◌, length, drop, Option, Some, None, Result, Ok, Err, refl, ap, sym}
-use Rattle.std.proofs.Common.{◌∙◌, append-nil}
-use Rattle.std.specs.Prelude.{⊤}
-use Rattle.std.proofs.lemmas.List.{map-append}
-use Rattle.std.proofs.lemmas.Option.{none-some}
-use Rattle.crx_faults.specs.meaning.Seen.{ReadLine, Content, Overlong}
-use Rattle.crx_faults.specs.declared.fault.Fault.{Fault}
-use Rattle.crx_header.specs.meaning.Header.{is_end_of_header}
-use Rattle.crx_rinex.specs.meaning.Observations.{Row, Epoch}
-use Rattle.crx_header.specs.meaning.ObservationTypes.{Count}
-use Rattle.crx_rinex.specs.meaning.Units.{HeaderLine, EventRecord}
-use Rattle.crx_rinex.specs.Printing.{last_line}
-use Rattle.crx_rinex.specs.meaning.Printing.{printed_row, printed_head, printed_epoch}
-use Rattle.crx_rinex.specs.meaning.EpochPlaces.{OpenEpoch, Beginning, EventBegins, EpochBegins, beginning_of, opened}
-use Rattle.crx_rinex.specs.meaning.EpochPlaces.{rows_wanted, epoch_of, with_next_row, next_row}
-use Rattle.crx_rinex.specs.EpochPlaces.{after_row, when_wanted}
-use Rattle.crx_reading.specs.meaning.Items.{Item, Accepted, header_has_ended, records_left, records_count_types}
-use Rattle.crx_reading.specs.meaning.Items.{records_announced, counts_types}
-use Rattle.crx_reading.specs.meaning.UnitPlaces.{unless_wrong, types_fault, header_line_fault}
-use Rattle.crx_reading.specs.meaning.Reading.{Reading, Stop, AtFault, AtLines, Looking, reading_within}
-use Rattle.crx_reading.specs.meaning.Compacted.{rinex_place}
-use Rattle.crx_reading.specs.meaning.Directions.{rinex_reading}
-use Rattle.crx_reading.specs.CompactionByLine.{made_of_epoch_step, made_of_beginning, rinex_open}
-use Rattle.crx_reading.specs.LineByLine.{Phase, InFirstLines, InHeader, BetweenUnits, InEvent, InEpoch, LookingOn}
-use Rattle.crx_reading.specs.LineByLine.{Closed, Ended, Made, Completes, Step, made_of_unit}
-use Rattle.crx_reading.specs.LineByLine.{made_in, with_records_left, step_of_made, phase_in_body, phase_after_items}
-use Rattle.crx_reading.specs.LineByLine.{phase_of}
-use Rattle.crx_filter.specs.Laws.{failed_by, is_again}
-use Rattle.crx_reading.specs.CheckByLine.{Totals, checking, printed_open, printed_made, no_choices}
+use Rattle.crx_filter.proofs.Words.{ℕ, zero, suc, ◌≡◌, ◌+◌, ◌-◌, Bool, true, false, cond, List, [], ◌∷◌, ◌++◌}
+use Rattle.crx_filter.proofs.Words.{length, drop, Option, Some, None, Result, Ok, Err, refl, ap, sym, ◌∙◌}
+use Rattle.crx_filter.proofs.Words.{append-nil, ⊤, map-append, none-some, ReadLine, Content, Overlong, Fault}
+use Rattle.crx_filter.proofs.Words.{is_end_of_header, Row, Epoch, Count, HeaderLine, EventRecord, last_line}
+use Rattle.crx_filter.proofs.Words.{printed_row, printed_epoch, OpenEpoch, Beginning, EventBegins}
+use Rattle.crx_filter.proofs.Words.{EpochBegins, beginning_of, opened, rows_wanted, epoch_of, with_next_row}
+use Rattle.crx_filter.proofs.Words.{next_row, after_row, when_wanted, Item, Accepted, header_has_ended}
+use Rattle.crx_filter.proofs.Words.{records_left, records_count_types, records_announced, counts_types}
+use Rattle.crx_filter.proofs.Words.{unless_wrong, types_fault, header_line_fault, Reading, Stop, AtFault}
+use Rattle.crx_filter.proofs.Words.{AtLines, Looking, reading_within, rinex_place, rinex_reading}
+use Rattle.crx_filter.proofs.Words.{made_of_epoch_step, made_of_beginning, rinex_open, Phase, InFirstLines}
+use Rattle.crx_filter.proofs.Words.{InHeader, BetweenUnits, InEvent, InEpoch, LookingOn, Closed, Ended, Made}
+use Rattle.crx_filter.proofs.Words.{Completes, Step, made_of_unit, made_in, with_records_left, step_of_made}
+use Rattle.crx_filter.proofs.Words.{phase_in_body, phase_after_items, phase_of, failed_by, is_again, Totals}
+use Rattle.crx_filter.proofs.Words.{checking, printed_open, printed_made, no_choices}
+use Rattle.crx_rinex.specs.meaning.Printing.{printed_head}
 use Rattle.crx_reading.proofs.Choosing.{by_bool}
 use Rattle.crx_filter.proofs.following.Following.{seen_in}
 use Rattle.crx_filter.proofs.reading.Resuming.{by_place, within-here, within-wrong, within-wanted}
+use Rattle.crx_reading.proofs.Checkers.{last-of}
 
 -- ---- where nothing is skipped, no line is looked for
 
@@ -60,12 +47,14 @@ IsReached LookingOn = ⊥
 IsReached Closed = ⊥
 IsReached (Ended at) = ⊤
 
-body-reached : (left : ℕ) (counted : Bool) (so_far : Option OpenEpoch) → IsReached (phase_in_body left counted so_far)
+body-reached : (left : ℕ) (counted : Bool) (so_far : Option OpenEpoch)
+    → IsReached (phase_in_body left counted so_far)
 body-reached zero counted None = tt
 body-reached zero counted (Some so_far) = tt
 body-reached (suc left) counted so_far = tt
 
-items-reached : (items : List (Item Epoch)) (so_far : Option OpenEpoch) → IsReached (phase_after_items items so_far)
+items-reached : (items : List (Item Epoch)) (so_far : Option OpenEpoch)
+    → IsReached (phase_after_items items so_far)
 items-reached items so_far = by_bool (header_has_ended items)
     (λ on. rw on (body-reached (records_left items) (records_count_types items) so_far))
     (λ off. rw off tt)
@@ -82,18 +71,14 @@ phase-reached lines = let r : Reading Epoch = rinex_reading false lines in
 
 -- ---- the last line of what a line makes
 
-last-of : (lines : List (List ℕ)) (line : List ℕ) → last_line (lines ++ line ∷ []) ≡ line
-last-of [] line = refl
-last-of (first ∷ []) line = refl
-last-of (first ∷ second ∷ lines) line = last-of (second ∷ lines) line
-
 -- an epoch with one row more is printed with one line more
 row-printed : (so_far : OpenEpoch) (row : Row) → printed_epoch (epoch_of (with_next_row so_far row))
     ≡ printed_epoch (epoch_of so_far) ++ last_line (printed_epoch (epoch_of (with_next_row so_far row))) ∷ []
 row-printed so_far row =
     let more : printed_epoch (epoch_of (with_next_row so_far row))
     ≡ printed_epoch (epoch_of so_far) ++ printed_row row ∷ [] =
-    ap (λ ls. printed_head so_far.head.head so_far.head.clock ∷ ls) (map-append printed_row so_far.rows (row ∷ [])) in
+    ap (λ ls. printed_head so_far.head.head so_far.head.clock ∷ ls)
+    (map-append printed_row so_far.rows (row ∷ [])) in
     more ∙ ap (λ l. printed_epoch (epoch_of so_far) ++ l ∷ [])
     (sym (ap last_line more ∙ last-of (printed_epoch (epoch_of so_far)) (printed_row row)))
 
@@ -102,7 +87,8 @@ row-printed so_far row =
 -- the step of a line makes the lines grow by one, unless it is a fault
 abbrev pub Grows : ℕ → Phase OpenEpoch → List Count → Totals → ReadLine → Made Epoch OpenEpoch → Type 0
 Grows number phase types kept line made =
-    let step : Step OpenEpoch Totals = step_of_made checking (seen_in no_choices number phase types kept) line made in
+    let step : Step OpenEpoch Totals = step_of_made checking
+    (seen_in no_choices number phase types kept) line made in
     failed_by step.answer ≡ None → step.handed_out ++ printed_open step.next.phase
     ≡ printed_open phase ++ last_line (printed_made made) ∷ []
 
@@ -123,7 +109,8 @@ record-grows : (number left : ℕ)
     (counted : Bool) (types : List Count) (kept : Totals) (content : List ℕ) (fault : Option Fault)
     → Grows number (InEvent left counted) types kept
     (Content content) (made_of_unit (unless_wrong (EventRecord content) fault))
-record-grows number left counted types kept content None f = ap (λ ls. content ∷ ls) (none-open (left - 1) counted)
+record-grows number left counted types kept content None f =
+    ap (λ ls. content ∷ ls) (none-open (left - 1) counted)
 record-grows number left counted types kept content (Some fault) f = absurd (none-some _ (sym f))
 
 opened-grows : (number : ℕ) (types : List Count) (kept : Totals) (content : List ℕ) (head : _) (wanted : ℕ)
@@ -132,7 +119,8 @@ opened-grows : (number : ℕ) (types : List Count) (kept : Totals) (content : Li
 opened-grows number types kept content head zero f = refl
 opened-grows number types kept content head (suc wanted) f = refl
 
-beginning-grows : (number : ℕ) (types : List Count) (kept : Totals) (content : List ℕ) (b : Result Beginning Fault)
+beginning-grows : (number : ℕ) (types : List Count) (kept : Totals) (content : List ℕ)
+    (b : Result Beginning Fault)
     → Grows number BetweenUnits types kept (Content content) (made_of_beginning types b)
 beginning-grows number types kept content (Err fault) f = absurd (none-some _ (sym f))
 beginning-grows number types kept content (Ok (EventBegins line)) f =
@@ -177,7 +165,8 @@ line-grows number (Ended at) types kept line h f = absurd (none-some at (sym f))
 -- ---- no line comes again
 
 pub never-again : (number : ℕ)
-    (phase : Phase OpenEpoch) (types : List Count) (kept : Totals) (line : ReadLine) (made : Made Epoch OpenEpoch)
+    (phase : Phase OpenEpoch) (types : List Count) (kept : Totals) (line : ReadLine)
+    (made : Made Epoch OpenEpoch)
     → is_again (step_of_made checking (seen_in no_choices number phase types kept) line made).answer ≡ false
 never-again number phase types kept line (Completes unit) = refl
 never-again number phase types kept line made = refl

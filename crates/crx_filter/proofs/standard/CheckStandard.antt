@@ -1,27 +1,20 @@
 -- A file is named as standard exactly where it is; and that is where it comes back.
-use Rattle.std.proofs.Common.{ℕ, ◌≡◌, ◌+◌, Bool, true, List, [], ◌∷◌, map, length, Option, Some, None}
-use Rattle.std.proofs.Common.{refl, ap, sym, ◌∙◌, arith}
-use Rattle.std.specs.List.{list_all}
-use Rattle.std.specs.Str.{bytes_eq}
-use Rattle.std.proofs.lemmas.Option.{none-some}
-use Rattle.std.proofs.lemmas.Bool.{and_parts}
+use Rattle.crx_filter.proofs.Words.{ℕ, ◌≡◌, ◌+◌, Bool, true, List, [], ◌∷◌, length, Option, Some, None, refl}
+use Rattle.crx_filter.proofs.Words.{ap, sym, ◌∙◌, arith, list_all, bytes_eq, none-some, and_parts, InputLine}
+use Rattle.crx_filter.proofs.Words.{lines_of, Choices, FilterResult, printed_items, whole_of}
+use Rattle.crx_filter.proofs.Words.{is_standard_line, first_not_standard, findings_of, checked_by, checked}
+use Rattle.crx_filter.proofs.Words.{IsStandard}
 use Rattle.crx_compact.proofs.Characters.{bytes_eq-same, bytes_eq-is}
-use Rattle.crx_faults.specs.meaning.Lines.{InputLine, lines_of}
-use Rattle.crx_options.specs.meaning.Choices.{Choices}
-use Rattle.crx_runs.specs.meaning.Results.{FilterResult}
-use Rattle.crx_reading.specs.meaning.Standard.{printed_items, whole_of, is_standard_line, first_not_standard}
-use Rattle.crx_reading.specs.meaning.Standard.{findings_of, report_status, checked_by, checked, IsStandard}
+use Rattle.crx_reading.specs.meaning.Standard.{report_status}
 use Rattle.crx_filter.specs.CheckingLaws.{IsNamedWhereNot, IsStandardExactlyWhereSame}
 use Rattle.crx_reading.proofs.Choosing.{by_bool}
 use Rattle.crx_filter.proofs.wayback.Standard.{standard-comes_back}
 use Rattle.crx_filter.proofs.wayback.ReturnsLost.{standard-where_same}
 use Rattle.crx_filter.proofs.standard.CheckEnded.{whole-many}
+use Rattle.crx_filter.proofs.reading.Each.{contents}
 
 abbrev are_plain : List InputLine → Bool
 are_plain lines = list_all (λ (line : InputLine). line.is_plain) lines
-
-abbrev contents : List InputLine → List (List ℕ)
-contents lines = map (λ (line : InputLine). line.content) lines
 
 -- where no line is named, each is plain and is what printing gives back
 none-named : (number : ℕ) (lines : List InputLine) (texts : List (List ℕ)) → length texts ≡ length lines
@@ -72,8 +65,8 @@ pub standard-exactly_where_same : (input : List ℕ) (compacting expanding : Cho
 standard-exactly_where_same input compacting expanding dated good =
     let named = named-where_not input good in (
       λ zero_status.
-          let standard : IsStandard input = named.0
-          (none-where_0 (findings_of (lines_of input)).not_standard (sym (status-is input good) ∙ zero_status)) in
+          let standard : IsStandard input = named.0 (none-where_0 (findings_of (lines_of input)).not_standard
+          (sym (status-is input good) ∙ zero_status)) in
           ap (λ (r : FilterResult). r.output) (standard-comes_back input compacting expanding dated standard),
       λ same. status-is input good
           ∙ ap report_status (named.1 (standard-where_same input compacting expanding dated good same)),

@@ -1,15 +1,8 @@
 -- What passes a check comes back.
-use Rattle.std.proofs.Common.{ℕ, ◌≡◌, true, List, Option, Some, None, refl, ap, sym, ◌∙◌, subst}
-use Rattle.crx_faults.specs.meaning.Lines.{lines_of}
-use Rattle.crx_faults.specs.declared.fault.At.{At}
-use Rattle.crx_options.specs.meaning.Choices.{Choices}
-use Rattle.crx_reading.specs.meaning.Compacted.{compacted}
-use Rattle.crx_reading.specs.meaning.Expanded.{expanded}
-use Rattle.crx_reading.specs.meaning.Standard.{Findings, whole_of, findings_of, checked_by, checked, IsStandard}
-use Rattle.crx_reading.specs.meaning.WayBack.{written_well}
-use Rattle.crx_runs.specs.meaning.Results.{FilterResult}
-use Rattle.crx_runs.specs.meaning.Runs.{IsResult}
-use Rattle.crx_runs.specs.meaning.Spans.{Device}
+use Rattle.crx_filter.proofs.Words.{ℕ, ◌≡◌, List, Option, Some, None, refl, ap, sym, ◌∙◌, subst, lines_of, At}
+use Rattle.crx_filter.proofs.Words.{Choices, expanded, whole_of, findings_of, checked_by, checked, IsStandard}
+use Rattle.crx_filter.proofs.Words.{FilterResult, IsResult, Device}
+use Rattle.crx_reading.specs.meaning.Standard.{Findings}
 use Rattle.crx_filter.specs.meaning.Lossless.{WhatPassesComesBack, SaysThatItComesBack, BringsBackWhatPasses}
 use Rattle.crx_filter.proofs.standard.CheckStandard.{named-where_not, none-where_0}
 use Rattle.crx_filter.proofs.wayback.Standard.{standard-comes_back}

@@ -1,25 +1,14 @@
 -- A checker takes the end of the input.
-use Rattle.std.proofs.Common.{ℕ, ◌≡◌, false, List, Option, Some, None, Result, Ok, Err, refl, ap, sym, ◌∙◌}
-use Rattle.crx_faults.specs.meaning.Lines.{InputLine}
-use Rattle.crx_faults.specs.declared.fault.At.{At}
-use Rattle.crx_rinex.specs.meaning.EpochPlaces.{OpenEpoch}
-use Rattle.crx_header.specs.meaning.ObservationTypes.{Count}
-use Rattle.crx_reading.specs.CompactionByLine.{Written, compaction}
-use Rattle.crx_filter.specs.EngineSteps.{SettlesEnd, answer_of_step}
-use Rattle.crx_filter.specs.Laws.{failed_by}
-use Rattle.crx_reading.specs.LineByLine.{Phase, InFirstLines}
-use Rattle.crx_reading.specs.LineByLine.{Step as SeenStep, seen_end}
-use Rattle.crx_reading.specs.RinexReaders.{reader_phase}
-use Rattle.crx_reading.specs.RinexReaders.{epoch_open}
-use Rattle.crx_reading.specs.meaning.Standard.{whole_reading_of, findings_of}
-use Rattle.crx_reading.specs.CheckByLine.{Totals, checking, CheckSeen, no_choices, check_seen, found_by}
-use Rattle.crx_filter.specs.CheckerState.{checker_state_with}
+use Rattle.crx_filter.proofs.Words.{ℕ, ◌≡◌, false, List, Option, Some, None, Result, Ok, Err, refl, ap, sym}
+use Rattle.crx_filter.proofs.Words.{◌∙◌, InputLine, At, OpenEpoch, Count, Written, compaction, answer_of_step}
+use Rattle.crx_filter.proofs.Words.{failed_by, Phase, InFirstLines, SeenStep, seen_end, reader_phase}
+use Rattle.crx_filter.proofs.Words.{epoch_open, whole_reading_of, findings_of, Totals, checking, CheckSeen}
+use Rattle.crx_filter.proofs.Words.{no_choices, check_seen, checker_state_with, Quiet, Held, RinexReader}
+use Rattle.crx_filter.proofs.Words.{Settled}
+use Rattle.crx_filter.specs.EngineSteps.{SettlesEnd}
+use Rattle.crx_reading.specs.CheckByLine.{found_by}
 use Rattle.crx_reading.specs.Totals.{found_held}
 use Rattle.crx_runs.specs.declared.engine.Step.{Step}
-use Rattle.crx_runs.specs.declared.engine.Step.TheVariants.{Quiet}
-use Rattle.crx_reading.specs.declared.report.Totals.{Totals as Held}
-use Rattle.crx_reading.specs.declared.rinex_reader.RinexReader.{RinexReader}
-use Rattle.crx_filter.specs.declared.settled.Settled.{Settled}
 use Rattle.crx_filter.proofs.standard.CheckEnded.{check-ended}
 use Rattle.crx_filter.proofs.following.Following.{seen_in}
 use Rattle.crx_filter.proofs.steps.EngineLemmas.{held-by_reader}
@@ -57,7 +46,8 @@ end-fault reader number totals named lines settled settles same =
     ∙ ap failed_by (end-same number (reader_phase reader) reader.types now.reading.kept kept)
     ∙ ap (λ (s : SeenStep OpenEpoch Written). failed_by s.answer) (sym step)
 
-pub good-end : (lines : List InputLine) (answer : Result Step At) (step : Step) → (whole_reading_of lines).fault
+pub good-end : (lines : List InputLine) (answer : Result Step At) (step : Step)
+    → (whole_reading_of lines).fault
     ≡ failed_by (answer_of_step answer) → answer ≡ Ok step → (whole_reading_of lines).fault ≡ None
 good-end lines answer step e is = e ∙ ap (λ a. failed_by (answer_of_step a)) is ∙ ok-none step
 
@@ -66,7 +56,8 @@ pub bad-end : (lines : List InputLine) (answer : Result Step At) (at : At) → (
 bad-end lines answer at e is = e ∙ ap (λ a. failed_by (answer_of_step a)) is
 
 -- what is held then is what there is to find
-pub found-there : (reader : RinexReader) (number : ℕ) (totals : Held) (named : Option ℕ) (lines : List InputLine)
+pub found-there : (reader : RinexReader) (number : ℕ) (totals : Held) (named : Option ℕ)
+    (lines : List InputLine)
     → checker_state_with reader number totals named ≡ check_seen lines → (whole_reading_of lines).fault ≡ None
     → found_held totals reader.types named ≡ findings_of lines
 found-there reader number totals named lines same good = ap found_by same ∙ (check-ended lines).found good

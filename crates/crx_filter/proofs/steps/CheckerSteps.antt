@@ -1,48 +1,30 @@
 -- A checker takes a line, by what its reader makes of it.
-use Rattle.std.proofs.Common.{map}
-use Rattle.std.proofs.Common.{ℕ, zero, suc, ◌≡◌, ◌⊎◌, inl, inr, ◌+◌, ◌-◌, Bool, true, false, cond, List, []}
-use Rattle.std.proofs.Common.{◌∷◌, ◌++◌, Option, Some, None, refl, ap, sym, subst, ◌∙◌}
-use Rattle.crx_faults.specs.meaning.Lines.{InputLine, is_long}
-use Rattle.crx_faults.specs.meaning.Seen.{ReadLine, Content, Overlong, seen}
-use Rattle.crx_faults.specs.declared.fault.Fault.{Fault}
-use Rattle.crx_faults.specs.declared.fault.Fault.TheVariants.{LineTooLong}
-use Rattle.crx_rinex.specs.meaning.EpochPlaces.{OpenEpoch}
-use Rattle.crx_header.specs.meaning.Header.{is_end_of_header}
-use Rattle.crx_rinex.specs.meaning.Observations.{Epoch as ObservationEpoch}
-use Rattle.crx_header.specs.meaning.ObservationTypes.{Count}
-use Rattle.crx_rinex.specs.Printing.{last_line}
-use Rattle.crx_rinex.specs.meaning.Units.{Unit, HeaderLine, EventLine, EventRecord, Observation}
-use Rattle.crx_reading.specs.CompactionByLine.{compaction, is_before_header}
-use Rattle.crx_runs.specs.meaning.Filters.{with_next}
+use Rattle.crx_filter.proofs.Words.{map, ℕ, zero, suc, ◌≡◌, ◌⊎◌, inl, inr, ◌+◌, ◌-◌, Bool, true, false, cond}
+use Rattle.crx_filter.proofs.Words.{List, [], ◌∷◌, ◌++◌, Option, Some, None, refl, ap, sym, subst, ◌∙◌}
+use Rattle.crx_filter.proofs.Words.{InputLine, is_long, ReadLine, Content, Overlong, seen, Fault, LineTooLong}
+use Rattle.crx_filter.proofs.Words.{OpenEpoch, is_end_of_header, ObservationEpoch, Count, last_line}
+use Rattle.crx_filter.proofs.Words.{HeaderLine, EventLine, EventRecord, Observation, compaction, with_next}
+use Rattle.crx_filter.proofs.Words.{records_announced, counts_types, failed_by, Phase, InFirstLines, InHeader}
+use Rattle.crx_filter.proofs.Words.{BetweenUnits, InEvent, LookingOn, Closed, Ended, Seen, Step, Made, Moves}
+use Rattle.crx_filter.proofs.Words.{Fails, made_in, with_records_left, phase_after, types_after, step_of_made}
+use Rattle.crx_filter.proofs.Words.{takes_memory, epoch_by_rows, reader_phase, made_at, Completed}
+use Rattle.crx_filter.proofs.Words.{CompletedEpoch, MovesReader, TakesRinexLine, is_standard_line, Totals}
+use Rattle.crx_filter.proofs.Words.{checking, printed_open, printed_made, earliest, CheckSeen, no_choices}
+use Rattle.crx_filter.proofs.Words.{check_seen, check_next, check_filter, checker_state_with, Held}
+use Rattle.crx_filter.proofs.Words.{RinexReader, RinexStep, Nothing, Header, Event, Record, Begun, length-map}
+use Rattle.crx_filter.proofs.Words.{rinex_open, totals_of, seen_of, rinex_reading}
+use Rattle.crx_rinex.specs.meaning.Units.{Unit}
+use Rattle.crx_reading.specs.CompactionByLine.{is_before_header}
 use Rattle.crx_runs.specs.Engines.{RunsOutAt}
-use Rattle.crx_reading.specs.meaning.Items.{records_announced, counts_types}
-use Rattle.crx_filter.specs.Laws.{failed_by}
-use Rattle.crx_reading.specs.LineByLine.{Phase, InFirstLines, InHeader, BetweenUnits, InEvent, LookingOn}
-use Rattle.crx_reading.specs.LineByLine.{Closed, Ended, Seen, Step, Made, Moves, Fails, made_in}
-use Rattle.crx_reading.specs.LineByLine.{with_records_left, phase_after, types_after, step_of_made}
-use Rattle.crx_reading.specs.Memory.{takes_memory}
-use Rattle.crx_compact.specs.Written.{epoch_by_rows}
-use Rattle.crx_reading.specs.RinexReaders.{reader_phase, made_at, Completed, CompletedEpoch, MovesReader}
-use Rattle.crx_reading.specs.RinexReaders.{TakesRinexLine, RefusesRinexLine}
-use Rattle.crx_reading.specs.meaning.Standard.{is_standard_line}
-use Rattle.crx_reading.specs.CheckByLine.{Totals, checking, totals_with, totals_made, printed_open, printed_made}
-use Rattle.crx_reading.specs.CheckByLine.{earliest, CheckSeen, no_choices, check_seen, check_step, check_next}
-use Rattle.crx_reading.specs.meaning.Directions.{check_filter, fault_so_far}
+use Rattle.crx_reading.specs.RinexReaders.{RefusesRinexLine}
+use Rattle.crx_reading.specs.CheckByLine.{totals_with, totals_made, check_step}
+use Rattle.crx_reading.specs.meaning.Directions.{fault_so_far}
 use Rattle.crx_reading.specs.Totals.{totals_held, HasPrinted}
-use Rattle.crx_filter.specs.CheckerState.{checker_state_with, is_reading}
-use Rattle.crx_reading.specs.declared.report.Totals.{Totals as Held}
-use Rattle.crx_reading.specs.declared.rinex_reader.RinexReader.{RinexReader}
-use Rattle.crx_reading.specs.declared.rinex_reader.RinexStep.{RinexStep}
-use Rattle.crx_reading.specs.declared.rinex_reader.RinexStep.TheVariants.{Nothing, Header, Event, Record, Begun, Row}
-use Rattle.crx_reading.specs.declared.rinex_reader.RinexStep.TheVariants.{Epoch}
+use Rattle.crx_filter.specs.CheckerState.{is_reading}
+use Rattle.crx_reading.specs.declared.rinex_reader.RinexStep.TheVariants.{Row, Epoch}
 use Rattle.crx_filter.proofs.steps.EngineAnswers.{seen-short, seen-long}
 use Rattle.crx_filter.proofs.following.Following.{seen_in}
 use Rattle.crx_filter.proofs.following.MemoryOfRinex.{check-allowed}
-use Rattle.std.proofs.lemmas.List.{length-map}
-use Rattle.crx_reading.specs.CompactionByLine.{rinex_open}
-use Rattle.crx_reading.specs.CheckByLine.{totals_of}
-use Rattle.crx_reading.specs.LineByLine.{seen_of}
-use Rattle.crx_reading.specs.meaning.Directions.{rinex_reading}
 use Rattle.crx_filter.proofs.standard.CheckLines.{IsReached, Grows, line-grows}
 use Rattle.crx_filter.proofs.following.CheckedOn.{checked-on}
 use Rattle.crx_filter.proofs.standard.CheckEnded.{kept-always}
@@ -52,7 +34,8 @@ use Rattle.crx_reading.proofs.Choosing.{false-true}
 -- a check keeps nothing of the epochs: what a line makes does not hang on it
 
 made-same : (phase : Phase OpenEpoch) (types : List Count) (kept : Totals) (line : ReadLine)
-    → made_in checking phase types kept line ≡ made_in compaction phase types (record { index = 0; tail = None }) line
+    → made_in checking phase types kept line ≡ made_in compaction phase types
+    (record { index = 0; tail = None }) line
 made-same (InFirstLines count) types kept line = refl
 made-same phase types kept line = refl
 
@@ -92,10 +75,12 @@ epoch-steps : (number : ℕ) (totals : Totals) (line : ReadLine) (content : List
     (made : Made ObservationEpoch OpenEpoch)
     → CompletedEpoch made content before after → StepsTo number totals line before after made
 epoch-steps number totals line content before after made h =
-    completed-steps number totals line before after made (Observation (epoch_by_rows h.head after.rows.rows)) h.is
+    completed-steps number totals line before after made
+    (Observation (epoch_by_rows h.head after.rows.rows)) h.is
 
 steps-to : (number : ℕ) (totals : Totals) (line : ReadLine)
-    (content : List ℕ) (before after : RinexReader) (made : Made ObservationEpoch OpenEpoch) (step : RinexStep)
+    (content : List ℕ) (before after : RinexReader) (made : Made ObservationEpoch OpenEpoch)
+    (step : RinexStep)
     → TakesRinexLine made before content step after → StepsTo number totals line before after made
 steps-to number totals line content before after made Nothing h =
     moved-steps number totals line before after made h.0
@@ -125,16 +110,19 @@ reached phase e = tt
 
 grows-printed : (number : ℕ) (phase : Phase OpenEpoch) (types : List Count) (kept : Totals) (line : ReadLine)
     (made : Made ObservationEpoch OpenEpoch) → Grows number phase types kept line made → HasPrinted made
-grows-printed number phase types kept line (Moves next) h = (printed_open phase, last_line (printed_open next), h refl)
+grows-printed number phase types kept line (Moves next) h =
+    (printed_open phase, last_line (printed_open next), h refl)
 grows-printed number phase types kept line made h = tt
 
 pub has-printed : (before : RinexReader) (content : List ℕ)
-    → is_reading (reader_phase before) ≡ true → HasPrinted (made_at before content (record { index = 0; tail = None }))
+    → is_reading (reader_phase before) ≡ true → HasPrinted
+    (made_at before content (record { index = 0; tail = None }))
 has-printed before content reading =
     let none : Totals = record { version = []; epochs = 0; events = 0; observations = 0 } in
     subst HasPrinted (made-same (reader_phase before) before.types none (Content content))
     (grows-printed 0 (reader_phase before) before.types none
-    (Content content) (made_in checking (reader_phase before) before.types none (Content content)) (line-grows 0
+    (Content content) (made_in checking (reader_phase before) before.types none (Content content))
+    (line-grows 0
     (reader_phase before) before.types none (Content content) (reached (reader_phase before) reading)))
 
 left-reading : (left : ℕ) (counted : Bool) → is_reading (with_records_left left counted) ≡ true
@@ -157,10 +145,11 @@ open-reading Closed lines line e = not-none lines line e
 open-reading (Ended at) lines line e = not-none lines line e
 open-reading next lines line e = refl
 
-completed-reading : (before after : RinexReader) (made : Made ObservationEpoch OpenEpoch) (unit : Unit ObservationEpoch)
-    → Completed made unit before after
+completed-reading : (before after : RinexReader) (made : Made ObservationEpoch OpenEpoch)
+    (unit : Unit ObservationEpoch) → Completed made unit before after
     → is_reading (reader_phase before) ≡ true → is_reading (reader_phase after) ≡ true
-completed-reading before after made unit h e = ap is_reading h.phase_then ∙ unit-reading (reader_phase before) unit e
+completed-reading before after made unit h e = ap is_reading h.phase_then
+    ∙ unit-reading (reader_phase before) unit e
 
 moved-reading : (before after : RinexReader) (made : Made ObservationEpoch OpenEpoch)
     → MovesReader made before after → HasPrinted made → is_reading (reader_phase after) ≡ true
@@ -175,12 +164,15 @@ pub still-reading : (before after : RinexReader)
 still-reading before after content made Nothing h some e = moved-reading before after made h.0 some
 still-reading before after content made (Header is_first) h some e =
     completed-reading before after made (HeaderLine content) h.0 e
-still-reading before after content made Event h some e = completed-reading before after made (EventLine content) h e
-still-reading before after content made Record h some e = completed-reading before after made (EventRecord content) h e
+still-reading before after content made Event h some e =
+    completed-reading before after made (EventLine content) h e
+still-reading before after content made Record h some e =
+    completed-reading before after made (EventRecord content) h e
 still-reading before after content made Begun (none, inl opened) some e =
     moved-reading before after made opened.1 some
 still-reading before after content made Begun (none, inr whole) some e =
-    completed-reading before after made (Observation (epoch_by_rows whole.1.head after.rows.rows)) whole.1.is e
+    completed-reading before after made (Observation (epoch_by_rows whole.1.head after.rows.rows))
+    whole.1.is e
 still-reading before after content made Row h some e = moved-reading before after made h.0 some
 still-reading before after content made Epoch h some e =
     completed-reading before after made (Observation (epoch_by_rows h.head after.rows.rows)) h.is e
@@ -188,8 +180,8 @@ still-reading before after content made Epoch h some e =
 -- ---- what is seen then
 
 pub took-line : (before after : RinexReader) (number : ℕ)
-    (totals then : Held) (named named_then : Option ℕ) (line : InputLine) (step : RinexStep) (lines : List InputLine)
-    → is_long line ≡ false → TakesRinexLine
+    (totals then : Held) (named named_then : Option ℕ) (line : InputLine) (step : RinexStep)
+    (lines : List InputLine) → is_long line ≡ false → TakesRinexLine
     (made_at before line.content (record { index = 0; tail = None })) before line.content step after
     → totals_held then ≡ totals_made (totals_held totals)
     (is_before_header (reader_phase before)) (made_at before line.content (record { index = 0; tail = None }))
@@ -198,8 +190,10 @@ pub took-line : (before after : RinexReader) (number : ℕ)
     → checker_state_with before number totals named ≡ check_seen lines
     → (fault_so_far (with_next lines line) ≡ None)
     × (checker_state_with after (number + 1) then named_then ≡ check_seen (with_next lines line))
-took-line before after number totals then named named_then line step lines short takes totals_then named_is same =
-    let made : Made ObservationEpoch OpenEpoch = made_at before line.content (record { index = 0; tail = None }) in
+took-line before after number totals then named named_then line step lines short takes totals_then
+    named_is same =
+    let made : Made ObservationEpoch OpenEpoch = made_at before line.content
+    (record { index = 0; tail = None }) in
     let now : CheckSeen = checker_state_with before number totals named in
     let held : Totals = totals_held totals in
     let is : made_in checking (reader_phase before) before.types held (seen line) ≡ made =
@@ -215,15 +209,18 @@ took-line before after number totals then named named_then line step lines short
     let reading : (check_step now line).next
     ≡ seen_in no_choices (number + 1) (reader_phase after) after.types (totals_held then) =
     ap (λ m. (step_of_made checking now.reading (seen line) m).next) is
-    ∙ steps.1 ∙ ap (λ t. seen_in no_choices (number + 1) (reader_phase after) after.types t) (sym totals_then) in
+    ∙ steps.1 ∙ ap (λ t. seen_in no_choices (number + 1) (reader_phase after) after.types t)
+    (sym totals_then) in
     let named_same : earliest named (is_standard_line line (last_line (printed_made
     (made_in checking (reader_phase before) before.types held (seen line))))) (number + 1) ≡ named_then =
-    ap (λ m. earliest named (is_standard_line line (last_line (printed_made m))) (number + 1)) is ∙ sym named_is in
+    ap (λ m. earliest named (is_standard_line line (last_line (printed_made m))) (number + 1)) is
+    ∙ sym named_is in
     let next : check_next now line ≡ checker_state_with after (number + 1) then named_then =
     ap (λ (s : Seen OpenEpoch Totals). record {
       reading = s;
       not_standard = earliest named (is_standard_line line (last_line
-          (printed_made (made_in checking (reader_phase before) before.types held (seen line))))) (number + 1);
+          (printed_made (made_in checking (reader_phase before) before.types held (seen line)))))
+          (number + 1);
     }) reading
     ∙ ap (λ n. record {
       reading = seen_in no_choices (number + 1) (reader_phase after) after.types (totals_held then);
@@ -234,7 +231,8 @@ took-line before after number totals then named named_then line step lines short
 -- ---- faults
 
 failed-line : (before : RinexReader)
-    (number : ℕ) (totals : Held) (named : Option ℕ) (line : InputLine) (lines : List InputLine) (fault : Fault)
+    (number : ℕ) (totals : Held) (named : Option ℕ) (line : InputLine) (lines : List InputLine)
+    (fault : Fault)
     → made_in checking (reader_phase before) before.types (totals_held totals) (seen line) ≡ Fails fault
     → checker_state_with before number totals named ≡ check_seen lines
     → fault_so_far (with_next lines line) ≡ Some (record { line = number + 1; fault = fault })
@@ -247,20 +245,21 @@ failed-line before number totals named line lines fault is same =
 check-allowed-of : (lines : List InputLine) (line : InputLine)
     → takes_memory checking (check_seen lines).reading (seen line) ≡ true
     → check_filter.memory_after lines line ≡ Some []
-check-allowed-of lines line e =
-    check-allowed (map seen lines) (seen line)
+check-allowed-of lines line e = check-allowed (map seen lines) (seen line)
     (ap (λ n. takes_memory checking (seen_of checking rinex_open totals_of no_choices n
     (rinex_reading false (map seen lines))) (seen line)) (length-map lines seen) ∙ e)
 
 pub refused-line : (before : RinexReader)
-    (number : ℕ) (totals : Held) (named : Option ℕ) (line : InputLine) (lines : List InputLine) (fault : Fault)
-    → is_long line ≡ false → RefusesRinexLine (made_at before line.content (record { index = 0; tail = None }))
+    (number : ℕ) (totals : Held) (named : Option ℕ) (line : InputLine) (lines : List InputLine)
+    (fault : Fault) → is_long line ≡ false → RefusesRinexLine (made_at before line.content
+    (record { index = 0; tail = None }))
     before line.content fault → checker_state_with before number totals named ≡ check_seen lines
     → RunsOutAt check_filter lines line [] (record { line = number + 1; fault = fault })
     ⊎ (fault_so_far (with_next lines line) ≡ Some (record { line = number + 1; fault = fault }))
 refused-line before number totals named line lines fault short (inl fails) same =
     inr (failed-line before number totals named line lines fault
-    (ap (λ l. made_in checking (reader_phase before) before.types (totals_held totals) l) (seen-short line short)
+    (ap (λ l. made_in checking (reader_phase before) before.types (totals_held totals) l)
+    (seen-short line short)
     ∙ made-same (reader_phase before) before.types (totals_held totals) (Content line.content) ∙ fails) same)
 refused-line before number totals named line lines fault short (inr memory) same =
     inl (record {
@@ -268,7 +267,8 @@ refused-line before number totals named line lines fault short (inr memory) same
       place = ap (λ n. n + 1) (ap (λ (b : CheckSeen). b.reading.number) same);
       allowed = check-allowed-of lines line
           (ap (λ l. takes_memory checking (check_seen lines).reading l) (seen-short line short)
-          ∙ ap (λ (b : CheckSeen). takes_memory checking b.reading (Content line.content)) (sym same) ∙ memory.1);
+          ∙ ap (λ (b : CheckSeen). takes_memory checking b.reading (Content line.content)) (sym same)
+          ∙ memory.1);
     })
 
 always-too_long : (phase : Phase OpenEpoch) (types : List Count) (kept : Totals)
@@ -286,5 +286,6 @@ pub long-line : (before : RinexReader)
     → fault_so_far (with_next lines line) ≡ Some (record { line = number + 1; fault = LineTooLong })
 long-line before number totals named line lines long reading same =
     failed-line before number totals named line lines LineTooLong
-    (ap (λ l. made_in checking (reader_phase before) before.types (totals_held totals) l) (seen-long line long)
+    (ap (λ l. made_in checking (reader_phase before) before.types (totals_held totals) l)
+    (seen-long line long)
     ∙ always-too_long (reader_phase before) before.types (totals_held totals) reading) same

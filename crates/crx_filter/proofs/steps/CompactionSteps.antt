@@ -1,45 +1,26 @@
 -- What a compaction makes of a line that has a fault, is too long, or completes an epoch.
-use Rattle.std.proofs.Common.{◌≡◌, ◌⊎◌, inl, inr, ℕ, ◌+◌, true, false, List, [], Option, Some, None, Result, Ok, Err}
-use Rattle.std.proofs.Common.{◌++◌, ◌∷◌, refl, sym, ap, subst, ◌∙◌, OnOk, OnErr}
+use Rattle.crx_filter.proofs.Words.{◌≡◌, ◌⊎◌, inl, inr, ℕ, ◌+◌, true, false, List, [], Option, Some, None}
+use Rattle.crx_filter.proofs.Words.{Result, Ok, Err, ◌++◌, ◌∷◌, refl, sym, ap, subst, ◌∙◌, OnOk, ReadLine}
+use Rattle.crx_filter.proofs.Words.{Content, Overlong, At, Fault, OutOfMemory, LineTooLong, ObservationEpoch}
+use Rattle.crx_filter.proofs.Words.{Bool, not, ◌&&◌, and_parts, false≢true, begins_epoch, is_event_line}
+use Rattle.crx_filter.proofs.Words.{OpenEpoch, HeaderLine, EventLine, EventRecord, Observation, FileUnit}
+use Rattle.crx_filter.proofs.Words.{Count, epoch_by_rows, Choices, Written, compact_written, compaction}
+use Rattle.crx_filter.proofs.Words.{epoch_written, is_next_row, written_kept, Phase, InFirstLines, InHeader}
+use Rattle.crx_filter.proofs.Words.{BetweenUnits, InEvent, InEpoch, LookingOn, SeenEnded, Seen, Made, Fails}
+use Rattle.crx_filter.proofs.Words.{made_in, kept_in, failed_step, phase_after, step_of_made, may_take_memory}
+use Rattle.crx_filter.proofs.Words.{is_skippable, seen_stage, step_made, Steps, epoch_open, is_row, made_at}
+use Rattle.crx_filter.proofs.Words.{reader_phase, Completed, CompletedEpoch, IsSameReader, TakesRinexLine}
+use Rattle.crx_filter.proofs.Words.{is_open_stage, RinexStep, Nothing, Header, Event, Record, Begun}
+use Rattle.crx_filter.proofs.Words.{MovesReader, Quiet, Ready, RinexReader, Stage, Open}
+use Rattle.std.proofs.Common.{OnErr}
 use Rattle.std.specs.declared.alloc.AllocError.{AllocError}
-use Rattle.crx_faults.specs.meaning.Seen.{ReadLine, Content, Overlong}
-use Rattle.crx_faults.specs.declared.fault.At.{At}
-use Rattle.crx_faults.specs.declared.fault.Fault.{Fault}
-use Rattle.crx_faults.specs.declared.fault.Fault.TheVariants.{OutOfMemory, LineTooLong}
-use Rattle.crx_rinex.specs.meaning.Observations.{Epoch as ObservationEpoch}
-use Rattle.std.specs.Prelude.{Bool, not, ◌&&◌}
-use Rattle.std.proofs.lemmas.Bool.{and_parts, false≢true}
-use Rattle.crx_header.specs.meaning.EpochColumns.{begins_epoch, is_event_line}
-use Rattle.crx_rinex.specs.meaning.EpochPlaces.{OpenEpoch}
-use Rattle.crx_rinex.specs.meaning.Units.{HeaderLine, EventLine, EventRecord, Observation, Unit as FileUnit}
-use Rattle.crx_header.specs.meaning.ObservationTypes.{Count}
-use Rattle.crx_compact.specs.Written.{epoch_by_rows}
-use Rattle.crx_options.specs.meaning.Choices.{Choices}
-use Rattle.crx_reading.specs.CompactionByLine.{Written, compact_written, compaction, epoch_written, is_next_row}
-use Rattle.crx_reading.specs.CompactionByLine.{written_kept}
-use Rattle.crx_reading.specs.LineByLine.{Phase, InFirstLines, InHeader, BetweenUnits, InEvent, InEpoch, LookingOn}
-use Rattle.crx_reading.specs.LineByLine.{Closed as SeenClosed, Ended as SeenEnded, Seen, Made, Fails, made_in, kept_in}
-use Rattle.crx_reading.specs.LineByLine.{failed_step, phase_after, step_of_made}
-use Rattle.crx_reading.specs.Memory.{may_take_memory}
-use Rattle.crx_faults.specs.meaning.Faults.{is_skippable}
-use Rattle.crx_reading.specs.Stages.{is_ended, seen_stage}
-use Rattle.crx_filter.specs.EngineSteps.{step_made, Steps}
-use Rattle.crx_reading.specs.RinexReaders.{epoch_open, is_row, made_at, reader_phase, Completed, CompletedEpoch}
-use Rattle.crx_reading.specs.RinexReaders.{IsSameReader, TakesRinexLine}
-use Rattle.crx_reading.specs.RinexStages.{is_open_stage}
-use Rattle.crx_reading.specs.declared.rinex_reader.RinexStep.{RinexStep}
-use Rattle.crx_reading.specs.declared.rinex_reader.RinexStep.TheVariants.{Nothing, Header, Event, Record, Begun, Row}
-use Rattle.crx_reading.specs.declared.rinex_reader.RinexStep.TheVariants.{Epoch}
+use Rattle.crx_reading.specs.LineByLine.{Closed as SeenClosed}
+use Rattle.crx_reading.specs.Stages.{is_ended}
+use Rattle.crx_reading.specs.declared.rinex_reader.RinexStep.TheVariants.{Row, Epoch}
 use Rattle.crx_filter.specs.CompactionState.{copied_lines}
 use Rattle.crx_header.specs.meaning.CompactHeader.{lines_before_header}
-use Rattle.crx_reading.specs.RinexReaders.{MovesReader}
 use Rattle.crx_runs.specs.declared.engine.Step.{Step}
-use Rattle.crx_runs.specs.declared.engine.Step.TheVariants.{Quiet, Ready}
-use Rattle.crx_reading.specs.declared.rinex_reader.RinexReader.{RinexReader}
-use Rattle.crx_reading.specs.declared.stage.Stage.{Stage}
-use Rattle.crx_reading.specs.declared.stage.Stage.TheVariants.{Open, Looking}
-use Rattle.crx_reading.specs.declared.stage.Stage.TheVariants.{Closed}
-use Rattle.crx_reading.specs.declared.stage.Stage.TheVariants.{Ended}
+use Rattle.crx_reading.specs.declared.stage.Stage.TheVariants.{Looking, Closed, Ended}
 use Rattle.crx_filter.proofs.following.Following.{seen_in}
 use Rattle.crx_filter.proofs.steps.EngineLemmas.{out-fatal, fatal-counts, ran-out}
 
@@ -52,25 +33,24 @@ kept-going held (Ended at) kept e = absurd (cc)
 kept-going held stage kept e = refl
 
 -- a line after which nothing is to be written
-pub quiet-step : (choices : Choices) (number : ℕ) (kept : Written) (before after : RinexReader) (line : List ℕ)
-    (ready : List (List ℕ)) → ready ≡ [] → MovesReader (made_at before line kept) before after
+pub quiet-step : (choices : Choices) (number : ℕ) (kept : Written) (before after : RinexReader)
+    (line : List ℕ) (ready : List (List ℕ)) → ready ≡ [] → MovesReader (made_at before line kept) before after
     → Steps compaction (seen_in choices number (reader_phase before) before.types kept) (Content line)
-    (Ok Quiet) ready
-    (seen_in choices (number + 1) (reader_phase after) after.types kept)
+    (Ok Quiet) ready (seen_in choices (number + 1) (reader_phase after) after.types kept)
 quiet-step choices number kept before after line ready none moves =
     let phase = reader_phase after in
     let going = kept-going (epoch_open after) after.stage kept moves.goes_on in
     inl (ap (λ (ls : List (List ℕ)). step_made (Ok Quiet) ls
     (seen_in choices (number + 1) phase after.types kept)) none
-    ∙ ap (λ (ts : List Count). step_made (Ok Quiet) [] (seen_in choices (number + 1) phase ts kept)) moves.types_then
+    ∙ ap (λ (ts : List Count). step_made (Ok Quiet) [] (seen_in choices (number + 1) phase ts kept))
+    moves.types_then
     ∙ ap (λ (k : Written). step_made (Ok Quiet) [] (seen_in choices (number + 1) phase before.types k))
-    (sym going)
-    ∙ sym (ap (λ (m : Made ObservationEpoch OpenEpoch). step_of_made compaction
+    (sym going) ∙ sym (ap (λ (m : Made ObservationEpoch OpenEpoch). step_of_made compaction
     (seen_in choices number (reader_phase before) before.types kept) (Content line) m) moves.moved))
 
 -- where the reading may take memory, the compaction may
-read-or-written : (first : List ℕ → Bool) (next : OpenEpoch → List ℕ → Bool) (phase : Phase OpenEpoch) (line : ReadLine)
-    → may_take_memory (λ (l : List ℕ). false) next phase line ≡ true
+read-or-written : (first : List ℕ → Bool) (next : OpenEpoch → List ℕ → Bool) (phase : Phase OpenEpoch)
+    (line : ReadLine) → may_take_memory (λ (l : List ℕ). false) next phase line ≡ true
     → may_take_memory first next phase line ≡ true
 read-or-written first next phase Overlong e = absurd (false≢true e)
 read-or-written first next (InFirstLines count) (Content line) e = e
@@ -87,8 +67,8 @@ read-or-written first next (SeenEnded at) (Content line) e = e
 
 -- a line with a fault
 pub refused-step : (before now : Seen OpenEpoch Written)
-    (line : ReadLine) (result : Result Step At) (ready : List (List ℕ)) (after : Seen OpenEpoch Written) (fault : Fault)
-    → now ≡ before → step_made result ready after ≡ failed_step compaction now line fault
+    (line : ReadLine) (result : Result Step At) (ready : List (List ℕ)) (after : Seen OpenEpoch Written)
+    (fault : Fault) → now ≡ before → step_made result ready after ≡ failed_step compaction now line fault
     → (made_in compaction before.phase before.types before.kept line ≡ Fails fault)
     ⊎ ((fault ≡ OutOfMemory) × (may_take_memory (λ (l : List ℕ). false) is_next_row before.phase line ≡ true))
     → (is_skippable fault ≡ false → result ≡ Err (record { line = before.number + 1; fault = fault }))
@@ -103,8 +83,8 @@ refused-step before now line result ready after fault same step (inr out) fatal 
     (read-or-written (epoch_written before.types before.kept) is_next_row before.phase line out.1) counted)
 
 -- what is seen of a reader that is as it was
-pub seen-again : (choices : Choices) (number : ℕ) (kept : Written) (before now : RinexReader) → IsSameReader before now
-    → seen_in choices number (reader_phase now) now.types kept
+pub seen-again : (choices : Choices) (number : ℕ) (kept : Written) (before now : RinexReader)
+    → IsSameReader before now → seen_in choices number (reader_phase now) now.types kept
     ≡ seen_in choices number (reader_phase before) before.types kept
 seen-again choices number kept before now same = rw (same.stage, same.types, same.head, same.rows) refl
 
@@ -120,8 +100,8 @@ overlong-made held (Ended at) types kept looks closes ends = absurd (ends at ref
 overlong-made held stage types kept looks closes ends = refl
 
 -- a line that completes a unit
-pub completed-step : (choices : Choices) (number : ℕ) (kept : Written) (before after : RinexReader) (line : List ℕ)
-    (unit : FileUnit ObservationEpoch) (ready : List (List ℕ)) (now : Seen OpenEpoch Written)
+pub completed-step : (choices : Choices) (number : ℕ) (kept : Written) (before after : RinexReader)
+    (line : List ℕ) (unit : FileUnit ObservationEpoch) (ready : List (List ℕ)) (now : Seen OpenEpoch Written)
     → Completed (made_at before line kept) unit before after
     → ready ≡ compact_written (seen_in choices number (reader_phase before) before.types kept) unit
     → now ≡ seen_in choices (number + 1) (reader_phase after) after.types
@@ -139,8 +119,8 @@ completed-step choices number kept before after line unit ready now done made is
     done.unit_made))
 
 -- a line that completes an epoch, whose lines were made unless memory ran out
-pub concluded-step : (choices : Choices) (number : ℕ) (kept : Written) (before after : RinexReader) (line : List ℕ)
-    (ended : Result (Unit {0}) AllocError) (result : Result Step At) (ready : List (List ℕ))
+pub concluded-step : (choices : Choices) (number : ℕ) (kept : Written) (before after : RinexReader)
+    (line : List ℕ) (ended : Result (Unit {0}) AllocError) (result : Result Step At) (ready : List (List ℕ))
     (now : Seen OpenEpoch Written) (done : CompletedEpoch (made_at before line kept) line before after)
     → OnOk ended (result ≡ Ok Ready)
     → OnOk ended (ready ≡ compact_written (seen_in choices number (reader_phase before) before.types kept)
@@ -149,15 +129,16 @@ pub concluded-step : (choices : Choices) (number : ℕ) (kept : Written) (before
     (written_kept (seen_in choices number (reader_phase before) before.types kept)
     (Observation (epoch_by_rows done.head after.rows.rows))))
     → OnErr ended (result ≡ Err (record { line = number + 1; fault = OutOfMemory })) → now.number ≡ number + 1
-    → Steps compaction (seen_in choices number (reader_phase before) before.types kept) (Content line) result ready now
-concluded-step choices number kept before after line (Ok unit) result ready now done is made seen refused counted =
-    subst (λ (r : Result Step At). Steps compaction (seen_in choices number (reader_phase before) before.types kept)
-    (Content line) r ready now) (sym is)
-    (completed-step choices number kept before after line (Observation (epoch_by_rows done.head after.rows.rows))
-    ready now done.is made seen)
-concluded-step choices number kept before after line (Err error) result ready now done is made seen refused counted =
-    inr (ran-out compaction (seen_in choices number (reader_phase before) before.types kept) now (Content line)
-    result OutOfMemory refl refused done.allowed counted)
+    → Steps compaction (seen_in choices number (reader_phase before) before.types kept)
+    (Content line) result ready now
+concluded-step choices number kept before after line (Ok unit) result ready now done is made seen refused
+    counted = subst (λ (r : Result Step At). Steps compaction (seen_in choices number
+    (reader_phase before) before.types kept) (Content line) r ready now) (sym is)
+    (completed-step choices number kept before after line
+    (Observation (epoch_by_rows done.head after.rows.rows)) ready now done.is made seen)
+concluded-step choices number kept before after line (Err error) result ready now done is made seen refused
+    counted = inr (ran-out compaction (seen_in choices number (reader_phase before) before.types kept) now
+    (Content line) result OutOfMemory refl refused done.allowed counted)
 
 -- a line that is copied
 abbrev pub is_copied : RinexStep → Bool
@@ -166,10 +147,13 @@ is_copied Event = true
 is_copied Record = true
 is_copied step = false
 
-pub copied-step : (choices : Choices) (number : ℕ) (kept : Written) (before after : RinexReader) (line : List ℕ)
+pub copied-step : (choices : Choices) (number : ℕ) (kept : Written) (before after : RinexReader)
+    (line : List ℕ)
     (step : RinexStep) (ready : List (List ℕ)) (now : Seen OpenEpoch Written) → is_copied step ≡ true
-    → TakesRinexLine (made_at before line kept) before line step after → ready ≡ copied_lines choices.date step line
-    → now ≡ seen_in choices (number + 1) (reader_phase after) after.types (record { index = kept.index; tail = None })
+    → TakesRinexLine (made_at before line kept) before line step after → ready
+    ≡ copied_lines choices.date step line
+    → now ≡ seen_in choices (number + 1) (reader_phase after) after.types
+    (record { index = kept.index; tail = None })
     → Steps compaction (seen_in choices number (reader_phase before) before.types kept) (Content line)
     (Ok Ready) ready now
 copied-step choices number kept before after line (Header is_first) ready now is takes made seen =

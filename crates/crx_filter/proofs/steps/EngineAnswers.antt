@@ -1,31 +1,20 @@
 -- From the steps of an engine of either direction to what every engine answers, and to the lines it has taken.
-use Rattle.std.proofs.Common.{ℕ, ◌≡◌, inl, inr, ◌+◌, Bool, true, false, cond, List, [], ◌∷◌, ◌++◌, map, length, Some}
-use Rattle.std.proofs.Common.{None, Result, Ok, Err, refl, ap, sym, subst, ◌∙◌, append-nil, ◌≤◌, rules}
-use Rattle.std.proofs.lemmas.Bool.{and_parts}
-use Rattle.std.specs.Prelude.{reverse, ◌&&◌}
-use Rattle.std.proofs.lemmas.List.{reverse-append}
-use Rattle.crx_faults.specs.meaning.Lines.{InputLine, is_long}
-use Rattle.crx_faults.specs.meaning.Seen.{ReadLine, Content, Overlong, seen}
-use Rattle.crx_faults.specs.declared.fault.At.{At}
-use Rattle.crx_faults.specs.declared.fault.Fault.TheVariants.{OutOfMemory}
-use Rattle.crx_faults.specs.declared.limits.TheConstants.{LINE_LIMIT}
-use Rattle.crx_options.specs.meaning.Choices.{Choices}
-use Rattle.crx_runs.specs.meaning.Filters.{Filter, with_next}
-use Rattle.crx_faults.specs.meaning.Lines.{lines_text}
-use Rattle.crx_runs.specs.Engines.{Awaited, IsAwaited, awaited_notices, GoesOn, EndsWith, EngineAnswers, Concludes}
+use Rattle.crx_filter.proofs.Words.{ℕ, ◌≡◌, inl, inr, ◌+◌, Bool, true, false, cond, List, [], ◌∷◌, ◌++◌, map}
+use Rattle.crx_filter.proofs.Words.{length, Some, None, Result, Ok, Err, refl, ap, sym, subst, ◌∙◌}
+use Rattle.crx_filter.proofs.Words.{append-nil, ◌≤◌, rules, and_parts, reverse, ◌&&◌, reverse-append}
+use Rattle.crx_filter.proofs.Words.{InputLine, is_long, ReadLine, Content, Overlong, seen, At, OutOfMemory}
+use Rattle.crx_filter.proofs.Words.{LINE_LIMIT, Choices, with_next, lines_text, step_made, Steps, noticed_by}
+use Rattle.crx_filter.proofs.Words.{failed_by, is_again, Fed, fed_once, fed_twice, fed, IsReadyWhereHandedOut}
+use Rattle.crx_filter.proofs.Words.{LookingOn, Seen, Direction, Made, Fails, Notice, SeenStep, made_in}
+use Rattle.crx_filter.proofs.Words.{may_skip, is_in_epoch, is_skipped_in, failed_step, step_of_made}
+use Rattle.crx_filter.proofs.Words.{seen_next, seen_end, takes_memory, can_go_on, is_skippable, Quiet, Ready}
+use Rattle.crx_runs.specs.meaning.Filters.{Filter}
+use Rattle.crx_runs.specs.Engines.{Awaited, IsAwaited, awaited_notices, GoesOn, EndsWith, EngineAnswers}
+use Rattle.crx_runs.specs.Engines.{Concludes}
 use Rattle.crx_filter.specs.EngineLines.{HasTaken}
-use Rattle.crx_filter.specs.EngineSteps.{step_made, Steps}
-use Rattle.crx_filter.specs.Laws.{noticed_by, failed_by, is_again, is_ready, has_lines, Fed, fed_once, fed_twice, fed}
-use Rattle.crx_filter.specs.Laws.{IsReadyWhereHandedOut}
-use Rattle.crx_reading.specs.LineByLine.{LookingOn}
-use Rattle.crx_reading.specs.LineByLine.{Seen, Direction, Made, Fails, Notice}
-use Rattle.crx_reading.specs.LineByLine.{Step as SeenStep, made_in, may_skip, is_in_epoch, is_skipped_in, failed_step}
-use Rattle.crx_reading.specs.LineByLine.{step_of_made, seen_next, seen_end}
-use Rattle.crx_reading.specs.Memory.{takes_memory}
-use Rattle.crx_reading.specs.meaning.Reading.{can_go_on}
-use Rattle.crx_faults.specs.meaning.Faults.{is_skippable}
+use Rattle.crx_filter.specs.Laws.{is_ready, has_lines}
 use Rattle.crx_runs.specs.declared.engine.Step.{Step}
-use Rattle.crx_runs.specs.declared.engine.Step.TheVariants.{Quiet, Ready, Warned}
+use Rattle.crx_runs.specs.declared.engine.Step.TheVariants.{Warned}
 use Rattle.crx_reading.proofs.Choosing.{by_bool}
 use Rattle.crx_filter.proofs.following.Following.{fed-once as feeds-once, fed-twice as feeds-twice}
 
@@ -42,10 +31,12 @@ pub record FollowsBy (filter : Filter) {O K : Type 0}
   pub fault : (filter.so_far (with_next lines line)).fault ≡ line_fed.failed
 
 -- the end of the input is what the filter makes of it
-pub record EndsBy (filter : Filter) {O K : Type 0} (lines : List InputLine) (end : SeenStep O K) : Type 0 where
+pub record EndsBy (filter : Filter) {O K : Type 0} (lines : List InputLine)
+    (end : SeenStep O K) : Type 0 where
   pub handed_out : end.handed_out ≡ []
   pub output : (filter.whole lines).output ≡ (filter.so_far lines).output
-  pub warnings : (filter.whole lines).warnings ≡ (filter.so_far lines).warnings ++ reverse (noticed_by end.answer)
+  pub warnings : (filter.whole lines).warnings ≡ (filter.so_far lines).warnings ++ reverse
+      (noticed_by end.answer)
   pub fault : (filter.whole lines).fault ≡ failed_by end.answer
 
 pub record GoesLineByLine {U O K : Type 0} (direction : Direction U O K) (seen_after : List ReadLine
@@ -60,8 +51,8 @@ pub record GoesLineByLine {U O K : Type 0} (direction : Direction U O K) (seen_a
       → filter.memory_after lines line ≡ Some []
   pub memory_again : (lines : List InputLine) (line : InputLine) (next : Seen O K) (notice : At)
       → record { answer = Notice notice true; handed_out = []; next = next }
-      ≡ seen_next direction (seen_after (map seen lines)) (seen line) → takes_memory direction next (seen line) ≡ true
-      → filter.memory_after lines line ≡ Some (notice ∷ [])
+      ≡ seen_next direction (seen_after (map seen lines)) (seen line)
+      → takes_memory direction next (seen line) ≡ true → filter.memory_after lines line ≡ Some (notice ∷ [])
   pub ready : IsReadyWhereHandedOut direction
 
 -- ---- a line that comes again
@@ -76,8 +67,8 @@ pub record ComesAgain {O K : Type 0} (before next : Seen O K) (line : ReadLine) 
 
 again-by-made : {U O K : Type 0} (direction : Direction U O K)
     (before next : Seen O K) (line : ReadLine) (at : At) (handed_out : List (List ℕ)) (made : Made U O)
-    → record { answer = Notice at true; handed_out = handed_out; next = next } ≡ step_of_made direction before line made
-    → ComesAgain before next line
+    → record { answer = Notice at true; handed_out = handed_out; next = next }
+    ≡ step_of_made direction before line made → ComesAgain before next line
 again-by-made {O = O} {K = K} direction before next line at handed_out (Fails fault) e =
     let again : Bool = is_in_epoch before.phase && can_go_on line in
     by_bool (is_skipped_in before fault)
@@ -95,8 +86,7 @@ again-by-made {O = O} {K = K} direction before next line at handed_out (Fails fa
         phase = LookingOn;
         kept = direction.emptied before.kept;
       };
-    } =
-    rw on refl in
+    } = rw on refl in
     let yes : true ≡ again = ap (λ (s : SeenStep O K). is_again s.answer) (step ∙ is) in
     let both = and_parts (is_in_epoch before.phase) (can_go_on line) (sym yes) in
     let then = ap (λ (s : SeenStep O K). s.next) (step ∙ is) in
@@ -119,9 +109,9 @@ again-by-made {O = O} {K = K} direction before next line at handed_out made e =
     absurd (cc)
 
 pub comes-again : {U O K : Type 0}
-    (direction : Direction U O K) (before next : Seen O K) (line : ReadLine) (at : At) (handed_out : List (List ℕ))
-    → record { answer = Notice at true; handed_out = handed_out; next = next } ≡ seen_next direction before line
-    → ComesAgain before next line
+    (direction : Direction U O K) (before next : Seen O K) (line : ReadLine) (at : At)
+    (handed_out : List (List ℕ)) → record { answer = Notice at true; handed_out = handed_out; next = next }
+    ≡ seen_next direction before line → ComesAgain before next line
 comes-again direction before next line at handed_out e =
     again-by-made direction before next line at handed_out
     (made_in direction before.phase before.types before.kept line) e
@@ -136,8 +126,7 @@ none-handed_out [] e = refl
 none-handed_out (line ∷ lines) e = absurd (cc)
 
 module _ {U O K : Type 0} {direction : Direction U O K} {seen_after : List ReadLine → Seen O K}
-    {filter : Filter}
-    (goes : GoesLineByLine direction seen_after filter) where
+    {filter : Filter} (goes : GoesLineByLine direction seen_after filter) where
   -- only a step that is ready hands out lines
   quiet-handed_out : (before : Seen O K) (line : ReadLine) (step : SeenStep O K)
       → step ≡ seen_next direction before line → is_ready step.answer ≡ false → step.handed_out ≡ []
@@ -147,14 +136,16 @@ module _ {U O K : Type 0} {direction : Direction U O K} {seen_after : List ReadL
 
   -- ---- a line that is fed once, or comes a second time
 
-  fed-once : (before : Seen O K) (line : ReadLine) (step : SeenStep O K) → step ≡ seen_next direction before line
+  fed-once : (before : Seen O K) (line : ReadLine) (step : SeenStep O K) → step
+      ≡ seen_next direction before line
       → is_again step.answer ≡ false → fed direction before line ≡ fed_once step
   fed-once before line step e once =
       feeds-once direction before line (ap (λ (s : SeenStep O K). is_again s.answer) (sym e) ∙ once)
       ∙ ap fed_once (sym e)
 
-  fed-again : (before : Seen O K) (line : ReadLine) (step : SeenStep O K) → step ≡ seen_next direction before line
-      → is_again step.answer ≡ true → fed direction before line ≡ fed_twice step (seen_next direction step.next line)
+  fed-again : (before : Seen O K) (line : ReadLine) (step : SeenStep O K) → step
+      ≡ seen_next direction before line → is_again step.answer ≡ true → fed direction before line
+      ≡ fed_twice step (seen_next direction step.next line)
   fed-again before line step e again =
       feeds-twice direction before line (ap (λ (s : SeenStep O K). is_again s.answer) (sym e) ∙ again)
       ∙ ap (λ (s : SeenStep O K). fed_twice s (seen_next direction s.next line)) (sym e)
@@ -167,22 +158,22 @@ module _ {U O K : Type 0} {direction : Direction U O K} {seen_after : List ReadL
     follows-fed : (f : Fed O K) → fed direction first (seen line) ≡ f
         → FollowsBy filter lines line (seen_after (map seen (with_next lines line))) f
     follows-fed f e = subst (λ (x : Fed O K).
-        FollowsBy filter lines line (seen_after (map seen (with_next lines line))) x) e (goes.follows lines line)
+        FollowsBy filter lines line (seen_after (map seen (with_next lines line))) x) e
+        (goes.follows lines line)
 
     -- it goes on
     goes-on : (shows : List InputLine → List Awaited → Type 0) (f : Fed O K) (now : Seen O K)
-        (texts : List (List ℕ))
-        (notices : List At)
+        (texts : List (List ℕ)) (notices : List At)
         → ((ls : List InputLine) (ns : List Awaited) → HasTaken direction seen_after now ls ns → shows ls ns)
-        → fed direction first (seen line) ≡ f → f.next ≡ now → f.handed_out ≡ texts → reverse f.warned ≡ notices
-        → f.failed ≡ None
-        → shows (with_next lines line) []
+        → fed direction first (seen line) ≡ f → f.next ≡ now → f.handed_out ≡ texts → reverse f.warned
+        ≡ notices → f.failed ≡ None → shows (with_next lines line) []
         × GoesOn (filter.so_far lines) (filter.so_far (with_next lines line)) texts notices
     goes-on shows f now texts notices showing e next handed_out warned good =
         let h = follows-fed f e in (
           showing (with_next lines line) [] (sym next ∙ sym h.next),
           record {
-            output = h.output ∙ ap (λ (ls : List (List ℕ)). (filter.so_far lines).output ++ lines_text ls) handed_out;
+            output = h.output ∙ ap (λ (ls : List (List ℕ)). (filter.so_far lines).output ++ lines_text ls)
+                handed_out;
             warnings = h.warnings ∙ ap (λ (ns : List At). (filter.so_far lines).warnings ++ ns) warned;
             good = h.fault ∙ good;
           },
@@ -190,13 +181,13 @@ module _ {U O K : Type 0} {direction : Direction U O K} {seen_after : List ReadL
 
     -- it ends
     ends-with : (f : Fed O K) (notices : List At) (at : At)
-        → fed direction first (seen line) ≡ f → f.handed_out ≡ [] → reverse f.warned ≡ notices → f.failed ≡ Some at
-        → EndsWith (filter.so_far lines) (filter.so_far (with_next lines line)) notices at
+        → fed direction first (seen line) ≡ f → f.handed_out ≡ [] → reverse f.warned ≡ notices → f.failed
+        ≡ Some at → EndsWith (filter.so_far lines) (filter.so_far (with_next lines line)) notices at
     ends-with f notices at e handed_out warned bad =
         let h = follows-fed f e in
         record {
-          output = h.output ∙ ap (λ (ls : List (List ℕ)). (filter.so_far lines).output ++ lines_text ls) handed_out
-              ∙ append-nil (filter.so_far lines).output;
+          output = h.output ∙ ap (λ (ls : List (List ℕ)). (filter.so_far lines).output ++ lines_text ls)
+              handed_out ∙ append-nil (filter.so_far lines).output;
           warnings = h.warnings ∙ ap (λ (ns : List At). (filter.so_far lines).warnings ++ ns) warned;
           fault = h.fault ∙ bad;
         }
@@ -233,17 +224,18 @@ module _ {U O K : Type 0} {direction : Direction U O K} {seen_after : List ReadL
     first-time shows now ready (Ok (Warned notice false)) showing e =
         let step = step_made (Ok (Warned notice false)) ready now in
         goes-on shows (fed_once step) now [] (notice ∷ []) showing (fed-once first (seen line) step e refl)
-        refl
-        (quiet-handed_out first (seen line) step e refl) refl refl
+        refl (quiet-handed_out first (seen line) step e refl) refl refl
     first-time shows now ready (Err at) showing e =
         let step = step_made (Err at) ready now in
         inr (ends-with (fed_once step)
-        [] at (fed-once first (seen line) step e refl) (quiet-handed_out first (seen line) step e refl) refl refl)
+        [] at (fed-once first (seen line) step e refl) (quiet-handed_out first (seen line) step e refl)
+        refl refl)
 
     -- the second time, after a warning
     second-time : (shows : List InputLine
-        → List Awaited → Type 0) (notice : At) (before now : Seen O K) (ready : List (List ℕ)) (result : Result Step At)
-        → record { answer = Notice notice true; handed_out = []; next = before } ≡ seen_next direction first (seen line)
+        → List Awaited → Type 0) (notice : At) (before now : Seen O K) (ready : List (List ℕ))
+        (result : Result Step At) → record { answer = Notice notice true; handed_out = []; next = before }
+        ≡ seen_next direction first (seen line)
         → ((ls : List InputLine) (ns : List Awaited) → HasTaken direction seen_after now ls ns → shows ls ns)
         → step_made result ready now ≡ seen_next direction before (seen line)
         → EngineAnswers filter shows ready lines (record { notice = notice; line = line } ∷ []) line result
@@ -254,13 +246,13 @@ module _ {U O K : Type 0} {direction : Direction U O K} {seen_after : List ReadL
         step : SeenStep O K
         step = record { answer = Notice notice true; handed_out = []; next = before }
 
-        answers : (r : Result Step At) → fed direction first (seen line) ≡ fed_twice step (step_made r ready now)
+        answers : (r : Result Step At) → fed direction first (seen line)
+            ≡ fed_twice step (step_made r ready now)
             → step_made r ready now ≡ seen_next direction before (seen line)
             → EngineAnswers filter shows ready lines (record { notice = notice; line = line } ∷ []) line r
         answers (Ok Quiet) twice s =
             goes-on shows (fed_twice step (step_made (Ok Quiet) ready now)) now [] (notice ∷ []) showing twice
-            refl
-            (quiet-handed_out before (seen line) (step_made (Ok Quiet) ready now) s refl) refl refl
+            refl (quiet-handed_out before (seen line) (step_made (Ok Quiet) ready now) s refl) refl refl
         answers (Ok Ready) twice s = goes-on shows (fed_twice step (step_made (Ok Ready) ready now)) now ready
             (notice ∷ []) showing twice refl refl refl refl
         answers (Ok (Warned next true)) twice s =
@@ -271,24 +263,23 @@ module _ {U O K : Type 0} {direction : Direction U O K} {seen_after : List ReadL
         answers (Ok (Warned next false)) twice s =
             goes-on shows (fed_twice step (step_made (Ok (Warned next false)) ready now)) now
             [] (notice ∷ next ∷ []) showing twice refl
-            (quiet-handed_out before (seen line) (step_made (Ok (Warned next false)) ready now) s refl) refl refl
-        answers (Err at) twice s =
-            inr (ends-with (fed_twice step (step_made (Err at) ready now))
+            (quiet-handed_out before (seen line) (step_made (Ok (Warned next false)) ready now) s refl)
+            refl refl
+        answers (Err at) twice s = inr (ends-with (fed_twice step (step_made (Err at) ready now))
             (notice ∷ []) at twice (quiet-handed_out before (seen line)
             (step_made (Err at) ready now) s refl) refl refl)
 
     -- memory ran out, the first time or the second
     ran-out : (shows : List InputLine → List Awaited
-        → Type 0) (ready : List (List ℕ)) (notices : List Awaited) (number : ℕ) (at : At) (result : Result Step At)
-        → result ≡ Err at → at.fault ≡ OutOfMemory → at.line ≡ number + 1
+        → Type 0) (ready : List (List ℕ)) (notices : List Awaited) (number : ℕ) (at : At)
+        (result : Result Step At) → result ≡ Err at → at.fault ≡ OutOfMemory → at.line ≡ number + 1
         → number ≡ length lines → filter.memory_after lines line ≡ Some (awaited_notices notices)
         → EngineAnswers filter shows ready lines notices line result
     ran-out shows ready notices number at result is fault place same allowed =
         subst (λ (r : Result Step At). EngineAnswers filter shows ready lines notices line r) (sym is)
         (inl (record {
           fault = fault;
-          place = place
-              ∙ ap (λ (n : ℕ). n + 1) same;
+          place = place ∙ ap (λ (n : ℕ). n + 1) same;
           allowed = allowed;
         }))
 
@@ -304,13 +295,12 @@ module _ {U O K : Type 0} {direction : Direction U O K} {seen_after : List ReadL
       (subst (λ (s : Seen O K). step_made result ready now ≡ seen_next direction s (seen line)) taken e)
   answers-line shows before now lines [] line ready result showing taken awaited (inr r) =
       ran-out lines line shows ready
-      [] before.number r.at result r.is r.fault r.place (ap (λ (s : Seen O K). s.number) taken ∙ goes.number lines)
-      (goes.memory_first lines line
+      [] before.number r.at result r.is r.fault r.place (ap (λ (s : Seen O K). s.number) taken
+      ∙ goes.number lines) (goes.memory_first lines line
       (subst (λ (s : Seen O K). takes_memory direction s (seen line) ≡ true) taken r.allowed))
   answers-line shows before now lines (a ∷ []) line ready result showing taken awaited steps =
       subst (λ (l : InputLine). EngineAnswers filter shows ready lines
-      (record { notice = a.notice; line = l } ∷ []) line result) (sym awaited)
-      (answers steps)
+      (record { notice = a.notice; line = l } ∷ []) line result) (sym awaited) (answers steps)
     where
       one : record { answer = Notice a.notice true; handed_out = []; next = before }
           ≡ seen_next direction (seen_after (map seen lines)) (seen line)
@@ -318,32 +308,35 @@ module _ {U O K : Type 0} {direction : Direction U O K} {seen_after : List ReadL
           ≡ seen_next direction (seen_after (map seen lines)) (seen l)) awaited taken
 
       answers : Steps direction before (seen line) result ready now
-          → EngineAnswers filter shows ready lines (record { notice = a.notice; line = line } ∷ []) line result
+          → EngineAnswers filter shows ready lines (record { notice = a.notice; line = line } ∷ [])
+          line result
       answers (inl e) = second-time lines line shows a.notice before now ready result one showing e
       answers (inr r) =
-          let again = comes-again direction (seen_after (map seen lines)) before (seen line) a.notice [] one in
+          let again = comes-again direction (seen_after (map seen lines)) before
+          (seen line) a.notice [] one in
           ran-out lines line shows ready (record {
             notice = a.notice;
             line = line;
           } ∷ []) before.number r.at result r.is r.fault r.place (again.number ∙ goes.number lines)
           (goes.memory_again lines line before a.notice one r.allowed)
-  answers-line shows before now lines (a ∷ b ∷ others) line ready result showing taken awaited steps = absurd taken
+  answers-line shows before now lines (a ∷ b ∷ others) line ready result showing taken awaited steps =
+      absurd taken
 
   -- ---- the end of the input
 
-  pub concludes : (before now : Seen O K) (lines : List InputLine) (ready : List (List ℕ)) (result : Result Step At)
-      → HasTaken direction seen_after before lines []
+  pub concludes : (before now : Seen O K) (lines : List InputLine) (ready : List (List ℕ))
+      (result : Result Step At) → HasTaken direction seen_after before lines []
       → step_made result ready now ≡ seen_end direction before → Concludes filter ready lines result
   concludes before now lines ready result taken e =
       by-result result (subst (λ (s : SeenStep O K). EndsBy filter lines s)
       (sym (e ∙ ap (λ (s : Seen O K). seen_end direction s) taken)) (goes.ends lines))
     where
-      by-result : (r : Result Step At) → EndsBy filter lines (step_made r ready now) → Concludes filter ready lines r
+      by-result : (r : Result Step At) → EndsBy filter lines (step_made r ready now)
+          → Concludes filter ready lines r
       by-result (Ok Quiet) h = (
         h.handed_out,
         record {
-          output = h.output
-              ∙ sym (append-nil (filter.so_far lines).output);
+          output = h.output ∙ sym (append-nil (filter.so_far lines).output);
           warnings = h.warnings;
           good = h.fault;
         },
@@ -351,15 +344,15 @@ module _ {U O K : Type 0} {direction : Direction U O K} {seen_after : List ReadL
       by-result (Ok Ready) h =
           record {
             output = h.output ∙ sym (append-nil (filter.so_far lines).output)
-                ∙ ap (λ (ls : List (List ℕ)). (filter.so_far lines).output ++ lines_text ls) (sym h.handed_out);
+                ∙ ap (λ (ls : List (List ℕ)). (filter.so_far lines).output ++ lines_text ls)
+                (sym h.handed_out);
             warnings = h.warnings;
             good = h.fault;
           }
       by-result (Ok (Warned notice again)) h = (
         h.handed_out,
         record {
-          output = h.output
-              ∙ sym (append-nil (filter.so_far lines).output);
+          output = h.output ∙ sym (append-nil (filter.so_far lines).output);
           warnings = h.warnings;
           good = h.fault;
         },
@@ -401,18 +394,15 @@ module _ {U O K : Type 0} {direction : Direction U O K} {seen_by : Choices → L
   pub answers-seen : (shows : List InputLine → List Awaited → Type 0) (before now : Seen O K)
       (lines : List InputLine)
       (notices : List Awaited) (line : InputLine) (read : ReadLine) (ready : List (List ℕ))
-      (result : Result Step At)
-      → ((ls : List InputLine) (ns : List Awaited)
+      (result : Result Step At) → ((ls : List InputLine) (ns : List Awaited)
       → HasTaken direction (seen_by now.choices) now ls ns × (now.number ≡ length ls) → shows ls ns)
       → now.choices ≡ before.choices → seen line ≡ read
       → HasTaken direction (seen_by before.choices) before lines notices → IsAwaited notices line
       → Steps direction before read result ready now
       → EngineAnswers (filter_by before.choices) shows ready lines notices line result
   answers-seen shows before now lines notices line read ready result showing same is taken awaited steps =
-      answers-line (goes before.choices) shows before now
-      lines notices line ready result
+      answers-line (goes before.choices) shows before now lines notices line ready result
       (λ ls ns then. showing ls ns (
         subst (λ (c : Choices). HasTaken direction (seen_by c) now ls ns) (sym same) then,
         taken-lines before.choices now ls ns then,
-      ))
-      taken awaited (subst (λ (l : ReadLine). Steps direction before l result ready now) (sym is) steps)
+      )) taken awaited (subst (λ (l : ReadLine). Steps direction before l result ready now) (sym is) steps)

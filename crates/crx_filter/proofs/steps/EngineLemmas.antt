@@ -1,32 +1,19 @@
 -- Facts of an engine's steps in either direction: held epochs, faults that count, memory that ran out, a fault that is answered again.
-use Rattle.std.proofs.Common.{◌≡◌, inl, inr, ℕ, ◌+◌, Bool, true, false, List, Option, Some, None, Result, Ok, Err, refl}
-use Rattle.std.proofs.Common.{ap, subst, ◌∙◌}
-use Rattle.std.specs.Prelude.{◌&&◌}
-use Rattle.crx_faults.specs.meaning.Seen.{ReadLine, Content, Overlong}
-use Rattle.crx_faults.specs.declared.fault.At.{At}
-use Rattle.crx_faults.specs.declared.fault.Fault.{Fault}
-use Rattle.crx_faults.specs.declared.fault.Fault.TheVariants.{OutOfMemory}
-use Rattle.crx_rinex.specs.meaning.EpochLines.{ObservationHead}
-use Rattle.crx_rinex.specs.meaning.Observations.{Row}
-use Rattle.crx_header.specs.meaning.ObservationTypes.{Count}
-use Rattle.crx_reading.specs.LineByLine.{Phase, Ended as SeenEnded, Seen, Direction}
-use Rattle.crx_reading.specs.LineByLine.{Failed, Step as SeenStep, made_in, may_skip}
-use Rattle.crx_reading.specs.LineByLine.{is_skipped_in, failed_step, step_of_made, seen_next, seen_end}
-use Rattle.crx_reading.specs.Memory.{may_take_memory, takes_memory}
-use Rattle.crx_faults.specs.meaning.Faults.{is_skippable}
-use Rattle.crx_filter.specs.EngineSteps.{answer_of_step, step_made, RanOut, Steps}
-use Rattle.crx_reading.specs.Stages.{is_held}
-use Rattle.crx_reading.specs.RinexReaders.{epoch_open}
+use Rattle.crx_filter.proofs.Words.{◌≡◌, inl, inr, ℕ, ◌+◌, Bool, true, false, List, Option, Some, None}
+use Rattle.crx_filter.proofs.Words.{Result, Ok, Err, refl, ap, subst, ◌∙◌, ◌&&◌, ReadLine, Content, Overlong}
+use Rattle.crx_filter.proofs.Words.{At, Fault, OutOfMemory, ObservationHead, Row, Count, Phase, SeenEnded}
+use Rattle.crx_filter.proofs.Words.{Seen, Direction, Failed, SeenStep, made_in, may_skip, is_skipped_in}
+use Rattle.crx_filter.proofs.Words.{failed_step, step_of_made, seen_next, seen_end, may_take_memory}
+use Rattle.crx_filter.proofs.Words.{takes_memory, is_skippable, answer_of_step, step_made, Steps, is_held}
+use Rattle.crx_filter.proofs.Words.{epoch_open, RinexReader, Quiet, Stage, Open}
+use Rattle.crx_filter.specs.EngineSteps.{RanOut}
 use Rattle.crx_reading.specs.RinexStages.{open_epoch, is_rinex_stage}
-use Rattle.crx_reading.specs.declared.rinex_reader.RinexReader.{RinexReader}
 use Rattle.crx_runs.specs.declared.engine.Step.{Step}
-use Rattle.crx_runs.specs.declared.engine.Step.TheVariants.{Quiet}
-use Rattle.crx_reading.specs.declared.stage.Stage.{Stage}
-use Rattle.crx_reading.specs.declared.stage.Stage.TheVariants.{Open}
 use Rattle.crx_reading.proofs.Choosing.{false-true}
 
 -- in the stage of an open epoch one is held
-pub held-open : (types : List Count) (stage : Stage) (head : Option ObservationHead) (count : ℕ) (rows : List Row)
+pub held-open : (types : List Count) (stage : Stage) (head : Option ObservationHead) (count : ℕ)
+    (rows : List Row)
     → is_rinex_stage stage head count rows ≡ true → is_held stage (open_epoch types head rows) ≡ true
 held-open types Open None count rows is = false-true is
 held-open types Open (Some head) count rows is = refl
@@ -37,8 +24,9 @@ pub held-by_reader : (r : RinexReader) → is_held r.stage (epoch_open r) ≡ tr
 held-by_reader r = held-open r.types r.stage r.head r.count r.rows.rows r.consistent
 
 -- a step in its parts
-pub same-step : {O K : Type 0} (one two : Result Step At) (lines handed_out : List (List ℕ)) (seen after : Seen O K)
-    → one ≡ two → lines ≡ handed_out → seen ≡ after → step_made one lines seen ≡ step_made two handed_out after
+pub same-step : {O K : Type 0} (one two : Result Step At) (lines handed_out : List (List ℕ))
+    (seen after : Seen O K) → one ≡ two → lines ≡ handed_out → seen ≡ after → step_made one lines seen
+    ≡ step_made two handed_out after
 same-step one two lines handed_out seen after a b d = rw (a, b, d) refl
 
 -- memory that ran out isn't skipped
@@ -52,8 +40,8 @@ no-skip false b c e = refl
 
 -- a line whose fault isn't skipped counts
 pub fatal-counts : {U O K : Type 0} (direction : Direction U O K)
-    (before after : Seen O K) (line : ReadLine) (fault : Fault) (result : Result Step At) (handed_out : List (List ℕ))
-    → step_made result handed_out after ≡ failed_step direction before line fault
+    (before after : Seen O K) (line : ReadLine) (fault : Fault) (result : Result Step At)
+    (handed_out : List (List ℕ)) → step_made result handed_out after ≡ failed_step direction before line fault
     → is_skippable fault ≡ false → after.number ≡ before.number + 1
 fatal-counts {O = O} {K = K} direction before after line fault result handed_out step fatal =
     let off : is_skipped_in before fault ≡ false =
@@ -62,8 +50,8 @@ fatal-counts {O = O} {K = K} direction before after line fault result handed_out
     ap (λ (s : SeenStep O K). s.next.number) step ∙ is
 
 pub ran-out : {U O K : Type 0}
-    (direction : Direction U O K) (before after : Seen O K) (line : ReadLine) (result : Result Step At) (fault : Fault)
-    → fault ≡ OutOfMemory → result ≡ Err (record { line = before.number + 1; fault = fault })
+    (direction : Direction U O K) (before after : Seen O K) (line : ReadLine) (result : Result Step At)
+    (fault : Fault) → fault ≡ OutOfMemory → result ≡ Err (record { line = before.number + 1; fault = fault })
     → takes_memory direction before line ≡ true
     → after.number ≡ before.number + 1 → RanOut direction before line result after
 ran-out direction before after line result fault out is allowed counted =
@@ -102,7 +90,8 @@ repeats {O = O} direction before after line ready result at (inr ran) is =
     (direction.memory_first before.types before.kept) direction.memory_next p line ≡ true) is ran.allowed))
 
 pub repeats-end : {U O K : Type 0}
-    (direction : Direction U O K) (before after : Seen O K) (ready : List (List ℕ)) (result : Result Step At) (at : At)
+    (direction : Direction U O K) (before after : Seen O K) (ready : List (List ℕ)) (result : Result Step At)
+    (at : At)
     → step_made result ready after ≡ seen_end direction before → before.phase ≡ SeenEnded at → result ≡ Err at
 repeats-end {O = O} {K = K} direction before after ready result at step is =
     let again : (seen_end direction before).answer ≡ Failed at = rw is refl in

@@ -1,29 +1,17 @@
 -- What an engine of expansion is seen as after a fault, after the end of the input, and after a line.
-use Rattle.std.proofs.Common.{Bool, ◌≡◌, inl, inr, ℕ, ◌+◌, true, false, List}
-use Rattle.std.proofs.Common.{[], Option, Some, None, Result, Err, refl, sym}
-use Rattle.std.proofs.Common.{ap, ◌∙◌, if◌then◌else◌, true≢false}
-use Rattle.crx_header.specs.meaning.ObservationTypes.{Count}
-use Rattle.crx_compact.specs.OpenEpochs.{OpenRawEpoch, ColumnsState}
-use Rattle.crx_compact.specs.Tails.{Tail}
+use Rattle.crx_filter.proofs.Words.{Bool, ◌≡◌, inl, inr, ℕ, ◌+◌, true, false, List, [], Option, Some, None}
+use Rattle.crx_filter.proofs.Words.{Result, Err, refl, sym, ap, ◌∙◌, if◌then◌else◌, true≢false, Count}
+use Rattle.crx_filter.proofs.Words.{OpenRawEpoch, Tail, Content, Overlong, At, Fault, LineTooLong, Choices}
+use Rattle.crx_filter.proofs.Words.{expansion, Seen, Fails, made_in, step_of_made, failed_step, is_skippable}
+use Rattle.crx_filter.proofs.Words.{Steps, step_made, is_held, seen_stage, Settled, Stage, Open}
+use Rattle.crx_compact.specs.OpenEpochs.{ColumnsState}
 use Rattle.crx_compact.specs.OpenEpochs.ColumnsState.{Idle, Reading}
-use Rattle.crx_faults.specs.meaning.Seen.{Content, Overlong}
-use Rattle.crx_faults.specs.declared.fault.At.{At}
-use Rattle.crx_faults.specs.declared.fault.Fault.{Fault}
-use Rattle.crx_faults.specs.declared.fault.Fault.TheVariants.{LineTooLong}
-use Rattle.crx_options.specs.meaning.Choices.{Choices}
-use Rattle.crx_reading.specs.ExpansionByLine.{expansion}
-use Rattle.crx_reading.specs.LineByLine.{Seen, Fails, made_in, step_of_made, failed_step}
-use Rattle.crx_faults.specs.meaning.Faults.{is_skippable}
-use Rattle.crx_filter.specs.EngineSteps.{IsAt, Steps, settled_seen, step_made}
-use Rattle.crx_reading.specs.Stages.{is_held, is_settled, seen_stage}
+use Rattle.crx_filter.specs.EngineSteps.{IsAt, settled_seen}
+use Rattle.crx_reading.specs.Stages.{is_settled}
 use Rattle.crx_reading.specs.CompactStages.{is_compact_stage, open_in}
 use Rattle.crx_filter.specs.CompactReaders.{RefusesCompactLine}
 use Rattle.crx_runs.specs.declared.engine.Step.{Step}
-use Rattle.crx_filter.specs.declared.settled.Settled.{Settled}
-use Rattle.crx_reading.specs.declared.stage.Stage.{Stage}
-use Rattle.crx_reading.specs.declared.stage.Stage.TheVariants.{Open, Looking}
-use Rattle.crx_reading.specs.declared.stage.Stage.TheVariants.{Closed}
-use Rattle.crx_reading.specs.declared.stage.Stage.TheVariants.{Ended}
+use Rattle.crx_reading.specs.declared.stage.Stage.TheVariants.{Looking, Closed, Ended}
 use Rattle.crx_filter.proofs.following.Following.{seen_in}
 use Rattle.crx_filter.proofs.steps.EngineLemmas.{fatal-counts}
 
@@ -84,5 +72,6 @@ refused-line before after line fault result lines failed drained fatal (inr out)
       fault = out.0;
       place = refl;
       allowed = out.1;
-      counted = fatal-counts expansion before after (Content line) fault result [] failed (ap is_skippable out.0);
+      counted = fatal-counts expansion before after (Content line) fault result [] failed
+          (ap is_skippable out.0);
     })

@@ -1,19 +1,9 @@
 -- A row that was read, and then taken: what is said of the reader between is said of the one before.
-use Rattle.std.proofs.Common.{◌≡◌, true, List, ℕ, refl, sym, ap, ◌∙◌}
-use Rattle.std.proofs.lemmas.Bool.{false≢true}
-use Rattle.crx_faults.specs.meaning.Seen.{Content}
-use Rattle.crx_header.specs.meaning.ObservationTypes.{Count}
-use Rattle.crx_rinex.specs.meaning.Observations.{Epoch as ObservationEpoch}
-use Rattle.crx_rinex.specs.meaning.EpochPlaces.{OpenEpoch}
-use Rattle.crx_rinex.specs.meaning.Units.{Observation}
-use Rattle.crx_compact.specs.Written.{epoch_by_rows}
-use Rattle.crx_reading.specs.CompactionByLine.{Written, compaction, epoch_written, is_next_row}
-use Rattle.crx_reading.specs.LineByLine.{Phase, made_in, phase_after}
-use Rattle.crx_reading.specs.Memory.{may_take_memory}
-use Rattle.crx_reading.specs.RinexReaders.{made_at, reader_phase, is_row, Completed, CompletedEpoch, IsSameReader}
-use Rattle.crx_reading.specs.RinexReaders.{MovesReader, TakesRinexLine}
-use Rattle.crx_reading.specs.declared.rinex_reader.RinexReader.{RinexReader}
-use Rattle.crx_reading.specs.declared.rinex_reader.RinexStep.{RinexStep}
+use Rattle.crx_filter.proofs.Words.{◌≡◌, true, List, ℕ, refl, sym, ap, ◌∙◌, false≢true, Content, Count}
+use Rattle.crx_filter.proofs.Words.{OpenEpoch, Observation, epoch_by_rows, Written, compaction, epoch_written}
+use Rattle.crx_filter.proofs.Words.{is_next_row, Phase, made_in, phase_after, may_take_memory, made_at}
+use Rattle.crx_filter.proofs.Words.{reader_phase, is_row, CompletedEpoch, IsSameReader, MovesReader}
+use Rattle.crx_filter.proofs.Words.{TakesRinexLine, RinexReader, RinexStep}
 use Rattle.crx_reading.specs.declared.rinex_reader.RinexStep.TheVariants.{Row, Epoch}
 
 pub same-phase : (before mid : RinexReader) → IsSameReader before mid → reader_phase mid ≡ reader_phase before
@@ -22,7 +12,8 @@ same-phase before mid same = rw (same.stage, same.types, same.head, same.rows) r
 pub same-made : (before mid : RinexReader) (line : List ℕ) (kept : Written) → IsSameReader before mid
     → made_at mid line kept ≡ made_at before line kept
 same-made before mid line kept same =
-    ap (λ (p : Phase OpenEpoch). made_in compaction p mid.types kept (Content line)) (same-phase before mid same)
+    ap (λ (p : Phase OpenEpoch). made_in compaction p mid.types kept (Content line))
+    (same-phase before mid same)
     ∙ ap (λ (ts : List Count). made_in compaction (reader_phase before) ts kept (Content line)) same.types
 
 moved-from : (before mid after : RinexReader) (line : List ℕ) (kept : Written) → IsSameReader before mid
@@ -34,7 +25,8 @@ moved-from before mid after line kept same moves = record {
 }
 
 completed-from : (before mid after : RinexReader) (line : List ℕ) (kept : Written) → IsSameReader before mid
-    → CompletedEpoch (made_at mid line kept) line mid after → CompletedEpoch (made_at before line kept) line before after
+    → CompletedEpoch (made_at mid line kept) line mid after
+    → CompletedEpoch (made_at before line kept) line before after
 completed-from before mid after line kept same done = record {
   head = done.head;
   held = done.held;
@@ -47,8 +39,8 @@ completed-from before mid after line kept same done = record {
     closed = done.is.closed;
   };
   counted = done.counted;
-  allowed = sym (ap (λ (p : Phase OpenEpoch). may_take_memory (epoch_written mid.types mid.types) is_next_row p
-      (Content line)) (same-phase before mid same)
+  allowed = sym (ap (λ (p : Phase OpenEpoch). may_take_memory
+      (epoch_written mid.types mid.types) is_next_row p (Content line)) (same-phase before mid same)
       ∙ ap (λ (ts : List Count). may_take_memory (epoch_written ts ts) is_next_row (reader_phase before)
       (Content line)) same.types) ∙ done.allowed;
 }
@@ -58,6 +50,8 @@ pub taken-from : (before mid after : RinexReader) (line : List ℕ) (kept : Writ
     → is_row step ≡ true → IsSameReader before mid
     → TakesRinexLine (made_at mid line kept) mid line step after
     → TakesRinexLine (made_at before line kept) before line step after
-taken-from before mid after line kept Row row same takes = (moved-from before mid after line kept same takes.0, takes.1)
-taken-from before mid after line kept Epoch row same takes = completed-from before mid after line kept same takes
+taken-from before mid after line kept Row row same takes =
+    (moved-from before mid after line kept same takes.0, takes.1)
+taken-from before mid after line kept Epoch row same takes =
+    completed-from before mid after line kept same takes
 taken-from before mid after line kept step row same takes = absurd (false≢true row)

@@ -1,17 +1,14 @@
 -- How many lines have been taken after a step, and where lines are borrowed.
-use Rattle.std.proofs.Common.{◌≡◌, inl, inr, ℕ, ◌+◌, Bool, true, false, ◌&&◌, List, [], Result, Ok, Err, IfOk, refl}
-use Rattle.std.proofs.Common.{sym, subst, if◌then◌else◌}
-use Rattle.std.specs.Prelude.{⊤}
-use Rattle.crx_faults.specs.meaning.Seen.{ReadLine}
-use Rattle.crx_faults.specs.declared.fault.At.{At}
-use Rattle.crx_reading.specs.meaning.Reading.{can_go_on}
-use Rattle.crx_reading.specs.LineByLine.{Direction, Seen, Made, Completes, Moves, Fails, Repeats, Ended, Answer}
-use Rattle.crx_reading.specs.LineByLine.{Quiet as SeenQuiet, Ready as SeenReady, Notice, Failed, Step as SeenStep}
-use Rattle.crx_reading.specs.LineByLine.{is_in_epoch, is_skipped_in, after_warning, with_phase, made_in, step_of_made}
+use Rattle.crx_filter.proofs.Words.{◌≡◌, inl, inr, ℕ, ◌+◌, Bool, true, false, ◌&&◌, List, [], Result, Ok, Err}
+use Rattle.crx_filter.proofs.Words.{refl, sym, subst, if◌then◌else◌, ⊤, ReadLine, At, can_go_on, Direction}
+use Rattle.crx_filter.proofs.Words.{Seen, Made, Completes, Moves, Fails, Repeats, Ended, Answer, Notice}
+use Rattle.crx_filter.proofs.Words.{Failed, SeenStep, is_in_epoch, is_skipped_in, after_warning, with_phase}
+use Rattle.crx_filter.proofs.Words.{made_in, step_of_made, Steps, answer_of_step, step_made, Quiet, Ready}
+use Rattle.std.proofs.Common.{IfOk}
+use Rattle.crx_reading.specs.LineByLine.{Quiet as SeenQuiet, Ready as SeenReady}
 use Rattle.crx_runs.specs.Engines.{taken_after, IsDrainedAfter}
-use Rattle.crx_filter.specs.EngineSteps.{Steps, answer_of_step, step_made}
 use Rattle.crx_runs.specs.declared.engine.Step.{Step}
-use Rattle.crx_runs.specs.declared.engine.Step.TheVariants.{Quiet, Ready, Warned}
+use Rattle.crx_runs.specs.declared.engine.Step.TheVariants.{Warned}
 
 -- a line counts unless it comes again, and only where the answer is that lines are ready are some borrowed
 abbrev Counts : ℕ → Answer → ℕ → List (List ℕ) → Type 0
@@ -24,16 +21,16 @@ Counts before (Failed at) after handed_out = ⊤
 abbrev CountsIn : {O K : Type 0} → ℕ → SeenStep O K → Type 0
 CountsIn before s = Counts before s.answer s.next.number s.handed_out
 
-failed-counts : {U O K : Type 0} (direction : Direction U O K) (seen : Seen O K) (at : At) (skipped again : Bool)
-    → CountsIn {O = O} {K = K} seen.number
-    (if skipped then record { answer = Notice at again; handed_out = []; next = after_warning direction seen again }
+failed-counts : {U O K : Type 0} (direction : Direction U O K) (seen : Seen O K) (at : At)
+    (skipped again : Bool) → CountsIn {O = O} {K = K} seen.number (if skipped then record
+    { answer = Notice at again; handed_out = []; next = after_warning direction seen again }
     else record { answer = Failed at; handed_out = []; next = with_phase direction seen (Ended at) })
 failed-counts direction seen at true true = (refl, refl)
 failed-counts direction seen at true false = (refl, refl)
 failed-counts direction seen at false again = tt
 
-made-counts : {U O K : Type 0} (direction : Direction U O K) (seen : Seen O K) (line : ReadLine) (made : Made U O)
-    → CountsIn seen.number (step_of_made direction seen line made)
+made-counts : {U O K : Type 0} (direction : Direction U O K) (seen : Seen O K) (line : ReadLine)
+    (made : Made U O) → CountsIn seen.number (step_of_made direction seen line made)
 made-counts direction seen line (Completes unit) = refl
 made-counts direction seen line (Moves phase) = (refl, refl)
 made-counts direction seen line (Fails fault) =
@@ -42,7 +39,8 @@ made-counts direction seen line (Fails fault) =
 made-counts direction seen line (Repeats at) = tt
 
 counted-result : (before after : ℕ) (ready : List (List ℕ)) (result : Result Step At)
-    → Counts before (answer_of_step result) after ready → IfOk result (λ step. after ≡ taken_after step before)
+    → Counts before (answer_of_step result) after ready → IfOk result
+    (λ step. after ≡ taken_after step before)
 counted-result before after ready (Ok Quiet) h = h.0
 counted-result before after ready (Ok Ready) h = h
 counted-result before after ready (Ok (Warned notice true)) h = h.0
@@ -66,7 +64,8 @@ module _ {U O K : Type 0} (direction : Direction U O K)
       ≡ step_of_made direction before line (made_in direction before.phase before.types before.kept line)
       → Counts before.number (answer_of_step result) now.number ready
   counts-then step = subst (λ (s : SeenStep O K). CountsIn before.number s)
-      (sym step) (made-counts direction before line (made_in direction before.phase before.types before.kept line))
+      (sym step) (made-counts direction before line (made_in direction before.phase before.types
+      before.kept line))
 
   -- how many lines were taken after a line
   pub steps-counted : Steps direction before line result ready now

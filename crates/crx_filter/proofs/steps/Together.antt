@@ -1,29 +1,18 @@
 -- How the parts of a compaction belong together after a line, and what is said of a row that it takes.
-use Rattle.std.proofs.Common.{inl, inr, ◌≡◌, ◌≤◌, ◌<◌, ◌+◌, ◌++◌, ◌∷◌, [], ℕ, Bool, true, false, not, List, Option, Some, Ok, refl}
-use Rattle.std.proofs.Common.{sym, ap, subst, ◌∙◌, true≢false, arith}
-use Rattle.std.proofs.lemmas.Bool.{false≢true}
-use Rattle.std.specs.Prelude.{Err, length, IfSome, OnOk, Result, is_some}
+use Rattle.crx_filter.proofs.Words.{inl, inr, ◌≡◌, ◌≤◌, ◌+◌, ◌++◌, ◌∷◌, [], ℕ, Bool, true, false, not, List}
+use Rattle.crx_filter.proofs.Words.{Option, Some, Ok, refl, sym, ap, subst, ◌∙◌, true≢false, false≢true, Err}
+use Rattle.crx_filter.proofs.Words.{length, OnOk, Result, is_some, begins_epoch, ObservationHead}
+use Rattle.crx_filter.proofs.Words.{has_satellite, ObservationEpoch, OpenEpoch, Observation, row_of}
+use Rattle.crx_filter.proofs.Words.{lines_after_tail, tail_after, epoch_by_rows, Written, compact_written}
+use Rattle.crx_filter.proofs.Words.{written_kept, is_row, made_at, CompletedEpoch, IsSameReader, MovesReader}
+use Rattle.crx_filter.proofs.Words.{TakesRinexLine, Made, is_open_stage, RinexReader, RinexStep, Stage, Open}
+use Rattle.std.specs.Prelude.{IfSome}
 use Rattle.crx_faults.specs.declared.limits.TheConstants.{INPUT_LIMIT}
-use Rattle.crx_header.specs.meaning.EpochColumns.{begins_epoch}
-use Rattle.crx_rinex.specs.meaning.EpochLines.{ObservationHead}
-use Rattle.crx_rinex.specs.meaning.Epochs.{has_satellite}
-use Rattle.crx_rinex.specs.meaning.Observations.{Epoch as ObservationEpoch, Row as ObservationRow}
-use Rattle.crx_rinex.specs.meaning.EpochPlaces.{OpenEpoch}
-use Rattle.crx_rinex.specs.meaning.Units.{Observation}
-use Rattle.crx_rinex.specs.meaning.SatelliteLines.{row_of}
+use Rattle.crx_rinex.specs.meaning.Observations.{Row as ObservationRow}
 use Rattle.crx_compact.specs.Encoding.{EncoderState, tail_in}
-use Rattle.crx_compact.specs.Steps.{lines_after_tail, tail_after}
-use Rattle.crx_compact.specs.Written.{epoch_by_rows}
-use Rattle.crx_reading.specs.CompactionByLine.{Written, compact_written, written_kept}
-use Rattle.crx_reading.specs.RinexReaders.{is_row, made_at, BeginsEpoch, CompletedEpoch, IsSameReader}
-use Rattle.crx_reading.specs.RinexReaders.{MovesReader, TakesRinexLine}
-use Rattle.crx_reading.specs.LineByLine.{Made}
-use Rattle.crx_reading.specs.RinexStages.{is_open_stage, rows_open, when_open}
-use Rattle.crx_reading.specs.declared.rinex_reader.RinexReader.{RinexReader}
-use Rattle.crx_reading.specs.declared.rinex_reader.RinexStep.{RinexStep}
+use Rattle.crx_reading.specs.RinexReaders.{BeginsEpoch}
+use Rattle.crx_reading.specs.RinexStages.{rows_open, when_open}
 use Rattle.crx_reading.specs.declared.rinex_reader.RinexStep.TheVariants.{Row, Epoch}
-use Rattle.crx_reading.specs.declared.stage.Stage.{Stage}
-use Rattle.crx_reading.specs.declared.stage.Stage.TheVariants.{Open}
 use Rattle.crx_filter.specs.CompactionParts.{BelongTogether, CompactionParts, is_due}
 use Rattle.crx_filter.specs.CompactionState.{compaction_state}
 use Rattle.crx_filter.proofs.steps.RowSteps.{taken-from}
@@ -81,7 +70,8 @@ pub due-there : (c : CompactionParts) → BelongTogether c → is_open_stage c.r
 due-there c t opened = sym (when-opened c.reader.stage c.encoder.in_full (is_due c) opened) ∙ t.full
 
 -- where no epoch is open, the encoder has no rows
-pub none-there : (c : CompactionParts) → BelongTogether c → is_open_stage c.reader.stage ≡ false → c.encoder.rows ≡ []
+pub none-there : (c : CompactionParts) → BelongTogether c → is_open_stage c.reader.stage ≡ false
+    → c.encoder.rows ≡ []
 none-there c t closed = t.rows ∙ rows-closed c.reader.stage c.reader.rows.rows closed
 
 -- ---- a row
@@ -90,27 +80,32 @@ negated : (b answer : Bool) → answer ≡ not b → (answer ≡ true → b ≡ 
 negated true answer is = (λ e. absurd (cc (is, e)), λ e. refl)
 negated false answer is = (λ e. refl, λ e. absurd (cc (is, e)))
 
-satellite-in : (answer : Bool) (row read : ObservationRow) (rows there : List ObservationRow) → answer ≡ not (has_satellite row.name rows)
+satellite-in : (answer : Bool) (row read : ObservationRow) (rows there : List ObservationRow) → answer
+    ≡ not (has_satellite row.name rows)
     → row ≡ read → rows ≡ there → answer ≡ not (has_satellite read.name there)
 satellite-in answer row read rows there is same where_ =
     is ∙ ap (λ (r : ObservationRow). not (has_satellite r.name rows)) same
     ∙ ap (λ (rs : List ObservationRow). not (has_satellite read.name rs)) where_
 
 -- the satellite of the row that was read is new to the epoch, or repeated, by the encoder's answer
-pub is-new : (answer : Bool) (row read : ObservationRow) (rows there : List ObservationRow) → answer ≡ not (has_satellite row.name rows)
+pub is-new : (answer : Bool) (row read : ObservationRow) (rows there : List ObservationRow) → answer
+    ≡ not (has_satellite row.name rows)
     → row ≡ read → rows ≡ there → answer ≡ true → has_satellite read.name there ≡ false
 is-new answer row read rows there is same among e =
-    (negated (has_satellite read.name there) answer (satellite-in answer row read rows there is same among)).0 e
+    (negated (has_satellite read.name there) answer (satellite-in answer row read rows there is same
+    among)).0 e
 
 pub is-repeated : (answer : Bool) (row read : ObservationRow) (rows there : List ObservationRow)
     → answer ≡ not (has_satellite row.name rows)
     → row ≡ read → rows ≡ there → answer ≡ false → has_satellite read.name there ≡ true
 is-repeated answer row read rows there is same among e =
-    (negated (has_satellite read.name there) answer (satellite-in answer row read rows there is same among)).1 e
+    (negated (has_satellite read.name there) answer (satellite-in answer row read rows there is same
+    among)).1 e
 
 -- the row was taken by the reader that came before it was read
 pub row-come : (self : CompactionParts) → BelongTogether self → is_open_stage self.reader.stage ≡ true
-    → (mid after : RinexReader) (line : List ℕ) (kept : Written) (step : RinexStep) (answer : Bool) (row : ObservationRow)
+    → (mid after : RinexReader) (line : List ℕ) (kept : Written) (step : RinexStep) (answer : Bool)
+    (row : ObservationRow)
     → IsSameReader self.reader mid → row_of self.reader.types line ≡ Ok mid.row → begins_epoch line ≡ false
     → answer ≡ not (has_satellite row.name self.encoder.rows) → row ≡ mid.row → answer ≡ true
     → ((l : List ℕ) (k : Written) → row_of mid.types l ≡ Ok mid.row → begins_epoch l ≡ false
@@ -125,11 +120,10 @@ row-come self t opened mid after line kept step answer row same read other said 
 
 -- the encoder has the rows that the reader has then
 pub rows-come : (self : CompactionParts) → BelongTogether self → is_open_stage self.reader.stage ≡ true
-    → (mid after : RinexReader) (new : EncoderState) (row : ObservationRow) → IsSameReader self.reader mid → row ≡ mid.row
-    → new ≡ record self.encoder { rows = self.encoder.rows ++ row ∷ [] }
+    → (mid after : RinexReader) (new : EncoderState) (row : ObservationRow) → IsSameReader self.reader mid
+    → row ≡ mid.row → new ≡ record self.encoder { rows = self.encoder.rows ++ row ∷ [] }
     → after.rows.rows ≡ mid.rows.rows ++ mid.row ∷ [] → new.rows ≡ after.rows.rows
-rows-come self t opened mid after new row same same_row is added =
-    ap (λ (e : EncoderState). e.rows) is
+rows-come self t opened mid after new row same same_row is added = ap (λ (e : EncoderState). e.rows) is
     ∙ ap (λ (rs : List ObservationRow). rs ++ row ∷ []) (rows-there self t opened)
     ∙ ap (λ (r : ObservationRow). self.reader.rows.rows ++ r ∷ []) same_row
     ∙ ap (λ (rs : List ObservationRow). rs ++ mid.row ∷ []) (sym same.rows) ∙ sym added
@@ -150,7 +144,8 @@ pub epoch-come : (self : CompactionParts) → BelongTogether self → is_open_st
     → has_satellite mid.row.name mid.rows.rows ≡ false → TakesRinexLine (made_at mid l k) mid l step after)
     → is_row step ≡ true → (step ≡ Row → ⊥)
     → CompletedEpoch (made_at self.reader line kept) line self.reader after
-epoch-come self t opened mid after line kept step answer row same read other said same_row new takes is not_row =
+epoch-come self t opened mid after line kept step answer row same read other said same_row new takes is
+    not_row =
     subst (λ (s : RinexStep). TakesRinexLine (made_at self.reader line kept) self.reader line s after)
     (row-or-epoch step is not_row)
     (row-come self t opened mid after line kept step answer row same read other said same_row new takes is)
@@ -164,20 +159,23 @@ head-counted found head rows then is counted same =
 
 -- ---- an epoch's lines
 
-pub written-lines : (self : CompactionParts) (new : EncoderState) (head : ObservationHead) (rows : List ObservationRow)
+pub written-lines : (self : CompactionParts) (new : EncoderState) (head : ObservationHead)
+    (rows : List ObservationRow)
     → new.in_full ≡ is_due self → new.before ≡ self.encoder.before → new.rows ≡ rows
     → lines_after_tail (tail_in new) (epoch_by_rows head new.rows)
     ≡ compact_written (compaction_state self) (Observation (epoch_by_rows head rows))
 written-lines self new head rows due same is = rw (due, same, is) refl
 
-pub written-tail : (self : CompactionParts) (new : EncoderState) (head : ObservationHead) (rows : List ObservationRow)
+pub written-tail : (self : CompactionParts) (new : EncoderState) (head : ObservationHead)
+    (rows : List ObservationRow)
     → new.in_full ≡ is_due self → new.before ≡ self.encoder.before → new.rows ≡ rows
     → record { index = self.index + 1; tail = Some (tail_after (tail_in new) (epoch_by_rows head new.rows)) }
     ≡ written_kept (compaction_state self) (Observation (epoch_by_rows head rows))
 written-tail self new head rows due same is = rw (due, same, is) refl
 
 -- two facts of a good result give a third
-pub both-ok : {X E A B C : Type 0} (result : Result X E) → (A → B → C) → OnOk result A → OnOk result B → OnOk result C
+pub both-ok : {X E A B C : Type 0} (result : Result X E) → (A → B → C) → OnOk result A → OnOk result B
+    → OnOk result C
 both-ok (Ok x) then a b = then a b
 both-ok (Err error) then a b = tt
 
@@ -190,7 +188,8 @@ begun-open made line before after (none, inl opened) is = opened.1
 begun-open made line before after (none, inr whole) is = absurd (cc (whole.0, is))
 
 pub begun-whole : (made : Made ObservationEpoch OpenEpoch) (line : List ℕ) (before after : RinexReader)
-    → BeginsEpoch made line before after → is_open_stage after.stage ≡ false → CompletedEpoch made line before after
+    → BeginsEpoch made line before after → is_open_stage after.stage ≡ false
+    → CompletedEpoch made line before after
 begun-whole made line before after (none, inl opened) is = absurd (cc (opened.0, is))
 begun-whole made line before after (none, inr whole) is = whole.1
 

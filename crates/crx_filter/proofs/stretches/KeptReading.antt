@@ -1,36 +1,24 @@
 -- The reading of units that are kept after a damaged stretch: the same units, whatever was read before them.
-use Rattle.std.proofs.Common.{ℕ, ◌≡◌, ◌+◌, ◌<◌, ◌⊎◌, inl, inr, true, cond, List, [], ◌∷◌, ◌++◌, map, length}
-use Rattle.std.proofs.Common.{Option}
-use Rattle.std.proofs.Common.{suc, refl, ap, sym, ◌∙◌, subst, arith, append-nil}
+use Rattle.crx_filter.proofs.Words.{ℕ, ◌≡◌, ◌+◌, ◌<◌, ◌⊎◌, inl, inr, true, cond, List, [], ◌∷◌, ◌++◌, map}
+use Rattle.crx_filter.proofs.Words.{length, Option, suc, refl, ap, sym, ◌∙◌, subst, arith, append-nil}
+use Rattle.crx_filter.proofs.Words.{and_parts, ReadLine, Content, Overlong, begins_epoch, is_event_line}
+use Rattle.crx_filter.proofs.Words.{Epoch, printed_epoch, HeaderLine, EventLine, EventRecord, Observation}
+use Rattle.crx_filter.proofs.Words.{printed_unit, ReadEpoch, Choices, Item, Accepted, Warned}
+use Rattle.crx_filter.proofs.Words.{header_has_ended, records_announced, records_left, types_in_force}
+use Rattle.crx_filter.proofs.Words.{Reading, AtLines, reading_from, compact_place, BeginsAnew, printed_items}
+use Rattle.crx_filter.proofs.Words.{IsBetweenUnits, GoOnAlike, starts_anew, expanded_lines, continued_reading}
+use Rattle.crx_filter.proofs.Words.{AreInPlace}
 use Rattle.std.proofs.lemmas.List.{append_cancel_right}
-use Rattle.std.proofs.lemmas.Bool.{and_parts}
-use Rattle.crx_faults.specs.meaning.Seen.{ReadLine, Content, Overlong}
-use Rattle.crx_header.specs.meaning.EpochColumns.{begins_epoch, is_event_line}
-use Rattle.crx_rinex.specs.meaning.Observations.{Epoch}
-use Rattle.crx_rinex.specs.meaning.Printing.{printed_epoch}
-use Rattle.crx_rinex.specs.meaning.Units.{HeaderLine, EventLine, EventRecord, Observation, printed_unit}
-use Rattle.crx_compact.specs.meaning.CompactPlaces.{ReadEpoch}
-use Rattle.crx_options.specs.meaning.Choices.{Choices}
-use Rattle.crx_reading.specs.meaning.Items.{Item, Accepted, Warned, header_has_ended, records_announced}
-use Rattle.crx_reading.specs.meaning.Items.{records_left}
-use Rattle.crx_reading.specs.meaning.Items.{types_in_force}
-use Rattle.crx_reading.specs.meaning.Reading.{Reading, AtLines, reading_from}
-use Rattle.crx_reading.specs.meaning.Expanded.{compact_place}
-use Rattle.crx_reading.specs.meaning.Damage.{BeginsAnew}
-use Rattle.crx_reading.specs.meaning.Standard.{printed_items}
-use Rattle.crx_filter.specs.Anew.{IsBetweenUnits, GoOnAlike, starts_anew}
-use Rattle.crx_filter.specs.Expanded.{expanded_lines}
-use Rattle.crx_filter.specs.Laws.{continued_reading, AreInPlace}
 use Rattle.crx_filter.proofs.reading.Anew.{AreAlike, alike-unit, depends-on_types}
 use Rattle.crx_filter.proofs.reading.ForwardCompact.{compact-forward}
 use Rattle.crx_filter.proofs.reading.Resuming.{within-wanted, enough-units, resumed}
 use Rattle.crx_filter.proofs.wayback.Carried.{left-same, types-same}
 use Rattle.crx_filter.proofs.wayback.Items.{known_back, unit_back, read_back}
 use Rattle.crx_filter.proofs.damage.BlockSaved.{back-between, rest-in_place}
-use Rattle.crx_filter.proofs.damage.TextAfter.{lines_on, reads-on, header-stays, text-anew}
+use Rattle.crx_filter.proofs.damage.TextAfter.{lines_on, reads-on, text-anew}
 use Rattle.crx_filter.proofs.stretches.OpenReading.{AreEpochs, IsOpen, GoesOnAfter, open-continued}
-use Rattle.crx_filter.proofs.stretches.OpenReading.{epochs-between}
-use Rattle.crx_filter.proofs.stretches.OpenReading.{epochs-types}
+use Rattle.crx_filter.proofs.stretches.OpenReading.{epochs-between, epochs-types}
+use Rattle.crx_filter.proofs.reading.Each.{header-append}
 
 -- ---- kept units, as they are read
 
@@ -60,8 +48,7 @@ back-printed every (Warned at ∷ kept) block = back-printed every kept block
 -- ---- the same state after them
 
 record-left : (every : Option ℕ) (kept block : List (Item Epoch)) (line : List ℕ) (items : List
-    (Item ReadEpoch))
-    → AreInPlace (Accepted (EventRecord line) ∷ (kept ++ block))
+    (Item ReadEpoch)) → AreInPlace (Accepted (EventRecord line) ∷ (kept ++ block))
     → AreAlike (back_on every kept block ++ items) (back_on every kept block ++ read_back every block)
     → 0 < records_left (back_on every kept block ++ items)
 record-left every kept block line items h alike =
@@ -75,14 +62,13 @@ alike-on every [] block items h header alike = alike
 alike-on every (Warned at ∷ kept) block items h header alike =
     alike-on every kept block items h.1 header alike
 alike-on every (Accepted (HeaderLine line) ∷ kept) block items h header alike =
-    let never = sym (h.0).0 ∙ header-stays kept block header in absurd (cc)
+    let never = sym (h.0).0 ∙ header-append kept block header in absurd (cc)
 alike-on every (Accepted (EventLine line) ∷ kept) block items h header alike =
     alike-unit (back_on every kept block ++ items) (back_on every kept block ++ read_back every block)
     (EventLine line) tt (alike-on every kept block items h.1 header alike)
 alike-on every (Accepted (EventRecord line) ∷ kept) block items h header alike =
     let so_far : AreAlike (back_on every kept block ++ items)
-    (back_on every kept block ++ read_back every block) =
-    alike-on every kept block items h.1 header alike in
+    (back_on every kept block ++ read_back every block) = alike-on every kept block items h.1 header alike in
     alike-unit (back_on every kept block ++ items) (back_on every kept block ++ read_back every block)
     (EventRecord line) (record-left every kept block line items h so_far) so_far
 alike-on every (Accepted (Observation epoch) ∷ kept) block items h header alike =
@@ -158,8 +144,7 @@ module _ (every : Option ℕ) (kept block : List (Item Epoch)) (items : List (It
 
   after-alike : (news : List (Item ReadEpoch)) → AreEpochs news
       → AreAlike (back_on every kept block ++ (news ++ items)) (read_back every (kept ++ block))
-  after-alike news epochs =
-      subst (λ all. AreAlike (back_on every kept block ++ (news ++ items)) all) (sym
+  after-alike news epochs = subst (λ all. AreAlike (back_on every kept block ++ (news ++ items)) all) (sym
       (back-parts every kept block))
       (alike-on every kept block (news ++ items) h.in_place h.header (block-alike news epochs))
 
@@ -190,8 +175,7 @@ module _ (every : Option ℕ) (kept block : List (Item Epoch)) (items : List (It
         ap (λ s. continued_reading compact_place true s []) is
             ∙ ap (λ ls. reading_from compact_place true items number ls) (append-nil rest)
             ∙ enough-units compact_place compact-forward true (length rest + 1) (suc
-            (length rest)) items number rest
-            (omega arith) (omega arith)
+            (length rest)) items number rest (omega arith) (omega arith)
             ∙ within-wanted compact_place true (length rest) items number rest wanted,
       )
       still (inr (number, is)) = inr (number, ap (λ s. continued_reading compact_place true s []) is)
@@ -206,16 +190,14 @@ module _ (every : Option ℕ) (kept block : List (Item Epoch)) (items : List (It
       (begins_epoch line) (cond (is_event_line line) (starts_anew
       (records_announced line) tail) true) anew).0 in
       let g : GoesOnAfter items (Content line ∷ tail) (continued_reading compact_place true r
-      (Content line ∷ tail)) =
-      open-continued items r line tail h.between stops begins in
+      (Content line ∷ tail)) = open-continued items r line tail h.between stops begins in
       let x : List (Item ReadEpoch) = g.news ++ items in
       let y : List (Item ReadEpoch) = read_back every block in
       let same : AreAlike x y = block-alike g.news g.epochs in
       let alike : GoOnAlike x y (reading_from compact_place true x g.number (Content line ∷ tail))
       (reading_from compact_place true y g.number (Content line ∷ tail)) =
       depends-on_types true x y g.number (Content line ∷ tail)
-      (epochs-between g.news items g.epochs h.between)
-      block-between same.types anew in
+      (epochs-between g.news items g.epochs h.between) block-between same.types anew in
       let last : ℕ = g.number + length (lines_on every kept block) in
       let both : ◌≡◌ {A = Reading ReadEpoch} (record { items = alike.more ++ y; stop = alike.stop })
       (record { items = read_back every (kept ++ block); stop = AtLines last [] }) =

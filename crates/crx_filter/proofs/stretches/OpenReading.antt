@@ -1,37 +1,23 @@
 -- The reading of a damaged stretch: whatever its lines are, but an event's first one, epochs and warnings are
 -- read of it alone; and it goes on at the next line that begins with >.
-use Rattle.std.proofs.Common.{ℕ, zero, suc, ◌≡◌, ◌+◌, ◌-◌, ◌<◌, max, ◌⊎◌, inl, inr, true, false, List, []}
-use Rattle.std.proofs.Common.{◌∷◌}
-use Rattle.std.proofs.Common.{◌++◌, length, drop, refl, ap, sym, ◌∙◌, subst, arith, append_assoc}
-use Rattle.std.specs.Prelude.{⊤}
-use Rattle.std.specs.List.{AllByRecursion}
-use Rattle.std.proofs.lemmas.List.{length-drop}
-use Rattle.crx_faults.specs.meaning.Faults.{is_skippable}
-use Rattle.crx_faults.specs.meaning.Seen.{ReadLine, Content, Overlong}
-use Rattle.crx_faults.specs.declared.fault.At.{At}
-use Rattle.crx_faults.specs.declared.fault.Fault.{Fault}
-use Rattle.crx_header.specs.meaning.EpochColumns.{begins_epoch, is_event_line, records_in}
-use Rattle.crx_faults.specs.declared.fault.Fault.TheVariants.{BadEpoch}
-use Rattle.crx_filter.specs.meaning.Stretches.{announces_records}
-use Rattle.std.proofs.Common.{true≢false, cond, Option, Some, None, Ok, Err, is_some, ◌&&◌}
-use Rattle.crx_rinex.specs.meaning.Places.{Here, Wrong, Wanted, one_line}
-use Rattle.crx_rinex.specs.meaning.Units.{Unit as FileUnit, HeaderLine, EventLine, EventRecord, Observation}
-use Rattle.crx_compact.specs.meaning.CompactPlaces.{ReadEpoch, epoch_at}
-use Rattle.crx_reading.specs.meaning.Items.{Item, Accepted, Warned, types_in_force}
-use Rattle.crx_reading.specs.meaning.Reading.{Reading, AtLines, Looking, is_skipped, can_go_on, looked_for}
-use Rattle.crx_reading.specs.meaning.Reading.{reading_within, reading_from}
-use Rattle.crx_reading.specs.meaning.Expanded.{raws_kept, compact_place, event_line, as_observation}
+use Rattle.crx_filter.proofs.Words.{ℕ, zero, suc, ◌≡◌, ◌+◌, ◌-◌, ◌<◌, max, ◌⊎◌, inl, inr, true, false, List}
+use Rattle.crx_filter.proofs.Words.{[], ◌∷◌, ◌++◌, length, drop, refl, ap, sym, ◌∙◌, subst, arith}
+use Rattle.crx_filter.proofs.Words.{append_assoc, ⊤, AllByRecursion, length-drop, is_skippable, ReadLine}
+use Rattle.crx_filter.proofs.Words.{Content, Overlong, At, Fault, begins_epoch, is_event_line, records_in}
+use Rattle.crx_filter.proofs.Words.{BadEpoch, announces_records, true≢false, cond, Option, Some, None, Ok}
+use Rattle.crx_filter.proofs.Words.{Err, is_some, ◌&&◌, Here, Wrong, Wanted, one_line, FileUnit, HeaderLine}
+use Rattle.crx_filter.proofs.Words.{EventLine, EventRecord, Observation, ReadEpoch, epoch_at, Item, Accepted}
+use Rattle.crx_filter.proofs.Words.{Warned, types_in_force, Reading, AtLines, Looking, is_skipped, can_go_on}
+use Rattle.crx_filter.proofs.Words.{looked_for, reading_within, reading_from, raws_kept, compact_place}
+use Rattle.crx_filter.proofs.Words.{event_line, as_observation, IsBetweenUnits, continued_reading}
 use Rattle.crx_reading.proofs.Choosing.{by_bool}
-use Rattle.crx_filter.specs.Anew.{IsBetweenUnits}
-use Rattle.crx_filter.specs.Laws.{continued_reading}
-use Rattle.crx_filter.proofs.reading.EpochFaults.{IsSkippableAt, epoch-skippable}
+use Rattle.crx_filter.proofs.reading.EpochFaults.{IsSkippableAt, epoch-skippable, place-observation}
 use Rattle.crx_filter.proofs.reading.ForwardCompact.{compact-forward}
 use Rattle.crx_filter.proofs.reading.Resuming.{by_place, here-within, wrong-within, within-here, within-wrong}
 use Rattle.crx_filter.proofs.reading.Resuming.{within-wanted, fault-skipped, looked-here, looked-on, resumed}
-use Rattle.crx_filter.proofs.damage.BlockReading.{place-between, place-inside, observation-here}
-use Rattle.crx_filter.proofs.damage.BlockReading.{observation-skippable}
-use Rattle.crx_filter.proofs.damage.BlockReading.{skipped-here}
+use Rattle.crx_filter.proofs.damage.BlockReading.{place-between, place-inside, observation-here, skipped-here}
 use Rattle.crx_filter.proofs.damage.GoingOn.{with_warnings, GoesOnAt, open-goes_on}
+use Rattle.crx_filter.proofs.reading.Each.{all-append, all-drop}
 
 -- ---- the lines of a stretch, and what is read of them
 
@@ -51,8 +37,7 @@ AreEpochs (Warned at ∷ before) = AreEpochs before
 
 -- a reading has stopped where more lines could make an epoch, or looks for a line that begins with >
 abbrev pub IsOpen : List (Item ReadEpoch) → Reading ReadEpoch → Type 0
-IsOpen items r =
-    ((number : ℕ) × (rest : List ReadLine) × AllByRecursion IsNoEvent rest
+IsOpen items r = ((number : ℕ) × (rest : List ReadLine) × AllByRecursion IsNoEvent rest
     × (compact_place items rest ≡ Wanted) × (r ≡ record { items = items; stop = AtLines number rest }))
     ⊎ ((number : ℕ) × (r ≡ record { items = items; stop = Looking number }))
 
@@ -60,17 +45,6 @@ pub record IsStretchRead (items : List (Item ReadEpoch)) (r : Reading ReadEpoch)
   pub news : List (Item ReadEpoch)
   pub epochs : AreEpochs news
   pub stops : IsOpen (news ++ items) r
-
-pub all-append : {X : Type 0} (P : X → Type 0) (one two : List X)
-    → AllByRecursion P one → AllByRecursion P two → AllByRecursion P (one ++ two)
-all-append P [] two h k = k
-all-append P (x ∷ one) two h k = (h.0, all-append P one two h.1 k)
-
-all-drop : {X : Type 0} (P : X → Type 0) (count : ℕ) (xs : List X)
-    → AllByRecursion P xs → AllByRecursion P (drop count xs)
-all-drop P zero xs h = h
-all-drop P (suc count) [] h = tt
-all-drop P (suc count) (x ∷ xs) h = all-drop P count xs h.1
 
 pub epochs-append : (one two : List (Item ReadEpoch)) → AreEpochs one → AreEpochs two → AreEpochs (one ++ two)
 epochs-append [] two h k = k
@@ -123,13 +97,14 @@ bad-event : (items : List (Item ReadEpoch)) (line : List ℕ) (lines : List Read
 bad-event items line lines h text event =
     let none : records_in line ≡ None = no-records (records_in line)
     (sym (ap (λ b. b && is_some (records_in line)) event) ∙ text) in
-    place-between items (Content line ∷ lines) h
-    ∙ ap (λ b. cond b (one_line (event_line line))
+    place-between items (Content line ∷ lines) h ∙ ap (λ b. cond b (one_line (event_line line))
     (as_observation (epoch_at (types_in_force items) (raws_kept items) (Content line ∷ lines)))) event
-    ∙ ap (λ (count : Option ℕ). one_line (elim (count) [ Some n ↦ Ok (EventLine line) | None ↦ Err BadEpoch ])) none
+    ∙ ap (λ (count : Option ℕ). one_line
+    (elim (count) [ Some n ↦ Ok (EventLine line) | None ↦ Err BadEpoch ])) none
 
 -- where more lines are wanted, the first one is no event's
-wanted-no_event : (items : List (Item ReadEpoch)) (line : List ℕ) (lines : List ReadLine) → IsBetweenUnits items
+wanted-no_event : (items : List (Item ReadEpoch)) (line : List ℕ) (lines : List ReadLine)
+    → IsBetweenUnits items
     → announces_records line ≡ false → compact_place items (Content line ∷ lines) ≡ Wanted
     → is_event_line line ≡ false
 wanted-no_event items line lines h text e = by_bool (is_event_line line)
@@ -146,8 +121,8 @@ stretch-epoch items (Overlong ∷ lines) unit count h text e =
     (sym (place-between items (Overlong ∷ lines) h) ∙ e)
 stretch-epoch items (Content line ∷ lines) unit count h text e = by_bool (is_event_line line)
     (λ event. let never = sym (bad-event items line lines h text.0 event) ∙ e in absurd (cc))
-    (λ other. observation-here (epoch_at (types_in_force items) (raws_kept items) (Content line ∷ lines)) unit count
-    (sym (place-inside items line lines h other) ∙ e))
+    (λ other. observation-here (epoch_at (types_in_force items) (raws_kept items) (Content line ∷ lines))
+    unit count (sym (place-inside items line lines h other) ∙ e))
 
 stretch-fault : (items : List (Item ReadEpoch)) (lines : List ReadLine) (offset : ℕ) (fault : Fault)
     → IsBetweenUnits items → AllByRecursion IsNoEvent lines → compact_place items lines ≡ Wrong offset fault
@@ -155,12 +130,12 @@ stretch-fault : (items : List (Item ReadEpoch)) (lines : List ReadLine) (offset 
 stretch-fault items [] offset fault h text e = let never = sym (place-between items [] h) ∙ e in absurd (cc)
 stretch-fault items (Overlong ∷ lines) offset fault h text e =
     subst (λ p. IsSkippableAt p) (sym (place-between items (Overlong ∷ lines) h) ∙ e)
-    (observation-skippable (epoch_at (types_in_force items) (raws_kept items) (Overlong ∷ lines))
+    (place-observation is_skippable (epoch_at (types_in_force items) (raws_kept items) (Overlong ∷ lines))
     (epoch-skippable (types_in_force items) (raws_kept items) (Overlong ∷ lines)))
 stretch-fault items (Content line ∷ lines) offset fault h text e = by_bool (is_event_line line)
     (λ event. subst (λ p. IsSkippableAt p) (sym (bad-event items line lines h text.0 event) ∙ e) refl)
     (λ other. subst (λ p. IsSkippableAt p) (sym (place-inside items line lines h other) ∙ e)
-    (observation-skippable (epoch_at (types_in_force items) (raws_kept items) (Content line ∷ lines))
+    (place-observation is_skippable (epoch_at (types_in_force items) (raws_kept items) (Content line ∷ lines))
     (epoch-skippable (types_in_force items) (raws_kept items) (Content line ∷ lines))))
 
 -- ---- the reading
@@ -197,12 +172,9 @@ within-stretch (suc units) items number lines few h text = by_place (compact_pla
     within-stretch units (Accepted (Observation read) ∷ items) (number + count) (drop count lines)
     (omega (arith, few, some, in_lines, left)) (record { header = h.header; none = refl })
     (all-drop IsNoEvent count lines text) in
-    subst (IsStretchRead items)
-    (sym (within-here compact_place true units items number lines unit count e
+    subst (IsStretchRead items) (sym (within-here compact_place true units items number lines unit count e
     ∙ ap (λ u. reading_within compact_place true units (Accepted u ∷ items) (number + count)
-    (drop count lines))
-    epoch.1))
-    (onto (Accepted (Observation read)) items _ tt rest))
+    (drop count lines)) epoch.1)) (onto (Accepted (Observation read)) items _ tt rest))
     (λ offset fault e.
     let at : At = record { line = number + offset; fault = fault } in
     let on : is_skipped true items fault ≡ true =
@@ -210,13 +182,11 @@ within-stretch (suc units) items number lines few h text = by_place (compact_pla
     let n : ℕ = max offset 1 in
     let short = wrong-within compact_place compact-forward items lines offset fault e in
     let left : length (drop n lines) ≡ length lines - n = length-drop n lines in
-    subst (IsStretchRead items)
-    (sym (within-wrong compact_place true units items number lines offset fault e
+    subst (IsStretchRead items) (sym (within-wrong compact_place true units items number lines offset fault e
     ∙ fault-skipped true (reading_within compact_place true units) items number lines offset fault on))
     (onto (Warned at) items _ tt
     (looked-stretch (reading_within compact_place true units (Warned at ∷ items)) (Warned at ∷ items) units
-    (number + n)
-    (drop n lines)
+    (number + n) (drop n lines)
     (λ m ls less none.
     within-stretch units (Warned at ∷ items) m ls less (record { header = h.header; none = refl }) none)
     (omega (arith, few, short, left)) (all-drop IsNoEvent n lines text))))
@@ -245,8 +215,7 @@ stretch-more items so_far lines between stops text =
         (all-append IsNoEvent rest lines none text))
     goes-on (inr (number, is)) =
         subst (λ (s : Reading ReadEpoch). IsStretchRead items (continued_reading compact_place true s lines))
-        (sym is)
-        (looked-stretch (reading_from compact_place true items) items (length lines + 1) number lines
+        (sym is) (looked-stretch (reading_from compact_place true items) items (length lines + 1) number lines
         (λ m ls less none. within-stretch (length ls + 1) items m ls (omega arith) between none)
         (omega arith) text)
 
@@ -284,8 +253,7 @@ after-warnings items lines r g = record {
 }
 
 pub open-continued : (items : List (Item ReadEpoch)) (r : Reading ReadEpoch) (line : List ℕ)
-    (tail : List ReadLine)
-    → IsBetweenUnits items → IsOpen items r → begins_epoch line ≡ true
+    (tail : List ReadLine) → IsBetweenUnits items → IsOpen items r → begins_epoch line ≡ true
     → GoesOnAfter items (Content line ∷ tail) (continued_reading compact_place true r (Content line ∷ tail))
 open-continued items r line tail between (inl (number, [], none, e, is)) begins = record {
   news = [];
@@ -298,9 +266,8 @@ open-continued items r line tail between (inl (number, Overlong ∷ rest, none, 
 open-continued items r line tail between (inl (number, Content first ∷ rest, none, e, is)) begins =
     subst (λ (s : Reading ReadEpoch). GoesOnAfter items (Content line ∷ tail)
     (continued_reading compact_place true s (Content line ∷ tail))) (sym is)
-    (after-warnings items (Content line ∷ tail) _
-    (open-goes_on items number first rest line tail between (wanted-no_event items first rest between none.0 e)
-    e begins))
+    (after-warnings items (Content line ∷ tail) _ (open-goes_on items number first rest line tail between
+    (wanted-no_event items first rest between none.0 e) e begins))
 open-continued items r line tail between (inr (number, is)) begins = record {
   news = [];
   epochs = tt;

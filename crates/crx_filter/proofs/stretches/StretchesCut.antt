@@ -1,31 +1,23 @@
 -- A text that is damaged in stretches, cut into lines: those that the compaction wrote, and those that come
 -- in the stretches.
-use Rattle.std.proofs.Common.{ℕ, ◌≡◌, ◌⊎◌, inl, inr, true, not, List, [], ◌∷◌, ◌++◌, map, length, drop}
-use Rattle.std.proofs.Common.{refl, ap, sym, ◌∙◌, subst, append_assoc, append-nil}
-use Rattle.std.specs.Prelude.{◌||◌}
-use Rattle.std.specs.List.{AllByRecursion, list_all}
-use Rattle.std.proofs.Math.Seq.{drop-append_seam}
-use Rattle.std.proofs.lemmas.Bool.{and_parts, not-true}
-use Rattle.crx_faults.specs.meaning.Lines.{Piece, InputLine, pieces_of, lines_of, is_long, lines_text}
-use Rattle.crx_faults.specs.meaning.Seen.{Content, seen}
-use Rattle.crx_rinex.specs.meaning.Observations.{Epoch}
-use Rattle.crx_options.specs.meaning.Choices.{Choices}
-use Rattle.crx_reading.specs.meaning.Items.{Item, Accepted, Warned, header_has_ended}
-use Rattle.crx_reading.specs.meaning.Compacted.{compact_lines}
-use Rattle.crx_reading.specs.meaning.Damage.{lines_after}
-use Rattle.crx_reading.specs.meaning.WayBack.{OfCopiedLines, HaveNoReturns}
+use Rattle.crx_filter.proofs.Words.{ℕ, ◌≡◌, ◌⊎◌, inl, inr, true, not, List, [], ◌∷◌, ◌++◌, map, length, drop}
+use Rattle.crx_filter.proofs.Words.{refl, ap, sym, ◌∙◌, subst, append_assoc, append-nil, ◌||◌, AllByRecursion}
+use Rattle.crx_filter.proofs.Words.{list_all, drop-append_seam, and_parts, not-true, Piece, InputLine}
+use Rattle.crx_filter.proofs.Words.{pieces_of, lines_of, is_long, lines_text, Content, seen, Epoch, Choices}
+use Rattle.crx_filter.proofs.Words.{Item, Accepted, Warned, header_has_ended, compact_lines, lines_after}
+use Rattle.crx_filter.proofs.Words.{OfCopiedLines, HaveNoReturns, AreInPlace, Stretch, up_to_end, up_to_next}
+use Rattle.crx_filter.proofs.Words.{with_stretches, announces_records, IsStretch, AreStretches}
 use Rattle.crx_reading.proofs.Choosing.{by_bool}
-use Rattle.crx_filter.specs.Laws.{AreInPlace}
-use Rattle.crx_filter.specs.meaning.Stretches.{Stretch, up_to_end, up_to_next, with_stretches, stretches_text}
-use Rattle.crx_filter.specs.meaning.Stretches.{announces_records, begins_no_event, IsStretch, AreStretches}
+use Rattle.crx_filter.specs.meaning.Stretches.{stretches_text, begins_no_event}
 use Rattle.crx_filter.proofs.wayback.Cut.{IsClean, CanStand}
 use Rattle.crx_filter.proofs.wayback.Reading.{lines_back}
 use Rattle.crx_filter.proofs.wayback.WayBack.{lines-clean}
 use Rattle.crx_filter.proofs.damage.BlockSaved.{rest-in_place, text-parts}
-use Rattle.crx_filter.proofs.damage.DamagedText.{each-ended, lines-append, front-cut, clean-both}
-use Rattle.crx_filter.proofs.damage.TextAfter.{lines_on, written-on, header-stays}
+use Rattle.crx_filter.proofs.damage.DamagedText.{each-ended, lines-append, front-cut}
+use Rattle.crx_filter.proofs.damage.TextAfter.{lines_on, written-on}
 use Rattle.crx_filter.proofs.stretches.OpenReading.{IsNoEvent}
 use Rattle.crx_filter.proofs.stretches.StretchesRead.{stretch_lines, lines_of_stretches, AllowLines}
+use Rattle.crx_filter.proofs.reading.Each.{header-append, all-parts}
 
 -- ---- the lines that come in a stretch
 
@@ -82,15 +74,14 @@ good-up_to before (s ∷ later) h = good-before s.lost before
 pub kept-lines : (choices : Choices) (kept block : List (Item Epoch)) → AreInPlace (kept ++ block)
     → header_has_ended block ≡ true
     → lines_after choices block (kept ++ block) ≡ lines_on choices.every kept block
-kept-lines choices kept block h header =
-    ap (drop (length (compact_lines choices block)))
-    (text-parts choices kept block h (header-stays kept block header) header)
+kept-lines choices kept block h header = ap (drop (length (compact_lines choices block)))
+    (text-parts choices kept block h (header-append kept block header) header)
     ∙ drop-append_seam (compact_lines choices block) (lines_on choices.every kept block)
 
 pub kept-clean : (choices : Choices) (kept block : List (Item Epoch)) → AreGood (kept ++ block)
     → AllByRecursion IsClean (lines_on choices.every kept block)
 kept-clean choices kept block h =
-    (clean-both (lines_back choices.every block) (lines_on choices.every kept block)
+    (all-parts IsClean (lines_back choices.every block) (lines_on choices.every kept block)
     (subst (AllByRecursion IsClean) (written-on choices.every kept block)
     (lines-clean choices.every (kept ++ block) h.in_place h.copied h.no_returns))).1
 
@@ -117,8 +108,7 @@ last-cut choices before s later none last same =
     ap (λ (kept : List (Item Epoch)). lines_on choices.every kept block) none in
     let text : stretches_text choices before (s ∷ later) ≡ s.instead =
     ap (λ (ls : List (List ℕ)). s.instead ++ (lines_text ls ++ stretches_text choices
-    (up_to_next before s) later))
-    (same ∙ nothing)
+    (up_to_next before s) later)) (same ∙ nothing)
     ∙ ap (λ (l : List Stretch). s.instead ++ stretches_text choices (up_to_next before s) l) last
     ∙ append-nil s.instead in
     let lines : lines_of_stretches choices.every before (s ∷ later) ≡ map seen (lines_of s.instead) =
@@ -136,7 +126,7 @@ pub stretches-cut : (choices : Choices) (before : List (Item Epoch)) (stretches 
 stretches-cut choices before [] h good header = refl
 stretches-cut choices before (s ∷ later) h good header =
     either (IsStretch.ended h.0) (stretches-cut choices next later h.1 good
-    (header-stays s.kept block block-header))
+    (header-append s.kept block block-header))
   where
     block : List (Item Epoch)
     block = up_to_end before s
@@ -148,7 +138,7 @@ stretches-cut choices before (s ∷ later) h good header =
     here = good-up_to next later good
 
     block-header : header_has_ended block ≡ true
-    block-header = header-stays s.lost before header
+    block-header = header-append s.lost before header
 
     same : lines_after choices block next ≡ lines_on choices.every s.kept block
     same = kept-lines choices s.kept block here.in_place block-header
@@ -160,12 +150,10 @@ stretches-cut choices before (s ∷ later) h good header =
         → map seen (lines_of (stretches_text choices before (s ∷ later)))
         ≡ lines_of_stretches choices.every before (s ∷ later)
     either (inl nothing) rest = last-cut choices before s later nothing.0 nothing.1 same
-    either (inr ended) rest =
-        ap (λ (ls : List (List ℕ)). map seen (lines_of (s.instead ++ (lines_text ls
+    either (inr ended) rest = ap (λ (ls : List (List ℕ)). map seen (lines_of (s.instead ++ (lines_text ls
         ++ stretches_text choices next later)))) same
         ∙ ended-cut s.instead (lines_on choices.every s.kept block) (stretches_text choices next later)
         (kept-clean choices s.kept block here) ended
         ∙ sym (append_assoc (map seen (lines_of s.instead)) (map Content
-        (lines_on choices.every s.kept block))
-        (map seen (lines_of (stretches_text choices next later))))
+        (lines_on choices.every s.kept block)) (map seen (lines_of (stretches_text choices next later))))
         ∙ ap (λ ls. stretch_lines choices.every before s ++ ls) rest

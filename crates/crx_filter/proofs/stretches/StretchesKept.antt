@@ -1,13 +1,6 @@
 -- What a run keeps of damaged text follows from what it is, by the laws.
-use Rattle.std.proofs.Common.{ℕ, List, Option, subst}
-use Rattle.crx_faults.specs.meaning.Lines.{lines_text}
-use Rattle.crx_faults.specs.declared.fault.At.{At}
-use Rattle.crx_options.specs.meaning.Choices.{Choices}
-use Rattle.crx_reading.specs.meaning.Expanded.{expanded}
-use Rattle.crx_reading.specs.meaning.Standard.{printed_items}
-use Rattle.crx_runs.specs.meaning.Results.{Begins}
-use Rattle.crx_runs.specs.meaning.Runs.{IsResult}
-use Rattle.crx_runs.specs.meaning.Spans.{Device}
+use Rattle.crx_filter.proofs.Words.{ℕ, List, Option, subst, lines_text, At, Choices, expanded, printed_items}
+use Rattle.crx_filter.proofs.Words.{Begins, IsResult, Device}
 use Rattle.crx_filter.specs.meaning.Stretches.{KeepsUndamaged, WritesWholeUnits}
 use Rattle.crx_filter.proofs.stretches.StretchesSaved.{rest-kept, whole-first}
 

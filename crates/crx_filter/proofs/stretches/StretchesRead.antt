@@ -1,41 +1,24 @@
 -- The reading of a text that is damaged in stretches: after each stretch the units that are kept, exactly.
-use Rattle.std.proofs.Common.{ℕ, ◌≡◌, true, List, [], ◌∷◌, ◌++◌, map, Option, refl, ap, sym, ◌∙◌, subst}
-use Rattle.std.proofs.Common.{append_assoc}
-use Rattle.std.proofs.Common.{append-nil, inl, inr, ◌⊎◌}
-use Rattle.std.specs.Prelude.{⊤}
-use Rattle.std.specs.List.{AllByRecursion, flat_map}
-use Rattle.std.proofs.lemmas.Grind.{flat_map-append}
-use Rattle.crx_faults.specs.meaning.Lines.{lines_of}
-use Rattle.crx_faults.specs.meaning.Seen.{ReadLine, Content, seen}
-use Rattle.crx_rinex.specs.meaning.Observations.{Epoch}
-use Rattle.crx_rinex.specs.meaning.Epochs.{IsWholeEpoch}
-use Rattle.crx_rinex.specs.meaning.Printing.{printed_epoch}
-use Rattle.crx_rinex.specs.meaning.Units.{HeaderLine, EventLine, EventRecord, Observation}
-use Rattle.crx_compact.specs.ReadingLaws.{IsGood}
-use Rattle.crx_compact.specs.meaning.CompactPlaces.{ReadEpoch}
-use Rattle.crx_options.specs.meaning.Choices.{Choices}
-use Rattle.crx_reading.specs.meaning.Items.{Item, Accepted, Warned, header_has_ended, records_left}
-use Rattle.crx_reading.specs.meaning.Items.{types_in_force}
-use Rattle.crx_reading.specs.meaning.Reading.{reading_from}
-use Rattle.crx_reading.specs.meaning.Expanded.{compact_place}
-use Rattle.crx_reading.specs.meaning.Damage.{BeginsAnew}
-use Rattle.crx_reading.specs.meaning.Standard.{printed_items}
-use Rattle.crx_filter.specs.Anew.{IsBetweenUnits}
-use Rattle.crx_filter.specs.Expanded.{expanded_lines}
-use Rattle.crx_filter.specs.Laws.{AreInPlace}
-use Rattle.crx_filter.specs.meaning.Stretches.{Stretch, up_to_end, up_to_next, with_stretches, IsStretch}
-use Rattle.crx_filter.specs.meaning.Stretches.{AreStretches, Saves}
+use Rattle.crx_filter.proofs.Words.{ℕ, ◌≡◌, true, List, [], ◌∷◌, ◌++◌, map, Option, refl, ap, sym, ◌∙◌, subst}
+use Rattle.crx_filter.proofs.Words.{append_assoc, append-nil, inl, inr, ◌⊎◌, ⊤, AllByRecursion, flat_map}
+use Rattle.crx_filter.proofs.Words.{flat_map-append, lines_of, ReadLine, Content, seen, Epoch, IsWholeEpoch}
+use Rattle.crx_filter.proofs.Words.{printed_epoch, HeaderLine, EventLine, EventRecord, Observation, IsGood}
+use Rattle.crx_filter.proofs.Words.{ReadEpoch, Choices, Item, Accepted, Warned, header_has_ended}
+use Rattle.crx_filter.proofs.Words.{records_left, types_in_force, reading_from, compact_place, BeginsAnew}
+use Rattle.crx_filter.proofs.Words.{printed_items, IsBetweenUnits, expanded_lines, AreInPlace, Stretch}
+use Rattle.crx_filter.proofs.Words.{up_to_end, up_to_next, with_stretches, IsStretch, AreStretches}
+use Rattle.crx_filter.specs.meaning.Stretches.{Saves}
 use Rattle.crx_filter.proofs.wayback.Carried.{left-same, types-same}
 use Rattle.crx_filter.proofs.wayback.ExpandedWhole.{AreGoodEpochs}
 use Rattle.crx_filter.proofs.wayback.Items.{known_back}
 use Rattle.crx_filter.proofs.damage.BlockSaved.{rest-in_place}
 use Rattle.crx_filter.proofs.damage.SavedText.{lines-append, epochs_of}
-use Rattle.crx_filter.proofs.damage.TextAfter.{lines_on, header-stays}
+use Rattle.crx_filter.proofs.damage.TextAfter.{lines_on}
 use Rattle.crx_filter.proofs.stretches.OpenReading.{IsNoEvent, AreEpochs, IsOpen, IsStretchRead, stretch-more}
-use Rattle.crx_filter.proofs.stretches.OpenReading.{all-append}
 use Rattle.crx_filter.proofs.stretches.OpenReading.{epochs-append, epochs-between, epochs-types}
 use Rattle.crx_filter.proofs.stretches.KeptReading.{back_on, back-printed, anew-between, IsKeptRead}
 use Rattle.crx_filter.proofs.stretches.KeptReading.{CanBeKept, kept-more}
+use Rattle.crx_filter.proofs.reading.Each.{all-append, header-append}
 
 -- ---- where a reading stands
 
@@ -97,7 +80,7 @@ one-stretch choices before s later so_far items h allowed sound come =
     let x : List (Item ReadEpoch) = first.news ++ items in
     let can : CanBeKept choices.every s.kept block x = record {
       in_place = sound.in_place;
-      header = header-stays s.lost before sound.header;
+      header = header-append s.lost before sound.header;
       left = end-left choices before s sound h.anew;
       between = epochs-between first.news items first.epochs come.between;
       types = epochs-types first.news items first.epochs ∙ come.types ∙ sym h.types;
@@ -112,8 +95,7 @@ one-stretch choices before s later so_far items h allowed sound come =
     (front ++ (k.news ++ x)) (up_to_next before s) = record {
       stops = subst (λ ls. IsOpen (front ++ (k.news ++ x)) (reading_from compact_place true [] 3 ls))
           (append_assoc so_far (map seen (lines_of s.instead)) (map Content
-          (lines_on choices.every s.kept block)))
-          k.stops;
+          (lines_on choices.every s.kept block))) k.stops;
       between = record {
         header = (k.alike).one;
         none = (k.alike).left ∙ left-same (known_back choices.every) (up_to_next before s) sound.in_place
@@ -223,7 +205,7 @@ stretches-read choices before (s ∷ later) so_far items h allowed sound come =
     stretches-read choices next later (so_far ++ lines) x h.1 allowed.1
     (record {
       in_place = sound.in_place;
-      header = header-stays s.kept block (header-stays s.lost before sound.header);
+      header = header-append s.kept block (header-append s.lost before sound.header);
       closed = sound.closed;
     }) one.come in
     let all : List (Item ReadEpoch) = rest.more ++ (front ++ one.news) in
@@ -231,8 +213,7 @@ stretches-read choices before (s ∷ later) so_far items h allowed sound come =
     ap (λ (l : List (Item ReadEpoch)). rest.more ++ l) (sym (append_assoc front one.news items))
     ∙ sym (append_assoc rest.more (front ++ one.news) items) in
     let printed : expanded_lines all ≡ flat_map printed_epoch (epochs_of one.news)
-    ++ (printed_items s.kept ++ expanded_lines rest.more) =
-    lines-append rest.more (front ++ one.news)
+    ++ (printed_items s.kept ++ expanded_lines rest.more) = lines-append rest.more (front ++ one.news)
     ∙ ap (λ ls. ls ++ expanded_lines rest.more) (lines-append front one.news)
     ∙ append_assoc (expanded_lines one.news) (expanded_lines front) (expanded_lines rest.more)
     ∙ ap (λ ls. ls ++ (expanded_lines front ++ expanded_lines rest.more)) (news-printed one.news one.epochs)
@@ -242,8 +223,7 @@ stretches-read choices before (s ∷ later) so_far items h allowed sound come =
       more = all;
       come = subst (λ (l : List (Item ReadEpoch)). HasCome
           (so_far ++ lines_of_stretches choices.every before (s ∷ later)) l (with_stretches before
-          (s ∷ later))) joined
-          (subst (λ ls. HasCome ls (rest.more ++ x) (with_stretches next later))
+          (s ∷ later))) joined (subst (λ ls. HasCome ls (rest.more ++ x) (with_stretches next later))
           (append_assoc so_far lines (lines_of_stretches choices.every next later)) rest.come);
       saves = λ good.
           let again : AreGoodEpochs (rest.more ++ x) = subst AreGoodEpochs (sym joined) good in (

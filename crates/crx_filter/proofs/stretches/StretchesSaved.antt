@@ -1,28 +1,15 @@
 -- What an expansion writes and reports of a text that is damaged in stretches; and of one that begins with
 -- whole units.
-use Rattle.std.proofs.Common.{ℕ, ◌≡◌, ◌+◌, Bool, true, false, List, [], ◌∷◌, ◌++◌, map, length, reverse}
-use Rattle.std.proofs.Common.{Option, None, refl}
-use Rattle.std.proofs.Common.{ap, sym, ◌∙◌, subst, arith, append-nil, inl, inr}
-use Rattle.std.specs.List.{AllByRecursion}
-use Rattle.crx_faults.specs.meaning.Lines.{lines_of, lines_text}
-use Rattle.crx_faults.specs.meaning.Seen.{ReadLine, Content, seen}
-use Rattle.crx_header.specs.meaning.CompactHeader.{version_line, program_line}
-use Rattle.crx_rinex.specs.meaning.Observations.{Epoch}
-use Rattle.crx_compact.specs.meaning.CompactPlaces.{ReadEpoch}
-use Rattle.crx_options.specs.meaning.Choices.{Choices, is_date}
-use Rattle.crx_reading.specs.meaning.Items.{Item, is_at_start, records_left}
-use Rattle.crx_reading.specs.meaning.Reading.{Reading, AtLines, reading_from, ended_reading}
-use Rattle.crx_reading.specs.meaning.Compacted.{compact_lines}
-use Rattle.crx_reading.specs.meaning.Expanded.{compact_place, expanded_unit, whole_compact, expanded}
-use Rattle.crx_reading.specs.meaning.Standard.{printed_items}
-use Rattle.crx_reading.specs.meaning.Written.{warnings_in, result_of}
-use Rattle.crx_runs.specs.meaning.Messages.{notices_text}
-use Rattle.crx_runs.specs.meaning.Results.{Begins}
-use Rattle.crx_filter.specs.Anew.{IsBetweenUnits}
-use Rattle.crx_filter.specs.Expanded.{expanded_lines, expanded_so_far}
-use Rattle.crx_filter.specs.Laws.{AreInPlace, ItemsAreRead, IsWrittenFirst}
-use Rattle.crx_filter.specs.meaning.Stretches.{with_stretches, read_of_file, IsReadWhole, HasStretches}
-use Rattle.crx_filter.specs.meaning.Stretches.{KeepsTheRest}
+use Rattle.crx_filter.proofs.Words.{ℕ, ◌≡◌, ◌+◌, Bool, true, false, List, [], ◌∷◌, ◌++◌, map, length, reverse}
+use Rattle.crx_filter.proofs.Words.{Option, None, refl, ap, sym, ◌∙◌, subst, arith, append-nil, inl, inr}
+use Rattle.crx_filter.proofs.Words.{AllByRecursion, lines_of, lines_text, ReadLine, Content, seen}
+use Rattle.crx_filter.proofs.Words.{version_line, program_line, Epoch, ReadEpoch, Choices, is_date, Item}
+use Rattle.crx_filter.proofs.Words.{is_at_start, records_left, Reading, AtLines, reading_from, ended_reading}
+use Rattle.crx_filter.proofs.Words.{compact_lines, compact_place, expanded_unit, whole_compact, expanded}
+use Rattle.crx_filter.proofs.Words.{printed_items, warnings_in, result_of, notices_text, Begins}
+use Rattle.crx_filter.proofs.Words.{IsBetweenUnits, expanded_lines, expanded_so_far, AreInPlace, ItemsAreRead}
+use Rattle.crx_filter.proofs.Words.{IsWrittenFirst, with_stretches}
+use Rattle.crx_filter.specs.meaning.Stretches.{read_of_file, IsReadWhole, HasStretches, KeepsTheRest}
 use Rattle.crx_filter.specs.meaning.Stretches.{BeginsWhole}
 use Rattle.crx_filter.proofs.reading.CompactPrefixes.{expanded-first, reading-at}
 use Rattle.crx_filter.proofs.reading.ForwardCompact.{compact-forward}
@@ -43,8 +30,7 @@ use Rattle.crx_filter.proofs.stretches.OpenReading.{IsOpen}
 use Rattle.crx_filter.proofs.stretches.StretchesCut.{AreGood, good-before, good-up_to, stretches-allowed}
 use Rattle.crx_filter.proofs.stretches.StretchesCut.{stretches-cut}
 use Rattle.crx_filter.proofs.stretches.StretchesRead.{HasCome, AreStretchesRead, lines_of_stretches}
-use Rattle.crx_filter.proofs.stretches.StretchesRead.{next-closed}
-use Rattle.crx_filter.proofs.stretches.StretchesRead.{stretches-read}
+use Rattle.crx_filter.proofs.stretches.StretchesRead.{next-closed, stretches-read}
 
 -- ---- the file
 
@@ -93,8 +79,7 @@ open-ends items r between (inl (number, [], text, e, is)) =
     record {
       warnings = [];
       few = omega arith;
-      same = ap (ended_reading true) is
-          ∙ ends-well items number between;
+      same = ap (ended_reading true) is ∙ ends-well items number between;
     }
 open-ends items r between (inl (number, line ∷ rest, text, e, is)) =
     subst (λ (s : Reading ReadEpoch). EndsAfter items (ended_reading true s))
@@ -121,8 +106,7 @@ rest-kept file choices expanding damaged dated skips d =
     let new : List ReadLine = lines_of_stretches choices.every d.before d.stretches in
     let start : List (Item ReadEpoch) = read_back choices.every d.before in
     let last : ℕ = 3 + length (lines_back choices.every d.before) in
-    let closed : records_left d.before ≡ 0 =
-    next-closed choices d.before d.stretches d.each settled.none in
+    let closed : records_left d.before ≡ 0 = next-closed choices d.before d.stretches d.each settled.none in
     let come : HasCome old start d.before = record {
       stops = inl
           (last, [], tt, compact-forward.wants start, front-read true choices.every d.before front.in_place);
@@ -146,10 +130,8 @@ rest-kept file choices expanding damaged dated skips d =
     (stretches-cut choices d.before d.stretches d.each good d.header) in
     let whole : whole_compact expanding.skip (map seen (lines_of damaged)) ≡ record {
       items = all;
-      fault =
-          None;
-    } =
-    ap (λ skip. whole_compact skip (map seen (lines_of damaged))) skips
+      fault = None;
+    } = ap (λ skip. whole_compact skip (map seen (lines_of damaged))) skips
     ∙ ap (whole_compact true) cut ∙ whole-after true choices.date (old ++ new) ∙ end.same in
     let read : AreGoodEpochs items = epochs-good items
     (subst (ItemsAreRead compact_place) (open-items items reading (HasCome.stops r.come))
@@ -172,12 +154,10 @@ rest-kept file choices expanding damaged dated skips d =
 
 whole-so_far : (expanding choices : Choices) (before : List (Item Epoch)) → AreInPlace before
     → expanded_so_far (map Content (front_lines choices before)) expanding ≡ lines_text (printed_items before)
-whole-so_far expanding choices before h =
-    ap (λ (r : Reading ReadEpoch). lines_text (expanded_lines r.items))
+whole-so_far expanding choices before h = ap (λ (r : Reading ReadEpoch). lines_text (expanded_lines r.items))
     (reading-at expanding.skip (map Content (front_lines choices before)) _ 2
     (first-lines_read choices.date (map Content (lines_back choices.every before)))
-    ∙ front-read expanding.skip choices.every before h)
-    ∙ ap lines_text (printed-same choices.every before)
+    ∙ front-read expanding.skip choices.every before h) ∙ ap lines_text (printed-same choices.every before)
 
 begun-first : (expanding choices : Choices) (before : List (Item Epoch)) (text more : List ℕ)
     → is_date choices.date ≡ true → AreGood before → is_at_start before ≡ false
@@ -194,8 +174,7 @@ pub whole-first : (file : List ℕ) (choices expanding : Choices) (text : List �
     → Begins (expanded text expanding).output (lines_text (printed_items h.before))
 whole-first file choices expanding text dated h =
     by_units h.before (good-before h.after h.before (subst AreGood h.parts
-    (file-good file choices h.file_good)))
-    h.text_is
+    (file-good file choices h.file_good))) h.text_is
   where
     by_units : (before : List (Item Epoch)) → AreGood before
         → text ≡ lines_text (compact_lines choices before) ++ h.more

@@ -1,19 +1,8 @@
 -- Compact text is canonical: a file's normal form is compacted as the file, and comes back from that text.
-use Rattle.std.proofs.Common.{ℕ, ◌≡◌, true, false, List, None, map, refl, ap, sym, ◌∙◌, Option, subst}
-use Rattle.crx_faults.specs.meaning.Lines.{lines_of}
-use Rattle.crx_faults.specs.meaning.Seen.{seen}
-use Rattle.crx_faults.specs.declared.fault.At.{At}
-use Rattle.crx_rinex.specs.meaning.Observations.{Epoch}
-use Rattle.crx_options.specs.meaning.Choices.{Choices}
-use Rattle.crx_reading.specs.meaning.Compacted.{compact_unit, compacted, whole_rinex}
-use Rattle.crx_reading.specs.meaning.Expanded.{expanded}
-use Rattle.crx_reading.specs.meaning.Reading.{WholeReading}
-use Rattle.crx_reading.specs.meaning.Standard.{normal_form, whole_of}
-use Rattle.crx_reading.specs.meaning.WayBack.{HasNormalForm, written_well}
-use Rattle.crx_reading.specs.meaning.Written.{result_of}
-use Rattle.crx_runs.specs.meaning.Results.{FilterResult}
-use Rattle.crx_runs.specs.meaning.Runs.{IsResult}
-use Rattle.crx_runs.specs.meaning.Spans.{Device}
+use Rattle.crx_filter.proofs.Words.{ℕ, ◌≡◌, List, None, map, ap, sym, ◌∙◌, Option, subst, lines_of, seen, At}
+use Rattle.crx_filter.proofs.Words.{Epoch, Choices, compact_unit, compacted, expanded, WholeReading}
+use Rattle.crx_filter.proofs.Words.{normal_form, whole_of, HasNormalForm, written_well, result_of}
+use Rattle.crx_filter.proofs.Words.{FilterResult, IsResult, Device}
 use Rattle.crx_filter.specs.meaning.Canonical.{CompactsAsNormal, IsCanonical, DependsOnNormalForm}
 use Rattle.crx_filter.proofs.wayback.NormalForm.{read-as_normal}
 use Rattle.crx_filter.proofs.wayback.Standard.{same-reading, normal-comes_back}
@@ -28,8 +17,7 @@ pub as-normal : (file : List ℕ) (choices : Choices) → CompactsAsNormal file 
 as-normal file choices h =
     let again : whole_of (normal_form file) ≡ whole_of file = read-as_normal file h in
     compacted-by (normal_form file) choices (ap (λ (w : WholeReading Epoch). w.fault) again ∙ h.good)
-    ∙ ap (result_of (compact_unit choices)) again
-    ∙ sym (compacted-by file choices h.good)
+    ∙ ap (result_of (compact_unit choices)) again ∙ sym (compacted-by file choices h.good)
 
 same-compaction : (one other : List ℕ) (choices : Choices) → HasNormalForm one → HasNormalForm other
     → normal_form one ≡ normal_form other → compacted one choices ≡ compacted other choices

@@ -1,22 +1,16 @@
 -- What was accepted of a RINEX file, written again and read again: the units without the warnings between them, with
 -- the same header, events and types in force.
-use Rattle.std.proofs.Common.{ℕ, zero, suc, ◌≡◌, ◌+◌, ◌-◌, ◌<◌, Bool, true, false, cond, List, [], ◌∷◌, ◌++◌, map}
-use Rattle.std.proofs.Common.{length, drop, None, refl, ap, sym, ◌∙◌, arith, length-append}
-use Rattle.std.specs.Prelude.{◌||◌}
-use Rattle.std.proofs.lemmas.List.{map-append, length-map, drop_all}
-use Rattle.crx_faults.specs.meaning.Seen.{ReadLine, Content}
-use Rattle.crx_rinex.specs.meaning.Observations.{Epoch}
-use Rattle.crx_rinex.specs.meaning.Places.{Place, Here, first_line}
-use Rattle.crx_rinex.specs.meaning.Units.{Unit as FileUnit, HeaderLine, EventLine, EventRecord, Observation}
-use Rattle.crx_header.specs.meaning.Header.{is_end_of_header}
-use Rattle.crx_header.specs.meaning.ObservationTypes.{types_of}
-use Rattle.crx_reading.specs.meaning.Items.{Item, Accepted, Warned, is_at_start, header_has_ended, records_left}
-use Rattle.crx_reading.specs.meaning.Items.{records_count_types, declaring_lines, types_in_force}
-use Rattle.crx_reading.specs.meaning.UnitPlaces.{types_fault, header_line_fault, event_record, unit_place}
-use Rattle.crx_reading.specs.meaning.Reading.{Reading, AtLines, reading_within, reading_from, ended_with}
-use Rattle.crx_reading.specs.meaning.Reading.{ended_reading, whole_reading}
-use Rattle.crx_filter.specs.Laws.{continued_reading, IsReadForward, AreInPlace}
-use Rattle.crx_reading.specs.meaning.Written.{written_lines}
+use Rattle.crx_filter.proofs.Words.{ℕ, zero, suc, ◌≡◌, ◌+◌, ◌-◌, ◌<◌, Bool, true, false, cond, List, [], ◌∷◌}
+use Rattle.crx_filter.proofs.Words.{◌++◌, map, length, drop, None, refl, ap, sym, ◌∙◌, arith, length-append}
+use Rattle.crx_filter.proofs.Words.{◌||◌, map-append, length-map, ReadLine, Content, Epoch, Place, Here}
+use Rattle.crx_filter.proofs.Words.{first_line, FileUnit, HeaderLine, EventLine, EventRecord, Observation}
+use Rattle.crx_filter.proofs.Words.{is_end_of_header, types_of, Item, Accepted, Warned, is_at_start}
+use Rattle.crx_filter.proofs.Words.{header_has_ended, records_left, records_count_types, declaring_lines}
+use Rattle.crx_filter.proofs.Words.{types_in_force, types_fault, header_line_fault, event_record, unit_place}
+use Rattle.crx_filter.proofs.Words.{Reading, AtLines, reading_within, reading_from, ended_with, ended_reading}
+use Rattle.crx_filter.proofs.Words.{whole_reading, continued_reading, IsReadForward, AreInPlace}
+use Rattle.crx_filter.proofs.Words.{written_lines}
+use Rattle.std.proofs.lemmas.List.{drop_all}
 use Rattle.crx_filter.proofs.reading.Resuming.{within-here, within-wanted, enough-units, resumed}
 use Rattle.crx_filter.proofs.following.Lines.{record-place}
 use Rattle.crx_filter.proofs.reading.Ending.{closes-well}
@@ -62,7 +56,8 @@ left-same known (Warned at ∷ before) h = left-same known before h.1 ∙ (h.0).
 left-same known items h = refl
 
 pub count-same : {E : Type 0} (known : List (Item Epoch) → Epoch → E) (items : List (Item Epoch))
-    → AreInPlace items → 0 < records_left items → records_count_types (carried known items) ≡ records_count_types items
+    → AreInPlace items → 0 < records_left items → records_count_types (carried known items)
+    ≡ records_count_types items
 count-same known (Accepted (EventRecord line) ∷ before) h some = count-same known before h.1 (h.0).1
 count-same known (Warned at ∷ before) h some = absurd (omega (arith, some))
 count-same known items h some = refl
@@ -73,8 +68,8 @@ declares-same known [] h = refl
 declares-same known (Accepted (HeaderLine line) ∷ before) h =
     ap (λ ls. ls ++ line ∷ []) (declares-same known before h.1)
 declares-same known (Accepted (EventRecord line) ∷ before) h =
-    ap (λ b. cond b (declaring_lines (carried known before) ++ line ∷ []) (declaring_lines (carried known before)))
-    (count-same known before h.1 (h.0).1)
+    ap (λ b. cond b (declaring_lines (carried known before) ++ line ∷ [])
+    (declaring_lines (carried known before))) (count-same known before h.1 (h.0).1)
     ∙ ap (λ ls. cond (records_count_types before) (ls ++ line ∷ []) ls) (declares-same known before h.1)
 declares-same known (Accepted unit ∷ before) h = declares-same known before h.1
 declares-same known (Warned at ∷ before) h = declares-same known before h.1
@@ -98,7 +93,8 @@ record-read b line e = rw e refl
 pub record-here : {E : Type 0} (beginning : List (Item E)
     → List ReadLine → Place (FileUnit E)) (items : List (Item E)) (line : List ℕ) (left : ℕ)
     → header_has_ended items ≡ true → records_left items ≡ left → 0 < left → cond (records_count_types items)
-    (types_fault line) None ≡ None → unit_place beginning items (Content line ∷ []) ≡ Here (EventRecord line) 1
+    (types_fault line) None ≡ None → unit_place beginning items (Content line ∷ [])
+    ≡ Here (EventRecord line) 1
 record-here beginning items line zero ended_reading e some good = absurd (omega (arith, some))
 record-here beginning items line (suc left) ended_reading e some good = record-place beginning items left
     (Content line ∷ []) ended_reading e ∙ record-read (records_count_types items) line good
@@ -108,16 +104,15 @@ record-here beginning items line (suc left) ended_reading e some good = record-p
 -- one unit more, which takes all lines there
 pub one-unit : {E : Type 0} (place : List (Item E) → List ReadLine → Place (FileUnit E)) → IsReadForward place
     → (skip : Bool) (items : List (Item E)) (number : ℕ) (lines : List ReadLine) (unit : FileUnit E)
-    → place items lines ≡ Here unit (length lines)
-    → reading_from place skip items number lines
+    → place items lines ≡ Here unit (length lines) → reading_from place skip items number lines
     ≡ record { items = Accepted unit ∷ items; stop = AtLines (number + length lines) [] }
 one-unit place h skip items number lines unit e =
     let none : drop (length lines) lines ≡ [] = drop_all (length lines) lines (omega arith) in
     enough-units place h skip (length lines + 1)
     (suc (suc (length lines))) items number lines (omega arith) (omega arith)
     ∙ within-here place skip (suc (length lines)) items number lines unit (length lines) e
-    ∙ ap (λ ls. reading_within place skip (suc (length lines)) (Accepted unit ∷ items) (number + length lines) ls) none
-    ∙ within-wanted place skip (length lines)
+    ∙ ap (λ ls. reading_within place skip (suc (length lines)) (Accepted unit ∷ items)
+    (number + length lines) ls) none ∙ within-wanted place skip (length lines)
     (Accepted unit ∷ items) (number + length lines) [] (h.wants (Accepted unit ∷ items))
 
 pub at-line : {E : Type 0} (items : List (Item E)) (m n : ℕ) → m ≡ n → ◌≡◌ {A = Reading E}
@@ -132,13 +127,13 @@ StandsAgain place known lines_of_unit = (before : List (Item Epoch)) (unit : Fil
     → place (carried known before) (map Content (lines_of_unit before unit))
     ≡ Here (carried_unit known before unit) (length (lines_of_unit before unit))
 
-pub reads-again : {E : Type 0} (place : List (Item E) → List ReadLine → Place (FileUnit E)) (known : List (Item Epoch)
+pub reads-again : {E : Type 0} (place : List (Item E) → List ReadLine → Place (FileUnit E))
+    (known : List (Item Epoch)
     → Epoch → E) (lines_of_unit : List (Item Epoch) → FileUnit Epoch → List (List ℕ))
     → IsReadForward place → StandsAgain place known lines_of_unit
     → (skip : Bool) (number : ℕ) (items : List (Item Epoch)) → AreInPlace items
     → reading_from place skip [] number (map Content (written_lines lines_of_unit items)) ≡ record {
-      items = carried
-          known items;
+      items = carried known items;
       stop = AtLines (number + length (written_lines lines_of_unit items)) [];
     }
 reads-again place known lines_of_unit forward stands skip number [] h =
@@ -160,11 +155,13 @@ reads-again place known lines_of_unit forward stands skip number (Accepted unit 
     ∙ one-unit place forward skip (carried known before)
     (number + length first) (map Content more) (carried_unit known before unit) here
     ∙ at-line (Accepted (carried_unit known before unit) ∷ carried known before)
-    (number + length first + length (map Content more)) (number + length (first ++ more)) (omega (arith, same, all))
+    (number + length first + length (map Content more)) (number + length (first ++ more))
+    (omega (arith, same, all))
 
 -- ---- the end
 
-pub whole-again : {E : Type 0} (place : List (Item E) → List ReadLine → Place (FileUnit E)) (known : List (Item Epoch)
+pub whole-again : {E : Type 0} (place : List (Item E) → List ReadLine → Place (FileUnit E))
+    (known : List (Item Epoch)
     → Epoch → E) (lines_of_unit : List (Item Epoch) → FileUnit Epoch → List (List ℕ))
     → IsReadForward place → StandsAgain place known lines_of_unit → (skip : Bool) (number : ℕ)
     (items : List (Item Epoch)) → AreInPlace items → header_has_ended items ≡ true → records_left items ≡ 0

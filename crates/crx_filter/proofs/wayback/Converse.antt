@@ -1,49 +1,34 @@
 -- A file comes back only where it is standard: the lines that are written are plain, and printed as they stand.
-use Rattle.std.proofs.Common.{ℕ, ℤ, zero, suc, pos, negsuc, ◌≡◌, ◌+◌, ◌-◌, ◌/◌, ◌%◌, ◌^◌, ◌<◌, ◌≤◌}
-use Rattle.std.proofs.Common.{true, false, List, [], ◌∷◌, ◌++◌, map, length, take, drop, replicate}
-use Rattle.std.proofs.Common.{decimal, Option, Some, None, refl, ap, sym, ◌∙◌, arith, append_assoc}
-use Rattle.std.specs.Prelude.{not, All}
-use Rattle.std.specs.List.{AllByRecursion, list_all}
+use Rattle.crx_filter.proofs.Words.{ℕ, ℤ, zero, suc, ◌≡◌, ◌+◌, ◌-◌, ◌<◌, ◌≤◌, true, false, List, [], ◌∷◌}
+use Rattle.crx_filter.proofs.Words.{◌++◌, map, length, take, drop, replicate, Option, Some, None, refl, ap}
+use Rattle.crx_filter.proofs.Words.{sym, ◌∙◌, arith, append_assoc, not, All, AllByRecursion, list_all}
+use Rattle.crx_filter.proofs.Words.{All-head, All-tail, and_parts, and_from, clock_text, IsSoundRow}
+use Rattle.crx_filter.proofs.Words.{IsWholeEpoch, Count, OBSERVATION_WIDTH, CLOCK_WIDTH, InputLine, pieces_of}
+use Rattle.crx_filter.proofs.Words.{ends_with_return, line_of, lines_of, HasNoFeed, is_printable, is_kept}
+use Rattle.crx_filter.proofs.Words.{Row, Epoch, printed_row, printed_epoch, printed_cells, lines_text}
+use Rattle.crx_filter.proofs.Words.{printed_unit, Observation, Choices, is_date, compacted, expanded, Item}
+use Rattle.crx_filter.proofs.Words.{Accepted, Warned, types_in_force, WholeReading, FilterResult}
+use Rattle.crx_filter.proofs.Words.{printed_items, whole_of, IsStandard, AreInPlace, OfCopiedLines}
+use Rattle.crx_filter.proofs.Words.{HaveNoReturns}
+use Rattle.std.proofs.Common.{pos, negsuc, ◌/◌, ◌%◌, ◌^◌, decimal}
 use Rattle.std.specs.Str.{all_ascii_digits}
 use Rattle.std.specs.Char.{is_ascii_digit}
 use Rattle.std.proofs.Math.Nat.{pow-le-pow_right}
-use Rattle.std.proofs.lemmas.List.Elements.{All-head, All-tail}
-use Rattle.std.proofs.lemmas.Bool.{and_parts, and_from}
-use Rattle.crx_text.specs.meaning.Numbers.{IsMissingOrWithin, number_text, size_text, zero_padded, observation_text}
-use Rattle.crx_text.specs.meaning.Numbers.{clock_text}
+use Rattle.crx_text.specs.meaning.Numbers.{IsMissingOrWithin, number_text, size_text, zero_padded}
+use Rattle.crx_text.specs.meaning.Numbers.{observation_text, IsValue}
 use Rattle.crx_text.proofs.Spellings.{abs_within}
-use Rattle.crx_rinex.specs.meaning.SatelliteLines.{IsSoundRow}
-use Rattle.crx_text.specs.meaning.Numbers.{IsValue}
-use Rattle.crx_rinex.specs.meaning.Epochs.{IsWholeEpoch}
-use Rattle.crx_header.specs.meaning.ObservationTypes.{Count}
 use Rattle.crx_compact.proofs.wayback.Writable.{sound-name_kept}
 use Rattle.crx_compact.proofs.wayback.Facts.{head-kept}
-use Rattle.crx_faults.specs.declared.limits.TheConstants.{OBSERVATION_WIDTH, OBSERVATION_DECIMALS, CLOCK_WIDTH}
-use Rattle.crx_faults.specs.declared.limits.TheConstants.{CLOCK_DECIMALS}
-use Rattle.crx_faults.specs.meaning.Lines.{InputLine, pieces_of, ends_with_return, line_of, lines_of}
-use Rattle.crx_lines.specs.Reading.{HasNoFeed}
-use Rattle.crx_columns.specs.meaning.Texts.{is_printable, is_kept}
+use Rattle.crx_faults.specs.declared.limits.TheConstants.{OBSERVATION_DECIMALS, CLOCK_DECIMALS}
 use Rattle.crx_lines.proofs.PieceLemmas.{pieces-first}
 use Rattle.crx_text.proofs.ReadBack.{decimal_is_digits}
-use Rattle.crx_rinex.specs.meaning.Observations.{Row, Epoch}
-use Rattle.crx_rinex.specs.meaning.Printing.{printed_row, printed_epoch}
-use Rattle.crx_text.specs.meaning.PrintedCells.{printed_cells}
-use Rattle.crx_faults.specs.meaning.Lines.{lines_text}
-use Rattle.crx_rinex.specs.meaning.Units.{printed_unit, Observation}
-use Rattle.crx_options.specs.meaning.Choices.{Choices, is_date}
-use Rattle.crx_reading.specs.meaning.Compacted.{compacted}
-use Rattle.crx_reading.specs.meaning.Expanded.{expanded}
-use Rattle.crx_reading.specs.meaning.Items.{Item, Accepted, Warned, types_in_force}
-use Rattle.crx_reading.specs.meaning.Reading.{WholeReading}
-use Rattle.crx_runs.specs.meaning.Results.{FilterResult}
-use Rattle.crx_reading.specs.meaning.Standard.{printed_items, whole_of, IsStandard}
-use Rattle.crx_filter.specs.Laws.{AreInPlace}
-use Rattle.crx_reading.specs.meaning.WayBack.{OfCopiedLines, HaveNoReturns}
 use Rattle.crx_filter.proofs.wayback.WayBack.{IsSettled, whole-settled}
 use Rattle.crx_filter.proofs.wayback.Cut.{CanStand, return-kept}
 use Rattle.crx_filter.proofs.wayback.Standard.{normal-comes_back}
-use Rattle.crx_filter.proofs.wayback.First.{append-printable, take-printable, printable-no_feed, printable-no_return}
+use Rattle.crx_filter.proofs.wayback.First.{append-printable, take-printable, printable-no_feed}
+use Rattle.crx_filter.proofs.wayback.First.{printable-no_return}
 use Rattle.crx_compact.proofs.wayback.Standing.{trimmed-printable}
+use Rattle.crx_filter.proofs.reading.Each.{all-append, contents}
 
 -- a line that is plain wherever it is written
 pub record IsPlainLine (line : List ℕ) : Type 0 where
@@ -53,7 +38,8 @@ pub record IsPlainLine (line : List ℕ) : Type 0 where
 abbrev pub plain : List ℕ → InputLine
 plain line = record { content = line; is_plain = true }
 
-line-plain : (line : List ℕ) → IsPlainLine line → line_of (record { bytes = line; is_ended = true }) ≡ plain line
+line-plain : (line : List ℕ) → IsPlainLine line → line_of (record { bytes = line; is_ended = true })
+    ≡ plain line
 line-plain line h =
     ap (λ l. let all : InputLine = record { content = l; is_plain = not (ends_with_return line) } in all)
     (return-kept line h.no_return)
@@ -67,14 +53,15 @@ lines-plain (line ∷ lines) h =
     append_assoc line (10 ∷ []) (lines_text lines) in
     let pieces : pieces_of (line ++ 10 ∷ lines_text lines) ≡ record { bytes = line; is_ended = true }
     ∷ pieces_of (lines_text lines) = pieces-first line (lines_text lines) (IsPlainLine.one_line h.0) in
-    ap lines_of text ∙ ap (map line_of) pieces ∙ ap (λ l. l ∷ lines_of (lines_text lines)) (line-plain line h.0)
-    ∙ ap (λ ls. plain line ∷ ls) (lines-plain lines h.1)
+    ap lines_of text ∙ ap (map line_of) pieces ∙ ap (λ l. l ∷ lines_of (lines_text lines))
+    (line-plain line h.0) ∙ ap (λ ls. plain line ∷ ls) (lines-plain lines h.1)
 
 -- ---- what is printed is printable
 
 replicate-text : (n c : ℕ) → is_printable c ≡ true → list_all is_printable (replicate n c) ≡ true
 replicate-text zero c h = refl
-replicate-text (suc n) c h = and_from (is_printable c) (list_all is_printable (replicate n c)) h (replicate-text n c h)
+replicate-text (suc n) c h = and_from (is_printable c) (list_all is_printable (replicate n c)) h
+    (replicate-text n c h)
 
 kept-text : (text : List ℕ) → list_all is_kept text ≡ true → list_all is_printable text ≡ true
 kept-text [] h = refl
@@ -92,7 +79,8 @@ digits-text (c ∷ cs) h =
     let both = and_parts (is_ascii_digit c) _ h in
     and_from (is_printable c) (list_all is_printable cs) (digit-printable c both.0) (digits-text cs both.1)
 
-drop-text : (n : ℕ) (text : List ℕ) → list_all is_printable text ≡ true → list_all is_printable (drop n text) ≡ true
+drop-text : (n : ℕ) (text : List ℕ) → list_all is_printable text ≡ true
+    → list_all is_printable (drop n text) ≡ true
 drop-text zero text h = h
 drop-text (suc n) [] h = refl
 drop-text (suc n) (c ∷ cs) h = drop-text n cs (and_parts (is_printable c) _ h).1
@@ -107,15 +95,19 @@ small-size width size h k =
 size-printable : (decimals size : ℕ) → size < 2 ^ 64 → list_all is_printable (size_text decimals size) ≡ true
 size-printable decimals size h =
     let whole : list_all is_printable (decimal (size / 10 ^ decimals)) ≡ true =
-    digits-text (decimal (size / 10 ^ decimals)) (decimal_is_digits (size / 10 ^ decimals) (grind (arith, h))) in
+    digits-text (decimal (size / 10 ^ decimals)) (decimal_is_digits (size / 10 ^ decimals)
+    (grind (arith, h))) in
     let part : list_all is_printable (decimal (size % 10 ^ decimals)) ≡ true =
-    digits-text (decimal (size % 10 ^ decimals)) (decimal_is_digits (size % 10 ^ decimals) (grind (arith, h))) in
+    digits-text (decimal (size % 10 ^ decimals)) (decimal_is_digits (size % 10 ^ decimals)
+    (grind (arith, h))) in
     append-printable (decimal (size / 10 ^ decimals)) (46 ∷ zero_padded decimals (size % 10 ^ decimals)) whole
     (append-printable (replicate (decimals - length (decimal (size % 10 ^ decimals))) 48) (decimal
-    (size % 10 ^ decimals)) (replicate-text (decimals - length (decimal (size % 10 ^ decimals))) 48 refl) part)
+    (size % 10 ^ decimals)) (replicate-text (decimals - length (decimal (size % 10 ^ decimals))) 48
+    refl) part)
 
 number-printable : (width decimals : ℕ) (value : Option ℤ)
-    → width ≤ 19 → IsMissingOrWithin width value → list_all is_printable (number_text width decimals value) ≡ true
+    → width ≤ 19 → IsMissingOrWithin width value → list_all is_printable
+    (number_text width decimals value) ≡ true
 unfolding number_text
 number-printable width decimals None h within = replicate-text width 32 refl
 number-printable width decimals (Some (pos n)) h within =
@@ -123,10 +115,11 @@ number-printable width decimals (Some (pos n)) h within =
     (size_text decimals n) (replicate-text (width - length (size_text decimals n)) 32 refl)
     (size-printable decimals n (small-size width n h (abs_within width (pos n) within)))
 number-printable width decimals (Some (negsuc n)) h within =
-    let size : n + 1 < 10 ^ (width - 1) = let small = abs_within width (negsuc n) within in omega (arith, small) in
+    let size : n + 1 < 10 ^ (width - 1) = let small = abs_within width (negsuc n) within in
+    omega (arith, small) in
     append-printable (replicate (width - length (45 ∷ size_text decimals (n + 1))) 32)
-    (45 ∷ size_text decimals (n + 1)) (replicate-text (width - length (45 ∷ size_text decimals (n + 1))) 32 refl)
-    (size-printable decimals (n + 1) (small-size width (n + 1) h size))
+    (45 ∷ size_text decimals (n + 1)) (replicate-text (width - length (45 ∷ size_text decimals (n + 1)))
+    32 refl) (size-printable decimals (n + 1) (small-size width (n + 1) h size))
 
 cells-printable : (values : List (Option ℤ)) (flags : List ℕ) → All IsValue values
     → list_all is_printable flags ≡ true → list_all is_printable (printed_cells values flags) ≡ true
@@ -138,7 +131,8 @@ cells-printable (value ∷ values) flags h k =
     (cells-printable values (drop 2 flags) (All-tail IsValue value values h) (drop-text 2 flags k))
 
 rows-printable : (rows : List Row)
-    → All IsSoundRow rows → AllByRecursion (λ (line : List ℕ). list_all is_printable line ≡ true) (map printed_row rows)
+    → All IsSoundRow rows → AllByRecursion (λ (line : List ℕ). list_all is_printable line ≡ true)
+    (map printed_row rows)
 rows-printable [] k = tt
 rows-printable (row ∷ rows) k = (
   trimmed-printable (row.name ++ printed_cells row.values row.flags)
@@ -161,13 +155,9 @@ epoch-printable types epoch h = (
 
 -- ---- the lines of all units
 
-append-plain : (a b : List (List ℕ))
-    → AllByRecursion IsPlainLine a → AllByRecursion IsPlainLine b → AllByRecursion IsPlainLine (a ++ b)
-append-plain [] b h k = k
-append-plain (line ∷ a) b h k = (h.0, append-plain a b h.1 k)
-
 printable-plain : (lines : List (List ℕ))
-    → AllByRecursion (λ (line : List ℕ). list_all is_printable line ≡ true) lines → AllByRecursion IsPlainLine lines
+    → AllByRecursion (λ (line : List ℕ). list_all is_printable line ≡ true) lines
+    → AllByRecursion IsPlainLine lines
 printable-plain [] h = tt
 printable-plain (line ∷ lines) h = (
   record {
@@ -181,18 +171,19 @@ pub printed-plain : (items : List (Item Epoch)) → AreInPlace items
     → OfCopiedLines CanStand items → HaveNoReturns items → AllByRecursion IsPlainLine (printed_items items)
 printed-plain [] h k e = tt
 printed-plain (Accepted (Observation epoch) ∷ before) h k e =
-    append-plain (printed_items before) (printed_epoch epoch) (printed-plain before h.1 k.1 e.1)
+    all-append IsPlainLine (printed_items before) (printed_epoch epoch) (printed-plain before h.1 k.1 e.1)
     (printable-plain (printed_epoch epoch) (epoch-printable (types_in_force before) epoch (h.0).2))
 printed-plain (Accepted unit ∷ before) h k e =
-    append-plain (printed_items before) (printed_unit unit) (printed-plain before h.1 k.1 e.1)
+    all-append IsPlainLine (printed_items before) (printed_unit unit) (printed-plain before h.1 k.1 e.1)
     (record { one_line = (k.0).0; no_return = e.0 }, tt)
 printed-plain (Warned at ∷ before) h k e = printed-plain before h.1 k e
 
-pub all-plain : (lines : List (List ℕ)) → list_all (λ (line : InputLine). line.is_plain) (map plain lines) ≡ true
+pub all-plain : (lines : List (List ℕ)) → list_all (λ (line : InputLine). line.is_plain)
+    (map plain lines) ≡ true
 all-plain [] = refl
 all-plain (line ∷ lines) = all-plain lines
 
-pub contents-plain : (lines : List (List ℕ)) → map (λ (line : InputLine). line.content) (map plain lines) ≡ lines
+pub contents-plain : (lines : List (List ℕ)) → contents (map plain lines) ≡ lines
 contents-plain [] = refl
 contents-plain (line ∷ lines) = ap (λ ls. line ∷ ls) (contents-plain lines)
 
@@ -204,11 +195,12 @@ standard-where_kept input compacting expanding dated good none same =
     let items : List (Item Epoch) = WholeReading.items (whole_of input) in
     let h : IsSettled items = whole-settled false input good in
     let back : lines_text (printed_items items) ≡ input = sym
-    (ap (λ (r : FilterResult). r.output) (normal-comes_back input compacting expanding dated good none)) ∙ same in
+    (ap (λ (r : FilterResult). r.output) (normal-comes_back input compacting expanding dated good none))
+    ∙ same in
     let cut : lines_of input ≡ map plain (printed_items items) = ap lines_of (sym back)
     ∙ lines-plain (printed_items items) (printed-plain items h.in_place h.copied none) in
     record {
       good = good;
       plain = ap (list_all (λ (line : InputLine). line.is_plain)) cut ∙ all-plain (printed_items items);
-      given_back = ap (map (λ (line : InputLine). line.content)) cut ∙ contents-plain (printed_items items);
+      given_back = ap (contents) cut ∙ contents-plain (printed_items items);
     }

@@ -1,18 +1,12 @@
 -- Lines that are written and cut again are these lines; and what is read of an input holds no LF and isn't too long.
-use Rattle.std.proofs.Common.{ℕ, ◌≡◌, ◌≢◌, ◌≤◌, true, false, cond, ◌⊎◌, inl, inr, List, [], ◌∷◌, ◌++◌, map, length}
-use Rattle.std.proofs.Common.{refl, ap, sym, ◌∙◌, subst, append_assoc}
-use Rattle.std.specs.Prelude.{⊤, ◌==◌, nat_lt}
-use Rattle.std.specs.List.{AllByRecursion}
-use Rattle.std.proofs.lemmas.List.Elements.{All-head, All-tail, All-cons, All-nil}
-use Rattle.std.proofs.lemmas.Bool.{ltb-false, le-ltb}
-use Rattle.std.proofs.lemmas.Bool.Decides.{eqb_tells}
-use Rattle.crx_faults.specs.meaning.Lines.{Piece, InputLine, pieces_of, onto_first, ends_with_return, without_return}
-use Rattle.crx_faults.specs.meaning.Lines.{line_of, lines_of, is_long}
-use Rattle.crx_lines.specs.Reading.{HasNoFeed}
-use Rattle.crx_faults.specs.meaning.Seen.{ReadLine, Content, Overlong, seen}
-use Rattle.crx_faults.specs.declared.limits.TheConstants.{LINE_LIMIT}
+use Rattle.crx_filter.proofs.Words.{ℕ, ◌≡◌, ◌≢◌, ◌≤◌, true, false, cond, ◌⊎◌, inl, inr, List, [], ◌∷◌, ◌++◌}
+use Rattle.crx_filter.proofs.Words.{map, length, refl, ap, sym, ◌∙◌, subst, append_assoc, ⊤, ◌==◌, nat_lt}
+use Rattle.crx_filter.proofs.Words.{AllByRecursion, All-head, All-tail, All-cons, All-nil, ltb-false}
+use Rattle.crx_filter.proofs.Words.{eqb_tells, Piece, InputLine, pieces_of, onto_first, ends_with_return}
+use Rattle.crx_filter.proofs.Words.{without_return, line_of, lines_of, is_long, HasNoFeed, ReadLine, Content}
+use Rattle.crx_filter.proofs.Words.{Overlong, seen, LINE_LIMIT, lines_text}
+use Rattle.std.proofs.lemmas.Bool.{le-ltb}
 use Rattle.crx_lines.proofs.PieceLemmas.{pieces-first, NoFeed}
-use Rattle.crx_faults.specs.meaning.Lines.{lines_text}
 use Rattle.crx_reading.proofs.Choosing.{by_bool}
 
 -- a line that is read as it was written
@@ -27,7 +21,8 @@ return-kept (b ∷ []) e = rw e refl
 return-kept (b ∷ c ∷ bs) e = ap (λ l. b ∷ l) (return-kept (c ∷ bs) e)
 
 seen-short : (l : InputLine) → length l.content ≤ LINE_LIMIT → seen l ≡ Content l.content
-seen-short l h = let test : nat_lt LINE_LIMIT (length l.content) ≡ false = le-ltb LINE_LIMIT (length l.content) h in
+seen-short l h = let test : nat_lt LINE_LIMIT (length l.content) ≡ false =
+    le-ltb LINE_LIMIT (length l.content) h in
     rw test refl
 
 pub seen-clean : (line : List ℕ)
@@ -70,7 +65,8 @@ onto-no_feed b (p ∷ ps) other h = (All-cons NoFeed b p.bytes other h.0, h.1)
 
 by-byte : (b : ℕ) (ps : List Piece)
     → AllByRecursion FeedsNone ps → ((b == 10) ≡ true) × (b ≡ 10) ⊎ ((b == 10) ≡ false) × (b ≢ 10)
-    → AllByRecursion FeedsNone (cond (b == 10) (record { bytes = []; is_ended = true } ∷ ps) (onto_first b ps))
+    → AllByRecursion FeedsNone (cond (b == 10) (record { bytes = []; is_ended = true } ∷ ps)
+    (onto_first b ps))
 by-byte b ps h (inl is) = rw is.0 (All-nil NoFeed, h)
 by-byte b ps h (inr is) = rw is.0 (onto-no_feed b ps is.1 h)
 

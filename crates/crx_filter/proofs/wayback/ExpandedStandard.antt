@@ -1,63 +1,45 @@
 -- What an expansion writes is standard: what was read of compact text is in place, as units of RINEX, and what is
 -- copied is a line.
-use Rattle.std.proofs.Common.{ℕ, zero, suc, ◌≡◌, ◌+◌, Bool, true, false, cond, List, [], ◌∷◌, ◌++◌, map, length, drop}
-use Rattle.std.proofs.Common.{Option, Some, None, Result, refl, ap, sym, ◌∙◌, subst, arith, append_assoc}
-use Rattle.std.specs.Prelude.{◌||◌, ◌-◌, ⊤}
-use Rattle.std.specs.List.{AllByRecursion, list_all}
-use Rattle.std.specs.Option.{is_some}
-use Rattle.std.proofs.lemmas.Bool.{and_parts, not-true}
-use Rattle.crx_lines.specs.Reading.{HasNoFeed}
+use Rattle.crx_filter.proofs.Words.{ℕ, zero, suc, ◌≡◌, ◌+◌, Bool, true, false, cond, List, [], ◌∷◌, ◌++◌, map}
+use Rattle.crx_filter.proofs.Words.{length, drop, Option, Some, None, Result, refl, ap, sym, ◌∙◌, subst}
+use Rattle.crx_filter.proofs.Words.{arith, append_assoc, ◌||◌, ◌-◌, ⊤, AllByRecursion, list_all, is_some}
+use Rattle.crx_filter.proofs.Words.{and_parts, not-true, HasNoFeed, Piece, InputLine, pieces_of}
+use Rattle.crx_filter.proofs.Words.{ends_with_return, line_of, lines_of, lines_text, ReadLine, Content}
+use Rattle.crx_filter.proofs.Words.{Overlong, seen, At, Fault, BadEpoch, is_event_line, records_in}
+use Rattle.crx_filter.proofs.Words.{is_end_of_header, Count, types_of, IsWholeEpoch, Epoch, Place, Here}
+use Rattle.crx_filter.proofs.Words.{Wrong, Wanted, first_line, one_line, printed_epoch, FileUnit, HeaderLine}
+use Rattle.crx_filter.proofs.Words.{EventLine, EventRecord, Observation, printed_unit, ReadEpoch, epoch_at}
+use Rattle.crx_filter.proofs.Words.{RawEpoch, IsGood, Choices, compact_place, compact_epoch_place, event_line}
+use Rattle.crx_filter.proofs.Words.{as_observation, raws_kept, first_lines, whole_compact, expanded_unit}
+use Rattle.crx_filter.proofs.Words.{expanded, Item, Accepted, Warned, is_at_start, header_has_ended}
+use Rattle.crx_filter.proofs.Words.{records_left, records_count_types, declaring_lines, types_in_force}
+use Rattle.crx_filter.proofs.Words.{Reading, WholeReading, Stop, AtFault, AtLines, Looking, is_skipped}
+use Rattle.crx_filter.proofs.Words.{reading_from, fault_at_end, ended_with, ended_reading, printed_items}
+use Rattle.crx_filter.proofs.Words.{IsStandard, types_fault, header_line_fault, header_line, event_record}
+use Rattle.crx_filter.proofs.Words.{OfCopiedLine, OfCopiedLines, HaveNoReturns, written_lines, FilterResult}
+use Rattle.crx_filter.proofs.Words.{IsResult, Device, ItemsAreRead, IsInPlace, AreInPlace}
 use Rattle.crx_lines.proofs.PieceLemmas.{pieces-first}
-use Rattle.crx_faults.specs.meaning.Lines.{Piece, InputLine, pieces_of, ends_with_return, line_of, lines_of, lines_text}
-use Rattle.crx_faults.specs.meaning.Seen.{ReadLine, Content, Overlong, seen}
-use Rattle.crx_faults.specs.declared.fault.At.{At}
-use Rattle.crx_faults.specs.declared.fault.Fault.{Fault}
-use Rattle.crx_faults.specs.declared.fault.Fault.TheVariants.{BadEpoch}
-use Rattle.crx_header.specs.meaning.EpochColumns.{is_event_line, records_in}
-use Rattle.crx_header.specs.meaning.Header.{is_end_of_header}
-use Rattle.crx_header.specs.meaning.ObservationTypes.{Count, types_of}
-use Rattle.crx_columns.specs.meaning.Texts.{is_printable}
-use Rattle.crx_rinex.specs.meaning.Epochs.{IsWholeEpoch}
-use Rattle.crx_rinex.specs.meaning.Observations.{Epoch}
-use Rattle.crx_rinex.specs.meaning.Places.{Place, Here, Wrong, Wanted, first_line, one_line}
-use Rattle.crx_rinex.specs.meaning.Printing.{printed_epoch}
-use Rattle.crx_rinex.specs.meaning.Units.{Unit as FileUnit, HeaderLine, EventLine, EventRecord, Observation}
-use Rattle.crx_rinex.specs.meaning.Units.{printed_unit}
-use Rattle.crx_compact.specs.meaning.CompactPlaces.{ReadEpoch, epoch_at}
-use Rattle.crx_compact.specs.meaning.Expansion.{RawEpoch}
-use Rattle.crx_compact.specs.ReadingLaws.{IsGood}
-use Rattle.crx_options.specs.meaning.Choices.{Choices}
-use Rattle.crx_reading.specs.meaning.Expanded.{compact_place, compact_epoch_place, event_line, as_observation, raws_kept}
-use Rattle.crx_reading.specs.meaning.Expanded.{first_lines, whole_compact, rinex_unit, expanded_unit, expanded}
-use Rattle.crx_reading.specs.meaning.Items.{Item, Accepted, Warned, is_at_start, header_has_ended, records_left}
-use Rattle.crx_reading.specs.meaning.Items.{records_count_types, declaring_lines, types_in_force}
-use Rattle.crx_reading.specs.meaning.Reading.{Reading, WholeReading, Stop, AtFault, AtLines, Looking, is_skipped}
-use Rattle.crx_reading.specs.meaning.Reading.{reading_from, fault_at_end, ended_with, ended_reading}
-use Rattle.crx_reading.specs.meaning.Standard.{printed_items, IsStandard}
-use Rattle.crx_reading.specs.meaning.UnitPlaces.{types_fault, header_line_fault, header_line, event_record}
-use Rattle.crx_reading.specs.meaning.WayBack.{OfCopiedLine, OfCopiedLines, HaveNoReturns}
-use Rattle.crx_reading.specs.meaning.Written.{written_lines}
-use Rattle.crx_runs.specs.meaning.Results.{FilterResult}
-use Rattle.crx_runs.specs.meaning.Runs.{IsResult}
-use Rattle.crx_runs.specs.meaning.Spans.{Device}
-use Rattle.crx_filter.specs.Laws.{ItemsAreRead, IsInPlace, AreInPlace}
-use Rattle.crx_filter.specs.meaning.WrittenStandard.{has_plain_lines, rinex_items, WhatIsExpandedIsStandard, WroteStandard}
+use Rattle.crx_reading.specs.meaning.Expanded.{rinex_unit}
+use Rattle.crx_filter.specs.meaning.WrittenStandard.{has_plain_lines, rinex_items, WhatIsExpandedIsStandard}
+use Rattle.crx_filter.specs.meaning.WrittenStandard.{WroteStandard}
 use Rattle.crx_reading.proofs.Choosing.{by_bool}
 use Rattle.crx_filter.proofs.following.Following.{body-place}
 use Rattle.crx_filter.proofs.following.Lines.{record-place, IsStopped}
 use Rattle.crx_filter.proofs.reading.ForwardCompact.{compact-forward, compact_beginning}
 use Rattle.crx_filter.proofs.reading.KeptThroughout.{within-kept}
 use Rattle.crx_filter.proofs.reading.Stopping.{reading-stopped}
-use Rattle.crx_filter.proofs.reading.WhatStands.{OfHere, OfOk, by_first, first-line, unless-wrong, one-line, of-unit}
+use Rattle.crx_filter.proofs.reading.WhatStands.{OfHere, OfOk, first-line, unless-wrong, one-line, of-unit}
 use Rattle.crx_filter.proofs.reading.WhatWasRead.{items-read, allowed}
 use Rattle.crx_filter.proofs.wayback.Converse.{epoch-printable, lines-plain, printed-plain, all-plain}
 use Rattle.crx_filter.proofs.wayback.Cut.{CanStand, OfContent, input-stands}
 use Rattle.crx_filter.proofs.wayback.ExpandedWhole.{AreGoodEpochs, epochs-good}
-use Rattle.crx_filter.proofs.wayback.First.{printable-no_feed}
 use Rattle.crx_filter.proofs.wayback.NormalForm.{settled-standard}
-use Rattle.crx_filter.proofs.wayback.Reading.{all-drop}
 use Rattle.crx_filter.proofs.wayback.Standard.{NoReturn, not-ended}
 use Rattle.crx_filter.proofs.wayback.WayBack.{IsSettled, end-means}
+use Rattle.crx_filter.proofs.reading.Each.{all-append, all-parts, all-drop}
+use Rattle.crx_filter.proofs.reading.InPlace.{IsBegun}
+use Rattle.crx_filter.proofs.wayback.ReturnsLost.{printable-lines}
+use Rattle.crx_filter.proofs.reading.Resuming.{by_place}
 
 -- ---- the units of compact text, as units of RINEX, have the same header, events and types in force
 
@@ -95,9 +77,9 @@ declares-read : (items : List (Item ReadEpoch)) → declaring_lines (rinex_items
 declares-read [] = refl
 declares-read (Accepted (HeaderLine line) ∷ before) = ap (λ ls. ls ++ line ∷ []) (declares-read before)
 declares-read (Accepted (EventLine line) ∷ before) = declares-read before
-declares-read (Accepted (EventRecord line) ∷ before) =
-    ap (λ b. cond b
-    (declaring_lines (rinex_items before) ++ line ∷ []) (declaring_lines (rinex_items before))) (count-read before)
+declares-read (Accepted (EventRecord line) ∷ before) = ap (λ b. cond b
+    (declaring_lines (rinex_items before) ++ line ∷ []) (declaring_lines (rinex_items before)))
+    (count-read before)
     ∙ ap (λ ls. cond (records_count_types before) (ls ++ line ∷ []) ls) (declares-read before)
 declares-read (Accepted (Observation read) ∷ before) = declares-read before
 declares-read (Warned at ∷ before) = declares-read before
@@ -115,12 +97,6 @@ IsGoodUnit types (HeaderLine line) = ⊤
 IsGoodUnit types (EventLine line) = ⊤
 IsGoodUnit types (EventRecord line) = ⊤
 IsGoodUnit types (Observation read) = IsWholeEpoch types read.epoch
-
-abbrev IsBegun : FileUnit ReadEpoch → Type 0
-IsBegun (HeaderLine line) = ⊥
-IsBegun (EventLine line) = (is_event_line line ≡ true) × (is_some (records_in line) ≡ true)
-IsBegun (EventRecord line) = ⊥
-IsBegun (Observation read) = ⊤
 
 of-event : (P : Place (FileUnit ReadEpoch) → Type 0) (line : List ℕ) (o : Option ℕ) → records_in line ≡ o
     → ((count : ℕ) → o ≡ Some count → P (Here (EventLine line) 1)) → P (Wrong 0 BadEpoch)
@@ -189,8 +165,7 @@ in-header before unit lines count e open_header =
       ap (λ b. header_line_fault b line) (start-read before) ∙ right,
     ))))
   where
-    at_header : (ls : List ReadLine)
-        → header_has_ended before ≡ false
+    at_header : (ls : List ReadLine) → header_has_ended before ≡ false
         → compact_place before ls ≡ first_line ls (header_line (is_at_start before))
     at_header ls e = rw e refl
 
@@ -255,8 +230,7 @@ begun-copied P types raws (Content line ∷ lines) h = by_bool (is_event_line li
 
 unit-copied : (P : List ℕ → Type 0) (items : List (Item ReadEpoch)) (lines : List ReadLine)
     → AllByRecursion (OfContent P) lines → OfHere (Copies P) (compact_place items lines)
-unit-copied P items lines h =
-    of-unit (OfHere (Copies P)) compact_beginning items lines
+unit-copied P items lines h = of-unit (OfHere (Copies P)) compact_beginning items lines
     (first-copied P (header_line (is_at_start items)) lines
     (λ line k. unless-wrong (Copies P) (HeaderLine line)
     (header_line_fault (is_at_start items) line) (λ right. k)) h)
@@ -268,8 +242,7 @@ unit-copied P items lines h =
 items-copied : (P : List ℕ → Type 0) (skip : Bool) (number : ℕ) (lines : List ReadLine)
     → AllByRecursion (OfContent P) lines
     → OfCopiedLines P (rinex_items (reading_from compact_place skip [] number lines).items)
-items-copied P skip number lines all =
-    (within-kept compact_place skip
+items-copied P skip number lines all = (within-kept compact_place skip
     (λ items ls. OfCopiedLines P (rinex_items items) × AllByRecursion (OfContent P) ls)
     (record {
       here = λ items ls unit count e h. (
@@ -278,8 +251,7 @@ items-copied P skip number lines all =
       );
       warned = λ items ls at on h. h;
       passed = λ items ls n h. (h.0, all-drop (OfContent P) n ls h.1);
-    })
-    (length lines + 1) [] number lines (tt, all)).1.0
+    }) (length lines + 1) [] number lines (tt, all)).1.0
 
 -- ---- the end
 
@@ -334,7 +306,7 @@ from-settled skip number lines h f =
 pub read-settled : (skip : Bool) (lines : List ReadLine) → AllByRecursion (OfContent CanStand) lines
     → WholeReading.fault (whole_compact skip lines) ≡ None
     → IsSettled (rinex_items (WholeReading.items (whole_compact skip lines)))
-read-settled skip lines h f = by_first (first_lines lines)
+read-settled skip lines h f = by_place (first_lines lines)
     (λ two count e.
     let good = rw (e, whole_compact) at f in
     rw (e, whole_compact)
@@ -354,32 +326,13 @@ printed-read [] = refl
 printed-read (Accepted unit ∷ before) = ap (λ ls. ls ++ printed_unit (rinex_unit unit)) (printed-read before)
 printed-read (Warned at ∷ before) = printed-read before
 
-append-all : (P : List ℕ → Type 0) (a b : List (List ℕ))
-    → AllByRecursion P a → AllByRecursion P b → AllByRecursion P (a ++ b)
-append-all P [] b h k = k
-append-all P (line ∷ a) b h k = (h.0, append-all P a b h.1 k)
-
-all-parts : (P : List ℕ → Type 0) (a b : List (List ℕ))
-    → AllByRecursion P (a ++ b) → AllByRecursion P a × AllByRecursion P b
-all-parts P [] b h = (tt, h)
-all-parts P (line ∷ a) b h =
-    let both = all-parts P a b h.1 in
-    ((h.0, both.0), both.1)
-
-printable-lines : (lines : List (List ℕ))
-    → AllByRecursion (λ (line : List ℕ). list_all is_printable line ≡ true) lines
-    → AllByRecursion HasNoFeed lines
-printable-lines [] h = tt
-printable-lines (line ∷ lines) h = (printable-no_feed line h.0, printable-lines lines h.1)
-
 printed-no_feed : (items : List (Item Epoch))
     → AreInPlace items → OfCopiedLines CanStand items → AllByRecursion HasNoFeed (printed_items items)
 printed-no_feed [] h k = tt
 printed-no_feed (Accepted (Observation epoch) ∷ before) h k =
-    append-all HasNoFeed (printed_items before) (printed_epoch epoch) (printed-no_feed before h.1 k.1)
+    all-append HasNoFeed (printed_items before) (printed_epoch epoch) (printed-no_feed before h.1 k.1)
     (printable-lines (printed_epoch epoch) (epoch-printable (types_in_force before) epoch (h.0).2))
-printed-no_feed (Accepted unit ∷ before) h k =
-    append-all HasNoFeed (printed_items before) (printed_unit unit)
+printed-no_feed (Accepted unit ∷ before) h k = all-append HasNoFeed (printed_items before) (printed_unit unit)
     (printed-no_feed before h.1 k.1) ((k.0).0, tt)
 printed-no_feed (Warned at ∷ before) h k = printed-no_feed before h.1 k
 
@@ -411,8 +364,7 @@ copied-plain (Warned at ∷ before) h = copied-plain before h
 
 plain-copied : (items : List (Item Epoch)) → IsSettled items → HaveNoReturns items
     → has_plain_lines (lines_text (printed_items items)) ≡ true
-plain-copied items h none =
-    ap (list_all (λ (line : InputLine). line.is_plain))
+plain-copied items h none = ap (list_all (λ (line : InputLine). line.is_plain))
     (lines-plain (printed_items items) (printed-plain items h.in_place h.copied none))
     ∙ all-plain (printed_items items)
 

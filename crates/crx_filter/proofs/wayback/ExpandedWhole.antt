@@ -1,27 +1,16 @@
 -- What was accepted of compact text: each epoch is whole, by the types in force where it was read.
-use Rattle.std.proofs.Common.{ℕ, ◌≡◌, cond, List, [], ◌∷◌, None, refl}
-use Rattle.std.proofs.Common.{subst}
-use Rattle.std.specs.Prelude.{⊤}
-use Rattle.std.specs.List.{AllByRecursion}
-use Rattle.crx_faults.specs.meaning.Seen.{ReadLine}
-use Rattle.crx_header.specs.meaning.ObservationTypes.{Count}
-use Rattle.crx_rinex.specs.meaning.Places.{Place, Here, Wrong, Wanted}
-use Rattle.crx_rinex.specs.meaning.Units.{Unit as FileUnit, HeaderLine, EventLine, EventRecord, Observation}
-use Rattle.crx_compact.specs.meaning.Expansion.{RawEpoch}
-use Rattle.crx_compact.specs.meaning.CompactPlaces.{ReadEpoch, epoch_at}
-use Rattle.crx_compact.specs.ReadingLaws.{HasPrintableMarks, IsGood}
+use Rattle.crx_filter.proofs.Words.{ℕ, ◌≡◌, cond, List, [], ◌∷◌, None, refl, subst, ⊤, AllByRecursion}
+use Rattle.crx_filter.proofs.Words.{ReadLine, Count, Place, Here, Wrong, Wanted, FileUnit, HeaderLine}
+use Rattle.crx_filter.proofs.Words.{EventLine, EventRecord, Observation, RawEpoch, ReadEpoch, epoch_at}
+use Rattle.crx_filter.proofs.Words.{IsGood, Item, Accepted, Warned, is_at_start, records_count_types}
+use Rattle.crx_filter.proofs.Words.{types_in_force, types_fault, header_line_fault, header_line, event_record}
+use Rattle.crx_filter.proofs.Words.{raws_kept, empties_state, as_observation, compact_epoch_place}
+use Rattle.crx_filter.proofs.Words.{compact_place, ItemsAreRead}
+use Rattle.crx_compact.specs.ReadingLaws.{HasPrintableMarks}
 use Rattle.crx_compact.proofs.soundness.Goodness.{reads-whole}
-use Rattle.crx_reading.specs.meaning.Items.{Item, Accepted, Warned, is_at_start}
-use Rattle.crx_reading.specs.meaning.Items.{records_count_types, types_in_force}
-use Rattle.crx_reading.specs.meaning.UnitPlaces.{types_fault, header_line_fault, header_line}
-use Rattle.crx_reading.specs.meaning.UnitPlaces.{event_record}
-use Rattle.crx_reading.specs.meaning.Expanded.{raws_kept, empties_state, as_observation}
-use Rattle.crx_reading.specs.meaning.Expanded.{compact_epoch_place}
-use Rattle.crx_reading.specs.meaning.Expanded.{compact_place}
-use Rattle.crx_filter.specs.Laws.{ItemsAreRead}
 use Rattle.crx_filter.proofs.reading.Types.{counts-in_force}
-use Rattle.crx_filter.proofs.reading.WhatStands.{OfHere, chosen, first-line, unless-wrong}
-use Rattle.crx_filter.proofs.reading.WhatStands.{of-unit, of-compact}
+use Rattle.crx_filter.proofs.reading.WhatStands.{OfHere, chosen, first-line, unless-wrong, of-unit}
+use Rattle.crx_filter.proofs.reading.WhatStands.{of-compact}
 
 -- an epoch stood at some lines
 abbrev StoodThere : List Count → List RawEpoch → FileUnit ReadEpoch → Type 0
@@ -71,7 +60,8 @@ AreGoodEpochs [] = ⊤
 AreGoodEpochs (Accepted (HeaderLine line) ∷ before) = AreGoodEpochs before
 AreGoodEpochs (Accepted (EventLine line) ∷ before) = AreGoodEpochs before
 AreGoodEpochs (Accepted (EventRecord line) ∷ before) = AreGoodEpochs before
-AreGoodEpochs (Accepted (Observation read) ∷ before) = IsGood (types_in_force before) read × AreGoodEpochs before
+AreGoodEpochs (Accepted (Observation read) ∷ before) = IsGood (types_in_force before) read
+    × AreGoodEpochs before
 AreGoodEpochs (Warned at ∷ before) = AreGoodEpochs before
 
 pub marks-printable : (items : List (Item ReadEpoch))
@@ -90,8 +80,8 @@ epochs-good [] h = tt
 epochs-good (Accepted (Observation read) ∷ before) h =
     let rest : AreGoodEpochs before = epochs-good before h.1 in
     let stood = epoch-read before read (h.0).0 (h.0).1 (h.0).2 in (
-      reads-whole (types_in_force before)
-          (raws_kept before) stood.0 read stood.1 (counts-in_force before) (marks-printable before rest) stood.2,
+      reads-whole (types_in_force before) (raws_kept before) stood.0 read stood.1 (counts-in_force before)
+          (marks-printable before rest) stood.2,
       rest,
     )
 epochs-good (Accepted unit ∷ before) h = epochs-good before h.1

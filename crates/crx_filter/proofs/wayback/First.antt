@@ -1,25 +1,16 @@
 -- The two lines that compact text begins with are read, and can be cut off again.
-use Rattle.std.proofs.Common.{ℕ, zero, suc, ◌≡◌, ◌≢◌, ◌+◌, true, false, List, [], ◌∷◌, ◌++◌, take, drop, replicate}
-use Rattle.std.proofs.Common.{length, refl, ap, arith, subst, length-append, Ok}
+use Rattle.crx_filter.proofs.Words.{ℕ, zero, suc, ◌≡◌, ◌≢◌, ◌+◌, true, false, List, [], ◌∷◌, ◌++◌, take, drop}
+use Rattle.crx_filter.proofs.Words.{replicate, length, refl, ap, arith, subst, length-append, Ok, list_all}
+use Rattle.crx_filter.proofs.Words.{bytes_eq, drop-append_seam, All-cons, All-nil, ne_eqb, and_parts}
+use Rattle.crx_filter.proofs.Words.{and_from, HasNoFeed, ends_with_return, without_end_blanks, ReadLine}
+use Rattle.crx_filter.proofs.Words.{Content, is_printable, Here, CRINEX_PROGRAM_LABEL, is_date, version_line}
+use Rattle.crx_filter.proofs.Words.{program_line, crinex_program, first_lines}
 use Rattle.std.specs.Prelude.{nat_le}
-use Rattle.std.specs.List.{list_all}
-use Rattle.std.specs.Str.{bytes_eq}
-use Rattle.std.proofs.Math.Seq.{drop-append_seam}
 use Rattle.std.proofs.lemmas.List.{length-take-le}
-use Rattle.std.proofs.lemmas.List.Elements.{All-cons, All-nil}
-use Rattle.std.proofs.lemmas.Bool.{ne_eqb, and_parts, and_from}
-use Rattle.crx_lines.specs.Reading.{HasNoFeed}
-use Rattle.crx_faults.specs.meaning.Lines.{ends_with_return}
-use Rattle.crx_columns.specs.meaning.Columns.{without_end_blanks}
-use Rattle.crx_faults.specs.meaning.Seen.{ReadLine, Content}
-use Rattle.crx_columns.specs.meaning.Texts.{is_printable}
 use Rattle.crx_faults.specs.declared.limits.TheConstants.{DATE_LIMIT}
-use Rattle.crx_rinex.specs.meaning.Places.{Here}
 use Rattle.crx_header.specs.meaning.Label.{label_of}
-use Rattle.crx_header.specs.declared.crinex.TheConstants.{CRINEX_PROGRAM, CRINEX_PROGRAM_LABEL}
-use Rattle.crx_options.specs.meaning.Choices.{is_date}
-use Rattle.crx_header.specs.meaning.CompactHeader.{left_justified, version_line, program_line}
-use Rattle.crx_reading.specs.meaning.Expanded.{crinex_program, first_lines}
+use Rattle.crx_header.specs.declared.crinex.TheConstants.{CRINEX_PROGRAM}
+use Rattle.crx_header.specs.meaning.CompactHeader.{left_justified}
 use Rattle.crx_filter.proofs.wayback.Cut.{IsClean}
 use Rattle.crx_lines.proofs.PieceLemmas.{NoFeed}
 
@@ -44,14 +35,16 @@ program-read date =
     rw label refl
 
 pub first-lines_read : (date : List ℕ) (rest : List ReadLine) → first_lines
-    (Content version_line ∷ Content (program_line date) ∷ rest) ≡ Here (version_line ∷ program_line date ∷ []) 2
+    (Content version_line ∷ Content (program_line date) ∷ rest)
+    ≡ Here (version_line ∷ program_line date ∷ []) 2
 first-lines_read date rest = rw (program-read date) refl
 
 -- ---- each is cut off again
 
 -- a printable character is none that isn't
 pub printable-other : (c d : ℕ) → is_printable d ≡ false → is_printable c ≡ true → c ≢ d
-printable-other c d isn_t is_so is = let same : is_printable c ≡ is_printable d = ap is_printable is in absurd (cc)
+printable-other c d isn_t is_so is = let same : is_printable c ≡ is_printable d = ap is_printable is in
+    absurd (cc)
 
 pub printable-no_feed : (line : List ℕ) → list_all is_printable line ≡ true → HasNoFeed line
 printable-no_feed [] h = All-nil NoFeed
@@ -72,14 +65,16 @@ append-printable (c ∷ cs) b h k =
     let both = and_parts (is_printable c) _ h in
     and_from (is_printable c) (list_all is_printable (cs ++ b)) both.0 (append-printable cs b both.1 k)
 
-pub take-printable : (n : ℕ) (a : List ℕ) → list_all is_printable a ≡ true → list_all is_printable (take n a) ≡ true
+pub take-printable : (n : ℕ) (a : List ℕ) → list_all is_printable a ≡ true
+    → list_all is_printable (take n a) ≡ true
 take-printable zero a h = refl
 take-printable (suc n) [] h = refl
 take-printable (suc n) (c ∷ cs) h =
     let both = and_parts (is_printable c) _ h in
     and_from (is_printable c) (list_all is_printable (take n cs)) both.0 (take-printable n cs both.1)
 
-pub program-printable : (date : List ℕ) → is_date date ≡ true → list_all is_printable (program_line date) ≡ true
+pub program-printable : (date : List ℕ) → is_date date ≡ true
+    → list_all is_printable (program_line date) ≡ true
 program-printable date h =
     let good : list_all is_printable date ≡ true =
     (and_parts (nat_le (length date) DATE_LIMIT) (list_all is_printable date) h).1 in
@@ -104,4 +99,5 @@ program-clean date h =
     }
 
 pub version-clean : IsClean version_line
-version-clean = record { one_line = printable-no_feed version_line refl; no_return = refl; short = omega arith }
+version-clean = record
+    { one_line = printable-no_feed version_line refl; no_return = refl; short = omega arith }

@@ -1,32 +1,23 @@
 -- What was accepted by a compaction, and how its compact text is read: the same header, events and types in force.
-use Rattle.std.proofs.Common.{ℕ, ◌≡◌, ◌+◌, Bool, true, false, cond, List, [], ◌∷◌, ◌++◌, map, length, Option, Some}
-use Rattle.std.proofs.Common.{None, Ok, refl, ap, sym, ◌∙◌, arith, append-nil}
-use Rattle.std.specs.Prelude.{◌||◌, drop}
-use Rattle.std.specs.Option.{is_some}
-use Rattle.std.proofs.lemmas.List.{length-map}
-use Rattle.crx_faults.specs.meaning.Seen.{ReadLine, Content}
-use Rattle.crx_rinex.specs.meaning.Observations.{Row, Epoch}
-use Rattle.crx_rinex.specs.meaning.Places.{Here}
-use Rattle.crx_rinex.specs.meaning.Units.{Unit as FileUnit, HeaderLine, EventLine, EventRecord, Observation}
-use Rattle.crx_header.specs.meaning.EpochColumns.{is_event_line, records_in}
-use Rattle.crx_header.specs.meaning.ObservationTypes.{Count}
-use Rattle.crx_compact.specs.meaning.Compaction.{Marked, since_full, run_of, satellite_line, compact_epoch, epoch_line}
-use Rattle.crx_compact.specs.meaning.Expansion.{RawEpoch, block_of}
-use Rattle.crx_compact.specs.meaning.CompactPlaces.{ReadEpoch, epoch_at}
-use Rattle.crx_compact.specs.Laws.{AreWhole, LinesCanStand}
+use Rattle.crx_filter.proofs.Words.{ℕ, ◌≡◌, ◌+◌, Bool, true, false, cond, List, [], ◌∷◌, ◌++◌, map, length}
+use Rattle.crx_filter.proofs.Words.{Option, Some, None, Ok, refl, ap, sym, ◌∙◌, arith, append-nil, ◌||◌, drop}
+use Rattle.crx_filter.proofs.Words.{is_some, length-map, ReadLine, Content, Row, Epoch, Here, FileUnit}
+use Rattle.crx_filter.proofs.Words.{HeaderLine, EventLine, EventRecord, Observation, is_event_line}
+use Rattle.crx_filter.proofs.Words.{records_in, Count, Marked, compact_epoch, epoch_line, RawEpoch, block_of}
+use Rattle.crx_filter.proofs.Words.{ReadEpoch, epoch_at, LinesCanStand, Item, Accepted, records_left}
+use Rattle.crx_filter.proofs.Words.{types_in_force, types_fault, header_line_fault, is_interrupted}
+use Rattle.crx_filter.proofs.Words.{is_at_every, is_in_full, marked_epochs, epochs_accepted, raws_kept}
+use Rattle.crx_filter.proofs.Words.{event_line, as_observation, compact_epoch_place, compact_place}
+use Rattle.crx_filter.proofs.Words.{AreInPlace}
+use Rattle.crx_compact.specs.meaning.Compaction.{since_full, run_of, satellite_line}
+use Rattle.crx_compact.specs.Laws.{AreWhole}
 use Rattle.crx_compact.specs.ReadingLaws.{raws_of, read_of, lines_of_epoch, EpochReadsBack}
 use Rattle.crx_compact.proofs.wayback.Reading.{each-reads_back}
 use Rattle.crx_compact.proofs.wayback.Standing.{lines-stand}
-use Rattle.crx_reading.specs.meaning.Items.{Item, Accepted, records_left, types_in_force}
-use Rattle.crx_reading.specs.meaning.UnitPlaces.{types_fault, header_line_fault}
-use Rattle.crx_reading.specs.meaning.Compacted.{is_interrupted, is_at_every, is_in_full, marked_epochs, epochs_accepted}
-use Rattle.crx_reading.specs.meaning.Expanded.{raws_kept, event_line, as_observation, compact_epoch_place}
-use Rattle.crx_reading.specs.meaning.Expanded.{compact_place}
-use Rattle.crx_filter.specs.Laws.{AreInPlace}
 use Rattle.crx_reading.proofs.Choosing.{by_bool}
 use Rattle.crx_filter.proofs.following.Following.{body-place}
-use Rattle.crx_filter.proofs.wayback.Carried.{carried_unit, carried, header-same, start-same, left-same, count-same}
-use Rattle.crx_filter.proofs.wayback.Carried.{types-same, header-here, record-here}
+use Rattle.crx_filter.proofs.wayback.Carried.{carried_unit, carried, header-same, start-same, left-same}
+use Rattle.crx_filter.proofs.wayback.Carried.{count-same, types-same, header-here, record-here}
 use Rattle.crx_filter.proofs.reading.ForwardCompact.{compact_beginning}
 
 -- an epoch with its mark
@@ -38,7 +29,8 @@ abbrev pub body_unit : Option ℕ → List (Item Epoch) → FileUnit Epoch → L
 body_unit every before (HeaderLine line) = line ∷ []
 body_unit every before (EventLine line) = line ∷ []
 body_unit every before (EventRecord line) = line ∷ []
-body_unit every before (Observation epoch) = compact_epoch (marked_now every before epoch ∷ marked_epochs every before)
+body_unit every before (Observation epoch) = compact_epoch
+    (marked_now every before epoch ∷ marked_epochs every before)
 
 -- how an epoch is read of compact text
 abbrev pub known_back : Option ℕ → List (Item Epoch) → Epoch → ReadEpoch
@@ -58,7 +50,8 @@ either-false false b e = refl
 
 not-interrupted : (every : Option ℕ) (before : List (Item Epoch))
     → is_in_full every before ≡ false → is_interrupted before ≡ false
-not-interrupted every before e = either-false (is_interrupted before) (is_at_every every (epochs_accepted before)) e
+not-interrupted every before e = either-false (is_interrupted before)
+    (is_at_every every (epochs_accepted before)) e
 
 -- they are whole by the types in force: types change only at an event, and the next epoch after it stands in full
 whole-since : (every : Option ℕ) (items : List (Item Epoch)) → AreInPlace items
@@ -73,7 +66,8 @@ whole-since every items h e = absurd (cc)
 
 pub whole-next : (every : Option ℕ) (before : List (Item Epoch)) (epoch : Epoch)
     → AreInPlace (Accepted (Observation epoch) ∷ before)
-    → AreWhole (types_in_force before) (since_full (marked_now every before epoch ∷ marked_epochs every before))
+    → AreWhole (types_in_force before) (since_full (marked_now every before epoch ∷ marked_epochs every
+    before))
 whole-next every before epoch h = whole-since every (Accepted (Observation epoch) ∷ before) h refl
 
 -- the reader's block is that of the epochs written so far, where the next epoch may go on from them
@@ -87,11 +81,9 @@ block-same every items h e = absurd (cc)
 
 -- an epoch's lines are read as the epoch
 epoch-back : (every : Option ℕ) (before : List (Item Epoch)) (epoch : Epoch)
-    → AreInPlace (Accepted (Observation epoch) ∷ before)
-    → EpochReadsBack (types_in_force before)
+    → AreInPlace (Accepted (Observation epoch) ∷ before) → EpochReadsBack (types_in_force before)
     (marked_now every before epoch) (marked_epochs every before) (raws_kept (read_back every before))
-epoch-back every before epoch h =
-    each-reads_back (types_in_force before) (marked_now every before epoch)
+epoch-back every before epoch h = each-reads_back (types_in_force before) (marked_now every before epoch)
     (marked_epochs every before) (raws_kept (read_back every before)) (whole-next every before epoch h)
     (λ full. block-same every before h.1 (not-interrupted every before full))
 
@@ -111,29 +103,30 @@ event-here line None e h = absurd (cc)
 event-here line (Some count) e h = rw (e, event_line) refl
 
 event-begins : (types : List Count) (raws : List RawEpoch) (line : List ℕ) → is_event_line line ≡ true
-    → is_some (records_in line) ≡ true → compact_epoch_place types raws (Content line ∷ []) ≡ Here (EventLine line) 1
+    → is_some (records_in line) ≡ true → compact_epoch_place types raws (Content line ∷ [])
+    ≡ Here (EventLine line) 1
 event-begins types raws line e h = let here = event-here line (records_in line) refl h in rw (e, here) refl
 
 epoch-begins : (types : List Count) (raws : List RawEpoch) (line : List ℕ) (rest : List ReadLine)
-    → is_event_line line ≡ false
-    → compact_epoch_place types raws (Content line ∷ rest) ≡ as_observation (epoch_at types raws (Content line ∷ rest))
+    → is_event_line line ≡ false → compact_epoch_place types raws (Content line ∷ rest)
+    ≡ as_observation (epoch_at types raws (Content line ∷ rest))
 epoch-begins types raws line rest e = rw e refl
 
 pub unit-here : (every : Option ℕ) (before : List (Item Epoch)) (unit : FileUnit Epoch)
     → AreInPlace (Accepted unit ∷ before)
     → compact_place (read_back every before) (map Content (body_unit every before unit))
     ≡ Here (unit_back every before unit) (length (body_unit every before unit))
-unit-here every before (HeaderLine line) h =
-    header-here compact_beginning (read_back every before) line (header-same (known_back every) before ∙ (h.0).0)
+unit-here every before (HeaderLine line) h = header-here compact_beginning (read_back every before) line
+    (header-same (known_back every) before ∙ (h.0).0)
     (ap (λ b. header_line_fault b line) (start-same (known_back every) before h.1) ∙ (h.0).1)
 unit-here every before (EventLine line) h =
-    body-place compact_beginning (read_back every before) (Content line ∷ []) (header-same (known_back every) before
-    ∙ (h.0).0) (left-same (known_back every) before h.1 ∙ (h.0).1)
-    ∙ event-begins (types_in_force (read_back every before)) (raws_kept (read_back every before)) line (h.0).2 (h.0).3
+    body-place compact_beginning (read_back every before) (Content line ∷ [])
+    (header-same (known_back every) before ∙ (h.0).0) (left-same (known_back every) before h.1 ∙ (h.0).1)
+    ∙ event-begins (types_in_force (read_back every before)) (raws_kept (read_back every before)) line
+    (h.0).2 (h.0).3
 unit-here every before (EventRecord line) h =
     record-here compact_beginning (read_back every before) line (records_left before)
-    (header-same (known_back every) before
-    ∙ (h.0).0) (left-same (known_back every) before h.1) (h.0).1
+    (header-same (known_back every) before ∙ (h.0).0) (left-same (known_back every) before h.1) (h.0).1
     (ap (λ b. cond b (types_fault line) None) (count-same (known_back every) before h.1 (h.0).1) ∙ (h.0).2)
 unit-here every before (Observation epoch) h =
     let m : Marked = marked_now every before epoch in
@@ -141,10 +134,11 @@ unit-here every before (Observation epoch) h =
     let raws : List RawEpoch = raws_kept (read_back every before) in
     let lines : List ReadLine = lines_of_epoch (m ∷ older) in
     let stands : LinesCanStand m older = epoch-stands every before epoch h in
-    let reads : epoch_at (types_in_force before) raws (lines ++ []) ≡ Here (read_of m older) (2 + length epoch.rows) =
+    let reads : epoch_at (types_in_force before) raws (lines ++ [])
+    ≡ Here (read_of m older) (2 + length epoch.rows) =
     EpochReadsBack.reads (epoch-back every before epoch h) [] in
-    let kept : length (map (λ (r : Row). satellite_line (run_of r.name (m ∷ older)) r) epoch.rows) ≡ length epoch.rows =
-    length-map epoch.rows (λ (r : Row). satellite_line (run_of r.name (m ∷ older)) r) in
+    let kept : length (map (λ (r : Row). satellite_line (run_of r.name (m ∷ older)) r) epoch.rows)
+    ≡ length epoch.rows = length-map epoch.rows (λ (r : Row). satellite_line (run_of r.name (m ∷ older)) r) in
     let counted : 2 + length epoch.rows ≡ length (compact_epoch (m ∷ older)) = omega (arith, kept) in
     body-place compact_beginning (read_back every before) lines (header-same (known_back every) before
     ∙ (h.0).0) (left-same (known_back every) before h.1 ∙ (h.0).1)
@@ -152,5 +146,4 @@ unit-here every before (Observation epoch) h =
     ∙ epoch-begins (types_in_force before) raws
     (epoch_line m older) (map Content (drop 1 (compact_epoch (m ∷ older)))) (stands.no_event).0
     ∙ ap (λ ls. as_observation (epoch_at (types_in_force before) raws ls)) (sym (append-nil lines))
-    ∙ ap as_observation reads
-    ∙ ap (λ n. Here (Observation (read_of m older)) n) counted
+    ∙ ap as_observation reads ∙ ap (λ n. Here (Observation (read_of m older)) n) counted

@@ -1,52 +1,31 @@
 -- What was accepted, printed and read again; the normal form of a file, and a file that is in order.
-use Rattle.std.proofs.Common.{ℕ, ◌≡◌, ◌+◌, ◌*◌, ◌≤◌, true, false, cond, List, [], ◌∷◌, ◌++◌, map, length}
-use Rattle.std.proofs.Common.{Option, Some, None, refl, ap, sym, ◌∙◌, arith, append-nil}
-use Rattle.std.specs.Prelude.{All}
-use Rattle.std.specs.List.{AllByRecursion, list_all}
-use Rattle.std.specs.Option.{is_some}
-use Rattle.std.proofs.lemmas.List.{length-map}
-use Rattle.std.proofs.lemmas.List.Elements.{All-head, All-tail}
-use Rattle.std.proofs.lemmas.Bool.{and_parts}
-use Rattle.crx_faults.specs.meaning.Lines.{InputLine, lines_of}
-use Rattle.crx_faults.specs.meaning.Seen.{ReadLine, Content, seen}
-use Rattle.crx_text.specs.meaning.Numbers.{clock_text}
-use Rattle.crx_columns.specs.meaning.Columns.{without_end_blanks}
-use Rattle.crx_faults.specs.declared.fault.Fault.{Fault}
-use Rattle.crx_faults.specs.declared.limits.TheConstants.{LINE_LIMIT, TYPES_LIMIT}
-use Rattle.crx_rinex.specs.meaning.Observations.{Row, Epoch}
-use Rattle.crx_header.specs.meaning.ObservationTypes.{Count}
-use Rattle.crx_header.specs.meaning.EpochColumns.{begins_epoch, is_event_line, records_in, satellites_of}
-use Rattle.crx_rinex.specs.meaning.SatelliteLines.{IsSoundRow}
-use Rattle.crx_rinex.specs.meaning.Epochs.{IsWholeEpoch}
-use Rattle.crx_rinex.specs.meaning.EpochPlaces.{epoch_place}
-use Rattle.crx_rinex.specs.meaning.Places.{Here}
-use Rattle.crx_rinex.specs.meaning.Printing.{printed_row, printed_epoch}
-use Rattle.crx_text.specs.meaning.PrintedCells.{printed_cells}
-use Rattle.crx_faults.specs.meaning.Lines.{lines_text}
-use Rattle.crx_rinex.specs.meaning.Units.{Unit as FileUnit, HeaderLine, EventLine, EventRecord, Observation}
-use Rattle.crx_rinex.specs.meaning.Units.{printed_unit}
+use Rattle.crx_filter.proofs.Words.{ℕ, ◌≡◌, ◌+◌, ◌*◌, ◌≤◌, true, false, cond, List, [], ◌∷◌, ◌++◌, map}
+use Rattle.crx_filter.proofs.Words.{length, Option, Some, None, refl, ap, sym, ◌∙◌, arith, append-nil, All}
+use Rattle.crx_filter.proofs.Words.{AllByRecursion, list_all, is_some, length-map, All-head, All-tail}
+use Rattle.crx_filter.proofs.Words.{and_parts, InputLine, lines_of, ReadLine, Content, seen, clock_text}
+use Rattle.crx_filter.proofs.Words.{without_end_blanks, Fault, LINE_LIMIT, TYPES_LIMIT, Row, Epoch, Count}
+use Rattle.crx_filter.proofs.Words.{begins_epoch, is_event_line, records_in, IsSoundRow, IsWholeEpoch}
+use Rattle.crx_filter.proofs.Words.{epoch_place, Here, printed_row, printed_epoch, printed_cells, lines_text}
+use Rattle.crx_filter.proofs.Words.{FileUnit, HeaderLine, EventLine, EventRecord, Observation, printed_unit}
+use Rattle.crx_filter.proofs.Words.{Item, Accepted, Warned, records_left, types_in_force, types_fault}
+use Rattle.crx_filter.proofs.Words.{header_line_fault, Reading, WholeReading, Stop, AtLines, fault_at_end}
+use Rattle.crx_filter.proofs.Words.{ended_with, ended_reading, warnings_in, rinex_place, whole_rinex}
+use Rattle.crx_filter.proofs.Words.{rinex_reading, printed_items, whole_of, normal_form, IsStandard}
+use Rattle.crx_filter.proofs.Words.{AreInPlace, OfCopiedLines, HaveNoReturns, HasNormalForm}
+use Rattle.crx_header.specs.meaning.EpochColumns.{satellites_of}
 use Rattle.crx_rinex.proofs.ReadingBack.{epoch-back, length-row, length-head}
-use Rattle.crx_reading.specs.meaning.Items.{Item, Accepted, Warned, records_left, types_in_force}
-use Rattle.crx_reading.specs.meaning.UnitPlaces.{types_fault, header_line_fault}
-use Rattle.crx_reading.specs.meaning.Reading.{Reading, WholeReading, Stop, AtLines}
-use Rattle.crx_reading.specs.meaning.Reading.{fault_at_end, ended_with, ended_reading}
-use Rattle.crx_reading.specs.meaning.Written.{warnings_in}
-use Rattle.crx_reading.specs.meaning.Compacted.{rinex_place, whole_rinex}
-use Rattle.crx_reading.specs.meaning.Directions.{rinex_reading}
-use Rattle.crx_reading.specs.meaning.Standard.{printed_items, whole_of, normal_form, IsStandard}
-use Rattle.crx_filter.specs.Laws.{AreInPlace}
-use Rattle.crx_reading.specs.meaning.WayBack.{OfCopiedLines, HaveNoReturns, HasNormalForm}
 use Rattle.crx_filter.proofs.reading.KeptThroughout.{within-kept}
-use Rattle.crx_filter.proofs.reading.Forward.{rinex-forward}
+use Rattle.crx_filter.proofs.reading.Forward.{rinex-forward, rinex_beginning}
 use Rattle.crx_filter.proofs.following.Following.{body-place}
-use Rattle.crx_filter.proofs.wayback.Carried.{carried_unit, carried, header-same, start-same, left-same, count-same}
-use Rattle.crx_filter.proofs.wayback.Carried.{types-same, header-here, record-here, StandsAgain, whole-again}
+use Rattle.crx_filter.proofs.wayback.Carried.{carried_unit, carried, header-same, start-same, left-same}
+use Rattle.crx_filter.proofs.wayback.Carried.{count-same, types-same, header-here, record-here, StandsAgain}
+use Rattle.crx_filter.proofs.wayback.Carried.{whole-again}
 use Rattle.crx_filter.proofs.wayback.WayBack.{IsSettled, whole-settled}
 use Rattle.crx_filter.proofs.wayback.Cut.{IsClean, CanStand, lines-cut}
 use Rattle.crx_filter.proofs.wayback.Converse.{IsPlainLine, plain, lines-plain, printed-plain, all-plain}
 use Rattle.crx_filter.proofs.wayback.Converse.{contents-plain}
 use Rattle.crx_columns.proofs.EndBlanks.{few_kept}
-use Rattle.crx_filter.proofs.reading.Forward.{rinex_beginning}
+use Rattle.crx_filter.proofs.reading.Each.{all-append, contents}
 
 -- ---- what stands at a unit's printed lines
 
@@ -57,7 +36,8 @@ abbrev accepted : List (Item Epoch) → List (Item Epoch)
 accepted items = carried same_epoch items
 
 event-stands : (types : List Count) (line : List ℕ) (o : Option ℕ) → records_in line ≡ o
-    → is_some o ≡ true → is_event_line line ≡ true → epoch_place types (Content line ∷ []) ≡ Here (EventLine line) 1
+    → is_some o ≡ true → is_event_line line ≡ true → epoch_place types (Content line ∷ [])
+    ≡ Here (EventLine line) 1
 event-stands types line None e h event = absurd (cc)
 event-stands types line (Some n) e h event =
     let both = and_parts (begins_epoch line) _ event in
@@ -83,8 +63,7 @@ stands before (Observation epoch) h =
     ∙ (h.0).0) (left-same same_epoch before h.1 ∙ (h.0).1)
     ∙ ap (λ types. epoch_place types lines) (types-same same_epoch before h.1)
     ∙ ap (epoch_place (types_in_force before)) (sym (append-nil lines))
-    ∙ epoch-back (types_in_force before) epoch [] (h.0).2
-    ∙ ap (λ n. Here (Observation epoch) n) counted
+    ∙ epoch-back (types_in_force before) epoch [] (h.0).2 ∙ ap (λ n. Here (Observation epoch) n) counted
 
 -- ---- where nothing is skipped, there are no warnings
 
@@ -94,7 +73,8 @@ none-at-end items number None = refl
 none-at-end items number (Some fault) = refl
 
 none-ended : (items : List (Item Epoch)) (stop : Stop)
-    → warnings_in (WholeReading.items (ended_reading false (record { items = items; stop = stop }))) ≡ warnings_in items
+    → warnings_in (WholeReading.items (ended_reading false (record { items = items; stop = stop })))
+    ≡ warnings_in items
 none-ended items (AtLines number lines) = none-at-end items (number + length lines) (fault_at_end items lines)
 none-ended items stop = refl
 
@@ -124,11 +104,6 @@ accepted-all (Warned at ∷ before) h = absurd (cc)
 abbrev IsShort : List ℕ → Type 0
 IsShort line = length line ≤ LINE_LIMIT
 
-append-short : (a b : List (List ℕ))
-    → AllByRecursion IsShort a → AllByRecursion IsShort b → AllByRecursion IsShort (a ++ b)
-append-short [] b h k = k
-append-short (line ∷ a) b h k = (h.0, append-short a b h.1 k)
-
 rows-short : (rows : List Row) → All IsSoundRow rows → AllByRecursion IsShort (map printed_row rows)
 rows-short [] h = tt
 rows-short (row ∷ rows) h =
@@ -144,7 +119,8 @@ epoch-short : (types : List Count) (epoch : Epoch)
     → IsWholeEpoch types epoch → AllByRecursion IsShort (printed_epoch epoch)
 epoch-short types epoch h =
     let all : length (epoch.head ++ clock_text epoch.clock) ≡ 56 = length-head
-    (record { head = epoch.head; count = satellites_of epoch.head; clock = epoch.clock }) h.sound.head_sound in
+    (record { head = epoch.head; count = satellites_of epoch.head; clock = epoch.clock })
+    h.sound.head_sound in
     let fewer : length (without_end_blanks (epoch.head ++ clock_text epoch.clock))
     ≤ length (epoch.head ++ clock_text epoch.clock) = few_kept (epoch.head ++ clock_text epoch.clock) in
     (omega (arith, all, fewer), rows-short epoch.rows h.sound.rows_sound)
@@ -152,11 +128,10 @@ epoch-short types epoch h =
 printed-short : (items : List (Item Epoch))
     → AreInPlace items → OfCopiedLines CanStand items → AllByRecursion IsShort (printed_items items)
 printed-short [] h k = tt
-printed-short (Accepted (Observation epoch) ∷ before) h k =
-    append-short (printed_items before)
+printed-short (Accepted (Observation epoch) ∷ before) h k = all-append IsShort (printed_items before)
     (printed_epoch epoch) (printed-short before h.1 k.1) (epoch-short (types_in_force before) epoch (h.0).2)
 printed-short (Accepted unit ∷ before) h k =
-    append-short (printed_items before) (printed_unit unit) (printed-short before h.1 k.1) ((k.0).1, tt)
+    all-append IsShort (printed_items before) (printed_unit unit) (printed-short before h.1 k.1) ((k.0).1, tt)
 printed-short (Warned at ∷ before) h k = printed-short before h.1 k
 
 both-clean : (lines : List (List ℕ))
@@ -173,11 +148,11 @@ both-clean (line ∷ lines) h k = (
 
 -- what was accepted, printed and read again
 pub printed-again : (items : List (Item Epoch)) → IsSettled items → HaveNoReturns items → whole_of
-    (lines_text (printed_items items)) ≡ record { items = carried (λ before epoch. epoch) items; fault = None }
-printed-again items h none =
-    ap (whole_rinex false) (lines-cut (printed_items items) (both-clean
-    (printed_items items) (printed-plain items h.in_place h.copied none) (printed-short items h.in_place h.copied)))
-    ∙ whole-again rinex_place same_epoch
+    (lines_text (printed_items items))
+    ≡ record { items = carried (λ before epoch. epoch) items; fault = None }
+printed-again items h none = ap (whole_rinex false) (lines-cut (printed_items items) (both-clean
+    (printed_items items) (printed-plain items h.in_place h.copied none)
+    (printed-short items h.in_place h.copied))) ∙ whole-again rinex_place same_epoch
     (λ before. printed_unit) rinex-forward stands false 1 items h.in_place h.header h.none
 
 -- ---- what was accepted, printed, is a standard file
@@ -192,14 +167,13 @@ pub settled-standard : (items : List (Item Epoch))
     → IsSettled items → HaveNoReturns items → IsStandard (lines_text (printed_items items))
 settled-standard items settled none =
     let again : whole_of (lines_text (printed_items items))
-    ≡ record { items = accepted items; fault = None } =
-    printed-again items settled none in
+    ≡ record { items = accepted items; fault = None } = printed-again items settled none in
     let cut : lines_of (lines_text (printed_items items)) ≡ map plain (printed_items items) =
     lines-plain (printed_items items) (printed-plain items settled.in_place settled.copied none) in
     record {
       good = ap (λ (w : WholeReading Epoch). w.fault) again;
       plain = ap (list_all (λ (line : InputLine). line.is_plain)) cut ∙ all-plain (printed_items items);
-      given_back = ap (map (λ (line : InputLine). line.content)) cut ∙ contents-plain (printed_items items)
+      given_back = ap (contents) cut ∙ contents-plain (printed_items items)
           ∙ sym (printed-carried items) ∙ sym (ap (λ (w : WholeReading Epoch). printed_items w.items) again);
     }
 

@@ -1,28 +1,19 @@
 -- The lines that a compaction wrote, read one unit after another; and what an input's lines give to the lines that are
 -- copied.
-use Rattle.std.proofs.Common.{ℕ, zero, suc, ◌+◌, Bool, cond, List, [], ◌∷◌, length, drop, Option}
-use Rattle.std.proofs.Common.{Some, None, Result, Ok, Err, subst}
-use Rattle.std.specs.List.{AllByRecursion}
-use Rattle.crx_faults.specs.meaning.Seen.{ReadLine, Content, Overlong}
-use Rattle.crx_faults.specs.declared.fault.Fault.{Fault}
-use Rattle.crx_rinex.specs.meaning.Observations.{Epoch}
-use Rattle.crx_rinex.specs.meaning.Places.{Place, Here, Wrong, Wanted, after_lines, then_place, one_line, first_line}
-use Rattle.crx_rinex.specs.meaning.Units.{Unit as FileUnit, HeaderLine, EventRecord, Observation}
-use Rattle.crx_rinex.specs.meaning.EpochLines.{HeadLine, EventHead, EpochHead, head_of}
-use Rattle.crx_header.specs.meaning.ObservationTypes.{Count}
-use Rattle.crx_rinex.specs.meaning.EpochPlaces.{opened, begun_by, rest_at, unit_begun, epoch_place}
-use Rattle.crx_reading.specs.meaning.Items.{Item, is_at_start}
-use Rattle.crx_reading.specs.meaning.Items.{records_count_types, types_in_force}
-use Rattle.crx_reading.specs.meaning.UnitPlaces.{unless_wrong, header_line_fault, types_fault, header_line}
-use Rattle.crx_reading.specs.meaning.UnitPlaces.{event_record}
-use Rattle.crx_reading.specs.meaning.Reading.{reading_from}
-use Rattle.crx_reading.specs.meaning.Written.{written_lines}
-use Rattle.crx_reading.specs.meaning.Compacted.{rinex_place}
-use Rattle.crx_reading.specs.meaning.WayBack.{OfCopiedLine, OfCopiedLines}
+use Rattle.crx_filter.proofs.Words.{ℕ, ◌+◌, Bool, cond, List, [], ◌∷◌, length, drop, Option, Some, None}
+use Rattle.crx_filter.proofs.Words.{Result, Ok, Err, subst, AllByRecursion, ReadLine, Content, Overlong}
+use Rattle.crx_filter.proofs.Words.{Fault, Epoch, Place, Here, Wrong, Wanted, after_lines, then_place}
+use Rattle.crx_filter.proofs.Words.{one_line, first_line, FileUnit, HeaderLine, EventRecord, Observation}
+use Rattle.crx_filter.proofs.Words.{HeadLine, EventHead, EpochHead, head_of, Count, opened, begun_by, rest_at}
+use Rattle.crx_filter.proofs.Words.{unit_begun, epoch_place, Item, is_at_start, records_count_types}
+use Rattle.crx_filter.proofs.Words.{types_in_force, unless_wrong, header_line_fault, types_fault, header_line}
+use Rattle.crx_filter.proofs.Words.{event_record, reading_from, written_lines, rinex_place, OfCopiedLine}
+use Rattle.crx_filter.proofs.Words.{OfCopiedLines}
 use Rattle.crx_filter.proofs.reading.WhatStands.{OfHere, of-unit}
 use Rattle.crx_filter.proofs.reading.KeptThroughout.{within-kept}
 use Rattle.crx_filter.proofs.wayback.Cut.{OfContent}
 use Rattle.crx_filter.proofs.wayback.Items.{body_unit}
+use Rattle.crx_filter.proofs.reading.Each.{all-drop}
 
 -- ---- the lines written for the units, read again
 
@@ -41,7 +32,8 @@ copied-header : (P : List ℕ → Type 0) (is_first : Bool) (lines : List ReadLi
     → AllByRecursion (OfContent P) lines → OfHere (OfCopiedLine P) (first_line lines (header_line is_first))
 copied-header P is_first [] h = tt
 copied-header P is_first (Overlong ∷ lines) h = tt
-copied-header P is_first (Content line ∷ lines) h = good-line P (HeaderLine line) (header_line_fault is_first line) h.0
+copied-header P is_first (Content line ∷ lines) h = good-line P (HeaderLine line)
+    (header_line_fault is_first line) h.0
 
 copied-record : (P : List ℕ → Type 0) (counts : Bool) (lines : List ReadLine)
     → AllByRecursion (OfContent P) lines → OfHere (OfCopiedLine P) (first_line lines (event_record counts))
@@ -62,26 +54,22 @@ copied-begun : (P : List ℕ → Type 0)
 copied-begun P types line (Err fault) lines h = tt
 copied-begun P types line (Ok (EventHead flag count)) lines h = h
 copied-begun P types line (Ok (EpochHead head count clock)) lines h = observed P
-    (rest_at (opened types (record { head = head; count = count; clock = clock })) (drop 1 lines)) (drop 1 lines)
+    (rest_at (opened types (record { head = head; count = count; clock = clock })) (drop 1 lines))
+    (drop 1 lines)
 
 copied-event : (P : List ℕ → Type 0) (types : List Count) (lines : List ReadLine)
     → AllByRecursion (OfContent P) lines → OfHere (OfCopiedLine P) (epoch_place types lines)
 copied-event P types [] h = tt
 copied-event P types (Overlong ∷ lines) h = tt
-copied-event P types (Content line ∷ lines) h = copied-begun P types line (head_of line) (Content line ∷ lines) h.0
+copied-event P types (Content line ∷ lines) h = copied-begun P types line (head_of line)
+    (Content line ∷ lines) h.0
 
 copied-unit : (P : List ℕ → Type 0) (items : List (Item Epoch)) (lines : List ReadLine)
     → AllByRecursion (OfContent P) lines → OfHere (OfCopiedLine P) (rinex_place items lines)
-copied-unit P items lines h =
-    of-unit (OfHere (OfCopiedLine P))
+copied-unit P items lines h = of-unit (OfHere (OfCopiedLine P))
     (λ (before : List (Item Epoch)). epoch_place (types_in_force before)) items lines
     (copied-header P (is_at_start items) lines h) (copied-record P (records_count_types items) lines h)
     (copied-event P (types_in_force items) lines h)
-
-pub all-drop : {X : Type 0} (P : X → Type 0) (n : ℕ) (xs : List X) → AllByRecursion P xs → AllByRecursion P (drop n xs)
-all-drop P zero xs h = h
-all-drop P (suc n) [] h = tt
-all-drop P (suc n) (x ∷ xs) h = all-drop P n xs h.1
 
 -- what holds of each line's content holds of each line that is copied
 pub items-copied : (P : List ℕ → Type 0) (skip : Bool) (lines : List ReadLine)
@@ -95,5 +83,4 @@ items-copied P skip lines all =
       );
       warned = λ items ls at on h. h;
       passed = λ items ls n h. (h.0, all-drop (OfContent P) n ls h.1);
-    })
-    (length lines + 1) [] 1 lines (tt, all)).1.0
+    }) (length lines + 1) [] 1 lines (tt, all)).1.0

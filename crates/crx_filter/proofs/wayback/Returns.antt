@@ -1,17 +1,11 @@
 -- The bytes 13 of a file on the way to compact text and back: they never become more, and fewer where a copied line
 -- ends in CR. So a file that comes back has no such line.
-use Rattle.std.proofs.Common.{ℕ, zero, suc, ◌≡◌, ◌+◌, ◌<◌, ◌≤◌, true, cond, List, [], ◌∷◌, ◌++◌, map}
-use Rattle.std.proofs.Common.{take, drop, refl, arith, append_assoc}
-use Rattle.std.specs.Prelude.{◌==◌}
-use Rattle.std.specs.List.{AllByRecursion, list_all}
-use Rattle.std.proofs.lemmas.Bool.{ne_eqb, and_parts}
-use Rattle.crx_faults.specs.meaning.Lines.{Piece, InputLine, pieces_of, onto_first, ends_with_return, without_return}
-use Rattle.crx_faults.specs.meaning.Lines.{line_of, lines_of, is_long}
-use Rattle.crx_lines.specs.Reading.{HasNoFeed}
-use Rattle.crx_faults.specs.meaning.Seen.{ReadLine, Content, Overlong, seen}
-use Rattle.crx_columns.specs.meaning.Texts.{is_printable}
+use Rattle.crx_filter.proofs.Words.{ℕ, zero, suc, ◌≡◌, ◌+◌, ◌<◌, ◌≤◌, true, cond, List, [], ◌∷◌, ◌++◌, map}
+use Rattle.crx_filter.proofs.Words.{take, drop, refl, arith, append_assoc, ◌==◌, AllByRecursion, list_all}
+use Rattle.crx_filter.proofs.Words.{ne_eqb, and_parts, Piece, InputLine, pieces_of, onto_first}
+use Rattle.crx_filter.proofs.Words.{ends_with_return, without_return, line_of, lines_of, is_long, HasNoFeed}
+use Rattle.crx_filter.proofs.Words.{ReadLine, Content, Overlong, seen, is_printable, lines_text}
 use Rattle.crx_lines.proofs.PieceLemmas.{pieces-first}
-use Rattle.crx_faults.specs.meaning.Lines.{lines_text}
 use Rattle.crx_reading.proofs.Choosing.{by_bool}
 use Rattle.crx_filter.proofs.wayback.First.{printable-other}
 
@@ -30,10 +24,12 @@ returns-append (x ∷ xs) ys = let rest : returns (xs ++ ys) ≡ returns xs + re
 pub returns-kept : (text : List ℕ) → returns (without_return text) ≤ returns text
 returns-kept [] = omega arith
 returns-kept (b ∷ []) = by_bool (b == 13) (λ on. rw on (omega arith)) (λ off. rw off (rw off (omega arith)))
-returns-kept (b ∷ c ∷ bs) = let rest : returns (without_return (c ∷ bs)) ≤ returns (c ∷ bs) = returns-kept (c ∷ bs) in
+returns-kept (b ∷ c ∷ bs) = let rest : returns (without_return (c ∷ bs)) ≤ returns (c ∷ bs) =
+    returns-kept (c ∷ bs) in
     omega (arith, rest)
 
-pub returns-fewer : (text : List ℕ) → ends_with_return text ≡ true → returns (without_return text) < returns text
+pub returns-fewer : (text : List ℕ) → ends_with_return text ≡ true → returns (without_return text)
+    < returns text
 returns-fewer [] e = absurd (cc)
 returns-fewer (b ∷ []) e = rw e (omega arith)
 returns-fewer (b ∷ c ∷ bs) e = let rest : returns (without_return (c ∷ bs)) < returns (c ∷ bs) =
@@ -136,7 +132,8 @@ returns_left (line ∷ lines) = returns (without_return line) + returns_left lin
 
 pub left-append : (xs ys : List (List ℕ)) → returns_left (xs ++ ys) ≡ returns_left xs + returns_left ys
 left-append [] ys = omega arith
-left-append (x ∷ xs) ys = let rest : returns_left (xs ++ ys) ≡ returns_left xs + returns_left ys = left-append xs ys in
+left-append (x ∷ xs) ys = let rest : returns_left (xs ++ ys) ≡ returns_left xs + returns_left ys =
+    left-append xs ys in
     omega (arith, rest)
 
 pub left-kept : (lines : List (List ℕ)) → returns_left lines ≤ returns_in lines
@@ -148,7 +145,8 @@ left-kept (line ∷ lines) =
 
 -- lines that are written and read again have lost one CR where one ended them
 pub read-written : (lines : List (List ℕ))
-    → AllByRecursion HasNoFeed lines → returns_read (map seen (lines_of (lines_text lines))) ≤ returns_left lines
+    → AllByRecursion HasNoFeed lines → returns_read (map seen (lines_of (lines_text lines)))
+    ≤ returns_left lines
 read-written [] h = omega arith
 read-written (line ∷ lines) h =
     let text : lines_text (line ∷ lines) ≡ line ++ 10 ∷ lines_text lines =

@@ -1,51 +1,36 @@
 -- A file comes back byte for byte only where no copied line ends in CR: else it comes back with fewer bytes 13. So it
 -- is standard.
-use Rattle.std.proofs.Common.{ℕ, ◌≡◌, ◌+◌, ◌<◌, ◌≤◌, Bool, true, false, List, [], ◌∷◌, ◌++◌, map}
-use Rattle.std.proofs.Common.{length, drop, Option, Some, None, refl, ap, sym, ◌∙◌, arith, ◌⊎◌, inl, inr}
-use Rattle.std.specs.List.{AllByRecursion, list_all}
-use Rattle.crx_lines.specs.Reading.{HasNoFeed}
-use Rattle.crx_faults.specs.meaning.Lines.{ends_with_return, without_return, lines_of}
-use Rattle.crx_faults.specs.meaning.Seen.{ReadLine, seen}
-use Rattle.crx_columns.specs.meaning.Texts.{is_printable}
-use Rattle.crx_faults.specs.declared.fault.Fault.{Fault}
-use Rattle.crx_rinex.specs.meaning.Observations.{Epoch}
-use Rattle.crx_rinex.specs.meaning.Printing.{printed_epoch}
-use Rattle.crx_faults.specs.meaning.Lines.{lines_text}
-use Rattle.crx_rinex.specs.meaning.Units.{HeaderLine, EventLine, EventRecord, Observation}
-use Rattle.crx_compact.specs.meaning.CompactPlaces.{ReadEpoch}
-use Rattle.crx_compact.specs.meaning.Compaction.{compact_epoch}
-use Rattle.crx_compact.specs.Laws.{LinesCanStand}
-use Rattle.crx_compact.specs.ReadingLaws.{IsGood}
-use Rattle.crx_options.specs.meaning.Choices.{Choices, is_date}
-use Rattle.crx_reading.specs.meaning.Items.{Item, Accepted, Warned, types_in_force}
-use Rattle.crx_reading.specs.meaning.Reading.{WholeReading, Stop, AtLines, is_skipped, reading_from}
-use Rattle.crx_reading.specs.meaning.Reading.{fault_at_end, ended_with, ended_reading}
-use Rattle.crx_runs.specs.meaning.Results.{FilterResult}
-use Rattle.crx_reading.specs.meaning.Compacted.{marked_epochs, compact_lines, compacted}
-use Rattle.crx_header.specs.meaning.CompactHeader.{version_line, program_line}
-use Rattle.crx_reading.specs.meaning.Expanded.{compact_place, first_lines, whole_compact}
-use Rattle.crx_reading.specs.meaning.Expanded.{expanded, expanded_unit}
-use Rattle.crx_filter.specs.Expanded.{expanded_lines}
-use Rattle.crx_reading.specs.meaning.Standard.{whole_of}
-use Rattle.crx_filter.specs.Laws.{AreInPlace}
-use Rattle.crx_reading.specs.meaning.WayBack.{OfCopiedLines, HaveNoReturns}
+use Rattle.crx_filter.proofs.Words.{ℕ, ◌≡◌, ◌+◌, ◌<◌, ◌≤◌, Bool, true, false, List, [], ◌∷◌, ◌++◌, map}
+use Rattle.crx_filter.proofs.Words.{length, drop, Option, Some, None, refl, ap, sym, ◌∙◌, arith, ◌⊎◌, inl}
+use Rattle.crx_filter.proofs.Words.{inr, AllByRecursion, list_all, HasNoFeed, ends_with_return}
+use Rattle.crx_filter.proofs.Words.{without_return, lines_of, ReadLine, seen, is_printable, Fault, Epoch}
+use Rattle.crx_filter.proofs.Words.{printed_epoch, lines_text, HeaderLine, EventLine, EventRecord}
+use Rattle.crx_filter.proofs.Words.{Observation, ReadEpoch, compact_epoch, LinesCanStand, IsGood, Choices}
+use Rattle.crx_filter.proofs.Words.{is_date, Item, Accepted, Warned, types_in_force, WholeReading, Stop}
+use Rattle.crx_filter.proofs.Words.{AtLines, is_skipped, reading_from, fault_at_end, ended_with}
+use Rattle.crx_filter.proofs.Words.{ended_reading, FilterResult, marked_epochs, compact_lines, compacted}
+use Rattle.crx_filter.proofs.Words.{version_line, program_line, compact_place, first_lines, whole_compact}
+use Rattle.crx_filter.proofs.Words.{expanded, expanded_unit, expanded_lines, whole_of, AreInPlace}
+use Rattle.crx_filter.proofs.Words.{OfCopiedLines, HaveNoReturns}
 use Rattle.crx_filter.specs.WayBack.{IsStandardWhereSame}
 use Rattle.crx_reading.proofs.Choosing.{by_bool}
-use Rattle.crx_filter.proofs.reading.WhatStands.{by_first}
 use Rattle.crx_filter.proofs.reading.WhatWasRead.{items-read}
 use Rattle.crx_filter.proofs.wayback.Carried.{started}
 use Rattle.crx_filter.proofs.wayback.WayBack.{IsSettled, whole-settled, lines-same}
 use Rattle.crx_filter.proofs.wayback.Cut.{IsClean, CanStand}
-use Rattle.crx_filter.proofs.wayback.First.{program-printable, program-clean, version-clean, printable-no_feed}
+use Rattle.crx_filter.proofs.wayback.First.{program-printable, program-clean, version-clean}
+use Rattle.crx_filter.proofs.wayback.First.{printable-no_feed}
 use Rattle.crx_filter.proofs.wayback.Items.{marked_now, epoch-stands}
 use Rattle.crx_filter.proofs.wayback.Reading.{lines_back}
 use Rattle.crx_filter.proofs.wayback.Standard.{same-reading}
 use Rattle.crx_filter.proofs.wayback.Converse.{epoch-printable, standard-where_kept}
 use Rattle.crx_filter.proofs.wayback.ExpandedWhole.{AreGoodEpochs, epochs-good}
-use Rattle.crx_filter.proofs.wayback.Returns.{returns, returns-kept, returns-fewer, returns_in, in-append, in-text}
-use Rattle.crx_filter.proofs.wayback.Returns.{in-printable, returns_read, returns_left, left-append, left-kept}
-use Rattle.crx_filter.proofs.wayback.Returns.{read-written, read-input}
+use Rattle.crx_filter.proofs.wayback.Returns.{returns, returns-kept, returns-fewer, returns_in, in-append}
+use Rattle.crx_filter.proofs.wayback.Returns.{in-text, in-printable, returns_read, returns_left, left-append}
+use Rattle.crx_filter.proofs.wayback.Returns.{left-kept, read-written, read-input}
 use Rattle.crx_filter.proofs.wayback.ReturnsRead.{returns_copied, rinex-within, compact-within}
+use Rattle.crx_filter.proofs.reading.Each.{all-append}
+use Rattle.crx_filter.proofs.reading.Resuming.{by_place}
 
 -- ---- what an expansion writes
 
@@ -53,7 +38,8 @@ written-returns : (items : List (Item ReadEpoch))
     → AreGoodEpochs items → returns_in (expanded_lines items) ≡ returns_copied items
 written-returns [] h = refl
 written-returns (Accepted (Observation read) ∷ before) h =
-    let all : returns_in (expanded_lines before ++ printed_epoch read.epoch) ≡ returns_in (expanded_lines before)
+    let all : returns_in (expanded_lines before ++ printed_epoch read.epoch)
+    ≡ returns_in (expanded_lines before)
     + returns_in (printed_epoch read.epoch) = in-append (expanded_lines before) (printed_epoch read.epoch) in
     let none : returns_in (printed_epoch read.epoch) ≡ 0 = in-printable
     (printed_epoch read.epoch) (epoch-printable (types_in_force before) read.epoch (IsGood.whole h.0)) in
@@ -79,8 +65,9 @@ ended-good skip items (AtLines number lines) h =
     end-good skip items (number + length lines) (fault_at_end items lines) h
 ended-good skip items stop h = h
 
-pub whole-good : (skip : Bool) (lines : List ReadLine) → AreGoodEpochs (WholeReading.items (whole_compact skip lines))
-whole-good skip lines = by_first (first_lines lines)
+pub whole-good : (skip : Bool) (lines : List ReadLine) → AreGoodEpochs
+    (WholeReading.items (whole_compact skip lines))
+whole-good skip lines = by_place (first_lines lines)
     (λ two count e.
     let r = reading_from compact_place skip [] (count + 1) (drop count lines) in
     rw (e, whole_compact) (ended-good skip r.items r.stop
@@ -92,7 +79,8 @@ whole-good skip lines = by_first (first_lines lines)
 expanded-returns : (text : List ℕ) (choices : Choices)
     → returns (FilterResult.output (expanded text choices)) ≤ returns_read (map seen (lines_of text))
 expanded-returns text choices =
-    let items : List (Item ReadEpoch) = WholeReading.items (whole_compact choices.skip (map seen (lines_of text))) in
+    let items : List (Item ReadEpoch) = WholeReading.items
+    (whole_compact choices.skip (map seen (lines_of text))) in
     let one : returns (lines_text (expanded_lines items)) ≡ returns_in (expanded_lines items) =
     in-text (expanded_lines items) in
     let two : returns_in (expanded_lines items) ≡ returns_copied items =
@@ -146,15 +134,11 @@ keeps-or_loses (Accepted (Observation epoch) ∷ before) =
     elim (keeps-or_loses before) [ inl none ↦ inl (tt, none) | inr less ↦ inr (omega (arith, less)) ]
 keeps-or_loses (Warned at ∷ before) = keeps-or_loses before
 
-printable-lines : (lines : List (List ℕ))
-    → AllByRecursion (λ (line : List ℕ). list_all is_printable line ≡ true) lines → AllByRecursion HasNoFeed lines
+pub printable-lines : (lines : List (List ℕ))
+    → AllByRecursion (λ (line : List ℕ). list_all is_printable line ≡ true) lines
+    → AllByRecursion HasNoFeed lines
 printable-lines [] h = tt
 printable-lines (line ∷ lines) h = (printable-no_feed line h.0, printable-lines lines h.1)
-
-append-no_feed : (a b : List (List ℕ))
-    → AllByRecursion HasNoFeed a → AllByRecursion HasNoFeed b → AllByRecursion HasNoFeed (a ++ b)
-append-no_feed [] b h k = k
-append-no_feed (line ∷ a) b h k = (h.0, append-no_feed a b h.1 k)
 
 -- the lines of compact text after its first two
 record AreBack (lines : List (List ℕ)) (n : ℕ) : Type 0 where
@@ -167,17 +151,18 @@ copied-back lines line n h b =
     let all : returns_left (lines ++ line ∷ []) ≡ returns_left lines + returns_left (line ∷ []) =
     left-append lines (line ∷ []) in
     let rest = b.left in
-    record { no_feed = append-no_feed lines (line ∷ []) b.no_feed (h, tt); left = omega (arith, all, rest) }
+    record { no_feed = all-append HasNoFeed lines (line ∷ []) b.no_feed (h, tt); left = omega (arith, all, rest) }
 
 epoch-back : (lines more : List (List ℕ)) (n : ℕ) → AllByRecursion
     (λ (line : List ℕ). list_all is_printable line ≡ true) more → AreBack lines n → AreBack (lines ++ more) n
 epoch-back lines more n h b =
-    let all : returns_left (lines ++ more) ≡ returns_left lines + returns_left more = left-append lines more in
+    let all : returns_left (lines ++ more) ≡ returns_left lines + returns_left more =
+    left-append lines more in
     let kept : returns_left more ≤ returns_in more = left-kept more in
     let none : returns_in more ≡ 0 = in-printable more h in
     let rest = b.left in
     record {
-      no_feed = append-no_feed lines more b.no_feed (printable-lines more h);
+      no_feed = all-append HasNoFeed lines more b.no_feed (printable-lines more h);
       left = omega (arith, all, kept, none, rest);
     }
 
@@ -190,8 +175,7 @@ lines-back every (Accepted (EventLine line) ∷ before) h k =
     copied-back (lines_back every before) line (left_copied before) (k.0).0 (lines-back every before h.1 k.1)
 lines-back every (Accepted (EventRecord line) ∷ before) h k =
     copied-back (lines_back every before) line (left_copied before) (k.0).0 (lines-back every before h.1 k.1)
-lines-back every (Accepted (Observation epoch) ∷ before) h k =
-    epoch-back (lines_back every before)
+lines-back every (Accepted (Observation epoch) ∷ before) h k = epoch-back (lines_back every before)
     (compact_epoch (marked_now every before epoch ∷ marked_epochs every before)) (left_copied before)
     (LinesCanStand.printable (epoch-stands every before epoch h)) (lines-back every before h.1 k.1)
 lines-back every (Warned at ∷ before) h k = lines-back every before h.1 k
@@ -203,18 +187,19 @@ first-none line h =
     omega (arith, kept, none)
 
 -- compact text is read with no more of them than are left
-compacted-returns : (choices : Choices) (items : List (Item Epoch)) → is_date choices.date ≡ true → IsSettled items
+compacted-returns : (choices : Choices) (items : List (Item Epoch)) → is_date choices.date ≡ true
+    → IsSettled items
     → returns_read (map seen (lines_of (lines_text (compact_lines choices items)))) ≤ left_copied items
 compacted-returns choices items dated h =
     let back : AreBack (lines_back choices.every items) (left_copied items) =
     lines-back choices.every items h.in_place h.copied in
     let lines : List (List ℕ) = version_line ∷ program_line choices.date ∷ lines_back choices.every items in
-    let same : compact_lines choices items ≡ lines = lines-same choices items h.in_place (started items h.header) in
+    let same : compact_lines choices items ≡ lines = lines-same choices items h.in_place
+    (started items h.header) in
     let one : returns_left (version_line ∷ []) ≡ 0 = first-none version_line refl in
     let two : returns_left (program_line choices.date ∷ []) ≡ 0 =
     first-none (program_line choices.date) (program-printable choices.date dated) in
-    let read : returns_read (map seen (lines_of (lines_text lines))) ≤ returns_left lines =
-    read-written lines
+    let read : returns_read (map seen (lines_of (lines_text lines))) ≤ returns_left lines = read-written lines
     (IsClean.one_line version-clean, (IsClean.one_line (program-clean choices.date dated), back.no_feed)) in
     let rest : returns_left (lines_back choices.every items) ≤ left_copied items = back.left in
     rw same (omega (arith, one, two, read, rest))
@@ -236,12 +221,13 @@ standard-where_same input compacting expanding dated good same =
       | inr less ↦
           let back : FilterResult.output (expanded text expanding) ≡ input =
           ap (λ t. FilterResult.output (expanded t expanding)) (sym written) ∙ same in
-          let one : returns (FilterResult.output (expanded text expanding)) ≤ returns_read (map seen (lines_of text)) =
-          expanded-returns text expanding in
+          let one : returns (FilterResult.output (expanded text expanding))
+          ≤ returns_read (map seen (lines_of text)) = expanded-returns text expanding in
           let two : returns_read (map seen (lines_of text)) ≤ left_copied items =
           compacted-returns compacting items dated h in
           let three : returns_copied items ≤ returns_read lines = rinex-within false lines in
           let four : returns_read lines ≤ returns input = read-input input in
-          let five : returns (FilterResult.output (expanded text expanding)) ≡ returns input = ap returns back in
+          let five : returns (FilterResult.output (expanded text expanding)) ≡ returns input =
+          ap returns back in
           absurd (omega (arith, less, one, two, three, four, five))
     ]

@@ -1,33 +1,21 @@
 -- The bytes 13 of the lines that are copied are those of the lines that were read.
-use Rattle.std.proofs.Common.{ℕ, ◌≡◌, ◌+◌, ◌≤◌, Bool, cond, List, [], ◌∷◌, length, take}
-use Rattle.std.proofs.Common.{drop, Option, Some, None, Result, Ok, Err, refl, arith, subst}
-use Rattle.std.specs.Prelude.{⊤}
-use Rattle.crx_faults.specs.meaning.Seen.{ReadLine, Content, Overlong}
-use Rattle.crx_faults.specs.declared.fault.Fault.{Fault}
-use Rattle.crx_rinex.specs.meaning.Observations.{Epoch}
-use Rattle.crx_header.specs.meaning.ObservationTypes.{Count}
-use Rattle.crx_rinex.specs.meaning.EpochLines.{HeadLine, EventHead, EpochHead, head_of}
-use Rattle.crx_rinex.specs.meaning.EpochPlaces.{opened, begun_by, rest_at, unit_begun, epoch_place}
-use Rattle.crx_rinex.specs.meaning.Places.{Place, Here, Wrong, Wanted, after_lines, then_place, one_line, first_line}
-use Rattle.crx_rinex.specs.meaning.Units.{Unit as FileUnit, HeaderLine, EventLine, EventRecord, Observation}
-use Rattle.crx_compact.specs.meaning.Expansion.{RawEpoch}
-use Rattle.crx_compact.specs.meaning.CompactPlaces.{ReadEpoch, epoch_at}
-use Rattle.crx_reading.specs.meaning.Items.{Item, Accepted, Warned, is_at_start}
-use Rattle.crx_reading.specs.meaning.Items.{records_count_types, types_in_force}
-use Rattle.crx_reading.specs.meaning.UnitPlaces.{unless_wrong, types_fault, header_line_fault, header_line}
-use Rattle.crx_reading.specs.meaning.UnitPlaces.{event_record}
-use Rattle.crx_reading.specs.meaning.UnitPlaces.{unit_place}
-use Rattle.crx_reading.specs.meaning.Reading.{Reading, WholeReading, Stop, AtFault, AtLines, Looking, is_skipped}
-use Rattle.crx_reading.specs.meaning.Reading.{reading_from, fault_at_end}
-use Rattle.crx_reading.specs.meaning.Reading.{ended_with, ended_reading}
-use Rattle.crx_reading.specs.meaning.Compacted.{rinex_place, whole_rinex}
-use Rattle.crx_reading.specs.meaning.Expanded.{raws_kept, as_observation, compact_epoch_place}
-use Rattle.crx_reading.specs.meaning.Expanded.{compact_place}
-use Rattle.crx_reading.specs.meaning.Expanded.{first_lines, whole_compact}
+use Rattle.crx_filter.proofs.Words.{ℕ, ◌≡◌, ◌+◌, ◌≤◌, Bool, cond, List, [], ◌∷◌, length, take, drop, Option}
+use Rattle.crx_filter.proofs.Words.{Some, None, Result, Ok, Err, refl, arith, subst, ⊤, ReadLine, Content}
+use Rattle.crx_filter.proofs.Words.{Overlong, Fault, Epoch, Count, HeadLine, EventHead, EpochHead, head_of}
+use Rattle.crx_filter.proofs.Words.{opened, begun_by, rest_at, unit_begun, epoch_place, Place, Here, Wrong}
+use Rattle.crx_filter.proofs.Words.{Wanted, after_lines, then_place, one_line, first_line, FileUnit}
+use Rattle.crx_filter.proofs.Words.{HeaderLine, EventLine, EventRecord, Observation, RawEpoch, ReadEpoch}
+use Rattle.crx_filter.proofs.Words.{epoch_at, Item, Accepted, Warned, is_at_start, records_count_types}
+use Rattle.crx_filter.proofs.Words.{types_in_force, unless_wrong, types_fault, header_line_fault, header_line}
+use Rattle.crx_filter.proofs.Words.{event_record, unit_place, Reading, WholeReading, Stop, AtFault, AtLines}
+use Rattle.crx_filter.proofs.Words.{Looking, is_skipped, reading_from, fault_at_end, ended_with}
+use Rattle.crx_filter.proofs.Words.{ended_reading, rinex_place, whole_rinex, raws_kept, as_observation}
+use Rattle.crx_filter.proofs.Words.{compact_epoch_place, compact_place, first_lines, whole_compact}
 use Rattle.crx_reading.proofs.Choosing.{by_bool}
-use Rattle.crx_filter.proofs.reading.WhatStands.{by_first, of-unit, of-compact}
+use Rattle.crx_filter.proofs.reading.WhatStands.{of-unit, of-compact}
 use Rattle.crx_filter.proofs.reading.KeptThroughout.{within-kept}
 use Rattle.crx_filter.proofs.wayback.Returns.{returns, returns_read, read-cut}
+use Rattle.crx_filter.proofs.reading.Resuming.{by_place}
 
 -- ---- of items
 
@@ -86,12 +74,14 @@ observed-of all lines (Here epoch count) = omega arith
 observed-of all lines (Wrong offset fault) = tt
 observed-of all lines Wanted = tt
 
-begun-of : (types : List Count) (line : List ℕ) (lines : List ReadLine) (r : Result HeadLine Fault) → IsOfLines
+begun-of : (types : List Count) (line : List ℕ) (lines : List ReadLine) (r : Result HeadLine Fault)
+    → IsOfLines
     (Content line ∷ lines) (then_place (one_line (begun_by line r)) (Content line ∷ lines) (unit_begun types))
 begun-of types line lines (Err fault) = tt
 begun-of types line lines (Ok (EventHead flag count)) = omega arith
 begun-of types line lines (Ok (EpochHead head count clock)) = observed-of
-    (Content line ∷ lines) lines (rest_at (opened types (record { head = head; count = count; clock = clock })) lines)
+    (Content line ∷ lines) lines (rest_at (opened types (record
+    { head = head; count = count; clock = clock })) lines)
 
 epoch-lines : (types : List Count) (lines : List ReadLine) → IsOfLines lines (epoch_place types lines)
 epoch-lines types [] = tt
@@ -99,7 +89,8 @@ epoch-lines types (Overlong ∷ lines) = tt
 epoch-lines types (Content line ∷ lines) = begun-of types line lines (head_of line)
 
 rinex-lines : (items : List (Item Epoch)) (lines : List ReadLine) → IsOfLines lines (rinex_place items lines)
-rinex-lines items lines = unit-lines Epoch (λ (before : List (Item Epoch)). epoch_place (types_in_force before))
+rinex-lines items lines = unit-lines Epoch (λ (before : List (Item Epoch)). epoch_place
+    (types_in_force before))
     (λ before ls. epoch-lines (types_in_force before) ls) items lines
 
 -- in compact text
@@ -114,7 +105,8 @@ compact-begun : (types : List Count) (raws : List RawEpoch) (lines : List ReadLi
 compact-begun types raws lines = of-compact (IsOfLines lines) types raws lines tt tt
     (λ line rest e. rw e (omega arith)) (read-of lines (epoch_at types raws lines))
 
-compact-lines : (items : List (Item ReadEpoch)) (lines : List ReadLine) → IsOfLines lines (compact_place items lines)
+compact-lines : (items : List (Item ReadEpoch)) (lines : List ReadLine)
+    → IsOfLines lines (compact_place items lines)
 compact-lines items lines = unit-lines ReadEpoch
     (λ (before : List (Item ReadEpoch)). compact_epoch_place (types_in_force before) (raws_kept before))
     (λ before ls. compact-begun (types_in_force before) (raws_kept before) ls) items lines
@@ -150,7 +142,8 @@ end-same skip items number (Some fault) =
 ended-same : {E : Type 0} (skip : Bool) (items : List (Item E)) (stop : Stop) → returns_copied
     (WholeReading.items (ended_reading skip (record { items = items; stop = stop }))) ≡ returns_copied items
 ended-same skip items (AtFault at) = refl
-ended-same skip items (AtLines number lines) = end-same skip items (number + length lines) (fault_at_end items lines)
+ended-same skip items (AtLines number lines) = end-same skip items (number + length lines)
+    (fault_at_end items lines)
 ended-same skip items (Looking number) = refl
 
 whole-within : {E : Type 0} (place : List (Item E) → List ReadLine → Place (FileUnit E))
@@ -170,7 +163,7 @@ rinex-within skip lines = whole-within rinex_place rinex-lines skip 1 lines
 
 pub compact-within : (skip : Bool) (lines : List ReadLine)
     → returns_copied (WholeReading.items (whole_compact skip lines)) ≤ returns_read lines
-compact-within skip lines = by_first (first_lines lines)
+compact-within skip lines = by_place (first_lines lines)
     (λ two count e.
     let rest = whole-within compact_place compact-lines skip (count + 1) (drop count lines) in
     let cut = read-cut count lines in

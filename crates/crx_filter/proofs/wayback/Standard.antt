@@ -1,50 +1,36 @@
 -- A standard file comes back byte for byte: nothing of it is skipped, no line of it ends in CR, and printing gives back
 -- its lines.
-use Rattle.std.proofs.Common.{ℕ, zero, suc, ◌≡◌, ◌≢◌, ◌+◌, Bool, true, false, cond, ◌⊎◌, inl, inr, List, [], ◌∷◌, map}
-use Rattle.std.proofs.Common.{length, drop, Option, Some, None, refl, ap, sym, ◌∙◌, subst}
-use Rattle.std.specs.Prelude.{◌==◌}
-use Rattle.std.specs.List.{AllByRecursion, list_all}
-use Rattle.std.proofs.lemmas.Bool.Decides.{eqb_tells}
-use Rattle.std.proofs.lemmas.Bool.{and_parts}
-use Rattle.crx_faults.specs.meaning.Lines.{Piece, InputLine, pieces_of, onto_first, ends_with_return, without_return}
-use Rattle.crx_faults.specs.meaning.Lines.{line_of, lines_of, is_long}
+use Rattle.crx_filter.proofs.Words.{ℕ, zero, suc, ◌≡◌, ◌≢◌, ◌+◌, Bool, true, false, cond, ◌⊎◌, inl, inr, List}
+use Rattle.crx_filter.proofs.Words.{[], ◌∷◌, map, length, drop, Option, Some, None, refl, ap, sym, ◌∙◌, subst}
+use Rattle.crx_filter.proofs.Words.{◌==◌, AllByRecursion, list_all, eqb_tells, and_parts, Piece, InputLine}
+use Rattle.crx_filter.proofs.Words.{pieces_of, onto_first, ends_with_return, without_return, line_of}
+use Rattle.crx_filter.proofs.Words.{lines_of, is_long, ReadLine, seen, Fault, At, Epoch, Place, FileUnit}
+use Rattle.crx_filter.proofs.Words.{Choices, Item, Accepted, Reading, WholeReading, Stop, AtLines, is_skipped}
+use Rattle.crx_filter.proofs.Words.{after_fault, reading_within, fault_at_end, ended_with, ended_reading}
+use Rattle.crx_filter.proofs.Words.{lines_text, rinex_place, whole_rinex, rinex_reading, printed_items}
+use Rattle.crx_filter.proofs.Words.{whole_of, OfCopiedLines, HaveNoReturns, written_well, not-true}
 use Rattle.crx_lines.proofs.PieceLemmas.{EachEnded}
-use Rattle.crx_faults.specs.meaning.Seen.{ReadLine, seen}
-use Rattle.crx_faults.specs.declared.fault.Fault.{Fault}
-use Rattle.crx_faults.specs.declared.fault.At.{At}
-use Rattle.crx_rinex.specs.meaning.Observations.{Epoch}
-use Rattle.crx_rinex.specs.meaning.Places.{Place}
-use Rattle.crx_rinex.specs.meaning.Units.{Unit as FileUnit}
-use Rattle.crx_options.specs.meaning.Choices.{Choices}
-use Rattle.crx_reading.specs.meaning.Items.{Item, Accepted}
-use Rattle.crx_reading.specs.meaning.Reading.{Reading, WholeReading, Stop, AtLines, is_skipped}
-use Rattle.crx_reading.specs.meaning.Reading.{after_fault, reading_within, fault_at_end}
-use Rattle.crx_reading.specs.meaning.Reading.{ended_with, ended_reading}
-use Rattle.crx_faults.specs.meaning.Lines.{lines_text}
-use Rattle.crx_reading.specs.meaning.Compacted.{rinex_place, whole_rinex}
-use Rattle.crx_reading.specs.meaning.Directions.{rinex_reading}
-use Rattle.crx_reading.specs.meaning.Standard.{printed_items, whole_of}
-use Rattle.crx_reading.specs.meaning.WayBack.{OfCopiedLines, HaveNoReturns, written_well}
 use Rattle.crx_reading.proofs.Choosing.{by_bool}
 use Rattle.crx_filter.specs.WayBack.{NormalFormComesBack, StandardComesBack}
 use Rattle.crx_filter.proofs.reading.Resuming.{by_place}
 use Rattle.crx_filter.proofs.wayback.Cut.{OfContent, return-kept}
 use Rattle.crx_filter.proofs.wayback.Reading.{items-copied}
 use Rattle.crx_filter.proofs.wayback.WayBack.{comes-back}
-use Rattle.std.proofs.lemmas.Bool.{not-true}
 
 -- ---- where nothing is wrong, nothing is skipped
 
 pub not-ended : {X : Type 0} (at : At) → ◌≡◌ {A = Option At} (Some at) None → X
 not-ended at e = absurd (cc)
 
-ended-same : {E : Type 0} (skip : Bool) (items : List (Item E)) (number : ℕ) (o : Option Fault) → WholeReading.fault
-    (ended_with false items number o) ≡ None → ended_with skip items number o ≡ ended_with false items number o
+ended-same : {E : Type 0} (skip : Bool) (items : List (Item E)) (number : ℕ) (o : Option Fault)
+    → WholeReading.fault (ended_with false items number o) ≡ None → ended_with skip items number o
+    ≡ ended_with false items number o
 ended-same skip items number None f = refl
 ended-same skip items number (Some fault) f = not-ended (record { line = number; fault = fault }) f
 
 within-same : {E : Type 0} (place : List (Item E) → List ReadLine
-    → Place (FileUnit E)) (skip : Bool) (units : ℕ) (items : List (Item E)) (number : ℕ) (lines : List ReadLine)
+    → Place (FileUnit E)) (skip : Bool) (units : ℕ) (items : List (Item E)) (number : ℕ)
+    (lines : List ReadLine)
     → WholeReading.fault (ended_reading false (reading_within place false units items number lines)) ≡ None
     → ended_reading skip (reading_within place skip units items number lines)
     ≡ ended_reading false (reading_within place false units items number lines)
@@ -68,11 +54,13 @@ same-reading skip lines f = within-same rinex_place skip (length lines + 1) [] 1
 
 -- ---- no line ends in CR
 
-ended-copied : (P : List ℕ → Type 0) (skip : Bool) (items : List (Item Epoch)) (stop : Stop) → OfCopiedLines P items
+ended-copied : (P : List ℕ → Type 0) (skip : Bool) (items : List (Item Epoch)) (stop : Stop)
+    → OfCopiedLines P items
     → OfCopiedLines P (WholeReading.items (ended_reading skip (record { items = items; stop = stop })))
 ended-copied P skip items (AtLines number lines) h = at-end (fault_at_end items lines)
   where
-    at-end : (o : Option Fault) → OfCopiedLines P (WholeReading.items (ended_with skip items (number + length lines) o))
+    at-end : (o : Option Fault) → OfCopiedLines P (WholeReading.items
+        (ended_with skip items (number + length lines) o))
     at-end None = h
     at-end (Some fault) = by_bool (is_skipped skip items fault) (λ on. rw on h) (λ off. rw off h)
 ended-copied P skip items stop h = h
@@ -105,8 +93,8 @@ plain-parts p ps e =
 seen-no_return : (l : InputLine) → NoReturn l.content → OfContent NoReturn (seen l)
 seen-no_return l h = by_bool (is_long l) (λ on. rw on tt) (λ off. rw off h)
 
-pub plain-no_return : (ps : List Piece) → list_all (λ (line : InputLine). line.is_plain) (map line_of ps) ≡ true
-    → AllByRecursion (OfContent NoReturn) (map seen (map line_of ps))
+pub plain-no_return : (ps : List Piece) → list_all (λ (line : InputLine). line.is_plain)
+    (map line_of ps) ≡ true → AllByRecursion (OfContent NoReturn) (map seen (map line_of ps))
 plain-no_return [] e = tt
 plain-no_return (p ∷ ps) e =
     let plain = plain-parts p ps e in
@@ -121,7 +109,8 @@ onto-text : (b : ℕ) (bs : List ℕ) (ps : List Piece)
 onto-text b bs [] e h = let never = e.0 in absurd (cc)
 onto-text b bs (p ∷ ps) e h = ap (λ t. b ∷ t) (h e)
 
-byte-text : (b : ℕ) (bs : List ℕ) (ps : List Piece) → (EachEnded ps → lines_text (map (λ (p : Piece). p.bytes) ps) ≡ bs)
+byte-text : (b : ℕ) (bs : List ℕ) (ps : List Piece) → (EachEnded ps
+    → lines_text (map (λ (p : Piece). p.bytes) ps) ≡ bs)
     → ((b == 10) ≡ true) × (b ≡ 10) ⊎ ((b == 10) ≡ false) × (b ≢ 10)
     → EachEnded (cond (b == 10) (record { bytes = []; is_ended = true } ∷ ps) (onto_first b ps))
     → lines_text (map (λ (p : Piece). p.bytes)
@@ -167,7 +156,8 @@ pub standard-comes_back : (input : List ℕ) (compacting expanding : Choices)
     → StandardComesBack input compacting expanding
 standard-comes_back input compacting expanding dated standard =
     let none : HaveNoReturns (WholeReading.items (whole_of input)) =
-    whole-copied NoReturn false (map seen (lines_of input)) (plain-no_return (pieces_of input) standard.plain) in
+    whole-copied NoReturn false (map seen (lines_of input))
+    (plain-no_return (pieces_of input) standard.plain) in
     normal-comes_back input compacting expanding dated standard.good none
     ∙ ap (λ ls. written_well (lines_text ls)) (sym standard.given_back)
     ∙ ap written_well (plain-text input standard.plain)

@@ -1,25 +1,14 @@
 -- The two texts of units that make a file; and each standard file is such a text.
-use Rattle.std.proofs.Common.{ℕ, ◌≡◌, true, false, List, [], ◌∷◌, ◌++◌, map, Option, None, refl, ap, sym, ◌∙◌, subst}
-use Rattle.std.specs.Prelude.{reverse}
-use Rattle.crx_faults.specs.meaning.Lines.{pieces_of, lines_of, lines_text}
-use Rattle.crx_faults.specs.meaning.Seen.{seen}
-use Rattle.crx_faults.specs.declared.fault.At.{At}
-use Rattle.crx_rinex.specs.meaning.Observations.{Epoch}
-use Rattle.crx_rinex.specs.meaning.Units.{Unit as FileUnit, HeaderLine, EventLine, EventRecord, Observation}
-use Rattle.crx_options.specs.meaning.Choices.{Choices}
-use Rattle.crx_reading.specs.meaning.Compacted.{compact_lines, compact_unit, compacted, whole_rinex}
-use Rattle.crx_reading.specs.meaning.Items.{Item, Accepted, Warned}
-use Rattle.crx_reading.specs.meaning.Reading.{WholeReading}
-use Rattle.crx_reading.specs.meaning.Standard.{printed_items, whole_of, IsStandard}
-use Rattle.crx_reading.specs.meaning.WayBack.{OfCopiedLine, OfCopiedLines, HaveNoReturns, written_well}
-use Rattle.crx_reading.specs.meaning.Written.{warnings_in, result_of}
-use Rattle.crx_reading.specs.meaning.Expanded.{expanded}
-use Rattle.crx_runs.specs.meaning.Results.{result_of_course}
-use Rattle.crx_runs.specs.meaning.Runs.{IsResult}
-use Rattle.crx_runs.specs.meaning.Spans.{Device}
-use Rattle.crx_filter.specs.Laws.{AreInPlace}
-use Rattle.crx_filter.specs.meaning.UnitsAndText.{CanBeCopied, as_items, AreInOrder, MakeAFile, rinex_text, compact_text}
-use Rattle.crx_filter.specs.meaning.UnitsAndText.{TextsOfUnits, WritesUnits, ReadsUnits, IsStandardByUnits}
+use Rattle.crx_filter.proofs.Words.{ℕ, ◌≡◌, false, List, [], ◌∷◌, map, Option, None, refl, ap, sym, ◌∙◌}
+use Rattle.crx_filter.proofs.Words.{subst, reverse, pieces_of, lines_of, lines_text, seen, At, Epoch}
+use Rattle.crx_filter.proofs.Words.{FileUnit, HeaderLine, EventLine, EventRecord, Observation, Choices}
+use Rattle.crx_filter.proofs.Words.{compact_unit, compacted, Item, Accepted, Warned, WholeReading}
+use Rattle.crx_filter.proofs.Words.{printed_items, whole_of, IsStandard, OfCopiedLine, OfCopiedLines}
+use Rattle.crx_filter.proofs.Words.{HaveNoReturns, written_well, warnings_in, result_of, expanded}
+use Rattle.crx_filter.proofs.Words.{result_of_course, IsResult, Device, AreInPlace}
+use Rattle.crx_filter.specs.meaning.UnitsAndText.{CanBeCopied, as_items, AreInOrder, MakeAFile, rinex_text}
+use Rattle.crx_filter.specs.meaning.UnitsAndText.{compact_text, TextsOfUnits, WritesUnits, ReadsUnits}
+use Rattle.crx_filter.specs.meaning.UnitsAndText.{IsStandardByUnits}
 use Rattle.crx_filter.proofs.wayback.Canonical.{compacted-by}
 use Rattle.crx_filter.proofs.wayback.Cut.{CanStand}
 use Rattle.crx_filter.proofs.wayback.NormalForm.{printed-again, accepted-all, whole-none, settled-standard}
@@ -69,8 +58,7 @@ none-warned (unit ∷ before) = none-warned before
 
 whole-text : (units : List (FileUnit Epoch)) → MakeAFile units
     → whole_of (rinex_text units) ≡ record { items = as_items units; fault = None }
-whole-text units h =
-    printed-again (as_items units) (settled units h) (no-returns units h)
+whole-text units h = printed-again (as_items units) (settled units h) (no-returns units h)
     ∙ ap (λ (all : List (Item Epoch)). record { items = all; fault = None })
     (accepted-all (as_items units) (none-warned units))
 
@@ -79,8 +67,7 @@ compacts : (units : List (FileUnit Epoch)) (choices : Choices) → MakeAFile uni
 compacts units choices h =
     let whole = whole-text units h in
     compacted-by (rinex_text units) choices (ap (λ (w : WholeReading Epoch). w.fault) whole)
-    ∙ ap (result_of (compact_unit choices)) whole
-    ∙ ap (λ (w : List At). result_of_course
+    ∙ ap (result_of (compact_unit choices)) whole ∙ ap (λ (w : List At). result_of_course
     (record { output = compact_text choices units; warnings = reverse w; fault = None })) (none-warned units)
 
 pub texts-of_units : (units : List (FileUnit Epoch)) (compacting expanding : Choices)

@@ -1,40 +1,20 @@
 -- What was compacted comes back.
-use Rattle.std.proofs.Common.{ℕ, ◌≡◌, ◌+◌, ◌*◌, ◌≤◌, Bool, true, false, cond, List, [], ◌∷◌, ◌++◌, map, length, Option}
-use Rattle.std.proofs.Common.{Some, None, refl, ap, ◌∙◌, arith}
-use Rattle.std.specs.Prelude.{nat_lt, not, reverse}
-use Rattle.std.specs.List.{AllByRecursion, list_all}
-use Rattle.std.proofs.lemmas.Bool.{ltb-false}
-use Rattle.crx_faults.specs.meaning.Lines.{lines_of, ends_with_return}
-use Rattle.crx_faults.specs.meaning.Seen.{ReadLine, Content, seen}
-use Rattle.crx_columns.specs.meaning.Texts.{is_printable}
-use Rattle.crx_faults.specs.declared.fault.Fault.{Fault}
-use Rattle.crx_faults.specs.declared.fault.At.{At}
-use Rattle.crx_faults.specs.declared.limits.TheConstants.{TYPES_LIMIT, LINE_LIMIT}
-use Rattle.crx_rinex.specs.meaning.Observations.{Epoch}
-use Rattle.crx_rinex.specs.meaning.Printing.{printed_epoch}
-use Rattle.crx_faults.specs.meaning.Lines.{lines_text}
-use Rattle.crx_rinex.specs.meaning.Units.{Unit as FileUnit, HeaderLine, EventLine, EventRecord, Observation}
-use Rattle.crx_rinex.specs.meaning.Units.{printed_unit}
-use Rattle.crx_compact.specs.meaning.Compaction.{Marked, compact_epoch}
-use Rattle.crx_compact.specs.meaning.CompactPlaces.{ReadEpoch}
-use Rattle.crx_compact.specs.Laws.{LinesCanStand}
+use Rattle.crx_filter.proofs.Words.{ℕ, ◌≡◌, ◌+◌, ◌*◌, ◌≤◌, Bool, true, false, cond, List, [], ◌∷◌, ◌++◌, map}
+use Rattle.crx_filter.proofs.Words.{length, Option, Some, None, refl, ap, ◌∙◌, arith, nat_lt, not, reverse}
+use Rattle.crx_filter.proofs.Words.{AllByRecursion, list_all, ltb-false, lines_of, ends_with_return, ReadLine}
+use Rattle.crx_filter.proofs.Words.{Content, seen, is_printable, Fault, At, TYPES_LIMIT, LINE_LIMIT, Epoch}
+use Rattle.crx_filter.proofs.Words.{printed_epoch, lines_text, FileUnit, HeaderLine, EventLine, EventRecord}
+use Rattle.crx_filter.proofs.Words.{Observation, printed_unit, Marked, compact_epoch, ReadEpoch}
+use Rattle.crx_filter.proofs.Words.{LinesCanStand, Choices, is_date, Item, Accepted, Warned, is_at_start}
+use Rattle.crx_filter.proofs.Words.{header_has_ended, records_left, types_in_force, Reading, WholeReading}
+use Rattle.crx_filter.proofs.Words.{Stop, AtFault, AtLines, Looking, is_skipped, reading_from, fault_at_end}
+use Rattle.crx_filter.proofs.Words.{ended_with, ended_reading, warnings_in, result_of_course, written_lines}
+use Rattle.crx_filter.proofs.Words.{result_of, rinex_place, marked_epochs, whole_rinex, version_line}
+use Rattle.crx_filter.proofs.Words.{program_line, compact_lines, rinex_reading, compact_place, whole_compact}
+use Rattle.crx_filter.proofs.Words.{expanded_unit, expanded, printed_items, AreInPlace, OfCopiedLine}
+use Rattle.crx_filter.proofs.Words.{OfCopiedLines, HaveNoReturns, written_well}
 use Rattle.crx_compact.proofs.wayback.Lengths.{lines-short}
-use Rattle.crx_options.specs.meaning.Choices.{Choices, is_date}
-use Rattle.crx_reading.specs.meaning.Items.{Item, Accepted, Warned, is_at_start, header_has_ended, records_left}
-use Rattle.crx_reading.specs.meaning.Items.{types_in_force}
-use Rattle.crx_reading.specs.meaning.Reading.{Reading, WholeReading, Stop, AtFault, AtLines, Looking, is_skipped}
-use Rattle.crx_reading.specs.meaning.Reading.{reading_from, fault_at_end, ended_with, ended_reading}
-use Rattle.crx_reading.specs.meaning.Written.{warnings_in}
-use Rattle.crx_runs.specs.meaning.Results.{result_of_course}
-use Rattle.crx_reading.specs.meaning.Written.{written_lines, result_of}
-use Rattle.crx_reading.specs.meaning.Compacted.{rinex_place, marked_epochs, whole_rinex}
-use Rattle.crx_header.specs.meaning.CompactHeader.{version_line, program_line}
-use Rattle.crx_reading.specs.meaning.Compacted.{compact_lines}
-use Rattle.crx_reading.specs.meaning.Directions.{rinex_reading}
-use Rattle.crx_reading.specs.meaning.Expanded.{compact_place, whole_compact, expanded_unit, expansion_result, expanded}
-use Rattle.crx_reading.specs.meaning.Standard.{printed_items}
-use Rattle.crx_filter.specs.Laws.{AreInPlace}
-use Rattle.crx_reading.specs.meaning.WayBack.{OfCopiedLine, OfCopiedLines, HaveNoReturns, written_well}
+use Rattle.crx_reading.specs.meaning.Expanded.{expansion_result}
 use Rattle.crx_filter.specs.WayBack.{ComesBack}
 use Rattle.crx_reading.proofs.Choosing.{by_bool}
 use Rattle.crx_filter.proofs.reading.Forward.{rinex-forward}
@@ -45,11 +25,12 @@ use Rattle.crx_filter.proofs.reading.WhatWasRead.{items-read, allowed}
 use Rattle.crx_filter.proofs.wayback.Cut.{IsClean, CanStand, lines-cut, input-stands}
 use Rattle.crx_filter.proofs.wayback.First.{first-lines_read, program-clean, version-clean, printable-no_feed}
 use Rattle.crx_filter.proofs.wayback.First.{printable-no_return}
-use Rattle.crx_filter.proofs.wayback.Items.{marked_now, body_unit, known_back, read_back, unit-here, whole-next}
-use Rattle.crx_filter.proofs.wayback.Items.{epoch-stands}
+use Rattle.crx_filter.proofs.wayback.Items.{marked_now, body_unit, known_back, read_back, unit-here}
+use Rattle.crx_filter.proofs.wayback.Items.{whole-next, epoch-stands}
 use Rattle.crx_filter.proofs.wayback.Carried.{started, whole-again}
 use Rattle.crx_filter.proofs.reading.ForwardCompact.{compact-forward}
 use Rattle.crx_filter.proofs.wayback.Reading.{lines_back, items-copied}
+use Rattle.crx_filter.proofs.reading.Each.{all-append}
 
 -- ---- the end of the compaction
 
@@ -60,10 +41,10 @@ pub record IsSettled (items : List (Item Epoch)) : Type 0 where
   pub header : header_has_ended items ≡ true
   pub none : records_left items ≡ 0
 
-lt-none : (n : ℕ) → nat_lt 0 n ≡ false → n ≡ 0
+pub lt-none : (n : ℕ) → nat_lt 0 n ≡ false → n ≡ 0
 lt-none n e = let h = ltb-false 0 n e in omega (arith, h)
 
-end-body : (b c : Bool) (one two : Fault)
+pub end-body : (b c : Bool) (one two : Fault)
     → cond (not b) (Some one) (cond c (Some two) None) ≡ None → (b ≡ true) × (c ≡ false)
 end-body true true one two e = absurd (cc)
 end-body true false one two e = (refl, refl)
@@ -79,8 +60,8 @@ end-means (item ∷ before) [] e =
 
 end-settled : (skip : Bool) (items : List (Item Epoch)) (number : ℕ) (rest : List ReadLine)
     → AreInPlace items → OfCopiedLines CanStand items
-    → (o : Option Fault) → fault_at_end items rest ≡ o → WholeReading.fault (ended_with skip items number o) ≡ None
-    → IsSettled (WholeReading.items (ended_with skip items number o))
+    → (o : Option Fault) → fault_at_end items rest ≡ o → WholeReading.fault
+    (ended_with skip items number o) ≡ None → IsSettled (WholeReading.items (ended_with skip items number o))
 end-settled skip items number rest h k None e f = let good = end-means items rest e in
     record { in_place = h; copied = k; header = good.0; none = good.1 }
 end-settled skip items number rest h k (Some fault) e f = by_bool (is_skipped skip items fault)
@@ -99,36 +80,33 @@ settled : (skip : Bool) (items : List (Item Epoch)) (stop : Stop) (next : ℕ)
 settled skip items (AtFault at) next h k s f = absurd (cc)
 settled skip items (AtLines number rest) next h k s f =
     end-settled skip items (number + length rest) rest h k (fault_at_end items rest) refl f
-settled skip items (Looking number) next h k s f = record { in_place = h; copied = k; header = s.1; none = s.2 }
+settled skip items (Looking number) next h k s f = record
+    { in_place = h; copied = k; header = s.1; none = s.2 }
 
-pub whole-settled : (skip : Bool) (input : List ℕ) → WholeReading.fault (whole_rinex skip (map seen (lines_of input)))
+pub whole-settled : (skip : Bool) (input : List ℕ) → WholeReading.fault
+    (whole_rinex skip (map seen (lines_of input)))
     ≡ None → IsSettled (WholeReading.items (whole_rinex skip (map seen (lines_of input))))
 whole-settled skip input f =
     let lines : List ReadLine = map seen (lines_of input) in
     let r : Reading Epoch = rinex_reading skip lines in
-    settled skip r.items r.stop (1 + length lines) (items-in_place r.items (items-read rinex_place skip 1 lines))
-    (items-copied CanStand skip lines (input-stands input))
+    settled skip r.items r.stop (1 + length lines) (items-in_place r.items
+    (items-read rinex_place skip 1 lines)) (items-copied CanStand skip lines (input-stands input))
     (reading-stopped rinex_place rinex-forward skip [] 1 (1 + length lines) lines refl) f
 
 -- ---- the lines that are written
 
-pub lines-same : (choices : Choices) (items : List (Item Epoch)) → AreInPlace items → is_at_start items ≡ false
+pub lines-same : (choices : Choices) (items : List (Item Epoch)) → AreInPlace items
+    → is_at_start items ≡ false
     → compact_lines choices items ≡ version_line ∷ program_line choices.date ∷ lines_back choices.every items
 lines-same choices [] h e = absurd (cc)
 lines-same choices (Accepted (HeaderLine line) ∷ []) h e = refl
 lines-same choices (Accepted (HeaderLine line) ∷ item ∷ before) h e =
     ap (λ ls. ls ++ line ∷ []) (lines-same choices (item ∷ before) h.1 refl)
-lines-same choices (Accepted unit ∷ before) h e =
-    ap (λ ls. ls ++ body_unit choices.every before unit)
+lines-same choices (Accepted unit ∷ before) h e = ap (λ ls. ls ++ body_unit choices.every before unit)
     (lines-same choices before h.1 (started before (h.0).0))
 lines-same choices (Warned at ∷ before) h e = lines-same choices before h.1 (started before (h.0).0)
 
 -- ---- each of them is read as it was written
-
-append-clean : (a b : List (List ℕ))
-    → AllByRecursion IsClean a → AllByRecursion IsClean b → AllByRecursion IsClean (a ++ b)
-append-clean [] b h k = k
-append-clean (line ∷ a) b h k = (h.0, append-clean a b h.1 k)
 
 clean : (line : List ℕ) → CanStand line → ends_with_return line ≡ false → IsClean line
 clean line h e = record { one_line = h.0; no_return = e; short = h.1 }
@@ -136,7 +114,8 @@ clean line h e = record { one_line = h.0; no_return = e; short = h.1 }
 within-limit : (n : ℕ) → n ≤ 18 * TYPES_LIMIT → n ≤ LINE_LIMIT
 within-limit n h = omega (arith, h)
 
-epoch-clean : (lines : List (List ℕ)) → AllByRecursion (λ (line : List ℕ). list_all is_printable line ≡ true) lines
+epoch-clean : (lines : List (List ℕ)) → AllByRecursion (λ (line : List ℕ). list_all is_printable line
+    ≡ true) lines
     → AllByRecursion (λ (line : List ℕ). length line ≤ 18 * TYPES_LIMIT) lines → AllByRecursion IsClean lines
 epoch-clean [] h k = tt
 epoch-clean (line ∷ lines) h k = (
@@ -165,9 +144,9 @@ unit-clean every before (Observation epoch) h k e =
 pub lines-clean : (every : Option ℕ) (items : List (Item Epoch)) → AreInPlace items
     → OfCopiedLines CanStand items → HaveNoReturns items → AllByRecursion IsClean (lines_back every items)
 lines-clean every [] h k e = tt
-lines-clean every (Accepted unit ∷ before) h k e =
-    append-clean (lines_back every before)
-    (body_unit every before unit) (lines-clean every before h.1 k.1 e.1) (unit-clean every before unit h k.0 e.0)
+lines-clean every (Accepted unit ∷ before) h k e = all-append IsClean (lines_back every before)
+    (body_unit every before unit) (lines-clean every before h.1 k.1 e.1)
+    (unit-clean every before unit h k.0 e.0)
 lines-clean every (Warned at ∷ before) h k e = lines-clean every before h.1 k e
 
 -- ---- what is written in the end
@@ -188,30 +167,31 @@ no-warnings every (Warned at ∷ before) = no-warnings every before
 pub result-well : (items : List (Item ReadEpoch)) (lines : List (List ℕ))
     → written_lines expanded_unit items ≡ lines → warnings_in items ≡ []
     → result_of expanded_unit (record { items = items; fault = None }) ≡ written_well (lines_text lines)
-result-well items lines e f =
-    ap (λ (w : List At). result_of_course
+result-well items lines e f = ap (λ (w : List At). result_of_course
     (record { output = lines_text (written_lines expanded_unit items); warnings = reverse w; fault = None })) f
     ∙ ap (λ ls. written_well (lines_text ls)) e
 
 -- the two first lines, and then the reading of the rest
-pub whole-after : (skip : Bool) (date : List ℕ) (rest : List ReadLine) → whole_compact skip (Content version_line
+pub whole-after : (skip : Bool) (date : List ℕ) (rest : List ReadLine)
+    → whole_compact skip (Content version_line
     ∷ Content (program_line date) ∷ rest) ≡ ended_reading skip (reading_from compact_place skip [] 3 rest)
 whole-after skip date rest = rw (first-lines_read date rest, whole_compact) refl
 
 whole-back : (every : Option ℕ) (skip : Bool) (date : List ℕ) (items : List (Item Epoch)) → IsSettled items
     → whole_compact skip (map Content (version_line ∷ program_line date ∷ lines_back every items))
     ≡ record { items = read_back every items; fault = None }
-whole-back every skip date items h =
-    whole-after skip date (map Content (lines_back every items))
+whole-back every skip date items h = whole-after skip date (map Content (lines_back every items))
     ∙ whole-again compact_place (known_back every)
     (body_unit every) compact-forward (unit-here every) skip 3 items h.in_place h.header h.none
 
 -- what was accepted comes back from its compact text
 pub items-back : (items : List (Item Epoch)) (compacting expanding : Choices)
     → is_date compacting.date ≡ true → IsSettled items → HaveNoReturns items
-    → expanded (lines_text (compact_lines compacting items)) expanding ≡ written_well (lines_text (printed_items items))
+    → expanded (lines_text (compact_lines compacting items)) expanding
+    ≡ written_well (lines_text (printed_items items))
 items-back items compacting expanding dated h none =
-    let lines : List (List ℕ) = version_line ∷ program_line compacting.date ∷ lines_back compacting.every items in
+    let lines : List (List ℕ) = version_line ∷ program_line compacting.date ∷ lines_back compacting.every
+    items in
     let same : compact_lines compacting items ≡ lines =
     lines-same compacting items h.in_place (started items h.header) in
     let clean : AllByRecursion IsClean lines = (
@@ -226,5 +206,6 @@ items-back items compacting expanding dated h none =
 
 pub comes-back : (input : List ℕ) (compacting expanding : Choices) → ComesBack input compacting expanding
 comes-back input compacting expanding dated f none =
-    let items : List (Item Epoch) = WholeReading.items (whole_rinex compacting.skip (map seen (lines_of input))) in
+    let items : List (Item Epoch) = WholeReading.items (whole_rinex compacting.skip
+    (map seen (lines_of input))) in
     items-back items compacting expanding dated (whole-settled compacting.skip input f) none

@@ -1,0 +1,33 @@
+-- Lists of lines and of what was accepted: what holds of each of two lists holds of both together, and of each part.
+use Rattle.crx_filter.proofs.Words.{ℕ, zero, suc, ◌≡◌, Bool, true, false, List, [], ◌∷◌, ◌++◌, ◌||◌, drop}
+use Rattle.crx_filter.proofs.Words.{map, refl, ap, ◌∙◌, AllByRecursion, Item, ends_header, header_has_ended}
+use Rattle.crx_filter.proofs.Words.{InputLine}
+
+pub all-append : {X : Type 0} (P : X → Type 0) (one two : List X)
+    → AllByRecursion P one → AllByRecursion P two → AllByRecursion P (one ++ two)
+all-append P [] two h k = k
+all-append P (x ∷ one) two h k = (h.0, all-append P one two h.1 k)
+
+pub all-parts : {X : Type 0} (P : X → Type 0) (one two : List X)
+    → AllByRecursion P (one ++ two) → AllByRecursion P one × AllByRecursion P two
+all-parts P [] two h = (tt, h)
+all-parts P (x ∷ one) two h = let rest = all-parts P one two h.1 in ((h.0, rest.0), rest.1)
+
+pub all-drop : {X : Type 0} (P : X → Type 0) (n : ℕ) (xs : List X) → AllByRecursion P xs
+    → AllByRecursion P (drop n xs)
+all-drop P zero xs h = h
+all-drop P (suc n) [] h = tt
+all-drop P (suc n) (x ∷ xs) h = all-drop P n xs h.1
+
+pub header-append : {E : Type 0} (later before : List (Item E))
+    → header_has_ended before ≡ true → header_has_ended (later ++ before) ≡ true
+header-append [] before h = h
+header-append (item ∷ later) before h = ap (λ b. ends_header item || b) (header-append later before h)
+    ∙ either (ends_header item)
+  where
+    either : (b : Bool) → (b || true) ≡ true
+    either true = refl
+    either false = refl
+
+abbrev pub contents : List InputLine → List (List ℕ)
+contents lines = map (λ (line : InputLine). line.content) lines
