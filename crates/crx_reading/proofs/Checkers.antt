@@ -36,7 +36,8 @@ use Rattle.crx_reading.proofs.RinexSteps.{in-epoch}
 pub first-line : (totals : Totals) (made : Made ObservationEpoch OpenEpoch)
     (before after : RinexReader) (line : List ℕ) (step : RinexStep) (is_first : Bool)
     → step ≡ Header is_first → is_first ≡ true → TakesRinexLine made before line step after
-    → totals_made totals (is_before_header (reader_phase before)) made ≡ record totals { version = version_in line }
+    → totals_made totals (is_before_header (reader_phase before)) made
+    ≡ record totals { version = version_in line }
 first-line totals made before after line step is_first is on takes =
     let h : TakesRinexLine made before line (Header is_first) after =
     subst (λ s. TakesRinexLine made before line s after) is takes in

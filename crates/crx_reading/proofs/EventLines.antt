@@ -34,13 +34,11 @@ faulty flag (Some n) = refl
 -- how many records an event's first line announces, as its reading says
 pub event-count : (line : List ℕ) (r : Result HeadLine Fault)
     → is_event_line line ≡ true → head_of line ≡ r → records_in line ≡ count_in r
-event-count line r event is =
-    sym (counted (character_at line 32) (records_in line)) ∙ ap count_in
+event-count line r event is = sym (counted (character_at line 32) (records_in line)) ∙ ap count_in
     (sym (head-of-event line (begins_epoch line) (is_event_flag (character_at line 32)) refl refl event) ∙ is)
 
 -- its one fault
 pub event-fault : (line : List ℕ) (fault : Fault)
     → is_event_line line ≡ true → head_of line ≡ Err fault → fault ≡ BadEpoch
-event-fault line fault event is =
-    ap fault_in (sym is ∙ head-of-event line (begins_epoch line) (is_event_flag (character_at line 32)) refl refl event)
-    ∙ faulty (character_at line 32) (records_in line)
+event-fault line fault event is = ap fault_in (sym is ∙ head-of-event line (begins_epoch line)
+    (is_event_flag (character_at line 32)) refl refl event) ∙ faulty (character_at line 32) (records_in line)

@@ -17,7 +17,8 @@ pub counts-more : (counts : List Count) (index : ℕ) (c : Count) → slice_get 
 counts-more counts index c e =
     let one : take (index + 1) counts ≡ take index counts ++ c ∷ [] =
     take_more counts index c (slice_get_within counts index c e) ∙ ap
-    (λ x. take index counts ++ x ∷ []) (sym (unwrap_or-slice_get counts index c) ∙ ap (λ o. unwrap_or o c) e) in
+    (λ x. take index counts ++ x ∷ []) (sym (unwrap_or-slice_get counts index c)
+    ∙ ap (λ o. unwrap_or o c) e) in
     ap (flat_map count_text) one ∙ flat_map-append count_text (take index counts) (c ∷ [])
     ∙ ap (λ t. flat_map count_text (take index counts) ++ t) (append-nil (count_text c))
 
@@ -26,7 +27,8 @@ pub version-same : (line : List ℕ) → version_in (columns line 1 9) ≡ versi
 version-same line =
     let some : 9 ≤ length (drop 0 line ++ replicate 9 32) =
     omega (arith, length-append (drop 0 line) (replicate 9 32), length-replicate {A = ℕ} 9 32) in
-    let wide : length (columns line 1 9) ≡ 9 = omega (arith, length-take 9 (drop 0 line ++ replicate 9 32), some) in
+    let wide : length (columns line 1 9) ≡ 9 =
+    omega (arith, length-take 9 (drop 0 line ++ replicate 9 32), some) in
     ap without_blanks (take-append-le 9 (columns line 1 9) (replicate 9 32) (omega (arith, wide))
     ∙ ap (λ n. take n (columns line 1 9)) (sym wide) ∙ take-length (columns line 1 9))
 

@@ -108,8 +108,7 @@ part-taken made before after head rows is part parts stage = record {
 }
   where
     held-phase : reader_phase after ≡ InEpoch (open_by_rows before.types head rows)
-    held-phase =
-        ap (λ s. seen_stage (epoch_open after) s) stage
+    held-phase = ap (λ s. seen_stage (epoch_open after) s) stage
         ∙ ap (λ o. seen_stage (open_epoch after.types o after.rows.rows) Open) parts.held
         ∙ ap (λ ts. InEpoch (open_by_rows ts head after.rows.rows)) parts.types_then
         ∙ ap (λ rs. InEpoch (open_by_rows before.types head rs)) parts.rows_then
@@ -212,8 +211,7 @@ new-made : (r : RinexReader) (head : ObservationHead) (line : List ℕ) (kept : 
     → IsInEpoch r head → begins_epoch line ≡ false → row_of r.types line ≡ Ok row
     → has_satellite row.name r.rows.rows ≡ false → made_at r line kept
     ≡ made_of_epoch_step (whole_or_going (open_by_rows r.types head (r.rows.rows ++ row ∷ [])))
-new-made r head line kept row at other read new =
-    row-made r head line kept (Ok row) at
+new-made r head line kept row at other read new = row-made r head line kept (Ok row) at
     (new-row (open_by_rows r.types head r.rows.rows) line row other read new)
 
 -- the row is the last one of its epoch
@@ -251,7 +249,8 @@ OfHead line (Ok (EventHead flag count)) = records_announced line ≡ count
 OfHead line (Ok (EpochHead head count clock)) = (is_event_line line ≡ false) × (begins_epoch line ≡ true)
 OfHead line (Err fault) = ⊤
 
-of-event : (line : List ℕ) (o : Option ℕ) → records_in line ≡ o → OfHead line (event_head (character_at line 32) o)
+of-event : (line : List ℕ) (o : Option ℕ) → records_in line ≡ o
+    → OfHead line (event_head (character_at line 32) o)
 of-event line None is = tt
 of-event line (Some count) is = rw is refl
 
@@ -260,7 +259,8 @@ of-clock : (line head : List ℕ) (count : ℕ) (o : Option (Option _))
 of-clock line head count None other begins = tt
 of-clock line head count (Some clock) other begins = (other, begins)
 
-of-blank : (line : List ℕ) (count : ℕ) (b : Bool) → list_all is_blank (drop (HEAD_WIDTH + CLOCK_WIDTH) line) ≡ b
+of-blank : (line : List ℕ) (count : ℕ) (b : Bool) → list_all is_blank
+    (drop (HEAD_WIDTH + CLOCK_WIDTH) line) ≡ b
     → is_event_line line ≡ false → begins_epoch line ≡ true → OfHead line (epoch_head line (Some count))
 of-blank line count true is other begins = rw is (of-clock line
     (columns line 1 HEAD_WIDTH) count (clock_of (columns line (HEAD_WIDTH + 1) CLOCK_WIDTH)) other begins)
@@ -284,7 +284,8 @@ of-head line = by_bool (begins_epoch line)
         → head_of line ≡ event_head (character_at line 32) (records_in line)
     at_event a b = rw (a, b) refl
 
-    no_event : begins_epoch line ≡ true → is_event_flag (character_at line 32) ≡ false → is_event_line line ≡ false
+    no_event : begins_epoch line ≡ true → is_event_flag (character_at line 32) ≡ false
+        → is_event_line line ≡ false
     no_event a b = rw (a, b) refl
 
     at_epoch : begins_epoch line ≡ true → is_event_flag (character_at line 32) ≡ false
@@ -299,7 +300,8 @@ pub event-counts : (line : List ℕ) (flag count : ℕ)
 event-counts line flag count is = subst (OfHead line) is (of-head line)
 
 pub epoch-line : (line : List ℕ) (head : List ℕ) (count : ℕ) (clock : Option _)
-    → head_of line ≡ Ok (EpochHead head count clock) → (is_event_line line ≡ false) × (begins_epoch line ≡ true)
+    → head_of line ≡ Ok (EpochHead head count clock) → (is_event_line line ≡ false)
+    × (begins_epoch line ≡ true)
 epoch-line line head count clock is = subst (OfHead line) is (of-head line)
 
 -- where a reader is that takes such a line
@@ -319,10 +321,11 @@ begin-allowed before line (inl stage) epoch whole = rw (stage, epoch.0) whole
 begin-allowed before line (inr looking) epoch whole =
     let begun = is_whole_at_once (made_of_beginning before.types (beginning_of line)) in
     rw looking.0 (and_from (begins_epoch line)
-    (not (is_event_line line) && begun) epoch.1 (and_from (not (is_event_line line)) begun (ap not epoch.0) whole))
+    (not (is_event_line line) && begun) epoch.1 (and_from (not (is_event_line line)) begun
+    (ap not epoch.0) whole))
 
-pub event-made : (types : List Count) (line : List ℕ) (flag count : ℕ) → head_of line ≡ Ok (EventHead flag count)
-    → made_of_beginning types (beginning_of line) ≡ Completes (EventLine line)
+pub event-made : (types : List Count) (line : List ℕ) (flag count : ℕ) → head_of line
+    ≡ Ok (EventHead flag count) → made_of_beginning types (beginning_of line) ≡ Completes (EventLine line)
 event-made types line flag count read =
     ap (λ (r : Result HeadLine Fault). made_of_beginning types (begun_by line r)) read
 

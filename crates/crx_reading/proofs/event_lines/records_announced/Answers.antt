@@ -7,8 +7,7 @@ use Rattle.crx_reading.proofs.event_lines.records_announced.Goals as goal
 
 pub returns-in-Event : goal.returns-in-Event
 returns-in-Event c = record {
-  value =
-      event-count c.args.line.now _ c.requires.event c.in_ok-count.ensures.value
+  value = event-count c.args.line.now _ c.requires.event c.in_ok-count.ensures.value
       ∙ ap (λ (h : Head). count_in (Ok (head_line h))) c.in-Event.is;
 }
 
@@ -26,8 +25,7 @@ returns-in_err-count c =
     let p = err_from_is_err_and c.from_residual.result c.from_residual.ensures.1 in
     record {
       value = rw (p.1, p.2) (
-        event-count c.args.line.now _
-            c.requires.event c.in_err-count.ensures.value,
+        event-count c.args.line.now _ c.requires.event c.in_err-count.ensures.value,
         event-fault c.args.line.now _ c.requires.event c.in_err-count.ensures.value,
       );
     }

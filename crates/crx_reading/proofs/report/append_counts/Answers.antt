@@ -16,10 +16,12 @@ loop-index-preserved c =
           let found = sym c.entry.ensures.value ∙ w.in-Some.is in
           let size = w.append_count.ensures.size in
           let longer = ap length w.text-is in (
-            w.text-is ∙ w.append_count.ensures.value ∙ ap (λ t. t ++ count_text (w.in-Some.letter, w.in-Some.count)) i.0
+            w.text-is ∙ w.append_count.ensures.value ∙ ap (λ t. t ++ count_text
+                (w.in-Some.letter, w.in-Some.count)) i.0
                 ∙ append_assoc old (flat_map count_text (take index types))
                 (count_text (w.in-Some.letter, w.in-Some.count))
-                ∙ ap (λ t. old ++ t) (sym (counts-more types index (w.in-Some.letter, w.in-Some.count) found)),
+                ∙ ap (λ t. old ++ t) (sym (counts-more types index
+                (w.in-Some.letter, w.in-Some.count) found)),
             omega (arith, size, longer, i.1),
             i.2,
             i.3,

@@ -12,4 +12,5 @@ returns-in-Header-true-clause-value c before made takes =
     ap (λ v. record held { version = v })
     (ap version_in c.padded.ensures.value ∙ version-same c.args.line.now)
     ∙ sym (first-line held made before c.args.reader.now
-    c.args.line.now c.args.step c.in-Header-true.is_first c.in-Header-true.is c.in-Header-true.is_first-test takes)
+    c.args.line.now c.args.step c.in-Header-true.is_first c.in-Header-true.is
+    c.in-Header-true.is_first-test takes)

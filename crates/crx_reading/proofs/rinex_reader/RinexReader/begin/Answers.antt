@@ -11,7 +11,8 @@ use Rattle.crx_reading.proofs.rinex_reader.RinexReader.begin.Goals as goal
 
 event-phase : (line : List ℕ) (count : ℕ) (counted : Bool)
     → records_announced line ≡ count → counted ≡ counts_types line
-    → with_records_left {O = OpenEpoch} count counted ≡ with_records_left (records_announced line) (counts_types line)
+    → with_records_left {O = OpenEpoch} count counted ≡ with_records_left (records_announced line)
+    (counts_types line)
 event-phase line count counted is same = rw (is, same) refl
 
 pub returns-in-Event-clause-takes : goal.returns-in-Event-clause-takes

@@ -57,7 +57,6 @@ returns-clause-takes c = λ line kept read other new.
     )
 
 pub returns-clause-few : goal.returns-clause-few
-returns-clause-few c =
-    few c.args.self.now c.in-Some.head c.args.self.now.row c.add.new.self.rows
+returns-clause-few c = few c.args.self.now c.in-Some.head c.args.self.now.row c.add.new.self.rows
     (in-its-epoch c.args.self.now c.in-Some.head c.requires.«open» c.in-Some.is)
     c.count-announced.ensures.sound c.add.ensures.rows
