@@ -1,46 +1,32 @@
 -- The lines of each unit that an expansion accepts can be borrowed.
-use Rattle.std.proofs.Common.{ℕ, zero, suc, ◌≡◌, ◌+◌, ◌*◌, ◌≤◌, max, Bool, true, false, cond, List, [], ◌∷◌, ◌++◌, map}
-use Rattle.std.proofs.Common.{length, drop, Option, Some, None, Ok, Err, refl, sym, subst, arith, All}
-use Rattle.std.specs.Prelude.{⊤, not, nat_lt}
-use Rattle.std.specs.List.{AllByRecursion}
-use Rattle.std.proofs.lemmas.List.{length-map}
-use Rattle.std.proofs.lemmas.List.Elements.{All-head, All-tail}
-use Rattle.crx_text.specs.meaning.Numbers.{clock_text}
-use Rattle.crx_faults.specs.meaning.Seen.{ReadLine, Content, Overlong}
-use Rattle.crx_faults.specs.declared.fault.At.{At}
-use Rattle.crx_faults.specs.declared.fault.Fault.{Fault}
-use Rattle.crx_faults.specs.declared.fault.Fault.TheVariants.{BadEpoch}
-use Rattle.crx_faults.specs.declared.limits.TheConstants.{LINE_LIMIT, NAME_WIDTH, CELL_WIDTH, TYPES_LIMIT}
-use Rattle.crx_rinex.specs.meaning.Observations.{Row, Epoch}
-use Rattle.crx_header.specs.meaning.EpochColumns.{is_event_line, records_in, satellites_of}
-use Rattle.crx_rinex.specs.meaning.Epochs.{IsWholeEpoch}
-use Rattle.crx_header.specs.meaning.ObservationTypes.{Count}
-use Rattle.crx_rinex.specs.meaning.Places.{Place, Here, Wrong, Wanted, one_line, first_line}
-use Rattle.crx_rinex.specs.meaning.Printing.{printed_row, printed_head, printed_epoch}
-use Rattle.crx_text.specs.meaning.PrintedCells.{printed_cells}
-use Rattle.crx_rinex.specs.meaning.SatelliteLines.{IsSoundRow}
-use Rattle.crx_rinex.specs.meaning.Units.{Unit as FileUnit, HeaderLine, EventLine, EventRecord, Observation}
+use Rattle.crx_filter.proofs.Words.{ℕ, zero, suc, ◌≡◌, ◌+◌, ◌*◌, ◌≤◌, max, Bool, true, false, cond, List, []}
+use Rattle.crx_filter.proofs.Words.{◌∷◌, ◌++◌, map, length, drop, Option, Some, None, Ok, Err, refl, sym}
+use Rattle.crx_filter.proofs.Words.{subst, arith, All, ⊤, not, nat_lt, AllByRecursion, length-map, All-head}
+use Rattle.crx_filter.proofs.Words.{All-tail, clock_text, ReadLine, Content, Overlong, At, Fault, BadEpoch}
+use Rattle.crx_filter.proofs.Words.{LINE_LIMIT, NAME_WIDTH, TYPES_LIMIT, Row, Epoch, is_event_line}
+use Rattle.crx_filter.proofs.Words.{records_in, IsWholeEpoch, Count, Place, Here, Wrong, Wanted, one_line}
+use Rattle.crx_filter.proofs.Words.{first_line, printed_row, printed_epoch, printed_cells, IsSoundRow}
+use Rattle.crx_filter.proofs.Words.{FileUnit, HeaderLine, EventLine, EventRecord, Observation, ReadEpoch}
+use Rattle.crx_filter.proofs.Words.{epoch_at, IsGood, Choices, Item, Accepted, Warned, is_at_start}
+use Rattle.crx_filter.proofs.Words.{header_has_ended, records_left, records_count_types, types_in_force}
+use Rattle.crx_filter.proofs.Words.{unless_wrong, types_fault, header_line_fault, header_line, event_record}
+use Rattle.crx_filter.proofs.Words.{Reading, AtFault, AtLines, is_skipped, can_go_on, looked_for}
+use Rattle.crx_filter.proofs.Words.{reading_within, reading_from, raws_kept, event_line, as_observation}
+use Rattle.crx_filter.proofs.Words.{compact_epoch_place, compact_place, first_lines, expanded_unit}
+use Rattle.crx_filter.proofs.Words.{compact_reading}
+use Rattle.crx_faults.specs.declared.limits.TheConstants.{CELL_WIDTH}
+use Rattle.crx_header.specs.meaning.EpochColumns.{satellites_of}
+use Rattle.crx_rinex.specs.meaning.Printing.{printed_head}
 use Rattle.crx_rinex.proofs.ReadingBack.{length-row, length-head}
-use Rattle.crx_compact.specs.meaning.CompactPlaces.{ReadEpoch, epoch_at}
-use Rattle.crx_compact.specs.ReadingLaws.{IsGood}
-use Rattle.crx_options.specs.meaning.Choices.{Choices}
-use Rattle.crx_reading.specs.meaning.Items.{Item, Accepted, Warned, is_at_start, header_has_ended, records_left}
-use Rattle.crx_reading.specs.meaning.Items.{records_count_types, types_in_force}
-use Rattle.crx_reading.specs.meaning.UnitPlaces.{unless_wrong, types_fault, header_line_fault, header_line}
-use Rattle.crx_reading.specs.meaning.UnitPlaces.{event_record}
-use Rattle.crx_reading.specs.meaning.Reading.{Reading, AtFault, AtLines, is_skipped, can_go_on, looked_for}
-use Rattle.crx_reading.specs.meaning.Reading.{reading_within, reading_from}
-use Rattle.crx_reading.specs.meaning.Expanded.{raws_kept, event_line, as_observation, compact_epoch_place}
-use Rattle.crx_reading.specs.meaning.Expanded.{compact_place}
-use Rattle.crx_reading.specs.meaning.Expanded.{first_lines, expanded_unit}
-use Rattle.crx_reading.specs.meaning.Directions.{compact_reading}
-use Rattle.crx_laws.specs.Bounds.{AreReadyToHandOut, OfUnits, longest_printed, IsNotTooLong, ExpandedIsReadyToHandOut}
+use Rattle.crx_laws.specs.Bounds.{AreReadyToHandOut, OfUnits, longest_printed, IsNotTooLong}
+use Rattle.crx_laws.specs.Bounds.{ExpandedIsReadyToHandOut}
 use Rattle.crx_reading.proofs.Choosing.{by_bool}
 use Rattle.crx_filter.proofs.reading.Resuming.{by_place, within-here, within-wrong, within-wanted}
 use Rattle.crx_filter.proofs.reading.Resuming.{fault-skipped, fault-ends, looked-here, looked-on}
 use Rattle.crx_filter.proofs.reading.WhatWasRead.{compact-items-read}
 use Rattle.crx_filter.proofs.wayback.ExpandedWhole.{AreGoodEpochs, epochs-good}
 use Rattle.crx_columns.proofs.EndBlanks.{few_kept}
+use Rattle.crx_filter.proofs.reading.Each.{all-drop}
 
 -- ---- lines that are copied are lines that were read
 
@@ -56,8 +42,7 @@ AreShort items = OfUnits (λ before unit. IsShort unit) items
 
 abbrev OfHere : Place (FileUnit ReadEpoch) → Type 0
 OfHere (Here unit count) = IsShort unit
-OfHere (Wrong offset fault) = ⊤
-OfHere Wanted = ⊤
+OfHere p = ⊤
 
 chosen : (b : Bool) (x y : Place (FileUnit ReadEpoch)) → OfHere x → OfHere y → OfHere (cond b x y)
 chosen true x y h k = h
@@ -72,17 +57,20 @@ short-header : (is_first : Bool) (lines : List ReadLine)
     → AllByRecursion IsNotTooLong lines → OfHere (first_line lines (header_line is_first))
 short-header is_first [] h = tt
 short-header is_first (Overlong ∷ lines) h = tt
-short-header is_first (Content line ∷ lines) h = good-line (HeaderLine line) (header_line_fault is_first line) h.0
+short-header is_first (Content line ∷ lines) h = good-line (HeaderLine line)
+    (header_line_fault is_first line) h.0
 
 short-record : (counts : Bool) (lines : List ReadLine)
     → AllByRecursion IsNotTooLong lines → OfHere (first_line lines (event_record counts))
 short-record counts [] h = tt
 short-record counts (Overlong ∷ lines) h = tt
-short-record counts (Content line ∷ lines) h = good-line (EventRecord line) (cond counts (types_fault line) None) h.0
+short-record counts (Content line ∷ lines) h = good-line (EventRecord line)
+    (cond counts (types_fault line) None) h.0
 
 short-event : (line : List ℕ) (o : Option ℕ)
     → records_in line ≡ o → length line ≤ LINE_LIMIT → OfHere (one_line (event_line line))
-short-event line None e h = let same : event_line {E = ReadEpoch} line ≡ Err BadEpoch = rw (e, event_line) refl in
+short-event line None e h = let same : event_line {E = ReadEpoch} line ≡ Err BadEpoch =
+    rw (e, event_line) refl in
     subst (λ r. OfHere (one_line r)) (sym same) tt
 short-event line (Some n) e h = let same : event_line {E = ReadEpoch} line ≡ Ok (EventLine line) =
     rw (e, event_line) refl in subst (λ r. OfHere (one_line r)) (sym same) h
@@ -93,12 +81,12 @@ short-epoch (Wrong offset fault) = tt
 short-epoch Wanted = tt
 
 short-begun : (items : List (Item ReadEpoch)) (lines : List ReadLine)
-    → AllByRecursion IsNotTooLong lines → OfHere (compact_epoch_place (types_in_force items) (raws_kept items) lines)
+    → AllByRecursion IsNotTooLong lines → OfHere (compact_epoch_place (types_in_force items)
+    (raws_kept items) lines)
 short-begun items [] h = tt
 short-begun items (Overlong ∷ lines) h =
     short-epoch (epoch_at (types_in_force items) (raws_kept items) (Overlong ∷ lines))
-short-begun items (Content line ∷ lines) h =
-    chosen (is_event_line line) (one_line (event_line line))
+short-begun items (Content line ∷ lines) h = chosen (is_event_line line) (one_line (event_line line))
     (as_observation (epoch_at (types_in_force items) (raws_kept items) (Content line ∷ lines)))
     (short-event line (records_in line) refl h.0)
     (short-epoch (epoch_at (types_in_force items) (raws_kept items) (Content line ∷ lines)))
@@ -114,14 +102,9 @@ short-unit items lines h =
     (compact_epoch_place (types_in_force items) (raws_kept items) lines)
     (short-record (records_count_types items) lines h) (short-begun items lines h))
 
-all-drop : (n : ℕ) (lines : List ReadLine)
-    → AllByRecursion IsNotTooLong lines → AllByRecursion IsNotTooLong (drop n lines)
-all-drop zero lines h = h
-all-drop (suc n) [] h = tt
-all-drop (suc n) (line ∷ lines) h = all-drop n lines h.1
-
 short-looked : (items : List (Item ReadEpoch)) (read : ℕ → List ReadLine
-    → Reading ReadEpoch) (number : ℕ) (lines : List ReadLine) → AreShort items → AllByRecursion IsNotTooLong lines
+    → Reading ReadEpoch) (number : ℕ) (lines : List ReadLine) → AreShort items
+    → AllByRecursion IsNotTooLong lines
     → ((n : ℕ) (ls : List ReadLine) → AllByRecursion IsNotTooLong ls → AreShort (read n ls).items)
     → AreShort (looked_for read items number lines).items
 short-looked items read number [] h all k = h
@@ -133,13 +116,15 @@ short-looked items read number (line ∷ lines) h all k = by_bool (can_go_on lin
 
 short-within : (skip : Bool) (units : ℕ) (items : List (Item ReadEpoch)) (number : ℕ) (lines : List ReadLine)
     → AreShort items
-    → AllByRecursion IsNotTooLong lines → AreShort (reading_within compact_place skip units items number lines).items
+    → AllByRecursion IsNotTooLong lines → AreShort (reading_within compact_place skip units items number
+    lines).items
 short-within skip zero items number lines h all = h
 short-within skip (suc units) items number lines h all = by_place (compact_place items lines)
     (λ unit count e. subst (λ (r : Reading ReadEpoch). AreShort r.items)
     (sym (within-here compact_place skip units items number lines unit count e))
     (short-within skip units (Accepted unit ∷ items) (number + count)
-    (drop count lines) (subst OfHere e (short-unit items lines all), h) (all-drop count lines all)))
+    (drop count lines) (subst OfHere e (short-unit items lines all), h)
+    (all-drop IsNotTooLong count lines all)))
     (λ offset fault e. subst (λ (r : Reading ReadEpoch). AreShort r.items)
     (sym (within-wrong compact_place skip units items number lines offset fault e))
     (by_bool (is_skipped skip items fault)
@@ -148,7 +133,7 @@ short-within skip (suc units) items number lines h all = by_place (compact_place
     subst (λ (r : Reading ReadEpoch). AreShort r.items)
     (sym (fault-skipped skip (reading_within compact_place skip units) items number lines offset fault on))
     (short-looked (Warned at ∷ items) (reading_within compact_place skip units (Warned at ∷ items))
-    (number + max offset 1) (drop (max offset 1) lines) h (all-drop (max offset 1) lines all)
+    (number + max offset 1) (drop (max offset 1) lines) h (all-drop IsNotTooLong (max offset 1) lines all)
     (λ n ls some. short-within skip units (Warned at ∷ items) n ls h some)))
     (λ off. subst (λ (r : Reading ReadEpoch). AreShort r.items)
     (sym (fault-ends skip (reading_within compact_place skip units) items number lines offset fault off)) h)))
@@ -163,7 +148,8 @@ items-short skip lines all = elim (first_lines lines) as (λ p. AreShort (Readin
   | Wanted ↦ record { items = []; stop = AtLines 1 lines }
 ]))) [
   | Here two count ↦ short-within skip
-      (length (drop count lines) + 1) [] (count + 1) (drop count lines) tt (all-drop count lines all)
+      (length (drop count lines) + 1) [] (count + 1) (drop count lines) tt
+      (all-drop IsNotTooLong count lines all)
   | Wrong offset fault ↦ tt
   | Wanted ↦ tt
 ]
@@ -190,8 +176,8 @@ rows-short (row ∷ rows) h =
 pub epoch-ready_to_hand_out : (types : List Count) (epoch : Epoch)
     → IsWholeEpoch types epoch → AreReadyToHandOut longest (printed_epoch epoch)
 epoch-ready_to_hand_out types epoch h =
-    let trimmed : length (printed_head epoch.head epoch.clock) ≤ length (epoch.head ++ clock_text epoch.clock) =
-    few_kept (epoch.head ++ clock_text epoch.clock) in
+    let trimmed : length (printed_head epoch.head epoch.clock)
+    ≤ length (epoch.head ++ clock_text epoch.clock) = few_kept (epoch.head ++ clock_text epoch.clock) in
     let wide = length-head (record {
       head = epoch.head;
       count = satellites_of epoch.head;
@@ -218,13 +204,13 @@ units-ready_to_hand_out (Accepted (EventLine line) ∷ before) h k =
 units-ready_to_hand_out (Accepted (EventRecord line) ∷ before) h k =
     (one-ready_to_hand_out line h.0, units-ready_to_hand_out before h.1 k)
 units-ready_to_hand_out (Accepted (Observation read) ∷ before) h k = (
-  epoch-ready_to_hand_out (types_in_force before) read.epoch
-      (IsGood.whole k.0),
+  epoch-ready_to_hand_out (types_in_force before) read.epoch (IsGood.whole k.0),
   units-ready_to_hand_out before h.1 k.1,
 )
 units-ready_to_hand_out (Warned at ∷ before) h k = units-ready_to_hand_out before h k
 
-pub expanded-ready_to_hand_out : (choices : Choices) (lines : List ReadLine) → ExpandedIsReadyToHandOut choices lines
+pub expanded-ready_to_hand_out : (choices : Choices) (lines : List ReadLine)
+    → ExpandedIsReadyToHandOut choices lines
 expanded-ready_to_hand_out choices lines short =
     units-ready_to_hand_out (compact_reading choices.skip lines).items (items-short choices.skip lines short)
     (epochs-good (compact_reading choices.skip lines).items (compact-items-read choices.skip lines))

@@ -1,16 +1,11 @@
 -- An epoch whose lines have come in part is sound, and wants a row more.
-use Rattle.std.proofs.Common.{◌≡◌, ℕ, ◌<◌, zero, suc, List, [], ◌∷◌, Option, Some, None, IfSome, Result, Ok, Err, refl}
-use Rattle.std.proofs.Common.{arith}
-use Rattle.crx_faults.specs.meaning.Seen.{ReadLine, Content, Overlong}
-use Rattle.crx_faults.specs.declared.fault.Fault.{Fault}
-use Rattle.crx_rinex.specs.meaning.Observations.{Row}
-use Rattle.crx_header.specs.meaning.ObservationTypes.{Count}
+use Rattle.crx_filter.proofs.Words.{◌≡◌, ℕ, ◌<◌, zero, suc, List, [], ◌∷◌, Option, Some, None, Result, Ok}
+use Rattle.crx_filter.proofs.Words.{Err, refl, arith, ReadLine, Content, Overlong, Fault, Row, Count, head_of}
+use Rattle.crx_filter.proofs.Words.{OpenEpoch, Beginning, EpochBegins, opened, rows_wanted, with_next_row}
+use Rattle.crx_filter.proofs.Words.{next_row, beginning_of, when_wanted, after_row, epoch_step}
+use Rattle.std.proofs.Common.{IfSome}
 use Rattle.crx_header.specs.ObservationTypes.{AreCounts}
-use Rattle.crx_rinex.specs.meaning.EpochLines.{head_of}
-use Rattle.crx_rinex.specs.meaning.EpochPlaces.{OpenEpoch, Beginning, EventBegins, EpochBegins, opened, rows_wanted}
-use Rattle.crx_rinex.specs.meaning.EpochPlaces.{with_next_row, next_row, beginning_of}
-use Rattle.crx_rinex.specs.EpochPlaces.{when_wanted, after_row, epoch_step, still_open, opened_by, opened_at}
-use Rattle.crx_rinex.specs.EpochPlaces.{open_after, open_with}
+use Rattle.crx_rinex.specs.EpochPlaces.{still_open, opened_by, opened_at, open_after, open_with}
 use Rattle.crx_rinex.proofs.SoundEpochs.{IsSoundSoFar, IsNext, IsSoundBeginning, next_sound, sound-next_row}
 use Rattle.crx_rinex.proofs.SoundEpochs.{sound-opened, sound-head_of, begun_sound}
 
@@ -34,7 +29,8 @@ row-sound so_far (Ok row) h n = when-sound (rows_wanted (with_next_row so_far ro
 step-sound : (so_far : OpenEpoch) (line : ReadLine)
     → IsOpenSoundly so_far → IfSome (still_open (epoch_step so_far line)) IsOpenSoundly
 step-sound so_far Overlong h = tt
-step-sound so_far (Content line) h = row-sound so_far (next_row so_far line) h (next_sound so_far line h.counts)
+step-sound so_far (Content line) h = row-sound so_far (next_row so_far line) h
+    (next_sound so_far line h.counts)
 
 after-sound : (lines : List ReadLine) (begun : Option OpenEpoch)
     → IfSome begun IsOpenSoundly → IfSome (open_after begun lines) IsOpenSoundly
@@ -45,12 +41,12 @@ after-sound (line ∷ lines) (Some so_far) h =
 
 begun-open : (types : List Count) (r : Result Beginning Fault)
     → AreCounts types → IsSoundBeginning r → IfSome (opened_by types r) IsOpenSoundly
-begun-open types (Err fault) counts h = tt
-begun-open types (Ok (EventBegins line)) counts h = tt
 begun-open types (Ok (EpochBegins head)) counts h =
     when-sound (rows_wanted (opened types head)) (opened types head) refl counts (sound-opened types head h)
+begun-open types r counts h = tt
 
-opened-sound : (types : List Count) (line : ReadLine) → AreCounts types → IfSome (opened_at types line) IsOpenSoundly
+opened-sound : (types : List Count) (line : ReadLine) → AreCounts types
+    → IfSome (opened_at types line) IsOpenSoundly
 opened-sound types Overlong counts = tt
 opened-sound types (Content line) counts =
     begun-open types (beginning_of line) counts (begun_sound line (head_of line) (sound-head_of line))
@@ -58,4 +54,5 @@ opened-sound types (Content line) counts =
 pub open-sound : (types : List Count) (lines : List ReadLine)
     → AreCounts types → IfSome (open_with types lines) IsOpenSoundly
 open-sound types [] counts = tt
-open-sound types (line ∷ lines) counts = after-sound lines (opened_at types line) (opened-sound types line counts)
+open-sound types (line ∷ lines) counts = after-sound lines (opened_at types line)
+    (opened-sound types line counts)

@@ -1,36 +1,21 @@
 -- What an expansion writes is bounded by the lines that it has read: each has a weight, and no unit's text is
 -- longer than its lines weigh.
-use Rattle.std.proofs.Common.{ℕ, zero, suc, ◌≡◌, ◌+◌, ◌-◌, ◌*◌, ◌<◌, ◌≤◌, Bool, cond, List, [], ◌∷◌, ◌++◌}
-use Rattle.std.proofs.Common.{map, length, drop, Option, Some, None, refl, ap, sym, ◌∙◌, subst, arith}
-use Rattle.std.proofs.Common.{length-append}
-use Rattle.std.specs.Prelude.{⊤, ◌==◌}
-use Rattle.std.specs.List.{AllByRecursion}
-use Rattle.std.proofs.lemmas.List.{length-map}
-use Rattle.std.proofs.lemmas.Grind.{flat_map-append}
-use Rattle.crx_faults.specs.meaning.Lines.{Piece, pieces_of, onto_first, without_return, line_of, lines_of}
-use Rattle.crx_faults.specs.meaning.Lines.{is_long, lines_text}
-use Rattle.crx_faults.specs.meaning.Seen.{ReadLine, Content, Overlong, seen}
-use Rattle.crx_faults.specs.declared.fault.Fault.{Fault}
-use Rattle.crx_rinex.specs.Steady.{IsDecidedAfter, Remains}
-use Rattle.crx_rinex.specs.meaning.Epochs.{IsWholeEpoch}
-use Rattle.crx_rinex.specs.meaning.Places.{Place, Here, Wrong, Wanted, one_line, first_line}
-use Rattle.crx_rinex.specs.meaning.Printing.{printed_epoch, printed_row}
-use Rattle.crx_rinex.specs.meaning.Units.{Unit as FileUnit, HeaderLine, EventLine, EventRecord, Observation}
-use Rattle.crx_compact.specs.ReadingLaws.{IsGood}
+use Rattle.crx_filter.proofs.Words.{ℕ, zero, suc, ◌≡◌, ◌+◌, ◌-◌, ◌*◌, ◌<◌, ◌≤◌, Bool, cond, List, [], ◌∷◌}
+use Rattle.crx_filter.proofs.Words.{◌++◌, map, length, drop, Option, Some, None, refl, ap, sym, ◌∙◌, subst}
+use Rattle.crx_filter.proofs.Words.{arith, length-append, ⊤, ◌==◌, AllByRecursion, length-map}
+use Rattle.crx_filter.proofs.Words.{flat_map-append, Piece, pieces_of, onto_first, without_return, line_of}
+use Rattle.crx_filter.proofs.Words.{lines_of, is_long, lines_text, ReadLine, Content, Overlong, seen, Fault}
+use Rattle.crx_filter.proofs.Words.{IsDecidedAfter, Remains, IsWholeEpoch, Place, Here, Wrong, Wanted}
+use Rattle.crx_filter.proofs.Words.{one_line, first_line, printed_epoch, printed_row, FileUnit, HeaderLine}
+use Rattle.crx_filter.proofs.Words.{EventLine, EventRecord, Observation, IsGood, Count, ReadEpoch, epoch_at}
+use Rattle.crx_filter.proofs.Words.{RawEpoch, Choices, Item, Accepted, is_at_start, records_count_types}
+use Rattle.crx_filter.proofs.Words.{types_in_force, unless_wrong, types_fault, header_line_fault, header_line}
+use Rattle.crx_filter.proofs.Words.{event_record, Reading, WholeReading, reading_from, raws_kept}
+use Rattle.crx_filter.proofs.Words.{as_observation, compact_place, first_lines, expanded_unit, whole_compact}
+use Rattle.crx_filter.proofs.Words.{expanded, expanded_lines, ItemsAreRead}
 use Rattle.crx_compact.proofs.soundness.Soundness.{EpochFacts, epoch-facts}
-use Rattle.crx_header.specs.meaning.ObservationTypes.{Count}
-use Rattle.crx_compact.specs.meaning.CompactPlaces.{ReadRow, ReadEpoch, epoch_at}
-use Rattle.crx_compact.specs.meaning.Expansion.{RawEpoch}
-use Rattle.crx_options.specs.meaning.Choices.{Choices}
-use Rattle.crx_reading.specs.meaning.Items.{Item, Accepted, is_at_start, records_count_types, types_in_force}
-use Rattle.crx_reading.specs.meaning.UnitPlaces.{unless_wrong, types_fault, header_line_fault, header_line}
-use Rattle.crx_reading.specs.meaning.UnitPlaces.{event_record}
-use Rattle.crx_reading.specs.meaning.Reading.{Reading, WholeReading, reading_from}
-use Rattle.crx_reading.specs.meaning.Expanded.{raws_kept, as_observation, compact_place}
-use Rattle.crx_reading.specs.meaning.Expanded.{first_lines, expanded_unit, whole_compact, expanded}
+use Rattle.crx_compact.specs.meaning.CompactPlaces.{ReadRow}
 use Rattle.crx_reading.proofs.Choosing.{by_bool}
-use Rattle.crx_filter.specs.Expanded.{expanded_lines}
-use Rattle.crx_filter.specs.Laws.{ItemsAreRead}
 use Rattle.crx_filter.proofs.reading.CompactPrefixes.{whole-at}
 use Rattle.crx_filter.proofs.reading.ForwardCompact.{compact-forward, steady-first_lines, compact_beginning}
 use Rattle.crx_filter.proofs.reading.KeptThroughout.{within-kept}
@@ -92,8 +77,7 @@ Weighs lines types (Here (EventRecord line) count) =
     size (line ∷ []) + weight (drop count lines) ≤ weight lines
 Weighs lines types (Here (Observation read) count) = IsWholeEpoch types read.epoch
     → count ≤ length lines → size (printed_epoch read.epoch) + weight (drop count lines) ≤ weight lines
-Weighs lines types (Wrong offset fault) = ⊤
-Weighs lines types Wanted = ⊤
+Weighs lines types p = ⊤
 
 copied-weight : (line : List ℕ) (rest : List ReadLine)
     → size (line ∷ []) + weight (drop 1 (Content line ∷ rest)) ≤ weight (Content line ∷ rest)
@@ -164,8 +148,7 @@ epoch-weight types older lines read count e whole within =
 observed-weighs : (types : List Count) (older : List RawEpoch) (lines : List ReadLine) (p : Place ReadEpoch)
     → epoch_at types older lines ≡ p → Weighs lines types (as_observation p)
 observed-weighs types older lines (Here read count) e = epoch-weight types older lines read count e
-observed-weighs types older lines (Wrong offset fault) e = tt
-observed-weighs types older lines Wanted e = tt
+observed-weighs types older lines p e = tt
 
 unit-weighs : (items : List (Item ReadEpoch)) (lines : List ReadLine)
     → Weighs lines (types_in_force items) (compact_place items lines)
@@ -177,8 +160,7 @@ unit-weighs items lines =
     (observed-weighs types (raws_kept items) lines (epoch_at types (raws_kept items) lines) refl))
 
 written-weighs : (items : List (Item ReadEpoch)) (lines : List ReadLine) (unit : FileUnit ReadEpoch)
-    (count : ℕ)
-    → compact_place items lines ≡ Here unit count → AreGoodEpochs (Accepted unit ∷ items)
+    (count : ℕ) → compact_place items lines ≡ Here unit count → AreGoodEpochs (Accepted unit ∷ items)
     → size (expanded_unit items unit) + weight (drop count lines) ≤ weight lines
 written-weighs items lines unit count e good =
     by_unit unit good (subst (Weighs lines (types_in_force items)) e (unit-weighs items lines))
@@ -214,8 +196,7 @@ reading-fits skip number lines =
           let less = drop-lighter n ls in
           let before = h.1 in
           (h.0, omega (arith, less, before));
-    })
-    (length lines + 1) [] number lines (tt, omega arith) in
+    }) (length lines + 1) [] number lines (tt, omega arith) in
     let all = kept.1.1 in
     omega (arith, all)
 
@@ -277,8 +258,7 @@ within-size text choices = by_first (first_lines lines) refl
         let fits : size (expanded_lines r.items) ≤ weight rest = reading-fits choices.skip (count + 1) rest in
         let same : length (expanded text choices).output ≡ size (expanded_lines r.items) =
         ap (λ (w : WholeReading ReadEpoch). size (expanded_lines w.items))
-        (whole-at choices.skip lines two count e)
-        ∙ ap size (ended-lines choices.skip r.items r.stop) in
+        (whole-at choices.skip lines two count e) ∙ ap size (ended-lines choices.skip r.items r.stop) in
         let left = drop-weight count lines within in
         let lighter = pieces-lighter (pieces_of text) in
         let bytes = bytes-weigh text in

@@ -1,28 +1,17 @@
 -- The numbers of lines stand in warnings and faults alone: without them, the same lines are read alike
 -- whatever their numbers are.
-use Rattle.std.proofs.Common.{ℕ, zero, suc, ◌≡◌, ◌+◌, ◌-◌, max, Bool, cond, List, [], ◌∷◌, ◌++◌, length, drop}
-use Rattle.std.proofs.Common.{Option, Some, None, refl, ap, sym, ◌∙◌}
-use Rattle.std.specs.Prelude.{◌||◌}
-use Rattle.crx_faults.specs.meaning.Seen.{ReadLine}
-use Rattle.crx_faults.specs.declared.fault.At.{At}
-use Rattle.crx_faults.specs.declared.fault.Fault.{Fault}
-use Rattle.crx_header.specs.meaning.Header.{is_end_of_header}
-use Rattle.crx_header.specs.meaning.ObservationTypes.{types_of}
-use Rattle.crx_rinex.specs.meaning.Places.{Wrong}
-use Rattle.crx_rinex.specs.meaning.Units.{HeaderLine, EventLine, EventRecord, Observation, printed_unit}
-use Rattle.crx_compact.specs.meaning.CompactPlaces.{ReadEpoch}
-use Rattle.crx_reading.specs.meaning.Items.{Item, Accepted, Warned, is_at_start, header_has_ended}
-use Rattle.crx_reading.specs.meaning.Items.{records_left}
-use Rattle.crx_reading.specs.meaning.Items.{records_count_types, declaring_lines, types_in_force}
-use Rattle.crx_reading.specs.meaning.Reading.{Reading, Stop, AtFault, AtLines, Looking, is_skipped}
-use Rattle.crx_reading.specs.meaning.Reading.{can_go_on, looked_for, reading_within, fault_at_end}
-use Rattle.crx_reading.specs.meaning.Reading.{ended_with, ended_reading}
-use Rattle.crx_reading.specs.meaning.Expanded.{raws_kept, empties_state, compact_place, rinex_unit}
+use Rattle.crx_filter.proofs.Words.{ℕ, zero, suc, ◌≡◌, ◌+◌, ◌-◌, max, Bool, cond, List, [], ◌∷◌, ◌++◌, length}
+use Rattle.crx_filter.proofs.Words.{drop, Option, Some, None, refl, ap, sym, ◌∙◌, ◌||◌, ReadLine, At, Fault}
+use Rattle.crx_filter.proofs.Words.{is_end_of_header, types_of, Wrong, HeaderLine, EventLine, EventRecord}
+use Rattle.crx_filter.proofs.Words.{Observation, printed_unit, ReadEpoch, Item, Accepted, Warned, is_at_start}
+use Rattle.crx_filter.proofs.Words.{header_has_ended, records_left, records_count_types, declaring_lines}
+use Rattle.crx_filter.proofs.Words.{types_in_force, Reading, Stop, AtFault, AtLines, Looking, is_skipped}
+use Rattle.crx_filter.proofs.Words.{can_go_on, looked_for, reading_within, fault_at_end, ended_with}
+use Rattle.crx_filter.proofs.Words.{ended_reading, raws_kept, empties_state, compact_place, expanded_lines}
+use Rattle.crx_reading.specs.meaning.Expanded.{rinex_unit}
 use Rattle.crx_reading.proofs.Choosing.{by_bool}
-use Rattle.crx_filter.specs.Expanded.{expanded_lines}
 use Rattle.crx_filter.proofs.reading.Resuming.{by_place, within-here, within-wrong, within-wanted}
-use Rattle.crx_filter.proofs.reading.Resuming.{fault-skipped}
-use Rattle.crx_filter.proofs.reading.Resuming.{fault-ends, looked-here, looked-on}
+use Rattle.crx_filter.proofs.reading.Resuming.{fault-skipped, fault-ends, looked-here, looked-on}
 use Rattle.crx_laws.specs.Blocks.{kind_of}
 
 -- ---- items without numbers
@@ -143,8 +132,7 @@ within-alike skip (suc units) a b m n lines e = by_place (compact_place a lines)
     (λ unit count is.
     ap erased_reading (within-here compact_place skip units a m lines unit count is)
     ∙ within-alike skip units (Accepted unit ∷ a) (Accepted unit ∷ b) (m + count) (n + count)
-    (drop count lines)
-    (ap (λ items. Accepted unit ∷ items) e)
+    (drop count lines) (ap (λ items. Accepted unit ∷ items) e)
     ∙ sym (ap erased_reading (within-here compact_place skip units b n lines unit count
     (sym (place-alike a b e lines) ∙ is))))
     (λ offset fault is.
@@ -187,10 +175,9 @@ ended_with-lines skip items number (Some fault) = by_bool (is_skipped skip items
 -- the end writes nothing
 pub ended-lines : (skip : Bool) (items : List (Item ReadEpoch)) (stop : Stop)
     → expanded_lines (ended_reading skip (record { items = items; stop = stop })).items ≡ expanded_lines items
-ended-lines skip items (AtFault at) = refl
 ended-lines skip items (AtLines number lines) =
     ended_with-lines skip items (number + length lines) (fault_at_end items lines)
-ended-lines skip items (Looking number) = refl
+ended-lines skip items stop = refl
 
 end-erased : (items : List (Item ReadEpoch)) (lines : List ReadLine)
     → fault_at_end (erased items) lines ≡ fault_at_end items lines
@@ -199,8 +186,7 @@ end-erased (Accepted unit ∷ before) (line ∷ lines) = refl
 end-erased (Warned at ∷ before) (line ∷ lines) = refl
 end-erased (Accepted unit ∷ before) [] =
     rw (header-erased (Accepted unit ∷ before), left-erased (Accepted unit ∷ before)) refl
-end-erased (Warned at ∷ before) [] =
-    rw (header-erased (Warned at ∷ before)) refl
+end-erased (Warned at ∷ before) [] = rw (header-erased (Warned at ∷ before)) refl
 
 ended_with-kind : (skip : Bool) (items : List (Item ReadEpoch)) (m n : ℕ) (o : Option Fault)
     → kind_of (ended_with skip items m o).fault ≡ kind_of (ended_with skip (erased items) n o).fault
@@ -216,9 +202,8 @@ ended_with-kind skip items m n (Some fault) =
 pub ended-kind : (skip : Bool) (items : List (Item ReadEpoch)) (stop : Stop)
     → kind_of (ended_reading skip (record { items = items; stop = stop })).fault
     ≡ kind_of (ended_reading skip (record { items = erased items; stop = erased_stop stop })).fault
-ended-kind skip items (AtFault at) = refl
 ended-kind skip items (AtLines number lines) =
     ended_with-kind skip items (number + length lines) (0 + length lines) (fault_at_end items lines)
     ∙ ap (λ o. kind_of (ended_with skip (erased items) (0 + length lines) o).fault) (sym
     (end-erased items lines))
-ended-kind skip items (Looking number) = refl
+ended-kind skip items stop = refl

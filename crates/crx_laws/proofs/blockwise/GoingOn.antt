@@ -1,32 +1,17 @@
 -- What comes after a text that is expanded without a fault is read after its units, and after a warning, if
 -- there is one; and alike after another text that leaves the same types.
-use Rattle.std.proofs.Common.{ℕ, ◌≡◌, ◌+◌, ◌⊎◌, inl, inr, Bool, true, false, cond, List, [], ◌∷◌, ◌++◌, map}
-use Rattle.std.proofs.Common.{length, drop, Option, Some, None, refl, ap, sym, ◌∙◌, subst, arith, append-nil}
-use Rattle.std.specs.Prelude.{◌&&◌, ◌==◌, not, nat_lt}
-use Rattle.std.proofs.lemmas.Bool.{and_parts, ltb-false}
-use Rattle.std.proofs.lemmas.Grind.{flat_map-append}
-use Rattle.std.proofs.lemmas.List.{drop-append-le}
-use Rattle.crx_faults.specs.meaning.Lines.{lines_of, pieces_of, lines_text}
-use Rattle.crx_faults.specs.meaning.Seen.{ReadLine, Content, Overlong, seen}
-use Rattle.crx_faults.specs.declared.fault.At.{At}
-use Rattle.crx_faults.specs.declared.fault.Fault.{Fault}
-use Rattle.crx_header.specs.meaning.EpochColumns.{begins_epoch, is_event_line}
-use Rattle.crx_rinex.specs.meaning.Places.{Place, Here, Wrong, Wanted, one_line}
-use Rattle.crx_rinex.specs.Steady.{Remains}
-use Rattle.crx_compact.specs.meaning.CompactPlaces.{ReadEpoch, epoch_at}
-use Rattle.crx_options.specs.meaning.Choices.{Choices}
-use Rattle.crx_reading.specs.meaning.Items.{Item, header_has_ended, records_announced, records_left}
-use Rattle.crx_reading.specs.meaning.Items.{types_in_force}
-use Rattle.crx_reading.specs.meaning.Reading.{Reading, WholeReading, Stop, AtFault, AtLines, Looking}
-use Rattle.crx_reading.specs.meaning.Reading.{is_skipped}
-use Rattle.crx_reading.specs.meaning.Reading.{reading_from, fault_at_end, ended_with, ended_reading}
-use Rattle.crx_reading.specs.meaning.Expanded.{raws_kept, event_line, as_observation, compact_place}
-use Rattle.crx_reading.specs.meaning.Expanded.{first_lines}
-use Rattle.crx_reading.specs.meaning.Expanded.{whole_compact, expanded}
+use Rattle.crx_filter.proofs.Words.{ℕ, ◌≡◌, ◌+◌, ◌⊎◌, inl, inr, Bool, true, false, cond, List, [], ◌∷◌, ◌++◌}
+use Rattle.crx_filter.proofs.Words.{map, length, drop, Option, Some, None, refl, ap, sym, ◌∙◌, subst}
+use Rattle.crx_filter.proofs.Words.{append-nil, ◌&&◌, ◌==◌, nat_lt, and_parts, drop-append-le, lines_of}
+use Rattle.crx_filter.proofs.Words.{pieces_of, lines_text, ReadLine, Content, Overlong, seen, At, Fault}
+use Rattle.crx_filter.proofs.Words.{begins_epoch, is_event_line, Place, Here, Wrong, Wanted, one_line}
+use Rattle.crx_filter.proofs.Words.{Remains, ReadEpoch, epoch_at, Choices, Item, header_has_ended}
+use Rattle.crx_filter.proofs.Words.{records_announced, records_left, types_in_force, Reading, WholeReading}
+use Rattle.crx_filter.proofs.Words.{Stop, AtFault, AtLines, Looking, is_skipped, reading_from, fault_at_end}
+use Rattle.crx_filter.proofs.Words.{ended_with, ended_reading, raws_kept, event_line, as_observation}
+use Rattle.crx_filter.proofs.Words.{compact_place, first_lines, whole_compact, expanded, IsBetweenUnits}
+use Rattle.crx_filter.proofs.Words.{GoOnAlike, starts_anew, expanded_lines, continued_reading}
 use Rattle.crx_reading.proofs.Choosing.{by_bool}
-use Rattle.crx_filter.specs.Anew.{IsBetweenUnits, GoOnAlike, starts_anew}
-use Rattle.crx_filter.specs.Expanded.{expanded_lines}
-use Rattle.crx_filter.specs.Laws.{continued_reading}
 use Rattle.crx_filter.proofs.following.Lines.{IsStopped, one_line-decided}
 use Rattle.crx_filter.proofs.reading.Anew.{depends-on_types}
 use Rattle.crx_filter.proofs.reading.CompactPrefixes.{whole-at}
@@ -35,13 +20,15 @@ use Rattle.crx_filter.proofs.reading.Resuming.{looked-here, resumed}
 use Rattle.crx_filter.proofs.reading.Stopping.{reading-stopped}
 use Rattle.crx_filter.proofs.reading.WhatWasRead.{allowed}
 use Rattle.crx_filter.proofs.damage.BlockReading.{place-between}
-use Rattle.crx_filter.proofs.damage.DamagedText.{each-ended, lines-append as pieces-append}
+use Rattle.crx_filter.proofs.damage.DamagedText.{each-ended, lines-append as pieces-append, text-append}
 use Rattle.crx_filter.proofs.damage.GoingOn.{with_warnings, warned-between, warned-types, GoesOnAt}
 use Rattle.crx_filter.proofs.damage.GoingOn.{open-goes_on}
-use Rattle.crx_filter.proofs.damage.SavedText.{lines-append, lines-warned, header-append, left-append}
+use Rattle.crx_filter.proofs.damage.SavedText.{lines-append, lines-warned, left-append}
 use Rattle.crx_laws.specs.Blocks.{read_of_text, CanGoOn, HaveSameTypes, kind_of, GoOnWith, StandAlone}
 use Rattle.crx_laws.proofs.blockwise.Erased.{erased_reading, within-alike, lines-erased, ended-lines}
 use Rattle.crx_laws.proofs.blockwise.Erased.{ended-kind}
+use Rattle.crx_filter.proofs.reading.Each.{header-append}
+use Rattle.crx_filter.proofs.wayback.WayBack.{end-body, lt-none}
 
 -- ---- where a reading whose end is good has stopped
 
@@ -56,15 +43,6 @@ end-passed skip items number (Some fault) e = by_bool (is_skipped skip items fau
     let never : ◌≡◌ {A = Option At} (Some (record { line = number; fault = fault })) None =
     rw (off, ended_with) at e in
     absurd (cc))
-
-end-body : (b c : Bool) (one two : Fault)
-    → cond (not b) (Some one) (cond c (Some two) None) ≡ None → (b ≡ true) × (c ≡ false)
-end-body true true one two e = absurd (cc)
-end-body true false one two e = (refl, refl)
-end-body false c one two e = absurd (cc)
-
-lt-none : (n : ℕ) → nat_lt 0 n ≡ false → n ≡ 0
-lt-none n e = let h = ltb-false 0 n e in omega (arith, h)
 
 end-good : (items : List (Item ReadEpoch)) (rest : List ReadLine)
     → fault_at_end items rest ≡ None → IsBetweenUnits items × (rest ≡ [])
@@ -99,8 +77,7 @@ pub record GoesOn (skip : Bool) (items : List (Item ReadEpoch)) (lines : List Re
   pub same : r ≡ reading_from compact_place skip (with_warnings warnings items) number lines
 
 wanted-no_event : (items : List (Item ReadEpoch)) (line : List ℕ) (rest : List ReadLine)
-    → IsBetweenUnits items
-    → compact_place items (Content line ∷ rest) ≡ Wanted → is_event_line line ≡ false
+    → IsBetweenUnits items → compact_place items (Content line ∷ rest) ≡ Wanted → is_event_line line ≡ false
 wanted-no_event items line rest between e = by_bool (is_event_line line)
     (λ on. absurd (one_line-decided (event_line {E = ReadEpoch} line) (sym (there on) ∙ e)))
     (λ off. off)
@@ -112,8 +89,7 @@ wanted-no_event items line rest between e = by_bool (is_event_line line)
 
 open-passed : (items : List (Item ReadEpoch)) (number : ℕ) (rest : List ReadLine) (line : List ℕ)
     (tail : List ReadLine) → IsBetweenUnits items → compact_place items rest ≡ Wanted
-    → begins_epoch line ≡ true
-    → GoesOn true items (Content line ∷ tail)
+    → begins_epoch line ≡ true → GoesOn true items (Content line ∷ tail)
     (reading_from compact_place true items number (rest ++ Content line ∷ tail))
 open-passed items number [] line tail between e begins =
     record { between = between; warnings = []; number = number; same = refl }
@@ -199,11 +175,9 @@ text-read text choices h = by_first (first_lines lines) refl
               ap (whole_compact choices.skip) (pieces-append text more (each-ended (pieces_of text) h.lines))
               ∙ whole-at choices.skip (lines ++ M) two count stays.1
               ∙ ap (λ ls. ended_reading choices.skip (reading_from compact_place choices.skip []
-              (count + 1) ls))
-              (drop-append-le count lines M stays.0)
+              (count + 1) ls)) (drop-append-le count lines M stays.0)
               ∙ ap (ended_reading choices.skip) (resumed compact_place compact-forward choices.skip []
-              (count + 1)
-              (drop count lines) M);
+              (count + 1) (drop count lines) M);
         }
 
 -- ---- the end, and what it leaves
@@ -217,10 +191,9 @@ ended_with-types skip items number (Some fault) = by_bool (is_skipped skip items
 
 ended-types : (skip : Bool) (items : List (Item ReadEpoch)) (stop : Stop)
     → types_in_force (ended_reading skip (record { items = items; stop = stop })).items ≡ types_in_force items
-ended-types skip items (AtFault at) = refl
 ended-types skip items (AtLines number lines) =
     ended_with-types skip items (number + length lines) (fault_at_end items lines)
-ended-types skip items (Looking number) = refl
+ended-types skip items stop = refl
 
 -- items that leave a reader at the same place of a file
 module _ (a b : List (Item ReadEpoch)) (one : header_has_ended a ≡ true) (two : header_has_ended b ≡ true)
@@ -247,11 +220,10 @@ module _ (a b : List (Item ReadEpoch)) (one : header_has_ended a ≡ true) (two 
 
   ended-same : (skip : Bool) (stop : Stop) → (ended_reading skip (record { items = a; stop = stop })).fault
       ≡ (ended_reading skip (record { items = b; stop = stop })).fault
-  ended-same skip (AtFault at) = refl
   ended-same skip (AtLines number lines) =
       ap (λ o. (ended_with skip a (number + length lines) o).fault) (end-same lines)
       ∙ ended_with-same skip (number + length lines) (fault_at_end b lines)
-  ended-same skip (Looking number) = refl
+  ended-same skip stop = refl
 
 -- ---- the law
 
@@ -301,8 +273,7 @@ pub record IsFurtherRead (text more : List ℕ) (choices : Choices) (lines : Lis
       ≡ ended_reading choices.skip (reading_from compact_place choices.skip items number lines)
 
 further-read : (text more : List ℕ) (choices : Choices) (line : List ℕ) (tail : List ReadLine)
-    → CanGoOn text choices
-    → map seen (lines_of more) ≡ Content line ∷ tail → begins_epoch line ≡ true
+    → CanGoOn text choices → map seen (lines_of more) ≡ Content line ∷ tail → begins_epoch line ≡ true
     → IsFurtherRead text more choices (Content line ∷ tail)
 further-read text more choices line tail h is begins =
     let t : IsTextRead text choices = text-read text choices h in
@@ -320,12 +291,8 @@ further-read text more choices line tail h is begins =
           ∙ ended-lines choices.skip t.items t.stop ∙ sym (lines-warned g.warnings t.items));
       after = t.further more
           ∙ ap (λ ls. ended_reading choices.skip (continued_reading compact_place choices.skip
-          (record { items = t.items; stop = t.stop }) ls)) is
-          ∙ ap (ended_reading choices.skip) g.same;
+          (record { items = t.items; stop = t.stop }) ls)) is ∙ ap (ended_reading choices.skip) g.same;
     }
-
-text-append : (one two : List (List ℕ)) → lines_text (one ++ two) ≡ lines_text one ++ lines_text two
-text-append one two = flat_map-append (λ (line : List ℕ). line ++ 10 ∷ []) one two
 
 nothing-more : (text more : List ℕ) (choices : Choices) → CanGoOn text choices → map seen (lines_of more) ≡ []
     → read_of_text (text ++ more) choices ≡ read_of_text text choices

@@ -1,23 +1,12 @@
 -- What a compaction wrote of some units, read after other units that leave the same types.
-use Rattle.std.proofs.Common.{ℕ, ◌≡◌, ◌+◌, true, List, [], ◌∷◌, ◌++◌, map, length, Option, None, ap, sym, ◌∙◌}
-use Rattle.std.proofs.Common.{subst}
+use Rattle.crx_filter.proofs.Words.{ℕ, ◌≡◌, ◌+◌, true, List, [], ◌∷◌, ◌++◌, map, length, Option, None, ap}
+use Rattle.crx_filter.proofs.Words.{sym, ◌∙◌, subst, lines_of, lines_text, Content, seen, version_line}
+use Rattle.crx_filter.proofs.Words.{program_line, ReadEpoch, Choices, is_date, Epoch, Item, header_has_ended}
+use Rattle.crx_filter.proofs.Words.{records_left, Reading, AtLines, reading_from, ended_with, ended_reading}
+use Rattle.crx_filter.proofs.Words.{compact_lines, compact_place, expanded_unit, whole_compact, expanded}
+use Rattle.crx_filter.proofs.Words.{printed_items, written_well, warnings_in, result_of, IsBetweenUnits}
+use Rattle.crx_filter.proofs.Words.{GoOnAlike, expanded_lines, continued_reading}
 use Rattle.std.proofs.lemmas.List.{append_cancel_right}
-use Rattle.crx_faults.specs.meaning.Lines.{lines_of, lines_text}
-use Rattle.crx_faults.specs.meaning.Seen.{Content, seen}
-use Rattle.crx_header.specs.meaning.CompactHeader.{version_line, program_line}
-use Rattle.crx_compact.specs.meaning.CompactPlaces.{ReadEpoch}
-use Rattle.crx_options.specs.meaning.Choices.{Choices, is_date}
-use Rattle.crx_rinex.specs.meaning.Observations.{Epoch}
-use Rattle.crx_reading.specs.meaning.Items.{Item, header_has_ended, records_left}
-use Rattle.crx_reading.specs.meaning.Reading.{Reading, AtLines, reading_from, ended_with, ended_reading}
-use Rattle.crx_reading.specs.meaning.Compacted.{compact_lines}
-use Rattle.crx_reading.specs.meaning.Expanded.{compact_place, expanded_unit, whole_compact, expanded}
-use Rattle.crx_reading.specs.meaning.Standard.{printed_items}
-use Rattle.crx_reading.specs.meaning.WayBack.{written_well}
-use Rattle.crx_reading.specs.meaning.Written.{warnings_in, result_of}
-use Rattle.crx_filter.specs.Anew.{IsBetweenUnits, GoOnAlike}
-use Rattle.crx_filter.specs.Expanded.{expanded_lines}
-use Rattle.crx_filter.specs.Laws.{continued_reading}
 use Rattle.crx_filter.specs.meaning.Stretches.{read_of_file}
 use Rattle.crx_filter.proofs.reading.Anew.{depends-on_types}
 use Rattle.crx_filter.proofs.reading.Ending.{closes-well}
@@ -29,17 +18,16 @@ use Rattle.crx_filter.proofs.wayback.Items.{known_back, read_back}
 use Rattle.crx_filter.proofs.wayback.Reading.{lines_back}
 use Rattle.crx_filter.proofs.wayback.WayBack.{IsSettled, printed-same, no-warnings, result-well, whole-after}
 use Rattle.crx_filter.proofs.damage.BlockSaved.{back-between, rest-in_place}
-use Rattle.crx_filter.proofs.damage.SavedText.{lines-append, warnings-append, none-first, header-append}
-use Rattle.crx_filter.proofs.damage.SavedText.{left-append}
+use Rattle.crx_filter.proofs.damage.SavedText.{lines-append, warnings-append, none-first, left-append}
 use Rattle.crx_filter.proofs.damage.TextAfter.{lines_on, reads-on, text-anew}
 use Rattle.crx_filter.proofs.stretches.KeptReading.{back_on, back-parts, back-printed}
 use Rattle.crx_filter.proofs.stretches.StretchesCut.{AreGood, good-before, kept-lines, kept-clean}
 use Rattle.crx_filter.proofs.stretches.StretchesSaved.{file-settled, file-good, front-seen, front-read}
 use Rattle.crx_laws.specs.Blocks.{IsPieceAfter}
+use Rattle.crx_filter.proofs.reading.Each.{header-append}
 
 pub piece-back : (file front : List ℕ) (choices expanding : Choices) (text : List ℕ)
-    → is_date choices.date ≡ true
-    → (h : IsPieceAfter file front choices text) → expanded text expanding
+    → is_date choices.date ≡ true → (h : IsPieceAfter file front choices text) → expanded text expanding
     ≡ written_well (lines_text (printed_items (read_of_file front choices).items ++ printed_items h.piece))
 piece-back file front choices expanding text dated h =
     let every : Option ℕ = choices.every in
@@ -78,8 +66,7 @@ piece-back file front choices expanding text dated h =
     ∙ ap records_left (sym (back-parts every h.piece h.before))
     ∙ left-same (known_back every) (h.piece ++ h.before) good.in_place ∙ h.whole.1 in
     let cut : map seen (lines_of text) ≡ Content version_line ∷ Content (program_line choices.date)
-    ∷ (map Content old ++ map Content lines) =
-    ap (λ t. map seen (lines_of t)) h.text_is
+    ∷ (map Content old ++ map Content lines) = ap (λ t. map seen (lines_of t)) h.text_is
     ∙ ap (λ ls. map seen (lines_of (lines_text (compact_lines choices first) ++ lines_text ls)))
     (kept-lines choices h.piece h.before good.in_place h.header)
     ∙ front-seen choices first (lines_text lines) dated (file-good front choices h.front_good)
@@ -89,10 +76,8 @@ piece-back file front choices expanding text dated h =
     let whole : whole_compact skip (map seen (lines_of text)) ≡ record { items = more ++ x; fault = None } =
     ap (whole_compact skip) cut ∙ whole-after skip choices.date (map Content old ++ map Content lines)
     ∙ ap (ended_reading skip) (resumed compact_place compact-forward skip [] 3 (map Content old)
-    (map Content lines)
-    ∙ ap (λ r. continued_reading compact_place skip r (map Content lines))
-    (front-read skip every first settled.in_place)
-    ∙ read)
+    (map Content lines) ∙ ap (λ r. continued_reading compact_place skip r (map Content lines))
+    (front-read skip every first settled.in_place) ∙ read)
     ∙ ap (ended_with skip (more ++ x) (last + 0)) (closes-well (more ++ x) header left) in
     let none : warnings_in more ≡ [] = none-first (warnings_in more) (warnings_in y)
     (sym (warnings-append more y) ∙ ap warnings_in (sym (back-parts every h.piece h.before))

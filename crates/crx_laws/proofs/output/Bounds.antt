@@ -1,53 +1,39 @@
 -- What is held between two lines is bounded.
-use Rattle.std.proofs.Common.{ℕ, zero, suc, ◌≡◌, Bool, List, [], ◌∷◌, Option, Some, None}
-use Rattle.std.proofs.Common.{IfSome, ap, sym, ◌∙◌, subst, arith}
-use Rattle.std.specs.Prelude.{All}
-use Rattle.std.specs.List.{AllByRecursion}
-use Rattle.std.proofs.lemmas.List.Elements.{All-head, All-tail}
-use Rattle.crx_faults.specs.meaning.Seen.{ReadLine}
+use Rattle.crx_filter.proofs.Words.{ℕ, zero, suc, ◌≡◌, Bool, List, [], ◌∷◌, Option, Some, None, ap, sym, ◌∙◌}
+use Rattle.crx_filter.proofs.Words.{subst, arith, All, AllByRecursion, All-head, All-tail, ReadLine, Row}
+use Rattle.crx_filter.proofs.Words.{Epoch, Count, Here, IsSoundRow, HeaderLine, EventLine, EventRecord}
+use Rattle.crx_filter.proofs.Words.{Observation, OpenEpoch, ReadEpoch, epoch_at, RawEpoch, Tail, OpenRawEpoch}
+use Rattle.crx_filter.proofs.Words.{first_step, open_raw_with, Choices, Item, Accepted, Warned}
+use Rattle.crx_filter.proofs.Words.{header_has_ended, records_left, records_count_types, types_in_force}
+use Rattle.crx_filter.proofs.Words.{Reading, Stop, AtLines, Phase, InEpoch, Ended, kept_in, phase_in_body}
+use Rattle.crx_filter.proofs.Words.{phase_after_items, phase_of, marked_epochs, rinex_place, rinex_reading}
+use Rattle.crx_filter.proofs.Words.{Written, compaction, written_of, rinex_open, compaction_seen}
+use Rattle.crx_filter.proofs.Words.{compact_place, empties_state, raws_kept, first_lines, compact_reading}
+use Rattle.crx_filter.proofs.Words.{expansion, tail_of_items, begins_event, compact_open, expansion_seen}
+use Rattle.crx_filter.proofs.Words.{ItemsAreRead, AreInPlace}
+use Rattle.std.proofs.Common.{IfSome}
 use Rattle.crx_faults.specs.declared.limits.TheConstants.{ORDER_LIMIT, WRITTEN_ORDER}
-use Rattle.crx_rinex.specs.meaning.Observations.{Row, Epoch}
-use Rattle.crx_header.specs.meaning.ObservationTypes.{Count}
 use Rattle.crx_header.specs.ObservationTypes.{AreCounts}
-use Rattle.crx_rinex.specs.meaning.Places.{Here}
-use Rattle.crx_rinex.specs.meaning.SatelliteLines.{IsSoundRow}
-use Rattle.crx_rinex.specs.meaning.Units.{HeaderLine, EventLine, EventRecord, Observation}
-use Rattle.crx_rinex.specs.meaning.EpochPlaces.{OpenEpoch}
 use Rattle.crx_header.proofs.Counts.{systems_few}
 use Rattle.crx_laws.proofs.OpenSound.{IsOpenSoundly, open-sound}
-use Rattle.crx_compact.specs.meaning.CompactPlaces.{ReadEpoch, epoch_at}
-use Rattle.crx_compact.specs.meaning.Expansion.{RawEpoch}
-use Rattle.crx_compact.specs.Tails.{Tail, IsBoundedTail, tail_left}
-use Rattle.crx_compact.specs.OpenEpochs.{OpenRawEpoch, IsBoundedOpen, epoch_after, first_step, held_after, placed_as}
-use Rattle.crx_compact.specs.OpenEpochs.{place_by_steps, open_raw_with}
+use Rattle.crx_compact.specs.Tails.{IsBoundedTail, tail_left}
+use Rattle.crx_compact.specs.OpenEpochs.{IsBoundedOpen, epoch_after, held_after, placed_as, place_by_steps}
 use Rattle.crx_laws.proofs.soundness.BoundedTails.{written-bounded}
 use Rattle.crx_laws.proofs.soundness.BoundedReading.{read-bounded, open-bounded, place-bounded, OfHeld}
 use Rattle.crx_compact.proofs.reading.LineByLine.{steps-agree}
 use Rattle.crx_compact.proofs.reading.RawTailing.{place-by_tail, left-by_tail}
 use Rattle.crx_compact.proofs.soundness.Soundness.{reads-soundly}
 use Rattle.crx_compact.proofs.Characters.{length-is}
-use Rattle.crx_options.specs.meaning.Choices.{Choices}
-use Rattle.crx_reading.specs.meaning.Items.{Item, Accepted, Warned, header_has_ended, records_left, records_count_types}
-use Rattle.crx_reading.specs.meaning.Items.{types_in_force}
-use Rattle.crx_reading.specs.meaning.Reading.{Reading, Stop, AtFault, AtLines, Looking}
-use Rattle.crx_reading.specs.LineByLine.{Phase, InEpoch}
-use Rattle.crx_reading.specs.LineByLine.{Ended, kept_in, phase_in_body, phase_after_items, phase_of}
-use Rattle.crx_reading.specs.meaning.Compacted.{marked_epochs, rinex_place}
-use Rattle.crx_reading.specs.meaning.Directions.{rinex_reading}
-use Rattle.crx_reading.specs.CompactionByLine.{Written, compaction, written_of, rinex_open, compaction_seen}
-use Rattle.crx_reading.specs.meaning.Expanded.{compact_place, empties_state, raws_kept, first_lines}
-use Rattle.crx_reading.specs.meaning.Directions.{compact_reading}
-use Rattle.crx_reading.specs.ExpansionByLine.{expansion, tail_of_items, begins_event, compact_open}
-use Rattle.crx_reading.specs.ExpansionByLine.{phase_from_first_lines, expansion_seen}
-use Rattle.crx_filter.specs.Laws.{ItemsAreRead, AreInPlace}
-use Rattle.crx_laws.specs.Bounds.{IsBoundedRow, IsBoundedEpoch, OfOpen, IsBoundedCompaction, IsBoundedExpansion}
+use Rattle.crx_reading.specs.ExpansionByLine.{phase_from_first_lines}
+use Rattle.crx_laws.specs.Bounds.{IsBoundedRow, IsBoundedEpoch, OfOpen, IsBoundedCompaction}
+use Rattle.crx_laws.specs.Bounds.{IsBoundedExpansion}
 use Rattle.crx_reading.proofs.Choosing.{by_bool}
 use Rattle.crx_filter.proofs.wayback.ExpandedWhole.{epoch-read}
 use Rattle.crx_filter.proofs.reading.Types.{counts-in_force}
 use Rattle.crx_filter.proofs.wayback.Items.{marked_now, whole-next}
-use Rattle.crx_filter.proofs.reading.WhatStands.{by_first}
 use Rattle.crx_filter.proofs.reading.WhatWasRead.{items-read, compact-items-read}
 use Rattle.crx_filter.proofs.reading.InPlace.{items-in_place}
+use Rattle.crx_filter.proofs.reading.Resuming.{by_place}
 
 -- ---- the epoch that is open
 
@@ -59,17 +45,17 @@ in-body P (suc left) counted so_far h = tt
 
 after-items : {E O : Type 0} (P : O → Type 0) (items : List (Item E)) (so_far : Option O)
     → IfSome so_far P → OfOpen P (phase_after_items items so_far)
-after-items P items so_far h =
-    by_bool (header_has_ended items)
+after-items P items so_far h = by_bool (header_has_ended items)
     (λ on. rw on (in-body P (records_left items) (records_count_types items) so_far h))
     (λ off. rw off tt)
 
 open-phase : {E O : Type 0} (P : O → Type 0) (open_raw_with : List (Item E) → List ReadLine
-    → Option O) (items : List (Item E)) (stop : Stop) → ((lines : List ReadLine) → IfSome (open_raw_with items lines) P)
+    → Option O) (items : List (Item E)) (stop : Stop) → ((lines : List ReadLine)
+    → IfSome (open_raw_with items lines) P)
     → OfOpen P (phase_of open_raw_with (record { items = items; stop = stop }))
-open-phase P open_raw_with items (AtFault at) h = tt
-open-phase P open_raw_with items (AtLines number lines) h = after-items P items (open_raw_with items lines) (h lines)
-open-phase P open_raw_with items (Looking number) h = tt
+open-phase P open_raw_with items (AtLines number lines) h =
+    after-items P items (open_raw_with items lines) (h lines)
+open-phase P open_raw_with items stop h = tt
 
 -- ---- a compaction
 
@@ -122,7 +108,8 @@ compaction-bounded choices lines =
       systems = systems_few (types_in_force r.items) counts;
       counts = counts;
       tail = written-in (phase_of rinex_open r) (written_of choices.every r.items)
-          (kept-bounded choices r.items (items-in_place r.items (items-read rinex_place choices.skip 1 lines)));
+          (kept-bounded choices r.items (items-in_place r.items
+          (items-read rinex_place choices.skip 1 lines)));
       open_epoch = open-phase IsBoundedEpoch rinex_open r.items r.stop
           (λ ls. open-epoch (rinex_open r.items ls) (open-sound (types_in_force r.items) ls counts));
     }
@@ -163,32 +150,35 @@ left-bounded (Accepted (Observation read) ∷ before) h =
 left-bounded (Warned at ∷ before) h = tt
 
 open-with : (types : List Count) (tail : Option Tail) (lines : List ReadLine)
-    → AreCounts types → IfSome tail (IsBoundedTail ORDER_LIMIT) → IfSome (open_raw_with types tail lines) IsBoundedOpen
+    → AreCounts types → IfSome tail (IsBoundedTail ORDER_LIMIT)
+    → IfSome (open_raw_with types tail lines) IsBoundedOpen
 open-with types tail [] counts h = tt
 open-with types tail (line ∷ lines) counts h =
     open-bounded lines (first_step types tail line) (read-bounded.first types tail line counts h)
 
 compact-open : (items : List (Item ReadEpoch)) (lines : List ReadLine)
-    → IfSome (tail_of_items items) (IsBoundedTail ORDER_LIMIT) → IfSome (compact_open items lines) IsBoundedOpen
-compact-open items lines h =
-    by_bool (begins_event lines)
+    → IfSome (tail_of_items items) (IsBoundedTail ORDER_LIMIT)
+    → IfSome (compact_open items lines) IsBoundedOpen
+compact-open items lines h = by_bool (begins_event lines)
     (λ on. rw on tt)
     (λ off. rw off (open-with (types_in_force items) (tail_of_items items) lines (counts-in_force items) h))
 
 left-in : (phase : Phase OpenRawEpoch) (kept : Option Tail)
-    → IfSome kept (IsBoundedTail ORDER_LIMIT) → IfSome (kept_in expansion phase kept) (IsBoundedTail ORDER_LIMIT)
+    → IfSome kept (IsBoundedTail ORDER_LIMIT) → IfSome (kept_in expansion phase kept)
+    (IsBoundedTail ORDER_LIMIT)
 left-in (InEpoch so_far) kept h = tt
 left-in (Ended at) kept h = tt
 left-in phase kept h = h
 
 first-phase : (lines : List ReadLine) (phase : Phase OpenRawEpoch)
     → OfOpen IsBoundedOpen phase → OfOpen IsBoundedOpen (phase_from_first_lines lines phase)
-first-phase lines phase h = by_first (first_lines lines)
+first-phase lines phase h = by_place (first_lines lines)
     (λ two count e. rw (e, phase_from_first_lines) h)
     (λ offset fault e. rw (e, phase_from_first_lines) h)
     (λ e. rw (e, phase_from_first_lines) tt)
 
-pub expansion-bounded : (choices : Choices) (lines : List ReadLine) → IsBoundedExpansion (expansion_seen choices lines)
+pub expansion-bounded : (choices : Choices) (lines : List ReadLine)
+    → IsBoundedExpansion (expansion_seen choices lines)
 expansion-bounded choices lines =
     let r : Reading ReadEpoch = compact_reading choices.skip lines in
     let counts : AreCounts (types_in_force r.items) = counts-in_force r.items in

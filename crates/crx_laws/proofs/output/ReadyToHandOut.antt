@@ -1,21 +1,15 @@
 -- The lines of each unit in compact text can be borrowed.
-use Rattle.std.proofs.Common.{ℕ, ◌≡◌, ◌≤◌, Bool, true, false, List, [], ◌∷◌, ◌++◌, map, length, arith}
-use Rattle.std.specs.List.{AllByRecursion}
-use Rattle.std.proofs.lemmas.List.{length-map}
-use Rattle.crx_faults.specs.meaning.Seen.{ReadLine, Content, Overlong}
-use Rattle.crx_faults.specs.declared.limits.TheConstants.{LINE_LIMIT}
-use Rattle.crx_rinex.specs.meaning.Observations.{Row, Epoch}
-use Rattle.crx_rinex.specs.meaning.Units.{Unit as FileUnit, HeaderLine, EventLine, EventRecord, Observation}
-use Rattle.crx_compact.specs.meaning.Compaction.{Marked, run_of, satellite_line}
+use Rattle.crx_filter.proofs.Words.{ℕ, ◌≡◌, ◌≤◌, Bool, true, false, List, [], ◌∷◌, ◌++◌, map, length, arith}
+use Rattle.crx_filter.proofs.Words.{AllByRecursion, length-map, ReadLine, Content, Overlong, LINE_LIMIT, Row}
+use Rattle.crx_filter.proofs.Words.{Epoch, FileUnit, HeaderLine, EventLine, EventRecord, Observation, Marked}
+use Rattle.crx_filter.proofs.Words.{Choices, is_date, Item, Accepted, Warned, is_at_start, types_in_force}
+use Rattle.crx_filter.proofs.Words.{marked_epochs, compact_unit, rinex_place, rinex_reading, AreInPlace}
+use Rattle.crx_filter.proofs.Words.{OfCopiedLine, OfCopiedLines}
+use Rattle.crx_compact.specs.meaning.Compaction.{run_of, satellite_line}
 use Rattle.crx_compact.proofs.wayback.Lengths.{lines-short}
-use Rattle.crx_options.specs.meaning.Choices.{Choices, is_date}
-use Rattle.crx_reading.specs.meaning.Items.{Item, Accepted, Warned, is_at_start, types_in_force}
-use Rattle.crx_reading.specs.meaning.Compacted.{marked_epochs, compact_unit, rinex_place}
 use Rattle.crx_header.specs.meaning.CompactHeader.{lines_before_header}
-use Rattle.crx_reading.specs.meaning.Directions.{rinex_reading}
-use Rattle.crx_filter.specs.Laws.{AreInPlace}
-use Rattle.crx_reading.specs.meaning.WayBack.{OfCopiedLine, OfCopiedLines}
-use Rattle.crx_laws.specs.Bounds.{AreReadyToHandOut, OfUnits, longest_of, IsNotTooLong, CompactIsReadyToHandOut}
+use Rattle.crx_laws.specs.Bounds.{AreReadyToHandOut, OfUnits, longest_of, IsNotTooLong}
+use Rattle.crx_laws.specs.Bounds.{CompactIsReadyToHandOut}
 use Rattle.crx_filter.proofs.reading.InPlace.{items-in_place}
 use Rattle.crx_filter.proofs.reading.WhatWasRead.{items-read}
 use Rattle.crx_filter.proofs.wayback.Cut.{IsClean, OfContent}
@@ -27,7 +21,8 @@ abbrev IsShort : List ℕ → Type 0
 IsShort line = length line ≤ LINE_LIMIT
 
 header-ready_to_hand_out : (date line : List ℕ) (is_first : Bool)
-    → is_date date ≡ true → IsShort line → AreReadyToHandOut LINE_LIMIT (lines_before_header date is_first ++ line ∷ [])
+    → is_date date ≡ true → IsShort line → AreReadyToHandOut LINE_LIMIT
+    (lines_before_header date is_first ++ line ∷ [])
 header-ready_to_hand_out date line true dated h = record {
   few = omega arith;
   short = (IsClean.short version-clean, (IsClean.short (program-clean date dated), (h, tt)));
@@ -47,13 +42,14 @@ unit-ready_to_hand_out choices before (EventRecord line) dated h k = one-ready_t
 unit-ready_to_hand_out choices before (Observation epoch) dated h k =
     let m : Marked = marked_now choices.every before epoch in
     let older : List Marked = marked_epochs choices.every before in
-    let kept : length (map (λ (r : Row). satellite_line (run_of r.name (m ∷ older)) r) epoch.rows) ≡ length epoch.rows =
-    length-map epoch.rows (λ (r : Row). satellite_line (run_of r.name (m ∷ older)) r) in
+    let kept : length (map (λ (r : Row). satellite_line (run_of r.name (m ∷ older)) r) epoch.rows)
+    ≡ length epoch.rows = length-map epoch.rows (λ (r : Row). satellite_line (run_of r.name (m ∷ older)) r) in
     let full = (h.0).2.full in
     let within = (h.0).2.sound.head_sound.within in
     record {
       few = omega (arith, kept, full, within);
-      short = lines-short (types_in_force before) m.in_full m.epoch older (whole-next choices.every before epoch h);
+      short = lines-short (types_in_force before) m.in_full m.epoch older
+          (whole-next choices.every before epoch h);
     }
 
 units-ready_to_hand_out : (choices : Choices) (items : List (Item Epoch))
@@ -62,14 +58,17 @@ units-ready_to_hand_out : (choices : Choices) (items : List (Item Epoch))
 units-ready_to_hand_out choices [] dated h k = tt
 units-ready_to_hand_out choices (Accepted unit ∷ before) dated h k =
     (unit-ready_to_hand_out choices before unit dated h k.0, units-ready_to_hand_out choices before dated h.1 k.1)
-units-ready_to_hand_out choices (Warned at ∷ before) dated h k = units-ready_to_hand_out choices before dated h.1 k
+units-ready_to_hand_out choices (Warned at ∷ before) dated h k =
+    units-ready_to_hand_out choices before dated h.1 k
 
-contents-short : (lines : List ReadLine) → AllByRecursion IsNotTooLong lines → AllByRecursion (OfContent IsShort) lines
+contents-short : (lines : List ReadLine) → AllByRecursion IsNotTooLong lines
+    → AllByRecursion (OfContent IsShort) lines
 contents-short [] h = tt
 contents-short (Content line ∷ lines) h = (h.0, contents-short lines h.1)
 contents-short (Overlong ∷ lines) h = (tt, contents-short lines h.1)
 
-pub compact-ready_to_hand_out : (choices : Choices) (lines : List ReadLine) → CompactIsReadyToHandOut choices lines
+pub compact-ready_to_hand_out : (choices : Choices) (lines : List ReadLine)
+    → CompactIsReadyToHandOut choices lines
 compact-ready_to_hand_out choices lines dated short =
     units-ready_to_hand_out choices (rinex_reading choices.skip lines).items dated
     (items-in_place (rinex_reading choices.skip lines).items (items-read rinex_place choices.skip 1 lines))

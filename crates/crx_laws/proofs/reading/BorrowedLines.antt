@@ -1,30 +1,24 @@
 -- Compact lines that are borrowed one after another, and what they make.
-use Rattle.std.specs.Prelude.{◌≡◌, refl, ℕ, suc, ◌+◌, ◌*◌, ◌≤◌, Bool, true, false, List, [], ◌∷◌, drop, map, length}
-use Rattle.std.specs.Prelude.{slice_get, Option, Some, None, Result, Ok, Err, IfOk, IfErr}
-use Rattle.std.specs.Option.{is_some}
-use Rattle.std.proofs.Common.{sym, ◌∙◌, ap, arith, inl, inr, ◌⊎◌, true≢false}
-use Rattle.crx_faults.specs.meaning.Seen.{Content}
-use Rattle.crx_faults.specs.declared.fault.Fault.{Fault}
-use Rattle.crx_faults.specs.declared.fault.Fault.TheVariants.{OutOfMemory}
-use Rattle.crx_rinex.specs.meaning.Observations.{Epoch}
-use Rattle.crx_header.specs.meaning.ObservationTypes.{Count}
-use Rattle.crx_rinex.specs.meaning.Places.{Place, Here, Wrong, Wanted}
-use Rattle.crx_compact.specs.meaning.Compaction.{Marked, compact_epoch, since_full}
+use Rattle.crx_filter.proofs.Words.{◌≡◌, refl, ℕ, suc, ◌+◌, ◌*◌, ◌≤◌, Bool, true, false, List, [], ◌∷◌, drop}
+use Rattle.crx_filter.proofs.Words.{map, length, Option, Some, None, Result, Ok, Err, is_some, sym, ◌∙◌, ap}
+use Rattle.crx_filter.proofs.Words.{arith, inl, inr, ◌⊎◌, true≢false, Content, Fault, OutOfMemory, Epoch}
+use Rattle.crx_filter.proofs.Words.{Count, Place, Here, Wanted, Marked, compact_epoch, Tail, OpenRawEpoch}
+use Rattle.crx_filter.proofs.Words.{RawStep, first_step, TYPES_LIMIT, is_event_line, AllByRecursion}
+use Rattle.std.specs.Prelude.{slice_get, IfOk, IfErr}
+use Rattle.crx_compact.specs.meaning.Compaction.{since_full}
 use Rattle.crx_compact.specs.Laws.{AreWhole}
 use Rattle.crx_laws.specs.BorrowedLines.{AreReadable, HasGiven, IsFaultAt}
-use Rattle.crx_compact.specs.Tails.{Tail, tail_of, tail_or_nothing}
-use Rattle.crx_compact.specs.OpenEpochs.{ColumnsState, Faulty, Going, HasMade, HeldEpoch, Idle, OpenRawEpoch, RawStep}
-use Rattle.crx_compact.specs.OpenEpochs.{Reading, Whole, first_step, is_idle, place_by_steps, place_of_steps, step_in}
+use Rattle.crx_compact.specs.Tails.{tail_of, tail_or_nothing}
+use Rattle.crx_compact.specs.OpenEpochs.{ColumnsState, Faulty, Going, HasMade, HeldEpoch, Idle, Reading}
+use Rattle.crx_compact.specs.OpenEpochs.{Whole, is_idle, place_by_steps, place_of_steps, step_in}
 use Rattle.crx_laws.proofs.wayback.BackByLines.{steps-read_back}
 use Rattle.crx_compact.proofs.wayback.Lengths.{lines-short}
 use Rattle.crx_compact.proofs.wayback.Standing.{lines-stand}
-use Rattle.crx_faults.specs.declared.limits.TheConstants.{TYPES_LIMIT}
-use Rattle.crx_header.specs.meaning.EpochColumns.{is_event_line}
-use Rattle.std.specs.List.{AllByRecursion}
 
 -- an epoch is open, and what stands at all lines is what those that are left make of it; these may be read where all
 -- lines may
-pub record IsMidway (place : Place HeldEpoch) (state : ColumnsState) (all lines : List (List ℕ)) : Type 0 where
+pub record IsMidway (place : Place HeldEpoch) (state : ColumnsState)
+    (all lines : List (List ℕ)) : Type 0 where
   pub begun : OpenRawEpoch
   pub count : ℕ
   pub reading : state ≡ Reading begun
@@ -52,11 +46,13 @@ midway-begun types tail lines rest line after e made r = grind arith
 
 goes-on : (place : Place HeldEpoch) (state : ColumnsState) (all lines : List (List ℕ))
     (line : List ℕ) (step : RawStep) (w : IsMidway place state all lines) → Some line ≡ slice_get lines 0
-    → step_in state (Content line) ≡ step → place ≡ place_of_steps (suc w.count) step (map Content (drop 1 lines))
+    → step_in state (Content line) ≡ step → place ≡ place_of_steps (suc w.count) step
+    (map Content (drop 1 lines))
 goes-on place state all lines line step w e h = grind arith
 
 pub midway-more : (place : Place HeldEpoch) (state after : ColumnsState)
-    (all lines rest : List (List ℕ)) (line : List ℕ) → IsMidway place state all lines → Some line ≡ slice_get lines 0
+    (all lines rest : List (List ℕ)) (line : List ℕ) → IsMidway place state all lines → Some line
+    ≡ slice_get lines 0
     → HasMade (step_in state (Content line)) after None → rest ≡ drop 1 lines → IsMidway place after all rest
 midway-more place state after all lines rest line w e made r = grind arith
 
@@ -86,30 +82,28 @@ midway-idle place state all lines w = ap is_idle w.reading
 
 abbrev stands : Place HeldEpoch → Bool
 stands (Here h n) = true
-stands (Wrong o f) = false
-stands Wanted = false
+stands p = false
 
 written : (types : List Count) (tail : Option Tail) (lines : List (List ℕ)) (m : Marked) (older : List Marked)
     → AreWhole types (since_full (m ∷ older)) → lines ≡ compact_epoch (m ∷ older)
-    → (m.in_full ≡ false → tail ≡ tail_or_nothing older)
-    → place_by_steps types tail (map Content lines)
+    → (m.in_full ≡ false → tail ≡ tail_or_nothing older) → place_by_steps types tail (map Content lines)
     ≡ Here (record { epoch = m.epoch; tail = tail_of (m ∷ older) }) (2 + length m.epoch.rows)
 written types tail lines m older h e k = cc (e, steps-read_back types m older tail h k)
 
 -- each of them may be read
-all-readable : (lines : List (List ℕ)) → AllByRecursion (λ (line : List ℕ). length line ≤ 18 * TYPES_LIMIT) lines
+all-readable : (lines : List (List ℕ)) → AllByRecursion (λ (line : List ℕ). length line ≤ 18
+    * TYPES_LIMIT) lines
     → AllByRecursion (λ (line : List ℕ). is_event_line line ≡ false) lines → AreReadable lines
 all-readable [] short no_event = tt
 all-readable (line ∷ lines) short no_event = grind (arith, all-readable lines short.1 no_event.1)
 
 readable-lines : (types : List Count) (lines : List (List ℕ)) (m : Marked) (older : List Marked)
     → AreWhole types (since_full (m ∷ older)) → lines ≡ compact_epoch (m ∷ older) → AreReadable lines
-readable-lines types lines m older h e =
-    grind (
-      arith,
-      all-readable (compact_epoch (m ∷ older)) (lines-short types m.in_full m.epoch older h)
-          (lines-stand types m.in_full m.epoch older h).no_event,
-    )
+readable-lines types lines m older h e = grind (
+  arith,
+  all-readable (compact_epoch (m ∷ older)) (lines-short types m.in_full m.epoch older h)
+      (lines-stand types m.in_full m.epoch older h).no_event,
+)
 
 pub back-given : (result : Result (Option Epoch) Fault) (types : List Count)
     (tail : Option Tail) (lines : List (List ℕ)) (after : ColumnsState) (m : Marked) (older : List Marked)
@@ -125,14 +119,17 @@ back-given (Ok (Some epoch)) types tail lines after m older given h e k =
 
 pub back-refused : (result : Result (Option Epoch) Fault)
     (types : List Count) (tail : Option Tail) (lines : List (List ℕ)) (m : Marked) (older : List Marked)
-    → (AreReadable lines → IfErr result (λ fault. IsFaultAt (place_by_steps types tail (map Content lines)) fault
+    → (AreReadable lines → IfErr result (λ fault. IsFaultAt
+    (place_by_steps types tail (map Content lines)) fault
     ⊎ (fault ≡ OutOfMemory))) → AreWhole types (since_full (m ∷ older)) → lines ≡ compact_epoch (m ∷ older)
-    → (m.in_full ≡ false → tail ≡ tail_or_nothing older)
-    → IfErr result (λ fault. fault ≡ OutOfMemory)
-back-refused (Ok given) types tail lines m older refused h e k = refused (readable-lines types lines m older h e)
+    → (m.in_full ≡ false → tail ≡ tail_or_nothing older) → IfErr result (λ fault. fault ≡ OutOfMemory)
+back-refused (Ok given) types tail lines m older refused h e k =
+    refused (readable-lines types lines m older h e)
 back-refused (Err fault) types tail lines m older refused h e k =
     only (refused (readable-lines types lines m older h e))
   where
-    only : IsFaultAt (place_by_steps types tail (map Content lines)) fault ⊎ (fault ≡ OutOfMemory) → fault ≡ OutOfMemory
-    only (inl s) = absurd (true≢false (sym (ap stands (written types tail lines m older h e k)) ∙ ap stands s.1))
+    only : IsFaultAt (place_by_steps types tail (map Content lines)) fault ⊎ (fault ≡ OutOfMemory) → fault
+        ≡ OutOfMemory
+    only (inl s) = absurd (true≢false (sym (ap stands (written types tail lines m older h e k))
+        ∙ ap stands s.1))
     only (inr q) = q

@@ -1,58 +1,50 @@
 -- What is held of epochs that are read is within the limits.
-use Rattle.std.specs.Prelude.{◌≡◌, refl, ℕ, zero, suc, ◌+◌, ◌*◌, ◌≤◌, ◌<◌, ℤ, true, List, [], ◌∷◌, slice_get}
-use Rattle.std.specs.Prelude.{length, map, take, drop, Option, Some, None, Result, Ok, Err, IfSome, ⊤, slice_index_or}
-use Rattle.std.specs.Prelude.{slice_set, unwrap_or}
-use Rattle.std.specs.List.{list_all, AllByRecursion}
+use Rattle.crx_filter.proofs.Words.{◌≡◌, refl, ℕ, zero, suc, ◌+◌, ◌*◌, ◌≤◌, ◌<◌, ℤ, true, List, [], ◌∷◌}
+use Rattle.crx_filter.proofs.Words.{length, map, take, drop, Option, Some, None, Result, Ok, Err, ⊤, list_all}
+use Rattle.crx_filter.proofs.Words.{AllByRecursion, sym, ◌∙◌, ap, subst, arith, length-map, is_blank}
+use Rattle.crx_filter.proofs.Words.{character_at, without_end_blanks, columns, code_of, ReadLine, Content}
+use Rattle.crx_filter.proofs.Words.{Overlong, Fault, BadClock, Truncated, NAME_WIDTH, TYPES_LIMIT, Place}
+use Rattle.crx_filter.proofs.Words.{Here, types_of_satellite, Count, and_then, begins_epoch, Satellite}
+use Rattle.crx_filter.proofs.Words.{cell_read, clock_line_read, satellite_line_read, satellites_of_line, Tail}
+use Rattle.crx_filter.proofs.Words.{OpenRawEpoch, RawStep, first_step, next_step, open_raw_after}
+use Rattle.std.specs.Prelude.{slice_get, IfSome, slice_index_or, slice_set, unwrap_or}
 use Rattle.std.specs.Option.{option_map}
-use Rattle.std.proofs.Common.{sym, ◌∙◌, ap, subst, arith}
-use Rattle.std.proofs.lemmas.List.{length-map, length-set, length-take}
+use Rattle.std.proofs.lemmas.List.{length-set, length-take}
 use Rattle.std.proofs.lemmas.Option.{same_Some, slice_get_within}
 use Rattle.crx_columns.proofs.Characters.{length-columns, at, at-without_end_blanks, at-drop}
-use Rattle.crx_columns.specs.meaning.Columns.{is_blank, character_at, before_end_blanks, without_end_blanks, columns}
-use Rattle.crx_text.specs.meaning.Codes.{code_of, coded_number}
+use Rattle.crx_columns.specs.meaning.Columns.{before_end_blanks}
+use Rattle.crx_text.specs.meaning.Codes.{coded_number}
 use Rattle.crx_columns.specs.Texts.{patched, character_of}
 use Rattle.crx_columns.specs.meaning.Texts.{by_position}
-use Rattle.crx_faults.specs.meaning.Seen.{ReadLine, Content, Overlong}
 use Rattle.crx_text.specs.declared.code.Code.{Code}
 use Rattle.crx_text.specs.declared.code.Code.TheVariants.{Missing, Start, Step}
-use Rattle.crx_faults.specs.declared.fault.Fault.{Fault}
-use Rattle.crx_faults.specs.declared.fault.Fault.TheVariants.{BadClock, Truncated}
-use Rattle.crx_faults.specs.declared.limits.TheConstants.{NAME_WIDTH, ORDER_LIMIT, TYPES_LIMIT, SATELLITES_LIMIT}
-use Rattle.crx_rinex.specs.meaning.Places.{Place, Here, Wrong, Wanted}
-use Rattle.crx_header.specs.meaning.Satellites.{types_of_satellite}
-use Rattle.crx_header.specs.meaning.ObservationTypes.{Count, IsAllowedCount}
+use Rattle.crx_faults.specs.declared.limits.TheConstants.{ORDER_LIMIT, SATELLITES_LIMIT}
+use Rattle.crx_header.specs.meaning.ObservationTypes.{IsAllowedCount}
 use Rattle.crx_header.specs.ObservationTypes.{AreCounts}
 use Rattle.crx_header.proofs.Counts.{allowed_of}
 use Rattle.crx_rinex.proofs.Rows.{satellites_few}
-use Rattle.crx_compact.specs.meaning.Sequences.{and_then, named}
-use Rattle.crx_header.specs.meaning.EpochColumns.{begins_epoch}
-use Rattle.crx_compact.specs.meaning.EpochText.{Satellite}
-use Rattle.crx_compact.specs.meaning.Cells.{ReadCell, cell_read}
+use Rattle.crx_compact.specs.meaning.Sequences.{named}
+use Rattle.crx_compact.specs.meaning.Cells.{ReadCell}
 use Rattle.crx_compact.specs.meaning.CompactPlaces.{ReadRow}
-use Rattle.crx_compact.specs.meaning.CompactPlaces.{clock_line_read}
-use Rattle.crx_compact.specs.meaning.CompactPlaces.{satellite_line_read, satellites_of_line}
 use Rattle.crx_compact.specs.ArcTails.{ArcTail, IsBoundedArc}
-use Rattle.crx_compact.specs.Tails.{RowTail, Tail, IsBoundedRowTail, IsBoundedTail}
+use Rattle.crx_compact.specs.Tails.{RowTail, IsBoundedRowTail, IsBoundedTail}
 use Rattle.crx_compact.specs.Steps.{tail_named, cell_of_tail, flags_of_tail}
-use Rattle.crx_compact.specs.ArcSteps.{onto_sum, differences_by}
-use Rattle.crx_compact.specs.ArcSteps.{arc_of_code}
+use Rattle.crx_compact.specs.ArcSteps.{onto_sum, differences_by, arc_of_code}
 use Rattle.crx_compact.specs.HeldRows.{held_from, past_of_row, past_of_tail}
 use Rattle.crx_compact.specs.Placing.{padded, satellite_of}
-use Rattle.crx_compact.specs.OpenEpochs.{tail_for_line, HeldEpoch, OpenClock, OpenRawEpoch, RawStep, Before, After}
-use Rattle.crx_compact.specs.OpenEpochs.{Going, Whole, Faulty, arc_in, awaited_row, before_clock, first_step}
-use Rattle.crx_compact.specs.OpenEpochs.{line_step, next_step, open_raw_after, opened_raw, opening, past_of_clock}
-use Rattle.crx_compact.specs.OpenEpochs.{place_of_steps, raw_step_with_clock, raw_step_with_row, row_step, rows_before}
-use Rattle.crx_compact.specs.OpenEpochs.{tail_opened, tail_so_far, whole_or_awaiting, IsBoundedOpen, IsBoundedStep}
+use Rattle.crx_compact.specs.OpenEpochs.{tail_for_line, HeldEpoch, OpenClock, Before, After, Going, Whole}
+use Rattle.crx_compact.specs.OpenEpochs.{Faulty, arc_in, awaited_row, before_clock, line_step, opened_raw}
+use Rattle.crx_compact.specs.OpenEpochs.{opening, past_of_clock, place_of_steps, raw_step_with_clock}
+use Rattle.crx_compact.specs.OpenEpochs.{raw_step_with_row, row_step, rows_before, tail_opened, tail_so_far}
+use Rattle.crx_compact.specs.OpenEpochs.{whole_or_awaiting, IsBoundedOpen, IsBoundedStep}
 use Rattle.crx_compact.specs.ReadingLaws.{ReadAreBounded}
 use Rattle.crx_columns.proofs.EachPlace.{each_place-all, length-each_place}
-use Rattle.crx_compact.proofs.Characters.{same_characters}
+use Rattle.crx_compact.proofs.Characters.{same_characters, list_all-at}
 use Rattle.crx_compact.proofs.SoundTexts.{length-held}
-use Rattle.crx_compact.proofs.Characters.{list_all-at}
 use Rattle.crx_compact.proofs.soundness.Goodness.{typed-parts}
 use Rattle.crx_compact.proofs.soundness.Soundness.{AreReadCells, IsReadCell, RowFacts, line-facts, read-cell}
 use Rattle.crx_compact.proofs.Results.{if-err}
-use Rattle.crx_compact.proofs.EpochLines.{line-facts_of}
-use Rattle.crx_compact.proofs.EpochLines.{names_of}
+use Rattle.crx_compact.proofs.EpochLines.{line-facts_of, names_of}
 
 -- ---- orders of codes that are read
 
@@ -70,7 +62,8 @@ code-ordered [] = tt
 code-ordered (c ∷ []) = step-ordered (coded_number (c ∷ []))
 code-ordered (c ∷ d ∷ cs) = grind arith
 
-cell-ordered : (value : Code → Result (Option ℤ) Fault) (cell : ReadCell) → IsReadCell value cell → HasOrder cell.code
+cell-ordered : (value : Code → Result (Option ℤ) Fault) (cell : ReadCell) → IsReadCell value cell
+    → HasOrder cell.code
 cell-ordered value cell h = subst (λ o. IfSome o HasOrder) h.coded (code-ordered h.text)
 
 cells-ordered : (value : ℕ → Code → Result (Option ℤ) Fault) (cells : List ReadCell)
@@ -84,26 +77,26 @@ length-before : (c : ℕ) (text : List ℕ) → length (before_end_blanks c text
 length-before c [] = grind arith
 length-before c (d ∷ ds) = omega arith
 
-ends-within : (n : ℕ) (text : List ℕ) → ((p : ℕ) → at text (n + p) ≡ 32) → length (without_end_blanks text) ≤ n
+ends-within : (n : ℕ) (text : List ℕ) → ((p : ℕ) → at text (n + p) ≡ 32)
+    → length (without_end_blanks text) ≤ n
 ends-within zero text h =
     let none : without_end_blanks text ≡ [] =
     same_characters text [] (λ p. let place : p ≡ 0 + p = omega arith in ap (at text) place ∙ h p) in
     let long : length (without_end_blanks text) ≡ 0 = ap (λ (t : List ℕ). length t) none in
     omega (arith, long)
 ends-within (suc n) [] h = omega arith
-ends-within (suc n) (c ∷ cs) h =
-    grind (
-      arith,
-      ends-within n cs
-          (λ p. let place : suc (n + p) ≡ suc n + p = omega arith in ap (at (c ∷ cs)) place
-          ∙ h p),
-      length-before c (without_end_blanks cs),
-    )
+ends-within (suc n) (c ∷ cs) h = grind (
+  arith,
+  ends-within n cs
+      (λ p. let place : suc (n + p) ≡ suc n + p = omega arith in ap (at (c ∷ cs)) place ∙ h p),
+  length-before c (without_end_blanks cs),
+)
 
 is-blank : (c : ℕ) → is_blank c ≡ true → c ≡ 32
 is-blank c h = grind (arith, h)
 
-blank-after : (n : ℕ) (text : List ℕ) → list_all is_blank (drop n text) ≡ true → (p : ℕ) → at text (n + p) ≡ 32
+blank-after : (n : ℕ) (text : List ℕ) → list_all is_blank (drop n text) ≡ true → (p : ℕ)
+    → at text (n + p) ≡ 32
 blank-after n text h p = sym (at-drop n text p)
     ∙ is-blank (at (drop n text) p) (list_all-at is_blank refl (drop n text) h p)
 
@@ -120,17 +113,16 @@ differences-few number (d ∷ ds) =
     let one = onto-few d (differences_by number ds) in
     omega (arith, rest, one)
 
-arc-read : (code : Code) (arc : Option ArcTail)
-    → HasOrder code → IfSome arc (IsBoundedArc ORDER_LIMIT) → IfSome (arc_of_code code arc) (IsBoundedArc ORDER_LIMIT)
+arc-read : (code : Code) (arc : Option ArcTail) → HasOrder code → IfSome arc (IsBoundedArc ORDER_LIMIT)
+    → IfSome (arc_of_code code arc) (IsBoundedArc ORDER_LIMIT)
 arc-read Missing arc h k = tt
 arc-read (Start order value) arc h k = record { order = h; few = omega arith }
 arc-read (Step number) None h k = tt
-arc-read (Step number) (Some arc) h k =
-    grind (
-      arith,
-      differences-few number (take arc.order arc.differences),
-      length-take arc.order arc.differences,
-    )
+arc-read (Step number) (Some arc) h k = grind (
+  arith,
+  differences-few number (take arc.order arc.differences),
+  length-take arc.order arc.differences,
+)
 
 cell-bounded : (cells : List (Option ArcTail)) (place : ℕ)
     → AllByRecursion (λ (cell : Option ArcTail). IfSome cell (IsBoundedArc ORDER_LIMIT)) cells
@@ -197,7 +189,8 @@ so-far-bounded : (begun : OpenRawEpoch) → IsBoundedOpen begun → IsBoundedTai
 so-far-bounded begun h = record { text = h.text; clock = h.clock; few = h.few; rows = h.rows }
 
 went-on : (tail : Tail) (count : ℕ) (row : Option RowTail)
-    → IsBoundedTail ORDER_LIMIT tail → count ≤ length tail.rows → IsBoundedStep (whole_or_awaiting tail count row)
+    → IsBoundedTail ORDER_LIMIT tail → count ≤ length tail.rows
+    → IsBoundedStep (whole_or_awaiting tail count row)
 went-on tail count None h come = h
 went-on tail count (Some row) h come =
     record { text = h.text; clock = h.clock; few = h.few; rows = h.rows; come = come }
@@ -211,7 +204,8 @@ clock-came begun line (Ok cell) e h =
     let value = (past_of_clock arc).clock in
     let text = without_end_blanks line in
     let read = if-err (begins_epoch line) Truncated (cell_read BadClock value (code_of text)) cell e in
-    let after = arc-read cell.code arc (cell-ordered value cell (read-cell BadClock value text cell read)) h.clock in
+    let after = arc-read cell.code arc (cell-ordered value cell (read-cell BadClock value text cell read))
+    h.clock in
     went-on (record (tail_so_far begun) { clock = arc_of_code cell.code arc }) begun.count (awaited_row begun)
     (record { text = h.text; clock = after; few = h.few; rows = h.rows }) h.come
 
@@ -227,8 +221,10 @@ row-came begun row line (Ok read) e h there =
     let few : length begun.rows ≤ SATELLITES_LIMIT = h.few in
     let inside : begun.count < length begun.rows = slice_get_within begun.rows begun.count row there in
     let kept = all-there (IsBoundedRowTail ORDER_LIMIT) begun.rows begun.count row h.rows there in
-    let made = row-read row read kept (line-facts (past_of_row row.cells row.flags) (satellite_of row) line read e) in
-    went-on (record (tail_so_far begun) { rows = rows }) (suc begun.count) (slice_get rows (suc begun.count)) (record {
+    let made = row-read row read kept (line-facts (past_of_row row.cells row.flags)
+    (satellite_of row) line read e) in
+    went-on (record (tail_so_far begun) { rows = rows }) (suc begun.count) (slice_get rows (suc begun.count))
+    (record {
       text = h.text;
       clock = h.clock;
       few = omega (arith, same, few);
@@ -238,18 +234,17 @@ row-came begun row line (Ok read) e h there =
 row-stepped : (begun : OpenRawEpoch) (row : Option RowTail) (line : List ℕ)
     → awaited_row begun ≡ row → IsBoundedOpen begun → IsBoundedStep (row_step begun row line)
 row-stepped begun None line there h = so-far-bounded begun h
-row-stepped begun (Some row) line there h =
-    row-came begun row line
+row-stepped begun (Some row) line there h = row-came begun row line
     (satellite_line_read (past_of_row row.cells row.flags) (satellite_of row) line) refl h there
 
 line-came : (begun : OpenRawEpoch) (clock : OpenClock) (line : List ℕ)
     → begun.clock ≡ clock → IsBoundedOpen begun → IsBoundedStep (line_step begun clock line)
-line-came begun (Before arc) line e h =
-    clock-came begun line (clock_line_read (past_of_clock arc) line)
+line-came begun (Before arc) line e h = clock-came begun line (clock_line_read (past_of_clock arc) line)
     (ap (λ (c : OpenClock). clock_line_read (past_of_clock (arc_in c)) line) e) h
 line-came begun (After arc) line e h = row-stepped begun (awaited_row begun) line refl h
 
-next-bounded : (begun : OpenRawEpoch) (line : ReadLine) → IsBoundedOpen begun → IsBoundedStep (next_step begun line)
+next-bounded : (begun : OpenRawEpoch) (line : ReadLine) → IsBoundedOpen begun
+    → IsBoundedStep (next_step begun line)
 next-bounded begun Overlong h = tt
 next-bounded begun (Content line) h = line-came begun begun.clock line refl h
 
@@ -269,7 +264,8 @@ rows-opened types before [] counts h known named = tt
 rows-opened types before (s ∷ ss) counts h known named =
     let typed = typed-parts types s.name s.count known.0 in
     let P : Option ℕ → Type 0 = λ o. IfSome o IsAllowedCount in
-    let allowed : IsAllowedCount s.count = subst P typed.found (allowed_of types (character_at s.name 1) counts) in
+    let allowed : IsAllowedCount s.count = subst P typed.found
+    (allowed_of types (character_at s.name 1) counts) in
     let few : s.count ≤ TYPES_LIMIT = allowed.1 in
     let kept : Option RowTail = tail_named s.name before in (
       record {
@@ -283,8 +279,10 @@ rows-opened types before (s ∷ ss) counts h known named =
     )
 
 opened-bounded : (types : List Count) (before : Tail) (line : List ℕ) (r : Result (List Satellite) Fault)
-    → AreCounts types → IsBoundedTail ORDER_LIMIT before → satellites_of_line types (past_of_tail before) line ≡ r
-    → IsBoundedStep (opening (and_then r (λ satellites. Ok (before_clock (tail_opened before line satellites)))))
+    → AreCounts types → IsBoundedTail ORDER_LIMIT before
+    → satellites_of_line types (past_of_tail before) line ≡ r
+    → IsBoundedStep (opening (and_then r (λ satellites. Ok
+    (before_clock (tail_opened before line satellites)))))
 opened-bounded types before line (Err fault) counts h e = tt
 opened-bounded types before line (Ok satellites) counts h e =
     let facts = line-facts_of types (past_of_tail before) line satellites e in
@@ -310,7 +308,8 @@ opened-bounded types before line (Ok satellites) counts h e =
     }
 
 begun-bounded : (types : List Count) (tail : Option Tail) (line : List ℕ)
-    → AreCounts types → IfSome tail (IsBoundedTail ORDER_LIMIT) → IsBoundedStep (opening (opened_raw types line tail))
+    → AreCounts types → IfSome tail (IsBoundedTail ORDER_LIMIT)
+    → IsBoundedStep (opening (opened_raw types line tail))
 begun-bounded types None line counts h = tt
 begun-bounded types (Some before) line counts h =
     opened-bounded types before line (satellites_of_line types (past_of_tail before) line) counts h refl
@@ -329,15 +328,14 @@ read-bounded = record { first = first-bounded; next = next-bounded }
 pub open-bounded : (lines : List ReadLine) (step : RawStep)
     → IsBoundedStep step → IfSome (open_raw_after step lines) IsBoundedOpen
 open-bounded [] (Going begun) h = h
-open-bounded (line ∷ lines) (Going begun) h = open-bounded lines (next_step begun line) (next-bounded begun line h)
-open-bounded lines (Whole held) h = tt
-open-bounded lines (Faulty fault) h = tt
+open-bounded (line ∷ lines) (Going begun) h = open-bounded lines (next_step begun line)
+    (next-bounded begun line h)
+open-bounded lines step h = tt
 
 -- what an epoch leaves, where one stands at some lines
 abbrev pub OfHeld : Place HeldEpoch → Type 0
 OfHeld (Here held count) = IsBoundedTail ORDER_LIMIT held.tail
-OfHeld (Wrong offset fault) = ⊤
-OfHeld Wanted = ⊤
+OfHeld p = ⊤
 
 pub place-bounded : (lines : List ReadLine) (count : ℕ) (step : RawStep)
     → IsBoundedStep step → OfHeld (place_of_steps count step lines)

@@ -1,13 +1,10 @@
 -- What is left of epochs is within the limits.
-use Rattle.std.specs.Prelude.{ℕ, suc, ◌-◌, min, ℤ, List, [], ◌∷◌, length, map, Option, IfSome}
-use Rattle.std.specs.List.{AllByRecursion}
-use Rattle.std.proofs.Common.{arith}
-use Rattle.std.proofs.lemmas.List.{length-map}
+use Rattle.crx_filter.proofs.Words.{ℕ, suc, ◌-◌, ℤ, List, [], ◌∷◌, length, map, Option, AllByRecursion, arith}
+use Rattle.crx_filter.proofs.Words.{length-map, Row, Count, Marked}
+use Rattle.std.specs.Prelude.{min, IfSome}
 use Rattle.crx_faults.specs.declared.limits.TheConstants.{WRITTEN_ORDER}
-use Rattle.crx_rinex.specs.meaning.Observations.{Row}
-use Rattle.crx_header.specs.meaning.ObservationTypes.{Count}
 use Rattle.crx_compact.specs.meaning.Differences.{difference}
-use Rattle.crx_compact.specs.meaning.Compaction.{Marked, epoch_text, run_of, arc_of, clock_arc}
+use Rattle.crx_compact.specs.meaning.Compaction.{epoch_text, run_of, arc_of, clock_arc}
 use Rattle.crx_compact.specs.ArcTails.{ArcTail, arc_tail, IsBoundedArc}
 use Rattle.crx_compact.specs.Tails.{row_tail, IsBoundedRowTail}
 use Rattle.crx_compact.specs.Laws.{WrittenAreBounded}
@@ -19,11 +16,10 @@ use Rattle.crx_rinex.proofs.ReadingBack.{name-length}
 
 pub arc-bounded : (order : ℕ) (values : List ℤ) → IfSome (arc_tail order values) (IsBoundedArc order)
 arc-bounded order [] = tt
-arc-bounded order (a ∷ older) =
-    grind (
-      arith,
-      length-each_place (suc (min (length (a ∷ older) - 1) order)) (λ i. difference i (a ∷ older)),
-    )
+arc-bounded order (a ∷ older) = grind (
+  arith,
+  length-each_place (suc (min (length (a ∷ older) - 1) order)) (λ i. difference i (a ∷ older)),
+)
 
 row-bounded : (types : List Count) (run : List Row) (r : Row)
     → IsTypedRow types r → IsBoundedRowTail WRITTEN_ORDER (row_tail run r)
@@ -38,7 +34,8 @@ row-bounded types run r h =
           (λ j. arc_tail WRITTEN_ORDER (arc_of j run)) (λ j. arc-bounded WRITTEN_ORDER (arc_of j run));
     }
 
-rows-bounded : (types : List Count) (ms : List Marked) (rows : List Row) → AllByRecursion (IsTypedRow types) rows
+rows-bounded : (types : List Count) (ms : List Marked) (rows : List Row)
+    → AllByRecursion (IsTypedRow types) rows
     → AllByRecursion (IsBoundedRowTail WRITTEN_ORDER) (map (λ (r : Row). row_tail (run_of r.name ms) r) rows)
 rows-bounded types ms [] h = tt
 rows-bounded types ms (r ∷ rs) h = (row-bounded types (run_of r.name ms) r h.0, rows-bounded types ms rs h.1)

@@ -1,11 +1,6 @@
 -- Epochs that were read one after another are whole.
-use Rattle.std.specs.Prelude.{List, [], ◌∷◌, map, drop}
-use Rattle.std.specs.List.{AllByRecursion}
-use Rattle.std.proofs.Common.{ap, subst}
-use Rattle.crx_faults.specs.meaning.Seen.{ReadLine}
-use Rattle.crx_header.specs.meaning.ObservationTypes.{Count}
-use Rattle.crx_rinex.specs.meaning.Places.{Place, Here, then_place}
-use Rattle.crx_compact.specs.meaning.CompactPlaces.{ReadEpoch, epoch_at}
+use Rattle.crx_filter.proofs.Words.{List, [], ◌∷◌, map, drop, AllByRecursion, ap, subst, ReadLine, Count}
+use Rattle.crx_filter.proofs.Words.{Place, Here, then_place, ReadEpoch, epoch_at}
 use Rattle.crx_compact.specs.ReadingLaws.{epochs_at, HasPrintableMarks, AreGood, ReadsWholeLists}
 use Rattle.crx_compact.proofs.soundness.Soundness.{thing_here, then-comes}
 use Rattle.crx_compact.proofs.soundness.Goodness.{reads-whole}

@@ -1,19 +1,13 @@
 -- What was written, read back line by line.
-use Rattle.std.specs.Prelude.{◌≡◌, refl, ◌+◌, Bool, true, false, List, [], ◌∷◌, length, Option, Some}
-use Rattle.std.specs.Prelude.{if◌then◌else◌, unwrap_or}
-use Rattle.std.proofs.Common.{sym, ◌∙◌, ap}
-use Rattle.std.proofs.lemmas.List.{append-nil}
-use Rattle.crx_faults.specs.meaning.Seen.{ReadLine}
-use Rattle.crx_rinex.specs.meaning.Observations.{Epoch}
-use Rattle.crx_header.specs.meaning.ObservationTypes.{Count}
-use Rattle.crx_rinex.specs.meaning.Places.{Place, Here}
-use Rattle.crx_compact.specs.meaning.Compaction.{Marked, epoch_text, since_full, epoch_line}
-use Rattle.crx_header.specs.meaning.EpochColumns.{begins_epoch}
-use Rattle.crx_compact.specs.Tails.{Tail, tail_of, tail_or_nothing, tail_left}
+use Rattle.crx_filter.proofs.Words.{◌≡◌, refl, ◌+◌, Bool, true, false, List, [], ◌∷◌, length, Option, Some}
+use Rattle.crx_filter.proofs.Words.{if◌then◌else◌, sym, ◌∙◌, ap, append-nil, ReadLine, Epoch, Count, Place}
+use Rattle.crx_filter.proofs.Words.{Here, Marked, epoch_line, begins_epoch, Tail, epoch_at}
+use Rattle.std.specs.Prelude.{unwrap_or}
+use Rattle.crx_compact.specs.meaning.Compaction.{epoch_text, since_full}
+use Rattle.crx_compact.specs.Tails.{tail_of, tail_or_nothing, tail_left}
 use Rattle.crx_compact.specs.Steps.{no_tail}
-use Rattle.crx_compact.specs.OpenEpochs.{tail_for_line, epoch_after, HeldEpoch, held_after}
-use Rattle.crx_compact.specs.OpenEpochs.{placed_as, place_by_steps}
-use Rattle.crx_compact.specs.meaning.CompactPlaces.{epoch_at}
+use Rattle.crx_compact.specs.OpenEpochs.{tail_for_line, epoch_after, HeldEpoch, held_after, placed_as}
+use Rattle.crx_compact.specs.OpenEpochs.{place_by_steps}
 use Rattle.crx_compact.specs.Laws.{AreWhole}
 use Rattle.crx_compact.specs.ReadingLaws.{raw_of, raws_of, read_of, lines_of_epoch, StepsReadBack}
 use Rattle.crx_compact.proofs.wayback.Runs.{marked, begins_full}
@@ -41,9 +35,11 @@ read-after types m older h =
     let tail : (held_after left (read_of m older)).tail ≡ tail_of (m ∷ older) =
     some-same (held_after left (read_of m older)).tail (tail_of (m ∷ older))
     (sym (left-by_tail (raw_of m older) (raws_of older) (reads-soundly types
-    (raws_of older) lines (read_of m older) (2 + length m.epoch.rows) read).single) ∙ one-tail types m older h) in
+    (raws_of older) lines (read_of m older) (2 + length m.epoch.rows) read).single)
+    ∙ one-tail types m older h) in
     ap (placed_as (held_after left)) (sym (place-by_tail types (raws_of older) lines) ∙ read)
-    ∙ ap {B = Place HeldEpoch} (λ t. Here (record { epoch = m.epoch; tail = t }) (2 + length m.epoch.rows)) tail
+    ∙ ap {B = Place HeldEpoch} (λ t. Here (record { epoch = m.epoch; tail = t })
+    (2 + length m.epoch.rows)) tail
 
 -- a full epoch is read back after anything
 full-after : (types : List Count) (e : Epoch) (older : List Marked) (tail other : Option Tail)
@@ -71,11 +67,10 @@ steps-read_back types m older tail h k = by_full m.in_full m.epoch h k
         → AreWhole types (since_full (marked full e ∷ older)) → (full ≡ false → tail ≡ tail_or_nothing older)
         → place_by_steps types tail (lines_of_epoch (marked full e ∷ older))
         ≡ Here (record { epoch = e; tail = tail_of (marked full e ∷ older) }) (2 + length e.rows)
-    by_full true e h k =
-        sym (steps-agree types tail (lines_of_epoch (marked true e ∷ older)))
-        ∙ full-after types e older tail (tail_left (raws_of older)) h ∙ read-after types (marked true e) older h
-    by_full false e h k =
-        ap (λ t. place_by_steps types t (lines_of_epoch (marked false e ∷ older))) (k refl
+    by_full true e h k = sym (steps-agree types tail (lines_of_epoch (marked true e ∷ older)))
+        ∙ full-after types e older tail (tail_left (raws_of older)) h
+        ∙ read-after types (marked true e) older h
+    by_full false e h k = ap (λ t. place_by_steps types t (lines_of_epoch (marked false e ∷ older))) (k refl
         ∙ sym (left-written types older h.1))
         ∙ sym (steps-agree types (tail_left (raws_of older)) (lines_of_epoch (marked false e ∷ older)))
         ∙ read-after types (marked false e) older h

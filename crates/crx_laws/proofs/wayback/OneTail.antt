@@ -1,28 +1,26 @@
 -- The tail of what was written is the tail of its block as it is read.
-use Rattle.std.specs.Prelude.{◌≡◌, refl, ℕ, ℤ, Bool, List, [], ◌∷◌, length, map, Option, Some, None}
-use Rattle.std.specs.List.{AllByRecursion}
-use Rattle.std.proofs.Common.{sym, ◌∙◌, ap, subst}
+use Rattle.crx_filter.proofs.Words.{◌≡◌, refl, ℕ, ℤ, Bool, List, [], ◌∷◌, length, map, Option, Some, None}
+use Rattle.crx_filter.proofs.Words.{AllByRecursion, sym, ◌∙◌, ap, subst, without_end_blanks, Row, Epoch}
+use Rattle.crx_filter.proofs.Words.{Count, Marked, RawEpoch}
 use Rattle.std.proofs.lemmas.Simd.{map-map}
-use Rattle.crx_columns.specs.meaning.Columns.{without_end_blanks}
 use Rattle.crx_faults.specs.declared.limits.TheConstants.{WRITTEN_ORDER}
-use Rattle.crx_rinex.specs.meaning.Observations.{Row, Epoch, value_in}
-use Rattle.crx_header.specs.meaning.ObservationTypes.{Count}
+use Rattle.crx_rinex.specs.meaning.Observations.{value_in}
 use Rattle.crx_compact.specs.meaning.Sequences.{stretch}
 use Rattle.crx_compact.specs.meaning.Differences.{code_at}
-use Rattle.crx_compact.specs.meaning.Compaction.{epoch_text, Marked, row_named, since_full, run_of, arc_of}
-use Rattle.crx_compact.specs.meaning.Compaction.{codes_of}
-use Rattle.crx_compact.specs.meaning.Expansion.{RawRow, RawEpoch, overlaid, raw_run_of, code_in}
+use Rattle.crx_compact.specs.meaning.Compaction.{epoch_text, row_named, since_full, run_of, arc_of, codes_of}
+use Rattle.crx_compact.specs.meaning.Expansion.{RawRow, overlaid, raw_run_of, code_in}
 use Rattle.crx_compact.specs.meaning.ArcValues.{since_start}
-use Rattle.crx_compact.specs.Tails.{RowTail, row_tail, row_tails, tail_of, raw_row_tail}
+use Rattle.crx_compact.specs.Tails.{RowTail, row_tail, row_tails, tail_of, raw_row_tail, raw_row_tails}
+use Rattle.crx_compact.specs.Tails.{tail_of_block}
 use Rattle.crx_compact.specs.ArcTails.{arc_tail, values_of, started_tail}
-use Rattle.crx_compact.specs.Tails.{raw_row_tails, tail_of_block}
 use Rattle.crx_compact.specs.ReadingLaws.{raw_row, OneTail}
 use Rattle.crx_compact.specs.Laws.{AreWhole}
 use Rattle.crx_columns.proofs.EachPlace.{each_place-same, length-each_place}
 use Rattle.crx_compact.proofs.arcs.Inversion.{numbers_of, value-numbers, started-codes}
 use Rattle.crx_compact.proofs.Lists.{mapped-same}
-use Rattle.crx_compact.proofs.wayback.Runs.{raw_block, marked, block-raws, raw_run, runs-read, codes_of_values}
-use Rattle.crx_compact.proofs.wayback.Runs.{clocks-read, codes-read, started-values, text-read, marks-read, rows_before}
+use Rattle.crx_compact.proofs.wayback.Runs.{raw_block, marked, block-raws, raw_run, runs-read}
+use Rattle.crx_compact.proofs.wayback.Runs.{codes_of_values, clocks-read, codes-read, started-values}
+use Rattle.crx_compact.proofs.wayback.Runs.{text-read, marks-read, rows_before}
 use Rattle.crx_compact.proofs.Identifiers.{each-own}
 use Rattle.crx_compact.proofs.wayback.Rows.{IsRowOf, run-begins, rows-of_run, flags-run}
 use Rattle.crx_compact.proofs.wayback.Reading.{epochs-begin, epochs-unmarked}
@@ -38,8 +36,7 @@ arc-same : (os : List (Option ℤ))
     → started_tail (since_start (codes_of_values os)) ≡ arc_tail WRITTEN_ORDER (stretch os)
 arc-same [] = refl
 arc-same (None ∷ os) = refl
-arc-same (Some x ∷ os) =
-    ap started_tail (started-values x os ∙ started-codes WRITTEN_ORDER (stretch os) x)
+arc-same (Some x ∷ os) = ap started_tail (started-values x os ∙ started-codes WRITTEN_ORDER (stretch os) x)
     ∙ ap (arc_tail WRITTEN_ORDER) (values-back WRITTEN_ORDER (x ∷ stretch os))
 
 -- ---- rows
@@ -56,8 +53,7 @@ row-same types r rs h =
     rw (marks-read r rs (flags-run types r.name (r ∷ rs) h), cells, count)
 
 row-left : (types : List Count) (full : Bool) (e : Epoch) (older : List Marked)
-    → AreWhole types (since_full (marked full e ∷ older))
-    → (r : Row) → row_named r.name e.rows ≡ Some r
+    → AreWhole types (since_full (marked full e ∷ older)) → (r : Row) → row_named r.name e.rows ≡ Some r
     → raw_row_tail (raw_run_of r.name (raw_block (marked full e ∷ older)))
     (raw_row (run_of r.name (marked full e ∷ older)) r) ≡ row_tail (run_of r.name (marked full e ∷ older)) r
 row-left types full e older h r own =
@@ -82,13 +78,14 @@ tail-same types full e older h =
     let raw : Row → RawRow = λ r. raw_row (run_of r.name ms) r in
     let tail_of_raw : RawRow → RowTail = λ q. raw_row_tail (raw_run_of q.name (raw_block ms)) q in
     let rows : raw_row_tails (raw_block ms) ≡ row_tails ms =
-    map-map tail_of_raw raw e.rows ∙ mapped-same (λ r. tail_of_raw (raw r)) (λ (r : Row). row_tail (run_of r.name ms) r)
-    (λ r own. row-left types full e older h r own) e.rows (each-own (λ (r : Row). r.name) e.rows h.0.sound.apart) in
+    map-map tail_of_raw raw e.rows ∙ mapped-same (λ r. tail_of_raw (raw r))
+    (λ (r : Row). row_tail (run_of r.name ms) r)
+    (λ r own. row-left types full e older h r own) e.rows
+    (each-own (λ (r : Row). r.name) e.rows h.0.sound.apart) in
     cc
 
 pub one-tail : OneTail
-one-tail types m older h =
-    cc (
-      block-raws (m ∷ older) (epochs-begin types (since_full (m ∷ older)) h),
-      tail-same types m.in_full m.epoch older h,
-    )
+one-tail types m older h = cc (
+  block-raws (m ∷ older) (epochs-begin types (since_full (m ∷ older)) h),
+  tail-same types m.in_full m.epoch older h,
+)

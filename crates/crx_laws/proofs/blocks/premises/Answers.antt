@@ -1,11 +1,9 @@
 -- by computation
-use Rattle.std.proofs.Common.{refl, [], ◌∷◌, ◌++◌}
+use Rattle.crx_filter.proofs.Words.{refl, [], ◌∷◌, Accepted, Observation}
 use Rattle.std.specs.Fmt.{digits}
 use Rattle.crx_text.specs.meaning.Codes.{coded_number}
 use Rattle.crx_laws.specs.SmallFiles.{epoch_at_second}
 use Rattle.crx_laws.specs.SmallStretches.{first_epoch, second_block}
-use Rattle.crx_reading.specs.meaning.Items.{Accepted}
-use Rattle.crx_rinex.specs.meaning.Units.{Observation}
 use Rattle.crx_text.specs.meaning.Numbers.{size_of, number_of, number_text}
 use Rattle.crx_laws.proofs.blocks.premises.Goals as goal
 

@@ -1,5 +1,4 @@
-use Rattle.crx_reading.specs.meaning.Compacted.{rinex_place}
-use Rattle.crx_reading.specs.meaning.Directions.{rinex_reading}
+use Rattle.crx_filter.proofs.Words.{rinex_place, rinex_reading}
 use Rattle.crx_filter.proofs.reading.WhatWasRead.{items-read}
 use Rattle.crx_filter.proofs.reading.InPlace.{items-in_place}
 use Rattle.crx_laws.proofs.filter_laws.what_was_accepted.Goals as goal

@@ -1,16 +1,13 @@
+use Rattle.crx_filter.proofs.Words.{ap, subst, Option, Content, Epoch}
 use Rattle.std.proofs.lemmas.Result.{err_from_is_err_and}
-use Rattle.std.proofs.Common.{ap, subst, Option}
-use Rattle.crx_faults.specs.meaning.Seen.{Content}
-use Rattle.crx_rinex.specs.meaning.Observations.{Epoch}
 use Rattle.crx_compact.specs.Coded.{CodedEpoch}
 use Rattle.crx_compact.specs.OpenEpochs.{HasMade, step_in, tail_held}
-use Rattle.crx_laws.proofs.reading.BorrowedLines.{midway-begun, midway-idle, midway-more, midway-over, midway-stands}
-use Rattle.crx_laws.proofs.reading.BorrowedLines.{midway-whole}
+use Rattle.crx_laws.proofs.reading.BorrowedLines.{midway-begun, midway-idle, midway-more, midway-over}
+use Rattle.crx_laws.proofs.reading.BorrowedLines.{midway-stands, midway-whole}
 use Rattle.crx_laws.proofs.read_back.read_coded.Goals as goal
 
 pub loop-line-init : goal.loop-line-init
-loop-line-init c =
-    midway-begun c.args.types.now (tail_held c.args.columns.now) c.args.coded.now.lines
+loop-line-init c = midway-begun c.args.types.now (tail_held c.args.columns.now) c.args.coded.now.lines
     _ c.in-Some.first.now c.begin.new.self c.in-Some.ensures.value c.in_ok-begin.ensures.made
     (ap (λ (q : CodedEpoch). q.lines) c.next_line.follows.holds-at-none)
 
@@ -20,7 +17,8 @@ feed-requires-clause-open c = midway-idle _ _ _ _ c.loop-line.invariant
 pub returns-in-Some-2-clause-given : goal.returns-in-Some-2-clause-given
 returns-in-Some-2-clause-given c =
     let P : Option Epoch → Type 0 =
-    λ given. HasMade (step_in c.loop-line.columns (Content c.in-Some-next_line.line.now)) c.feed.new.self given in
+    λ given. HasMade (step_in c.loop-line.columns (Content c.in-Some-next_line.line.now)) c.feed.new.self
+    given in
     midway-whole _ c.loop-line.columns c.feed.new.self _ c.loop-line.coded.lines
     c.in-Some-next_line.line.now c.in-Some-2.epoch c.loop-line.invariant c.in-Some-next_line.ensures.value
     (subst P c.in-Some-2.is c.in_ok-epoch.ensures.made)
@@ -28,10 +26,11 @@ returns-in-Some-2-clause-given c =
 pub loop-line-preserved : goal.loop-line-preserved
 loop-line-preserved c =
     let P : Option Epoch → Type 0 =
-    λ given. HasMade (step_in c.loop-line.columns (Content c.in-Some-next_line.line.now)) c.feed.new.self given in
+    λ given. HasMade (step_in c.loop-line.columns (Content c.in-Some-next_line.line.now)) c.feed.new.self
+    given in
     midway-more _ c.loop-line.columns c.feed.new.self
-    _ c.loop-line.coded.lines _ c.in-Some-next_line.line.now c.loop-line.invariant c.in-Some-next_line.ensures.value
-    (subst P c.in_default-2.is c.in_ok-epoch.ensures.made)
+    _ c.loop-line.coded.lines _ c.in-Some-next_line.line.now c.loop-line.invariant
+    c.in-Some-next_line.ensures.value (subst P c.in_default-2.is c.in_ok-epoch.ensures.made)
     (ap (λ (q : CodedEpoch). q.lines) c.next_line-in-loop-line.follows.holds-at-none)
 
 pub returns-in_err-epoch-clause-refused : goal.returns-in_err-epoch-clause-refused

@@ -1,6 +1,5 @@
 -- by computation
-use Rattle.std.proofs.Common.{[], refl, arith}
-use Rattle.std.proofs.lemmas.List.Elements.{All-cons, All-nil}
+use Rattle.crx_filter.proofs.Words.{[], refl, arith, All-cons, All-nil}
 use Rattle.crx_text.specs.meaning.Numbers.{number_of, size_of}
 use Rattle.crx_header.specs.ObservationTypes.{IsCount}
 use Rattle.crx_laws.proofs.rinex_laws.an_epoch_of_two.Goals as goal
@@ -14,8 +13,7 @@ returns c = record {
   cut = refl;
   repeated = refl;
   counts = record {
-    allowed = All-cons IsCount
-        (71, 1) [] (refl, (omega arith, omega arith)) (All-nil IsCount);
+    allowed = All-cons IsCount (71, 1) [] (refl, (omega arith, omega arith)) (All-nil IsCount);
     apart = refl;
   };
 }

@@ -1,18 +1,15 @@
 -- by computation
-use Rattle.std.proofs.Common.{ℕ, refl, List, [], ◌∷◌, ◌++◌, codes, inl, inr, ◌≡◌, true}
-use Rattle.std.specs.List.{list_all}
+use Rattle.crx_filter.proofs.Words.{ℕ, refl, List, [], ◌∷◌, ◌++◌, inl, inr, ◌≡◌, true, list_all, Piece}
+use Rattle.crx_filter.proofs.Words.{lines_of, pieces_of, EventLine, EventRecord, Observation, Accepted}
+use Rattle.crx_filter.proofs.Words.{lines_text, IsStandard, IsDamaged}
+use Rattle.std.proofs.Common.{codes}
 use Rattle.std.specs.Fmt.{digits}
 use Rattle.crx_text.specs.meaning.Codes.{coded_number}
-use Rattle.crx_faults.specs.meaning.Lines.{Piece, lines_of, pieces_of}
 use Rattle.crx_text.specs.meaning.Numbers.{size_of, number_of, number_text}
-use Rattle.crx_rinex.specs.meaning.Units.{EventLine, EventRecord, Observation}
-use Rattle.crx_reading.specs.meaning.Items.{Accepted}
-use Rattle.crx_faults.specs.meaning.Lines.{lines_text}
-use Rattle.crx_reading.specs.meaning.Standard.{IsStandard}
-use Rattle.crx_reading.specs.meaning.Damage.{may_replace, IsDamaged}
-use Rattle.crx_laws.specs.SmallFiles.{blanks, line_at, file_of_five, with_event, plain_choices, in_full_every_second}
-use Rattle.crx_laws.specs.SmallFiles.{epoch_at_second, header_items, first_block, damaged_by, other_block}
-use Rattle.crx_laws.specs.SmallFiles.{last_damaged_by, damaged_before_event}
+use Rattle.crx_reading.specs.meaning.Damage.{may_replace}
+use Rattle.crx_laws.specs.SmallFiles.{blanks, line_at, file_of_five, with_event, plain_choices}
+use Rattle.crx_laws.specs.SmallFiles.{in_full_every_second, epoch_at_second, header_items, first_block}
+use Rattle.crx_laws.specs.SmallFiles.{damaged_by, other_block, last_damaged_by, damaged_before_event}
 use Rattle.crx_laws.proofs.salvage.premises.Goals as goal
 
 standard : IsStandard (lines_text (file_of_five []))
@@ -61,7 +58,8 @@ before-event = record {
 }
 
 -- the last block, without LF at the end
-last-damaged : IsDamaged (lines_text (file_of_five [])) in_full_every_second (last_damaged_by (codes "\n3&2000"))
+last-damaged : IsDamaged (lines_text (file_of_five [])) in_full_every_second
+    (last_damaged_by (codes "\n3&2000"))
 unfolding digits coded_number size_of number_of number_text
 last-damaged = record {
   standard = standard;

@@ -1,17 +1,13 @@
 -- by computation
-use Rattle.std.proofs.Common.{refl, [], ◌∷◌, ◌++◌, inl, inr, codes}
+use Rattle.crx_filter.proofs.Words.{refl, [], ◌∷◌, ◌++◌, inl, inr, lines_text, Accepted, Observation}
+use Rattle.std.proofs.Common.{codes}
 use Rattle.std.specs.Fmt.{digits}
 use Rattle.crx_text.specs.meaning.Codes.{coded_number}
-use Rattle.crx_faults.specs.meaning.Lines.{lines_text}
 use Rattle.crx_filter.specs.meaning.Stretches.{IsReadWhole, HasStretches, BeginsWhole}
 use Rattle.crx_laws.specs.SmallFiles.{file_of_five, with_event, plain_choices, in_full_every_second}
-use Rattle.crx_laws.specs.SmallFiles.{header_items}
-use Rattle.crx_laws.specs.SmallFiles.{epoch_at_second}
+use Rattle.crx_laws.specs.SmallFiles.{header_items, epoch_at_second}
 use Rattle.crx_laws.specs.SmallStretches.{first_epoch, second_block, two_stretches, event_lost, damaged_twice}
-use Rattle.crx_laws.specs.SmallStretches.{cut_off}
-use Rattle.crx_laws.specs.SmallStretches.{count_lost, with_lost_count, without_event}
-use Rattle.crx_reading.specs.meaning.Items.{Accepted}
-use Rattle.crx_rinex.specs.meaning.Units.{Observation}
+use Rattle.crx_laws.specs.SmallStretches.{cut_off, count_lost, with_lost_count, without_event}
 use Rattle.crx_text.specs.meaning.Numbers.{size_of, number_of, number_text}
 use Rattle.crx_laws.proofs.stretches.premises.Goals as goal
 
@@ -39,8 +35,7 @@ unfolding digits coded_number size_of number_of number_text
 event = record {
   file_good = record {
     good = refl;
-    no_returns =
-        (tt, (refl, (refl, (tt, (tt, (refl, (refl, (refl, tt))))))));
+    no_returns = (tt, (refl, (refl, (tt, (tt, (refl, (refl, (refl, tt))))))));
   };
   before = header_items;
   stretches = event_lost;
@@ -55,8 +50,7 @@ unfolding digits coded_number size_of number_of number_text
 count = record {
   file_good = record {
     good = refl;
-    no_returns =
-        (tt, (refl, (refl, (tt, (tt, (refl, (refl, (refl, tt))))))));
+    no_returns = (tt, (refl, (refl, (tt, (tt, (refl, (refl, (refl, tt))))))));
   };
   before = Accepted (Observation (epoch_at_second 1 20000100500)) ∷ first_epoch;
   stretches = count_lost;

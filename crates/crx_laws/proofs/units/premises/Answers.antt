@@ -1,10 +1,8 @@
 -- by computation
-use Rattle.std.proofs.Common.{refl}
+use Rattle.crx_filter.proofs.Words.{refl, lines_text, IsStandard}
 use Rattle.std.specs.Fmt.{digits}
 use Rattle.crx_text.specs.meaning.Codes.{coded_number}
 use Rattle.crx_text.specs.meaning.Numbers.{size_of, number_of, number_text}
-use Rattle.crx_faults.specs.meaning.Lines.{lines_text}
-use Rattle.crx_reading.specs.meaning.Standard.{IsStandard}
 use Rattle.crx_filter.proofs.wayback.Units.{read-units}
 use Rattle.crx_laws.specs.SmallFiles.{with_event}
 use Rattle.crx_laws.proofs.units.premises.Goals as goal
