@@ -61,8 +61,7 @@ place-inside items line lines h e = place-between items (Content line ∷ lines)
 pub observation-here : (p : Place ReadEpoch) (unit : FileUnit ReadEpoch) (count : ℕ)
     → as_observation p ≡ Here unit count → (read : ReadEpoch) × (unit ≡ Observation read)
 observation-here (Here read n) unit count e = (read, cc)
-observation-here (Wrong k fault) unit count e = absurd (cc)
-observation-here Wanted unit count e = absurd (cc)
+observation-here p unit count e = absurd (cc)
 
 epoch-here : (items : List (Item ReadEpoch)) (lines : List ReadLine) (unit : FileUnit ReadEpoch) (count : ℕ)
     → IsBetweenUnits items → IsBlockText lines → compact_place items lines ≡ Here unit count

@@ -18,9 +18,8 @@ IsCutOff place = (lines : List ReadLine) (line : List ℕ) → begins_epoch line
     → place lines ≡ Wanted → place (lines ++ Content line ∷ []) ≡ Wrong (length lines) Truncated
 
 after-wanted : {X : Type 0} (count : ℕ) (p : Place X) → after_lines count p ≡ Wanted → p ≡ Wanted
-after-wanted count (Here x n) e = absurd (cc)
-after-wanted count (Wrong k fault) e = absurd (cc)
 after-wanted count Wanted e = refl
+after-wanted count p e = absurd (cc)
 
 cut-here : {X : Type 0} (x : X) → IsCutOff (λ lines. Here x 0)
 cut-here x lines line begins e = absurd (cc)

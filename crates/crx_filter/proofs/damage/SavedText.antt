@@ -2,9 +2,9 @@
 use Rattle.crx_filter.proofs.Words.{ℕ, ◌≡◌, ◌≤◌, ◌-◌, inl, inr, List, [], ◌∷◌, ◌++◌, map, length, reverse}
 use Rattle.crx_filter.proofs.Words.{Option, refl, ap, sym, ◌∙◌, arith, subst, append_assoc, append-nil}
 use Rattle.crx_filter.proofs.Words.{AllByRecursion, flat_map, At, Epoch, IsWholeEpoch, printed_epoch}
-use Rattle.crx_filter.proofs.Words.{HeaderLine, EventLine, EventRecord, Observation, ReadEpoch, IsGood, Item}
-use Rattle.crx_filter.proofs.Words.{Accepted, Warned, records_left, types_in_force, Reading, warnings_in}
-use Rattle.crx_filter.proofs.Words.{compact_place, expanded_unit, expanded_lines, ItemsAreRead, with_epochs}
+use Rattle.crx_filter.proofs.Words.{EventRecord, Observation, ReadEpoch, IsGood, Item, Accepted, Warned}
+use Rattle.crx_filter.proofs.Words.{records_left, types_in_force, Reading, warnings_in, compact_place}
+use Rattle.crx_filter.proofs.Words.{expanded_unit, expanded_lines, ItemsAreRead, with_epochs}
 use Rattle.crx_filter.proofs.wayback.ExpandedWhole.{AreGoodEpochs, epochs-good}
 use Rattle.crx_filter.proofs.wayback.Items.{read_back}
 use Rattle.crx_filter.proofs.damage.BlockReading.{EndsBlock, with_reads}
@@ -69,11 +69,9 @@ few-reversed (at ∷ next ∷ older) few = absurd (omega (arith, few))
 pub left-append : (later one two : List (Item ReadEpoch))
     → records_left one ≡ records_left two → records_left (later ++ one) ≡ records_left (later ++ two)
 left-append [] one two e = e
-left-append (Accepted (HeaderLine line) ∷ later) one two e = refl
-left-append (Accepted (EventLine line) ∷ later) one two e = refl
 left-append (Accepted (EventRecord line) ∷ later) one two e = ap (λ n. n - 1) (left-append later one two e)
-left-append (Accepted (Observation read) ∷ later) one two e = refl
 left-append (Warned at ∷ later) one two e = refl
+left-append (Accepted unit ∷ later) one two e = refl
 
 -- ---- the epochs are whole
 
@@ -109,11 +107,9 @@ whole-block items reads r ends h = whole-reads items reads (epochs-good (with_re
 -- the epochs among some items, the oldest first
 abbrev pub epochs_of : List (Item ReadEpoch) → List Epoch
 epochs_of [] = []
-epochs_of (Accepted (HeaderLine line) ∷ before) = epochs_of before
-epochs_of (Accepted (EventLine line) ∷ before) = epochs_of before
-epochs_of (Accepted (EventRecord line) ∷ before) = epochs_of before
 epochs_of (Accepted (Observation read) ∷ before) = epochs_of before ++ read.epoch ∷ []
 epochs_of (Warned at ∷ before) = epochs_of before
+epochs_of (Accepted unit ∷ before) = epochs_of before
 
 epochs-read : (items : List (Item ReadEpoch)) (reads : List ReadEpoch)
     → epochs_of (with_reads items reads) ≡ epochs_of items ++ epochs_in reads

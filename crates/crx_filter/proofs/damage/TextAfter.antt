@@ -73,11 +73,9 @@ reads-on every skip number (Accepted unit ∷ later) before h =
 -- whether an epoch is among some items
 abbrev has_observation : List (Item Epoch) → Bool
 has_observation [] = false
-has_observation (Accepted (HeaderLine line) ∷ before) = has_observation before
-has_observation (Accepted (EventLine line) ∷ before) = has_observation before
-has_observation (Accepted (EventRecord line) ∷ before) = has_observation before
 has_observation (Accepted (Observation epoch) ∷ before) = true
 has_observation (Warned at ∷ before) = has_observation before
+has_observation (Accepted unit ∷ before) = has_observation before
 
 begins-rest : (choices : Choices) (block : List (Item Epoch)) (item : Item Epoch) (items : List (Item Epoch))
     → BeginsAnew choices block (item ∷ items) → BeginsAnew choices block items

@@ -1,9 +1,9 @@
 -- Compaction line by line reads, keeps and writes as the compaction of all lines does.
 use Rattle.crx_filter.proofs.Words.{◌≡◌, ◌+◌, Bool, true, false, List, [], ◌∷◌, Some, None, refl, ap, sym}
-use Rattle.crx_filter.proofs.Words.{◌∙◌, Epoch, HeaderLine, EventLine, EventRecord, Observation, epoch_place}
-use Rattle.crx_filter.proofs.Words.{Marked, Tail, lines_after_tail, tail_after, Choices, Item, Accepted}
-use Rattle.crx_filter.proofs.Words.{Warned, types_in_force, epochs_accepted, is_at_every, is_in_full}
-use Rattle.crx_filter.proofs.Words.{marked_epochs, compact_unit, Written, compaction, written_of, rinex_open}
+use Rattle.crx_filter.proofs.Words.{◌∙◌, Epoch, Observation, epoch_place, Marked, Tail, lines_after_tail}
+use Rattle.crx_filter.proofs.Words.{tail_after, Choices, Item, Accepted, Warned, types_in_force}
+use Rattle.crx_filter.proofs.Words.{epochs_accepted, is_at_every, is_in_full, marked_epochs, compact_unit}
+use Rattle.crx_filter.proofs.Words.{Written, compaction, written_of, rinex_open}
 use Rattle.crx_rinex.proofs.SoundEpochs.{sound-epoch_place}
 use Rattle.crx_compact.specs.Laws.{tail_before}
 use Rattle.crx_compact.specs.Steps.{no_tail, tail_written_after}
@@ -29,15 +29,11 @@ same-tail : (choices : Choices) (items : List (Item Epoch)) (epoch : Epoch)
     ≡ tail_written_after (is_at_every choices.every (epochs_accepted items))
     (written_of choices.every items).tail
 same-tail choices [] epoch = nothing-left (is_at_every choices.every 0)
-same-tail choices (Accepted (HeaderLine line) ∷ before) epoch =
-    nothing-left (is_at_every choices.every (epochs_accepted before))
-same-tail choices (Accepted (EventLine line) ∷ before) epoch =
-    nothing-left (is_at_every choices.every (epochs_accepted before))
-same-tail choices (Accepted (EventRecord line) ∷ before) epoch =
-    nothing-left (is_at_every choices.every (epochs_accepted before))
 same-tail choices (Accepted (Observation last) ∷ before) epoch = refl
 same-tail choices (Warned at ∷ before) epoch = nothing-left
     (is_at_every choices.every (epochs_accepted before))
+same-tail choices (Accepted unit ∷ before) epoch =
+    nothing-left (is_at_every choices.every (epochs_accepted before))
 
 same-epochs : (choices : Choices)
     → AreSame compaction (written_of choices.every) (compact_unit choices) choices

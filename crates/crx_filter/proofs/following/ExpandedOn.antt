@@ -29,11 +29,7 @@ reading_by skip lines p =
 
 abbrev pub phase_by : List ReadLine → Place (List (List ℕ)) → Phase OpenRawEpoch → Phase OpenRawEpoch
 phase_by lines p phase =
-    elim p [
-      | Here two count ↦ phase
-      | Wrong offset fault ↦ phase
-      | Wanted ↦ InFirstLines (length lines)
-    ]
+    elim p [ Here two count ↦ phase | Wrong offset fault ↦ phase | Wanted ↦ InFirstLines (length lines) ]
 
 abbrev pub seen_by : Choices → List ReadLine → Place (List (List ℕ)) → Seen OpenRawEpoch (Option Tail)
 seen_by choices lines p =

@@ -161,9 +161,8 @@ agree-continues choices items (first ∷ rest) line so_far opens =
 -- ---- where more lines are wanted
 
 pub observation-wanted : (p : Place ReadEpoch) → as_observation p ≡ Wanted → p ≡ Wanted
-observation-wanted (Here read count) e = absurd (cc)
-observation-wanted (Wrong offset fault) e = absurd (cc)
 observation-wanted Wanted e = refl
+observation-wanted p e = absurd (cc)
 
 event-not_wanted : (items : List (Item ReadEpoch)) (line : ReadLine) (lines : List ReadLine)
     → begins_event (line ∷ lines) ≡ true → compact_beginning items (line ∷ lines) ≡ Wanted → ⊥

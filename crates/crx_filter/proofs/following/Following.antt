@@ -10,7 +10,7 @@ use Rattle.crx_filter.proofs.Words.{counts_types, records_count_types, types_in_
 use Rattle.crx_filter.proofs.Words.{AtFault, AtLines, Looking, is_skipped, can_go_on, looked_for}
 use Rattle.crx_filter.proofs.Words.{reading_within, is_skippable, written_lines, warnings_in, Phase, InHeader}
 use Rattle.crx_filter.proofs.Words.{BetweenUnits, InEvent, InEpoch, LookingOn, Ended, Seen, Made, Completes}
-use Rattle.crx_filter.proofs.Words.{Moves, Fails, Repeats, Direction, Notice, Failed, Step, with_records_left}
+use Rattle.crx_filter.proofs.Words.{Moves, Fails, Direction, Notice, Failed, Step, with_records_left}
 use Rattle.crx_filter.proofs.Words.{phase_after, types_after, may_skip, is_in_epoch, is_skipped_in, kept_in}
 use Rattle.crx_filter.proofs.Words.{with_phase, after_warning, failed_step, step_of_made, seen_next}
 use Rattle.crx_filter.proofs.Words.{phase_in_body, phase_after_items, seen_of, IsReadForward, IsFollowed, Fed}
@@ -49,17 +49,15 @@ module _ {E U O K : Type 0} (beginning : List (Item E) → List ReadLine → Pla
     (unit_lines : List (Item E) → FileUnit E → List (List ℕ)) (choices : Choices) where
   -- what stands at some lines where an epoch or an event may begin, and what the last of them makes
   abbrev pub AgreeOn : List (Item E) → List ReadLine → Made U O → Type 0
-  AgreeOn items lines (Completes (HeaderLine line)) = ⊥
   AgreeOn items lines (Completes (EventLine line)) = (count : ℕ)
       × (beginning items lines ≡ Here (EventLine line) count) × (length lines ≡ 1)
-  AgreeOn items lines (Completes (EventRecord line)) = ⊥
   AgreeOn items lines (Completes (Observation held)) =
       (count : ℕ) × (epoch : E) × (beginning items lines ≡ Here (Observation epoch) count)
       × IsSameEpoch direction kept_of unit_lines choices items epoch held
   AgreeOn items lines (Moves phase) = (so_far : O)
       × (phase ≡ InEpoch so_far) × (beginning items lines ≡ Wanted) × (open_with items lines ≡ Some so_far)
   AgreeOn items lines (Fails fault) = (offset : ℕ) × (beginning items lines ≡ Wrong offset fault)
-  AgreeOn items lines (Repeats at) = ⊥
+  AgreeOn items lines made = ⊥
 
   -- a direction that reads, keeps and writes as the whole reading does
   pub record IsCarriedOut : Type 0 where

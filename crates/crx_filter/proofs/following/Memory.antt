@@ -164,19 +164,18 @@ module _ {E U O K : Type 0} {beginning : List (Item E) → List ReadLine → Pla
       → takes_memory direction (seen_of direction open_with kept_of choices count
       (record { items = items; stop = stop })) line ≡ true
       → memory_allowed (place h) takes choices.skip (record { items = items; stop = stop }) line ≡ Some []
-  allowed-first items (AtFault at) count Overlong stopped e = false-true e
   allowed-first items (AtFault at) count (Content line) stopped e = false-true e
   allowed-first items (AtLines number rest) count line stopped e =
       ap (λ b. cond b (Some []) (takes_after_warning (place h) takes choices.skip items number line
       (place h items (rest ++ line ∷ []))))
       (lines-take items rest line stopped.0 (header_has_ended items) refl (records_left items) refl
       (open_with items rest) refl e)
-  allowed-first items (Looking number) count Overlong stopped e = false-true e
   allowed-first items (Looking number) count (Content line) stopped e =
       let begins = (and_parts (begins_epoch line) _ e).0 in
       let takes_it = begins-takes items line stopped.1 stopped.2 (and_parts (begins_epoch line) _ e).1 in
       ap (λ b. cond (b && line_takes (place h) takes items [] (Content line)) (Some []) None) begins
       ∙ ap (λ b. cond b (Some []) None) takes_it
+  allowed-first items stop count Overlong stopped e = false-true e
 
   -- a line that cuts an epoch off, and is read anew after the warning
   cut-takes : (items : List (Item E)) (number count : ℕ) (rest : List ReadLine) (line : ReadLine) (so_far : O)

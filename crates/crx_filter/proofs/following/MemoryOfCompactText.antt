@@ -39,17 +39,15 @@ last-takes : (choices : Choices) (items : List (Item ReadEpoch)) (lines : List R
     (step : RawStep) → expansion_takes count true ≡ true → makes_epoch step ≡ true
     → Agrees choices items lines (made_of_raw_step step)
     → place_takes expansion_takes items count (compact_beginning items lines) ≡ true
-last-takes choices items lines count (Going so_far) takes last a = absurd (cc)
 last-takes choices items lines count (Whole held) takes last a =
     ap (place_takes expansion_takes items count) a.2 ∙ takes
-last-takes choices items lines count (Faulty fault) takes last a = absurd (cc)
+last-takes choices items lines count step takes last a = absurd (cc)
 
 -- ---- the clock line
 
 abbrev clock_read : RawStep → Bool
 clock_read (Going so_far) = has_come so_far.clock
-clock_read (Whole held) = false
-clock_read (Faulty fault) = false
+clock_read step = false
 
 opened-clock : (line : List ℕ) (before : Tail) (read : Result (List Satellite) Fault)
     → clock_read (opening (and_then read (λ (satellites : List Satellite).
@@ -147,28 +145,17 @@ stopped-after choices lines two count e =
 pub expansion-allowed : (choices : Choices) (lines : List ReadLine) (line : ReadLine)
     → takes_memory expansion (expansion_seen choices lines) line ≡ true
     → compact_memory choices.skip lines line ≡ Some []
-expansion-allowed choices lines line e = decided (first_lines lines) refl e
+expansion-allowed choices lines line e = decided (first_lines lines) line refl e
   where
-    decided : (p : Place (List (List ℕ))) → first_lines lines ≡ p
-        → takes_memory expansion (seen_by choices lines p) line ≡ true → memory_by choices lines line p p
-        ≡ Some []
-    decided (Here two count) is t =
+    decided : (p : Place (List (List ℕ))) (l : ReadLine) → first_lines lines ≡ p
+        → takes_memory expansion (seen_by choices lines p) l ≡ true → memory_by choices lines l p p ≡ Some []
+    decided (Here two count) l is t =
         let r : Reading ReadEpoch = reading_from compact_place choices.skip [] (count + 1)
         (drop count lines) in
         allowed-first (expansion-carried_out choices) (expansion-takes choices) r.items r.stop (length lines)
-        line (stopped-after choices lines two count is) t
-    decided (Wrong offset fault) is t = never line t
-      where
-        never : (l : ReadLine) → takes_memory expansion (seen_by choices lines (Wrong offset fault)) l ≡ true
-            → memory_by choices lines line (Wrong offset fault) (Wrong offset fault) ≡ Some []
-        never Overlong t = false-true t
-        never (Content content) t = false-true t
-    decided Wanted is t = never line t
-      where
-        never : (l : ReadLine) → takes_memory expansion (seen_by choices lines Wanted) l ≡ true
-            → memory_by choices lines line Wanted Wanted ≡ Some []
-        never Overlong t = false-true t
-        never (Content content) t = false-true t
+        l (stopped-after choices lines two count is) t
+    decided p Overlong is t = false-true t
+    decided p (Content content) is t = false-true t
 
 pub expansion-allowed-again : (choices : Choices) (lines : List ReadLine) (line : ReadLine)
     (next : Seen OpenRawEpoch (Option Tail)) (notice : At)
@@ -186,8 +173,4 @@ expansion-allowed-again choices lines line next notice step e = decided (first_l
         (drop count lines) in
         allowed-again (expansion-carried_out choices) (expansion-takes choices) r.items r.stop (length lines)
         line next notice (stopped-after choices lines two count is) s e
-    decided (Wrong offset fault) is s =
-        false-true (comes-again expansion (seen_by choices lines (Wrong offset fault)) next line notice []
-        s).epoch
-    decided Wanted is s =
-        false-true (comes-again expansion (seen_by choices lines Wanted) next line notice [] s).epoch
+    decided p is s = false-true (comes-again expansion (seen_by choices lines p) next line notice [] s).epoch

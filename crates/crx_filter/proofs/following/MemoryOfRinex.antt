@@ -23,9 +23,8 @@ use Rattle.crx_filter.proofs.reading.Stopping.{reading-stopped}
 -- ---- satellites' lines
 
 abbrev is_fine : EpochStep → Bool
-is_fine (Going so_far) = true
-is_fine (Whole epoch) = true
 is_fine (Faulty fault) = false
+is_fine step = true
 
 fine-when : (wanted : ℕ) (so_far : OpenEpoch) → is_fine (when_wanted wanted so_far) ≡ true
 fine-when zero so_far = refl

@@ -3,7 +3,7 @@ use Rattle.crx_filter.proofs.Words.{ℕ, zero, suc, ◌≡◌, ◌+◌, ◌-◌,
 use Rattle.crx_filter.proofs.Words.{◌++◌, length, drop, Option, Some, None, refl, ap, sym, ◌∙◌, arith, subst}
 use Rattle.crx_filter.proofs.Words.{append_assoc, and_parts, ⊤, ReadLine, Content, Overlong, Fault, At}
 use Rattle.crx_filter.proofs.Words.{begins_epoch, is_event_line, records_in, Count, with_line, Place, Here}
-use Rattle.crx_filter.proofs.Words.{Wrong, Wanted, one_line, first_line, FileUnit, HeaderLine, EventLine}
+use Rattle.crx_filter.proofs.Words.{Wanted, one_line, first_line, FileUnit, HeaderLine, EventLine}
 use Rattle.crx_filter.proofs.Words.{EventRecord, Observation, RawEpoch, block_of, Past, past_of_block}
 use Rattle.crx_filter.proofs.Words.{past_of_epochs, ReadEpoch, epoch_at, Item, Accepted, Warned}
 use Rattle.crx_filter.proofs.Words.{header_has_ended, records_announced, records_left, records_count_types}
@@ -49,9 +49,8 @@ pub record AreSame (a b : List (Item ReadEpoch)) : Type 0 where
 -- the units that can stand after some items
 abbrev pub MayFollow : List (Item ReadEpoch) → FileUnit ReadEpoch → Type 0
 MayFollow items (HeaderLine line) = ⊥
-MayFollow items (EventLine line) = ⊤
 MayFollow items (EventRecord line) = 0 < records_left items
-MayFollow items (Observation read) = ⊤
+MayFollow items unit = ⊤
 
 pub alike-unit : (a b : List (Item ReadEpoch)) (unit : FileUnit ReadEpoch)
     → MayFollow a unit → AreAlike a b → AreAlike (Accepted unit ∷ a) (Accepted unit ∷ b)
@@ -224,8 +223,7 @@ module _ (skip : Bool) (units : ℕ) (ih : IsAnew skip units)
   abbrev Next : List ReadLine → Place (FileUnit ReadEpoch) → Type 0
   Next lines (Here unit count) =
       ReadAlike skip units (Accepted unit ∷ a) (Accepted unit ∷ b) (number + count) (drop count lines)
-  Next lines (Wrong offset fault) = ⊤
-  Next lines Wanted = ⊤
+  Next lines p = ⊤
 
   alike-step : (lines : List ReadLine) (p : Place (FileUnit ReadEpoch)) → compact_place a lines ≡ p
       → compact_place b lines ≡ p → Next lines p → ReadAlike skip (suc units) a b number lines

@@ -1,9 +1,9 @@
 -- What an expansion has written.
 use Rattle.crx_filter.proofs.Words.{ℕ, ◌≡◌, ◌+◌, List, [], ◌++◌, length, drop, sym, subst, refl, Bool}
-use Rattle.crx_filter.proofs.Words.{append-nil, drop-append-le, ReadLine, Place, Here, Wrong, Wanted, Remains}
-use Rattle.crx_filter.proofs.Words.{ReadEpoch, Choices, Item, reading_from, whole_reading, first_lines}
-use Rattle.crx_filter.proofs.Words.{compact_place, whole_compact, expanded_unit, expanded, expanded_lines}
-use Rattle.crx_filter.proofs.Words.{expanded_so_far, compact_reading, lines_text, Begins, IsWrittenFirst}
+use Rattle.crx_filter.proofs.Words.{append-nil, drop-append-le, ReadLine, Place, Here, Remains, ReadEpoch}
+use Rattle.crx_filter.proofs.Words.{Choices, Item, reading_from, whole_reading, first_lines, compact_place}
+use Rattle.crx_filter.proofs.Words.{whole_compact, expanded_unit, expanded, expanded_lines, expanded_so_far}
+use Rattle.crx_filter.proofs.Words.{compact_reading, lines_text, Begins, IsWrittenFirst}
 use Rattle.crx_filter.proofs.reading.ForwardCompact.{compact-forward, steady-first_lines}
 use Rattle.crx_filter.proofs.reading.Prefixes.{AreMore, text-more, reading-items, whole-items}
 
@@ -34,8 +34,7 @@ reading-more skip lines more (Here two count) e =
     let same : drop count (lines ++ more) ≡ drop count lines ++ more = drop-append-le count lines more h.0 in
     rw (reading-at skip lines two count e, reading-at skip (lines ++ more) two count h.1, same)
     (reading-items compact_place compact-forward skip (count + 1) (drop count lines) more)
-reading-more skip lines more (Wrong offset fault) e = rw (e, compact_reading) (from-none _)
-reading-more skip lines more Wanted e = rw (e, compact_reading) (from-none _)
+reading-more skip lines more p e = rw (e, compact_reading) (from-none _)
 
 pub whole-more : (skip : Bool) (lines more : List ReadLine) (p : Place (List (List ℕ)))
     → first_lines lines ≡ p → AreMore (compact_reading skip lines).items
@@ -45,8 +44,7 @@ whole-more skip lines more (Here two count) e =
     let same : drop count (lines ++ more) ≡ drop count lines ++ more = drop-append-le count lines more h.0 in
     rw (reading-at skip lines two count e, whole-at skip (lines ++ more) two count h.1, same)
     (whole-items compact_place compact-forward skip (count + 1) (drop count lines) more)
-whole-more skip lines more (Wrong offset fault) e = rw (e, compact_reading) (from-none _)
-whole-more skip lines more Wanted e = rw (e, compact_reading) (from-none _)
+whole-more skip lines more p e = rw (e, compact_reading) (from-none _)
 
 pub expanded-first : (choices : Choices) (lines : List ReadLine)
     → IsWrittenFirst expanded_so_far (λ input (c : Choices). (expanded input c).output) choices lines

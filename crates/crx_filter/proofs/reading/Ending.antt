@@ -4,11 +4,11 @@ use Rattle.crx_filter.proofs.Words.{Option, Some, None, refl, ap, sym, ◌∙◌
 use Rattle.crx_filter.proofs.Words.{none-some, ReadLine, Fault, MissingVersion, Truncated, Place, Wanted}
 use Rattle.crx_filter.proofs.Words.{first_line, Count, FileUnit, Choices, Item, is_at_start, header_has_ended}
 use Rattle.crx_filter.proofs.Words.{records_left, records_count_types, types_in_force, header_line}
-use Rattle.crx_filter.proofs.Words.{event_record, unit_place, WholeReading, Stop, AtFault, AtLines, Looking}
-use Rattle.crx_filter.proofs.Words.{is_skipped, fault_at_end, ended_with, ended_reading, is_skippable}
-use Rattle.crx_filter.proofs.Words.{written_lines, warnings_in, Phase, InHeader, BetweenUnits, InEvent}
-use Rattle.crx_filter.proofs.Words.{InEpoch, Direction, Step, is_skipped_in, kept_in, seen_end, phase_in_body}
-use Rattle.crx_filter.proofs.Words.{phase_after_items, seen_of, IsEndedBy}
+use Rattle.crx_filter.proofs.Words.{event_record, unit_place, WholeReading, Stop, AtLines, is_skipped}
+use Rattle.crx_filter.proofs.Words.{fault_at_end, ended_with, ended_reading, is_skippable, written_lines}
+use Rattle.crx_filter.proofs.Words.{warnings_in, Phase, InHeader, BetweenUnits, InEvent, InEpoch, Direction}
+use Rattle.crx_filter.proofs.Words.{Step, is_skipped_in, kept_in, seen_end, phase_in_body, phase_after_items}
+use Rattle.crx_filter.proofs.Words.{seen_of, IsEndedBy}
 use Rattle.crx_faults.specs.declared.fault.Fault.TheVariants.{NoEndOfHeader}
 use Rattle.crx_reading.specs.LineByLine.{end_step}
 use Rattle.crx_reading.proofs.Choosing.{by_bool}
@@ -147,11 +147,9 @@ pub next-end : {E U O K : Type 0} (beginning : List (Item E) → List ReadLine
     (count + 1) → EndsAs unit_lines items (ended_reading choices.skip (record { items = items; stop = stop }))
     (seen_end direction (seen_of direction open_with kept_of choices count
     (record { items = items; stop = stop })))
-next-end beginning direction open_with kept_of unit_lines choices h items (AtFault at) count stopped =
-    record { once = refl; handed_out = refl; written = refl; warned = refl; failed = refl }
-next-end beginning direction open_with kept_of unit_lines choices h items (Looking number) count stopped =
-    record { once = refl; handed_out = refl; written = refl; warned = refl; failed = refl }
 next-end beginning direction open_with kept_of unit_lines choices h items
     (AtLines number rest) count stopped =
     lines-end beginning direction open_with kept_of unit_lines choices h items number count rest stopped.0
     stopped.1 (header_has_ended items) refl (records_left items) refl (open_with items rest) refl
+next-end beginning direction open_with kept_of unit_lines choices h items stop count stopped =
+    record { once = refl; handed_out = refl; written = refl; warned = refl; failed = refl }

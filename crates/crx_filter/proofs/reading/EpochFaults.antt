@@ -32,16 +32,14 @@ FaultsPass test (Ok x) = ⊤
 FaultsPass test (Err fault) = test fault ≡ true
 
 abbrev pub FaultsPassAt : {X : Type 0} → (Fault → Bool) → Place X → Type 0
-FaultsPassAt test (Here x count) = ⊤
 FaultsPassAt test (Wrong offset fault) = test fault ≡ true
-FaultsPassAt test Wanted = ⊤
+FaultsPassAt test p = ⊤
 
 module _ (test : Fault → Bool) where
   pub place-after : {X : Type 0} (count : ℕ) (p : Place X)
       → FaultsPassAt test p → FaultsPassAt test (after_lines count p)
-  place-after count (Here x more) a = tt
   place-after count (Wrong offset fault) a = a
-  place-after count Wanted a = tt
+  place-after count p a = tt
 
   pub place-then : {X Y : Type 0} (p : Place X) (lines : List ReadLine) (next : X → List ReadLine → Place Y)
       → FaultsPassAt test p → ((x : X) (ls : List ReadLine) → FaultsPassAt test (next x ls))
@@ -64,9 +62,8 @@ module _ (test : Fault → Bool) where
 
   pub place-observation : {E : Type 0} (p : Place E) → FaultsPassAt test p
       → FaultsPassAt test (as_observation p)
-  place-observation (Here epoch count) a = tt
   place-observation (Wrong offset fault) a = a
-  place-observation Wanted a = tt
+  place-observation p a = tt
 
 -- ---- results and places whose faults can be skipped
 

@@ -14,8 +14,7 @@ use Rattle.crx_filter.proofs.reading.LineFaults.{first_lines-fine}
 
 abbrev IsFineStop : Stop → Type 0
 IsFineStop (AtFault at) = is_of_lines at.fault ≡ true
-IsFineStop (AtLines number lines) = ⊤
-IsFineStop (Looking number) = ⊤
+IsFineStop stop = ⊤
 
 abbrev IsFinePlace : {E : Type 0} → (List (Item E) → List ReadLine → Place (FileUnit E)) → Type 0
 IsFinePlace {E = E} place = (items : List (Item E)) (lines : List ReadLine) → IsFineAt (place items lines)

@@ -1,11 +1,11 @@
 -- What stands at a line of compact text is certain as soon as its last line has come.
 use Rattle.crx_filter.proofs.Words.{ℕ, suc, ◌<◌, List, [], ◌∷◌, ◌++◌, length, Result, Ok, Err, refl, ap}
-use Rattle.crx_filter.proofs.Words.{arith, ReadLine, Content, Overlong, FileUnit, Fault, Place, Here, Wrong}
-use Rattle.crx_filter.proofs.Words.{Wanted, then_place, one_line, first_line, IsSteady, Remains}
-use Rattle.crx_filter.proofs.Words.{IsDecidedAfter, is_event_line, Count, RawEpoch, past_of_line, ReadEpoch}
-use Rattle.crx_filter.proofs.Words.{epoch_begun, epoch_after_line, epoch_at, Item, types_in_force, raws_kept}
-use Rattle.crx_filter.proofs.Words.{event_line, as_observation, compact_epoch_place, compact_place}
-use Rattle.crx_filter.proofs.Words.{crinex_version, crinex_program, first_lines, IsReadForward}
+use Rattle.crx_filter.proofs.Words.{arith, ReadLine, Content, Overlong, FileUnit, Fault, Place, Here, Wanted}
+use Rattle.crx_filter.proofs.Words.{then_place, one_line, first_line, IsSteady, Remains, IsDecidedAfter}
+use Rattle.crx_filter.proofs.Words.{is_event_line, Count, RawEpoch, past_of_line, ReadEpoch, epoch_begun}
+use Rattle.crx_filter.proofs.Words.{epoch_after_line, epoch_at, Item, types_in_force, raws_kept, event_line}
+use Rattle.crx_filter.proofs.Words.{as_observation, compact_epoch_place, compact_place, crinex_version}
+use Rattle.crx_filter.proofs.Words.{crinex_program, first_lines, IsReadForward}
 use Rattle.crx_rinex.proofs.Steady.{steady-here, steady-first_line, steady-then}
 use Rattle.crx_reading.proofs.Choosing.{by_bool}
 use Rattle.crx_filter.proofs.reading.Forward.{unit_place-forward}
@@ -25,15 +25,13 @@ steady-epoch_at types older =
 
 observation-decided : {E : Type 0} (count : ℕ) (p : Place E)
     → IsDecidedAfter count p → IsDecidedAfter count (as_observation p)
-observation-decided count (Here epoch n) h = h
-observation-decided count (Wrong k fault) h = h
 observation-decided count Wanted h = tt
+observation-decided count p h = h
 
 observation-remains : {E : Type 0} (count : ℕ) (now later : Place E)
     → Remains count now later → Remains count (as_observation now) (as_observation later)
-observation-remains count (Here epoch n) later h = (h.0, ap as_observation h.1)
-observation-remains count (Wrong k fault) later h = (h.0, ap as_observation h.1)
 observation-remains count Wanted later h = observation-decided count later h
+observation-remains count p later h = (h.0, ap as_observation h.1)
 
 line-decided : {X : Type 0} (r : Result X Fault) → IsDecidedAfter 0 (one_line r)
 line-decided (Ok x) = omega arith

@@ -22,10 +22,9 @@ use Rattle.crx_filter.proofs.reading.Forward.{rinex_beginning}
 -- ---- an epoch or an event
 
 abbrev pub IsBegun : {E : Type 0} → FileUnit E → Type 0
-IsBegun (HeaderLine line) = ⊥
 IsBegun (EventLine line) = (is_event_line line ≡ true) × (is_some (records_in line) ≡ true)
-IsBegun (EventRecord line) = ⊥
 IsBegun (Observation epoch) = ⊤
+IsBegun unit = ⊥
 
 abbrev IsEventBegun : Beginning → Type 0
 IsEventBegun (EventBegins line) = (is_event_line line ≡ true) × (is_some (records_in line) ≡ true)
@@ -63,8 +62,7 @@ line-begun line = by_bool (begins_epoch line)
 after-here : {X : Type 0} (P : X → Type 0) (count : ℕ) (p : Place X) → OfHere P p
     → OfHere P (after_lines count p)
 after-here P count (Here x n) h = h
-after-here P count (Wrong offset fault) h = tt
-after-here P count Wanted h = tt
+after-here P count p h = tt
 
 observed : (p : Place Epoch) (lines : List ReadLine)
     → OfHere IsBegun (then_place p lines (λ epoch rest. Here (Observation epoch) 0))
@@ -91,12 +89,11 @@ place-begun types (Content line ∷ lines) = unit-begun types (beginning_of line
 begun-in_place : (before : List (Item Epoch)) (unit : FileUnit Epoch) (lines : List ReadLine) (count : ℕ)
     → header_has_ended before ≡ true → records_left before ≡ 0
     → epoch_place (types_in_force before) lines ≡ Here unit count → IsBegun unit → IsInPlace before unit
-begun-in_place before (HeaderLine line) lines count ended none e h = absurd h
 begun-in_place before (EventLine line) lines count ended none e h = (ended, none, h.0, h.1)
-begun-in_place before (EventRecord line) lines count ended none e h = absurd h
 begun-in_place before (Observation epoch) lines count ended none e h = let whole =
     sound-epoch_place (types_in_force before) lines epoch count (counts-in_force before) e in
     (ended, none, whole.0)
+begun-in_place before unit lines count ended none e h = absurd h
 
 in-body : (before : List (Item Epoch)) (unit : FileUnit Epoch) (lines : List ReadLine) (count : ℕ)
     → rinex_place before lines ≡ Here unit count

@@ -4,17 +4,17 @@ use Rattle.crx_filter.proofs.Words.{Some, None, Result, Ok, Err, refl, ⊤, ◌=
 use Rattle.crx_filter.proofs.Words.{columns, character_at, is_blank, clock_of, ReadLine, HEAD_WIDTH}
 use Rattle.crx_filter.proofs.Words.{NAME_WIDTH, CLOCK_WIDTH, Fault, OutOfMemory, MissingVersion, BadEpoch}
 use Rattle.crx_filter.proofs.Words.{RepeatedSatellite, BadField, BadFlags, Truncated, is_kept, HeadLine}
-use Rattle.crx_filter.proofs.Words.{EventHead, EpochHead, is_event_flag, records_in, epoch_count}
-use Rattle.crx_filter.proofs.Words.{begins_epoch, event_head, epoch_head, head_of, OpenEpoch, Beginning}
-use Rattle.crx_filter.proofs.Words.{EventBegins, EpochBegins, opened, rows_wanted, with_next_row, next_row}
-use Rattle.crx_filter.proofs.Words.{rows_at, rest_at, begun_by, beginning_of, unit_begun, epoch_place}
-use Rattle.crx_filter.proofs.Words.{has_satellite, Row, Epoch, Count, Place, Here, Wrong, Wanted, first_line}
-use Rattle.crx_filter.proofs.Words.{types_of_satellite, row_of, FileUnit, HeaderLine, EventRecord}
-use Rattle.crx_filter.proofs.Words.{Observation, ReadEpoch, epoch_at, RawEpoch, CRINEX_PROGRAM_LABEL, Item}
-use Rattle.crx_filter.proofs.Words.{is_at_start, records_count_types, types_in_force, unless_wrong}
-use Rattle.crx_filter.proofs.Words.{types_fault, header_line_fault, header_line, event_record, unit_place}
-use Rattle.crx_filter.proofs.Words.{rinex_place, compact_epoch_place, compact_place, raws_kept}
-use Rattle.crx_filter.proofs.Words.{crinex_version, crinex_program, first_lines, is_skippable, is_of_lines}
+use Rattle.crx_filter.proofs.Words.{is_event_flag, records_in, epoch_count, begins_epoch, event_head}
+use Rattle.crx_filter.proofs.Words.{epoch_head, head_of, OpenEpoch, Beginning, EventBegins, EpochBegins}
+use Rattle.crx_filter.proofs.Words.{opened, rows_wanted, with_next_row, next_row, rows_at, rest_at, begun_by}
+use Rattle.crx_filter.proofs.Words.{beginning_of, unit_begun, epoch_place, has_satellite, Row, Epoch, Count}
+use Rattle.crx_filter.proofs.Words.{Place, Here, Wrong, first_line, types_of_satellite, row_of, FileUnit}
+use Rattle.crx_filter.proofs.Words.{HeaderLine, EventRecord, Observation, ReadEpoch, epoch_at, RawEpoch}
+use Rattle.crx_filter.proofs.Words.{CRINEX_PROGRAM_LABEL, Item, is_at_start, records_count_types}
+use Rattle.crx_filter.proofs.Words.{types_in_force, unless_wrong, types_fault, header_line_fault, header_line}
+use Rattle.crx_filter.proofs.Words.{event_record, unit_place, rinex_place, compact_epoch_place, compact_place}
+use Rattle.crx_filter.proofs.Words.{raws_kept, crinex_version, crinex_program, first_lines, is_skippable}
+use Rattle.crx_filter.proofs.Words.{is_of_lines, EventHead, EpochHead}
 use Rattle.crx_columns.specs.meaning.Columns.{without_blanks}
 use Rattle.crx_faults.specs.declared.limits.TheConstants.{CELL_WIDTH}
 use Rattle.crx_faults.specs.declared.fault.Fault.TheVariants.{InputTooLong, ReadFailed, WriteFailed}
@@ -169,9 +169,8 @@ skippable-fine OutOfMemory e = absurd (cc)
 skippable-fine fault e = refl
 
 place-skippable : {X : Type 0} (p : Place X) → IsSkippableAt p → IsFineAt p
-place-skippable (Here x count) h = tt
 place-skippable (Wrong offset fault) h = skippable-fine fault h
-place-skippable Wanted h = tt
+place-skippable p h = tt
 
 compact_epoch-fine : (types : List Count) (older : List RawEpoch) (lines : List ReadLine)
     → IsFineAt (compact_epoch_place types older lines)

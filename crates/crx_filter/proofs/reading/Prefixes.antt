@@ -63,10 +63,9 @@ ended_with-items skip items number (Some fault) = by_bool (is_skipped skip items
 
 pub ended-items : {E : Type 0} (skip : Bool) (items : List (Item E)) (stop : Stop)
     → AreMore items (ended_reading skip (record { items = items; stop = stop })).items
-ended-items skip items (AtFault at) = no_more items
 ended-items skip items (AtLines number lines) =
     ended_with-items skip items (number + length lines) (fault_at_end items lines)
-ended-items skip items (Looking number) = no_more items
+ended-items skip items stop = no_more items
 
 -- ---- the text of more items
 

@@ -11,8 +11,7 @@ use Rattle.crx_reading.proofs.Choosing.{by_bool}
 -- what holds of a thing that stands somewhere
 abbrev pub OfHere : {X : Type 0} → (X → Type 0) → Place X → Type 0
 OfHere P (Here x count) = P x
-OfHere P (Wrong offset fault) = ⊤
-OfHere P Wanted = ⊤
+OfHere P p = ⊤
 
 abbrev pub OfOk : {X : Type 0} → (X → Type 0) → Result X Fault → Type 0
 OfOk P (Ok x) = P x

@@ -23,9 +23,8 @@ use Rattle.crx_reading.proofs.Checkers.{last-of}
 -- ---- where nothing is skipped, no line is looked for
 
 abbrev IsFound : Stop → Type 0
-IsFound (AtFault at) = ⊤
-IsFound (AtLines number lines) = ⊤
 IsFound (Looking number) = ⊥
+IsFound stop = ⊤
 
 within-found : (units : ℕ) (items : List (Item Epoch)) (number : ℕ) (lines : List ReadLine)
     → IsFound (reading_within rinex_place false units items number lines).stop
@@ -39,13 +38,9 @@ within-found (suc units) items number lines = by_place (rinex_place items lines)
 -- the phases of a reading that skips nothing
 abbrev pub IsReached : Phase OpenEpoch → Type 0
 IsReached (InFirstLines count) = ⊥
-IsReached (InHeader is_first) = ⊤
-IsReached BetweenUnits = ⊤
-IsReached (InEvent left counted) = ⊤
-IsReached (InEpoch so_far) = ⊤
 IsReached LookingOn = ⊥
 IsReached Closed = ⊥
-IsReached (Ended at) = ⊤
+IsReached phase = ⊤
 
 body-reached : (left : ℕ) (counted : Bool) (so_far : Option OpenEpoch)
     → IsReached (phase_in_body left counted so_far)
@@ -146,21 +141,18 @@ row-grows number types kept content so_far (Ok row) f =
 pub line-grows : (number : ℕ) (phase : Phase OpenEpoch) (types : List Count) (kept : Totals) (line : ReadLine)
     → IsReached phase → Grows number phase types kept line (made_in checking phase types kept line)
 line-grows number (InFirstLines count) types kept line h f = absurd h
-line-grows number (InHeader is_first) types kept Overlong h f = absurd (none-some _ (sym f))
 line-grows number (InHeader is_first) types kept (Content content) h f =
     header-grows number is_first types kept content (header_line_fault is_first content) f
-line-grows number BetweenUnits types kept Overlong h f = absurd (none-some _ (sym f))
 line-grows number BetweenUnits types kept (Content content) h f =
     beginning-grows number types kept content (beginning_of content) f
-line-grows number (InEvent left counted) types kept Overlong h f = absurd (none-some _ (sym f))
 line-grows number (InEvent left counted) types kept (Content content) h f =
     record-grows number left counted types kept content (cond counted (types_fault content) None) f
-line-grows number (InEpoch so_far) types kept Overlong h f = absurd (none-some _ (sym f))
 line-grows number (InEpoch so_far) types kept (Content content) h f =
     row-grows number types kept content so_far (next_row so_far content) f
 line-grows number LookingOn types kept line h f = absurd h
 line-grows number Closed types kept line h f = absurd h
 line-grows number (Ended at) types kept line h f = absurd (none-some at (sym f))
+line-grows number phase types kept Overlong h f = absurd (none-some _ (sym f))
 
 -- ---- no line comes again
 

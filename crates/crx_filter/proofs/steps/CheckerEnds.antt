@@ -35,12 +35,7 @@ end-fault reader number totals named lines settled settles same =
     let now : CheckSeen = checker_state_with reader number totals named in
     let step = settles (seen_in no_choices number (reader_phase reader) reader.types kept)
     (epoch_open reader) None
-    (record {
-      is_phase = refl;
-      is_open = held-by_reader reader;
-      is_count = refl;
-      is_skip = refl;
-    }) in
+    (record { is_phase = refl; is_open = held-by_reader reader; is_count = refl; is_skip = refl }) in
     (check-ended lines).fault
     ∙ ap (λ (b : CheckSeen). failed_by (seen_end checking b.reading).answer) (sym same)
     ∙ ap failed_by (end-same number (reader_phase reader) reader.types now.reading.kept kept)

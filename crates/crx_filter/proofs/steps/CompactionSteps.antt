@@ -5,13 +5,13 @@ use Rattle.crx_filter.proofs.Words.{Content, Overlong, At, Fault, OutOfMemory, L
 use Rattle.crx_filter.proofs.Words.{Bool, not, ◌&&◌, and_parts, false≢true, begins_epoch, is_event_line}
 use Rattle.crx_filter.proofs.Words.{OpenEpoch, HeaderLine, EventLine, EventRecord, Observation, FileUnit}
 use Rattle.crx_filter.proofs.Words.{Count, epoch_by_rows, Choices, Written, compact_written, compaction}
-use Rattle.crx_filter.proofs.Words.{epoch_written, is_next_row, written_kept, Phase, InFirstLines, InHeader}
-use Rattle.crx_filter.proofs.Words.{BetweenUnits, InEvent, InEpoch, LookingOn, SeenEnded, Seen, Made, Fails}
-use Rattle.crx_filter.proofs.Words.{made_in, kept_in, failed_step, phase_after, step_of_made, may_take_memory}
-use Rattle.crx_filter.proofs.Words.{is_skippable, seen_stage, step_made, Steps, epoch_open, is_row, made_at}
-use Rattle.crx_filter.proofs.Words.{reader_phase, Completed, CompletedEpoch, IsSameReader, TakesRinexLine}
-use Rattle.crx_filter.proofs.Words.{is_open_stage, RinexStep, Nothing, Header, Event, Record, Begun}
-use Rattle.crx_filter.proofs.Words.{MovesReader, Quiet, Ready, RinexReader, Stage, Open}
+use Rattle.crx_filter.proofs.Words.{epoch_written, is_next_row, written_kept, Phase, InFirstLines}
+use Rattle.crx_filter.proofs.Words.{BetweenUnits, LookingOn, SeenEnded, Seen, Made, Fails, made_in, kept_in}
+use Rattle.crx_filter.proofs.Words.{failed_step, phase_after, step_of_made, may_take_memory, is_skippable}
+use Rattle.crx_filter.proofs.Words.{seen_stage, step_made, Steps, epoch_open, is_row, made_at, reader_phase}
+use Rattle.crx_filter.proofs.Words.{Completed, CompletedEpoch, IsSameReader, TakesRinexLine, is_open_stage}
+use Rattle.crx_filter.proofs.Words.{RinexStep, Nothing, Header, Event, Record, Begun, MovesReader, Quiet}
+use Rattle.crx_filter.proofs.Words.{Ready, RinexReader, Stage, Open}
 use Rattle.std.proofs.Common.{OnErr}
 use Rattle.std.specs.declared.alloc.AllocError.{AllocError}
 use Rattle.crx_reading.specs.LineByLine.{Closed as SeenClosed}
@@ -54,16 +54,14 @@ read-or-written : (first : List ℕ → Bool) (next : OpenEpoch → List ℕ →
     → may_take_memory first next phase line ≡ true
 read-or-written first next phase Overlong e = absurd (false≢true e)
 read-or-written first next (InFirstLines count) (Content line) e = e
-read-or-written first next (InHeader is_first) (Content line) e = e
 read-or-written first next BetweenUnits (Content line) e =
     absurd (false≢true (and_parts (not (is_event_line line)) false e).1)
-read-or-written first next (InEvent left counted) (Content line) e = e
-read-or-written first next (InEpoch so_far) (Content line) e = e
 read-or-written first next LookingOn (Content line) e =
     absurd (false≢true (and_parts (not (is_event_line line)) false
     (and_parts (begins_epoch line) (not (is_event_line line) && false) e).1).1)
 read-or-written first next SeenClosed (Content line) e = e
 read-or-written first next (SeenEnded at) (Content line) e = e
+read-or-written first next phase (Content line) e = e
 
 -- a line with a fault
 pub refused-step : (before now : Seen OpenEpoch Written)

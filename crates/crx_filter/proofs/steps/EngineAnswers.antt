@@ -76,10 +76,7 @@ again-by-made {O = O} {K = K} direction before next line at handed_out (Fails fa
     let step : record { answer = Notice at true; handed_out = handed_out; next = next }
     ≡ failed_step direction before line fault = e in
     let is : failed_step direction before line fault ≡ record {
-      answer = Notice (record {
-        line = before.number + 1;
-        fault = fault;
-      }) again;
+      answer = Notice (record { line = before.number + 1; fault = fault }) again;
       handed_out = [];
       next = record before {
         number = cond again before.number (before.number + 1);
@@ -277,11 +274,7 @@ module _ {U O K : Type 0} {direction : Direction U O K} {seen_after : List ReadL
         → EngineAnswers filter shows ready lines notices line result
     ran-out shows ready notices number at result is fault place same allowed =
         subst (λ (r : Result Step At). EngineAnswers filter shows ready lines notices line r) (sym is)
-        (inl (record {
-          fault = fault;
-          place = place ∙ ap (λ (n : ℕ). n + 1) same;
-          allowed = allowed;
-        }))
+        (inl (record { fault = fault; place = place ∙ ap (λ (n : ℕ). n + 1) same; allowed = allowed }))
 
   -- an engine's own step, or memory that ran out, is an answer
   answers-line : (shows : List InputLine → List Awaited → Type 0) (before now : Seen O K)

@@ -82,9 +82,7 @@ pub anew-between : (choices : Choices) (kept block : List (Item Epoch)) → AreI
     → BeginsAnew choices block kept → (kept ≡ []) ⊎ (records_left block ≡ 0)
 anew-between choices [] block h anew = inl refl
 anew-between choices (Warned at ∷ []) block h anew = absurd anew
-anew-between choices (Accepted (HeaderLine line) ∷ []) block h anew = absurd anew
 anew-between choices (Accepted (EventLine line) ∷ []) block h anew = inr (h.0).1
-anew-between choices (Accepted (EventRecord line) ∷ []) block h anew = absurd anew
 anew-between choices (Accepted (Observation epoch) ∷ []) block h anew = inr (h.0).1
 anew-between choices (newest ∷ item ∷ items) block h anew =
     inr (some (anew-between choices (item ∷ items) block (rest-in_place (newest ∷ [])
@@ -104,6 +102,7 @@ anew-between choices (newest ∷ item ∷ items) block h anew =
     some : (item ∷ items ≡ []) ⊎ (records_left block ≡ 0) → records_left block ≡ 0
     some (inl e) = absurd (cc)
     some (inr e) = e
+anew-between choices (Accepted unit ∷ []) block h anew = absurd anew
 
 -- ---- the reading
 

@@ -5,11 +5,11 @@ use Rattle.crx_filter.proofs.Words.{[], ◌∷◌, ◌++◌, length, drop, refl,
 use Rattle.crx_filter.proofs.Words.{append_assoc, ⊤, AllByRecursion, length-drop, is_skippable, ReadLine}
 use Rattle.crx_filter.proofs.Words.{Content, Overlong, At, Fault, begins_epoch, is_event_line, records_in}
 use Rattle.crx_filter.proofs.Words.{BadEpoch, announces_records, true≢false, cond, Option, Some, None, Ok}
-use Rattle.crx_filter.proofs.Words.{Err, is_some, ◌&&◌, Here, Wrong, Wanted, one_line, FileUnit, HeaderLine}
-use Rattle.crx_filter.proofs.Words.{EventLine, EventRecord, Observation, ReadEpoch, epoch_at, Item, Accepted}
-use Rattle.crx_filter.proofs.Words.{Warned, types_in_force, Reading, AtLines, Looking, is_skipped, can_go_on}
-use Rattle.crx_filter.proofs.Words.{looked_for, reading_within, reading_from, raws_kept, compact_place}
-use Rattle.crx_filter.proofs.Words.{event_line, as_observation, IsBetweenUnits, continued_reading}
+use Rattle.crx_filter.proofs.Words.{Err, is_some, ◌&&◌, Here, Wrong, Wanted, one_line, FileUnit, EventLine}
+use Rattle.crx_filter.proofs.Words.{Observation, ReadEpoch, epoch_at, Item, Accepted, Warned, types_in_force}
+use Rattle.crx_filter.proofs.Words.{Reading, AtLines, Looking, is_skipped, can_go_on, looked_for}
+use Rattle.crx_filter.proofs.Words.{reading_within, reading_from, raws_kept, compact_place, event_line}
+use Rattle.crx_filter.proofs.Words.{as_observation, IsBetweenUnits, continued_reading}
 use Rattle.crx_reading.proofs.Choosing.{by_bool}
 use Rattle.crx_filter.proofs.reading.EpochFaults.{IsSkippableAt, epoch-skippable, place-observation}
 use Rattle.crx_filter.proofs.reading.ForwardCompact.{compact-forward}
@@ -29,11 +29,9 @@ IsNoEvent Overlong = ⊤
 -- epochs and warnings alone
 abbrev pub AreEpochs : List (Item ReadEpoch) → Type 0
 AreEpochs [] = ⊤
-AreEpochs (Accepted (HeaderLine line) ∷ before) = ⊥
-AreEpochs (Accepted (EventLine line) ∷ before) = ⊥
-AreEpochs (Accepted (EventRecord line) ∷ before) = ⊥
 AreEpochs (Accepted (Observation read) ∷ before) = AreEpochs before
 AreEpochs (Warned at ∷ before) = AreEpochs before
+AreEpochs (Accepted unit ∷ before) = ⊥
 
 -- a reading has stopped where more lines could make an epoch, or looks for a line that begins with >
 abbrev pub IsOpen : List (Item ReadEpoch) → Reading ReadEpoch → Type 0
@@ -48,31 +46,25 @@ pub record IsStretchRead (items : List (Item ReadEpoch)) (r : Reading ReadEpoch)
 
 pub epochs-append : (one two : List (Item ReadEpoch)) → AreEpochs one → AreEpochs two → AreEpochs (one ++ two)
 epochs-append [] two h k = k
-epochs-append (Accepted (HeaderLine line) ∷ one) two h k = absurd h
-epochs-append (Accepted (EventLine line) ∷ one) two h k = absurd h
-epochs-append (Accepted (EventRecord line) ∷ one) two h k = absurd h
 epochs-append (Accepted (Observation read) ∷ one) two h k = epochs-append one two h k
 epochs-append (Warned at ∷ one) two h k = epochs-append one two h k
+epochs-append (Accepted unit ∷ one) two h k = absurd h
 
 pub epochs-between : (news items : List (Item ReadEpoch))
     → AreEpochs news → IsBetweenUnits items → IsBetweenUnits (news ++ items)
 epochs-between [] items h between = between
-epochs-between (Accepted (HeaderLine line) ∷ news) items h between = absurd h
-epochs-between (Accepted (EventLine line) ∷ news) items h between = absurd h
-epochs-between (Accepted (EventRecord line) ∷ news) items h between = absurd h
 epochs-between (Accepted (Observation read) ∷ news) items h between =
     record { header = IsBetweenUnits.header (epochs-between news items h between); none = refl }
 epochs-between (Warned at ∷ news) items h between =
     record { header = IsBetweenUnits.header (epochs-between news items h between); none = refl }
+epochs-between (Accepted unit ∷ news) items h between = absurd h
 
 pub epochs-types : (news items : List (Item ReadEpoch))
     → AreEpochs news → types_in_force (news ++ items) ≡ types_in_force items
 epochs-types [] items h = refl
-epochs-types (Accepted (HeaderLine line) ∷ news) items h = absurd h
-epochs-types (Accepted (EventLine line) ∷ news) items h = absurd h
-epochs-types (Accepted (EventRecord line) ∷ news) items h = absurd h
 epochs-types (Accepted (Observation read) ∷ news) items h = epochs-types news items h
 epochs-types (Warned at ∷ news) items h = epochs-types news items h
+epochs-types (Accepted unit ∷ news) items h = absurd h
 
 -- one item more before what is read
 onto : (item : Item ReadEpoch) (items : List (Item ReadEpoch)) (r : Reading ReadEpoch)

@@ -2,11 +2,11 @@
 use Rattle.crx_filter.proofs.Words.{ℕ, ◌≡◌, true, List, [], ◌∷◌, ◌++◌, map, Option, refl, ap, sym, ◌∙◌, subst}
 use Rattle.crx_filter.proofs.Words.{append_assoc, append-nil, inl, inr, ◌⊎◌, ⊤, AllByRecursion, flat_map}
 use Rattle.crx_filter.proofs.Words.{flat_map-append, lines_of, ReadLine, Content, seen, Epoch, IsWholeEpoch}
-use Rattle.crx_filter.proofs.Words.{printed_epoch, HeaderLine, EventLine, EventRecord, Observation, IsGood}
-use Rattle.crx_filter.proofs.Words.{ReadEpoch, Choices, Item, Accepted, Warned, header_has_ended}
-use Rattle.crx_filter.proofs.Words.{records_left, types_in_force, reading_from, compact_place, BeginsAnew}
-use Rattle.crx_filter.proofs.Words.{printed_items, IsBetweenUnits, expanded_lines, AreInPlace, Stretch}
-use Rattle.crx_filter.proofs.Words.{up_to_end, up_to_next, with_stretches, IsStretch, AreStretches}
+use Rattle.crx_filter.proofs.Words.{printed_epoch, Observation, IsGood, ReadEpoch, Choices, Item, Accepted}
+use Rattle.crx_filter.proofs.Words.{Warned, header_has_ended, records_left, types_in_force, reading_from}
+use Rattle.crx_filter.proofs.Words.{compact_place, BeginsAnew, printed_items, IsBetweenUnits, expanded_lines}
+use Rattle.crx_filter.proofs.Words.{AreInPlace, Stretch, up_to_end, up_to_next, with_stretches, IsStretch}
+use Rattle.crx_filter.proofs.Words.{AreStretches}
 use Rattle.crx_filter.specs.meaning.Stretches.{Saves}
 use Rattle.crx_filter.proofs.wayback.Carried.{left-same, types-same}
 use Rattle.crx_filter.proofs.wayback.ExpandedWhole.{AreGoodEpochs}
@@ -116,35 +116,29 @@ one-stretch choices before s later so_far items h allowed sound come =
 news-printed : (news : List (Item ReadEpoch))
     → AreEpochs news → expanded_lines news ≡ flat_map printed_epoch (epochs_of news)
 news-printed [] h = refl
-news-printed (Accepted (HeaderLine line) ∷ news) h = absurd h
-news-printed (Accepted (EventLine line) ∷ news) h = absurd h
-news-printed (Accepted (EventRecord line) ∷ news) h = absurd h
 news-printed (Accepted (Observation read) ∷ news) h =
     ap (λ ls. ls ++ printed_epoch read.epoch) (news-printed news h)
     ∙ ap (λ ls. flat_map printed_epoch (epochs_of news) ++ ls) (sym (append-nil (printed_epoch read.epoch)))
     ∙ sym (flat_map-append printed_epoch (epochs_of news) (read.epoch ∷ []))
 news-printed (Warned at ∷ news) h = news-printed news h
+news-printed (Accepted unit ∷ news) h = absurd h
 
 -- they are whole
 good-rest : (later items : List (Item ReadEpoch)) → AreGoodEpochs (later ++ items) → AreGoodEpochs items
 good-rest [] items h = h
-good-rest (Accepted (HeaderLine line) ∷ later) items h = good-rest later items h
-good-rest (Accepted (EventLine line) ∷ later) items h = good-rest later items h
-good-rest (Accepted (EventRecord line) ∷ later) items h = good-rest later items h
 good-rest (Accepted (Observation read) ∷ later) items h = good-rest later items h.1
 good-rest (Warned at ∷ later) items h = good-rest later items h
+good-rest (Accepted unit ∷ later) items h = good-rest later items h
 
 news-whole : (news items : List (Item ReadEpoch)) → AreEpochs news → AreGoodEpochs (news ++ items)
     → AllByRecursion (IsWholeEpoch (types_in_force items)) (epochs_of news)
 news-whole [] items h good = tt
-news-whole (Accepted (HeaderLine line) ∷ news) items h good = absurd h
-news-whole (Accepted (EventLine line) ∷ news) items h good = absurd h
-news-whole (Accepted (EventRecord line) ∷ news) items h good = absurd h
 news-whole (Accepted (Observation read) ∷ news) items h good =
     all-append (IsWholeEpoch (types_in_force items)) (epochs_of news) (read.epoch ∷ [])
     (news-whole news items h good.1)
     (subst (λ types. IsWholeEpoch types read.epoch) (epochs-types news items h) (IsGood.whole good.0), tt)
 news-whole (Warned at ∷ news) items h good = news-whole news items h good
+news-whole (Accepted unit ∷ news) items h good = absurd h
 
 -- ---- all stretches
 

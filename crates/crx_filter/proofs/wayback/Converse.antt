@@ -1,15 +1,14 @@
 -- A file comes back only where it is standard: the lines that are written are plain, and printed as they stand.
 use Rattle.crx_filter.proofs.Words.{ℕ, ℤ, zero, suc, ◌≡◌, ◌+◌, ◌-◌, ◌<◌, ◌≤◌, true, false, List, [], ◌∷◌}
 use Rattle.crx_filter.proofs.Words.{◌++◌, map, length, take, drop, replicate, Option, Some, None, refl, ap}
-use Rattle.crx_filter.proofs.Words.{sym, ◌∙◌, arith, append_assoc, not, All, AllByRecursion, list_all}
-use Rattle.crx_filter.proofs.Words.{All-head, All-tail, and_parts, and_from, clock_text, IsSoundRow}
-use Rattle.crx_filter.proofs.Words.{IsWholeEpoch, Count, OBSERVATION_WIDTH, CLOCK_WIDTH, InputLine, pieces_of}
-use Rattle.crx_filter.proofs.Words.{ends_with_return, line_of, lines_of, HasNoFeed, is_printable, is_kept}
-use Rattle.crx_filter.proofs.Words.{Row, Epoch, printed_row, printed_epoch, printed_cells, lines_text}
-use Rattle.crx_filter.proofs.Words.{printed_unit, Observation, Choices, is_date, compacted, expanded, Item}
-use Rattle.crx_filter.proofs.Words.{Accepted, Warned, types_in_force, WholeReading, FilterResult}
-use Rattle.crx_filter.proofs.Words.{printed_items, whole_of, IsStandard, AreInPlace, OfCopiedLines}
-use Rattle.crx_filter.proofs.Words.{HaveNoReturns}
+use Rattle.crx_filter.proofs.Words.{sym, ◌∙◌, arith, not, All, AllByRecursion, list_all, All-head, All-tail}
+use Rattle.crx_filter.proofs.Words.{and_parts, and_from, clock_text, IsSoundRow, IsWholeEpoch, Count}
+use Rattle.crx_filter.proofs.Words.{OBSERVATION_WIDTH, CLOCK_WIDTH, InputLine, ends_with_return, line_of}
+use Rattle.crx_filter.proofs.Words.{lines_of, HasNoFeed, is_printable, is_kept, Row, Epoch, printed_row}
+use Rattle.crx_filter.proofs.Words.{printed_epoch, printed_cells, lines_text, printed_unit, Observation}
+use Rattle.crx_filter.proofs.Words.{Choices, is_date, compacted, expanded, Item, Accepted, Warned}
+use Rattle.crx_filter.proofs.Words.{types_in_force, WholeReading, FilterResult, printed_items, whole_of}
+use Rattle.crx_filter.proofs.Words.{IsStandard, AreInPlace, OfCopiedLines, HaveNoReturns}
 use Rattle.std.proofs.Common.{pos, negsuc, ◌/◌, ◌%◌, ◌^◌, decimal}
 use Rattle.std.specs.Str.{all_ascii_digits}
 use Rattle.std.specs.Char.{is_ascii_digit}
@@ -20,10 +19,9 @@ use Rattle.crx_text.proofs.Spellings.{abs_within}
 use Rattle.crx_compact.proofs.wayback.Writable.{sound-name_kept}
 use Rattle.crx_compact.proofs.wayback.Facts.{head-kept}
 use Rattle.crx_faults.specs.declared.limits.TheConstants.{OBSERVATION_DECIMALS, CLOCK_DECIMALS}
-use Rattle.crx_lines.proofs.PieceLemmas.{pieces-first}
 use Rattle.crx_text.proofs.ReadBack.{decimal_is_digits}
 use Rattle.crx_filter.proofs.wayback.WayBack.{IsSettled, whole-settled}
-use Rattle.crx_filter.proofs.wayback.Cut.{CanStand, return-kept}
+use Rattle.crx_filter.proofs.wayback.Cut.{CanStand, return-kept, first-cut}
 use Rattle.crx_filter.proofs.wayback.Standard.{normal-comes_back}
 use Rattle.crx_filter.proofs.wayback.First.{append-printable, take-printable, printable-no_feed}
 use Rattle.crx_filter.proofs.wayback.First.{printable-no_return}
@@ -48,12 +46,8 @@ line-plain line h =
 pub lines-plain : (lines : List (List ℕ))
     → AllByRecursion IsPlainLine lines → lines_of (lines_text lines) ≡ map plain lines
 lines-plain [] h = refl
-lines-plain (line ∷ lines) h =
-    let text : lines_text (line ∷ lines) ≡ line ++ 10 ∷ lines_text lines =
-    append_assoc line (10 ∷ []) (lines_text lines) in
-    let pieces : pieces_of (line ++ 10 ∷ lines_text lines) ≡ record { bytes = line; is_ended = true }
-    ∷ pieces_of (lines_text lines) = pieces-first line (lines_text lines) (IsPlainLine.one_line h.0) in
-    ap lines_of text ∙ ap (map line_of) pieces ∙ ap (λ l. l ∷ lines_of (lines_text lines))
+lines-plain (line ∷ lines) h = ap (map line_of) (first-cut line lines (IsPlainLine.one_line h.0))
+    ∙ ap (λ l. l ∷ lines_of (lines_text lines))
     (line-plain line h.0) ∙ ap (λ ls. plain line ∷ ls) (lines-plain lines h.1)
 
 -- ---- what is printed is printable
@@ -160,10 +154,7 @@ printable-plain : (lines : List (List ℕ))
     → AllByRecursion IsPlainLine lines
 printable-plain [] h = tt
 printable-plain (line ∷ lines) h = (
-  record {
-    one_line = printable-no_feed line h.0;
-    no_return = printable-no_return line h.0;
-  },
+  record { one_line = printable-no_feed line h.0; no_return = printable-no_return line h.0 },
   printable-plain lines h.1,
 )
 

@@ -1,6 +1,6 @@
 -- Lines that are written and cut again are these lines; and what is read of an input holds no LF and isn't too long.
-use Rattle.crx_filter.proofs.Words.{ℕ, ◌≡◌, ◌≢◌, ◌≤◌, true, false, cond, ◌⊎◌, inl, inr, List, [], ◌∷◌, ◌++◌}
-use Rattle.crx_filter.proofs.Words.{map, length, refl, ap, sym, ◌∙◌, subst, append_assoc, ⊤, ◌==◌, nat_lt}
+use Rattle.crx_filter.proofs.Words.{ℕ, ◌≡◌, ◌≢◌, ◌≤◌, true, false, cond, ◌⊎◌, inl, inr, List, [], ◌∷◌, map}
+use Rattle.crx_filter.proofs.Words.{length, refl, ap, sym, ◌∙◌, subst, append_assoc, ⊤, ◌==◌, nat_lt}
 use Rattle.crx_filter.proofs.Words.{AllByRecursion, All-head, All-tail, All-cons, All-nil, ltb-false}
 use Rattle.crx_filter.proofs.Words.{eqb_tells, Piece, InputLine, pieces_of, onto_first, ends_with_return}
 use Rattle.crx_filter.proofs.Words.{without_return, line_of, lines_of, is_long, HasNoFeed, ReadLine, Content}
@@ -32,15 +32,18 @@ seen-clean line h =
     seen-short (line_of (record { bytes = line; is_ended = true }))
     (subst (λ l. length l ≤ LINE_LIMIT) (sym kept) h.short) ∙ ap Content kept
 
+-- the first of some lines, cut off their text
+pub first-cut : (line : List ℕ) (lines : List (List ℕ)) → HasNoFeed line
+    → pieces_of (lines_text (line ∷ lines)) ≡ record { bytes = line; is_ended = true } ∷ pieces_of
+    (lines_text lines)
+first-cut line lines one =
+    ap pieces_of (append_assoc line (10 ∷ []) (lines_text lines)) ∙ pieces-first line (lines_text lines) one
+
 pub lines-cut : (lines : List (List ℕ))
     → AllByRecursion IsClean lines → map seen (lines_of (lines_text lines)) ≡ map Content lines
 lines-cut [] h = refl
 lines-cut (line ∷ lines) h =
-    let text : lines_text (line ∷ lines) ≡ line ++ 10 ∷ lines_text lines =
-    append_assoc line (10 ∷ []) (lines_text lines) in
-    let pieces : pieces_of (line ++ 10 ∷ lines_text lines) ≡ record { bytes = line; is_ended = true }
-    ∷ pieces_of (lines_text lines) = pieces-first line (lines_text lines) (IsClean.one_line h.0) in
-    ap (λ t. map seen (lines_of t)) text ∙ ap (λ ps. map seen (map line_of ps)) pieces
+    ap (λ ps. map seen (map line_of ps)) (first-cut line lines (IsClean.one_line h.0))
     ∙ ap (λ l. l ∷ map seen (lines_of (lines_text lines))) (seen-clean line h.0)
     ∙ ap (λ ls. Content line ∷ ls) (lines-cut lines h.1)
 

@@ -2,23 +2,22 @@
 -- copied is a line.
 use Rattle.crx_filter.proofs.Words.{ℕ, zero, suc, ◌≡◌, ◌+◌, Bool, true, false, cond, List, [], ◌∷◌, ◌++◌, map}
 use Rattle.crx_filter.proofs.Words.{length, drop, Option, Some, None, Result, refl, ap, sym, ◌∙◌, subst}
-use Rattle.crx_filter.proofs.Words.{arith, append_assoc, ◌||◌, ◌-◌, ⊤, AllByRecursion, list_all, is_some}
-use Rattle.crx_filter.proofs.Words.{and_parts, not-true, HasNoFeed, Piece, InputLine, pieces_of}
-use Rattle.crx_filter.proofs.Words.{ends_with_return, line_of, lines_of, lines_text, ReadLine, Content}
-use Rattle.crx_filter.proofs.Words.{Overlong, seen, At, Fault, BadEpoch, is_event_line, records_in}
-use Rattle.crx_filter.proofs.Words.{is_end_of_header, Count, types_of, IsWholeEpoch, Epoch, Place, Here}
-use Rattle.crx_filter.proofs.Words.{Wrong, Wanted, first_line, one_line, printed_epoch, FileUnit, HeaderLine}
-use Rattle.crx_filter.proofs.Words.{EventLine, EventRecord, Observation, printed_unit, ReadEpoch, epoch_at}
-use Rattle.crx_filter.proofs.Words.{RawEpoch, IsGood, Choices, compact_place, compact_epoch_place, event_line}
-use Rattle.crx_filter.proofs.Words.{as_observation, raws_kept, first_lines, whole_compact, expanded_unit}
-use Rattle.crx_filter.proofs.Words.{expanded, Item, Accepted, Warned, is_at_start, header_has_ended}
-use Rattle.crx_filter.proofs.Words.{records_left, records_count_types, declaring_lines, types_in_force}
-use Rattle.crx_filter.proofs.Words.{Reading, WholeReading, Stop, AtFault, AtLines, Looking, is_skipped}
-use Rattle.crx_filter.proofs.Words.{reading_from, fault_at_end, ended_with, ended_reading, printed_items}
-use Rattle.crx_filter.proofs.Words.{IsStandard, types_fault, header_line_fault, header_line, event_record}
-use Rattle.crx_filter.proofs.Words.{OfCopiedLine, OfCopiedLines, HaveNoReturns, written_lines, FilterResult}
-use Rattle.crx_filter.proofs.Words.{IsResult, Device, ItemsAreRead, IsInPlace, AreInPlace}
-use Rattle.crx_lines.proofs.PieceLemmas.{pieces-first}
+use Rattle.crx_filter.proofs.Words.{arith, ◌||◌, ◌-◌, ⊤, AllByRecursion, list_all, is_some, and_parts}
+use Rattle.crx_filter.proofs.Words.{not-true, HasNoFeed, Piece, InputLine, pieces_of, ends_with_return}
+use Rattle.crx_filter.proofs.Words.{line_of, lines_of, lines_text, ReadLine, Content, Overlong, seen, At}
+use Rattle.crx_filter.proofs.Words.{Fault, BadEpoch, is_event_line, records_in, is_end_of_header, Count}
+use Rattle.crx_filter.proofs.Words.{types_of, IsWholeEpoch, Epoch, Place, Here, Wrong, Wanted, first_line}
+use Rattle.crx_filter.proofs.Words.{one_line, printed_epoch, FileUnit, HeaderLine, EventLine, EventRecord}
+use Rattle.crx_filter.proofs.Words.{Observation, printed_unit, ReadEpoch, epoch_at, RawEpoch, IsGood, Choices}
+use Rattle.crx_filter.proofs.Words.{compact_place, compact_epoch_place, event_line, as_observation, raws_kept}
+use Rattle.crx_filter.proofs.Words.{first_lines, whole_compact, expanded_unit, expanded, Item, Accepted}
+use Rattle.crx_filter.proofs.Words.{Warned, is_at_start, header_has_ended, records_left, records_count_types}
+use Rattle.crx_filter.proofs.Words.{declaring_lines, types_in_force, Reading, WholeReading, Stop, AtFault}
+use Rattle.crx_filter.proofs.Words.{AtLines, Looking, is_skipped, reading_from, fault_at_end, ended_with}
+use Rattle.crx_filter.proofs.Words.{ended_reading, printed_items, IsStandard, types_fault, header_line_fault}
+use Rattle.crx_filter.proofs.Words.{header_line, event_record, OfCopiedLine, OfCopiedLines, HaveNoReturns}
+use Rattle.crx_filter.proofs.Words.{written_lines, FilterResult, IsResult, Device, ItemsAreRead, IsInPlace}
+use Rattle.crx_filter.proofs.Words.{AreInPlace}
 use Rattle.crx_reading.specs.meaning.Expanded.{rinex_unit}
 use Rattle.crx_filter.specs.meaning.WrittenStandard.{has_plain_lines, rinex_items, WhatIsExpandedIsStandard}
 use Rattle.crx_filter.specs.meaning.WrittenStandard.{WroteStandard}
@@ -31,7 +30,7 @@ use Rattle.crx_filter.proofs.reading.Stopping.{reading-stopped}
 use Rattle.crx_filter.proofs.reading.WhatStands.{OfHere, OfOk, first-line, unless-wrong, one-line, of-unit}
 use Rattle.crx_filter.proofs.reading.WhatWasRead.{items-read, allowed}
 use Rattle.crx_filter.proofs.wayback.Converse.{epoch-printable, lines-plain, printed-plain, all-plain}
-use Rattle.crx_filter.proofs.wayback.Cut.{CanStand, OfContent, input-stands}
+use Rattle.crx_filter.proofs.wayback.Cut.{CanStand, OfContent, input-stands, first-cut}
 use Rattle.crx_filter.proofs.wayback.ExpandedWhole.{AreGoodEpochs, epochs-good}
 use Rattle.crx_filter.proofs.wayback.NormalForm.{settled-standard}
 use Rattle.crx_filter.proofs.wayback.Standard.{NoReturn, not-ended}
@@ -46,10 +45,8 @@ use Rattle.crx_filter.proofs.reading.Resuming.{by_place}
 header-read : (items : List (Item ReadEpoch)) → header_has_ended (rinex_items items) ≡ header_has_ended items
 header-read [] = refl
 header-read (Accepted (HeaderLine line) ∷ before) = ap (λ b. is_end_of_header line || b) (header-read before)
-header-read (Accepted (EventLine line) ∷ before) = header-read before
-header-read (Accepted (EventRecord line) ∷ before) = header-read before
-header-read (Accepted (Observation read) ∷ before) = header-read before
 header-read (Warned at ∷ before) = header-read before
+header-read (Accepted unit ∷ before) = header-read before
 
 start-read : (items : List (Item ReadEpoch)) → is_at_start (rinex_items items) ≡ is_at_start items
 start-read [] = refl
@@ -58,31 +55,26 @@ start-read (Warned at ∷ before) = refl
 
 left-read : (items : List (Item ReadEpoch)) → records_left (rinex_items items) ≡ records_left items
 left-read [] = refl
-left-read (Accepted (HeaderLine line) ∷ before) = refl
-left-read (Accepted (EventLine line) ∷ before) = refl
 left-read (Accepted (EventRecord line) ∷ before) = ap (λ n. n - 1) (left-read before)
-left-read (Accepted (Observation read) ∷ before) = refl
 left-read (Warned at ∷ before) = refl
+left-read (Accepted unit ∷ before) = refl
 
 count-read : (items : List (Item ReadEpoch))
     → records_count_types (rinex_items items) ≡ records_count_types items
 count-read [] = refl
-count-read (Accepted (HeaderLine line) ∷ before) = refl
-count-read (Accepted (EventLine line) ∷ before) = refl
 count-read (Accepted (EventRecord line) ∷ before) = count-read before
-count-read (Accepted (Observation read) ∷ before) = refl
 count-read (Warned at ∷ before) = refl
+count-read (Accepted unit ∷ before) = refl
 
 declares-read : (items : List (Item ReadEpoch)) → declaring_lines (rinex_items items) ≡ declaring_lines items
 declares-read [] = refl
 declares-read (Accepted (HeaderLine line) ∷ before) = ap (λ ls. ls ++ line ∷ []) (declares-read before)
-declares-read (Accepted (EventLine line) ∷ before) = declares-read before
 declares-read (Accepted (EventRecord line) ∷ before) = ap (λ b. cond b
     (declaring_lines (rinex_items before) ++ line ∷ []) (declaring_lines (rinex_items before)))
     (count-read before)
     ∙ ap (λ ls. cond (records_count_types before) (ls ++ line ∷ []) ls) (declares-read before)
-declares-read (Accepted (Observation read) ∷ before) = declares-read before
 declares-read (Warned at ∷ before) = declares-read before
+declares-read (Accepted unit ∷ before) = declares-read before
 
 types-read : (items : List (Item ReadEpoch)) → types_in_force (rinex_items items) ≡ types_in_force items
 types-read items = ap types_of (declares-read items)
@@ -93,10 +85,8 @@ abbrev IsPlaced : List (Item ReadEpoch) → FileUnit ReadEpoch → Type 0
 IsPlaced before unit = IsInPlace (rinex_items before) (rinex_unit unit)
 
 abbrev IsGoodUnit : List Count → FileUnit ReadEpoch → Type 0
-IsGoodUnit types (HeaderLine line) = ⊤
-IsGoodUnit types (EventLine line) = ⊤
-IsGoodUnit types (EventRecord line) = ⊤
 IsGoodUnit types (Observation read) = IsWholeEpoch types read.epoch
+IsGoodUnit types unit = ⊤
 
 of-event : (P : Place (FileUnit ReadEpoch) → Type 0) (line : List ℕ) (o : Option ℕ) → records_in line ≡ o
     → ((count : ℕ) → o ≡ Some count → P (Here (EventLine line) 1)) → P (Wrong 0 BadEpoch)
@@ -120,15 +110,14 @@ place-begun types raws (Content line ∷ lines) = by_bool (is_event_line line)
 begun-placed : (before : List (Item ReadEpoch)) (unit : FileUnit ReadEpoch)
     → header_has_ended before ≡ true → records_left before ≡ 0
     → IsGoodUnit (types_in_force before) unit → IsBegun unit → IsPlaced before unit
-begun-placed before (HeaderLine line) ended none good h = absurd h
 begun-placed before (EventLine line) ended none good h =
     (header-read before ∙ ended, left-read before ∙ none, h.0, h.1)
-begun-placed before (EventRecord line) ended none good h = absurd h
 begun-placed before (Observation read) ended none good h = (
   header-read before ∙ ended,
   left-read before ∙ none,
   subst (λ types. IsWholeEpoch types read.epoch) (sym (types-read before)) good,
 )
+begun-placed before unit ended none good h = absurd h
 
 in-body : (before : List (Item ReadEpoch)) (unit : FileUnit ReadEpoch) (lines : List ReadLine) (count : ℕ)
     → compact_place before lines ≡ Here unit count → IsGoodUnit (types_in_force before) unit
@@ -178,17 +167,13 @@ unit-placed before unit lines count e good = by_bool (header_has_ended before)
 
 good-unit : (before : List (Item ReadEpoch)) (unit : FileUnit ReadEpoch)
     → AreGoodEpochs (Accepted unit ∷ before) → IsGoodUnit (types_in_force before) unit
-good-unit before (HeaderLine line) h = tt
-good-unit before (EventLine line) h = tt
-good-unit before (EventRecord line) h = tt
 good-unit before (Observation read) h = IsGood.whole h.0
+good-unit before unit h = tt
 
 good-before : (before : List (Item ReadEpoch)) (unit : FileUnit ReadEpoch)
     → AreGoodEpochs (Accepted unit ∷ before) → AreGoodEpochs before
-good-before before (HeaderLine line) h = h
-good-before before (EventLine line) h = h
-good-before before (EventRecord line) h = h
 good-before before (Observation read) h = h.1
+good-before before unit h = h
 
 items-placed : (items : List (Item ReadEpoch)) → ItemsAreRead compact_place items → AreGoodEpochs items
     → AreInPlace (rinex_items items)
@@ -341,13 +326,9 @@ cut-plain : (lines : List (List ℕ)) → AllByRecursion HasNoFeed lines
     → has_plain_lines (lines_text lines) ≡ true → AllByRecursion NoReturn lines
 cut-plain [] h e = tt
 cut-plain (line ∷ lines) h e =
-    let text : lines_text (line ∷ lines) ≡ line ++ 10 ∷ lines_text lines =
-    append_assoc line (10 ∷ []) (lines_text lines) in
-    let pieces : pieces_of (line ++ 10 ∷ lines_text lines) ≡ record { bytes = line; is_ended = true }
-    ∷ pieces_of (lines_text lines) = pieces-first line (lines_text lines) h.0 in
     let are_plain : List Piece → Bool = λ ps. list_all (λ (l : InputLine). l.is_plain) (map line_of ps) in
     let all : are_plain (record { bytes = line; is_ended = true } ∷ pieces_of (lines_text lines)) ≡ true =
-    sym (ap are_plain (ap pieces_of text ∙ pieces)) ∙ e in
+    sym (ap are_plain (first-cut line lines h.0)) ∙ e in
     let both = and_parts (InputLine.is_plain (line_of (record { bytes = line; is_ended = true })))
     (are_plain (pieces_of (lines_text lines))) all in
     (not-true (ends_with_return line) both.0, cut-plain lines h.1 both.1)

@@ -1,11 +1,11 @@
 -- What was accepted of compact text: each epoch is whole, by the types in force where it was read.
 use Rattle.crx_filter.proofs.Words.{ℕ, ◌≡◌, cond, List, [], ◌∷◌, None, refl, subst, ⊤, AllByRecursion}
-use Rattle.crx_filter.proofs.Words.{ReadLine, Count, Place, Here, Wrong, Wanted, FileUnit, HeaderLine}
-use Rattle.crx_filter.proofs.Words.{EventLine, EventRecord, Observation, RawEpoch, ReadEpoch, epoch_at}
-use Rattle.crx_filter.proofs.Words.{IsGood, Item, Accepted, Warned, is_at_start, records_count_types}
-use Rattle.crx_filter.proofs.Words.{types_in_force, types_fault, header_line_fault, header_line, event_record}
-use Rattle.crx_filter.proofs.Words.{raws_kept, empties_state, as_observation, compact_epoch_place}
-use Rattle.crx_filter.proofs.Words.{compact_place, ItemsAreRead}
+use Rattle.crx_filter.proofs.Words.{ReadLine, Count, Place, Here, FileUnit, HeaderLine, EventLine}
+use Rattle.crx_filter.proofs.Words.{EventRecord, Observation, RawEpoch, ReadEpoch, epoch_at, IsGood, Item}
+use Rattle.crx_filter.proofs.Words.{Accepted, Warned, is_at_start, records_count_types, types_in_force}
+use Rattle.crx_filter.proofs.Words.{types_fault, header_line_fault, header_line, event_record, raws_kept}
+use Rattle.crx_filter.proofs.Words.{empties_state, as_observation, compact_epoch_place, compact_place}
+use Rattle.crx_filter.proofs.Words.{ItemsAreRead}
 use Rattle.crx_compact.specs.ReadingLaws.{HasPrintableMarks}
 use Rattle.crx_compact.proofs.soundness.Goodness.{reads-whole}
 use Rattle.crx_filter.proofs.reading.Types.{counts-in_force}
@@ -14,17 +14,14 @@ use Rattle.crx_filter.proofs.reading.WhatStands.{of-compact}
 
 -- an epoch stood at some lines
 abbrev StoodThere : List Count → List RawEpoch → FileUnit ReadEpoch → Type 0
-StoodThere types raws (HeaderLine line) = ⊤
-StoodThere types raws (EventLine line) = ⊤
-StoodThere types raws (EventRecord line) = ⊤
 StoodThere types raws (Observation read) = (lines : List ReadLine)
     × (count : ℕ) × (epoch_at types raws lines ≡ Here read count)
+StoodThere types raws unit = ⊤
 
 epoch-stood : (types : List Count) (raws : List RawEpoch) (lines : List ReadLine) (p : Place ReadEpoch)
     → epoch_at types raws lines ≡ p → OfHere (StoodThere types raws) (as_observation p)
 epoch-stood types raws lines (Here read count) e = (lines, count, e)
-epoch-stood types raws lines (Wrong offset fault) e = tt
-epoch-stood types raws lines Wanted e = tt
+epoch-stood types raws lines p e = tt
 
 begun-stood : (types : List Count) (raws : List RawEpoch) (lines : List ReadLine)
     → OfHere (StoodThere types raws) (compact_epoch_place types raws lines)
@@ -57,12 +54,10 @@ epoch-read before read lines count e =
 -- each epoch is good by the types in force where it was read
 abbrev pub AreGoodEpochs : List (Item ReadEpoch) → Type 0
 AreGoodEpochs [] = ⊤
-AreGoodEpochs (Accepted (HeaderLine line) ∷ before) = AreGoodEpochs before
-AreGoodEpochs (Accepted (EventLine line) ∷ before) = AreGoodEpochs before
-AreGoodEpochs (Accepted (EventRecord line) ∷ before) = AreGoodEpochs before
 AreGoodEpochs (Accepted (Observation read) ∷ before) = IsGood (types_in_force before) read
     × AreGoodEpochs before
 AreGoodEpochs (Warned at ∷ before) = AreGoodEpochs before
+AreGoodEpochs (Accepted unit ∷ before) = AreGoodEpochs before
 
 pub marks-printable : (items : List (Item ReadEpoch))
     → AreGoodEpochs items → AllByRecursion HasPrintableMarks (raws_kept items)

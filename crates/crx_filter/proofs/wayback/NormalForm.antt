@@ -138,11 +138,7 @@ both-clean : (lines : List (List ℕ))
     → AllByRecursion IsPlainLine lines → AllByRecursion IsShort lines → AllByRecursion IsClean lines
 both-clean [] h k = tt
 both-clean (line ∷ lines) h k = (
-  record {
-    one_line = IsPlainLine.one_line h.0;
-    no_return = IsPlainLine.no_return h.0;
-    short = k.0;
-  },
+  record { one_line = IsPlainLine.one_line h.0; no_return = IsPlainLine.no_return h.0; short = k.0 },
   both-clean lines h.1 k.1,
 )
 

@@ -1,13 +1,13 @@
 -- The bytes 13 of a file on the way to compact text and back: they never become more, and fewer where a copied line
 -- ends in CR. So a file that comes back has no such line.
 use Rattle.crx_filter.proofs.Words.{ℕ, zero, suc, ◌≡◌, ◌+◌, ◌<◌, ◌≤◌, true, cond, List, [], ◌∷◌, ◌++◌, map}
-use Rattle.crx_filter.proofs.Words.{take, drop, refl, arith, append_assoc, ◌==◌, AllByRecursion, list_all}
-use Rattle.crx_filter.proofs.Words.{ne_eqb, and_parts, Piece, InputLine, pieces_of, onto_first}
-use Rattle.crx_filter.proofs.Words.{ends_with_return, without_return, line_of, lines_of, is_long, HasNoFeed}
-use Rattle.crx_filter.proofs.Words.{ReadLine, Content, Overlong, seen, is_printable, lines_text}
-use Rattle.crx_lines.proofs.PieceLemmas.{pieces-first}
+use Rattle.crx_filter.proofs.Words.{take, drop, refl, arith, ◌==◌, AllByRecursion, list_all, ne_eqb}
+use Rattle.crx_filter.proofs.Words.{and_parts, Piece, InputLine, pieces_of, onto_first, ends_with_return}
+use Rattle.crx_filter.proofs.Words.{without_return, line_of, lines_of, is_long, HasNoFeed, ReadLine, Content}
+use Rattle.crx_filter.proofs.Words.{Overlong, seen, is_printable, lines_text}
 use Rattle.crx_reading.proofs.Choosing.{by_bool}
 use Rattle.crx_filter.proofs.wayback.First.{printable-other}
+use Rattle.crx_filter.proofs.wayback.Cut.{first-cut}
 
 -- ---- of a text
 
@@ -149,13 +149,7 @@ pub read-written : (lines : List (List ℕ))
     ≤ returns_left lines
 read-written [] h = omega arith
 read-written (line ∷ lines) h =
-    let text : lines_text (line ∷ lines) ≡ line ++ 10 ∷ lines_text lines =
-    append_assoc line (10 ∷ []) (lines_text lines) in
-    let pieces : pieces_of (line ++ 10 ∷ lines_text lines) ≡ record {
-      bytes = line;
-      is_ended = true;
-    } ∷ pieces_of (lines_text lines) = pieces-first line (lines_text lines) h.0 in
     let read : InputLine = line_of (record { bytes = line; is_ended = true }) in
     let one = read-one read (map seen (lines_of (lines_text lines))) in
     let rest = read-written lines h.1 in
-    rw (text, pieces) (omega (arith, one, rest))
+    rw (first-cut line lines h.0) (omega (arith, one, rest))

@@ -2,15 +2,15 @@
 use Rattle.crx_filter.proofs.Words.{ℕ, ◌≡◌, ◌+◌, ◌≤◌, Bool, cond, List, [], ◌∷◌, length, take, drop, Option}
 use Rattle.crx_filter.proofs.Words.{Some, None, Result, Ok, Err, refl, arith, subst, ⊤, ReadLine, Content}
 use Rattle.crx_filter.proofs.Words.{Overlong, Fault, Epoch, Count, HeadLine, EventHead, EpochHead, head_of}
-use Rattle.crx_filter.proofs.Words.{opened, begun_by, rest_at, unit_begun, epoch_place, Place, Here, Wrong}
-use Rattle.crx_filter.proofs.Words.{Wanted, after_lines, then_place, one_line, first_line, FileUnit}
-use Rattle.crx_filter.proofs.Words.{HeaderLine, EventLine, EventRecord, Observation, RawEpoch, ReadEpoch}
-use Rattle.crx_filter.proofs.Words.{epoch_at, Item, Accepted, Warned, is_at_start, records_count_types}
-use Rattle.crx_filter.proofs.Words.{types_in_force, unless_wrong, types_fault, header_line_fault, header_line}
-use Rattle.crx_filter.proofs.Words.{event_record, unit_place, Reading, WholeReading, Stop, AtFault, AtLines}
-use Rattle.crx_filter.proofs.Words.{Looking, is_skipped, reading_from, fault_at_end, ended_with}
-use Rattle.crx_filter.proofs.Words.{ended_reading, rinex_place, whole_rinex, raws_kept, as_observation}
-use Rattle.crx_filter.proofs.Words.{compact_epoch_place, compact_place, first_lines, whole_compact}
+use Rattle.crx_filter.proofs.Words.{opened, begun_by, rest_at, unit_begun, epoch_place, Place, Here}
+use Rattle.crx_filter.proofs.Words.{after_lines, then_place, one_line, first_line, FileUnit, HeaderLine}
+use Rattle.crx_filter.proofs.Words.{EventLine, EventRecord, Observation, RawEpoch, ReadEpoch, epoch_at, Item}
+use Rattle.crx_filter.proofs.Words.{Accepted, Warned, is_at_start, records_count_types, types_in_force}
+use Rattle.crx_filter.proofs.Words.{unless_wrong, types_fault, header_line_fault, header_line, event_record}
+use Rattle.crx_filter.proofs.Words.{unit_place, Reading, WholeReading, Stop, AtLines, is_skipped}
+use Rattle.crx_filter.proofs.Words.{reading_from, fault_at_end, ended_with, ended_reading, rinex_place}
+use Rattle.crx_filter.proofs.Words.{whole_rinex, raws_kept, as_observation, compact_epoch_place}
+use Rattle.crx_filter.proofs.Words.{compact_place, first_lines, whole_compact}
 use Rattle.crx_reading.proofs.Choosing.{by_bool}
 use Rattle.crx_filter.proofs.reading.WhatStands.{of-unit, of-compact}
 use Rattle.crx_filter.proofs.reading.KeptThroughout.{within-kept}
@@ -34,8 +34,7 @@ returns_copied (Warned at ∷ before) = returns_copied before
 
 abbrev IsOfLines : {E : Type 0} → List ReadLine → Place (FileUnit E) → Type 0
 IsOfLines lines (Here unit count) = returns_of_unit unit ≤ returns_read (take count lines)
-IsOfLines lines (Wrong offset fault) = ⊤
-IsOfLines lines Wanted = ⊤
+IsOfLines lines p = ⊤
 
 header-of : (E : Type 0) (line : List ℕ) (lines : List ReadLine) (wrong : Option Fault)
     → IsOfLines {E = E} (Content line ∷ lines) (one_line (unless_wrong (HeaderLine line) wrong))
@@ -71,8 +70,7 @@ unit-lines E beginning h items lines = of-unit (IsOfLines lines) beginning items
 observed-of : (all lines : List ReadLine) (p : Place Epoch)
     → IsOfLines all (after_lines 1 (then_place p lines (λ epoch rest. Here (Observation epoch) 0)))
 observed-of all lines (Here epoch count) = omega arith
-observed-of all lines (Wrong offset fault) = tt
-observed-of all lines Wanted = tt
+observed-of all lines p = tt
 
 begun-of : (types : List Count) (line : List ℕ) (lines : List ReadLine) (r : Result HeadLine Fault)
     → IsOfLines
@@ -97,8 +95,7 @@ rinex-lines items lines = unit-lines Epoch (λ (before : List (Item Epoch)). epo
 
 read-of : (lines : List ReadLine) (p : Place ReadEpoch) → IsOfLines lines (as_observation p)
 read-of lines (Here read count) = omega arith
-read-of lines (Wrong offset fault) = tt
-read-of lines Wanted = tt
+read-of lines p = tt
 
 compact-begun : (types : List Count) (raws : List RawEpoch) (lines : List ReadLine)
     → IsOfLines lines (compact_epoch_place types raws lines)
@@ -141,10 +138,9 @@ end-same skip items number (Some fault) =
 
 ended-same : {E : Type 0} (skip : Bool) (items : List (Item E)) (stop : Stop) → returns_copied
     (WholeReading.items (ended_reading skip (record { items = items; stop = stop }))) ≡ returns_copied items
-ended-same skip items (AtFault at) = refl
 ended-same skip items (AtLines number lines) = end-same skip items (number + length lines)
     (fault_at_end items lines)
-ended-same skip items (Looking number) = refl
+ended-same skip items stop = refl
 
 whole-within : {E : Type 0} (place : List (Item E) → List ReadLine → Place (FileUnit E))
     → ((items : List (Item E)) (lines : List ReadLine) → IsOfLines lines (place items lines))

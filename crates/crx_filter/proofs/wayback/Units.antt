@@ -110,10 +110,8 @@ all-units (Warned at ∷ before) e = absurd (cc)
 
 both : (unit : FileUnit Epoch)
     → OfCopiedLine CanStand unit → OfCopiedLine NoReturn unit → OfCopiedLine CanBeCopied unit
-both (HeaderLine line) h k = record { one_line = h.0; short = h.1; no_return = k }
-both (EventLine line) h k = record { one_line = h.0; short = h.1; no_return = k }
-both (EventRecord line) h k = record { one_line = h.0; short = h.1; no_return = k }
 both (Observation epoch) h k = tt
+both unit h k = record { one_line = h.0; short = h.1; no_return = k }
 
 in-order : (units : List (FileUnit Epoch)) → AreInPlace (as_items units)
     → OfCopiedLines CanStand (as_items units) → HaveNoReturns (as_items units) → AreInOrder units
