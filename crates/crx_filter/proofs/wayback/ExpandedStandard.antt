@@ -1,14 +1,14 @@
 -- What an expansion writes is standard: what was read of compact text is in place, as units of RINEX, and what is
 -- copied is a line.
 use Rattle.crx_filter.proofs.Words.{ℕ, zero, suc, ◌≡◌, ◌+◌, Bool, true, false, cond, List, [], ◌∷◌, ◌++◌, map}
-use Rattle.crx_filter.proofs.Words.{length, drop, Option, Some, None, Result, refl, ap, sym, ◌∙◌, subst}
-use Rattle.crx_filter.proofs.Words.{arith, ◌||◌, ◌-◌, ⊤, AllByRecursion, list_all, is_some, and_parts}
-use Rattle.crx_filter.proofs.Words.{not-true, HasNoFeed, Piece, InputLine, pieces_of, ends_with_return}
-use Rattle.crx_filter.proofs.Words.{line_of, lines_of, lines_text, ReadLine, Content, Overlong, seen, At}
-use Rattle.crx_filter.proofs.Words.{Fault, BadEpoch, is_event_line, records_in, is_end_of_header, Count}
-use Rattle.crx_filter.proofs.Words.{types_of, IsWholeEpoch, Epoch, Place, Here, Wrong, Wanted, first_line}
-use Rattle.crx_filter.proofs.Words.{one_line, printed_epoch, FileUnit, HeaderLine, EventLine, EventRecord}
-use Rattle.crx_filter.proofs.Words.{Observation, printed_unit, ReadEpoch, epoch_at, RawEpoch, IsGood, Choices}
+use Rattle.crx_filter.proofs.Words.{length, drop, Option, Some, None, refl, ap, sym, ◌∙◌, subst, arith, ◌||◌}
+use Rattle.crx_filter.proofs.Words.{◌-◌, ⊤, AllByRecursion, list_all, is_some, and_parts, not-true, HasNoFeed}
+use Rattle.crx_filter.proofs.Words.{Piece, InputLine, pieces_of, ends_with_return, line_of, lines_of}
+use Rattle.crx_filter.proofs.Words.{lines_text, ReadLine, Content, Overlong, seen, At, Fault, BadEpoch}
+use Rattle.crx_filter.proofs.Words.{is_event_line, records_in, is_end_of_header, Count, types_of}
+use Rattle.crx_filter.proofs.Words.{IsWholeEpoch, Epoch, Place, Here, Wrong, Wanted, first_line, one_line}
+use Rattle.crx_filter.proofs.Words.{printed_epoch, FileUnit, HeaderLine, EventLine, EventRecord, Observation}
+use Rattle.crx_filter.proofs.Words.{printed_unit, ReadEpoch, epoch_at, RawEpoch, IsGood, Choices}
 use Rattle.crx_filter.proofs.Words.{compact_place, compact_epoch_place, event_line, as_observation, raws_kept}
 use Rattle.crx_filter.proofs.Words.{first_lines, whole_compact, expanded_unit, expanded, Item, Accepted}
 use Rattle.crx_filter.proofs.Words.{Warned, is_at_start, header_has_ended, records_left, records_count_types}
@@ -17,7 +17,7 @@ use Rattle.crx_filter.proofs.Words.{AtLines, Looking, is_skipped, reading_from, 
 use Rattle.crx_filter.proofs.Words.{ended_reading, printed_items, IsStandard, types_fault, header_line_fault}
 use Rattle.crx_filter.proofs.Words.{header_line, event_record, OfCopiedLine, OfCopiedLines, HaveNoReturns}
 use Rattle.crx_filter.proofs.Words.{written_lines, FilterResult, IsResult, Device, ItemsAreRead, IsInPlace}
-use Rattle.crx_filter.proofs.Words.{AreInPlace}
+use Rattle.crx_filter.proofs.Words.{AreInPlace, compact_reading}
 use Rattle.crx_reading.specs.meaning.Expanded.{rinex_unit}
 use Rattle.crx_filter.specs.meaning.WrittenStandard.{has_plain_lines, rinex_items, WhatIsExpandedIsStandard}
 use Rattle.crx_filter.specs.meaning.WrittenStandard.{WroteStandard}
@@ -27,7 +27,7 @@ use Rattle.crx_filter.proofs.following.Lines.{record-place, IsStopped}
 use Rattle.crx_filter.proofs.reading.ForwardCompact.{compact-forward, compact_beginning}
 use Rattle.crx_filter.proofs.reading.KeptThroughout.{within-kept}
 use Rattle.crx_filter.proofs.reading.Stopping.{reading-stopped}
-use Rattle.crx_filter.proofs.reading.WhatStands.{OfHere, OfOk, first-line, unless-wrong, one-line, of-unit}
+use Rattle.crx_filter.proofs.reading.WhatStands.{OfHere, first-line, unless-wrong}
 use Rattle.crx_filter.proofs.reading.WhatWasRead.{items-read, allowed}
 use Rattle.crx_filter.proofs.wayback.Converse.{epoch-printable, lines-plain, printed-plain, all-plain}
 use Rattle.crx_filter.proofs.wayback.Cut.{CanStand, OfContent, input-stands, first-cut}
@@ -39,6 +39,7 @@ use Rattle.crx_filter.proofs.reading.Each.{all-append, all-parts, all-drop}
 use Rattle.crx_filter.proofs.reading.InPlace.{IsBegun}
 use Rattle.crx_filter.proofs.wayback.ReturnsLost.{printable-lines}
 use Rattle.crx_filter.proofs.reading.Resuming.{by_place}
+use Rattle.crx_filter.proofs.wayback.Reading.{unit-copied}
 
 -- ---- the units of compact text, as units of RINEX, have the same header, events and types in force
 
@@ -192,14 +193,6 @@ items-placed (Warned at ∷ before) h good = (
 abbrev Copies : (List ℕ → Type 0) → FileUnit ReadEpoch → Type 0
 Copies P unit = OfCopiedLine P (rinex_unit unit)
 
-first-copied : (P : List ℕ → Type 0)
-    (read : List ℕ → Result (FileUnit ReadEpoch) Fault) (lines : List ReadLine)
-    → ((line : List ℕ) → P line → OfOk (Copies P) (read line)) → AllByRecursion (OfContent P) lines
-    → OfHere (Copies P) (first_line lines read)
-first-copied P read [] k h = tt
-first-copied P read (Overlong ∷ lines) k h = tt
-first-copied P read (Content line ∷ lines) k h = one-line (Copies P) (read line) (k line h.0)
-
 observation-copies : (P : List ℕ → Type 0) (p : Place ReadEpoch) → OfHere (Copies P) (as_observation p)
 observation-copies P (Here read count) = tt
 observation-copies P (Wrong offset fault) = tt
@@ -213,16 +206,10 @@ begun-copied P types raws (Content line ∷ lines) h = by_bool (is_event_line li
     (λ on. rw on (of-event (OfHere (Copies P)) line (records_in line) refl (λ count e. h.0) tt))
     (λ off. rw off (observation-copies P (epoch_at types raws (Content line ∷ lines))))
 
-unit-copied : (P : List ℕ → Type 0) (items : List (Item ReadEpoch)) (lines : List ReadLine)
+copied-unit : (P : List ℕ → Type 0) (items : List (Item ReadEpoch)) (lines : List ReadLine)
     → AllByRecursion (OfContent P) lines → OfHere (Copies P) (compact_place items lines)
-unit-copied P items lines h = of-unit (OfHere (Copies P)) compact_beginning items lines
-    (first-copied P (header_line (is_at_start items)) lines
-    (λ line k. unless-wrong (Copies P) (HeaderLine line)
-    (header_line_fault (is_at_start items) line) (λ right. k)) h)
-    (first-copied P (event_record (records_count_types items)) lines
-    (λ line k. unless-wrong (Copies P) (EventRecord line)
-    (cond (records_count_types items) (types_fault line) None) (λ right. k)) h)
-    (begun-copied P (types_in_force items) (raws_kept items) lines h)
+copied-unit P items lines h = unit-copied (Copies P) P compact_beginning items lines (λ line k. k)
+    (λ line k. k) h (begun-copied P (types_in_force items) (raws_kept items) lines h)
 
 items-copied : (P : List ℕ → Type 0) (skip : Bool) (number : ℕ) (lines : List ReadLine)
     → AllByRecursion (OfContent P) lines
@@ -231,12 +218,19 @@ items-copied P skip number lines all = (within-kept compact_place skip
     (λ items ls. OfCopiedLines P (rinex_items items) × AllByRecursion (OfContent P) ls)
     (record {
       here = λ items ls unit count e h. (
-        (subst (λ p. OfHere (Copies P) p) e (unit-copied P items ls h.1), h.0),
+        (subst (λ p. OfHere (Copies P) p) e (copied-unit P items ls h.1), h.0),
         all-drop (OfContent P) count ls h.1,
       );
       warned = λ items ls at on h. h;
       passed = λ items ls n h. (h.0, all-drop (OfContent P) n ls h.1);
     }) (length lines + 1) [] number lines (tt, all)).1.0
+
+pub compact-copied : (P : List ℕ → Type 0) (skip : Bool) (lines : List ReadLine)
+    → AllByRecursion (OfContent P) lines → OfCopiedLines P (rinex_items (compact_reading skip lines).items)
+compact-copied P skip lines all = by_place (first_lines lines)
+    (λ two count e. rw (e, compact_reading)
+    (items-copied P skip (count + 1) (drop count lines) (all-drop (OfContent P) count lines all)))
+    (λ offset fault e. rw (e, compact_reading) tt) (λ e. rw (e, compact_reading) tt)
 
 -- ---- the end
 

@@ -1,15 +1,14 @@
 -- The lines that a compaction wrote, read one unit after another; and what an input's lines give to the lines that are
 -- copied.
-use Rattle.crx_filter.proofs.Words.{ℕ, ◌+◌, Bool, cond, List, [], ◌∷◌, length, drop, Option, Some, None}
-use Rattle.crx_filter.proofs.Words.{Result, Ok, Err, subst, AllByRecursion, ReadLine, Content, Overlong}
-use Rattle.crx_filter.proofs.Words.{Fault, Epoch, Place, Here, Wrong, Wanted, after_lines, then_place}
-use Rattle.crx_filter.proofs.Words.{one_line, first_line, FileUnit, HeaderLine, EventRecord, Observation}
-use Rattle.crx_filter.proofs.Words.{HeadLine, EventHead, EpochHead, head_of, Count, opened, begun_by, rest_at}
-use Rattle.crx_filter.proofs.Words.{unit_begun, epoch_place, Item, is_at_start, records_count_types}
-use Rattle.crx_filter.proofs.Words.{types_in_force, unless_wrong, header_line_fault, types_fault, header_line}
-use Rattle.crx_filter.proofs.Words.{event_record, reading_from, written_lines, rinex_place, OfCopiedLine}
-use Rattle.crx_filter.proofs.Words.{OfCopiedLines}
-use Rattle.crx_filter.proofs.reading.WhatStands.{OfHere, of-unit}
+use Rattle.crx_filter.proofs.Words.{ℕ, ◌+◌, Bool, cond, List, [], ◌∷◌, length, drop, Option, None, Result, Ok}
+use Rattle.crx_filter.proofs.Words.{Err, subst, AllByRecursion, ReadLine, Content, Overlong, Fault, Epoch}
+use Rattle.crx_filter.proofs.Words.{Place, Here, Wrong, Wanted, after_lines, then_place, one_line, first_line}
+use Rattle.crx_filter.proofs.Words.{FileUnit, HeaderLine, EventRecord, Observation, HeadLine, EventHead}
+use Rattle.crx_filter.proofs.Words.{EpochHead, head_of, Count, opened, begun_by, rest_at, unit_begun}
+use Rattle.crx_filter.proofs.Words.{epoch_place, Item, is_at_start, records_count_types, types_in_force}
+use Rattle.crx_filter.proofs.Words.{header_line_fault, types_fault, header_line, event_record, reading_from}
+use Rattle.crx_filter.proofs.Words.{written_lines, rinex_place, OfCopiedLine, OfCopiedLines, unit_place}
+use Rattle.crx_filter.proofs.reading.WhatStands.{OfHere, of-unit, OfOk, one-line, unless-wrong}
 use Rattle.crx_filter.proofs.reading.KeptThroughout.{within-kept}
 use Rattle.crx_filter.proofs.wayback.Cut.{OfContent}
 use Rattle.crx_filter.proofs.wayback.Items.{body_unit}
@@ -23,24 +22,25 @@ lines_back every items = written_lines (body_unit every) items
 
 -- ---- lines that are copied are lines of the input
 
-good-line : (P : List ℕ → Type 0) (unit : FileUnit Epoch) (wrong : Option Fault)
-    → OfCopiedLine P unit → OfHere (OfCopiedLine P) (one_line (unless_wrong unit wrong))
-good-line P unit None h = h
-good-line P unit (Some fault) h = tt
+-- what holds of each line's content holds of what the first line gives, and of a unit wherever it stands
+first-copied : {X : Type 0} (Q : X → Type 0) (P : List ℕ → Type 0) (read : List ℕ → Result X Fault)
+    (lines : List ReadLine) → ((line : List ℕ) → P line → OfOk Q (read line))
+    → AllByRecursion (OfContent P) lines → OfHere Q (first_line lines read)
+first-copied Q P read [] k h = tt
+first-copied Q P read (Overlong ∷ lines) k h = tt
+first-copied Q P read (Content line ∷ lines) k h = one-line Q (read line) (k line h.0)
 
-copied-header : (P : List ℕ → Type 0) (is_first : Bool) (lines : List ReadLine)
-    → AllByRecursion (OfContent P) lines → OfHere (OfCopiedLine P) (first_line lines (header_line is_first))
-copied-header P is_first [] h = tt
-copied-header P is_first (Overlong ∷ lines) h = tt
-copied-header P is_first (Content line ∷ lines) h = good-line P (HeaderLine line)
-    (header_line_fault is_first line) h.0
-
-copied-record : (P : List ℕ → Type 0) (counts : Bool) (lines : List ReadLine)
-    → AllByRecursion (OfContent P) lines → OfHere (OfCopiedLine P) (first_line lines (event_record counts))
-copied-record P counts [] h = tt
-copied-record P counts (Overlong ∷ lines) h = tt
-copied-record P counts (Content line ∷ lines) h =
-    good-line P (EventRecord line) (cond counts (types_fault line) None) h.0
+pub unit-copied : {E : Type 0} (Q : FileUnit E → Type 0) (P : List ℕ → Type 0)
+    (beginning : List (Item E) → List ReadLine → Place (FileUnit E)) (items : List (Item E))
+    (lines : List ReadLine) → ((line : List ℕ) → P line → Q (HeaderLine line))
+    → ((line : List ℕ) → P line → Q (EventRecord line)) → AllByRecursion (OfContent P) lines
+    → OfHere Q (beginning items lines) → OfHere Q (unit_place beginning items lines)
+unit-copied Q P beginning items lines of_header of_record h begun = of-unit (OfHere Q) beginning items lines
+    (first-copied Q P (header_line (is_at_start items)) lines (λ line k. unless-wrong Q (HeaderLine line)
+    (header_line_fault (is_at_start items) line) (λ right. of_header line k)) h)
+    (first-copied Q P (event_record (records_count_types items)) lines
+    (λ line k. unless-wrong Q (EventRecord line) (cond (records_count_types items) (types_fault line) None)
+    (λ right. of_record line k)) h) begun
 
 observed : (P : List ℕ → Type 0) (p : Place Epoch) (lines : List ReadLine)
     → OfHere (OfCopiedLine P) (after_lines 1 (then_place p lines (λ epoch rest. Here (Observation epoch) 0)))
@@ -66,10 +66,9 @@ copied-event P types (Content line ∷ lines) h = copied-begun P types line (hea
 
 copied-unit : (P : List ℕ → Type 0) (items : List (Item Epoch)) (lines : List ReadLine)
     → AllByRecursion (OfContent P) lines → OfHere (OfCopiedLine P) (rinex_place items lines)
-copied-unit P items lines h = of-unit (OfHere (OfCopiedLine P))
-    (λ (before : List (Item Epoch)). epoch_place (types_in_force before)) items lines
-    (copied-header P (is_at_start items) lines h) (copied-record P (records_count_types items) lines h)
-    (copied-event P (types_in_force items) lines h)
+copied-unit P items lines h = unit-copied (OfCopiedLine P) P
+    (λ (before : List (Item Epoch)). epoch_place (types_in_force before)) items lines (λ line k. k)
+    (λ line k. k) h (copied-event P (types_in_force items) lines h)
 
 -- what holds of each line's content holds of each line that is copied
 pub items-copied : (P : List ℕ → Type 0) (skip : Bool) (lines : List ReadLine)
