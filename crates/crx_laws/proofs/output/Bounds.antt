@@ -65,11 +65,7 @@ rows-bounded (row ∷ rows) h =
     let sound : IsSoundRow row = All-head IsSoundRow row rows h in
     let few = sound.counted.1 in
     let pairs = sound.paired in (
-      record {
-        name = length-is row.name sound.named;
-        values = few;
-        flags = omega (arith, few, pairs);
-      },
+      record { name = length-is row.name sound.named; values = few; flags = omega (arith, few, pairs) },
       rows-bounded rows (All-tail IsSoundRow row rows h),
     )
 

@@ -17,7 +17,7 @@ use Rattle.crx_filter.proofs.wayback.First.{program-clean, version-clean}
 use Rattle.crx_filter.proofs.wayback.Items.{marked_now, whole-next}
 use Rattle.crx_filter.proofs.wayback.Reading.{items-copied}
 
-abbrev IsShort : List ℕ → Type 0
+abbrev pub IsShort : List ℕ → Type 0
 IsShort line = length line ≤ LINE_LIMIT
 
 header-ready_to_hand_out : (date line : List ℕ) (is_first : Bool)
@@ -29,7 +29,7 @@ header-ready_to_hand_out date line true dated h = record {
 }
 header-ready_to_hand_out date line false dated h = record { few = omega arith; short = (h, tt) }
 
-one-ready_to_hand_out : (line : List ℕ) → IsShort line → AreReadyToHandOut LINE_LIMIT (line ∷ [])
+pub one-ready_to_hand_out : (line : List ℕ) → IsShort line → AreReadyToHandOut LINE_LIMIT (line ∷ [])
 one-ready_to_hand_out line h = record { few = omega arith; short = (h, tt) }
 
 unit-ready_to_hand_out : (choices : Choices) (before : List (Item Epoch)) (unit : FileUnit Epoch)
@@ -61,7 +61,7 @@ units-ready_to_hand_out choices (Accepted unit ∷ before) dated h k =
 units-ready_to_hand_out choices (Warned at ∷ before) dated h k =
     units-ready_to_hand_out choices before dated h.1 k
 
-contents-short : (lines : List ReadLine) → AllByRecursion IsNotTooLong lines
+pub contents-short : (lines : List ReadLine) → AllByRecursion IsNotTooLong lines
     → AllByRecursion (OfContent IsShort) lines
 contents-short [] h = tt
 contents-short (Content line ∷ lines) h = (h.0, contents-short lines h.1)

@@ -7,8 +7,4 @@ use Rattle.crx_laws.proofs.checking_laws.premises.Goals as goal
 
 pub returns : goal.returns
 unfolding digits coded_number size_of number_of number_text
-returns c = record {
-  date = refl;
-  good = refl;
-  good_otherwise = refl;
-}
+returns c = record { date = refl; good = refl; good_otherwise = refl }

@@ -13,8 +13,4 @@ standard = record { good = refl; plain = refl; given_back = refl }
 
 pub returns : goal.returns
 unfolding digits coded_number size_of number_of number_text
-returns c = record {
-  met = read-units (lines_text with_event) standard;
-  rinex = refl;
-  compact = refl;
-}
+returns c = record { met = read-units (lines_text with_event) standard; rinex = refl; compact = refl }
