@@ -104,32 +104,34 @@ accepted-all (Warned at ∷ before) h = absurd (cc)
 abbrev IsShort : List ℕ → Type 0
 IsShort line = length line ≤ LINE_LIMIT
 
-rows-short : (rows : List Row) → All IsSoundRow rows → AllByRecursion IsShort (map printed_row rows)
-rows-short [] h = tt
-rows-short (row ∷ rows) h =
+rows-within : (n : ℕ) → 16 * TYPES_LIMIT + 3 ≤ n → (rows : List Row) → All IsSoundRow rows
+    → AllByRecursion (λ (line : List ℕ). length line ≤ n) (map printed_row rows)
+rows-within n most [] h = tt
+rows-within n most (row ∷ rows) h =
     let sound : IsSoundRow row = All-head IsSoundRow row rows h in
     let all : length (row.name ++ printed_cells row.values row.flags)
     ≡ 16 * length row.values + 3 = length-row row sound in
     let fewer : length (printed_row row) ≤ length (row.name ++ printed_cells row.values row.flags) =
     few_kept (row.name ++ printed_cells row.values row.flags) in
     let few : length row.values ≤ TYPES_LIMIT = sound.counted.1 in
-    (omega (arith, all, fewer, few), rows-short rows (All-tail IsSoundRow row rows h))
+    (omega (arith, all, fewer, few, most), rows-within n most rows (All-tail IsSoundRow row rows h))
 
-epoch-short : (types : List Count) (epoch : Epoch)
-    → IsWholeEpoch types epoch → AllByRecursion IsShort (printed_epoch epoch)
-epoch-short types epoch h =
+pub epoch-within : (n : ℕ) → 16 * TYPES_LIMIT + 3 ≤ n → (types : List Count) (epoch : Epoch)
+    → IsWholeEpoch types epoch → AllByRecursion (λ (line : List ℕ). length line ≤ n) (printed_epoch epoch)
+epoch-within n most types epoch h =
     let all : length (epoch.head ++ clock_text epoch.clock) ≡ 56 = length-head
     (record { head = epoch.head; count = satellites_of epoch.head; clock = epoch.clock })
     h.sound.head_sound in
     let fewer : length (without_end_blanks (epoch.head ++ clock_text epoch.clock))
     ≤ length (epoch.head ++ clock_text epoch.clock) = few_kept (epoch.head ++ clock_text epoch.clock) in
-    (omega (arith, all, fewer), rows-short epoch.rows h.sound.rows_sound)
+    (omega (arith, all, fewer, most), rows-within n most epoch.rows h.sound.rows_sound)
 
 printed-short : (items : List (Item Epoch))
     → AreInPlace items → OfCopiedLines CanStand items → AllByRecursion IsShort (printed_items items)
 printed-short [] h k = tt
 printed-short (Accepted (Observation epoch) ∷ before) h k = all-append IsShort (printed_items before)
-    (printed_epoch epoch) (printed-short before h.1 k.1) (epoch-short (types_in_force before) epoch (h.0).2)
+    (printed_epoch epoch) (printed-short before h.1 k.1)
+    (epoch-within LINE_LIMIT (omega arith) (types_in_force before) epoch (h.0).2)
 printed-short (Accepted unit ∷ before) h k =
     all-append IsShort (printed_items before) (printed_unit unit) (printed-short before h.1 k.1) ((k.0).1, tt)
 printed-short (Warned at ∷ before) h k = printed-short before h.1 k
