@@ -15,7 +15,8 @@ first_blanks_none zero = refl
 first_blanks_none (suc n) = first_blanks_none n
 
 -- more blanks at the end are no matter
-pub end_blanks-more : (xs : List ℕ) (n : ℕ) → without_end_blanks (xs ++ replicate n 32) ≡ without_end_blanks xs
+pub end_blanks-more : (xs : List ℕ) (n : ℕ)
+    → without_end_blanks (xs ++ replicate n 32) ≡ without_end_blanks xs
 end_blanks-more [] n = end_blanks_none n
 end_blanks-more (x ∷ xs) n = ap (before_end_blanks x) (end_blanks-more xs n)
 
@@ -29,7 +30,8 @@ blanks-more (x ∷ xs) n =
 padded_more : (w n : ℕ) (s : List ℕ)
     → w ≤ n → take w (s ++ replicate n 32) ≡ take w s ++ replicate (w - length (take w s)) 32
 padded_more zero n s h = refl
-padded_more (suc w) n [] h = let e : suc w - 0 ≡ suc w = omega arith in rw e (take-replicate {X = ℕ} (suc w) n 32 h)
+padded_more (suc w) n [] h = let e : suc w - 0 ≡ suc w = omega arith in rw e
+    (take-replicate {X = ℕ} (suc w) n 32 h)
 padded_more (suc w) n (x ∷ s) h =
     let e : suc w - suc (length (take w s)) ≡ w - length (take w s) = omega arith in
     rw e (ap (λ (t : List ℕ). x ∷ t) (padded_more w n s (omega arith)))
@@ -41,16 +43,17 @@ pub columns_are : (line : List ℕ) (first width : ℕ) →
 columns_are line first width = padded_more width width (drop (first - 1) line) (omega arith)
 
 -- so what doesn't read blanks at the ends reads the part alone
-pub end_blanks-columns : (line : List ℕ) (first width : ℕ)
+pub end_blanks_columns : (line : List ℕ) (first width : ℕ)
     → without_end_blanks (columns line first width) ≡ without_end_blanks (take width (drop (first - 1) line))
-end_blanks-columns line first width = let e : columns line first width ≡ take width (drop (first - 1) line)
+end_blanks_columns line first width = let e : columns line first width ≡ take width (drop (first - 1) line)
     ++ replicate (width - length (take width (drop (first - 1) line))) 32 = columns_are line first width in
     ap without_end_blanks e
-    ∙ end_blanks-more (take width (drop (first - 1) line)) (width - length (take width (drop (first - 1) line)))
+    ∙ end_blanks-more (take width (drop (first - 1) line))
+    (width - length (take width (drop (first - 1) line)))
 
-pub blanks-columns : (line : List ℕ) (first width : ℕ)
+pub blanks_columns : (line : List ℕ) (first width : ℕ)
     → without_blanks (columns line first width) ≡ without_blanks (take width (drop (first - 1) line))
-blanks-columns line first width = let e : columns line first width ≡ take width (drop (first - 1) line)
+blanks_columns line first width = let e : columns line first width ≡ take width (drop (first - 1) line)
     ++ replicate (width - length (take width (drop (first - 1) line))) 32 = columns_are line first width in
     ap without_blanks e
     ∙ blanks-more (take width (drop (first - 1) line)) (width - length (take width (drop (first - 1) line)))
@@ -63,10 +66,11 @@ all_blank-more : (xs : List ℕ) (n : ℕ) → list_all is_blank (xs ++ replicat
 all_blank-more [] n = all_blank n
 all_blank-more (x ∷ xs) n = ap (λ (b : Bool). is_blank x && b) (all_blank-more xs n)
 
-pub all_blank-columns : (line : List ℕ) (first width : ℕ)
+pub all_blank_columns : (line : List ℕ) (first width : ℕ)
     → list_all is_blank (columns line first width) ≡ list_all is_blank (take width (drop (first - 1) line))
-all_blank-columns line first width =
+all_blank_columns line first width =
     let e : columns line first width ≡ take width (drop (first - 1) line)
     ++ replicate (width - length (take width (drop (first - 1) line))) 32 = columns_are line first width in
     ap (list_all is_blank) e
-    ∙ all_blank-more (take width (drop (first - 1) line)) (width - length (take width (drop (first - 1) line)))
+    ∙ all_blank-more (take width (drop (first - 1) line))
+    (width - length (take width (drop (first - 1) line)))

@@ -1,10 +1,12 @@
 -- The blanks at the end of a text, 16 characters at a time.
-use Rattle.std.proofs.Common.{true, false, not, cond, if◌then◌else◌, eqb, ℕ, suc, zero, ◌≡◌, ◌+◌, ◌-◌, ◌*◌, ◌/◌, ◌%◌}
-use Rattle.std.proofs.Common.{◌^◌, ◌<◌, ◌≤◌, List, [], ◌∷◌, ◌++◌, length, drop, take, map, replicate, w8, arith, refl}
-use Rattle.std.proofs.Common.{ap, sym, ◌∙◌}
+use Rattle.std.proofs.Common.{true, false, not, cond, if◌then◌else◌, eqb, ℕ, suc, zero, ◌≡◌, ◌+◌, ◌-◌, ◌*◌}
+use Rattle.std.proofs.Common.{◌/◌, ◌%◌, ◌^◌, ◌<◌, ◌≤◌, List, [], ◌∷◌, ◌++◌, length, drop, take, map}
+use Rattle.std.proofs.Common.{replicate, w8, arith, refl, ap, sym, ◌∙◌, ◌≢◌, get_or}
 use Rattle.std.proofs.Math.Nat.{pow-le-pow_right}
-use Rattle.std.proofs.Math.Seq.{take-add, take-take}
-use Rattle.std.proofs.lemmas.List.{length-append, take-append-drop, length-map}
+use Rattle.std.proofs.Math.Seq.{take-add}
+use Rattle.std.proofs.lemmas.Bool.{ne_eqb}
+use Rattle.std.proofs.lemmas.List.{drop_all, drop_more, length-append, length-map, length-take-le}
+use Rattle.std.proofs.lemmas.List.{take-append-drop, take_more}
 use Rattle.std.proofs.lemmas.Nat.{leading_top}
 use Rattle.std.proofs.lemmas.Simd.{bitmask_splat, chunk-drop, mask_l-lt}
 use Rattle.std.specs.Int.Count.{count_leading_zeros, leading_of_zero}
@@ -29,7 +31,8 @@ kept_append (x ∷ xs) ys some =
     omega (arith, length-append xs (without_end_blanks ys), some) in
     ap (before_end_blanks x) rest ∙ before_some x (xs ++ without_end_blanks ys) long
 
-none_append : (xs ys : List ℕ) → without_end_blanks ys ≡ [] → without_end_blanks (xs ++ ys) ≡ without_end_blanks xs
+none_append : (xs ys : List ℕ) → without_end_blanks ys ≡ []
+    → without_end_blanks (xs ++ ys) ≡ without_end_blanks xs
 none_append [] ys none = none
 none_append (x ∷ xs) ys none = ap (before_end_blanks x) (none_append xs ys none)
 
@@ -41,27 +44,79 @@ nothing : (xs : List ℕ) → length xs ≡ 0 → xs ≡ []
 nothing [] long = refl
 nothing (x ∷ xs) long = absurd (omega (arith, long))
 
+pub take_kept : (xs : List ℕ) → take (length (without_end_blanks xs)) xs ≡ without_end_blanks xs
+take_kept [] = refl
+take_kept (x ∷ xs) = go (without_end_blanks xs) (take_kept xs)
+  where
+    go : (kept : List ℕ) → take (length kept) xs ≡ kept
+        → take (length (before_end_blanks x kept)) (x ∷ xs) ≡ before_end_blanks x kept
+    go [] same = elim (is_blank x) as (λ b. take (length {A = ℕ} (if b then [] else (x ∷ []))) (x ∷ xs)
+        ≡ (if b then [] else (x ∷ []))) [ true ↦ refl | false ↦ refl ]
+    go (d ∷ ds) same = ap (λ (t : List ℕ). x ∷ t) same
+
+pub few_kept : (xs : List ℕ) → length (without_end_blanks xs) ≤ length xs
+few_kept [] = omega arith
+few_kept (x ∷ xs) = go (without_end_blanks xs) (few_kept xs)
+  where
+    go : (kept : List ℕ) → length kept ≤ length xs → length (before_end_blanks x kept) ≤ suc (length xs)
+    go [] few = elim (is_blank x) as (λ b. length {A = ℕ} (if b then [] else (x ∷ [])) ≤ suc (length xs))
+        [ true ↦ omega arith | false ↦ omega arith ]
+    go (d ∷ ds) few = omega (arith, few)
+
 -- ---- from the end on
 
-module _ (text : List ℕ) (end : ℕ) (within : end ≤ length text) (none : without_end_blanks (drop end text) ≡ []) where
-  pub kept_before : without_end_blanks (take end text) ≡ without_end_blanks text
-  kept_before = sym (none_append (take end text) (drop end text) none)
-      ∙ ap without_end_blanks (take-append-drop end text)
+pub nothing_after : (text : List ℕ) → without_end_blanks (drop (length text) text) ≡ []
+nothing_after text = ap without_end_blanks (drop_all (length text) text (omega arith))
 
+-- a blank before blanks is passed
+pub blank_passed : (text : List ℕ) (last end : ℕ) → last + 1 ≡ end → end ≤ length text
+    → get_or text last 0 ≡ 32
+    → without_end_blanks (drop end text) ≡ [] → without_end_blanks (drop last text) ≡ []
+blank_passed text last end sum within blank none =
+    let rest : without_end_blanks (drop (last + 1) text) ≡ [] =
+    ap (λ (k : ℕ). without_end_blanks (drop k text)) sum ∙ none in
+    ap without_end_blanks (drop_more text last 0 (omega (arith, sum, within)))
+    ∙ (λ i. before_end_blanks (blank i) (rest i))
+
+-- another character before blanks ends the text
+pub ended_at : (text : List ℕ) (last end : ℕ) → last + 1 ≡ end → end ≤ length text → get_or text last 0 ≢ 32
+    → without_end_blanks (drop end text) ≡ [] → take end text ≡ without_end_blanks text
+ended_at text last end sum within other none =
+    let less : last < length text = omega (arith, sum, within) in
+    let c : ℕ = get_or text last 0 in
+    let test = ne_eqb c 32 other in
+    let rest : without_end_blanks (drop (last + 1) text) ≡ [] =
+    ap (λ (k : ℕ). without_end_blanks (drop k text)) sum ∙ none in
+    let here : before_end_blanks c [] ≡ c ∷ [] = rw test refl in
+    let kept : without_end_blanks (drop last text) ≡ c ∷ [] =
+    ap without_end_blanks (drop_more text last 0 less) ∙ ap (before_end_blanks c) rest ∙ here in
+    ap (λ (k : ℕ). take k text) (sym sum) ∙ take_more text last 0 less
+    ∙ ap (λ (t : List ℕ). take last text ++ t) (sym kept)
+    ∙ sym (kept_append (take last text) (drop last text) (omega (arith, ap length kept)))
+    ∙ ap without_end_blanks (take-append-drop last text)
+
+module _ (text : List ℕ) (end : ℕ) (within : end ≤ length text)
+    (none : without_end_blanks (drop end text) ≡ []) where
   -- a piece that keeps something decides
-  pub kept_in_piece : (size start count : ℕ) → start + size ≡ end
-      → 0 < count → count ≤ size → take count (chunk start size text) ≡ without_end_blanks (chunk start size text)
-      → length (without_end_blanks (chunk start size text)) ≡ count
+  pub kept_in_piece : (size start count : ℕ) → start + size ≡ end → 0 < count
+      → count ≡ length (without_end_blanks (chunk start size text))
       → take (start + count) text ≡ without_end_blanks text
-  kept_in_piece size start count sum some few kept long =
+  kept_in_piece size start count sum some kept =
       let piece : List ℕ = chunk start size text in
-      let front : take (start + count) text ≡ take start text ++ take count piece =
-      take-add start count text
-      ∙ ap (λ (t : List ℕ). take start text ++ t) (sym (take-take count size (drop start text) few)) in
+      let before : without_end_blanks (take end text) ≡ without_end_blanks text =
+      sym (none_append (take end text) (drop end text) none)
+      ∙ ap without_end_blanks (take-append-drop end text) in
       let whole : without_end_blanks text ≡ take start text ++ without_end_blanks piece =
-      sym kept_before ∙ (ap (λ (k : ℕ). without_end_blanks (take k text)) (sym sum) ∙ (ap without_end_blanks
-      (take-add start size text) ∙ kept_append (take start text) piece (omega (arith, long, some)))) in
-      front ∙ (ap (λ (t : List ℕ). take start text ++ t) kept ∙ sym whole)
+      sym before ∙ (ap (λ (k : ℕ). without_end_blanks (take k text)) (sym sum) ∙ (ap without_end_blanks
+      (take-add start size text) ∙ kept_append (take start text) piece (omega (arith, kept, some)))) in
+      let long : start + count ≡ length (without_end_blanks text) = omega (
+        arith,
+        ap length whole,
+        length-append (take start text) (without_end_blanks piece),
+        length-take-le start text (omega (arith, sum, within)),
+        kept,
+      ) in
+      ap (λ (k : ℕ). take k text) long ∙ take_kept text
 
   -- one that keeps nothing goes with the blanks after it
   pub none_in_piece : (size start : ℕ) → start + size ≡ end
@@ -73,20 +128,22 @@ module _ (text : List ℕ) (end : ℕ) (within : end ≤ length text) (none : wi
       ∙ nothing (without_end_blanks (chunk start size text)) long)
 
   -- the first piece decides where only blanks stand after it
-  pub kept_in_first : (count : ℕ) → end < 16 → count ≤ 16
-      → take count (chunk 0 16 text) ≡ without_end_blanks (chunk 0 16 text) → take count text ≡ without_end_blanks text
-  kept_in_first count few small kept =
+  pub kept_in_first : (count : ℕ) → end < 16
+      → count ≡ length (without_end_blanks (chunk 0 16 text)) → take count text ≡ without_end_blanks text
+  kept_in_first count few kept =
       let sum : end + (16 - end) ≡ 16 = omega (arith, few) in
       let blank : without_end_blanks (drop 16 text) ≡ [] =
       ap (λ (k : ℕ). without_end_blanks (drop k text)) (sym sum) ∙ none_after (chunk end (16 - end) text)
       (drop (end + (16 - end)) text) (ap without_end_blanks (sym (chunk-drop end (16 - end) text)) ∙ none) in
       let whole : without_end_blanks (take 16 text) ≡ without_end_blanks text =
-      sym (none_append (take 16 text) (drop 16 text) blank) ∙ ap without_end_blanks (take-append-drop 16 text) in
-      sym (take-take count 16 text small) ∙ (kept ∙ whole)
+      sym (none_append (take 16 text) (drop 16 text) blank)
+      ∙ ap without_end_blanks (take-append-drop 16 text) in
+      ap (λ (k : ℕ). take k text) (kept ∙ ap length whole) ∙ take_kept text
 
 -- ---- the mask of 16 characters
 
-leading_double : (k b m : ℕ) → b ≤ 1 → 0 < m → count_leading_zeros (suc k) (b + 2 * m) ≡ count_leading_zeros k m
+leading_double : (k b m : ℕ) → b ≤ 1 → 0 < m
+    → count_leading_zeros (suc k) (b + 2 * m) ≡ count_leading_zeros k m
 unfolding count_leading_zeros
 leading_double k b m small some =
     let more : b + 2 * m ≡ suc (b + 2 * m - 1) = omega (arith, some) in
@@ -97,9 +154,11 @@ abbrev others : List ℕ → ℕ
 others xs = mask_l (map (λ c. not (eqb c 32)) xs)
 
 first_bit : (k x : ℕ) (zs : List ℕ) → zs ≡ []
-    → suc k - count_leading_zeros (suc k) (cond (not (eqb x 32)) 1 0 + 2 * 0) ≡ length (before_end_blanks x zs)
+    → suc k - count_leading_zeros (suc k) (cond (not (eqb x 32)) 1 0 + 2 * 0)
+    ≡ length (before_end_blanks x zs)
 unfolding count_leading_zeros
-first_bit k x zs none = rw none (elim (eqb x 32) as (λ b. suc k - count_leading_zeros (suc k) (cond (not b) 1 0 + 2 * 0)
+first_bit k x zs none = rw none
+    (elim (eqb x 32) as (λ b. suc k - count_leading_zeros (suc k) (cond (not b) 1 0 + 2 * 0)
     ≡ length {A = ℕ} (if b then [] else (x ∷ []))) [
       | true ↦ omega arith
       | false ↦ omega (arith, leading_of_zero k)
@@ -141,27 +200,10 @@ bits_kept zero (x ∷ xs) few = absurd (omega (arith, few))
 bits_kept (suc k) (x ∷ xs) few =
     next_bit k x (others xs) xs (omega (arith, few)) (bits_kept k xs (omega (arith, few))) refl
 
-pub lanes_kept : (size : ℕ) (v : List ℕ) → size ≤ 64 → length v ≡ size → 64 - count_leading_zeros 64 (mask_l (map
-    (top 7) (zip2 (λ a b. cond (not (eqb a b)) 255 0) v (replicate size 32))) % 2 ^ 64) ≡ length (without_end_blanks v)
+pub lanes_kept : (size : ℕ) (v : List ℕ) → size ≤ 64 → length v ≡ size
+    → 64 - count_leading_zeros 64 (mask_l (map
+    (top 7) (zip2 (λ a b. cond (not (eqb a b)) 255 0) v (replicate size 32))) % 2 ^ 64) ≡ length
+    (without_end_blanks v)
 lanes_kept size v few long =
     ap (λ m. 64 - count_leading_zeros 64 m) (bitmask_splat w8
     (λ a b. not (eqb a b)) v size 32 long (omega (arith, few))) ∙ bits_kept 64 v (omega (arith, long))
-
-pub take_kept : (xs : List ℕ) → take (length (without_end_blanks xs)) xs ≡ without_end_blanks xs
-take_kept [] = refl
-take_kept (x ∷ xs) = go (without_end_blanks xs) (take_kept xs)
-  where
-    go : (kept : List ℕ) → take (length kept) xs ≡ kept
-        → take (length (before_end_blanks x kept)) (x ∷ xs) ≡ before_end_blanks x kept
-    go [] same = elim (is_blank x) as (λ b. take (length {A = ℕ} (if b then [] else (x ∷ []))) (x ∷ xs)
-        ≡ (if b then [] else (x ∷ []))) [ true ↦ refl | false ↦ refl ]
-    go (d ∷ ds) same = ap (λ (t : List ℕ). x ∷ t) same
-
-pub few_kept : (xs : List ℕ) → length (without_end_blanks xs) ≤ length xs
-few_kept [] = omega arith
-few_kept (x ∷ xs) = go (without_end_blanks xs) (few_kept xs)
-  where
-    go : (kept : List ℕ) → length kept ≤ length xs → length (before_end_blanks x kept) ≤ suc (length xs)
-    go [] few = elim (is_blank x) as (λ b. length {A = ℕ} (if b then [] else (x ∷ [])) ≤ suc (length xs))
-        [ true ↦ omega arith | false ↦ omega arith ]
-    go (d ∷ ds) few = omega (arith, few)

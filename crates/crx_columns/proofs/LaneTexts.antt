@@ -1,52 +1,52 @@
 -- Texts in pieces of 16 characters and a rest.
-use Rattle.std.proofs.Common.{true, false, ℕ, ◌≡◌, ◌+◌, ◌-◌, ◌<◌, ◌≤◌, ◌&&◌, Bool, List, [], ◌∷◌, ◌++◌, length, drop}
-use Rattle.std.proofs.Common.{take, get_or, arith, refl, ap, sym, ◌∙◌}
+use Rattle.std.proofs.Common.{true, false, ℕ, zero, suc, ◌≡◌, ◌+◌, ◌-◌, ◌≤◌, ◌&&◌, Bool, List, [], ◌∷◌, ◌++◌}
+use Rattle.std.proofs.Common.{length, drop, take, arith, refl, ap, sym, ◌∙◌}
 use Rattle.std.proofs.Math.Seq.{take-add, take-take}
-use Rattle.std.proofs.lemmas.List.{take-append-drop, drop-drop, length-take-le, take_more, take_at, length-drop}
-use Rattle.std.proofs.lemmas.List.{take_all}
+use Rattle.std.proofs.lemmas.List.{length-drop, take_all}
 use Rattle.std.proofs.lemmas.List.Folds.{list_all-append}
-use Rattle.std.proofs.lemmas.Bool.{and_parts}
-use Rattle.std.proofs.lemmas.Simd.{chunk-drop, length-chunk, length-zip2}
 use Rattle.std.specs.List.{list_all}
 use Rattle.std.specs.Simd.Lanes.{zip2, chunk}
 
 -- ---- tests
 
--- two pieces, one after the other
-pub list_all-pieces : (p : ℕ → Bool) (i n m : ℕ) (xs : List ℕ)
-    → (list_all p (chunk i n xs) && list_all p (chunk (i + n) m xs)) ≡ list_all p (chunk i (n + m) xs)
-list_all-pieces p i n m xs =
-    ap (λ (t : List ℕ). list_all p (chunk i n xs) && list_all p (take m t)) (sym (drop-drop n i xs))
-    ∙ (sym (list_all-append p (chunk i n xs) (chunk n m (drop i xs)))
-    ∙ ap (list_all p) (sym (take-add n m (drop i xs))))
+-- one more piece
+pub list_all-piece : (p : ℕ → Bool) (i n : ℕ) (xs : List ℕ)
+    → (list_all p (take i xs) && list_all p (chunk i n xs)) ≡ list_all p (take (i + n) xs)
+list_all-piece p i n xs = sym
+    (ap (list_all p) (take-add i n xs) ∙ list_all-append p (take i xs) (chunk i n xs))
 
-module _ (p : ℕ → Bool) (xs : List ℕ) (i n : ℕ) (before : list_all p (take i xs) ≡ true) where
-  -- one more piece that passes
-  pub list_all-with_piece : list_all p (chunk i n xs) ≡ true → list_all p (take (i + n) xs) ≡ true
-  list_all-with_piece passes =
-      ap (list_all p) (take-add i n xs) ∙ list_all-append p (take i xs) (chunk i n xs) ∙ (rw (before, passes) refl)
+-- a beginning and an end that overlap or meet
+list_all-overlap : (p : ℕ → Bool) (m i : ℕ) (xs : List ℕ)
+    → m ≤ i → (list_all p (take i xs) && list_all p (drop m xs)) ≡ list_all p xs
+list_all-overlap p zero zero xs le = refl
+list_all-overlap p (suc m) zero xs le = absurd (omega (arith, le))
+list_all-overlap p zero (suc i) [] le = refl
+list_all-overlap p (suc m) (suc i) [] le = refl
+list_all-overlap p zero (suc i) (x ∷ xs) le = go (p x) (list_all-overlap p zero i xs (omega arith))
+  where
+    go : (b : Bool) → (list_all p (take i xs) && list_all p xs) ≡ list_all p xs
+        → ((b && list_all p (take i xs)) && (b && list_all p xs)) ≡ (b && list_all p xs)
+    go true same = same
+    go false same = refl
+list_all-overlap p (suc m) (suc i) (x ∷ xs) le = go (p x) (list_all-overlap p m i xs (omega (arith, le)))
+  where
+    go : (b : Bool) → (list_all p (take i xs) && list_all p (drop m xs)) ≡ list_all p xs
+        → ((b && list_all p (take i xs)) && list_all p (drop m xs)) ≡ (b && list_all p xs)
+    go true same = same
+    go false same = refl
 
-  -- a piece that fails decides
-  pub list_all-failing_piece : list_all p (chunk i n xs) ≡ false → list_all p xs ≡ false
-  list_all-failing_piece fails =
-      let rest : list_all p (drop i xs) ≡ false = ap (list_all p) (chunk-drop i n xs)
-      ∙ list_all-append p (chunk i n xs) (drop (i + n) xs) ∙ ap (λ b. b && list_all p (drop (i + n) xs)) fails in
-      ap (list_all p) (sym (take-append-drop i xs))
-      ∙ list_all-append p (take i xs) (drop i xs) ∙ (rw (before, rest) refl)
+pub list_all_ends : (p : ℕ → Bool) (n : ℕ) (xs : List ℕ) → length xs ≤ n + n
+    → list_all p (take n xs ++ drop (length xs - n) xs) ≡ list_all p xs
+list_all_ends p n xs few = list_all-append p (take n xs) (drop (length xs - n) xs)
+    ∙ list_all-overlap p (length xs - n) n xs (omega (arith, few))
 
-  -- the last piece decides, where all before it passed
-  pub list_all-last_piece : n ≤ length xs → length xs - n ≤ i → list_all p xs ≡ list_all p (chunk (length xs - n) n xs)
-  list_all-last_piece some passed =
-      let m : ℕ = length xs - n in
-      let sum : m + (i - m) ≡ i = omega (arith, passed) in
-      let both : (list_all p (take m xs) && list_all p (chunk m (i - m) xs)) ≡ true =
-      sym (list_all-append p (take m xs) (chunk m (i - m) xs))
-      ∙ (ap (list_all p) (sym (take-add m (i - m) xs)) ∙ (ap (λ (k : ℕ). list_all p (take k xs)) sum ∙ before)) in
-      let first : list_all p (take m xs) ≡ true =
-      (and_parts (list_all p (take m xs)) (list_all p (chunk m (i - m) xs)) both).0 in
-      let last : chunk m n xs ≡ drop m xs = take_all n (drop m xs) (omega (arith, length-drop m xs)) in
-      ap (list_all p) (sym (take-append-drop m xs))
-      ∙ list_all-append p (take m xs) (drop m xs) ∙ (rw first (ap (list_all p) (sym last)))
+-- the last piece, some of which was passed before
+pub list_all-last_piece : (p : ℕ → Bool) (n i : ℕ) (xs : List ℕ) → n ≤ length xs → length xs - n ≤ i
+    → (list_all p (take i xs) && list_all p (chunk (length xs - n) n xs)) ≡ list_all p xs
+list_all-last_piece p n i xs some passed =
+    let m : ℕ = length xs - n in
+    let last : chunk m n xs ≡ drop m xs = take_all n (drop m xs) (omega (arith, length-drop m xs)) in
+    ap (λ (t : List ℕ). list_all p (take i xs) && list_all p t) last ∙ list_all-overlap p m i xs passed
 
 -- ---- rules
 
@@ -57,62 +57,48 @@ zip2-append f [] bs (c ∷ cs) ds same = absurd (omega arith)
 zip2-append f (a ∷ as') bs [] ds same = absurd (omega arith)
 zip2-append f (a ∷ as') bs (c ∷ cs) ds same = ap (λ t. f a c ∷ t) (zip2-append f as' bs cs ds (omega arith))
 
--- one more piece of what a rule makes
-pub zip2-piece : (f : ℕ → ℕ → ℕ) (xs ys : List ℕ) (i n : ℕ) → i ≤ length xs → length ys ≡ length xs → zip2 f
-    (take (i + n) xs) (take (i + n) ys) ≡ zip2 f (take i xs) (take i ys) ++ zip2 f (chunk i n xs) (chunk i n ys)
-zip2-piece f xs ys i n within same =
-    let first = length-take-le i xs within in
-    let second : length (take i ys) ≡ i = length-take-le i ys (omega arith) in
-    rw (take-add i n xs, take-add i n ys)
-    (zip2-append f (take i xs) (chunk i n xs) (take i ys) (chunk i n ys) (omega (arith, first, second)))
+pub zip2-take : (f : ℕ → ℕ → ℕ) (n : ℕ) (xs ys : List ℕ)
+    → zip2 f (take n xs) (take n ys) ≡ take n (zip2 f xs ys)
+zip2-take f zero xs ys = refl
+zip2-take f (suc n) [] ys = refl
+zip2-take f (suc n) (x ∷ xs) [] = refl
+zip2-take f (suc n) (x ∷ xs) (y ∷ ys) = ap (λ t. f x y ∷ t) (zip2-take f n xs ys)
 
--- two pieces, one after the other
-pub zip2-pieces : (f : ℕ → ℕ → ℕ) (xs ys : List ℕ) (i n m : ℕ) → i + n ≤ length xs → length ys ≡ length xs
-    → zip2 f (chunk i n xs) (chunk i n ys) ++ zip2 f (chunk (i + n) m xs) (chunk (i + n) m ys)
-    ≡ zip2 f (chunk i (n + m) xs) (chunk i (n + m) ys)
-zip2-pieces f xs ys i n m within same =
-    let first = length-chunk i n xs within in
-    let second : length (chunk i n ys) ≡ n = length-chunk i n ys (omega (arith, within, same)) in
-    sym (rw (take-add n m (drop i xs), take-add n m (drop i ys), drop-drop n i xs, drop-drop n i ys)
-    (zip2-append f (chunk i n xs) (chunk (i + n) m xs)
-    (chunk i n ys) (chunk (i + n) m ys) (omega (arith, first, second))))
+pub zip2-drop : (f : ℕ → ℕ → ℕ) (n : ℕ) (xs ys : List ℕ)
+    → zip2 f (drop n xs) (drop n ys) ≡ drop n (zip2 f xs ys)
+zip2-drop f zero xs ys = refl
+zip2-drop f (suc n) [] ys = refl
+zip2-drop f (suc n) (x ∷ xs) [] = no_more (drop n xs)
+  where
+    no_more : (zs : List ℕ) → zip2 f zs [] ≡ []
+    no_more [] = refl
+    no_more (z ∷ zs) = refl
+zip2-drop f (suc n) (x ∷ xs) (y ∷ ys) = zip2-drop f n xs ys
 
--- one more character
-pub zip2-next : (f : ℕ → ℕ → ℕ) (xs ys : List ℕ) (i : ℕ) → i < length xs → length ys ≡ length xs → zip2 f
-    (take (i + 1) xs) (take (i + 1) ys) ≡ zip2 f (take i xs) (take i ys) ++ f (get_or xs i 0) (get_or ys i 0) ∷ []
-zip2-next f xs ys i within same =
-    let first = length-take-le i xs (omega arith) in
-    let second : length (take i ys) ≡ i = length-take-le i ys (omega arith) in
-    rw (take_more xs i 0 within, take_more ys i 0 (omega arith))
-    (zip2-append f (take i xs) (get_or xs i 0 ∷ []) (take i ys) (get_or ys i 0 ∷ []) (omega (arith, first, second)))
+pub zip2-chunk : (f : ℕ → ℕ → ℕ) (i n : ℕ) (xs ys : List ℕ)
+    → zip2 f (chunk i n xs) (chunk i n ys) ≡ chunk i n (zip2 f xs ys)
+zip2-chunk f i n xs ys = zip2-take f n (drop i xs) (drop i ys) ∙ ap (take n) (zip2-drop f i xs ys)
 
--- the last piece, written over those before it
-pub zip2-last_piece : (f : ℕ → ℕ → ℕ) (xs ys out made : List ℕ) (i n : ℕ)
-    → n ≤ length xs → length ys ≡ length xs → length xs - n ≤ i → i ≤ length xs
-    → take i out ≡ zip2 f (take i xs) (take i ys) → length made ≡ length xs
-    → take (length xs - n + n) made ≡ take (length xs - n) out
-    ++ zip2 f (chunk (length xs - n) n xs) (chunk (length xs - n) n ys) → made ≡ zip2 f xs ys
-zip2-last_piece f xs ys out made i n some same passed within written long last =
-    let m : ℕ = length xs - n in
-    let sum : m + (i - m) ≡ i = omega (arith, passed) in
-    let whole : m + n ≡ length xs = omega (arith, some) in
-    let a = length-take-le m xs (omega arith) in
-    let b = length-take-le m ys (omega (arith, same)) in
-    let front : List ℕ = zip2 f (take m xs) (take m ys) in
-    let fronts : length front ≡ m = length-zip2 f (take m xs) (take m ys) (a ∙ sym b) ∙ a in
-    let kept : take m out ≡ front =
-    sym (take-take m i out passed) ∙ (ap (take m) (written
-    ∙ ap (λ (k : ℕ). zip2 f (take k xs) (take k ys)) (sym sum) ∙ zip2-piece f xs ys m (i - m) (omega arith) same)
-    ∙ take_at front (zip2 f (chunk m (i - m) xs) (chunk m (i - m) ys)) m fronts) in
-    let all : take (m + n) made ≡ made = take_all (m + n) made (omega (arith, long, whole)) in
-    let xs_all : take (m + n) xs ≡ xs = take_all (m + n) xs (omega (arith, whole)) in
-    let ys_all : take (m + n) ys ≡ ys = take_all (m + n) ys (omega (arith, whole, same)) in
-    sym all ∙ (last ∙ (ap (λ (t : List ℕ). t ++ zip2 f (chunk m n xs) (chunk m n ys)) kept
-    ∙ (sym (zip2-piece f xs ys m n (omega arith) same) ∙ (rw (xs_all, ys_all) refl))))
+-- one more piece of what is to be written
+pub piece_written : (i n : ℕ) (whole out made : List ℕ) → take i out ≡ take i whole
+    → take (i + n) made ≡ take i out ++ chunk i n whole → take (i + n) made ≡ take (i + n) whole
+piece_written i n whole out made before written =
+    written ∙ ap (λ (t : List ℕ). t ++ chunk i n whole) before ∙ sym (take-add i n whole)
+
+-- the last piece, written over some of those before
+pub last_written : (m n i : ℕ) (whole out made : List ℕ) → m + n ≡ length whole → m ≤ i
+    → take i out ≡ take i whole
+    → length made ≡ length whole → take (m + n) made ≡ take m out ++ chunk m n whole → made ≡ whole
+last_written m n i whole out made all passed before long written =
+    let front : take m out ≡ take m whole =
+    sym (take-take m i out passed) ∙ ap (take m) before ∙ take-take m i whole passed in
+    sym (take_all (m + n) made (omega (arith, long, all)))
+    ∙ piece_written m n whole out made front written
+    ∙ take_all (m + n) whole (omega (arith, all))
 
 -- the rule that leaves the second text
-pub zip2-second : (xs ys : List ℕ) → length xs ≡ length ys → zip2 (λ (x y : ℕ). y) xs ys ≡ ys
-zip2-second [] [] same = refl
-zip2-second [] (y ∷ ys) same = absurd (omega arith)
-zip2-second (x ∷ xs) [] same = absurd (omega arith)
-zip2-second (x ∷ xs) (y ∷ ys) same = ap (λ t. y ∷ t) (zip2-second xs ys (omega arith))
+pub zip2_second : (xs ys : List ℕ) → length xs ≡ length ys → zip2 (λ (x y : ℕ). y) xs ys ≡ ys
+zip2_second [] [] same = refl
+zip2_second [] (y ∷ ys) same = absurd (omega arith)
+zip2_second (x ∷ xs) [] same = absurd (omega arith)
+zip2_second (x ∷ xs) (y ∷ ys) same = ap (λ t. y ∷ t) (zip2_second xs ys (omega arith))

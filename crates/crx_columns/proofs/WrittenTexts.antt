@@ -1,7 +1,7 @@
 -- Texts that are written into bytes after others.
 use Rattle.std.specs.Prelude.{◌≡◌, ◌≤◌, ◌<◌, ℕ, ◌+◌, ◌-◌, List, [], ◌∷◌, ◌++◌, length, set, take, drop}
 use Rattle.std.proofs.Common.{sym, ◌∙◌, ap, arith, append_assoc}
-use Rattle.std.proofs.lemmas.List.{drop-take, take-take, drop_at, take_at, take_more_set, length-append}
+use Rattle.std.proofs.lemmas.List.{drop-take, take-take, drop_at, take_more_set, length-append}
 use Rattle.std.proofs.lemmas.List.{length-take-le}
 use Rattle.std.proofs.Math.Seq.{take-append-add}
 use Rattle.crx_columns.specs.meaning.Columns.{without_end_blanks}
@@ -54,19 +54,15 @@ pub line-ended : (new old line : List ℕ) (at count : ℕ)
     → take (at + count) new ≡ take at old ++ line → at + count < length new
     → take (at + count + 1) (set new (at + count) 10) ≡ take at old ++ (line ++ 10 ∷ [])
 line-ended new old line at count written room =
-    take_more_set new (at + count) 10 room ∙ ap (λ t. t ++ 10 ∷ []) written ∙ append_assoc (take at old) line (10 ∷ [])
+    take_more_set new (at + count) 10 room ∙ ap (λ t. t ++ 10 ∷ []) written
+    ∙ append_assoc (take at old) line (10 ∷ [])
 
 pub counted-line : (new old line : List ℕ) (at count : ℕ)
-    → take (at + count) new ≡ take at old ++ line → at + count < length new → at ≤ length old → count ≡ length line
+    → take (at + count) new ≡ take at old ++ line → at + count < length new → at ≤ length old
+    → count ≡ length line
 counted-line new old line at count written room within =
     let long : at + count ≡ length (take at old) + length line =
     sym (length-take-le (at + count) new (omega (arith, room)))
     ∙ ap length written ∙ length-append (take at old) line in
     let before : length (take at old) ≡ at = length-take-le at old within in
     omega (arith, long, before)
-
-pub same-before : (new old line : List ℕ) (at count : ℕ)
-    → take (at + count) new ≡ take at old ++ line → at ≤ length old → take at new ≡ take at old
-same-before new old line at count written within =
-    sym (take-take at (at + count) new (omega arith))
-    ∙ ap (take at) written ∙ take_at (take at old) line at (length-take-le at old within)

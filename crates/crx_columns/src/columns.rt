@@ -49,6 +49,7 @@ pub fn all_blank(text: &[u8]) -> bool
 }
 
 /// So many columns from a first one on, without the blanks at their end.
+#[tactic(auto, using(crate::proofs::Blanks::end_blanks_columns))]
 pub fn end_trimmed(line: &[u8], first: usize, width: usize) -> &[u8]
     requires from_one { 1 ≤ first }
     ensures value { result.now ≡ without_end_blanks (columns line.now first width) }
@@ -57,6 +58,7 @@ pub fn end_trimmed(line: &[u8], first: usize, width: usize) -> &[u8]
 }
 
 /// So many columns from a first one on, without the blanks at both ends.
+#[tactic(auto, using(crate::proofs::Blanks::blanks_columns))]
 pub fn trimmed(line: &[u8], first: usize, width: usize) -> &[u8]
     requires from_one { 1 ≤ first }
     ensures value { result.now ≡ without_blanks (columns line.now first width) }
@@ -66,6 +68,7 @@ pub fn trimmed(line: &[u8], first: usize, width: usize) -> &[u8]
 }
 
 /// Whether so many columns from a first one on are blank.
+#[tactic(auto, using(crate::proofs::Blanks::all_blank_columns))]
 pub fn is_blank(line: &[u8], first: usize, width: usize) -> bool
     requires from_one { 1 ≤ first }
     ensures value { result ≡ list_all is_blank (columns line.now first width) }

@@ -9,6 +9,7 @@ use std::simd::prelude::*;
 
 /// Puts a text in place of another of the same length, by vectors that may overlap.
 #[inline]
+#[tactic(auto, using(crate::proofs::LaneTexts::zip2_second))]
 pub fn copy_text(to: &mut [u8], from: &[u8])
     requires { length to.old ≡ length from.now }
     ensures copied { to.new ≡ from.now }
@@ -73,6 +74,7 @@ impl Rule for Other {
         other
     }
 
+    #[tactic(auto, using(crate::proofs::LaneTexts::zip2_second))]
     fn apply_to(_old: u8x16, other: u8x16) -> u8x16 {
         other
     }

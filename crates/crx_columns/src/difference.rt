@@ -176,6 +176,7 @@ impl Rule for Characters {
         }
     }
 
+    #[tactic(auto, using(crate::proofs::LaneWords::character_lanes))]
     fn apply_to(old: u8x16, mark: u8x16) -> u8x16 {
         let blank = u8x16::splat(b' ');
         let other = mark.simd_eq(u8x16::splat(b'&')).select(blank, mark);

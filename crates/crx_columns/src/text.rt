@@ -119,6 +119,7 @@ pub fn trim_end(text: &[u8]) -> &[u8]
 }
 
 // Where the blanks at the end of a text begin.
+#[tactic(auto, using(crate::proofs::EndBlanks::ended_at, crate::proofs::EndBlanks::blank_passed, crate::proofs::EndBlanks::nothing_after))]
 fn end_blanks(text: &[u8]) -> usize
     ensures kept { take result text.now ≡ without_end_blanks text.now }
     ensures within { result ≤ length text.now }
@@ -136,6 +137,9 @@ fn end_blanks(text: &[u8]) -> usize
             return end - 2;
         }
     }
+    if end < LANES {
+        return end_blanks_of_few(text);
+    }
     while end >= LANES {
         let start = end - LANES;
         let count = kept_in(u8x16::from_slice(&text[start..]));
@@ -144,25 +148,13 @@ fn end_blanks(text: &[u8]) -> usize
         }
         end = start;
     }
-    if text.len() >= LANES {
-        return kept_in(u8x16::from_slice(text));
-    }
-    if end >= EIGHT {
-        let start = end - EIGHT;
-        let count = kept_in_eight(u8x8::from_slice(&text[start..]));
-        if count > 0 {
-            return start + count;
-        }
-        return end_blanks_singly(text, start);
-    }
-    end_blanks_singly(text, end)
+    kept_in(u8x16::from_slice(text))
 }
 
 // How many of 16 characters stand before the blanks at their end.
 #[inline(always)]
 fn kept_in(characters: u8x16) -> usize
-    ensures kept { take result characters ≡ without_end_blanks characters }
-    ensures long { length (without_end_blanks characters) ≡ result }
+    ensures kept { result ≡ length (without_end_blanks characters) }
     ensures within { result ≤ 16 }
 {
     let others = characters.simd_ne(u8x16::splat(b' ')).to_bitmask();
@@ -175,22 +167,28 @@ const EIGHT: usize = 8;
 // How many of 8 characters stand before the blanks at their end.
 #[inline(always)]
 fn kept_in_eight(characters: u8x8) -> usize
-    ensures kept { take result characters ≡ without_end_blanks characters }
-    ensures long { length (without_end_blanks characters) ≡ result }
+    ensures kept { result ≡ length (without_end_blanks characters) }
     ensures within { result ≤ 8 }
 {
     let others = characters.simd_ne(u8x8::splat(b' ')).to_bitmask();
     64 - others.leading_zeros() as usize
 }
 
-// How many characters of a text stand before the blanks at its end, where only blanks stand from an index on: one by one.
-fn end_blanks_singly(text: &[u8], from: usize) -> usize
-    requires within { from ≤ length text.now }
-    requires blanks { without_end_blanks (take from text.now) ≡ without_end_blanks text.now }
+// Where the blanks at the end of a text that is shorter than a vector begin: the last 8 characters at once, and the others one by one.
+#[tactic(auto, using(crate::proofs::EndBlanks::ended_at))]
+fn end_blanks_of_few(text: &[u8]) -> usize
     ensures kept { take result text.now ≡ without_end_blanks text.now }
     ensures within { result ≤ length text.now }
 {
-    let mut end = from;
+    let mut end = text.len();
+    if end >= EIGHT {
+        let start = end - EIGHT;
+        let count = kept_in_eight(u8x8::from_slice(&text[start..]));
+        if count > 0 {
+            return start + count;
+        }
+        end = start;
+    }
     while end > 0 {
         if text[end - 1] != b' ' {
             return end;

@@ -7,7 +7,7 @@ abbrev pub invariant-loop-at : goal.invariant-loop-at
 invariant-loop-at g l =
     (l.at ≤ length l.old)
     × (length l.out ≡ length l.old)
-    × (take l.at l.out ≡ zip2 g.R.Rule.rule (take l.at l.old) (take l.at l.other))
+    × (take l.at l.out ≡ take l.at (zip2 g.R.Rule.rule l.old l.other))
 
 abbrev pub decreases-loop-at : goal.decreases-loop-at
 decreases-loop-at g l = length l.old - l.at

@@ -1,17 +1,10 @@
-use Rattle.std.proofs.Common.{ℕ, take, ap, sym, ◌∙◌, arith}
-use Rattle.crx_columns.proofs.EndBlanks.{lanes_kept, take_kept, few_kept}
+use Rattle.std.proofs.Common.{arith}
+use Rattle.crx_columns.proofs.EndBlanks.{lanes_kept, few_kept}
 use Rattle.crx_columns.proofs.text.kept_in.Goals as goal
 
-pub returns-clause-kept : goal.returns-clause-kept
-returns-clause-kept c =
-    let v = c.args.characters in
-    ap (λ (n : ℕ). take n v) (lanes_kept 16 v (omega arith) c.fits-characters.0) ∙ take_kept v
-
-pub returns-clause-long : goal.returns-clause-long
-returns-clause-long c = sym (lanes_kept 16 c.args.characters (omega arith) c.fits-characters.0)
-
-pub returns-clause-within : goal.returns-clause-within
-returns-clause-within c =
-    let kept = lanes_kept 16 c.args.characters (omega arith) c.fits-characters.0 in
-    let few = few_kept c.args.characters in
-    omega (arith, kept, few, c.fits-characters.0)
+pub returns : goal.returns
+returns c =
+    let kept = lanes_kept 16 c.args.characters (omega arith) c.fits-characters.0 in record {
+      kept = kept;
+      within = omega (arith, kept, few_kept c.args.characters, c.fits-characters.0);
+    }

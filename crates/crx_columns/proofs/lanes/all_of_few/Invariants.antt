@@ -1,6 +1,6 @@
 use Rattle.std.proofs.Common.{◌≡◌, drop}
 use Rattle.std.specs.List.{list_all}
-use Rattle.crx_columns.proofs.lanes.all_of_singly.Given as goal
+use Rattle.crx_columns.proofs.lanes.all_of_few.Given as goal
 
 -- the characters that are left decide
 abbrev pub invariant-loop-character : goal.invariant-loop-character
