@@ -1,6 +1,6 @@
 -- Reading the number in a cell, up to the first blank of a line.
-use Rattle.std.proofs.Common.{true, false, ℕ, ℤ, ◌≡◌, ◌==◌, ◌<◌, Bool, List, [], ◌∷◌, length, Option, Some, None}
-use Rattle.std.proofs.Common.{if◌then◌else◌, ◌&&◌, inl, inr, arith, refl, ap, get_or}
+use Rattle.std.proofs.Common.{true, false, ℕ, ℤ, ◌≡◌, ◌==◌, ◌<◌, Bool, List, [], ◌∷◌, length, Option, Some}
+use Rattle.std.proofs.Common.{None, if◌then◌else◌, ◌&&◌, inl, inr, arith, refl, ap, get_or}
 use Rattle.std.proofs.lemmas.Bool.{cases_eq}
 use Rattle.std.proofs.lemmas.Bool.Decides.{nat_tests}
 use Rattle.std.specs.Char.{is_ascii_digit}
@@ -36,7 +36,8 @@ starts_with_minus-cell (c ∷ cs) =
       | inr other ↦ let keeps : (c == 32) ≡ false = grind (arith, nat_tests) in rw keeps refl
     ]
 
-chosen : (a : Bool) (n : ℕ) (f : ℕ → ℤ) → (if a then Some (f n) else None) ≡ option_map f (if a then Some n else None)
+chosen : (a : Bool) (n : ℕ) (f : ℕ → ℤ)
+    → (if a then Some (f n) else None) ≡ option_map f (if a then Some n else None)
 chosen true n f = refl
 chosen false n f = refl
 
@@ -58,7 +59,7 @@ pub a_cell : {A : Type 0} (r : Option (ℕ × A)) (counted : Option ℕ) (f : �
     → r ≡ Some (size, next) → option_map (λ cell. cell.0) r ≡ counted → option_map f counted ≡ Some (f size)
 a_cell r counted f size next is e = rw (← e, is) refl
 
-none_of : (a b : Bool) (n : ℕ) → b ≡ false → (if a && b then Some n else None) ≡ None
+none_of : {A : Type 0} (a b : Bool) (n : A) → b ≡ false → (if a && b then Some n else None) ≡ None
 none_of true b n e = ap (λ t. if t then Some n else None) e
 none_of false b n e = refl
 
@@ -68,7 +69,8 @@ pub no_first_digit : (text : List ℕ)
 no_first_digit [] stops = refl
 no_first_digit (c ∷ cs) stops =
     let other : is_ascii_digit c ≡ false = stops (omega arith) in
-    let digits : all_ascii_digits (c ∷ first_cell cs) ≡ false = ap (λ t. t && all_ascii_digits (first_cell cs)) other in
+    let digits : all_ascii_digits (c ∷ first_cell cs) ≡ false =
+    ap (λ t. t && all_ascii_digits (first_cell cs)) other in
     elim (is_blank c) as (λ b. counted_digits (if b then [] else c ∷ first_cell cs) ≡ None) [
       | true ↦ refl
       | false ↦ none_of (is_count_of_digits (length (c ∷ first_cell cs)))
@@ -77,15 +79,11 @@ no_first_digit (c ∷ cs) stops =
 
 -- ---- a number is the code of a difference
 
-no_choice : (a b : Bool) (n : ℤ) → b ≡ false → (if a && b then Some n else None) ≡ None
-no_choice true b n e = ap (λ t. if t then Some n else None) e
-no_choice false b n e = refl
-
 no_digits : (text digits : List ℕ)
     → digits ≡ without_minus text → all_ascii_digits digits ≡ false → coded_number text ≡ None
 unfolding coded_number
 no_digits text digits is other =
-    rw (← is) (no_choice (is_count_of_digits (length digits))
+    rw (← is) (none_of (is_count_of_digits (length digits))
     (all_ascii_digits digits) (signed_number (starts_with_minus text) (digits_value 10 digits)) other)
 
 no_text : coded_number [] ≡ None
@@ -105,7 +103,8 @@ after_order c cs =
           no_digits (c ∷ 38 ∷ cs) (c ∷ 38 ∷ cs) (rw test refl) (stopped (is_ascii_digit c))
     ]
 
-pub code_of-number : (text : List ℕ) (number : ℤ) → coded_number text ≡ Some number → code_of text ≡ Some (Step number)
+pub code_of-number : (text : List ℕ) (number : ℤ) → coded_number text ≡ Some number
+    → code_of text ≡ Some (Step number)
 code_of-number [] number e = absurd (let none = no_text in cc)
 code_of-number (c ∷ []) number e = ap (option_map Step) e
 code_of-number (c ∷ d ∷ cs) number e =

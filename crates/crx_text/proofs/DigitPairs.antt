@@ -1,44 +1,35 @@
 -- Two digits at a time.
-use Rattle.std.proofs.Common.{bit_or, ◌≡◌, ℕ, ℤ, pos, negsuc, w64, zero, suc, ◌+◌, ◌-◌, ◌*◌, ◌/◌, ◌%◌, ◌<◌, ◌≤◌}
-use Rattle.std.proofs.Common.{Bool, true, false}
-use Rattle.std.proofs.Common.{◌&&◌, T, eqb, List, [], ◌∷◌, ◌++◌, length, take, drop, get_or, slice_set, inl, inr, arith}
-use Rattle.std.proofs.Common.{eq-zero-or-pos, eqb→eq, append_assoc, decimal, ◌^◌, ap, sym, ◌∙◌, refl, subst}
-use Rattle.std.proofs.lemmas.List.{take_more_set, length-set, length-take-le, take-take}
+use Rattle.std.proofs.Common.{bit_or, ◌≡◌, ℕ, ℤ, pos, negsuc, w64, zero, suc, ◌+◌, ◌-◌, ◌*◌, ◌/◌, ◌%◌, ◌<◌}
+use Rattle.std.proofs.Common.{◌≤◌, Bool, true, false, ◌&&◌, T, eqb, List, [], ◌∷◌, ◌++◌, length, take, drop}
+use Rattle.std.proofs.Common.{get_or, slice_set, inl, inr, arith, eqb→eq, eqb-true, append_assoc, decimal}
+use Rattle.std.proofs.Common.{◌^◌, ap, sym, ◌∙◌, refl, subst}
+use Rattle.std.proofs.lemmas.List.{take_more_set, length-set, length-take-le, length-drop, take-take}
 use Rattle.std.proofs.Math.Dec.{ltb}
 use Rattle.std.proofs.Math.Seq.{take-append-add}
-use Rattle.std.proofs.lemmas.Bool.{cases_lt, le-ltb, lt-ltb}
+use Rattle.std.proofs.lemmas.Bool.{agree_below, agree_below_at, and_parts, cases_lt, le-ltb, lt-ltb}
 use Rattle.std.proofs.lemmas.Fmt.{decimal_digit, decimal_nonempty}
-use Rattle.std.proofs.lemmas.Bool.{agree_below, agree_below_at}
 use lib.Count.{count_trailing_zeros}
-use lib.Ieee.Fits.{and_l, and_r}
 use mir.Val.{SFits, bool_byte}
-use Rattle.itoa.proofs.Decimal.{decimal_four, decimal_pair, decimal_two, length_one, length_pair, length_two, pair}
+use Rattle.itoa.proofs.Decimal.{decimal_four, decimal_pair, decimal_two, pair}
 use Rattle.std.specs.Int.{from_le_bytes, to_le_bytes, w32}
 use Rattle.std.proofs.lemmas.Nat.{from_le_bytes-to_le_bytes_4}
 use Rattle.std.specs.Fmt.{signed_decimal}
 use Rattle.crx_text.specs.declared.code_digits.TheConstants.{PAIRS}
 
-abbrev are_pairs : ℕ → Bool
-are_pairs zero = true
-are_pairs (suc p) =
-    (eqb (get_or PAIRS (p * 2) 0) (48 + p / 10) && eqb (get_or PAIRS (p * 2 + 1) 0) (48 + p % 10)) && are_pairs p
+abbrev is_pair : ℕ → Bool
+is_pair p = eqb (get_or PAIRS (p * 2) 0) (48 + p / 10) && eqb (get_or PAIRS (p * 2 + 1) 0) (48 + p % 10)
 
-below : (n p : ℕ) → T (are_pairs n)
-    → p < n → (get_or PAIRS (p * 2) 0 ≡ 48 + p / 10) × (get_or PAIRS (p * 2 + 1) 0 ≡ 48 + p % 10)
-below zero p t h = absurd (omega arith)
-below (suc n) p t h =
-    elim (eq-zero-or-pos (n - p)) [
-      | inl z ↦ let e : p ≡ n = omega arith in let a = and_l _ (are_pairs n) t in
-          rw e (eqb→eq _ _ (and_l _ _ a), eqb→eq _ _ (and_r _ _ a))
-      | inr g ↦ below n p (and_r _ (are_pairs n) t) (omega arith)
-    ]
-
-pub PAIRS_at : (p : ℕ) → p < 100 → (get_or PAIRS (p * 2) 0 ≡ 48 + p / 10) × (get_or PAIRS (p * 2 + 1) 0 ≡ 48 + p % 10)
-PAIRS_at p h = below 100 p tt h
+pub PAIRS_at : (p : ℕ) → p < 100
+    → (get_or PAIRS (p * 2) 0 ≡ 48 + p / 10) × (get_or PAIRS (p * 2 + 1) 0 ≡ 48 + p % 10)
+PAIRS_at p small =
+    let parts = and_parts (eqb (get_or PAIRS (p * 2) 0) (48 + p / 10)) _
+    (agree_below_at is_pair (λ p. true) 100 p refl small) in
+    (eqb-true _ _ parts.0, eqb-true _ _ parts.1)
 
 -- two bytes, one after the other
 pub two_written : (bytes : List ℕ) (at a b : ℕ)
-    → at + 2 ≤ length bytes → take (at + 2) (slice_set (slice_set bytes at a) (at + 1) b) ≡ take at bytes ++ a ∷ b ∷ []
+    → at + 2 ≤ length bytes
+    → take (at + 2) (slice_set (slice_set bytes at a) (at + 1) b) ≡ take at bytes ++ a ∷ b ∷ []
 two_written bytes at a b room =
     let sum : at + 2 ≡ at + 1 + 1 = omega arith in
     rw sum (take_more_set (slice_set bytes at a) (at + 1) b (omega (arith, length-set bytes at a))
@@ -46,14 +37,15 @@ two_written bytes at a b room =
     ∙ append_assoc (take at bytes) (a ∷ []) (b ∷ []))
 
 -- what is written after what was written
-pub joined : (first second third front back : List ℕ) (at middle end : ℕ) → take middle second ≡ take at first ++ front
+pub joined : (first second third front back : List ℕ) (at middle end : ℕ)
+    → take middle second ≡ take at first ++ front
     → take end third ≡ take middle second ++ back → take end third ≡ take at first ++ (front ++ back)
 joined first second third front back at middle end one two = two
     ∙ ap (λ (t : List ℕ). t ++ back) one ∙ append_assoc (take at first) front back
 
-pub signed_decimal-some : (z : ℤ) → SFits w64 z → 0 < length (signed_decimal z)
-signed_decimal-some (pos n) fits = let small = fits.sfits in decimal_nonempty n (omega (arith, small))
-signed_decimal-some (negsuc n) fits = omega arith
+pub signed_decimal_some : (z : ℤ) → SFits w64 z → 0 < length (signed_decimal z)
+signed_decimal_some (pos n) fits = let small = fits.sfits in decimal_nonempty n (omega (arith, small))
+signed_decimal_some (negsuc n) fits = omega arith
 
 -- ---- four digits in a word
 
@@ -68,70 +60,63 @@ four_small n (suc (suc (suc zero))) small = omega arith
 four_small n (suc (suc (suc (suc i)))) small = omega arith
 
 -- how many zeros stand before a number's digits in four columns
-pub zeros_counted : (n : ℕ) → n < 10000
-    → bool_byte (ltb n 10) + bool_byte (ltb n 100) + bool_byte (ltb n 1000) + length (decimal n) ≡ 4
-zeros_counted n small =
-    elim (cases_lt n 10) [
-      | inl one ↦ rw (lt-ltb n 10 one, lt-ltb n 100 (omega arith), lt-ltb n 1000 (omega arith), length_one n one) refl
-      | inr two_at_least ↦ elim (cases_lt n 100) [
-        | inl two ↦ rw (
-          le-ltb n 10 two_at_least,
-          lt-ltb n 100 two,
-          lt-ltb n 1000
-              (omega arith),
-          length_two n two_at_least two,
-        ) refl
-        | inr three_at_least ↦ elim (cases_lt n 1000) [
-          | inl three ↦ rw (
-            le-ltb n 10 two_at_least,
-            le-ltb n 100 three_at_least,
-            lt-ltb
-                n 1000 three,
-            length_pair n three_at_least (omega arith),
-            length_one (n / 100) (omega arith),
-          ) refl
-          | inr four_at_least ↦ rw (
-            le-ltb n 10 two_at_least,
-            le-ltb n 100 three_at_least,
-            le-ltb n 1000 four_at_least,
-            length_pair n three_at_least (omega arith),
-            length_two (n / 100) (omega arith) (omega arith),
-          ) refl
-        ]
-      ]
-    ]
+abbrev pub zeros_of : ℕ → ℕ
+zeros_of n = bool_byte (ltb n 10) + bool_byte (ltb n 100) + bool_byte (ltb n 1000)
 
-digits_at : (n z k : ℕ) (ds : List ℕ) → decimal n ≡ ds → z + length (decimal n) ≡ 4 → length ds + k ≡ 4 → z ≡ k
-digits_at n z k ds is count long = let same = ap length is in omega (arith, same)
+pub few_zeros : (n : ℕ) → zeros_of n ≤ 3
+few_zeros n = omega (arith, one (ltb n 10), one (ltb n 100), one (ltb n 1000))
+  where
+    one : (b : Bool) → bool_byte b ≤ 1
+    one true = omega arith
+    one false = omega arith
 
 -- a number's own digits stand after those zeros
-pub digits_last : (n z : ℕ) → n < 10000 → z + length (decimal n) ≡ 4 → drop z (four n) ≡ decimal n
-digits_last n z small count =
+own_digits : (n : ℕ) → n < 10000 → drop (zeros_of n) (four n) ≡ decimal n
+own_digits n small =
     elim (cases_lt n 10) [
       | inl one ↦
           let own : n % 100 % 10 ≡ n = omega arith in
-          rw (digits_at n z 3 _ (decimal_digit n one) count refl, decimal_digit n one, own) refl
-      | inr two_at_least ↦ elim (cases_lt n 100) [
+          rw (
+            lt-ltb n 10 one,
+            lt-ltb n 100 (omega arith),
+            lt-ltb n 1000
+                (omega arith),
+            decimal_digit n one,
+            own,
+          ) refl
+      | inr tens ↦ elim (cases_lt n 100) [
         | inl two ↦
             let own : n % 100 ≡ n = omega arith in
-            rw (digits_at n z 2 _ (decimal_two n two_at_least two) count refl, decimal_two n two_at_least two, own) refl
-        | inr three_at_least ↦ elim (cases_lt n 1000) [
+            rw (le-ltb n 10 tens, lt-ltb n 100 two, lt-ltb n 1000 (omega arith), decimal_two n tens two, own)
+            refl
+        | inr hundreds ↦ elim (cases_lt n 1000) [
           | inl three ↦
               let own : n / 100 % 10 ≡ n / 100 = omega arith in
-              let whole : decimal n ≡ (48 + n / 100) ∷ pair (n % 100) = decimal_pair n three_at_least (omega arith)
+              let whole : decimal n ≡ (48 + n / 100) ∷ pair (n % 100) = decimal_pair n hundreds (omega arith)
               ∙ ap (λ (t : List ℕ). t ++ pair (n % 100)) (decimal_digit (n / 100) (omega arith)) in
-              rw (digits_at n z 1 _ whole count refl, whole, own) refl
-          | inr four_at_least ↦
-              let whole : decimal n ≡ four n = decimal_pair n three_at_least (omega arith)
-              ∙ ap (λ (t : List ℕ). t ++ pair (n % 100)) (decimal_two (n / 100) (omega arith) (omega arith)) in
-              rw (digits_at n z 0 _ whole count refl, whole) refl
+              rw (le-ltb n 10 tens, le-ltb n 100 hundreds, lt-ltb n 1000 three, whole, own) refl
+          | inr thousands ↦
+              let whole : decimal n ≡ four n = decimal_pair n hundreds (omega arith)
+              ∙ ap (λ (t : List ℕ). t ++ pair (n % 100))
+              (decimal_two (n / 100) (omega arith) (omega arith)) in
+              rw (le-ltb n 10 tens, le-ltb n 100 hundreds, le-ltb n 1000 thousands, whole) refl
         ]
       ]
     ]
 
+pub zeros_counted : (n : ℕ) → n < 10000 → zeros_of n + length (decimal n) ≡ 4
+zeros_counted n small =
+    omega (arith, ap length (own_digits n small), length-drop (zeros_of n) (four n), few_zeros n)
+
+pub digits_last : (n z : ℕ) → n < 10000 → z + length (decimal n) ≡ 4 → drop z (four n) ≡ decimal n
+digits_last n z small count =
+    let same : z ≡ zeros_of n = omega (arith, count, zeros_counted n small) in
+    ap (λ (k : ℕ). drop k (four n)) same ∙ own_digits n small
+
 -- the bytes of a word that is shifted by whole bytes
 pub bytes_shifted : (word z : ℕ)
-    → z ≤ 3 → word < 2 ^ 32 → take (4 - z) (to_le_bytes w32 (word / 2 ^ (8 * z))) ≡ drop z (to_le_bytes w32 word)
+    → z ≤ 3 → word < 2 ^ 32
+    → take (4 - z) (to_le_bytes w32 (word / 2 ^ (8 * z))) ≡ drop z (to_le_bytes w32 word)
 bytes_shifted word zero few fits =
     let own : word / 1 ≡ word = omega arith in
     rw own refl
@@ -171,9 +156,6 @@ four_written first second third size at middle many fits one two =
 abbrev pub digits_beside : ℕ → ℕ
 digits_beside n = n / 100 / 10 + 256 * (n / 100 % 10) + 65536 * (n % 100 / 10) + 16777216 * (n % 100 % 10)
 
-abbrev pub zeros_of : ℕ → ℕ
-zeros_of n = bool_byte (ltb n 10) + bool_byte (ltb n 100) + bool_byte (ltb n 1000)
-
 abbrev pub lowest_of : ℕ → ℕ
 lowest_of n = count_trailing_zeros 32 (bit_or (digits_beside n) 268435456) / 8
 
@@ -195,10 +177,3 @@ zeros_found n word small fits bytes =
     sym (from_le_bytes-to_le_bytes_4 word fits) ∙ ap (from_le_bytes w32) bytes ∙ omega arith in
     let digits : word - 808464432 ≡ digits_beside n = omega (arith, whole) in
     ap (λ (d : ℕ). count_trailing_zeros 32 (bit_or d 268435456) / 8) digits ∙ lowest_is n small
-
-pub few_zeros : (n : ℕ) → zeros_of n ≤ 3
-few_zeros n = omega (arith, one (ltb n 10), one (ltb n 100), one (ltb n 1000))
-  where
-    one : (b : Bool) → bool_byte b ≤ 1
-    one true = omega arith
-    one false = omega arith

@@ -1,7 +1,7 @@
 -- Rows of digits, and the number that the first of them write.
-use Rattle.std.proofs.Common.{◌≡◌, ℕ, zero, suc, ◌+◌, ◌-◌, ◌*◌, ◌/◌, ◌%◌, ◌^◌, ◌<◌, ◌≤◌, Bool, true, false, not, cond}
-use Rattle.std.proofs.Common.{◌&&◌, T, ltb, leb, eqb, List, [], ◌∷◌, ◌++◌, map, length, replicate, take, drop, get_or}
-use Rattle.std.proofs.Common.{subst, Fits, w8, refl, sym, ap, ◌∙◌, arith}
+use Rattle.std.proofs.Common.{◌≡◌, ℕ, zero, suc, ◌+◌, ◌-◌, ◌*◌, ◌/◌, ◌%◌, ◌^◌, ◌<◌, ◌≤◌, Bool, true, false}
+use Rattle.std.proofs.Common.{not, cond, ◌&&◌, T, ltb, leb, eqb, List, [], ◌∷◌, ◌++◌, map, length, replicate}
+use Rattle.std.proofs.Common.{take, drop, get_or, subst, Fits, w8, refl, sym, ap, ◌∙◌, arith}
 use Rattle.std.proofs.Math.Nat.{mul-le-mul_right}
 use Rattle.std.proofs.lemmas.Bool.{agree_below_at, and_parts, lt-ltb, ltb-true, ne_eqb}
 use Rattle.std.proofs.lemmas.List.Sums.{prefix_len_stops}
@@ -9,8 +9,7 @@ use Rattle.std.proofs.lemmas.List.{length-append, length-take-le, take-append-dr
 use Rattle.std.proofs.lemmas.List.{take-append-le, take-map}
 use Rattle.std.proofs.lemmas.Bool.{le-leb}
 use Rattle.std.proofs.lemmas.Bool.Decides.{nat_tests}
-use Rattle.std.proofs.lemmas.Simd.{mask_l-mod, pick_l_whole, zip2_splat}
-use Rattle.std.proofs.lemmas.Simd.{trailing_mask_l}
+use Rattle.std.proofs.lemmas.Simd.{mask_l-mod, pick_l_whole, zip2_splat, trailing_mask_l}
 use Rattle.std.specs.Char.{is_ascii_digit}
 use Rattle.std.specs.List.{range_with_len, prefix_len}
 use Rattle.std.specs.Str.{all_ascii_digits}
@@ -29,13 +28,16 @@ use Rattle.crx_text.proofs.PlainLanes.{lane_fits}
 -- ---- the lanes of a row
 
 -- a row's characters less 48, and as many zeros after them, as the code makes them
-pub lanes_are : (row : List ℕ) → length row ≡ 8 → zip2 (λ a b. (a + (256 - b)) % 256)
-    (pick_l 0 (row ++ replicate 8 0) (range_with_len 0 16)) (replicate 16 48) ≡ map above_zero (row ++ replicate 8 0)
-lanes_are row long =
-    let sixteen : length (row ++ replicate 8 0) ≡ 16 = omega (arith, length-append row (replicate 8 0), long) in
+pub lanes_are : (text : List ℕ) → 8 ≤ length text → zip2 (λ a b. (a + (256 - b)) % 256)
+    (pick_l 0 (take 8 text ++ replicate 8 0) (range_with_len 0 16)) (replicate 16 48)
+    ≡ map above_zero (take 8 text ++ replicate 8 0)
+lanes_are text long =
+    let row : List ℕ = take 8 text ++ replicate 8 0 in
+    let sixteen : length row ≡ 16 =
+    omega (arith, length-append (take 8 text) (replicate 8 0), length-take-le 8 text long) in
     ap (λ (v : List ℕ). zip2 (λ a b. (a + (256 - b)) % 256) v (replicate 16 48))
-    (pick_l_whole 0 (row ++ replicate 8 0) 16 sixteen)
-    ∙ zip2_splat (λ a b. (a + (256 - b)) % 256) (row ++ replicate 8 0) 16 48 sixteen
+    (pick_l_whole 0 row 16 sixteen)
+    ∙ zip2_splat (λ a b. (a + (256 - b)) % 256) row 16 48 sixteen
 
 -- each of a row's characters is a byte
 abbrev pub AreBytes : List ℕ → Type 0
@@ -90,31 +92,16 @@ abbrev pub end_lanes : List ℕ → List Bool
 end_lanes v = map (top 7) (zip2 (λ a b. cond (leb a b) 255 0)
     (10 ∷ 10 ∷ 10 ∷ 10 ∷ 10 ∷ 10 ∷ 10 ∷ 0 ∷ 0 ∷ 0 ∷ 0 ∷ 0 ∷ 0 ∷ 0 ∷ 0 ∷ 0 ∷ []) v)
 
-end_explicit : (c : ℕ → ℕ) → count_trailing_zeros 64 (mask_l (end_lanes (map c (range_with_len 0 16))) % 2 ^ 64)
+end_explicit : (c : ℕ → ℕ)
+    → count_trailing_zeros 64 (mask_l (end_lanes (map c (range_with_len 0 16))) % 2 ^ 64)
     ≡ prefix_len is_below_ten (map c (range_with_len 0 7))
 end_explicit c =
     let lane = λ (i : ℕ). top_lane (leb 10 (c i)) in
-    let ended = λ (i : ℕ). le-leb 0 (c i) (omega arith) in
+    let ended = λ (i : ℕ). ap (λ b. top 7 (cond b 255 0)) (le-leb 0 (c i) (omega arith)) in
     let bits : List Bool = map (leb 10) (map c (range_with_len 0 7)) ++ replicate 9 true in
     let are : end_lanes (map c (range_with_len 0 16)) ≡ bits =
-    rw (
-      lane 0,
-      lane 1,
-      lane 2,
-      lane 3,
-      lane 4,
-      lane 5,
-      lane 6,
-      ended 7,
-      ended 8,
-      ended 9,
-      ended 10,
-      ended 11,
-      ended 12,
-      ended 13,
-      ended 14,
-      ended 15,
-    ) refl in
+    λ k. lane 0 k ∷ lane 1 k ∷ lane 2 k ∷ lane 3 k ∷ lane 4 k ∷ lane 5 k ∷ lane 6 k ∷ ended 7 k ∷ ended 8 k
+    ∷ ended 9 k ∷ ended 10 k ∷ ended 11 k ∷ ended 12 k ∷ ended 13 k ∷ ended 14 k ∷ ended 15 k ∷ [] in
     let some : 0 < mask_l bits = grind (arith, nat_tests, no_bit (λ (b : Bool). b) bits) in
     let found = trailing_mask_l (λ (b : Bool). b) 64 bits (omega arith) some in
     ap (λ m. count_trailing_zeros 64 (mask_l m % 2 ^ 64)) are
@@ -154,7 +141,8 @@ pairs_small (x ∷ xs) [] fits small = tt
 pairs_small (x ∷ []) (y ∷ ys) fits small = tt
 pairs_small (x ∷ x′ ∷ xs) (y ∷ []) fits small = tt
 pairs_small (x ∷ x′ ∷ xs) (y ∷ y′ ∷ ys) fits small =
-    go (ltb (y + y′) 128) refl small (λ (rest : T (all_below 128 (pair_sums ys))). pairs_small xs ys fits.1.1 rest)
+    go (ltb (y + y′) 128) refl small
+    (λ (rest : T (all_below 128 (pair_sums ys))). pairs_small xs ys fits.1.1 rest)
   where
     go : (b : Bool) → ltb (y + y′) 128 ≡ b → T (b && all_below 128 (pair_sums ys))
         → (T (all_below 128 (pair_sums ys)) → T (all_below 32768 (pair_sums (products xs ys))))
@@ -167,20 +155,19 @@ pairs_small (x ∷ x′ ∷ xs) (y ∷ y′ ∷ ys) fits small =
         rw less (next rest)
     go false e rest next = absurd rest
 
+abbrev are_small : ℕ → Bool
+are_small count = all_below 128 (pair_sums (weights_of count)) && all_below 128 (weights_of count)
+
 pub weights_small : (count : ℕ) → count ≤ 6
     → T (all_below 128 (pair_sums (weights_of count))) × T (all_below 128 (weights_of count))
-weights_small zero few = (tt, tt)
-weights_small (suc zero) few = (tt, tt)
-weights_small (suc (suc zero)) few = (tt, tt)
-weights_small (suc (suc (suc zero))) few = (tt, tt)
-weights_small (suc (suc (suc (suc zero)))) few = (tt, tt)
-weights_small (suc (suc (suc (suc (suc zero))))) few = (tt, tt)
-weights_small (suc (suc (suc (suc (suc (suc zero)))))) few = (tt, tt)
-weights_small (suc (suc (suc (suc (suc (suc (suc count))))))) few = absurd (omega arith)
+weights_small count few =
+    let parts = and_parts _ _ (agree_below_at are_small (λ k. true) 7 count refl (omega (arith, few))) in
+    (subst T (sym parts.0) tt, subst T (sym parts.1) tt)
 
 -- what the groups of three make of the first six lanes, which are weighed by hundreds, tens and ones
 module _ (e : ℕ → ℕ) (small : (i : ℕ) → e i < 256) where
-  of_groups : (count a b : ℕ) → dots (grouped (map e (range_with_len 0 16))) (weights_of count) ≡ a ∷ b ∷ 0 ∷ 0 ∷ []
+  of_groups : (count a b : ℕ)
+      → dots (grouped (map e (range_with_len 0 16))) (weights_of count) ≡ a ∷ b ∷ 0 ∷ 0 ∷ []
       → a < 2 ^ 32 → b < 2 ^ 32
       → total_of (map e (range_with_len 0 16)) count ≡ (a + 2 ^ 32 * b) * scale_of count % 2 ^ 64 / 2 ^ 32
   of_groups count a b groups as_small bs_small =
@@ -188,37 +175,34 @@ module _ (e : ℕ → ℕ) (small : (i : ℕ) → e i < 256) where
       ap wide_of groups ∙ wide_are_four a b 0 0 as_small bs_small (omega arith) (omega arith) in
       ap (λ (v : List ℕ). get_or v 0 0 * scale_of count % 2 ^ 64 / 2 ^ 32) pairs
 
-  abbrev lane : ℕ → ℕ → ℕ
-  lane count j = get_or (dots (grouped (map e (range_with_len 0 16))) (weights_of count)) j 0
-
   total_explicit : (count : ℕ) → count ≤ 6
       → total_of (map e (range_with_len 0 16)) count ≡ written 0 (take count (map e (range_with_len 0 16)))
   total_explicit zero few =
-      of_groups 0 (lane 0 0) (lane 0 1) refl
+      of_groups 0 _ _ refl
       (omega (arith, small 0, small 1, small 2)) (omega (arith, small 3, small 4, small 5))
       ∙ omega (arith, small 0, small 1, small 2, small 3, small 4, small 5)
   total_explicit (suc zero) few =
-      of_groups 1 (lane 1 0) (lane 1 1) refl
+      of_groups 1 _ _ refl
       (omega (arith, small 0, small 1, small 2)) (omega (arith, small 3, small 4, small 5))
       ∙ omega (arith, small 0, small 1, small 2, small 3, small 4, small 5)
   total_explicit (suc (suc zero)) few =
-      of_groups 2 (lane 2 0) (lane 2 1) refl
+      of_groups 2 _ _ refl
       (omega (arith, small 0, small 1, small 2)) (omega (arith, small 3, small 4, small 5))
       ∙ omega (arith, small 0, small 1, small 2, small 3, small 4, small 5)
   total_explicit (suc (suc (suc zero))) few =
-      of_groups 3 (lane 3 0) (lane 3 1) refl
+      of_groups 3 _ _ refl
       (omega (arith, small 0, small 1, small 2)) (omega (arith, small 3, small 4, small 5))
       ∙ omega (arith, small 0, small 1, small 2, small 3, small 4, small 5)
   total_explicit (suc (suc (suc (suc zero)))) few =
-      of_groups 4 (lane 4 0) (lane 4 1) refl
+      of_groups 4 _ _ refl
       (omega (arith, small 0, small 1, small 2)) (omega (arith, small 3, small 4, small 5))
       ∙ omega (arith, small 0, small 1, small 2, small 3, small 4, small 5)
   total_explicit (suc (suc (suc (suc (suc zero))))) few =
-      of_groups 5 (lane 5 0) (lane 5 1) refl
+      of_groups 5 _ _ refl
       (omega (arith, small 0, small 1, small 2)) (omega (arith, small 3, small 4, small 5))
       ∙ omega (arith, small 0, small 1, small 2, small 3, small 4, small 5)
   total_explicit (suc (suc (suc (suc (suc (suc zero)))))) few =
-      of_groups 6 (lane 6 0) (lane 6 1) refl
+      of_groups 6 _ _ refl
       (omega (arith, small 0, small 1, small 2)) (omega (arith, small 3, small 4, small 5))
       ∙ omega (arith, small 0, small 1, small 2, small 3, small 4, small 5)
   total_explicit (suc (suc (suc (suc (suc (suc (suc count))))))) few = absurd (omega arith)
@@ -257,7 +241,8 @@ prefix_digits (c ∷ cs) = go (is_ascii_digit c) refl (prefix_digits cs)
 
 -- what the lanes of a row say of its characters
 pub read_row : (row digits : List ℕ) (size count : ℕ) → length row ≡ 8 → AreBytes row
-    → digits ≡ map above_zero (row ++ replicate 8 0) → count ≡ prefix_len is_below_ten (take 7 digits) → count ≤ 6
+    → digits ≡ map above_zero (row ++ replicate 8 0) → count ≡ prefix_len is_below_ten (take 7 digits)
+    → count ≤ 6
     → size ≡ written 0 (take count digits)
     → (count ≡ prefix_len is_ascii_digit row) × (size ≡ digits_value 10 (take count row))
 read_row row digits size count long small are counted few sized =
@@ -277,21 +262,24 @@ read_row row digits size count long small are counted few sized =
 no_blank : (c : ℕ) → is_ascii_digit c ≡ true → eqb c 32 ≡ false
 no_blank c digit = let range = digit_range c digit in ne_eqb c 32 (λ e. omega (arith, range))
 
-first_cell-digits : (ds rest : List ℕ) → all_ascii_digits ds ≡ true → first_cell (ds ++ rest) ≡ ds ++ first_cell rest
+first_cell-digits : (ds rest : List ℕ) → all_ascii_digits ds ≡ true
+    → first_cell (ds ++ rest) ≡ ds ++ first_cell rest
 first_cell-digits [] rest digits = refl
 first_cell-digits (c ∷ cs) rest digits =
     let parts = and_parts (is_ascii_digit c) (all_ascii_digits cs) digits in
     let other = no_blank c parts.0 in
     rw other (ap (λ (t : List ℕ). c ∷ t) (first_cell-digits cs rest parts.1))
 
-after_cell-digits : (ds rest : List ℕ) → all_ascii_digits ds ≡ true → after_cell (ds ++ rest) ≡ after_cell rest
+after_cell-digits : (ds rest : List ℕ) → all_ascii_digits ds ≡ true
+    → after_cell (ds ++ rest) ≡ after_cell rest
 after_cell-digits [] rest digits = refl
 after_cell-digits (c ∷ cs) rest digits =
     let parts = and_parts (is_ascii_digit c) (all_ascii_digits cs) digits in
     let other = no_blank c parts.0 in
     rw other (after_cell-digits cs rest parts.1)
 
-digits_before : (ds rest : List ℕ) → all_ascii_digits ds ≡ true → all_ascii_digits (ds ++ rest) ≡ all_ascii_digits rest
+digits_before : (ds rest : List ℕ) → all_ascii_digits ds ≡ true
+    → all_ascii_digits (ds ++ rest) ≡ all_ascii_digits rest
 digits_before [] rest digits = refl
 digits_before (c ∷ cs) rest digits =
     let parts = and_parts (is_ascii_digit c) (all_ascii_digits cs) digits in
@@ -314,7 +302,8 @@ digits_found text size count few long digits value stop =
           ≡ 10 ^ count = ap (λ (n : ℕ). 10 ^ n) within in omega (arith, value, less, power);
       digits = sym (ap all_ascii_digits cell ∙ digits_before (take count text) (first_cell rest) digits);
       value = ap (λ (n : ℕ). digits_value_after 10 n (first_cell rest)) value
-          ∙ sym (ap (digits_value_after 10 0) cell ∙ digits_value_after-append 0 (take count text) (first_cell rest));
+          ∙ sym (ap (digits_value_after 10 0) cell
+          ∙ digits_value_after-append 0 (take count text) (first_cell rest));
       long = ap length cell ∙ (length-append (take count text) (first_cell rest)
           ∙ ap (λ (n : ℕ). n + length (first_cell rest)) within);
       after = sym (ap after_cell whole ∙ after_cell-digits (take count text) rest digits);
@@ -322,14 +311,16 @@ digits_found text size count few long digits value stop =
     }
 
 -- in a whole row
-pub first_digits_of : (text : List ℕ) (size count : ℕ) → count < 8 → 8 ≤ length text → count ≡ prefix_len is_ascii_digit
+pub first_digits_of : (text : List ℕ) (size count : ℕ) → count < 8 → 8 ≤ length text
+    → count ≡ prefix_len is_ascii_digit
     (take 8 text) → size ≡ digits_value 10 (take count (take 8 text)) → HasFirstDigits text size count
 first_digits_of text size count few long count_is size_is =
     let row : List ℕ = take 8 text in
     let eight : length row ≡ 8 = length-take-le 8 text long in
     let front : take count row ≡ take count text = take-take count 8 text (omega arith) in
     let digits : all_ascii_digits (take count text) ≡ true = rw (← front, count_is) (prefix_digits row) in
-    digits_found text size count few (omega arith) digits (size_is ∙ ap (digits_value_after 10 0) front) (λ more.
+    digits_found text size count few (omega arith) digits (size_is ∙ ap (digits_value_after 10 0) front)
+    (λ more.
     let stop = prefix_len_stops is_ascii_digit row 0 (omega (arith, eight, count_is)) in
     sym (ap is_ascii_digit (get_or-take 8 text count 0 (omega arith)))
     ∙ (ap (λ (n : ℕ). is_ascii_digit (get_or row n 0)) count_is ∙ stop))

@@ -1,7 +1,7 @@
 -- What plain columns spell.
-use Rattle.std.proofs.Common.{◌≡◌, ◌≢◌, ℕ, ℤ, pos, ◌+◌, ◌-◌, ◌*◌, ◌^◌, Bool, true, false, ◌&&◌, ◌||◌, eqb, Option, Some}
-use Rattle.std.proofs.Common.{None, List, [], ◌∷◌, ◌++◌, map, take, length, get_or, subst, refl, sym, ap, ◌∙◌, inl, inr}
-use Rattle.std.proofs.Common.{eqb-true, arith}
+use Rattle.std.proofs.Common.{◌≡◌, ◌≢◌, ℕ, ℤ, pos, ◌+◌, ◌-◌, ◌*◌, ◌^◌, Bool, true, false, ◌&&◌, ◌||◌, eqb}
+use Rattle.std.proofs.Common.{Option, Some, None, List, [], ◌∷◌, ◌++◌, map, take, length, get_or, subst, refl}
+use Rattle.std.proofs.Common.{sym, ap, ◌∙◌, inl, inr, eqb-true, arith}
 use Rattle.std.proofs.lemmas.Bool.{and_parts, or_cases, cases_eq, ne_eqb}
 use Rattle.std.specs.Char.{is_ascii_digit}
 use Rattle.std.specs.List.{list_all, list_any, range_with_len}
@@ -25,23 +25,27 @@ all_blank (x ∷ xs) ys all =
     rw parts.0 (all_blank xs ys parts.1)
 
 pub blank_number : (width decimals : ℕ) (field ys : List ℕ)
-    → length field ≡ width → list_all (λ c. eqb c 32) (field ++ ys) ≡ true → number_of width decimals field ≡ Some None
+    → length field ≡ width → list_all (λ c. eqb c 32) (field ++ ys) ≡ true
+    → number_of width decimals field ≡ Some None
 blank_number width decimals field ys long all =
     number_of_width width decimals field long ∙ ap (missing_or_number decimals) (all_blank field ys all)
 
 -- ---- digits
 
-digits_after : (before : ℕ) (cs : List ℕ) → before ≢ 32 → is_plain_after before cs ≡ true → all_ascii_digits cs ≡ true
+digits_after : (before : ℕ) (cs : List ℕ) → before ≢ 32 → is_plain_after before cs ≡ true
+    → all_ascii_digits cs ≡ true
 digits_after before [] other plain = refl
 digits_after before (c ∷ cs) other plain =
     let test : eqb before 32 ≡ false = ne_eqb before 32 other in
-    let parts = and_parts (is_ascii_digit c || (eqb before 32 && (eqb c 32 || eqb c 45))) (is_plain_after c cs) plain in
+    let parts = and_parts (is_ascii_digit c || (eqb before 32 && (eqb c 32 || eqb c 45)))
+    (is_plain_after c cs) plain in
     let is_digit : is_ascii_digit c ≡ true =
     elim (or_cases _ _ parts.0) [ inl digit ↦ digit | inr other ↦ absurd (cc) ] in
     let range = digit_range c is_digit in
     rw is_digit (digits_after c cs (λ e. omega (arith, range)) parts.1)
 
-pub weighed_digits : (n : ℕ) (ds : List ℕ) → all_ascii_digits ds ≡ true → weighed n ds ≡ digits_value_after 10 n ds
+pub weighed_digits : (n : ℕ) (ds : List ℕ) → all_ascii_digits ds ≡ true
+    → weighed n ds ≡ digits_value_after 10 n ds
 weighed_digits n [] digits = refl
 weighed_digits n (c ∷ cs) digits =
     let parts = and_parts (is_ascii_digit c) (all_ascii_digits cs) digits in
@@ -65,7 +69,8 @@ no_minus (c ∷ cs) digits =
 
 digits_decimal : (decimals : ℕ) (whole fraction : List ℕ)
     → all_ascii_digits whole ≡ true → all_ascii_digits fraction ≡ true
-    → length fraction ≡ decimals → size_of decimals (whole ++ 46 ∷ fraction) ≡ Some (weighed 0 (whole ++ fraction))
+    → length fraction ≡ decimals
+    → size_of decimals (whole ++ 46 ∷ fraction) ≡ Some (weighed 0 (whole ++ fraction))
 digits_decimal decimals whole fraction first then three =
     let w = digits_value_after 10 0 whole in
     let f = digits_value_after 10 0 fraction in
@@ -78,7 +83,8 @@ digits_decimal decimals whole fraction first then three =
 -- ---- a number after its blanks
 
 decimal_after : (decimals c : ℕ) (cs fraction : List ℕ) → c ≢ 32
-    → c ≢ 45 → all_ascii_digits (c ∷ cs) ≡ true → all_ascii_digits fraction ≡ true → length fraction ≡ decimals →
+    → c ≢ 45 → all_ascii_digits (c ∷ cs) ≡ true → all_ascii_digits fraction ≡ true
+    → length fraction ≡ decimals →
     missing_or_number decimals (without_first_blanks (c ∷ cs ++ 46 ∷ fraction))
     ≡ Some (Some (signed_number (list_any (λ c. eqb c 45) (c ∷ cs)) (weighed 0 (c ∷ cs ++ fraction))))
 decimal_after decimals c cs fraction no_blank no_sign digits then three =
@@ -114,7 +120,8 @@ decimal_whole decimals fraction (c ∷ cs) then three plain =
             let sign_test : eqb c 45 ≡ false = ne_eqb c 45 no_sign in
             let is_digit : is_ascii_digit c ≡ true =
             elim (or_cases _ _ parts.0) [ inl digit ↦ digit | inr other ↦ absurd (cc) ] in
-            let digits : all_ascii_digits (c ∷ cs) ≡ true = rw is_digit (digits_after c cs no_blank parts.1) in
+            let digits : all_ascii_digits (c ∷ cs) ≡ true =
+            rw is_digit (digits_after c cs no_blank parts.1) in
             decimal_after decimals c cs fraction no_blank no_sign digits then three
       ]
     ]
@@ -125,7 +132,8 @@ not_minus c is_digit = let range = digit_range c is_digit in ne_eqb c 45 (λ e. 
 -- ---- a field whose columns are plain
 
 abbrev pub number_in : List ℕ → ℤ
-number_in columns = signed_number (list_any (λ c. eqb c 45) (take 14 columns)) (weighed 0 (plain_digits columns))
+number_in columns = signed_number (list_any (λ c. eqb c 45) (take 14 columns))
+    (weighed 0 (plain_digits columns))
 
 first_weighs_nothing : (c : ℕ) → (eqb c 32 || eqb c 45) ≡ true → 0 * 10 + (c - 48) ≡ 0
 first_weighs_nothing c either = elim (or_cases (eqb c 32) (eqb c 45) either) [
@@ -133,10 +141,10 @@ first_weighs_nothing c either = elim (or_cases (eqb c 32) (eqb c 45) either) [
   | inr minus ↦ omega (arith, eqb-true _ _ minus)
 ]
 
-plain_explicit : (c : ℕ → ℕ) (a b : ℕ) → IsPlain (map c (range_with_len 0 14) ++ a ∷ b ∷ [])
+plain_explicit : (c : ℕ → ℕ) (rest : List ℕ) → IsPlain (map c (range_with_len 0 14) ++ rest)
     → number_of 14 3 (map c (range_with_len 0 14))
-    ≡ Some (Some (number_in (map c (range_with_len 0 14) ++ a ∷ b ∷ [])))
-plain_explicit c a b plain =
+    ≡ Some (Some (number_in (map c (range_with_len 0 14) ++ rest)))
+plain_explicit c rest plain =
     let whole = map c (range_with_len 0 10) in
     let fraction = map c (range_with_len 11 3) in
     let one = and_parts (is_ascii_digit (c 11)) _ plain.fraction in
@@ -145,12 +153,12 @@ plain_explicit c a b plain =
     let reads = decimal_whole 3 fraction whole plain.fraction refl plain.whole in
     let first : 0 * 10 + (c 0 - 48) ≡ 0 = first_weighs_nothing (c 0) plain.first in
     number_of_width 14 3 (map c (range_with_len 0 14)) refl
-    ∙ (rw (plain.point, not_minus (c 11) one.0, not_minus (c 12) two.0, not_minus (c 13) three.0) (rw first at reads))
+    ∙ (rw (plain.point, not_minus (c 11) one.0, not_minus (c 12) two.0, not_minus (c 13) three.0)
+    (rw first at reads))
 
--- a field, and two lanes after it
-pub plain_number : (field : List ℕ) (a b : ℕ) → length field ≡ 14
-    → IsPlain (field ++ a ∷ b ∷ []) → number_of 14 3 field ≡ Some (Some (number_in (field ++ a ∷ b ∷ [])))
-plain_number field a b long =
-    subst (λ (f : List ℕ). IsPlain (f ++ a ∷ b ∷ [])
-    → number_of 14 3 f ≡ Some (Some (number_in (f ++ a ∷ b ∷ []))))
-    (sym (fourteen field long)) (plain_explicit (λ (i : ℕ). get_or field i 0) a b)
+-- a field, and lanes after it
+pub plain_number : (field rest : List ℕ) → length field ≡ 14
+    → IsPlain (field ++ rest) → number_of 14 3 field ≡ Some (Some (number_in (field ++ rest)))
+plain_number field rest long =
+    subst (λ (f : List ℕ). IsPlain (f ++ rest) → number_of 14 3 f ≡ Some (Some (number_in (f ++ rest))))
+    (sym (fourteen field long)) (plain_explicit (λ (i : ℕ). get_or field i 0) rest)

@@ -1,16 +1,16 @@
 -- The lanes of a printed observation: three digits of each group, and where the number begins.
-use Rattle.std.proofs.Common.{◌≡◌, ℕ, zero, suc, ◌+◌, ◌-◌, ◌*◌, ◌/◌, ◌%◌, ◌^◌, ◌<◌, ◌≤◌, Bool, true, false, not, cond}
-use Rattle.std.proofs.Common.{bit_and, leb, eqb, List, [], ◌∷◌, ◌++◌, map, length, replicate, take, drop, get_or, subst, refl}
-use Rattle.std.proofs.Common.{sym, ap, ◌∙◌, eqb-true, arith}
+use Rattle.std.proofs.Common.{◌≡◌, ℕ, zero, suc, ◌+◌, ◌-◌, ◌*◌, ◌/◌, ◌%◌, ◌^◌, ◌<◌, ◌≤◌, Bool, true, false}
+use Rattle.std.proofs.Common.{not, cond, bit_and, leb, eqb, List, [], ◌∷◌, ◌++◌, map, length, replicate, take}
+use Rattle.std.proofs.Common.{drop, get_or, subst, refl, sym, ap, ◌∙◌, eqb-true, arith}
 use Rattle.std.proofs.lemmas.Nat.{and_mask}
 use Rattle.std.proofs.lemmas.Bool.{agree_below_at, le-leb, ne_eqb}
 use Rattle.std.proofs.lemmas.Bool.Decides.{nat_tests}
 use Rattle.std.proofs.lemmas.Simd.{get_or_narrower, trailing_mask_l, mask_l-mod, pick_l_whole}
 use Rattle.std.specs.List.{range_with_len, prefix_len}
 use lib.Count.{count_trailing_zeros}
-use lib.Lanes.{Each1, chunk, pick_l, mask_l, put_chunk, top, zip2, digits_l, number_l}
+use lib.Lanes.{Each1, chunk, mask_l, top, zip2, digits_l, number_l}
 use Rattle.crx_text.specs.FieldTexts.{group_digits, leading_zeros}
-use Rattle.crx_text.proofs.LaneBits.{fourteen, sixteen, no_bit, top_lane}
+use Rattle.crx_text.proofs.LaneBits.{sixteen, no_bit, top_lane}
 
 -- ---- a group's digits
 
@@ -62,7 +62,8 @@ module _ (c : ℕ → ℕ) (small : (i : ℕ) → i < 4 → c i < 1000) where
   )
 
   at : (j i : ℕ) → i < 4 → 4 * j + i < 16
-      → get_or (digits_l 256 16 (number_l (2 ^ 32) (map (λ k. group_word (c k)) (range_with_len 0 4)))) (4 * j + i) 0
+      → get_or (digits_l 256 16 (number_l (2 ^ 32) (map (λ k. group_word (c k)) (range_with_len 0 4))))
+      (4 * j + i) 0
       ≡ get_or (map (λ k. group_word (c k)) (range_with_len 0 4)) j 0 / 256 ^ i % 256
   at j i four within = get_or_narrower
       (2 ^ 32) 4 256 16 (map (λ k. group_word (c k)) (range_with_len 0 4)) j i refl words_fit four within
@@ -91,26 +92,8 @@ module _ (c : ℕ → ℕ) (small : (i : ℕ) → i < 4 → c i < 1000) where
       let e13 : get_or bytes 13 0 ≡ c 3 / 10 % 10 = at 3 1 (omega arith) (omega arith) ∙ byte_one (c 3) s3 in
       let e14 : get_or bytes 14 0 ≡ c 3 / 100 = at 3 2 (omega arith) (omega arith) ∙ byte_two (c 3) s3 in
       let e15 : get_or bytes 15 0 ≡ 0 = at 3 3 (omega arith) (omega arith) ∙ byte_three (c 3) s3 in
-      ap (λ (b : ℕ). b ∷ drop 1 bytes) e0
-      ∙ ap (λ (b : ℕ). c 0 % 10 ∷ b ∷ drop 2 bytes) e1
-      ∙ ap (λ (b : ℕ). c 0 % 10 ∷ c 0 / 10 % 10 ∷ b ∷ drop 3 bytes) e2
-      ∙ ap (λ (b : ℕ). c 0 % 10 ∷ c 0 / 10 % 10 ∷ c 0 / 100 ∷ b ∷ drop 4 bytes) e3
-      ∙ ap (λ (r : List ℕ). c 0 % 10 ∷ c 0 / 10 % 10 ∷ c 0 / 100 ∷ 0 ∷ r) (
-      ap (λ (b : ℕ). b ∷ drop 5 bytes) e4
-      ∙ ap (λ (b : ℕ). c 1 % 10 ∷ b ∷ drop 6 bytes) e5
-      ∙ ap (λ (b : ℕ). c 1 % 10 ∷ c 1 / 10 % 10 ∷ b ∷ drop 7 bytes) e6
-      ∙ ap (λ (b : ℕ). c 1 % 10 ∷ c 1 / 10 % 10 ∷ c 1 / 100 ∷ b ∷ drop 8 bytes) e7
-      ∙ ap (λ (r : List ℕ). c 1 % 10 ∷ c 1 / 10 % 10 ∷ c 1 / 100 ∷ 0 ∷ r) (
-      ap (λ (b : ℕ). b ∷ drop 9 bytes) e8
-      ∙ ap (λ (b : ℕ). c 2 % 10 ∷ b ∷ drop 10 bytes) e9
-      ∙ ap (λ (b : ℕ). c 2 % 10 ∷ c 2 / 10 % 10 ∷ b ∷ drop 11 bytes) e10
-      ∙ ap (λ (b : ℕ). c 2 % 10 ∷ c 2 / 10 % 10 ∷ c 2 / 100 ∷ b ∷ drop 12 bytes) e11
-      ∙ ap (λ (r : List ℕ). c 2 % 10 ∷ c 2 / 10 % 10 ∷ c 2 / 100 ∷ 0 ∷ r) (
-      ap (λ (b : ℕ). b ∷ drop 13 bytes) e12
-      ∙ ap (λ (b : ℕ). c 3 % 10 ∷ b ∷ drop 14 bytes) e13
-      ∙ ap (λ (b : ℕ). c 3 % 10 ∷ c 3 / 10 % 10 ∷ b ∷ drop 15 bytes) e14
-      ∙ ap (λ (b : ℕ). c 3 % 10 ∷ c 3 / 10 % 10 ∷ c 3 / 100 ∷ b ∷ []) e15
-      )))
+      λ k. e0 k ∷ e1 k ∷ e2 k ∷ e3 k ∷ e4 k ∷ e5 k ∷ e6 k ∷ e7 k
+      ∷ e8 k ∷ e9 k ∷ e10 k ∷ e11 k ∷ e12 k ∷ e13 k ∷ e14 k ∷ e15 k ∷ []
 
 -- the words as the code makes them of the groups
 abbrev pub words_of : List ℕ → List ℕ
@@ -130,10 +113,13 @@ each_below (g ∷ gs) zero h = h.0
 each_below (g ∷ gs) (suc i) h = each_below gs i h.1
 
 pub digits_of_words : (groups : List ℕ) → length groups ≡ 4
-    → Each1 (λ g. g < 1000) groups → digits_l 256 16 (number_l (2 ^ 32) (words_of groups)) ≡ group_digits groups
+    → Each1 (λ g. g < 1000) groups
+    → digits_l 256 16 (number_l (2 ^ 32) (words_of groups)) ≡ group_digits groups
 digits_of_words groups long small =
-    subst (λ (w : List ℕ). digits_l 256 16 (number_l (2 ^ 32) (words_of w)) ≡ group_digits w) (pick_l_whole 0 groups
-    4 long) (digits_explicit (λ (i : ℕ). get_or groups i 0) (λ (i : ℕ) (within : i < 4). each_below groups i small))
+    subst (λ (w : List ℕ). digits_l 256 16 (number_l (2 ^ 32) (words_of w)) ≡ group_digits w)
+    (pick_l_whole 0 groups
+    4 long) (digits_explicit (λ (i : ℕ). get_or groups i 0)
+    (λ (i : ℕ) (within : i < 4). each_below groups i small))
 
 -- ---- where the number begins
 
@@ -157,8 +143,10 @@ begins (x ∷ []) d bits = go x
     go (suc y) = rw (begins_here y, begins_now y) refl
 begins (x ∷ y ∷ ys) d bits = go x (begins (y ∷ ys) d bits)
   where
-    go : (z : ℕ) → prefix_len (λ b. not b) (map (leb 1) (y ∷ ys) ++ true ∷ bits) ≡ leading_zeros (y ∷ ys ++ d ∷ [])
-        → prefix_len (λ b. not b) (leb 1 z ∷ map (leb 1) (y ∷ ys) ++ true ∷ bits) ≡ leading_zeros (z ∷ y ∷ ys ++ d ∷ [])
+    go : (z : ℕ) → prefix_len (λ b. not b) (map (leb 1) (y ∷ ys) ++ true ∷ bits) ≡ leading_zeros
+        (y ∷ ys ++ d ∷ [])
+        → prefix_len (λ b. not b) (leb 1 z ∷ map (leb 1) (y ∷ ys) ++ true ∷ bits)
+        ≡ leading_zeros (z ∷ y ∷ ys ++ d ∷ [])
     go zero e = ap (λ (n : ℕ). 1 + n) e ∙ one_more (leading_zeros (y ∷ ys ++ d ∷ []))
     go (suc z) e = rw (begins_here z, begins_now z) refl
 
@@ -167,31 +155,17 @@ begin_lanes v = map (top 7) (zip2
     (λ a b. cond (leb a b) 255 0) (1 ∷ 1 ∷ 1 ∷ 1 ∷ 1 ∷ 1 ∷ 1 ∷ 1 ∷ 1 ∷ 0 ∷ 1 ∷ 1 ∷ 1 ∷ 1 ∷ 1 ∷ 1 ∷ []) v)
 
 begin_explicit : (c : ℕ → ℕ) → c 0 ≡ 0 → count_trailing_zeros 64
-    (mask_l (begin_lanes (map c (range_with_len 0 16))) % 2 ^ 64) ≡ 1 + leading_zeros (map c (range_with_len 1 9))
+    (mask_l (begin_lanes (map c (range_with_len 0 16))) % 2 ^ 64) ≡ 1 + leading_zeros
+    (map c (range_with_len 1 9))
 begin_explicit c none =
     let lane = λ (i : ℕ). top_lane (leb 1 (c i)) in
     let bits : List Bool = map (leb 1) (map c (range_with_len 0 9))
     ++ true ∷ map (leb 1) (map c (range_with_len 10 6)) in
+    let nine = ap (λ b. top 7 (cond b 255 0)) (le-leb 0 (c 9) (omega arith)) in
     let are : begin_lanes (map c (range_with_len 0 16)) ≡ bits =
-    rw (
-      lane 0,
-      lane 1,
-      lane 2,
-      lane 3,
-      lane 4,
-      lane 5,
-      lane 6,
-      lane 7,
-      lane 8,
-      le-leb 0
-          (c 9) (omega arith),
-      lane 10,
-      lane 11,
-      lane 12,
-      lane 13,
-      lane 14,
-      lane 15,
-    ) refl in
+    λ k. lane 0 k ∷ lane 1 k ∷ lane 2 k ∷ lane 3 k ∷ lane 4 k ∷ lane 5 k ∷ lane 6 k ∷ lane 7 k ∷ lane 8 k
+    ∷ nine k
+    ∷ lane 10 k ∷ lane 11 k ∷ lane 12 k ∷ lane 13 k ∷ lane 14 k ∷ lane 15 k ∷ [] in
     let some : 0 < mask_l bits = grind (arith, nat_tests, no_bit (λ (b : Bool). b) bits) in
     let found = trailing_mask_l (λ (b : Bool). b) 64 bits (omega arith) some in
     ap (λ m. count_trailing_zeros 64 (mask_l m % 2 ^ 64)) are
@@ -205,11 +179,10 @@ begin_is v long =
     subst (λ (w : List ℕ). get_or w 0 0 ≡ 0 → count_trailing_zeros 64 (mask_l (begin_lanes w) % 2 ^ 64)
     ≡ 1 + leading_zeros (take 9 (drop 1 w))) (sym (sixteen v long)) (begin_explicit (λ (i : ℕ). get_or v i 0))
 
--- ---- the row of text
-
 -- blanks, and then what makes digits
 pub base_row : (start : ℕ) → start ≤ 9 → chunk {A = ℕ} 0 16 (take (32 - (16 - start))
-    (drop (16 - start) (replicate 16 32 ++ replicate 16 48))) ≡ replicate start 32 ++ replicate (16 - start) 48
+    (drop (16 - start) (replicate 16 32 ++ replicate 16 48))) ≡ replicate start 32 ++ replicate
+    (16 - start) 48
 base_row zero few = refl
 base_row (suc zero) few = refl
 base_row (suc (suc zero)) few = refl
@@ -221,21 +194,3 @@ base_row (suc (suc (suc (suc (suc (suc (suc zero))))))) few = refl
 base_row (suc (suc (suc (suc (suc (suc (suc (suc zero)))))))) few = refl
 base_row (suc (suc (suc (suc (suc (suc (suc (suc (suc zero))))))))) few = refl
 base_row (suc (suc (suc (suc (suc (suc (suc (suc (suc (suc start)))))))))) few = absurd (omega arith)
-
--- two stores of eight lanes, of which the second begins in the first
-abbrev pub stored : List ℕ → List ℕ → List ℕ
-stored text field = put_chunk 6
-    (put_chunk 0 field (pick_l 0 (text ++ text) (range_with_len 0 8))) (pick_l 0 (text ++ text) (range_with_len 6 8))
-
-pub stored_row : (text field : List ℕ) → length text ≡ 16 → length field ≡ 14 → stored text field ≡ take 14 text
-stored_row text field long wide =
-    let lanes : List ℕ = pick_l 0 text (range_with_len 0 16) in
-    subst (λ (t : List ℕ). stored t field ≡ take 14 t) (sym (sixteen text long))
-    (subst (λ (f : List ℕ). stored lanes f ≡ take 14 lanes) (sym (fourteen field wide)) refl)
-
--- one store of sixteen lanes
-pub stored_cell : (text cell : List ℕ) → length text ≡ 16 → length cell ≡ 16 → put_chunk 0 cell text ≡ text
-stored_cell text cell long wide =
-    let lanes : List ℕ = pick_l 0 text (range_with_len 0 16) in
-    subst (λ (t : List ℕ). put_chunk 0 cell t ≡ t) (sym (sixteen text long))
-    (subst (λ (f : List ℕ). put_chunk 0 f lanes ≡ lanes) (sym (sixteen cell wide)) refl)

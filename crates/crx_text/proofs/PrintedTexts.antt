@@ -1,25 +1,21 @@
 -- From the row of text to the text of a size.
-use Rattle.std.proofs.Common.{◌≡◌, ℕ, zero, suc, ◌+◌, ◌-◌, ◌*◌, ◌/◌, ◌%◌, ◌^◌, ◌<◌, true, ltb, List, [], ◌∷◌, ◌++◌}
-use Rattle.std.proofs.Common.{length, replicate, take, drop, refl, sym, ap, ◌∙◌, append_assoc, length-append, lt-ltb}
-use Rattle.std.proofs.Common.{ltb-true, arith}
-use Rattle.std.proofs.lemmas.Bool.{and_parts}
+use Rattle.std.proofs.Common.{◌≡◌, ℕ, zero, suc, ◌+◌, ◌-◌, ◌*◌, ◌/◌, ◌%◌, ◌^◌, ◌<◌, ◌&&◌, true, false, ltb}
+use Rattle.std.proofs.Common.{eqb, List, [], ◌∷◌, ◌++◌, length, replicate, take, drop, refl, sym, ap, ◌∙◌}
+use Rattle.std.proofs.Common.{append_assoc, length-append, lt-ltb, ltb-true, arith}
+use Rattle.std.proofs.lemmas.Bool.{and_parts, ne_eqb}
 use Rattle.std.proofs.lemmas.List.{length-map, length-drop, length-replicate, take_at, drop_at}
 use Rattle.std.proofs.lemmas.List.{replicate-append-replicate}
+use Rattle.std.proofs.lemmas.List.Folds.{list_all-append}
 use lib.Lanes.{zip2}
 use Rattle.crx_text.specs.FieldTexts.{leading_zeros}
 use Rattle.crx_text.specs.meaning.Numbers.{size_text, zero_padded}
-use Rattle.crx_text.proofs.PrintedDigits.{written, are_digits, glyphs, decimal_of_digits, padded_digits, zeros_few}
-use Rattle.crx_text.proofs.PrintedDigits.{zeros_first}
+use Rattle.crx_text.proofs.PrintedDigits.{written, are_digits, glyphs, decimal_of_digits, padded_digits}
+use Rattle.crx_text.proofs.PrintedDigits.{zeros_few}
 
 -- ---- lanes added to their bases
 
 abbrev pub plus : List ℕ → List ℕ → List ℕ
 plus = zip2 (λ a b. (a + b) % 256)
-
-plus_blanks : (k : ℕ) (xs ys : List ℕ)
-    → plus (replicate k 0 ++ xs) (replicate k 32 ++ ys) ≡ replicate k 32 ++ plus xs ys
-plus_blanks zero xs ys = refl
-plus_blanks (suc k) xs ys = ap (λ (r : List ℕ). 32 ∷ r) (plus_blanks k xs ys)
 
 plus_digits : (ds xs ys : List ℕ)
     → are_digits ds ≡ true → plus (ds ++ xs) (replicate (length ds) 48 ++ ys) ≡ glyphs ds ++ plus xs ys
@@ -30,11 +26,6 @@ plus_digits (d ∷ ds) xs ys digits =
     let glyph : (d + 48) % 256 ≡ 48 + d = omega arith in
     rw glyph (ap (λ (r : List ℕ). (48 + d) ∷ r) (plus_digits ds xs ys parts.1))
 
-digits_left : (k : ℕ) (ds : List ℕ) → are_digits ds ≡ true → are_digits (drop k ds) ≡ true
-digits_left zero ds digits = digits
-digits_left (suc k) [] digits = refl
-digits_left (suc k) (d ∷ ds) digits = digits_left k ds (and_parts (ltb d 10) (are_digits ds) digits).1
-
 abbrev pub row_of : List ℕ → List ℕ → List ℕ
 row_of nine three = 0 ∷ (nine ++ (254 ∷ (three ++ (0 ∷ 0 ∷ []))))
 
@@ -42,53 +33,56 @@ row_of nine three = 0 ∷ (nine ++ (254 ∷ (three ++ (0 ∷ 0 ∷ []))))
 abbrev pub printed : List ℕ → List ℕ → List ℕ
 printed nine three = glyphs (drop (leading_zeros nine) nine) ++ (46 ∷ glyphs three)
 
-module _ (nine three : List ℕ) (long : length nine ≡ 9)
-    (short : length three ≡ 3) (nine_digits : are_digits nine ≡ true) (three_digits : are_digits three ≡ true) where
-  rest : List ℕ
-  rest = drop (leading_zeros nine) nine
+-- the point and the digits after it, and the two columns behind the field
+abbrev behind : List ℕ → List ℕ
+behind three = 254 ∷ (three ++ (0 ∷ 0 ∷ []))
 
-  pub row_printed : plus (row_of nine three) (replicate (1 + leading_zeros nine) 32 ++ replicate (16
-      - (1 + leading_zeros nine)) 48) ≡ (replicate (1 + leading_zeros nine) 32 ++ printed nine three) ++ (48 ∷ 48 ∷ [])
+abbrev printed_behind : List ℕ → List ℕ
+printed_behind three = 46 ∷ (glyphs three ++ (48 ∷ 48 ∷ []))
+
+module _ (three : List ℕ) (short : length three ≡ 3) (three_digits : are_digits three ≡ true) where
+  full_row : (ds : List ℕ) → are_digits ds ≡ true
+      → plus (ds ++ behind three) (replicate (length ds + 6) 48) ≡ glyphs ds ++ printed_behind three
+  full_row ds digits =
+      let bases : replicate {A = ℕ} (length ds + 6) 48
+      ≡ replicate (length ds) 48 ++ (48 ∷ (replicate (length three) 48 ++ (48 ∷ 48 ∷ []))) =
+      sym (replicate-append-replicate (length ds) 6 48)
+      ∙ ap (λ (n : ℕ). replicate (length ds) 48 ++ (48 ∷ (replicate n 48 ++ (48 ∷ 48 ∷ [])))) (sym short) in
+      ap (plus (ds ++ behind three)) bases
+      ∙ plus_digits ds (behind three) (48 ∷ (replicate (length three) 48 ++ (48 ∷ 48 ∷ []))) digits
+      ∙ ap (λ (t : List ℕ). glyphs ds ++ (46 ∷ t))
+      (plus_digits three (0 ∷ 0 ∷ []) (48 ∷ 48 ∷ []) three_digits)
+
+  -- blanks in the columns of the zeros before the number
+  spaced_row : (ds : List ℕ) → are_digits ds ≡ true → plus (ds ++ behind three)
+      (replicate (leading_zeros ds) 32 ++ replicate (length ds + 6 - leading_zeros ds) 48)
+      ≡ replicate (leading_zeros ds) 32 ++ (glyphs (drop (leading_zeros ds) ds) ++ printed_behind three)
+  spaced_row [] digits = full_row [] digits
+  spaced_row (d ∷ []) digits = full_row (d ∷ []) digits
+  spaced_row (zero ∷ e ∷ ds) digits =
+      let count : length (zero ∷ e ∷ ds) + 6 - suc (leading_zeros (e ∷ ds))
+      ≡ length (e ∷ ds) + 6 - leading_zeros (e ∷ ds) = omega arith in
+      rw count (ap (λ (t : List ℕ). 32 ∷ t) (spaced_row (e ∷ ds) digits))
+  spaced_row (suc d ∷ e ∷ ds) digits =
+      let test : eqb (suc d) 0 ≡ false = ne_eqb (suc d) 0 (λ z. omega arith) in
+      let count : length (suc d ∷ e ∷ ds) + 6 - 0 ≡ length (suc d ∷ e ∷ ds) + 6 = omega arith in
+      rw (test, count) (full_row (suc d ∷ e ∷ ds) digits)
+
+module _ (nine three : List ℕ) (long : length nine ≡ 9)
+    (short : length three ≡ 3) (nine_digits : are_digits nine ≡ true)
+    (three_digits : are_digits three ≡ true) where
+  pub row_printed : plus (row_of nine three) (replicate (1 + leading_zeros nine) 32
+      ++ replicate (16 - (1 + leading_zeros nine)) 48)
+      ≡ (replicate (1 + leading_zeros nine) 32 ++ printed nine three) ++ (48 ∷ 48 ∷ [])
   row_printed =
       let zeros : ℕ = leading_zeros nine in
-      let left : List ℕ = drop zeros nine in
-      let few = zeros_few nine in
       let one : 1 + zeros ≡ suc zeros = omega arith in
-      let count : 16 - suc zeros ≡ length left + (1 + (length three + 2)) =
-      omega (arith, length-drop zeros nine, long, short, few) in
-      let bases : replicate {A = ℕ} (16 - suc zeros) 48
-      ≡ replicate (length left) 48 ++ (48 ∷ (replicate (length three) 48 ++ (48 ∷ 48 ∷ []))) =
-      ap (λ (n : ℕ). replicate n 48) count ∙ (sym (replicate-append-replicate (length left) (1 + (length three + 2)) 48)
-      ∙ ap (λ (t : List ℕ). replicate (length left) 48 ++ t) (sym (replicate-append-replicate 1 (length three + 2) 48)
-      ∙ ap (λ (t : List ℕ). 48 ∷ t) (sym (replicate-append-replicate (length three) 2 48)))) in
-      let row : row_of nine three ≡ replicate (suc zeros) 0 ++ (left ++ (254 ∷ (three ++ (0 ∷ 0 ∷ [])))) =
-      ap (λ (t : List ℕ). 0 ∷ (t ++ (254 ∷ (three ++ (0 ∷ 0 ∷ []))))) (zeros_first nine)
-      ∙ ap (λ (t : List ℕ). 0 ∷ t) (append_assoc (replicate zeros 0) left (254 ∷ (three ++ (0 ∷ 0 ∷ [])))) in
-      let tail : plus (254 ∷ (three ++ (0 ∷ 0 ∷ []))) (48 ∷ (replicate (length three) 48 ++ (48 ∷ 48 ∷ [])))
-      ≡ 46 ∷ (glyphs three ++ (48 ∷ 48 ∷ [])) =
-      ap (λ (t : List ℕ). 46 ∷ t) (plus_digits three (0 ∷ 0 ∷ []) (48 ∷ 48 ∷ []) three_digits) in
-      let added : plus (left ++ (254 ∷ (three ++ (0 ∷ 0 ∷ [])))) (replicate (length left) 48 ++ (48
-      ∷ (replicate (length three) 48 ++ (48 ∷ 48 ∷ [])))) ≡ glyphs left ++ (46 ∷ (glyphs three ++ (48 ∷ 48 ∷ []))) =
-      plus_digits left (254 ∷ (three ++ (0 ∷ 0 ∷ []))) (48 ∷ (replicate (length three) 48 ++ (48 ∷ 48 ∷ [])))
-      (digits_left zeros nine nine_digits) ∙ ap (λ (t : List ℕ). glyphs left ++ t) tail in
-      let shifted : glyphs left ++ (46 ∷ (glyphs three ++ (48 ∷ 48 ∷ []))) ≡ printed nine three ++ (48 ∷ 48 ∷ []) =
-      sym (append_assoc (glyphs left) (46 ∷ glyphs three) (48 ∷ 48 ∷ [])) in
-      let all_bases : replicate {A = ℕ} (1 + zeros) 32 ++ replicate (16 - (1 + zeros)) 48 ≡ replicate (suc zeros) 32
-      ++ (replicate (length left) 48 ++ (48 ∷ (replicate (length three) 48 ++ (48 ∷ 48 ∷ [])))) =
-      ap (λ (n : ℕ). replicate {A = ℕ} n 32 ++ replicate (16 - n) 48) one
-      ∙ ap (λ (t : List ℕ). replicate {A = ℕ} (suc zeros) 32 ++ t) bases in
-      let blanks : plus (replicate (suc zeros) 0 ++ (left ++ (254 ∷ (three ++ (0 ∷ 0 ∷ []))))) (replicate (suc zeros) 32
-      ++ (replicate (length left) 48 ++ (48 ∷ (replicate (length three) 48 ++ (48 ∷ 48 ∷ [])))))
-      ≡ (replicate (suc zeros) 32 ++ printed nine three) ++ (48 ∷ 48 ∷ []) =
-      plus_blanks (suc zeros) (left ++ (254 ∷ (three ++ (0 ∷ 0 ∷ []))))
-      (replicate (length left) 48 ++ (48 ∷ (replicate (length three) 48 ++ (48 ∷ 48 ∷ []))))
-      ∙ (ap (λ (t : List ℕ). replicate (suc zeros) 32 ++ t) (added ∙ shifted)
-      ∙ sym (append_assoc (replicate (suc zeros) 32) (printed nine three) (48 ∷ 48 ∷ []))) in
-      ap (λ (b : List ℕ). plus (row_of nine three) b) all_bases
-      ∙ ap (λ (r : List ℕ). plus r (replicate (suc zeros) 32
-      ++ (replicate (length left) 48 ++ (48 ∷ (replicate (length three) 48 ++ (48 ∷ 48 ∷ [])))))) row
-      ∙ blanks
-      ∙ ap (λ (n : ℕ). (replicate {A = ℕ} n 32 ++ printed nine three) ++ (48 ∷ 48 ∷ [])) (sym one)
+      let count : 16 - suc zeros ≡ length nine + 6 - zeros = omega (arith, long) in
+      let left : List ℕ = glyphs (drop zeros nine) in
+      rw (one, count) (ap (λ (t : List ℕ). 32 ∷ t) (spaced_row three short three_digits nine nine_digits
+      ∙ ap (λ (t : List ℕ). replicate zeros 32 ++ t)
+      (sym (append_assoc left (46 ∷ glyphs three) (48 ∷ 48 ∷ [])))
+      ∙ sym (append_assoc (replicate zeros 32) (printed nine three) (48 ∷ 48 ∷ []))))
 
   pub printed_length : length (printed nine three) ≡ 13 - leading_zeros nine
   printed_length =
@@ -124,7 +118,8 @@ module _ (nine three : List ℕ) (long : length nine ≡ 9)
 -- ---- the digits of a size
 
 abbrev pub nine_of : ℕ → ℕ → ℕ → List ℕ
-nine_of a b c = a / 100 ∷ a / 10 % 10 ∷ a % 10 ∷ b / 100 ∷ b / 10 % 10 ∷ b % 10 ∷ c / 100 ∷ c / 10 % 10 ∷ c % 10 ∷ []
+nine_of a b c = a / 100 ∷ a / 10 % 10 ∷ a % 10 ∷ b / 100 ∷ b / 10 % 10 ∷ b % 10 ∷ c / 100 ∷ c / 10 % 10
+    ∷ c % 10 ∷ []
 
 abbrev pub three_of : ℕ → List ℕ
 three_of d = d / 100 ∷ d / 10 % 10 ∷ d % 10 ∷ []
@@ -140,16 +135,25 @@ group_is_digits g ds small digits =
 group_weighs : (n g : ℕ) → g < 1000 → ((n * 10 + g / 100) * 10 + g / 10 % 10) * 10 + g % 10 ≡ n * 1000 + g
 group_weighs n g small = omega arith
 
-module _ (size : ℕ) (small : size < 10 ^ 12) where
-  pub nine_are_digits : are_digits (nine_of (size / 10 ^ 9) (size / 10 ^ 6 % 1000) (size / 1000 % 1000)) ≡ true
-  nine_are_digits = group_is_digits (size / 10 ^ 9) (three_of (size / 10 ^ 6 % 1000) ++ three_of (size / 1000 % 1000))
-      (omega arith) (group_is_digits (size / 10 ^ 6 % 1000)
-      (three_of (size / 1000 % 1000)) (omega arith) (group_is_digits (size / 1000 % 1000) [] (omega arith) refl))
+-- the digits of a size's thousands, and of the rest
+abbrev pub nine_in : ℕ → List ℕ
+nine_in size = nine_of (size / 10 ^ 9) (size / 10 ^ 6 % 1000) (size / 1000 % 1000)
 
-  pub three_are_digits : are_digits (three_of (size % 1000)) ≡ true
+abbrev pub three_in : ℕ → List ℕ
+three_in size = three_of (size % 1000)
+
+module _ (size : ℕ) (small : size < 10 ^ 12) where
+  nine_are_digits : are_digits (nine_in size) ≡ true
+  nine_are_digits =
+      group_is_digits (size / 10 ^ 9) (three_of (size / 10 ^ 6 % 1000) ++ three_of (size / 1000 % 1000))
+      (omega arith)
+      (group_is_digits (size / 10 ^ 6 % 1000) (three_of (size / 1000 % 1000)) (omega arith)
+      (group_is_digits (size / 1000 % 1000) [] (omega arith) refl))
+
+  three_are_digits : are_digits (three_in size) ≡ true
   three_are_digits = group_is_digits (size % 1000) [] (omega arith) refl
 
-  whole_weighs : written 0 (nine_of (size / 10 ^ 9) (size / 10 ^ 6 % 1000) (size / 1000 % 1000)) ≡ size / 1000
+  whole_weighs : written 0 (nine_in size) ≡ size / 1000
   whole_weighs =
       let first = group_weighs 0 (size / 10 ^ 9) (omega arith) in
       let second = group_weighs (0 * 1000 + size / 10 ^ 9) (size / 10 ^ 6 % 1000) (omega arith) in
@@ -157,28 +161,19 @@ module _ (size : ℕ) (small : size < 10 ^ 12) where
       (size / 1000 % 1000) (omega arith) in
       rw (first, second, third) (omega arith)
 
-  fraction_weighs : written 0 (three_of (size % 1000)) ≡ size % 1000
+  fraction_weighs : written 0 (three_in size) ≡ size % 1000
   fraction_weighs = group_weighs 0 (size % 1000) (omega arith) ∙ omega arith
 
   abbrev pub twelve : List ℕ
-  twelve = nine_of (size / 10 ^ 9) (size / 10 ^ 6 % 1000) (size / 1000 % 1000) ++ three_of (size % 1000)
+  twelve = nine_in size ++ three_in size
 
   twelve_weigh : written 0 twelve ≡ size
-  twelve_weigh =
-      let first = group_weighs 0 (size / 10 ^ 9) (omega arith) in
-      let second = group_weighs (0 * 1000 + size / 10 ^ 9) (size / 10 ^ 6 % 1000) (omega arith) in
-      let third = group_weighs ((0 * 1000 + size / 10 ^ 9) * 1000 + size / 10 ^ 6 % 1000)
-      (size / 1000 % 1000) (omega arith) in
-      let fourth = group_weighs (((0 * 1000 + size / 10 ^ 9) * 1000 + size / 10 ^ 6 % 1000) * 1000 + size / 1000 % 1000)
-      (size % 1000) (omega arith) in
-      rw (first, second, third, fourth) (omega arith)
+  twelve_weigh = group_weighs (written 0 (nine_in size)) (size % 1000) (omega arith)
+      ∙ (rw whole_weighs (omega arith))
 
   twelve_are_digits : are_digits twelve ≡ true
-  twelve_are_digits =
-      group_is_digits (size / 10 ^ 9)
-      (three_of (size / 10 ^ 6 % 1000) ++ (three_of (size / 1000 % 1000) ++ three_of (size % 1000))) (omega arith)
-      (group_is_digits (size / 10 ^ 6 % 1000) (three_of (size / 1000 % 1000) ++ three_of (size % 1000)) (omega arith)
-      (group_is_digits (size / 1000 % 1000) (three_of (size % 1000)) (omega arith) three_are_digits))
+  twelve_are_digits = list_all-append (λ d. ltb d 10) (nine_in size) (three_in size)
+      ∙ (λ k. nine_are_digits k && three_are_digits k)
 
   -- twelve digits, zeros before the number among them
   pub twelve_padded : take 12 (plus (twelve ++ (0 ∷ 0 ∷ 0 ∷ 0 ∷ [])) (replicate 16 48)) ≡ zero_padded 12 size
@@ -188,53 +183,47 @@ module _ (size : ℕ) (small : size < 10 ^ 12) where
       ap (take 12) (plus_digits twelve (0 ∷ 0 ∷ 0 ∷ 0 ∷ []) (48 ∷ 48 ∷ 48 ∷ 48 ∷ []) twelve_are_digits)
       ∙ (sym padded ∙ ap (zero_padded 12) twelve_weigh)
 
-  pub printed_is_size_text : printed
-      (nine_of (size / 10 ^ 9) (size / 10 ^ 6 % 1000) (size / 1000 % 1000)) (three_of (size % 1000)) ≡ size_text 3 size
+  printed_is_size_text : printed (nine_in size) (three_in size) ≡ size_text 3 size
   printed_is_size_text =
-      let fits : written 0 (nine_of (size / 10 ^ 9) (size / 10 ^ 6 % 1000) (size / 1000 % 1000)) < 2 ^ 64 =
-      rw whole_weighs (omega arith) in
-      let fraction_fits : written 0 (three_of (size % 1000)) < 2 ^ 64 = rw fraction_weighs (omega arith) in
-      let whole = decimal_of_digits (size / 10 ^ 9 / 100)
-      (drop 1 (nine_of (size / 10 ^ 9) (size / 10 ^ 6 % 1000) (size / 1000 % 1000))) nine_are_digits fits in
+      let fits : written 0 (nine_in size) < 2 ^ 64 = rw whole_weighs (omega arith) in
+      let fraction_fits : written 0 (three_in size) < 2 ^ 64 = rw fraction_weighs (omega arith) in
+      let whole = decimal_of_digits (size / 10 ^ 9 / 100) (drop 1 (nine_in size)) nine_are_digits fits in
       let fraction = padded_digits (size % 1000 / 100)
-      (drop 1 (three_of (size % 1000))) three_are_digits fraction_fits in
+      (drop 1 (three_in size)) three_are_digits fraction_fits in
       rw (← whole, ← fraction, whole_weighs, fraction_weighs) refl
 
 -- ---- the text in a field
 
 module _ (size start : ℕ) (columns text field : List ℕ) (small : size < 10 ^ 12)
-    (spread_is : columns ≡ row_of (nine_of (size / 10 ^ 9) (size / 10 ^ 6 % 1000) (size / 1000 % 1000))
-    (three_of (size % 1000)))
+    (spread_is : columns ≡ row_of (nine_in size) (three_in size))
     (start_is : start ≡ 1 + leading_zeros (take 9 (drop 1 columns)))
     (text_is : text ≡ plus columns (replicate start 32 ++ replicate (16 - start) 48))
     (field_is : field ≡ take 14 text) where
-  digits_before : start ≡ 1 + leading_zeros (nine_of (size / 10 ^ 9) (size / 10 ^ 6 % 1000) (size / 1000 % 1000))
+  digits_before : start ≡ 1 + leading_zeros (nine_in size)
   digits_before = start_is ∙ ap (λ (l : List ℕ). 1 + leading_zeros (take 9 (drop 1 l))) spread_is
 
   field_text : field ≡ replicate start 32 ++ size_text 3 size
   field_text =
-      let nine : List ℕ = nine_of (size / 10 ^ 9) (size / 10 ^ 6 % 1000) (size / 1000 % 1000) in
-      let three : List ℕ = three_of (size % 1000) in
-      let row = row_printed nine three refl refl (nine_are_digits size small) (three_are_digits size small) in
-      let cut = row_cut nine three refl refl (nine_are_digits size small) (three_are_digits size small) in
+      let nine = nine_in size in
+      let three = three_in size in
       let zeros : ℕ = 1 + leading_zeros nine in
       let text_row : text ≡ (replicate zeros 32 ++ printed nine three) ++ (48 ∷ 48 ∷ []) =
-      text_is ∙ ap (λ (l : List ℕ). plus l (replicate {A = ℕ} start 32 ++ replicate (16 - start) 48)) spread_is
-      ∙ ap (λ (n : ℕ). plus (row_of nine three) (replicate {A = ℕ} n 32 ++ replicate (16 - n) 48)) digits_before
-      ∙ row in
-      field_is ∙ ap (take 14) text_row ∙ cut
+      text_is ∙ ap (λ (l : List ℕ). plus l (replicate {A = ℕ} start 32 ++ replicate (16 - start) 48))
+      spread_is
+      ∙ ap (λ (n : ℕ). plus (row_of nine three) (replicate {A = ℕ} n 32 ++ replicate (16 - n) 48))
+      digits_before
+      ∙ row_printed nine three refl refl (nine_are_digits size small) (three_are_digits size small) in
+      field_is ∙ ap (take 14) text_row
+      ∙ row_cut nine three refl refl (nine_are_digits size small) (three_are_digits size small)
       ∙ ap (λ (t : List ℕ). replicate {A = ℕ} zeros 32 ++ t) (printed_is_size_text size small)
       ∙ ap (λ (n : ℕ). replicate {A = ℕ} n 32 ++ size_text 3 size) (sym digits_before)
 
   pub text_length : start + length (size_text 3 size) ≡ 14
   text_length =
-      let nine : List ℕ = nine_of (size / 10 ^ 9) (size / 10 ^ 6 % 1000) (size / 1000 % 1000) in
-      let three : List ℕ = three_of (size % 1000) in
-      let long = printed_length nine three refl refl (nine_are_digits size small) (three_are_digits size small) in
-      let same : length (size_text 3 size) ≡ length (printed nine three) =
-      ap (λ (t : List ℕ). length t) (sym (printed_is_size_text size small)) in
-      let few = zeros_few nine in
-      omega (arith, same, long, digits_before, few)
+      let long = printed_length (nine_in size) (three_in size) refl refl
+      (nine_are_digits size small) (three_are_digits size small) in
+      let same = ap (λ (t : List ℕ). length t) (printed_is_size_text size small) in
+      omega (arith, same, long, digits_before, zeros_few (nine_in size))
 
   pub text_before : take start field ≡ replicate start 32
   text_before = ap (take start) field_text

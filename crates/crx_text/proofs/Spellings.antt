@@ -1,11 +1,11 @@
 -- The one printed spelling: its parts and how long they are.
-use Rattle.std.proofs.Common.{true, false, ℤ, pos, negsuc, Some, None, set, ◌≡◌, ℕ, suc, ◌+◌, ◌-◌, ◌*◌, ◌/◌, ◌%◌, ◌<◌}
-use Rattle.std.proofs.Common.{◌≤◌, ◌^◌, List, [], ◌∷◌, ◌++◌, length, drop, take, replicate, decimal, arith, refl, ap}
-use Rattle.std.proofs.Common.{sym, ◌∙◌}
+use Rattle.std.proofs.Common.{true, false, ℤ, pos, negsuc, Some, None, set, ◌≡◌, ℕ, suc, ◌+◌, ◌-◌, ◌*◌, ◌/◌}
+use Rattle.std.proofs.Common.{◌%◌, ◌<◌, ◌≤◌, ◌^◌, List, [], ◌∷◌, ◌++◌, length, drop, take, replicate, decimal}
+use Rattle.std.proofs.Common.{arith, refl, ap, sym, ◌∙◌}
 use Rattle.std.proofs.Math.Nat.{div-lt_iff_lt-mul, pow-le-pow_right}
 use Rattle.std.proofs.lemmas.Fmt.{length-decimal-le}
-use Rattle.std.proofs.lemmas.List.{length-append, length-replicate, take-append-drop, take-replicate, append_assoc}
-use Rattle.std.proofs.lemmas.List.{set_at}
+use Rattle.std.proofs.lemmas.List.{length-append, length-replicate, take-append-drop, take-replicate}
+use Rattle.std.proofs.lemmas.List.{append_assoc, set_at}
 use Rattle.std.proofs.lemmas.Grind.{replicate_next}
 use Rattle.std.proofs.lemmas.Nat.{pow-add}
 use Rattle.std.proofs.lemmas.Int.{ints}
@@ -27,7 +27,8 @@ pub fraction_short : (decimals size : ℕ)
 fraction_short decimals size some few =
     let one = ten_pow_pos decimals in
     let below : size % 10 ^ decimals < 10 ^ decimals = omega (arith, one) in
-    length-decimal-le decimals (size % 10 ^ decimals) some below (omega (arith, below, ten_pow_small decimals few))
+    length-decimal-le decimals (size % 10 ^ decimals) some below
+    (omega (arith, below, ten_pow_small decimals few))
 
 pub length-zero_padded : (digits number : ℕ)
     → length (decimal number) ≤ digits → length (zero_padded digits number) ≡ digits
@@ -35,9 +36,11 @@ length-zero_padded digits number fits =
     simp (length-append, length-replicate) (omega arith)
 
 pub length-size_text : (decimals size : ℕ) → 0 < decimals
-    → decimals < 19 → length (size_text decimals size) ≡ length (decimal (size / 10 ^ decimals)) + (decimals + 1)
+    → decimals < 19 → length (size_text decimals size)
+    ≡ length (decimal (size / 10 ^ decimals)) + (decimals + 1)
 length-size_text decimals size some few =
-    let fraction = length-zero_padded decimals (size % 10 ^ decimals) (fraction_short decimals size some few) in
+    let fraction = length-zero_padded decimals (size % 10 ^ decimals)
+    (fraction_short decimals size some few) in
     omega (
       arith,
       length-append (decimal (size / 10 ^ decimals))
@@ -47,7 +50,8 @@ length-size_text decimals size some few =
 
 -- a number below a power of ten fits the columns but for the point
 pub size_text_fits : (decimals size columns : ℕ) → 0 < decimals
-    → decimals + 2 ≤ columns → columns ≤ 19 → size < 10 ^ (columns - 1) → length (size_text decimals size) ≤ columns
+    → decimals + 2 ≤ columns → columns ≤ 19 → size < 10 ^ (columns - 1)
+    → length (size_text decimals size) ≤ columns
 size_text_fits decimals size columns some room few small =
     let digits : ℕ = columns - 1 - decimals in
     let power : 10 ^ (columns - 1) ≡ 10 ^ digits * 10 ^ decimals =
@@ -57,17 +61,20 @@ size_text_fits decimals size columns some room few small =
     let whole : size / 10 ^ decimals < 10 ^ digits =
     (div-lt_iff_lt-mul {k = 10 ^ decimals} {x = size} {y = 10 ^ digits} (ten_pow_pos decimals)).1 below in
     let bound = ten_pow_small digits (omega arith) in
-    let short = length-decimal-le digits (size / 10 ^ decimals) (omega arith) whole (omega (arith, whole, bound)) in
+    let short = length-decimal-le digits (size / 10 ^ decimals) (omega arith) whole
+    (omega (arith, whole, bound)) in
     omega (arith, short, length-size_text decimals size some (omega arith))
 
 -- ---- what the writes leave of a field of blanks
 
 pub printed_plain : (width decimals size start : ℕ) (field : List ℕ)
     → start + length (size_text decimals size) ≡ width → drop start field ≡ size_text decimals size
-    → take start field ≡ take start (replicate width 32) → field ≡ number_text width decimals (Some (pos size))
+    → take start field ≡ take start (replicate width 32)
+    → field ≡ number_text width decimals (Some (pos size))
 unfolding number_text
 printed_plain width decimals size start field end written before =
-    let blanks : take start field ≡ replicate start 32 = before ∙ take-replicate start width 32 (omega arith) in
+    let blanks : take start field ≡ replicate start 32 =
+    before ∙ take-replicate start width 32 (omega arith) in
     let count : start ≡ width - length (size_text decimals size) = omega arith in
     sym (take-append-drop start field)
     ∙ (rw (blanks, written) (ap (λ (n : ℕ). replicate n 32 ++ size_text decimals size) count))
@@ -78,7 +85,8 @@ pub printed_minus : (width decimals less start : ℕ) (field : List ℕ)
     → set field (start - 1) 45 ≡ number_text width decimals (Some (negsuc less))
 unfolding number_text
 printed_minus width decimals less start field some end written before =
-    let blanks : take start field ≡ replicate start 32 = before ∙ take-replicate start width 32 (omega arith) in
+    let blanks : take start field ≡ replicate start 32 =
+    before ∙ take-replicate start width 32 (omega arith) in
     let last : replicate {A = ℕ} start 32 ≡ replicate (start - 1) 32 ++ 32 ∷ [] =
     let sum : start ≡ start - 1 + 1 = omega arith in
     ap (λ (n : ℕ). replicate {A = ℕ} n 32) sum ∙ replicate_next {X = ℕ} (start - 1) 32 in
@@ -108,21 +116,28 @@ abs_within_below width (negsuc n) below within =
     let small : nat_abs (negsuc n) < 10 ^ (width - 2) = omega (arith, ints, within.low) in
     rw (sym same) small
 
-pub printed_number : (width decimals start size : ℕ) (number : ℤ) (field : List ℕ) → lt_z number (pos 0) ≡ false → size
-    ≡ nat_abs number → start + length (size_text decimals size) ≡ width → drop start field ≡ size_text decimals size
-    → take start field ≡ take start (replicate width 32) → field ≡ number_text width decimals (Some number)
-printed_number width decimals start size (pos n) field plain is end written before =
-    printed_plain width decimals n start field (rw is at end) (rw is at written) before
-printed_number width decimals start size (negsuc n) field plain is end written before = absurd (cc)
+-- a number as it is held, and what was printed of its size
+pub printed_number : (width decimals start size : ℕ) (held number : ℤ) (field : List ℕ) → held ≡ number
+    → lt_z held (pos 0) ≡ false → size ≡ nat_abs held → start + length (size_text decimals size) ≡ width
+    → drop start field ≡ size_text decimals size → take start field ≡ take start (replicate width 32)
+    → field ≡ number_text width decimals (Some number)
+printed_number width decimals start size held (pos n) field same plain is end written before =
+    let size_is : size ≡ n = is ∙ ap nat_abs same in
+    printed_plain width decimals n start field (rw size_is at end) (rw size_is at written) before
+printed_number width decimals start size held (negsuc n) field same plain is end written before =
+    let not_below : lt_z (negsuc n) (pos 0) ≡ false =
+    ap (λ z. lt_z z (pos 0)) (sym same) ∙ plain in absurd (cc)
 
-pub printed_number_below : (width decimals start size : ℕ) (number : ℤ) (field : List ℕ)
-    → lt_z number (pos 0) ≡ true → size ≡ nat_abs number → 1 ≤ start → start + length (size_text decimals size) ≡ width
+pub printed_number_below : (width decimals start size : ℕ) (held number : ℤ) (field : List ℕ) → held ≡ number
+    → lt_z held (pos 0) ≡ true → size ≡ nat_abs held → 1 ≤ start
+    → start + length (size_text decimals size) ≡ width
     → drop start field ≡ size_text decimals size → take start field ≡ take start (replicate width 32)
     → set field (start - 1) 45 ≡ number_text width decimals (Some number)
-printed_number_below width decimals start size (pos n) field below is some end written before =
+printed_number_below width decimals start size held (pos n) field same below is some end written before =
+    let is_below : lt_z (pos n) (pos 0) ≡ true = ap (λ z. lt_z z (pos 0)) (sym same) ∙ below in
     absurd (grind (arith, nat_tests))
-printed_number_below width decimals start size (negsuc n) field below is some end written before =
-    let more : size ≡ n + 1 = omega (arith, is) in
+printed_number_below width decimals start size held (negsuc n) field same below is some end written before =
+    let more : size ≡ n + 1 = omega (arith, is ∙ ap nat_abs same) in
     printed_minus width decimals n start field some (rw more at end) (rw more at written) before
 
 pub printed_blank : (width decimals : ℕ) → replicate width 32 ≡ number_text width decimals None

@@ -22,6 +22,7 @@ fn glyphs(digits: u8x16) -> u8x16
 
 /// Puts the first 12 lanes into the columns after the point.
 #[inline(always)]
+#[tactic(auto, using(crate::proofs::ClockTexts::stored_fraction))]
 fn store(text: u8x16, field: &mut [u8])
     requires { length field.old ≡ CLOCK_WIDTH }
     ensures { field.new ≡ take 3 field.old ++ take CLOCK_DECIMALS text }

@@ -87,6 +87,7 @@ pub fn write_cell(buffer: &mut [u8], at: usize, code: Code) -> usize
 
 // Writes a code's text from an index on, and answers the index after it.
 #[inline(always)]
+#[tactic(auto, using(crate::proofs::CodeTexts::code_text_start))]
 fn write_code(buffer: &mut [u8], at: usize, code: Code) -> usize
     requires printable { IsPrintable code }
     requires room { at + length (code_text code) + 3 ≤ length buffer.old }

@@ -23,10 +23,18 @@ pub(crate) fn digits_before_blank(text: &[u8]) -> Option<(u64, usize)>
     ensures next { IfSome result (λ cell. drop cell.1 text.now ≡ after_cell text.now) }
     ensures within { IfSome result (λ cell. (cell.0 < 10 ^ DIGITS_LIMIT) × (cell.1 ≤ length text.now)) }
 {
-    match few_digits_before_blank(text) {
-        Some(cell) => Some(cell),
-        None => digits_before_blank_singly(text),
+    if let Some(cell) = few_digits_before_blank(text) {
+        return Some(cell);
     }
+    // Numbers of seven digits or more, and what is no number, are read digit by digit.
+    let (size, count) = first_digits(text);
+    if count == 0 {
+        return None;
+    }
+    if count > DIGITS_LIMIT {
+        return None;
+    }
+    ended_digits(text, size, count)
 }
 
 // What `digits_before_blank` gives, where at most six digits stand before a blank, or before the text's end; else None, whatever there
@@ -39,27 +47,17 @@ pub(crate) fn few_digits_before_blank(text: &[u8]) -> Option<(u64, usize)>
     ensures next { IfSome result (λ cell. drop cell.1 text.now ≡ after_cell text.now) }
     ensures within { IfSome result (λ cell. (cell.0 < 10 ^ DIGITS_LIMIT) × (cell.1 ≤ length text.now)) }
 {
-    if text.len() < ROW {
-        return digits_of_few(text);
+    if text.len() >= ROW {
+        return digits_in_front(text);
     }
-    digits_in_front(text)
-}
-
-// What `digits_before_blank` gives, read digit by digit: of numbers of seven digits or more, and of what is no number.
-#[inline(always)]
-fn digits_before_blank_singly(text: &[u8]) -> Option<(u64, usize)>
-    ensures value { option_map (λ cell. cell.0) result ≡ counted_digits (first_cell text.now) }
-    ensures next { IfSome result (λ cell. drop cell.1 text.now ≡ after_cell text.now) }
-    ensures within { IfSome result (λ cell. (cell.0 < 10 ^ DIGITS_LIMIT) × (cell.1 ≤ length text.now)) }
-{
-    let (size, count) = first_digits(text);
-    if count == 0 {
+    let mut characters = [0; ROW];
+    copy_text(&mut characters[..text.len()], text);
+    let digits = row_digits(&characters);
+    let count = digits_in_row(digits);
+    if count == 0 || count > FEW {
         return None;
     }
-    if count > DIGITS_LIMIT {
-        return None;
-    }
-    ended_digits(text, size, count)
+    ended_digits(text, row_size(digits, count), count)
 }
 
 // The number of so many first digits, and the index after its blank or of the text's end; None where something else stands
@@ -138,26 +136,9 @@ pub(crate) fn digits_in_front(text: &[u8]) -> Option<(u64, usize)>
     before_blank(text, row_size(digits, count), count)
 }
 
-// What `few_digits_before_blank` gives of fewer characters than a row has, which are copied into one.
-#[inline(always)]
-fn digits_of_few(text: &[u8]) -> Option<(u64, usize)>
-    requires { length text.now < ROW }
-    ensures value { IfSome result (λ cell. counted_digits (first_cell text.now) ≡ Some cell.0) }
-    ensures next { IfSome result (λ cell. drop cell.1 text.now ≡ after_cell text.now) }
-    ensures within { IfSome result (λ cell. (cell.0 < 10 ^ DIGITS_LIMIT) × (cell.1 ≤ length text.now)) }
-{
-    let mut characters = [0; ROW];
-    copy_text(&mut characters[..text.len()], text);
-    let digits = row_digits(&characters);
-    let count = digits_in_row(digits);
-    if count == 0 || count > FEW {
-        return None;
-    }
-    ended_digits(text, row_size(digits, count), count)
-}
-
 // How far the characters of a row are above `0`, and after them bytes 0, which are no digits.
 #[inline(always)]
+#[tactic(auto, using(crate::proofs::DigitRows::lanes_are))]
 fn row_digits(text: &[u8]) -> u8x16
     requires { ROW ≤ length text.now }
     ensures { result ≡ map above_zero (take ROW text.now ++ replicate 8 0) }
@@ -174,6 +155,7 @@ const ENDS: [u8; 16] = [10, 10, 10, 10, 10, 10, 10, 0, 0, 0, 0, 0, 0, 0, 0, 0];
 
 // How many of the first seven lanes come before one that is no digit.
 #[inline(always)]
+#[tactic(auto, using(crate::proofs::DigitRows::end_is))]
 fn digits_in_row(digits: u8x16) -> usize
     ensures { result ≡ prefix_len is_below_ten (take 7 digits) }
 {
@@ -233,6 +215,7 @@ static PAIRS: [u8; 200] =
 // Writes a number from an index on, its minus and digits one after another, and answers the index
 // after it. Up to three bytes after it are written too.
 #[inline(always)]
+#[tactic(auto, using(crate::proofs::DigitPairs::signed_decimal_some))]
 pub(crate) fn write_signed(buffer: &mut [u8], at: usize, number: i64) -> usize
     requires { at + length (signed_decimal number) + 3 ≤ length buffer.old }
     ensures written { take result buffer.new ≡ take at buffer.old ++ signed_decimal number }
@@ -244,6 +227,7 @@ pub(crate) fn write_signed(buffer: &mut [u8], at: usize, number: i64) -> usize
 
 // Writes a number without a sign.
 #[inline(always)]
+#[tactic(auto, using(itoa::proofs::Decimal::length_four, crate::proofs::DigitPairs::four_written))]
 fn write_decimal(buffer: &mut [u8], at: usize, size: u64) -> usize
     requires { at + length (decimal size) + 3 ≤ length buffer.old }
     ensures written { take result buffer.new ≡ take at buffer.old ++ decimal size }
@@ -272,6 +256,7 @@ fn write_front(buffer: &mut [u8], at: usize, size: u64) -> usize
 }
 
 // Writes a number of any count of digits, four at a time, the first ones first: it calls itself for those before the last four.
+#[tactic(auto, using(itoa::proofs::Decimal::length_four, crate::proofs::DigitPairs::four_written))]
 fn write_long(buffer: &mut [u8], at: usize, size: u64) -> usize
     requires { at + length (decimal size) + 3 ≤ length buffer.old }
     ensures written { take result buffer.new ≡ take at buffer.old ++ decimal size }
@@ -290,6 +275,7 @@ fn write_long(buffer: &mut [u8], at: usize, size: u64) -> usize
 // before the number, and it is written by one store. A branch on the count of digits takes 3 to 15 instructions less, but
 // is mispredicted where the count differs from value to value: 7.9 ns a call in place of 4.4 over random numbers.
 #[inline(always)]
+#[tactic(auto, using(std::proofs::lemmas::Fmt::decimal_nonempty))]
 fn write_short(buffer: &mut [u8], at: usize, size: u32) -> usize
     requires small { size < 10000 }
     requires room { at + length (decimal size) + 3 ≤ length buffer.old }

@@ -16,7 +16,7 @@ use std::simd::prelude::*;
 #[inline(always)]
 pub(crate) fn columns(field: &[u8]) -> u8x16
     requires { length field.now ≡ OBSERVATION_WIDTH }
-    ensures { result ≡ field.now ++ slice_index field.now 13 ∷ slice_index field.now 13 ∷ [] }
+    ensures { take OBSERVATION_WIDTH result ≡ field.now }
 {
     let first = u8x8::from_slice(field);
     let last = u8x8::from_slice(&field[6..]);
@@ -30,14 +30,14 @@ pub(crate) fn columns(field: &[u8]) -> u8x16
 #[inline(always)]
 pub(crate) fn columns_of_cell(cell: &[u8]) -> u8x16
     requires { length cell.now ≡ CELL_WIDTH }
-    ensures { result ≡ take OBSERVATION_WIDTH cell.now
-        ++ slice_index cell.now 14 ∷ slice_index cell.now 15 ∷ [] }
+    ensures { take OBSERVATION_WIDTH result ≡ take OBSERVATION_WIDTH cell.now }
 {
     u8x16::from_slice(cell)
 }
 
 /// Whether every column is blank.
 #[inline(always)]
+#[tactic(auto, using(crate::proofs::LaneBits::each_of_field))]
 pub(crate) fn is_blank(columns: u8x16) -> bool
     ensures { result ≡ list_all (λ c. c == 32) (take OBSERVATION_WIDTH columns) }
 {
@@ -46,6 +46,7 @@ pub(crate) fn is_blank(columns: u8x16) -> bool
 
 /// Whether a column has a minus.
 #[inline(always)]
+#[tactic(auto, using(crate::proofs::LaneBits::some_of_field))]
 fn has_minus(columns: u8x16) -> bool
     ensures { result ≡ list_any (λ c. c == 45) (take OBSERVATION_WIDTH columns) }
 {
@@ -107,6 +108,7 @@ pub(crate) fn of_groups(groups: u32x4) -> u64
 
 /// The number in plain columns.
 #[inline(always)]
+#[tactic(auto, using(crate::proofs::PlainSizes::plain_size_is_small))]
 pub(crate) fn value(columns: u8x16) -> i64
     requires { IsPlain columns }
     ensures value { result ≡ signed_number

@@ -23,6 +23,7 @@ pub(crate) fn groups(size: u64) -> u32x4
 /// Two numbers beside each other. The zeros tell the compiler that each is small, so that their products are one instruction, and not
 /// four.
 #[inline(always)]
+#[tactic(auto, using(crate::proofs::GroupHalves::wide_are))]
 fn beside(first: u32, second: u32) -> u64x2
     ensures { result ≡ first ∷ second ∷ [] }
 {
@@ -31,6 +32,7 @@ fn beside(first: u32, second: u32) -> u64x2
 
 /// Each half's rest by 1000, and its thousands in the upper 32 bits.
 #[inline(always)]
+#[tactic(auto, using(crate::proofs::GroupHalves::halves_are))]
 fn halves(halves: u64x2) -> u64x2
     requires { Each1 (λ half. half < 10 ^ 6) halves }
     ensures { result ≡ map (λ half. half % 1000 + half / 1000 * 2 ^ 32) halves }
@@ -42,6 +44,7 @@ fn halves(halves: u64x2) -> u64x2
 /// Each group's three digits, the last one first, and a 0: a group, its tenth and its hundredth, which one product turns into digits,
 /// so that no division is made. The mask tells the compiler that all factors are small, for which it has a product that is faster.
 #[inline(always)]
+#[tactic(auto, using(crate::proofs::PrintedLanes::digits_of_words))]
 pub(crate) fn digits(groups: u32x4) -> u8x16
     requires { Each1 (λ group. group < 1000) groups }
     ensures { result ≡ group_digits groups }
@@ -69,6 +72,7 @@ const LEAST: [u8; 16] = [1, 1, 1, 1, 1, 1, 1, 1, 1, 0, 1, 1, 1, 1, 1, 1];
 
 /// The index of the column where the number begins.
 #[inline(always)]
+#[tactic(auto, using(crate::proofs::PrintedLanes::begin_is))]
 fn first_digit(columns: u8x16) -> usize
     requires { slice_index columns 0 ≡ 0 }
     ensures { result ≡ 1 + leading_zeros (take 9 (drop 1 columns)) }
@@ -87,6 +91,7 @@ const BASES: [u8; 32] = [
 
 /// The text of digits in their columns, blanks in those before the number begins.
 #[inline(always)]
+#[tactic(auto, using(crate::proofs::PrintedLanes::base_row))]
 fn glyphs(columns: u8x16, start: usize) -> u8x16
     requires { start ≤ 9 }
     ensures { result ≡ zip2 (λ digit base. (digit + base) % 256) columns
@@ -95,35 +100,9 @@ fn glyphs(columns: u8x16, start: usize) -> u8x16
     columns + u8x16::from_slice(&BASES[16 - start..])
 }
 
-/// Puts the first 14 lanes into a field.
-#[inline(always)]
-fn store(text: u8x16, field: &mut [u8])
-    requires { length field.old ≡ OBSERVATION_WIDTH }
-    ensures { field.new ≡ take OBSERVATION_WIDTH text }
-{
-    text.extract::<0, 8>().copy_to_slice(field);
-    text.extract::<6, 8>().copy_to_slice(&mut field[6..]);
-}
-
-/// Prints a size right justified into the columns of an observation, with blanks before it, and
-/// answers the index where it begins.
-#[inline(always)]
-pub(crate) fn size_print_by_lanes(size: u64, field: &mut [u8]) -> usize
-    requires short { size < 10 ^ 12 }
-    requires width { length field.old ≡ OBSERVATION_WIDTH }
-    ensures start { result + length (size_text OBSERVATION_DECIMALS size) ≡ OBSERVATION_WIDTH }
-    ensures room { 1 ≤ result }
-    ensures written { drop result field.new ≡ size_text OBSERVATION_DECIMALS size }
-    ensures before { take result field.new ≡ replicate result 32 }
-{
-    let columns = columns(digits(groups(size)));
-    let start = first_digit(columns);
-    store(glyphs(columns, start), field);
-    start
-}
-
 /// Puts all lanes into a cell.
 #[inline(always)]
+#[tactic(auto, using(std::proofs::lemmas::Simd::put_chunk_whole))]
 fn store_cell(text: u8x16, cell: &mut [u8])
     requires { length cell.old ≡ CELL_WIDTH }
     ensures { cell.new ≡ text }
@@ -131,9 +110,10 @@ fn store_cell(text: u8x16, cell: &mut [u8])
     text.copy_to_slice(cell);
 }
 
-/// Prints a size as [`size_print_by_lanes`] does, into the first columns of a cell; the two columns of its indicators are overwritten.
+/// Prints a size right justified into the first columns of a cell, with blanks before it, and answers the index where it begins. The two
+/// columns of the cell's indicators are overwritten.
 #[inline(always)]
-pub(crate) fn size_print_in_cell(size: u64, cell: &mut [u8]) -> usize
+pub(crate) fn size_print(size: u64, cell: &mut [u8]) -> usize
     requires short { size < 10 ^ 12 }
     requires width { length cell.old ≡ CELL_WIDTH }
     ensures start { result + length (size_text OBSERVATION_DECIMALS size) ≡ OBSERVATION_WIDTH }

@@ -25,5 +25,5 @@ pub use crx_lines::{
 };
 pub use number::{
     BadField, clock_print, clock_read, obs_print, obs_print_cell, obs_print_cell_into, obs_read,
-    obs_read_into, obs_read_usual,
+    obs_read_into,
 };

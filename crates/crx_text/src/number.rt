@@ -12,8 +12,7 @@ ghost use Rattle.crx_text.specs.meaning.Numbers.{IsWithin, number_of, observatio
 ghost use Rattle.crx_text.specs.Numbers.{IsObservation, IsClock};
 
 use crate::digits::{WIDEST, digits_read, signed, split_minus};
-use crate::field_text::{size_print_by_lanes, size_print_in_cell};
-use crate::{clock_field, clock_text, field};
+use crate::{clock_field, clock_text, field, field_text};
 use crx_columns::columns::trim_start;
 use crx_columns::text::Text;
 use crx_faults::limits::{
@@ -35,29 +34,17 @@ pub fn obs_read(field: &[u8]) -> Result<Option<i64>, BadField>
     ensures value { result_ok result ≡ observation_of field.now }
     ensures in_range { IfOk result (λ value. IfSome value IsObservation) }
 {
-    match obs_read_usual(field) {
-        Some(value) => Ok(value),
-        None => obs_read_any(field),
-    }
-}
-
-/// Reads an observation in the spellings that files have, as [`obs_read`] does. `None` comes for every
-/// other text, also for one that `obs_read` takes.
-#[inline(always)]
-pub fn obs_read_usual(field: &[u8]) -> Option<Option<i64>>
-    ensures value { IfSome result (λ value. observation_of field.now ≡ Some value) }
-    ensures in_range { IfSome result (λ value. IfSome value IsObservation) }
-{
     let mut value = None;
     if field.len() == OBSERVATION_WIDTH && obs_read_into(field, &mut value) {
-        return Some(value);
+        return Ok(value);
     }
-    None
+    number_read(field, OBSERVATION_WIDTH, OBSERVATION_DECIMALS)
 }
 
-/// Reads an observation as [`obs_read_usual`] does, out of its field or out of a whole cell, the field with two indicators after it,
-/// into a place; `false` comes where that gives `None`, and then the place stays as it was. A result that holds a value beside a mark of
-/// its own is set to zero before each call, and copied after it. Few fields are blank, so that is tested last.
+/// Reads an observation in the spellings that files have, as [`obs_read`] does, out of its field or out of a whole cell, the field with
+/// two indicators after it, into a place. `false` comes for every other text, also for one that `obs_read` takes, and then the place stays
+/// as it was. A result that holds a value beside a mark of its own is set to zero before each call, and copied after it. Few fields are
+/// blank, so that is tested last.
 #[inline(always)]
 pub fn obs_read_into(text: &[u8], value: &mut Option<i64>) -> bool
     ensures value { OnTrue result (observation_of (take OBSERVATION_WIDTH text.now) ≡ Some value.new) }
@@ -80,15 +67,6 @@ pub fn obs_read_into(text: &[u8], value: &mut Option<i64>) -> bool
     false
 }
 
-// Reads an observation in the general form, column by column.
-#[inline(never)]
-fn obs_read_any(field: &[u8]) -> Result<Option<i64>, BadField>
-    ensures value { result_ok result ≡ observation_of field.now }
-    ensures in_range { IfOk result (λ value. IfSome value IsObservation) }
-{
-    number_read(field, OBSERVATION_WIDTH, OBSERVATION_DECIMALS)
-}
-
 /// Prints an observation, in thousandths, right justified into 14 columns; `None` is printed as
 /// blanks.
 #[inline(always)]
@@ -96,29 +74,9 @@ pub fn obs_print(value: Option<i64>, field: &mut [u8; OBSERVATION_WIDTH])
     requires { ForSome value IsObservation }
     ensures written { field.new ≡ observation_text value }
 {
-    obs_print_into(value, field)
-}
-
-/// Prints an observation as [`obs_print`] does, into 14 columns of a longer text.
-#[inline(always)]
-pub(crate) fn obs_print_into(value: Option<i64>, columns: &mut [u8])
-    requires width { length columns.old ≡ OBSERVATION_WIDTH }
-    requires in_range { ForSome value IsObservation }
-    ensures { columns.new ≡ observation_text value }
-{
-    let Some(number) = value else {
-        columns.copy_from_slice(&[b' '; OBSERVATION_WIDTH]);
-        return;
-    };
-    let size = number.unsigned_abs();
-    if size >= SHORT_SIZE {
-        number_print(value, OBSERVATION_DECIMALS, columns);
-        return;
-    }
-    let start = size_print_by_lanes(size, columns);
-    if number < 0 {
-        columns[start - 1] = b'-';
-    }
+    let mut cell = [b' '; CELL_WIDTH];
+    obs_print_row(value, &mut cell);
+    field.copy_from_slice(&cell[..OBSERVATION_WIDTH]);
 }
 
 /// Appends an observation's cell to a text: the columns that [`obs_print`] prints, and its two
@@ -157,7 +115,7 @@ pub fn obs_print_cell_into(
     bytes[end + 1] = strength;
 }
 
-// Prints an observation as `obs_print` does, into the first columns of a cell, by one store of the whole cell.
+// Prints an observation into the first columns of a cell, by one store of the whole cell.
 #[inline(always)]
 fn obs_print_row(value: Option<i64>, cell: &mut [u8])
     requires width { length cell.old ≡ CELL_WIDTH }
@@ -173,7 +131,7 @@ fn obs_print_row(value: Option<i64>, cell: &mut [u8])
         number_print(value, OBSERVATION_DECIMALS, &mut cell[0..OBSERVATION_WIDTH]);
         return;
     }
-    let start = size_print_in_cell(size, cell);
+    let start = field_text::size_print(size, cell);
     if number < 0 {
         cell[start - 1] = b'-';
     }
@@ -188,9 +146,6 @@ fn is_short(size: u64) -> bool
 {
     ((size / 1_000_000) as u32) < 1_000_000
 }
-
-// A size below it has no digit in the first column of an observation.
-const SHORT_SIZE: u64 = 1_000_000_000_000;
 
 /// Reads a receiver clock offset of 15 columns, in units of 10^-12 seconds; a blank field is
 /// `None`, no offset. The spellings are those of [`obs_read`] with 12 digits after the point.
@@ -207,15 +162,6 @@ pub fn clock_read(field: &[u8]) -> Result<Option<i64>, BadField>
             return Ok(Some(number));
         }
     }
-    clock_read_any(field)
-}
-
-// Reads a receiver clock offset in the general form, column by column.
-#[inline(never)]
-fn clock_read_any(field: &[u8]) -> Result<Option<i64>, BadField>
-    ensures value { result_ok result ≡ clock_of field.now }
-    ensures in_range { IfOk result (λ value. IfSome value IsClock) }
-{
     number_read(field, CLOCK_WIDTH, CLOCK_DECIMALS)
 }
 
@@ -225,28 +171,18 @@ pub fn clock_print(value: Option<i64>, field: &mut [u8; CLOCK_WIDTH])
     requires { ForSome value IsClock }
     ensures written { field.new ≡ clock_text value }
 {
-    clock_print_into(value, field)
-}
-
-// Prints a receiver clock offset into 15 columns.
-#[inline(always)]
-fn clock_print_into(value: Option<i64>, columns: &mut [u8])
-    requires width { length columns.old ≡ CLOCK_WIDTH }
-    requires in_range { ForSome value IsClock }
-    ensures { columns.new ≡ clock_text value }
-{
     let Some(number) = value else {
-        columns.copy_from_slice(&[b' '; CLOCK_WIDTH]);
+        field.copy_from_slice(&[b' '; CLOCK_WIDTH]);
         return;
     };
     let size = number.unsigned_abs();
     if size >= SHORT_CLOCK {
-        number_print(value, CLOCK_DECIMALS, columns);
+        number_print(value, CLOCK_DECIMALS, field);
         return;
     }
-    clock_text::size_print(size, columns);
+    clock_text::size_print(size, field);
     if number < 0 {
-        columns[0] = b'-';
+        field[0] = b'-';
     }
 }
 
@@ -265,6 +201,9 @@ pub fn clock_is_read_back(value: Option<i64>)
     ensures reads_back { clock_of (clock_text value) ≡ Some value }
 {}
 
+// Reads a number of so many columns, column by column.
+#[inline(never)]
+#[tactic(auto, using(crate::proofs::Sizes::number_of_other_width))]
 fn number_read(field: &[u8], width: usize, decimals: usize) -> Result<Option<i64>, BadField>
     requires { width ≤ WIDEST }
     ensures value { result_ok result ≡ number_of width decimals field.now }
@@ -295,6 +234,7 @@ fn decimal_read(text: &[u8], decimals: usize) -> Option<i64>
 }
 
 // A number without a sign, as all of its digits write it; None where the text spells none.
+#[tactic(auto, using(crate::proofs::Sizes::size_of_short, crate::proofs::Sizes::size_of_pointless))]
 fn size_read(text: &[u8], decimals: usize) -> Option<u64>
     requires { length text.now ≤ WIDEST }
     ensures value { result ≡ size_of decimals text.now }
@@ -311,6 +251,7 @@ fn size_read(text: &[u8], decimals: usize) -> Option<u64>
     digits_read(whole, &text[point + 1..])
 }
 
+// Prints a number right justified, digit by digit.
 #[inline(never)]
 fn number_print(value: Option<i64>, decimals: usize, field: &mut [u8])
     requires shape { (0 < decimals) × (decimals + 3 ≤ length field.old) × (length field.old ≤ WIDEST) }
@@ -327,6 +268,7 @@ fn number_print(value: Option<i64>, decimals: usize, field: &mut [u8])
 }
 
 // Prints a number without its sign up to the last column, and answers the index where it begins.
+#[tactic(auto, using(crate::proofs::PowersOfTen::ten_pow_pos))]
 fn size_print(size: u64, decimals: usize, field: &mut [u8]) -> usize
     requires decimals { (0 < decimals) × (decimals < WIDEST) }
     requires room { length (size_text decimals size) ≤ length field.old }

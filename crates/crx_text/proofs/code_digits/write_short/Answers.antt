@@ -1,12 +1,6 @@
 use Rattle.std.proofs.Common.{rules, ◌<◌, ◌^◌, ◌+◌, ◌++◌, ◌-◌, ◌≡◌, ℕ, List, take, drop, ap, ◌∙◌, arith}
-use Rattle.std.proofs.lemmas.Fmt.{decimal_nonempty}
 use Rattle.crx_text.proofs.DigitPairs.{bytes_shifted, digits_last, first_written}
 use Rattle.crx_text.proofs.code_digits.write_short.Goals as goal
-
-pub write_word-requires : goal.write_word-requires
-write_word-requires c =
-    let some = decimal_nonempty c.args.size (omega (arith, c.requires.small)) in
-    omega (arith, some, c.requires.room)
 
 pub returns-clause-written : goal.returns-clause-written
 returns-clause-written c =

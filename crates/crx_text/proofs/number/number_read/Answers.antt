@@ -5,13 +5,9 @@ use Rattle.std.specs.Option.{option_map}
 use mir.Val.{SFits}
 use Rattle.crx_columns.specs.meaning.Columns.{without_first_blanks}
 use Rattle.crx_text.specs.meaning.Numbers.{missing_or_number}
-use Rattle.crx_text.proofs.Sizes.{IsWithin_more, number_of_other_width, number_of_width, missing_or_number_blank}
-use Rattle.crx_text.proofs.Sizes.{missing_or_number_text}
+use Rattle.crx_text.proofs.Sizes.{IsWithin_more, number_of_width}
+use Rattle.crx_text.proofs.Sizes.{missing_or_number_blank, missing_or_number_text}
 use Rattle.crx_text.proofs.number.number_read.Goals as goal
-
-pub returns-then-field-width-clause-value : goal.returns-then-field-width-clause-value
-returns-then-field-width-clause-value c =
-    sym (number_of_other_width c.args.width c.args.decimals c.args.field.now c.if-field-width.true)
 
 pub returns-then-is_empty-clause-value : goal.returns-then-is_empty-clause-value
 returns-then-is_empty-clause-value c =
@@ -29,7 +25,8 @@ returns-in-Some-clause-value c =
     let reads : missing_or_number c.args.decimals (without_first_blanks c.args.field.now)
     ≡ Some (Some c.in-Some.number) =
     ap (missing_or_number c.args.decimals) (sym c.trim_start-text.ensures.value)
-    ∙ (missing_or_number_text c.args.decimals text some ∙ ap (option_map Some) (sym c.in-Some.ensures.value)) in
+    ∙ (missing_or_number_text c.args.decimals text some ∙ ap (option_map Some) (sym c.in-Some.ensures.value))
+    in
     let fits : SFits w64 c.in-Some.number = search rules in
     rw (to_z-of_z w64 c.in-Some.number fits)
     (sym (number_of_width c.args.width c.args.decimals c.args.field.now c.if-field-width.false ∙ reads))
@@ -48,5 +45,6 @@ returns-in-None-clause-value c =
     let some : 0 < length text = grind (arith, nat_tests) in
     let nothing : missing_or_number c.args.decimals (without_first_blanks c.args.field.now) ≡ None =
     ap (missing_or_number c.args.decimals) (sym c.trim_start-text.ensures.value)
-    ∙ (missing_or_number_text c.args.decimals text some ∙ ap (option_map Some) (sym c.in-None.ensures.value)) in
+    ∙ (missing_or_number_text c.args.decimals text some ∙ ap (option_map Some) (sym c.in-None.ensures.value))
+    in
     sym (number_of_width c.args.width c.args.decimals c.args.field.now c.if-field-width.false ∙ nothing)

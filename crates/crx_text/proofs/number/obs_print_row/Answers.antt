@@ -1,10 +1,8 @@
-use Rattle.std.proofs.Common.{◌≡◌, ◌≤◌, ◌-◌, ℕ, zero, suc, List, [], ◌∷◌, length, pos, take, set, replicate}
-use Rattle.std.proofs.Common.{true, false, Some, w64, arith, rules, refl, sym, ap, ◌∙◌}
+use Rattle.std.proofs.Common.{◌≡◌, ◌≤◌, ◌-◌, ℕ, zero, suc, List, [], ◌∷◌, length, take, set, Some, w64, arith}
+use Rattle.std.proofs.Common.{rules, refl, sym, ap, ◌∙◌}
 use Rattle.std.proofs.lemmas.Int.{to_z-of_z}
 use Rattle.std.proofs.lemmas.List.{take-replicate, length-take-le, take-append-le, take_all}
 use lib.IntN.{nat_abs}
-use lib.Signed.{lt_z}
-use mir.Val.{SFits}
 use Rattle.crx_text.specs.meaning.Numbers.{number_text}
 use Rattle.crx_text.proofs.Spellings.{printed_number, printed_number_below, printed_blank, abs_within}
 use Rattle.crx_text.proofs.number.obs_print_row.Goals as goal
@@ -18,9 +16,8 @@ put_in_front (suc n) (y ∷ ys) (suc i) x = ap (λ (t : List ℕ). y ∷ t) (put
 pub is_short-requires : goal.is_short-requires
 is_short-requires c =
     let number = c.in-Some.number in
-    let fits : SFits w64 number = search rules in
     let size_is : c.unsigned_abs-size.result ≡ nat_abs number =
-    rw (to_z-of_z w64 number fits) at c.unsigned_abs-size.ensures.value in
+    c.unsigned_abs-size.ensures.value ∙ ap nat_abs (to_z-of_z w64 number (search rules)) in
     rw size_is (abs_within 14 number (c.requires.in_range number c.in-Some.is))
 
 pub returns-then-not-is_short : goal.returns-then-not-is_short
@@ -36,35 +33,25 @@ returns-then-not-is_short c =
 pub returns-then-number-lt0 : goal.returns-then-number-lt0
 returns-then-number-lt0 c =
     let number = c.in-Some.number in
-    let printed = c.size_print_in_cell-start in
+    let printed = c.size_print-start in
     let start : ℕ = printed.result in
-    let cell = printed.new.cell in
-    let fits : SFits w64 number = search rules in
-    let size_is : c.unsigned_abs-size.result ≡ nat_abs number =
-    rw (to_z-of_z w64 number fits) at c.unsigned_abs-size.ensures.value in
-    let below : lt_z number (pos 0) ≡ true = rw (to_z-of_z w64 number fits) at c.if-number-lt0.true in
-    let room : start ≤ 14 = omega (arith, printed.ensures.start) in
-    let before : take start (take 14 cell) ≡ take start (replicate 14 32) =
-    printed.ensures.before ∙ sym (take-replicate start 14 32 room) in
-    rw c.in-Some.is (put_in_front 14 cell (start - 1) 45
-    ∙ printed_number_below 14 3 start c.unsigned_abs-size.result
-    number (take 14 cell) below size_is printed.ensures.room printed.ensures.start printed.ensures.written before)
+    let held = to_z-of_z w64 number (search rules) in
+    let blanks = take-replicate start 14 32 (omega (arith, printed.ensures.start)) in
+    rw c.in-Some.is (put_in_front 14 printed.new.cell (start - 1) 45
+    ∙ printed_number_below 14 3 start c.unsigned_abs-size.result _ number (take 14 printed.new.cell)
+    held c.if-number-lt0.true c.unsigned_abs-size.ensures.value
+    printed.ensures.room printed.ensures.start printed.ensures.written (printed.ensures.before ∙ sym blanks))
 
 pub returns-else-number-lt0 : goal.returns-else-number-lt0
 returns-else-number-lt0 c =
     let number = c.in-Some.number in
-    let printed = c.size_print_in_cell-start in
+    let printed = c.size_print-start in
     let start : ℕ = printed.result in
-    let cell = printed.new.cell in
-    let fits : SFits w64 number = search rules in
-    let size_is : c.unsigned_abs-size.result ≡ nat_abs number =
-    rw (to_z-of_z w64 number fits) at c.unsigned_abs-size.ensures.value in
-    let plain : lt_z number (pos 0) ≡ false = rw (to_z-of_z w64 number fits) at c.if-number-lt0.false in
-    let room : start ≤ 14 = omega (arith, printed.ensures.start) in
-    let before : take start (take 14 cell) ≡ take start (replicate 14 32) =
-    printed.ensures.before ∙ sym (take-replicate start 14 32 room) in
-    rw c.in-Some.is (printed_number 14 3 start c.unsigned_abs-size.result number (take 14 cell)
-    plain size_is printed.ensures.start printed.ensures.written before)
+    let held = to_z-of_z w64 number (search rules) in
+    let blanks = take-replicate start 14 32 (omega (arith, printed.ensures.start)) in
+    rw c.in-Some.is (printed_number 14 3 start c.unsigned_abs-size.result _ number (take 14 printed.new.cell)
+    held c.if-number-lt0.false c.unsigned_abs-size.ensures.value
+    printed.ensures.start printed.ensures.written (printed.ensures.before ∙ sym blanks))
 
 pub returns-in_default : goal.returns-in_default
 returns-in_default c = rw c.in_default.is (ap (take 14) c.copy_from_slice.ensures.after ∙ printed_blank 14 3)

@@ -1,21 +1,15 @@
 use Rattle.std.proofs.Common.{◌+◌, ◌-◌, ◌%◌, ◌≤◌, length, drop, ℕ, decimal, arith}
 use Rattle.std.proofs.lemmas.List.{length-take, length-drop, length-append}
-use Rattle.crx_text.proofs.PowersOfTen.{ten_pow_pos}
 use Rattle.crx_text.proofs.Spellings.{fraction_short, length-size_text}
 use Rattle.crx_text.proofs.number.size_print.Goals as goal
-
-pub nonzero_rem-size : goal.nonzero_rem-size
-nonzero_rem-size c = omega (arith, c.pow-unit.ensures, ten_pow_pos c.args.decimals)
-
-pub nonzero_div-size : goal.nonzero_div-size
-nonzero_div-size c = omega (arith, c.pow-unit.ensures, ten_pow_pos c.args.decimals)
 
 pub padded_print-requires : goal.padded_print-requires
 padded_print-requires c =
     let n = length c.args.field.now in
     let from : ℕ = n - c.args.decimals - 1 + 1 in
     let short : length (decimal (c.args.size % c.pow-unit.result)) ≤ c.args.decimals =
-    rw c.pow-unit.ensures (fraction_short c.args.decimals c.args.size c.requires.decimals.0 c.requires.decimals.1) in
+    rw c.pow-unit.ensures
+    (fraction_short c.args.decimals c.args.size c.requires.decimals.0 c.requires.decimals.1) in
     omega (
       arith,
       short,

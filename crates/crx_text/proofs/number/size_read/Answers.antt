@@ -4,16 +4,8 @@ use Rattle.std.proofs.lemmas.Option.{IfSome_then}
 use Rattle.std.specs.Str.{all_ascii_digits}
 use Rattle.std.specs.Str.Parse.{digits_value_after}
 use Rattle.crx_text.proofs.PowersOfTen.{more_digits_fit}
-use Rattle.crx_text.proofs.Sizes.{size_of_short, size_of_pointless, size_of_parts, neither, first_passed}
+use Rattle.crx_text.proofs.Sizes.{size_of_parts, neither, first_passed}
 use Rattle.crx_text.proofs.number.size_read.Goals as goal
-
-pub returns-then-text-decimals-clause-value : goal.returns-then-text-decimals-clause-value
-returns-then-text-decimals-clause-value c = sym (size_of_short c.args.decimals c.args.text.now c.if-text-decimals.true)
-
-pub returns-then-text-point-ne46-clause-value : goal.returns-then-text-point-ne46-clause-value
-returns-then-text-point-ne46-clause-value c =
-    sym (size_of_pointless c.args.decimals (length c.args.text.now - c.args.decimals - 1) c.args.text.now
-    (omega arith) c.if-text-decimals.false c.if-text-point-ne46.true)
 
 pub digits_read-requires : goal.digits_read-requires
 digits_read-requires c =
@@ -36,7 +28,8 @@ digits_read-requires-2 c =
     let text = c.args.text.now in
     let point : ℕ = length text - c.args.decimals - 1 in
     let fraction = take (length text - (point + 1)) (drop (point + 1) text) in
-    more_digits_fit c.in_ok-whole.whole (length (take point text)) (length fraction) 18 c.in_ok-whole.ensures.fits
+    more_digits_fit c.in_ok-whole.whole (length (take point text))
+    (length fraction) 18 c.in_ok-whole.ensures.fits
     (omega (
       arith,
       c.requires,
@@ -55,7 +48,8 @@ returns-clause-value c =
     let rest : take (length text - (point + 1)) (drop (point + 1) text) ≡ drop (point + 1) text =
     take_rest text (point + 1) in
     let passed = first_passed (all_ascii_digits (take point text))
-    (all_ascii_digits (drop (point + 1) text)) _ _ (λ (n : ℕ). digits_value_after 10 n (drop (point + 1) text))
+    (all_ascii_digits (drop (point + 1) text)) _ _
+    (λ (n : ℕ). digits_value_after 10 n (drop (point + 1) text))
     (sym c.in_ok-whole.was ∙ c.digits_read.ensures.value) in
     (rw rest at c.digits_read-2.ensures.value) ∙ sym (parts ∙ passed)
 

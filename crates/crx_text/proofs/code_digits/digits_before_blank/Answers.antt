@@ -1,7 +1,7 @@
 use Rattle.std.proofs.Common.{ℕ, get_or, ap, sym, ◌∙◌, arith}
 use Rattle.std.specs.Char.{is_ascii_digit}
 use Rattle.crx_text.proofs.CellNumbers.{no_first_digit}
-use Rattle.crx_text.proofs.code_digits.digits_before_blank_singly.Goals as goal
+use Rattle.crx_text.proofs.code_digits.digits_before_blank.Goals as goal
 
 pub returns-then-count-eq0-clause-value : goal.returns-then-count-eq0-clause-value
 returns-then-count-eq0-clause-value c =
