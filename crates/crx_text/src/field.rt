@@ -95,6 +95,7 @@ fn size(columns: u8x16) -> u64
 /// The number whose digits stand in four groups of three, the first ones first. The groups are joined two at a time, in lanes of 64 bits,
 /// whose products are the fastest ones.
 #[inline(always)]
+#[tactic(auto, using(crate::proofs::PlainSizes::pairs_are))]
 pub(crate) fn of_groups(groups: u32x4) -> u64
     requires { Each1 (λ group. group < 2 ^ 16) groups }
     ensures { result ≡ ((slice_index groups 0 * 1000 + slice_index groups 1) * 1000 + slice_index groups 2)
