@@ -7,9 +7,11 @@ pub mod feed;
 pub mod line;
 pub mod phase;
 mod seek;
+pub mod uninterrupted;
 mod window;
 pub mod write;
 
 pub use device::{ReadFailed, Sink, Source, Std, WriteFailed, open_file};
 pub use line::{Line, LineReader};
+pub use uninterrupted::Uninterrupted;
 pub use write::write_all_counted;

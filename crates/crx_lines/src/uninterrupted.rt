@@ -1,0 +1,92 @@
+//! Calls that are made again where a signal interrupted them.
+ghost use Rattle.std.specs.Prelude.{◌≡◌, ◌≢◌, IfErr};
+ghost use Rattle.std.specs.Io.{ReadsAtMost, WritesAtMost};
+ghost use Rattle.std.specs.Io.KnownBytes.{Keeps, ReadConsumes, WriteAppends};
+ghost use Rattle.std.specs.IoError.{error_kind};
+
+use std::io;
+use std::io::{ErrorKind, Read, Write};
+
+/// How often a call is made that a signal interrupts each time. So each call returns.
+const MOST_CALLS: u64 = u64::MAX;
+
+/// A reader or a writer of std that hands on no interruption: a read, a write or a flush that a signal interrupted
+/// is made again, until it is done or fails. An interrupted call gave or took no byte.
+///
+/// A device counts each error as a failure, so the program's streams and files are below this type.
+#[derive(Drop)]
+pub struct Uninterrupted<D> {
+    inner: D,
+}
+
+impl<D> Uninterrupted<D> {
+    /// The reader or writer, whose interrupted calls are made again.
+    pub fn new(inner: D) -> Uninterrupted<D>
+        ensures inner { result.inner ≡ inner }
+    {
+        Uninterrupted { inner }
+    }
+
+    /// The reader or writer itself.
+    pub fn into_inner(self) -> D
+        ensures inner { result ≡ self.inner }
+    {
+        self.inner
+    }
+}
+
+/// The error of a call that was interrupted each time.
+fn gave_up() -> io::Error
+    ensures kind { error_kind result ≡ ErrorKind.TimedOut }
+{
+    ErrorKind::TimedOut.into()
+}
+
+impl<D: Read> Read for Uninterrupted<D> {
+    ghost remaining = { λ s. D.remaining s.inner };
+
+    fn read(&mut self, buf: &mut [u8]) -> io::Result<usize>
+        ensures bound { ReadsAtMost result buf.new }
+        ensures bytes { ReadConsumes (D.remaining self.old.inner) (D.remaining self.new.inner) result buf.new }
+        ensures uninterrupted { IfErr result (λ e. error_kind e ≢ ErrorKind.Interrupted) }
+    {
+        for _ in 0..MOST_CALLS {
+            match self.inner.read(buf) {
+                Err(error) if error.kind() == ErrorKind::Interrupted => {}
+                answer => return answer,
+            }
+        }
+        Err(gave_up())
+    }
+}
+
+impl<D: Write> Write for Uninterrupted<D> {
+    ghost contents = { λ s. D.contents s.inner };
+
+    fn write(&mut self, buf: &[u8]) -> io::Result<usize>
+        ensures bound { WritesAtMost result buf.now }
+        ensures bytes { WriteAppends (D.contents self.old.inner) (D.contents self.new.inner) result buf.now }
+        ensures uninterrupted { IfErr result (λ e. error_kind e ≢ ErrorKind.Interrupted) }
+    {
+        for _ in 0..MOST_CALLS {
+            match self.inner.write(buf) {
+                Err(error) if error.kind() == ErrorKind::Interrupted => {}
+                answer => return answer,
+            }
+        }
+        Err(gave_up())
+    }
+
+    fn flush(&mut self) -> io::Result<()>
+        ensures bytes { Keeps (D.contents self.old.inner) (D.contents self.new.inner) }
+        ensures uninterrupted { IfErr result (λ e. error_kind e ≢ ErrorKind.Interrupted) }
+    {
+        for _ in 0..MOST_CALLS {
+            match self.inner.flush() {
+                Err(error) if error.kind() == ErrorKind::Interrupted => {}
+                answer => return answer,
+            }
+        }
+        Err(gave_up())
+    }
+}
