@@ -1,5 +1,6 @@
 -- The bytes of a window, after a read past its end or a step of its start.
 use Rattle.std.proofs.Common.{◌≡◌, ℕ, ◌+◌, ◌-◌, ◌≤◌, List, ◌++◌, length, take, drop, slice_range, refl, sym, ap, ◌∙◌}
+use Rattle.std.proofs.Common.{Result, Ok, Err, OnErr}
 use Rattle.std.proofs.Common.{arith, append-nil}
 use Rattle.std.proofs.lemmas.List.{take_at, drop_at, take-append-le, drop-append-le, drop-take, drop-drop}
 use Rattle.std.proofs.lemmas.List.{length-take-le, length-take, length-drop}
@@ -41,3 +42,8 @@ unread xs ys start end k ordered within =
     let same : end + 0 ≡ end = omega arith in
     ap (slice_range (put_mid end k xs ys) start) (sym same)
     ∙ grown xs ys start end k 0 ordered within (omega arith) ∙ append-nil (slice_range xs start end)
+
+-- what is so is so of any read that failed
+pub on_err : {X E P : Type 0} (r : Result X E) → P → OnErr r P
+on_err (Ok x) h = tt
+on_err (Err e) h = h

@@ -113,17 +113,15 @@ pub fn open_file<H: Files>(files: &H, name: &str) -> io::Result<Std<H::File>>
     ensures failures { IfOk result (λ device. device.failures ≡ 0) }
     ensures ends { IfOk result (λ device. device.ends ≡ 0) }
 {
-    match fs::open(files, name) {
-        Ok(file) => Ok(Std {
-            inner: file,
-            failures: 0,
-            ends: 0,
-            flushed: false,
-            flushes: 0,
-            is_unread: true,
-        }),
-        Err(error) => Err(error),
-    }
+    let file = fs::open(files, name)?;
+    Ok(Std {
+        inner: file,
+        failures: 0,
+        ends: 0,
+        flushed: false,
+        flushes: 0,
+        is_unread: true,
+    })
 }
 
 impl<D> Std<D> {

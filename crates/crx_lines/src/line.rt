@@ -260,10 +260,9 @@ impl LineReader {
             Phase::Stopped(at) => return Err(at),
             Phase::Open => {}
         }
-        match self.advance(reader) {
-            Ok(Some(part)) => Ok(Some(self.line_at(part))),
-            Ok(None) => Ok(None),
-            Err(at) => Err(at),
+        match self.advance(reader)? {
+            Some(part) => Ok(Some(self.line_at(part))),
+            None => Ok(None),
         }
     }
 }

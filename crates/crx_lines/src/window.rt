@@ -162,12 +162,8 @@ impl Window {
         self.make_room();
         let end = self.end;
         let room = most.min(SIZE - end);
-        match reader.read(&mut self.bytes[end..end + room]) {
-            Ok(count) => {
-                self.end = end + count;
-                Ok(count)
-            }
-            Err(failed) => Err(failed),
-        }
+        let count = reader.read(&mut self.bytes[end..end + room])?;
+        self.end = end + count;
+        Ok(count)
     }
 }

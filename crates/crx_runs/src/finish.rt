@@ -73,10 +73,10 @@ pub(crate) fn finish<W: Sink, M: Sink>(writer: &mut W, messages: &mut M, work: W
             },
             Err(_) => report(writer, messages, unwritten),
         },
-        Some(Halt::Fault(at)) => {
-            let _ = writer.flush();
-            report(writer, messages, at)
-        }
+        // The fault stays, whatever the flush answers.
+        Some(Halt::Fault(at)) => match writer.flush() {
+            Ok(()) | Err(_) => report(writer, messages, at),
+        },
         Some(Halt::Unwritten) => report_unwritten(messages, work.last),
         Some(Halt::Unreported) => Outcome {
             status: 1,
