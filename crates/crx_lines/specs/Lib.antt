@@ -1,5 +1,6 @@
 pub mod meaning
 pub mod Devices
+pub mod Holdings
 pub mod Progress
 pub mod Readers
 pub mod Reading

@@ -4,6 +4,7 @@
 
 pub mod device;
 pub mod feed;
+pub mod laws;
 pub mod line;
 pub mod phase;
 mod seek;

@@ -1,0 +1,27 @@
+-- All that a reader of lines holds between two lines of an input, part by part. By the law `line_reader_holds` one that
+-- takes over these parts of another is that other; so there is no part beside them, in which a record of the past lines
+-- could grow.
+use Rattle.crx_lines.specs.declared.line.LineReader.{LineReader}
+use Rattle.crx_lines.specs.declared.window.Window.{Window}
+
+-- a buffer, with the parts of another
+abbrev pub window_with : Window → Window → Window
+window_with one other = record one {
+  bytes = other.bytes;
+  start = other.start;
+  end = other.end;
+  ordered = other.ordered;
+  within = other.within;
+  whole = other.whole;
+}
+
+-- a reader of lines, with the parts of another
+abbrev pub line_reader_with : LineReader → LineReader → LineReader
+line_reader_with one other = record one {
+  window = other.window;
+  passed = other.passed;
+  number = other.number;
+  phase = other.phase;
+  counted = other.counted;
+  limit = other.limit;
+}
