@@ -6,6 +6,7 @@ ghost use Rattle.std.specs.Io.KnownBytes.{Appends, Consumes, IsAtEnd};
 ghost use Rattle.std.proofs.KnownBytes.{Appends-nil, Appends-trans, Consumes-nil, Consumes-trans};
 ghost use Rattle.crx_lines.specs.meaning.Devices.{ends_after, one_more};
 
+use crate::uninterrupted::Uninterrupted;
 use std::io::{Read, Write};
 use std::rt::Files;
 use std::{fs, io};
@@ -106,16 +107,17 @@ pub struct Std<D> {
     is_unread: bool,
 }
 
-/// Opens the file of a name for reading, as a device that nothing was read of. No other call answers an unread device. The mark is a part of
-/// the device and not of the file, so it shows how the code goes, and is no promise about what was read of the file.
-pub fn open_file<H: Files>(files: &H, name: &str) -> io::Result<Std<H::File>>
+/// Opens the file of a name for reading, as a device that nothing was read of, and that hands on no interruption. No other call answers an
+/// unread device. The mark is a part of the device and not of the file, so it shows how the code goes, and is no promise about what was read
+/// of the file.
+pub fn open_file<H: Files>(files: &H, name: &str) -> io::Result<Std<Uninterrupted<H::File>>>
     ensures unread { IfOk result (λ device. device.is_unread ≡ true) }
     ensures failures { IfOk result (λ device. device.failures ≡ 0) }
     ensures ends { IfOk result (λ device. device.ends ≡ 0) }
 {
     let file = fs::open(files, name)?;
     Ok(Std {
-        inner: file,
+        inner: Uninterrupted::new(file),
         failures: 0,
         ends: 0,
         flushed: false,

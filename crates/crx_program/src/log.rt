@@ -4,7 +4,7 @@ ghost use Rattle.std.specs.Borrow.{ftrue};
 ghost use Rattle.std.proofs.Common.{◌∙◌, refl};
 ghost use Rattle.crx_program.specs.Logs.{adds_none, adds_both};
 
-use crx_lines::{ReadFailed, Sink, Source, Std, WriteFailed, open_file};
+use crx_lines::{ReadFailed, Sink, Source, Std, Uninterrupted, WriteFailed, open_file};
 use crx_runs::UntilFailure;
 use std::alloc::Global;
 use std::fs::OpenOptions;
@@ -89,6 +89,14 @@ pub struct Logged<S> {
     opening: Opening,
 }
 
+/// A file or a stream that is read, or a stream that is written without a buffer, as a device that knows what went through it, and of a file
+/// its name. It hands on no interruption.
+pub type SourceFile<F> = Logged<Std<Uninterrupted<F>>>;
+
+/// A file or a stream that is written over a buffer, as a device that knows what was written to it, and of a file its name. It hands on no
+/// interruption.
+pub type TargetFile<F> = Logged<Std<BufWriter<UntilFailure<Uninterrupted<F>>>>>;
+
 impl<S> Logged<S> {
     /// The device, with nothing in its log, and no name.
     pub fn new(inner: S) -> Logged<S>
@@ -123,13 +131,9 @@ impl<S: Source> Source for Logged<S> {
     ghost ends = { λ s. S.ends s.inner };
 
     fn read(&mut self, buffer: &mut [u8]) -> Result<usize, ReadFailed> {
-        match self.inner.read(buffer) {
-            Ok(count) => {
-                self.log.add(&buffer[..count]);
-                Ok(count)
-            }
-            Err(failed) => Err(failed),
-        }
+        let count = self.inner.read(buffer)?;
+        self.log.add(&buffer[..count]);
+        Ok(count)
     }
 
     ghost gave_none = { λ s. (adds_none s.log.bytes, refl, S.gave_none s.inner) };
@@ -152,13 +156,9 @@ impl<S: Sink> Sink for Logged<S> {
     ghost flushes = { λ s. S.flushes s.inner };
 
     fn write(&mut self, bytes: &[u8]) -> Result<usize, WriteFailed> {
-        match self.inner.write(bytes) {
-            Ok(count) => {
-                self.log.add(&bytes[..count]);
-                Ok(count)
-            }
-            Err(failed) => Err(failed),
-        }
+        let count = self.inner.write(bytes)?;
+        self.log.add(&bytes[..count]);
+        Ok(count)
     }
 
     fn flush(&mut self) -> Result<(), WriteFailed> {
@@ -176,21 +176,19 @@ impl<S: Sink> Sink for Logged<S> {
 
 /// Opens the file of a name for reading. This call and [`open_to_write`] alone make a device that has a name: the one that they were given,
 /// and hand on to the machine.
-pub fn open_to_read<H: Files>(files: &H, name: &str) -> io::Result<Logged<Std<H::File>>>
+pub fn open_to_read<H: Files>(files: &H, name: &str) -> io::Result<SourceFile<H::File>>
     ensures name { IfOk result (λ device. device.opening.name.bytes ≡ name.now) }
     ensures log { IfOk result (λ device. device.log.bytes ≡ []) }
     ensures unread { IfOk result (λ device. device.inner.is_unread ≡ true) }
     ensures failures { IfOk result (λ device. device.inner.failures ≡ 0) }
     ensures ends { IfOk result (λ device. device.inner.ends ≡ 0) }
 {
-    match open_file(files, name) {
-        Ok(inner) => Ok(Logged {
-            inner,
-            log: Log::new(),
-            opening: Opening::by(name, None),
-        }),
-        Err(error) => Err(error),
-    }
+    let inner = open_file(files, name)?;
+    Ok(Logged {
+        inner,
+        log: Log::new(),
+        opening: Opening::by(name, None),
+    })
 }
 
 /// A file that was opened for writing, and not written yet.
@@ -205,30 +203,27 @@ pub fn open_to_write<H: Files>(files: &H, how: OpenOptions, name: &str) -> io::R
     ensures name { IfOk result (λ made. made.opening.name.bytes ≡ name.now) }
     ensures how { IfOk result (λ made. made.opening.how ≡ Some how) }
 {
-    match how.open(files, name) {
-        Ok(file) => Ok(Made {
-            file,
-            opening: Opening::by(name, Some(how)),
-        }),
-        Err(error) => Err(error),
-    }
+    let file = how.open(files, name)?;
+    Ok(Made {
+        file,
+        opening: Opening::by(name, Some(how)),
+    })
 }
 
 impl<F: Write + Drop> Made<F> {
     /// The device over a buffer over the file. Where there is no memory for the buffer, the file is closed.
-    pub fn into_device(self, alloc: Global) -> io::Result<Logged<Std<BufWriter<UntilFailure<F>>>>>
+    pub fn into_device(self, alloc: Global) -> io::Result<TargetFile<F>>
         ensures opening { IfOk result (λ device. device.opening ≡ self.opening) }
         ensures log { IfOk result (λ device. device.log.bytes ≡ []) }
         ensures failures { IfOk result (λ device. device.inner.failures ≡ 0) }
     {
         let Made { file, opening } = self;
-        match BufWriter::with_capacity(alloc, OUTPUT_BUFFER, UntilFailure::new(file)) {
-            Ok(buffer) => Ok(Logged {
-                inner: Std::new(buffer),
-                log: Log::new(),
-                opening,
-            }),
-            Err(error) => Err(error),
-        }
+        let writer = UntilFailure::new(Uninterrupted::new(file));
+        let buffer = BufWriter::with_capacity(alloc, OUTPUT_BUFFER, writer)?;
+        Ok(Logged {
+            inner: Std::new(buffer),
+            log: Log::new(),
+            opening,
+        })
     }
 }

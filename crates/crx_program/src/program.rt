@@ -8,7 +8,7 @@ ghost use Rattle.crx_program.specs.meaning.Jobs.{IsChosen, IsJobDone, IsJobEnded
 ghost use Rattle.crx_program.specs.meaning.Program.{IsHelped, IsRefused, IsShown, at_start};
 ghost use Rattle.crx_runs.specs.meaning.Spans.{span, reader_span};
 
-use crate::log::{Logged, Made, open_to_read, open_to_write};
+use crate::log::{Made, SourceFile, TargetFile, open_to_read, open_to_write};
 use crate::refusal::{refuse, report, report_at_start};
 use crx_command::date::date_text;
 use crx_command::job::{Decision, Job, Tool};
@@ -16,20 +16,13 @@ use crx_command::plan::plan;
 use crx_command::word::Word;
 use crx_faults::Fault;
 use crx_filter::{Options, check, compact, expand};
-use crx_lines::{Sink, Source, Std, write_all_counted};
-use crx_runs::UntilFailure;
+use crx_lines::{Sink, Source, write_all_counted};
 use jiff::Timestamp;
 use std::alloc::{AllocError, Global};
 use std::fs::OpenOptions;
 use std::io;
-use std::io::{BufWriter, ErrorKind, Write};
+use std::io::{ErrorKind, Write};
 use std::rt::{Clock, Files};
-
-/// A file that is read, as a device that knows its name and what its reads gave.
-pub type SourceFile<F> = Logged<Std<F>>;
-
-/// A file that is written, as a device that knows its name and what was written to it; it is over a buffer.
-pub type TargetFile<F> = Logged<Std<BufWriter<UntilFailure<F>>>>;
 
 /// A run that is over: its exit status, and the devices of the files that it opened.
 #[derive(Drop)]
@@ -46,8 +39,16 @@ pub struct Ended<F: Write + Drop> {
 /// write that failed nothing is written here.
 pub(crate) fn hand_on<F: Write + Drop>(device: TargetFile<F>) {
     let mut buffer = device.into_inner().into_inner();
-    let _ = buffer.flush();
-    let _ = buffer.into_parts();
+    match buffer.flush() {
+        // A run whose output wasn't handed on before has ended with status 1, so a failure says nothing more. The buffer is taken apart,
+        // since one that is dropped flushes again.
+        Ok(()) | Err(_) => drop(buffer.into_parts()),
+    }
+}
+
+/// The moment that the clock gives; none where that has no date.
+pub fn moment_now<C: Clock>(clock: &C) -> Option<Timestamp> {
+    Timestamp::now(clock).ok()
 }
 
 impl<F: Write + Drop> Ended<F> {
@@ -313,7 +314,7 @@ pub fn run<H: Files + Clock, R: Source, W: Sink, M: Sink>(
         (span M.Sink messages.old messages.new) result
         (λ target. (input.new ≡ input.old) × (output.new ≡ output.old) × (target ≡ None)) }
 {
-    let moment = Timestamp::now(rt).ok();
+    let moment = moment_now(rt);
     run_with_files(rt, alloc, moment, words, input, output, messages).close()
 }
 

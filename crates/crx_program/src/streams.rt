@@ -7,18 +7,24 @@ ghost use Rattle.crx_program.specs.meaning.Program.{IsHelped, IsRefused};
 ghost use Rattle.crx_program.specs.meaning.Streams.{FromUnused, IsExact, IsPrefix};
 ghost use Rattle.crx_runs.specs.meaning.Spans.{reader_span, span};
 
-use crate::log::Logged;
-use crate::program::{SourceFile, TargetFile, hand_on, run_with_files};
+use crate::log::{Logged, SourceFile, TargetFile};
+use crate::program::{hand_on, run_with_files};
 use crx_command::job::Job;
-use crx_lines::{Sink, Source, Std};
+use crx_lines::{Sink, Source, Std, Uninterrupted};
 use crx_runs::UntilFailure;
 use jiff::Timestamp;
 use std::alloc::Global;
 use std::io::{BufWriter, Read, Write};
 use std::rt::Files;
 
+/// Standard input, as a device that knows what its reads gave.
+pub type InputDevice<I> = SourceFile<I>;
+
 /// Standard output, as a device that knows what was written to it; it is over a buffer.
 pub type OutputDevice<O> = TargetFile<O>;
+
+/// Standard error, as a device that knows what was written to it.
+pub type MessageDevice<E> = SourceFile<E>;
 
 /// A run over standard streams that is over: its exit status, and each device that it read or wrote, with a log of all that went through it.
 #[derive(Drop)]
@@ -26,11 +32,11 @@ pub struct Whole<I, O: Write + Drop, E, F: Write + Drop> {
     /// The exit status.
     pub status: u8,
     /// Standard input.
-    pub input: Logged<Std<I>>,
+    pub input: InputDevice<I>,
     /// Standard output. The device is over the buffer.
     pub output: OutputDevice<O>,
     /// Standard error.
-    pub messages: Logged<Std<E>>,
+    pub messages: MessageDevice<E>,
     /// The file that was read, where the run opened one.
     pub source: Option<SourceFile<F>>,
     /// The file that was written, where the run made one.
@@ -43,27 +49,27 @@ pub fn run_over<H: Files, I: Read, O: Write + Drop, E: Write>(
     alloc: Global,
     moment: Option<Timestamp>,
     words: Vec<String>,
-    stdin: I,
-    stdout: BufWriter<UntilFailure<O>>,
-    stderr: E,
+    stdin: Uninterrupted<I>,
+    stdout: BufWriter<UntilFailure<Uninterrupted<O>>>,
+    stderr: Uninterrupted<E>,
 ) -> Whole<I, O, E, H::File>
     ensures refused { (refusal : Refusal) → plan_of (map string_bytes words.items) ≡ Refused refusal
         → FromUnused stderr (λ messages.
-        IsRefused (span ⟦<Logged<Std<E>> as Sink>⟧ messages result.messages) refusal result.status)
+        IsRefused (span ⟦<MessageDevice<E> as Sink>⟧ messages result.messages) refusal result.status)
         × (result.input.log.bytes ≡ []) × (result.output.log.bytes ≡ []) × (result.source ≡ None)
         × (result.target ≡ None) }
     ensures help { plan_of (map string_bytes words.items) ≡ Help
         → FromUnused stdout (λ output. FromUnused stderr (λ messages.
         IsHelped (span ⟦<OutputDevice<O> as Sink>⟧ output result.output)
-        (span ⟦<Logged<Std<E>> as Sink>⟧ messages result.messages) result.status))
+        (span ⟦<MessageDevice<E> as Sink>⟧ messages result.messages) result.status))
         × (result.input.log.bytes ≡ []) × (result.source ≡ None) × (result.target ≡ None) }
     ensures done { (job : Job) → plan_of (map string_bytes words.items) ≡ Run job
         → FromUnused stdin (λ input. FromUnused stdout (λ output.
         FromUnused stderr (λ messages.
         IsJobDone ⟦<SourceFile<H::File> as Source>⟧ ⟦<TargetFile<H::File> as Sink>⟧
-        moment job result.source result.target (reader_span ⟦<Logged<Std<I>> as Source>⟧ input result.input)
+        moment job result.source result.target (reader_span ⟦<InputDevice<I> as Source>⟧ input result.input)
         (span ⟦<OutputDevice<O> as Sink>⟧ output result.output)
-        (span ⟦<Logged<Std<E>> as Sink>⟧ messages result.messages) result.status
+        (span ⟦<MessageDevice<E> as Sink>⟧ messages result.messages) result.status
         ((result.input ≡ input) × (result.output ≡ output) × (result.target ≡ None))))) }
     ensures exact { (job : Job) → plan_of (map string_bytes words.items) ≡ Run job
         → (result.status ≡ 1 → ⊥) → IsExact moment job result }

@@ -18,6 +18,8 @@ mod failures;
 #[cfg(test)]
 mod faults;
 #[cfg(test)]
+mod interruptions;
+#[cfg(test)]
 mod line_ends;
 #[cfg(test)]
 mod lines;

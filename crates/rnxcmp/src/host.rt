@@ -9,11 +9,11 @@ ghost use Rattle.crx_runs.specs.meaning.Spans.{reader_span, span};
 
 use crate::{Job, UsageFault, Word};
 use crx_faults::Fault;
-use crx_lines::{Sink, Source, Std};
-use crx_program::log::{Logged, OUTPUT_BUFFER};
-use crx_program::program::{SourceFile, TargetFile};
+use crx_lines::{Sink, Source, Std, Uninterrupted};
+use crx_program::log::{OUTPUT_BUFFER, SourceFile, TargetFile};
+use crx_program::program::moment_now;
 use crx_program::refusal::{refuse, report_at_start};
-use crx_program::streams::{OutputDevice, Whole, run_over};
+use crx_program::streams::{InputDevice, MessageDevice, OutputDevice, Whole, run_over};
 use crx_runs::UntilFailure;
 use jiff::Timestamp;
 use std::alloc::Global;
@@ -47,26 +47,26 @@ pub fn run_streams(
     rt: &HostRuntime,
     moment: Option<Timestamp>,
     words: Vec<String>,
-    stdin: Stdin,
-    stdout: BufWriter<UntilFailure<Stdout>>,
-    stderr: Stderr,
+    stdin: Uninterrupted<Stdin>,
+    stdout: BufWriter<UntilFailure<Uninterrupted<Stdout>>>,
+    stderr: Uninterrupted<Stderr>,
 ) -> Whole<Stdin, Stdout, Stderr, File>
     ensures refused { (refusal : Refusal) → plan_of (map string_bytes words.items) ≡ Refused refusal
         → FromUnused stderr (λ messages.
-        IsRefused (span ⟦<Logged<Std<Stderr>> as Sink>⟧ messages result.messages) refusal result.status)
+        IsRefused (span ⟦<MessageDevice<Stderr> as Sink>⟧ messages result.messages) refusal result.status)
         × (result.input.log.bytes ≡ []) × (result.output.log.bytes ≡ []) × (result.source ≡ None)
         × (result.target ≡ None) }
     ensures help { plan_of (map string_bytes words.items) ≡ Help
         → FromUnused stdout (λ output. FromUnused stderr (λ messages.
         IsHelped (span ⟦<OutputDevice<Stdout> as Sink>⟧ output result.output)
-        (span ⟦<Logged<Std<Stderr>> as Sink>⟧ messages result.messages) result.status))
+        (span ⟦<MessageDevice<Stderr> as Sink>⟧ messages result.messages) result.status))
         × (result.input.log.bytes ≡ []) × (result.source ≡ None) × (result.target ≡ None) }
     ensures done { (job : Job) → plan_of (map string_bytes words.items) ≡ Run job
         → FromUnused stdin (λ input. FromUnused stdout (λ output. FromUnused stderr (λ messages.
         IsJobDone ⟦<SourceFile<File> as Source>⟧ ⟦<TargetFile<File> as Sink>⟧
-        moment job result.source result.target (reader_span ⟦<Logged<Std<Stdin>> as Source>⟧ input result.input)
+        moment job result.source result.target (reader_span ⟦<InputDevice<Stdin> as Source>⟧ input result.input)
         (span ⟦<OutputDevice<Stdout> as Sink>⟧ output result.output)
-        (span ⟦<Logged<Std<Stderr>> as Sink>⟧ messages result.messages) result.status
+        (span ⟦<MessageDevice<Stderr> as Sink>⟧ messages result.messages) result.status
         ((result.input ≡ input) × (result.output ≡ output) × (result.target ≡ None))))) }
     ensures exact { (job : Job) → plan_of (map string_bytes words.items) ≡ Run job
         → (result.status ≡ 1 → ⊥) → IsExact moment job result }
@@ -91,16 +91,18 @@ pub fn run_host(rt: &HostRuntime) -> ExitCode {
     let words = match words_given(rt) {
         Ok(words) => words,
         Err(fault) => {
-            let mut messages = Std::new(rt.stderr());
+            let mut messages = Std::new(Uninterrupted::new(rt.stderr()));
             return ExitCode::from(refuse(rt.alloc(), &mut messages, &fault));
         }
     };
-    let stdout = UntilFailure::new(rt.stdout());
+    let stdout = UntilFailure::new(Uninterrupted::new(rt.stdout()));
     let Ok(buffer) = BufWriter::with_capacity(rt.alloc(), OUTPUT_BUFFER, stdout) else {
-        let mut messages = Std::new(rt.stderr());
+        let mut messages = Std::new(Uninterrupted::new(rt.stderr()));
         return ExitCode::from(report_at_start(&mut messages, Fault::OutOfMemory));
     };
-    let moment = Timestamp::now(rt).ok();
-    let whole = run_streams(rt, moment, words, rt.stdin(), buffer, rt.stderr());
+    let moment = moment_now(rt);
+    let stdin = Uninterrupted::new(rt.stdin());
+    let stderr = Uninterrupted::new(rt.stderr());
+    let whole = run_streams(rt, moment, words, stdin, buffer, stderr);
     ExitCode::from(whole.close())
 }

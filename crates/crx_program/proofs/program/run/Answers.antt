@@ -2,7 +2,7 @@ use Rattle.crx_program.proofs.program.run.Goals as goal
 
 pub returns-clause-done : goal.returns-clause-done
 returns-clause-done g c = λ job e. (
-  c.ok-moment.result,
+  c.moment_now-moment.result,
   c.run_with_files.result.source,
   c.run_with_files.result.target,
   rw c.close.ensures.status (c.run_with_files.ensures.done job e),

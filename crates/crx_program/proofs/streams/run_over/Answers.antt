@@ -1,4 +1,5 @@
 use Rattle.std.specs.Io.Buffered.{writer_contents}
+use Rattle.crx_lines.specs.declared.uninterrupted.Uninterrupted.{Uninterrupted}
 use Rattle.crx_runs.specs.declared.until_failure.UntilFailure.{UntilFailure}
 use Rattle.crx_program.proofs.StreamLemmas.{exact_run, fresh, front_run, same_log}
 use Rattle.crx_program.proofs.streams.run_over.Goals as goal
@@ -57,9 +58,11 @@ returns-clause-done g c = λ job e. (
 
 pub returns-clause-exact : goal.returns-clause-exact
 returns-clause-exact g c = λ job e well.
-    exact_run g.H.File.Read.remaining
-    (writer_contents (λ (w : UntilFailure g.row.H-File.Denot). g.H.File.Write.contents w.inner)) g.I.Read.remaining
-    (writer_contents (λ (w : UntilFailure g.row.O.Denot). g.O.Write.contents w.inner)) g.E.Write.contents
+    exact_run (λ (r : Uninterrupted g.row.H-File.Denot). g.H.File.Read.remaining r.inner)
+    (writer_contents (λ (w : UntilFailure (Uninterrupted g.row.H-File.Denot)). g.H.File.Write.contents w.inner.inner))
+    (λ (r : Uninterrupted g.row.I.Denot). g.I.Read.remaining r.inner)
+    (writer_contents (λ (w : UntilFailure (Uninterrupted g.row.O.Denot)). g.O.Write.contents w.inner.inner))
+    (λ (w : Uninterrupted g.row.E.Denot). g.E.Write.contents w.inner)
     c.args.moment job c.run_with_files-ended.result.source c.run_with_files-ended.result.target
     c.new-input.result c.run_with_files-ended.new.input c.new-output.result c.run_with_files-ended.new.output
     c.new-messages.result c.run_with_files-ended.new.messages
@@ -69,9 +72,11 @@ returns-clause-exact g c = λ job e well.
 
 pub returns-clause-front : goal.returns-clause-front
 returns-clause-front g c = λ job e.
-    front_run g.H.File.Read.remaining
-    (writer_contents (λ (w : UntilFailure g.row.H-File.Denot). g.H.File.Write.contents w.inner)) g.I.Read.remaining
-    (writer_contents (λ (w : UntilFailure g.row.O.Denot). g.O.Write.contents w.inner)) g.E.Write.contents
+    front_run (λ (r : Uninterrupted g.row.H-File.Denot). g.H.File.Read.remaining r.inner)
+    (writer_contents (λ (w : UntilFailure (Uninterrupted g.row.H-File.Denot)). g.H.File.Write.contents w.inner.inner))
+    (λ (r : Uninterrupted g.row.I.Denot). g.I.Read.remaining r.inner)
+    (writer_contents (λ (w : UntilFailure (Uninterrupted g.row.O.Denot)). g.O.Write.contents w.inner.inner))
+    (λ (w : Uninterrupted g.row.E.Denot). g.E.Write.contents w.inner)
     c.args.moment job c.run_with_files-ended.result.source c.run_with_files-ended.result.target
     c.new-input.result c.run_with_files-ended.new.input c.new-output.result c.run_with_files-ended.new.output
     c.new-messages.result c.run_with_files-ended.new.messages
