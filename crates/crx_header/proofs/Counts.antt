@@ -4,13 +4,12 @@ use Rattle.std.proofs.Common.{List, [], ◌∷◌, ◌++◌, Option, Some, None,
 use Rattle.std.proofs.Common.{get_or, set, unwrap_or, ◌≢◌}
 use Rattle.std.proofs.Common.{◌∙◌, inl, inr, arith, leb, ◌&&◌}
 use Rattle.std.specs.List.{All, cons_option, list_any}
-use Rattle.std.specs.Map.{lookup}
+use Rattle.std.specs.Map.{lookup, set_value}
 use Rattle.std.proofs.lemmas.Bool.{cases_eq, cases_Bool, eq-eqb, ne_eqb, eqb-true, leb-true, and_parts, and_from}
 use Rattle.std.proofs.lemmas.Bool.{false≢true}
 use Rattle.std.proofs.lemmas.List.{append-nil, get_or-set_same, get_or-set_other}
 use Rattle.std.proofs.lemmas.List.Elements.{filter_map-append, All-cons, All-head, All-tail, All-weaker}
 use Rattle.std.proofs.lemmas.Map.Entries.{All-lookup}
-use Rattle.indexmap.specs.IndexMap.{insert_entry}
 use Rattle.crx_header.specs.meaning.ObservationTypes.{Count, IsAllowedCount, system_letters, is_system, count_of}
 use Rattle.crx_header.specs.meaning.ObservationTypes.{without, last_count, last_counts, counts_in, count_of_types_line}
 use Rattle.crx_header.specs.meaning.ObservationTypes.{types_of, is_types_line, count_in, count_if_allowed}
@@ -32,12 +31,6 @@ same_test a b =
 pub lookup_is_count : (es : List Count) (letter : ℕ) → lookup (eqb letter) es ≡ count_of es letter
 lookup_is_count [] letter = refl
 lookup_is_count (e ∷ es) letter = rw (same_test letter e.0, lookup_is_count es letter) refl
-
--- a map's insert
-pub insert_is_with : (es : List Count) (letter count : ℕ)
-    → insert_entry eqb es letter count ≡ with_count es letter count
-insert_is_with [] letter count = refl
-insert_is_with (e ∷ es) letter count = rw (insert_is_with es letter count) refl
 
 last_count-push : (letter count : ℕ) (cs : List Count) (c : Count)
     → last_count letter count (cs ++ c ∷ []) ≡ cond (eqb c.0 letter) c.1 (last_count letter count cs)
@@ -305,3 +298,40 @@ all_times (c ∷ cs) h =
 pub systems_few : (counts : List Count) → AreCounts counts → length counts ≤ length system_letters
 systems_few counts h = let a = all_times counts h.allowed in let b = few_times system_letters counts h.apart in
     omega (arith, a, b)
+
+some_none : (n : ℕ) → Some n ≡ None → ⊥
+some_none n e = false≢true (ap (λ (o : Option ℕ). is_none o) e)
+
+-- a system without a count is one more than those that have one
+one_more : (es : List Count) (letter count : ℕ)
+    → count_of es letter ≡ None → length (with_count es letter count) ≡ suc (length es)
+one_more [] letter count h = refl
+one_more (e ∷ es) letter count h =
+    elim (cases_Bool (eqb letter e.0)) [
+      | inl t ↦
+          let same : eqb e.0 letter ≡ true = same_test e.0 letter ∙ t in
+          absurd (some_none e.1 (rw same at h))
+      | inr f ↦
+          let other : eqb e.0 letter ≡ false = same_test e.0 letter ∙ f in
+          rw f (ap suc (one_more es letter count (rw other at h)))
+    ]
+
+-- as long as a system has no count, fewer have one than there are
+pub systems_fewer : (counts : List Count) (letter : ℕ) → AreCounts counts → is_system letter ≡ true
+    → count_of counts letter ≡ None → length counts < length system_letters
+systems_fewer counts letter h system none =
+    let few = systems_few (with_count counts letter 1)
+    (AreCounts-with_count counts letter 1 h system (omega arith, omega arith)) in
+    omega (arith, few, one_more counts letter 1 none)
+
+-- a map's write to a value that it has
+pub set_is_with : (es : List Count) (letter count : ℕ) → is_none (count_of es letter) ≡ false
+    → set_value (eqb letter) es count ≡ with_count es letter count
+set_is_with [] letter count h = absurd (false≢true (sym h))
+set_is_with (e ∷ es) letter count h =
+    elim (cases_Bool (eqb letter e.0)) [
+      | inl t ↦ rw t refl
+      | inr f ↦
+          let other : eqb e.0 letter ≡ false = same_test e.0 letter ∙ f in
+          rw f (ap (λ (r : List Count). e ∷ r) (set_is_with es letter count (rw other at h)))
+    ]

@@ -1,7 +1,7 @@
 -- Beside meaning/ObservationTypes: what code and proofs see of it.
-use Rattle.std.specs.Prelude.{ℕ, Bool, true, ◌≡◌, All, ◌&&◌, List, [], ◌∷◌, ◌==◌, Option, Some, None, if◌then◌else◌}
+use Rattle.std.specs.Prelude.{ℕ, Bool, true, ◌≡◌, ◌≤◌, ◌+◌, ◌⊎◌, length, All, ◌&&◌, List, [], ◌∷◌, ◌==◌, Option, Some, None, if◌then◌else◌}
 use Rattle.std.specs.Prelude.{is_none, ◌<◌, get_or, unwrap_or}
-use Rattle.crx_header.specs.declared.types.TheConstants.{LETTERS}
+use Rattle.crx_header.specs.declared.types.TheConstants.{LETTERS, SYSTEMS}
 use Rattle.crx_header.specs.meaning.ObservationTypes.{is_system, Count, count_of_types_line, count_of, IsAllowedCount}
 
 -- the counts with a letter's new count: in the letter's place, or after the others where the letter is new
@@ -33,3 +33,7 @@ pub record AreCounts (counts : List Count) : Type 0 where
 -- a list has the count of each letter at the letter's place, and 0 where the letter has no count
 abbrev pub AreByLetter : List ℕ → List Count → Type 0
 AreByLetter table counts = (letter : ℕ) → letter < LETTERS → get_or table letter 0 ≡ unwrap_or (count_of counts letter) 0
+
+-- so many counts more can be put after these with no memory asked for: once a system has types, those of all systems
+abbrev pub HasRoom : List Count → ℕ → Type 0
+HasRoom counts spare = (counts ≡ []) ⊎ (SYSTEMS ≤ length counts + spare)

@@ -1,8 +1,9 @@
 //! The observation types of the satellite systems. RINEX 3.05, table A2, `SYS / # / OBS TYPES`.
 
-ghost use Rattle.std.specs.Prelude.{◌≡◌, ◌≤◌, ◌<◌, ◌⊎◌, ℕ, List, [], ◌∷◌, ◌++◌, Some, true, false, is_some, OnOk, OnErr, IfOk, IfErr, IfSome, OnSome, slice_get, length};
+ghost use Rattle.std.specs.Prelude.{◌≡◌, ◌≤◌, ◌<◌, ◌+◌, ◌⊎◌, ℕ, List, [], ◌∷◌, ◌++◌, Some, true, false, is_some, OnOk, OnErr, IfOk, IfErr, IfSome, OnSome, slice_get, length};
 ghost use Rattle.crx_header.specs.meaning.ObservationTypes.{count_of, count_in, count_of_types_line, is_bad_types_line, is_system, is_types_line, types_of, IsAllowedCount};
-ghost use Rattle.crx_header.specs.ObservationTypes.{with_line, IsCount};
+ghost use Rattle.crx_header.specs.ObservationTypes.{with_count, with_line, AreCounts, HasRoom, IsCount};
+ghost use Rattle.indexmap.specs.IndexMap.{spare};
 
 use crate::columns::{is_labelled, number};
 use crate::labels::TYPES_LABEL;
@@ -10,16 +11,20 @@ use crx_columns::columns::character;
 use crx_faults::Fault;
 use crx_faults::limits::TYPES_LIMIT;
 use indexmap::IndexMap;
-use std::alloc::Global;
+use std::alloc::{AllocError, Global};
 use std::marker::Model;
 
 /// How many bytes there are that a letter may be.
 const LETTERS: usize = 256;
 
+/// How many systems there are.
+const SYSTEMS: usize = 7;
+
 /// How many observation types each satellite system has, the systems in the order in which their letters
 /// first appeared.
 #[derive(Drop)]
 pub struct Types {
+    /// Once a system has types there is room for all systems.
     counts: IndexMap<u8, usize>,
     /// The count of each letter, 0 where it has none: a satellite line asks for the count of its system by one load.
     by_letter: [u16; LETTERS],
@@ -27,14 +32,16 @@ pub struct Types {
 
 impl Model for Types {
     ghost use Rattle.crx_header.specs.meaning.ObservationTypes.{Count};
-    ghost use Rattle.crx_header.specs.ObservationTypes.{AreCounts, AreByLetter};
+    ghost use Rattle.crx_header.specs.ObservationTypes.{AreCounts, AreByLetter, HasRoom};
+    ghost use Rattle.indexmap.specs.IndexMap.{spare};
     ghost use Rattle.std.specs.Prelude.{List};
 
     ghost Value = { List Count };
 
     ghost view = { λ types. types.counts.entries };
 
-    ghost invariant = { λ types. AreCounts types.counts.entries × AreByLetter types.by_letter types.counts.entries };
+    ghost invariant = { λ types. AreCounts types.counts.entries × AreByLetter types.by_letter types.counts.entries
+        × HasRoom types.counts.entries (spare types.counts) };
 }
 
 impl Types {
@@ -52,8 +59,8 @@ impl Types {
     /// table A2) replaces the count of its system; any other line, a continuation too, changes nothing.
     ///
     /// `BadTypesLine` comes where column 1 of such a line is the letter of no system, or columns 4 to 6 hold
-    /// no count from 1 to the limit; `OutOfMemory` only where such a line was good. After either the types are
-    /// as they were.
+    /// no count from 1 to the limit; `OutOfMemory` only where such a line was good and no system has types yet:
+    /// room for all systems is asked for at once. After either the types are as they were.
     pub fn accept_line(&mut self, line: &[u8]) -> Result<(), Fault>
         // Types are what the accepted lines declare.
         ensures declared { (lines : List (List ℕ)) → self.old ≡ types_of lines
@@ -63,6 +70,7 @@ impl Types {
         ensures bad { IfErr result (λ fault.
             ((fault ≡ Fault.BadTypesLine) × (is_bad_types_line line.now ≡ true))
             ⊎ ((fault ≡ Fault.OutOfMemory) × (is_some (count_of_types_line line.now) ≡ true))) }
+        ensures asked { IfErr result (λ fault. fault ≡ Fault.OutOfMemory → self.old ≡ []) }
         ensures err { OnErr result (self.new ≡ self.old) }
     {
         if !is_types(line) {
@@ -71,9 +79,10 @@ impl Types {
         let Some((letter, count)) = count_in(line) else {
             return Err(Fault::BadTypesLine);
         };
-        let Ok(_) = self.counts.insert(letter, count) else {
+        if make_room(&mut self.counts).is_err() {
             return Err(Fault::OutOfMemory);
-        };
+        }
+        put(&mut self.counts, letter, count);
         self.by_letter[letter as usize] = count as u16;
         Ok(())
     }
@@ -109,6 +118,37 @@ impl Types {
         let (letter, count) = self.counts.get_index(index)?;
         Some((*letter, *count))
     }
+}
+
+/// Asks for room for all systems where none has types yet. Later no more is needed.
+fn make_room(counts: &mut IndexMap<u8, usize>) -> Result<(), AllocError>
+    requires room { HasRoom counts.old.entries (spare counts.old) }
+    ensures entries { counts.new.entries ≡ counts.old.entries }
+    ensures kept { HasRoom counts.new.entries (spare counts.new) }
+    ensures room { OnOk result (SYSTEMS ≤ length counts.new.entries + spare counts.new) }
+    ensures asked { OnErr result (counts.old.entries ≡ []) }
+{
+    if counts.is_empty() {
+        return counts.reserve(SYSTEMS);
+    }
+    Ok(())
+}
+
+/// Replaces the count of a system, or puts it after those of the others. There is room for all systems.
+fn put(counts: &mut IndexMap<u8, usize>, letter: u8, count: usize)
+    requires counts { AreCounts counts.old.entries }
+    requires system { is_system letter ≡ true }
+    requires room { SYSTEMS ≤ length counts.old.entries + spare counts.old }
+    ensures entries { counts.new.entries ≡ with_count counts.old.entries letter count }
+    ensures room { SYSTEMS ≤ length counts.new.entries + spare counts.new }
+{
+    if let Some(held) = counts.get_mut(&letter) {
+        *held = count;
+        return;
+    }
+    let Ok(_) = counts.insert(letter, count) else {
+        unreachable!()
+    };
 }
 
 /// Whether a line begins the list of a system's types: its label is `SYS / # / OBS TYPES`, and column 1 isn't blank

@@ -1,8 +1,8 @@
-use Rattle.std.proofs.Common.{◌≡◌, ℕ, List, Some, true, false, ap, sym, ◌∙◌, length, arith}
+use Rattle.std.proofs.Common.{◌≡◌, ℕ, List, Some, true, false, ap, sym, subst, inr, ◌∙◌, length, arith}
 use Rattle.crx_header.specs.declared.types.TheConstants.{LETTERS}
 use Rattle.crx_header.specs.meaning.ObservationTypes.{Count, is_types_line, count_in, types_of}
-use Rattle.crx_header.specs.ObservationTypes.{with_line, with_count}
-use Rattle.crx_header.proofs.Counts.{insert_is_with, types_of-push, with_line-other, with_line-types, count_in_allowed}
+use Rattle.crx_header.specs.ObservationTypes.{with_line, with_count, AreCounts, AreByLetter}
+use Rattle.crx_header.proofs.Counts.{types_of-push, with_line-other, with_line-types, count_in_allowed}
 use Rattle.crx_header.proofs.Counts.{AreCounts-with_count, AreByLetter-with_count}
 use Rattle.crx_header.proofs.types.Types.accept_line.Goals as goal
 
@@ -24,8 +24,9 @@ returns-clause-ok c =
     inserted c.self.inside.counts.entries
     c.args.self.now c.args.self.now c.args.line.now c.in-Some.letter c.in-Some.count
     (sym c.is_types.ensures.value ∙ c.if-not-is_types.false)
-    c.in-Some.ensures.value c.self.view_is c.insert.new.self.entries
-    (c.in-Ok.ensures.entries ∙ insert_is_with c.self.inside.counts.entries c.in-Some.letter c.in-Some.count)
+    c.in-Some.ensures.value c.self.view_is c.put.new.counts.entries
+    (c.put.ensures.entries ∙ ap (λ (s : List Count). with_count s c.in-Some.letter c.in-Some.count)
+    c.make_room.ensures.entries)
 
 pub returns-clause-declared : goal.returns-clause-declared
 returns-clause-declared c = λ lines h.
@@ -39,8 +40,10 @@ invariant_of-self-2 c =
     let count = c.in-Some.count in
     let allowed = count_in_allowed c.args.line.now letter count (sym c.in-Some.ensures.value) in
     let long : length c.self.inside.by_letter ≡ LETTERS = search in
-    rw (c.in-Ok.ensures.entries ∙ insert_is_with entries letter count) (
-      AreCounts-with_count entries letter count c.self.invariant.0 allowed.0 allowed.1,
-      AreByLetter-with_count c.self.inside.by_letter entries letter count c.self.invariant.1
-          (omega (arith, long, c.in-Some.ensures.byte)),
+    let with : c.put.new.counts.entries ≡ with_count entries letter count =
+    c.put.ensures.entries ∙ ap (λ (s : List Count). with_count s letter count) c.make_room.ensures.entries in (
+      subst AreCounts (sym with) (AreCounts-with_count entries letter count c.self.invariant.0 allowed.0 allowed.1),
+      subst (AreByLetter _) (sym with) (AreByLetter-with_count c.self.inside.by_letter entries letter count
+          c.self.invariant.1 (omega (arith, long, c.in-Some.ensures.byte))),
+      inr c.put.ensures.room,
     )

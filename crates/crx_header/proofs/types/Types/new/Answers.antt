@@ -1,4 +1,4 @@
-use Rattle.std.proofs.Common.{refl, arith}
+use Rattle.std.proofs.Common.{refl, inl, arith}
 use Rattle.std.proofs.lemmas.List.{get_or-replicate}
 use Rattle.crx_header.proofs.types.Types.new.Goals as goal
 
@@ -11,4 +11,5 @@ invariant_of-result c =
         apart = refl;
       },
       λ letter few. get_or-replicate 256 letter 0 0 few,
+      inl refl,
     )
