@@ -267,6 +267,12 @@ def a_thousand_epochs(program):
     return comes_back(program, "rnx2crx --date D", standard, compact)
 
 
+def stack_of_runs():
+    """What is wrong with the stack that runs have: as a shell says it that is run as the program is."""
+    said = run("/bin/sh", ["-c", "ulimit -s"]).output
+    return [] if said == b"%d\n" % (STACK // 1024) else [f"ulimit -s says {said!r}"]
+
+
 LONG = [the_greatest_epoch, a_hundred_satellites_of_a_hundred_types, one_satellite_more_than_there_are, a_thousand_epochs]
 
 
@@ -292,5 +298,6 @@ def named_in_the_list():
 
 def checks(program):
     yield "the list by subject", named_in_the_list
+    yield "the stack of each run", stack_of_runs
     yield from ((path.stem, lambda path=path: run_file(program, path)) for path in cases())
     yield from ((check.__name__, lambda check=check: check(program)) for check in LONG)
