@@ -125,7 +125,9 @@ CASES = [
     Case("-e 0", ["rnx2crx", "-e", "0"], stderr=is_refusal, status=1),
     Case("-e 1000001", ["rnx2crx", "-e", "1000001"], stderr=is_refusal, status=1),
     Case("-s in a check", ["check", "-s"], stderr=is_refusal, status=1),
-    Case("a word that isn't text", ["check", b"\xff.rnx"], stderr=is_refusal, status=1),
+    refused("a word that isn't text", ["check", b"\xff.rnx"], "error: invalid UTF-8 was detected in one or more arguments"),
+    refused("a date that isn't text", ["rnx2crx", "--date", b"\xff"], "error: invalid UTF-8 was detected in one or more arguments"),
+    refused("a subcommand that isn't text", [b"\xff"], "error: invalid UTF-8 was detected in one or more arguments"),
     # Help.
     Case("help", ["--help"], stdout=help_with("Usage: rnxcmp <COMMAND>", *OF_ALL)),
     Case("help of rnx2crx", ["rnx2crx", "-h"], stdout=help_with("Usage: rnxcmp rnx2crx", "-e <N>", "--date <TEXT>", ".rnx becomes .crx", *OF_EACH)),

@@ -11,8 +11,11 @@ from cases import COMPACT_FIVE, DATED, FIVE, H, epoch, text
 
 SECONDS = 120  # in which each of these runs is to end
 PIECE = text(*[line for second in range(4000) for line in (epoch(second % 10, 1), f"G01  {20000000 + 7 * second}.000")])
-LONG = 70_000_000  # bytes
+LONG, GIGABYTE = 70_000_000, 1_000_000_000  # bytes
+PATH, STEP = 4000, 180  # bytes of a long path, and of each folder's name in it
 EPOCHS = 2_000_000
+TWICE = text("error: the argument '-s' cannot be used multiple times", "", "Usage: rnxcmp rnx2crx [OPTIONS] [FILE]...", "",
+             "For more information, try '--help'.")
 
 
 def answered(run, status, output, messages):
@@ -24,34 +27,31 @@ def answered(run, status, output, messages):
 def forty_arguments(program):
     """Forty names are more than one, and forty hyphens more than one; forty options that are the same are refused as such."""
     wrong = []
-    for words, message in ((["rnx2crx", *[f"{place}.rnx" for place in range(40)]], b"ERROR: more than one file name\n"),
-                           (["crx2rnx", *["-"] * 40], b"ERROR: - given twice\n"), (["check", *["a.rnx"] * 40], b"ERROR: more than one file name\n")):
+    for words, message in ((["rnx2crx", *[f"{place}.rnx" for place in range(40)]], text("ERROR: more than one file name")),
+                           (["crx2rnx", *["-"] * 40], text("ERROR: - given twice")),
+                           (["check", *["a.rnx"] * 40], text("ERROR: more than one file name")), (["rnx2crx", *["-s"] * 40], TWICE)):
         run = subprocess.run([program, *words], capture_output=True, stdin=subprocess.DEVNULL, timeout=SECONDS)
         wrong += answered(run, 1, b"", message)
-    run = subprocess.run([program, "rnx2crx", *["-s"] * 40], capture_output=True, stdin=subprocess.DEVNULL, timeout=SECONDS)
-    if run.returncode != 1 or run.stdout or not run.stderr.startswith(b"error: "):
-        wrong.append(f"forty times -s: status {run.returncode}, messages {run.stderr!r}")
     return wrong
 
 
 def long_names(program):
-    """A path of nearly 4,000 bytes is read and its output is written; a name of 300 bytes is named whole where it is refused."""
+    """A path of 4,000 bytes is read and its output is written; a name of 300 bytes is named whole where it is refused."""
     wrong = []
     with tempfile.TemporaryDirectory() as top:
-        place = Path(top)
-        folder = os.open(top, os.O_RDONLY)
-        while len(str(place)) < 3800:
-            place = place / ("f" * 180)
-            os.mkdir("f" * 180, dir_fd=folder)
-            inner = os.open("f" * 180, os.O_RDONLY, dir_fd=folder)
+        path, folder = top, os.open(top, os.O_RDONLY)
+        while left := PATH - len(path) - len("/a.rnx"):
+            name = "f" * (STEP if left > 2 * STEP else left // 2 if left > STEP else left - 1)
+            os.mkdir(name, dir_fd=folder)
+            inner = os.open(name, os.O_RDONLY, dir_fd=folder)
             os.close(folder)
-            folder = inner
+            path, folder = f"{path}/{name}", inner
         with open(os.open("a.rnx", os.O_WRONLY | os.O_CREAT, dir_fd=folder), "wb") as file:
             file.write(FIVE)
-        run = subprocess.run([program, *DATED, str(place / "a.rnx")], capture_output=True, timeout=SECONDS)
+        run = subprocess.run([program, *DATED, f"{path}/a.rnx"], capture_output=True, timeout=SECONDS)
         wrong += answered(run, 0, b"", b"")
         with open(os.open("a.crx", os.O_RDONLY, dir_fd=folder), "rb") as file:
-            wrong += [] if file.read() == COMPACT_FIVE else ["another output under a long path"]
+            wrong += [] if (len(path) + len("/a.rnx"), file.read()) == (PATH, COMPACT_FIVE) else ["another output under a long path"]
         os.close(folder)
     name = "n" * 300
     for words, message in ((["rnx2crx", name], f"ERROR: no output name for {name}"), (["check", name], f"ERROR: cannot read {name}"),
@@ -93,9 +93,9 @@ def comes_back(program, pieces):
     return wrong if same else [*wrong, f"{found['length']} bytes went in, and {length} or others came back"]
 
 
-def seventy_megabytes(program):
-    """A long input by standard streams comes back whole, and its check counts all of it."""
-    times = LONG // len(PIECE) + 1
+def long_input(program, size):
+    """An input of so many bytes comes back whole by standard streams, and its check counts all of it."""
+    times = size // len(PIECE) + 1
     wrong = comes_back(program, [text(*H), *[PIECE] * times])
     with subprocess.Popen([program, "check"], stdin=subprocess.PIPE, stdout=subprocess.PIPE) as run:
         thread, _ = fed(run.stdin, [text(*H), *[PIECE] * times])
@@ -114,6 +114,7 @@ def two_million_epochs(program):
 CHECKS = [
     ("forty arguments", forty_arguments),
     ("long names", long_names),
-    ("70 MB by standard streams", seventy_megabytes),
+    ("70 MB by standard streams", lambda program: long_input(program, LONG)),
+    ("a gigabyte by standard streams", lambda program: long_input(program, GIGABYTE)),
     ("two million epochs", two_million_epochs),
 ]
