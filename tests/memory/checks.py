@@ -10,7 +10,7 @@ from pathlib import Path
 sys.path.insert(0, str(Path(__file__).parent))
 sys.path.insert(0, str(Path(__file__).parents[1] / "process"))
 from cases import DATED, H, K, text  # noqa: E402
-from run import STEADY, Program, Run, steady, without_date  # noqa: E402
+from run import OVER, STEADY, Program, Run, steady, without_date  # noqa: E402
 
 HEADER = Run("a header alone", DATED, text(*H))
 # What is written where memory runs out at a line of the header: at line 0, before the first one was read, nothing. (The dates of outputs
@@ -60,14 +60,9 @@ def each_refused(program):
     return [*wrong[:10], f"more than {MOST} growths"]
 
 
-def stays_steady(program, name):
-    """What is wrong with the growths of a run over 400 epochs beside one over 20, as lines."""
-    few, many = steady(program, name)
-    return [] if few == many else [f"{few} growths over 20 epochs, {many} over 400"]
-
-
 def checks(program):
     yield "a header alone, the first growth refused", lambda: with_program(program, first_refused)
     yield "a header alone, each growth refused in turn", lambda: with_program(program, each_refused)
     for name in STEADY:
-        yield f"{name}: no growth after the first epochs", lambda name=name: with_program(program, lambda it: stays_steady(it, name))
+        for over in OVER:
+            yield f"{name}, {over}: no growth after the first epochs", lambda name=name, over=over: with_program(program, lambda it: steady(it, name, over)[0])

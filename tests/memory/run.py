@@ -4,11 +4,12 @@
     tests/memory/run.py PROGRAM
 
 A growth is a call of the C library that takes memory: refusing.c stands in front of it, built by the toolchain's clang (or by CC). Of
-each run the first growth is refused, then the second, until a run meets none; first that one alone, then it and all later ones.
-Where memory ran out at line L, the output is to be that of the lines before it, the messages the warnings before it and then the
-error, the status 1. One growth of a run may be refused without harm: the list of words asks for its room beforehand, and once more
-where that is refused. A run over more epochs like those before meets no more growths than one over a few, with a fault in each epoch
-too. The last line counts the points and those that went wrong; the status is 0 where none did.
+each run the first growth is refused, then the second, until a run meets none; first that one alone, then it and all later ones. After it
+no further growth is to be asked for, where the words aren't refused. Where memory ran out at line L, the output is to be that of the lines
+before it, the messages the warnings before it and then the error, the status 1. One growth of a run may be refused without harm: the list of
+words asks for its room beforehand, and once more where that is refused. A run over more epochs like those before meets no more growths than
+one over a few, with a fault in each epoch too, and holds no more bytes. The last line counts the points and those that went wrong; the status
+is 0 where none did.
 """
 
 import os
@@ -44,6 +45,16 @@ class Answer:
     messages: bytes
     status: int
     refused: int
+    after: int = 0  # growths that were asked for after the one that was refused
+
+
+@dataclass
+class Counts:
+    """What a run took of memory."""
+
+    growths: int
+    most: int  # bytes that were held at once
+    at_end: int  # bytes that were held when the input's end was read
 
 
 def file_of(names, types, seconds, turned=False):
@@ -58,6 +69,19 @@ def file_of(names, types, seconds, turned=False):
 
 
 NAMES = [letter + number for letter in SYSTEMS for number in ("01", " 2")]
+THIRTY = [f"{letter}{number:02}" for letter in "GRE" for number in range(1, 11)]
+
+
+def coming_and_going(epochs):
+    """A file with 30 satellites of 30 types: in each epoch nine others of them are absent, and they are in another order. After ten epochs
+    it all comes again, so that a run has met each by then."""
+    made = []
+    for phase in range(10):
+        there = [place for place in range(30) if (7 * place + 3 * phase) % 10 >= 3]
+        turned = (there[5 * phase % 21 :] + there[: 5 * phase % 21])[:: -1 if phase % 2 else 1]
+        cells = [f"{20000000 + place + phase**3:10}.00117" for place in range(30)]
+        made.append(text(f"> 2024 01 01 00 00  {phase}.0000000  0{len(there):3}", *[THIRTY[place] + "".join(cells) for place in turned]))
+    return file_of([], 30, 0) + b"".join(made[epoch % 10] for epoch in range(epochs))
 
 INPUTS = {
     "a header": text(*H),
@@ -103,6 +127,7 @@ class Program:
     def __init__(self, path, folder):
         self.path, self.folder, self.library = path, folder, library(folder)
         self.mark = (folder / "mark").open("wb", buffering=0)
+        self.told = (folder / "told").open("w+b", buffering=0)
         self.points = 0
 
     def answer(self, run, growth=0, on=False):
@@ -113,20 +138,30 @@ class Program:
         for name, content in run.before.items():
             (here / name).write_bytes(content)
         self.mark.truncate(0)
-        refusing = {"LD_PRELOAD": str(self.library), "REFUSE": str(growth), "REFUSE_ON": str(int(on)), "REFUSE_TO": str(self.mark.fileno())}
-        done = subprocess.run(
-            [self.path, *run.words],
-            input=run.stdin,
-            capture_output=True,
-            cwd=here,
-            env={**os.environ, **refusing},
-            pass_fds=[self.mark.fileno()],
-            timeout=60,
-        )
+        refusing = {"REFUSE": str(growth), "REFUSE_ON": str(int(on)), "REFUSE_TO": str(self.mark.fileno())}
+        done, counts = self.counted(run.words, run.stdin, refusing, cwd=here, capture_output=True)
         output = done.stdout
         if run.written:
             output = (here / run.written).read_bytes() if (here / run.written).exists() else b""
-        return Answer(without_date(output), done.stderr, done.returncode, os.fstat(self.mark.fileno()).st_size)
+        refused = os.fstat(self.mark.fileno()).st_size
+        return Answer(without_date(output), done.stderr, done.returncode, refused, counts.growths - growth if refused else 0)
+
+    def counted(self, words, given, settings, **more):
+        """A run with refusing.c in front, and what it took of memory."""
+        self.told.seek(0)
+        self.told.truncate()
+        environment = {**os.environ, "LD_PRELOAD": str(self.library), "COUNT_TO": str(self.told.fileno()), **settings}
+        open_files = [self.mark.fileno(), self.told.fileno()]
+        done = subprocess.run([self.path, *words], input=given, env=environment, pass_fds=open_files, timeout=60, **more)
+        self.told.seek(0)
+        return done, Counts(*(map(int, self.told.read().split()) if done.returncode >= 0 else (0, 0, 0)))
+
+    def counts(self, words, given, status):
+        """What a run takes of memory that is to end with this status."""
+        done, found = self.counted(words, given, {}, stdout=subprocess.DEVNULL, stderr=subprocess.DEVNULL)
+        if done.returncode != status or not found.at_end:
+            raise ValueError(f"{words}: status {done.returncode}, not {status}; {found}")
+        return found
 
 
 def without_date(output):
@@ -145,13 +180,21 @@ def line_of(message):
     return int(message.split()[2])
 
 
-def outputs_by_line(program, run):
-    """What is written once none, one, two .. lines were read: of a check nothing before the end."""
-    if not run.filters or run.words[0] == "check":
-        return [b""]
-    lines = run.stdin.splitlines(keepends=True)
-    starts = [b"".join(lines[:count]) for count in range(len(lines) + 1)]
-    return [program.answer(replace(run, stdin=start, before=dict.fromkeys(run.before, start))).output for start in starts]
+class OutputsByLine:
+    """What is written once none, one, two .. lines were read: of a check nothing before the end. Each is made where it is asked for."""
+
+    def __init__(self, program, run):
+        self.program, self.run, self.known = program, run, {0: b""}
+        self.lines = [] if not run.filters or run.words[0] == "check" else re.findall(rb"[^\n]*\n|[^\n]+", run.stdin)
+
+    def __len__(self):
+        return len(self.lines) + 1
+
+    def __getitem__(self, count):
+        if count not in self.known:
+            start = b"".join(self.lines[:count])
+            self.known[count] = self.program.answer(replace(self.run, stdin=start, before=dict.fromkeys(self.run.before, start))).output
+        return self.known[count]
 
 
 def wrong_with(run, good, outputs, got):
@@ -169,14 +212,16 @@ def wrong_with(run, good, outputs, got):
     wanted = outputs[max(line - 1, 0)] if len(outputs) > 1 else b""
     if not run.filters and line > 0 or line >= len(outputs) > 1:
         return f"line {line}, after the last one"
+    if not good.output.startswith(got.output):
+        return f"at line {line}: the output isn't a beginning of the good one"
     return "" if got.output == wanted else f"at line {line}: output of {len(got.output)} bytes, not {len(wanted)}"
 
 
-def tried(program, run):
-    """Refuses each growth of a run in turn; how many there are, and what went wrong."""
+def tried(program, run, ways=(False, True)):
+    """Refuses each growth of a run in turn, alone and with all later ones; how many there are, and what went wrong."""
     good, wrong, points, spared = program.answer(run), [], 0, 0
-    outputs = outputs_by_line(program, run)
-    for on in (False, True):
+    outputs = OutputsByLine(program, run)
+    for on in ways:
         growth = 0
         while True:
             growth += 1
@@ -186,9 +231,11 @@ def tried(program, run):
             points += 1
             what = wrong_with(run, good, outputs, got)
             if what and not on and not spared and is_same(got, good):
-                spared = growth
-            elif what:
-                wrong.append(f"growth {growth}{' and later ones' if on else ''}: {what}")
+                spared = growth  # its room is asked for once more
+                continue
+            if run.filters and got.after and growth != spared:
+                what = what or f"{got.after} growths were asked for after it"
+            wrong += [f"growth {growth}{' and later ones' if on else ''}: {what}"] if what else []
         if not is_same(got, good):
             wrong.append("a run that met no refusal differs from the good one")
     return points, wrong
@@ -203,28 +250,31 @@ STEADY = {
     "compacting with -s, a fault an epoch": ([*DATED, "-s"], b"x\n"),
     "expanding with -s, a fault an epoch": (["crx2rnx", "-s"], b"x\n"),
 }
+# The files that each of them is over, with so many epochs.
+OVER = {
+    "seven systems": lambda epochs: file_of(NAMES, 5, epochs),
+    "30 satellites of 30 types that come and go": coming_and_going,
+}
+GROWN, KEPT = (20, 400), (100, 1000)  # epochs between which the growths are the same, and the bytes that are held
 
 
-def growths(program, words, epochs, fault=b""):
-    """How many growths a run over so many epochs of seven systems meets, each after a line with a fault where one is given."""
-    content = file_of(NAMES, 5, epochs)
+def counts(program, words, content, fault=b""):
+    """What a run over a file takes of memory, after a line with a fault in each epoch where one is given."""
     if words[0] == "crx2rnx":
         made = [*DATED, *(["-e", "1"] if fault else [])]
         content = subprocess.run([program.path, *made], input=content, capture_output=True, check=True).stdout
-    content = content.replace(b"\n>", b"\n" + fault + b">")
-    run, below, above = Run("", words, content), 0, 1
-    while program.answer(run, above).refused:
-        below, above = above, 2 * above
-    while above - below > 1:
-        middle = (below + above) // 2
-        below, above = (middle, above) if program.answer(run, middle).refused else (below, middle)
-    return below
+    return program.counts([str(word) for word in words], content.replace(b"\n>", b"\n" + fault + b">"), 2 if fault else 0)
 
 
-def steady(program, name):
-    """How many growths a run meets over 20 epochs, and over 400."""
+def steady(program, name, over):
+    """What is wrong with the memory that runs over few and many epochs take, as lines, and what they take."""
     words, fault = STEADY[name]
-    return growths(program, words, 20, fault), growths(program, words, 400, fault)
+    few, many, early, late = (counts(program, words, OVER[over](epochs), fault) for epochs in GROWN + KEPT)
+    wrong = [] if few.growths == many.growths else [f"{few.growths} growths over {GROWN[0]} epochs, {many.growths} over {GROWN[1]}"]
+    same = (early.most, early.at_end) == (late.most, late.at_end)
+    kept = f"{early.most} bytes at most and {early.at_end} at the end of {KEPT[0]} epochs, {late.most} and {late.at_end} of {KEPT[1]}"
+    wrong += [] if same else [kept]
+    return wrong, f"{many.growths} growths, {late.most} bytes at most, {late.at_end} at the end"
 
 
 def runs(program):
@@ -262,9 +312,10 @@ def main():
             for line in wrong[:10]:
                 print(f"    {line}")
         for name in STEADY:
-            few, many = steady(program, name)
-            failed += few != many
-            print(f"memory {name}: {few} growths over 20 epochs, {many} over 400 ... {'ok' if few == many else 'FAILED'}", flush=True)
+            for over in OVER:
+                wrong, taken = steady(program, name, over)
+                failed += len(wrong)
+                print(f"memory {name}, {over}: {'; '.join(wrong) or taken} ... {'FAILED' if wrong else 'ok'}", flush=True)
     print(f"{points} points of failure tried, {failed} went wrong")
     return 1 if failed else 0
 
