@@ -1,15 +1,17 @@
-"""Memory that runs out at each growth of the shortest run: a file that is a header alone; and memory that doesn't grow with the input (see
-tests/run.py). tests/memory/run.py refuses the growths of longer runs, in some minutes."""
+"""Memory that runs out at each growth of the shortest run, a file that is a header alone, and of runs over random files; and memory that
+doesn't grow with the input (see tests/run.py). tests/memory/run.py refuses the growths of longer runs, in some minutes."""
 
 import os
 import shutil
 import sys
 import tempfile
+from functools import partial
 from pathlib import Path
 
 sys.path.insert(0, str(Path(__file__).parent))
 sys.path.insert(0, str(Path(__file__).parents[1] / "process"))
 from cases import DATED, H, K, text  # noqa: E402
+from at_random import over_files  # noqa: E402
 from run import OVER, STEADY, Program, Run, steady, without_date  # noqa: E402
 
 HEADER = Run("a header alone", DATED, text(*H))
@@ -18,6 +20,7 @@ HEADER = Run("a header alone", DATED, text(*H))
 WRITTEN = {0: b"", 1: b"", 2: without_date(text(*K, H[0])), 3: without_date(text(*K, H[0], H[1]))}
 WHOLE = without_date(text(*K, *H))
 MOST = 1000  # growths that are refused in turn, far more than there are
+FILES, SEED = 20, 1  # random files over which each growth is refused
 
 
 def error_at(line):
@@ -60,9 +63,19 @@ def each_refused(program):
     return [*wrong[:10], f"more than {MOST} growths"]
 
 
+def at_random(program):
+    """What is wrong with runs over random files of which one growth is refused, as lines."""
+    if not (os.environ.get("CC") or shutil.which("rt")):
+        return "neither rt nor CC"
+    points, wrong = over_files(program, FILES, SEED, os.cpu_count())
+    return wrong[:10] + ([] if points > 100 * FILES else [f"{points} growths alone"])
+
+
 def checks(program):
     yield "a header alone, the first growth refused", lambda: with_program(program, first_refused)
     yield "a header alone, each growth refused in turn", lambda: with_program(program, each_refused)
+    yield f"{FILES} random files, each growth refused in turn", lambda: at_random(program)
     for name in STEADY:
         for over in OVER:
-            yield f"{name}, {over}: no growth after the first epochs", lambda name=name, over=over: with_program(program, lambda it: steady(it, name, over)[0])
+            check = partial(with_program, program, lambda it, name=name, over=over: steady(it, name, over)[0])
+            yield f"{name}, {over}: no growth after the first epochs", check
