@@ -7,6 +7,9 @@
 # make proofs proves all crates, but for their tests in Rattle
 # make memory-test runs the program that make built with each growth of memory refused in turn (tests/memory)
 # make memory-random-test does the same over 500 random files (some ten minutes)
+# make instruction-counts
+#             stores anew how many instructions the program that make built takes over three inputs, of which tests/instructions allows a tenth
+#             more or less
 # make archive-test runs each recipe of docs/ARCHIVES.md over 200 files, some of them bad, with kills and full disks (tests/archives)
 # make files-test tries rnxcmp-file for longer (tests/files/run.py): runs at once, signals, failing calls, full disks, power cuts (as root)
 # make laws-test compares two laws with what the program that make built does: on 100,000 damages of random files, and on 200,000 damaged
@@ -47,7 +50,7 @@ JOBS := $(shell awk -v jobs="$$(($$(nproc) + 1))" '/^MemTotal/ { n = int($$2 / 2
 # What crates.mk makes, all at once; where a proof fails, its errors are the last lines that are printed.
 made = @rm -rf out/failed; $(MAKE) --no-print-directory $(if $(findstring jobserver,$(MAKEFLAGS)),,-j$(JOBS)) $(1) || tests/gate.py failures
 
-.PHONY: all proofs test quick memory-test memory-random-test archive-test files-test laws-test cluster-test debian11-test docs install dist
+.PHONY: all proofs test quick memory-test memory-random-test instruction-counts archive-test files-test laws-test cluster-test debian11-test docs install dist
 
 all:
 	$(call made,$(PROGRAM))
@@ -79,6 +82,9 @@ memory-test:
 
 memory-random-test:
 	tests/memory/at_random.py $(PROGRAM)
+
+instruction-counts:
+	tests/instructions/count.py $(PROGRAM)
 
 archive-test:
 	tests/archives/many.py $(PROGRAM)

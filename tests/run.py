@@ -11,10 +11,10 @@ What the prover prints goes into out/logs/gate; here it is a line a crate, with 
 The program runs over whole texts (tests/cases), by tables of arguments (tests/arguments), as a process whose streams fail or change
 (tests/process), by the recipes of docs/ARCHIVES.md (tests/archives), and by the commands that README.md, the manual page and the help
 print, and as it is installed (tests/commands). Reads, writes and flushes of it are made to fail (tests/faults), and growths of its memory
-(tests/memory). The tool for whole files is tried over all that may be under an output's name, at once, ended by signals and with
-failing calls (tests/files). The library for C and Python is called beside it (tests/library), a release is made (tests/release), and the
-documents are compared with the sources (tests/documents). The last line is `N passed, M failed`, of all. The exit status is 0 where
-nothing failed.
+(tests/memory); its instructions are counted (tests/instructions). The tool for whole files is tried over all that may be under an output's
+name, at once, ended by signals and with failing calls (tests/files). The library for C and Python is called beside it (tests/library), a
+release is made (tests/release), and the documents are compared with the sources (tests/documents). The last line is `N passed, M failed`, of
+all. The exit status is 0 where nothing failed.
 """
 
 import argparse
@@ -41,6 +41,7 @@ KINDS = (
     ("fault", "faults"),
     ("file", "files"),
     ("memory", "memory"),
+    ("instruction", "instructions"),
     ("example", "examples"),
     ("document", "documents"),
     ("release", "release"),
