@@ -6,7 +6,7 @@
 #             without the tests in Rattle and without wrong bodies (what the prover prints goes into out/logs)
 # make proofs proves all crates, but for their tests in Rattle
 # make memory-test runs the program that make built with each growth of memory refused in turn (tests/memory)
-# make memory-random-test does the same over 500 random files (some ten minutes)
+# make memory-random-test does the same over 500 random files (seven minutes on two busy cores)
 # make instruction-counts
 #             stores anew how many instructions the program that make built takes over three inputs, of which tests/instructions allows a tenth
 #             more or less
