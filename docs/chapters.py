@@ -88,13 +88,13 @@ CHAPTERS = (
     ),
     Chapter(
         "What a handle promises",
-        "How a run stands after each call, by all that was fed and taken, by what the handle keeps, and by what the call answered; and that it"
-        " answers as a call over the whole input. `HandleStands` only links a call to the next one, and need not be read. The next chapter has"
-        " that, `has_ended` and `run_state`, and which texts a handle keeps.",
+        "How a run stands after each call, by all that was fed and taken, by what the handle keeps, and by what the call answered; that it"
+        " answers as a call over the whole input; and that what the lines make comes first in its result. `HandleStands` only links a call"
+        " to the next one, and need not be read. The next chapter has that, `has_ended` and `run_state`, and which texts a handle keeps.",
         tuple((f"rnxcmp_c::rnxcmp_c_{call}", clauses) for call, clauses in OF_CALLS)
-        + (("rnxcmp_c::a_handle_answers_as_a_call", "*"),),
+        + tuple((f"rnxcmp_c::{law}", "*") for law in ("a_handle_answers_as_a_call", "what_lines_make_comes_first")),
         RESULTS + FILTERS + OF_HANDLES,
-        90,
+        65,
     ),
     Chapter(
         "Handles",

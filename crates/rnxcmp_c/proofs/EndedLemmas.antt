@@ -1,5 +1,5 @@
 -- What the result of a run brings back, saves and judges follows from what it is, by the laws.
-use Rattle.std.proofs.Common.{◌≡◌, inl, inr, ℕ, Bool, true, false, ap, sym, ◌∙◌}
+use Rattle.std.proofs.Common.{◌≡◌, ◌⊎◌, inl, inr, ⊎_elim, ℕ, true, ap, sym, ◌∙◌}
 use Rattle.crx_faults.specs.meaning.Faults.{code_of_fault}
 use Rattle.crx_faults.specs.declared.fault.Fault.TheVariants.{InputTooLong}
 use Rattle.crx_options.specs.meaning.Choices.{Choices}
@@ -9,10 +9,9 @@ use Rattle.crx_filter.proofs.stretches.StretchesSaved.{rest-kept, whole-first}
 use Rattle.crx_runs.specs.meaning.Results.{FilterResult}
 use Rattle.rnxcmp_c.specs.declared.answer.Answer.{Answer}
 use Rattle.rnxcmp_c.specs.declared.answer.TheConstants.{OUTPUT_LIMIT}
-use Rattle.rnxcmp_c.specs.meaning.Answers.{HasNoMemory}
+use Rattle.rnxcmp_c.specs.meaning.Answers.{BothTexts, HasNoMemory}
 use Rattle.rnxcmp_c.specs.Handles.{IsLineReached}
-use Rattle.rnxcmp_c.specs.meaning.Handles.{BothTexts, HandlePast, RunHasEnded, RunHasResult}
-use Rattle.rnxcmp_c.specs.meaning.Handles.{RunIs}
+use Rattle.rnxcmp_c.specs.meaning.Handles.{HandlePast, RunHasEnded, RunHasResult, RunIsFull}
 use Rattle.rnxcmp_c.specs.meaning.Handles.{Task, Expand, Check, result_for}
 use Rattle.rnxcmp_c.specs.meaning.Ended.{CheckPromises, ExpansionPromises}
 use Rattle.rnxcmp_c.proofs.Kept.{brings-back, judges-status, saves-all_else}
@@ -25,19 +24,19 @@ module _ (past : HandlePast) (kept : BothTexts) (answer : Answer) where
       → (answer.status ≡ OUTPUT_LIMIT → ⊥) → RunHasResult (result_for task past.fed) past kept answer
   result-where is_line task (inl result) memory limit = result
   result-where is_line task (inr (inl over)) memory limit = absurd (limit (ap (λ
-      (a : Answer). a.status) over.passes.answered))
+      (a : Answer). a.status) over.answered))
   result-where is_line task (inr (inr ran)) memory limit = absurd (memory (ap (λ
       (a : Answer). a.code) ran.answered))
 
-  pub ended-where : (task : Task) (has_ended : Bool) → has_ended ≡ true → RunIs has_ended task past kept answer
+  pub ended-where : (task : Task)
+      → RunHasEnded (IsLineReached past.fed) task past kept answer ⊎ RunIsFull task past kept answer
       → (HasNoMemory answer → ⊥) → (answer.code ≡ code_of_fault InputTooLong → ⊥)
       → RunHasEnded (IsLineReached past.fed) task past kept answer
-  ended-where task true is (inl ended) memory long = ended
-  ended-where task true is (inr (inl much)) memory long = absurd (long (ap (λ
-      (a : Answer). a.code) much.answered))
-  ended-where task true is (inr (inr much)) memory long = absurd (memory (ap (λ
-      (a : Answer). a.code) much.answered))
-  ended-where task false is run memory long = absurd (cc)
+  ended-where task (inl ended) memory long = ended
+  ended-where task (inr full) memory long = ⊎_elim
+      (λ said. absurd (long (ap (λ (a : Answer). a.code) full.answered ∙ ap code_of_fault said.0)))
+      (λ hidden. absurd (memory (ap (λ (a : Answer). a.code) full.answered ∙ ap code_of_fault hidden.0)))
+      full.why
 
   abbrev Has : FilterResult → Type 0
   Has whole = RunHasResult whole past kept answer

@@ -15,7 +15,8 @@ use Rattle.crx_filter.proofs.wayback.Standard.{normal-comes_back, standard-comes
 use Rattle.crx_filter.proofs.damage.DamageStays.{saved-lines}
 use Rattle.rnxcmp_c.specs.Collecting.{HasNone, IsRun}
 use Rattle.rnxcmp_c.specs.declared.runs.Run.{Run}
-use Rattle.rnxcmp_c.specs.meaning.Answers.{AnswersWithin, HasNoMemory, IsAnswer, ExceedsLimit, Rooms, status_in}
+use Rattle.rnxcmp_c.specs.meaning.Answers.{AnswersWithin, BothTexts, ExceedsLimit, HasNoMemory, IsAnswer}
+use Rattle.rnxcmp_c.specs.meaning.Answers.{status_in}
 use Rattle.rnxcmp_c.specs.meaning.Promises.{CallBringsBackWhatWasCompacted, CallJudgesStandard, CallSavesAllElse}
 use Rattle.rnxcmp_c.specs.declared.answer.Answer.{Answer}
 use Rattle.rnxcmp_c.specs.declared.answer.TheConstants.{NO_ROOM}
@@ -63,7 +64,7 @@ judges-status file status is good =
     both-ways (both-ways (λ zero. sym same ∙ zero, λ zero. same ∙ zero) (none-where_0 found.not_standard))
     (named-where_not file good)
 
-pub judges-standard : (file : List ℕ) (answer : Answer) (before after : Rooms)
+pub judges-standard : (file : List ℕ) (answer : Answer) (before after : BothTexts)
     → IsAnswer (checked file) answer before after → answer.output_length ≤ length before.output
     → CallJudgesStandard answer.status file
 judges-standard file answer before after is fits =
@@ -73,13 +74,14 @@ judges-standard file answer before after is fits =
 
 -- ---- the limit of the output
 
-pub answers-run : (whole : FilterResult) (output messages most : ℕ) (run : Run) (answer : Answer) (before after : Rooms)
+pub answers-run : (whole : FilterResult) (output messages most : ℕ) (run : Run) (answer : Answer)
+    (before after : BothTexts)
     → IsRun whole output messages most run → IsAnswer whole answer before after
     → AnswersWithin most whole answer before after
 answers-run whole output messages most run answer before after is answered =
     record { within = λ few. answered; over = λ more. absurd (is.within more) }
 
-pub answers-none : (whole : FilterResult) (most : ℕ) (answer : Answer) (before : Rooms)
+pub answers-none : (whole : FilterResult) (most : ℕ) (answer : Answer) (before : BothTexts)
     → HasNone (ExceedsLimit most whole.output) answer → (HasNoMemory answer → ⊥)
     → AnswersWithin most whole answer before before
 answers-none whole most answer before (inl over) memory =

@@ -8,7 +8,7 @@ use Rattle.crx_reading.proofs.Choosing.{by_bool}
 use Rattle.crx_runs.specs.meaning.Results.{FilterResult}
 use Rattle.crx_filter.specs.meaning.Lossless.{SaysThatItComesBack}
 use Rattle.crx_filter.proofs.standard.Lossless.{what-passes}
-use Rattle.rnxcmp_c.specs.meaning.Answers.{IsAnswer, Rooms, status_in}
+use Rattle.rnxcmp_c.specs.meaning.Answers.{IsAnswer, BothTexts, status_in}
 use Rattle.rnxcmp_c.specs.meaning.Lossless.{CallBringsBackWhatPasses}
 use Rattle.rnxcmp_c.specs.declared.answer.Answer.{Answer}
 
@@ -25,7 +25,7 @@ zero-status result room e = by_bool (nat_le (length result.output) room)
     let never = rw off at e in
     absurd (omega (arith, never)))
 
-pub says-so : (file : List ℕ) (answer : Answer) (before after : Rooms)
+pub says-so : (file : List ℕ) (answer : Answer) (before after : BothTexts)
     → IsAnswer (checked file) answer before after → SaysThatItComesBack answer.status file
 says-so file answer before after is zero =
     what-passes file (zero-status (checked file) (length before.output) (sym (IsAnswer.status is) ∙ zero))

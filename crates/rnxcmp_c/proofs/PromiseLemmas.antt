@@ -23,7 +23,7 @@ use Rattle.crx_runs.specs.declared.outcome.Outcome.{Outcome}
 use Rattle.rnxcmp_c.specs.Going.{IsGoing}
 use Rattle.rnxcmp_c.specs.Handles.{ReaderRuns, ReaderStands, RunIsOutOfMemory, RunIsOverLimit}
 use Rattle.rnxcmp_c.specs.Handles.{IsLineReached, RunIsTooLong, StandsBy, answer_now, fault_now, shows_of}
-use Rattle.rnxcmp_c.specs.Handles.{state_now, status_now}
+use Rattle.rnxcmp_c.specs.Handles.{state_now, status_now, too_long_after}
 use Rattle.rnxcmp_c.specs.Handles.{Feeds, FeedsBy, FeedsBytes, HasFedBy, HasPassedBy}
 use Rattle.rnxcmp_c.specs.Handles.{HasEndedBy, ReaderHasEnded, ReaderIsOver}
 use Rattle.rnxcmp_c.specs.Holding.{texts_of_held}
@@ -34,14 +34,14 @@ use Rattle.rnxcmp_c.specs.declared.answer.TheConstants.{OUTPUT_LIMIT}
 use Rattle.rnxcmp_c.specs.declared.held.Held.{Held}
 use Rattle.rnxcmp_c.specs.declared.limits.TheConstants.{READY_LIMIT}
 use Rattle.rnxcmp_c.specs.declared.reader.Reader.{Reader}
-use Rattle.rnxcmp_c.specs.meaning.Answers.{fault_code_in, line_in}
-use Rattle.rnxcmp_c.specs.meaning.Handles.{BothTexts, HandlePast, HandlePromise}
+use Rattle.rnxcmp_c.specs.meaning.Answers.{BothTexts, fault_code_in, line_in}
+use Rattle.rnxcmp_c.specs.meaning.Handles.{HandlePast, HandlePromise}
 use Rattle.rnxcmp_c.specs.Handles.{IsLastLine}
 use Rattle.rnxcmp_c.specs.Going.{IsLineEnded}
 use Rattle.rnxcmp_c.specs.meaning.Handles.{RunHasEnded, RunHasNoMemory, RunHasResult, RunIsFull, RunIsLimited}
 use Rattle.rnxcmp_c.specs.meaning.Handles.{RunWasEnded, TakesBytes, Task, Compact, Expand, Check}
-use Rattle.rnxcmp_c.specs.meaning.Handles.{allowed_after, fault_message, fed_with, filter_for, handle_answer}
-use Rattle.rnxcmp_c.specs.meaning.Handles.{limit_for, made_by_lines, ready, result_for, texts_made}
+use Rattle.rnxcmp_c.specs.meaning.Handles.{allowed_after, fed_with, filter_for, handle_answer}
+use Rattle.rnxcmp_c.specs.meaning.Handles.{limit_for, ready, result_for, texts_made}
 use Rattle.rnxcmp_c.specs.meaning.Handles.{with_one_more}
 use Rattle.rnxcmp_c.proofs.Cut.{begins-next}
 use Rattle.rnxcmp_c.proofs.GoingLemmas.{begins-then, notices-both}
@@ -91,9 +91,6 @@ messages-for (Compact choices limit) input = record { rest = _; same = refl }
 messages-for (Expand choices limit) input = record { rest = _; same = refl }
 messages-for Check input = record { rest = _; same = refl }
 
-begins-all : (text : List ℕ) → Begins text text
-begins-all text = record { rest = []; same = sym (append-nil text) }
-
 -- what some of the first lines make stands first in both texts of the result
 module _ (task : Task) (input : List ℕ) (lines others : List InputLine) (first : lines_of input ≡ lines ++ others) where
   pub output-first : Begins (result_for task input).output ((filter_for task).so_far lines).output
@@ -123,7 +120,7 @@ module _ (task : Task) (input : List ℕ) (lines : List InputLine) where
       (line ∷ []) others))
 
   -- the warnings of the lines before it, and then some of its own
-  messages-own : (others : List InputLine) → lines_of input ≡ lines ++ others → (notices : List At)
+  pub messages-own : (others : List InputLine) → lines_of input ≡ lines ++ others → (notices : List At)
       → (notices ≡ []) ⊎ AreNext ((filter_for task).so_far lines)
       (with_one_more (filter_for task) lines others) notices
       → Begins (result_for task input).messages
@@ -160,23 +157,18 @@ module _ (task : Task) (reader : Reader) (past : HandlePast) where
   runs-on runs =
       let going = subst (λ (f : Filter). IsGoing f (shows_of reader.engine) reader.held past)
       (filter-is task reader.engine runs.is_of) runs.going in
-      let lines = ended_lines_of past.fed in
       record {
         answered = refl;
-        run = record {
-          answered = refl;
-          made = record {
+        goes_on = λ runs_on. (
+          refl,
+          record {
             good = going.good;
             output = going.text.wrote;
-            messages = append-nil (notices_text (made_by_lines task past.fed).warnings) ∙ going.text.reported;
-          };
-          begun = λ (more : List ℕ). record {
-            output = subst (Begins (result_for task (past.fed ++ more)).output) going.text.wrote
-                (output-first task (past.fed ++ more) lines (lines_of (going.tail ++ more)) (going.cut more));
-            messages = subst (Begins (result_for task (past.fed ++ more)).messages) going.text.reported
-                (messages-first task (past.fed ++ more) lines (lines_of (going.tail ++ more)) (going.cut more));
-          };
-        };
+            messages = append-nil (notices_text ((filter_for task).so_far (ended_lines_of past.fed)).warnings)
+                ∙ going.text.reported;
+          },
+        );
+        ended = λ ended. absurd (cc);
         within = λ limited.
             let before : 0 < reader.held.limit = subst (λ (n : ℕ). 0 < n) (sym runs.limit) limited in
             omega (arith, going.left before, runs.limit, ap length going.text.wrote);
@@ -187,97 +179,57 @@ module _ (task : Task) (reader : Reader) (past : HandlePast) where
       (result_for task input) reader outcome past
       → RunHasNoMemory is_line task (record past { fed = input }) (texts_of_held reader.held) (answer_by
       (Some outcome) reader)
-  short-of_memory is_line outcome input ran =
-      let kept = texts_of_held reader.held in
-      let texts = texts_made past kept in
-      let answered = answers-same kept outcome.status 1 outcome.fault _ ran.status
-      (fault-at outcome.fault ran.memory) in
-      ⊎_elim
-      (λ by.
-      let stops = by.made in
-      let before : List ℕ = notices_text ((filter_for task).so_far stops.lines).warnings in
-      let own : List ℕ = notices_text stops.notices in
-      record {
-        answered = answered;
-        made = inl (by.at, stops);
-        begun = record { output = texts.output; messages = before ++ own };
-        begins = record {
-          output = subst (Begins (result_for task input).output) stops.made.output
-              (output-first task input stops.lines stops.others stops.first);
-          messages = messages-own task input stops.lines stops.others stops.first stops.notices stops.own;
-        };
-        output = refl;
-        messages = ⊎_elim
-            (λ none. inl (sym stops.made.messages ∙ ap (λ t. before ++ (own ++ t)) none
-            ∙ ap (λ t. before ++ t) (append-nil own)))
-            (λ more. inr (sym stops.made.messages ∙ ap (λ t. before ++ (own ++ t)) more
-            ∙ sym (append_assoc before own (fault_message (line_in outcome.fault) OutOfMemory))))
-            stops.last_is;
-      })
-      (λ hidden. record {
-        answered = answered;
-        made = inr hidden;
-        begun = texts;
-        begins = record {
-          output = record { rest = []; same = hidden.output_is ∙ sym (append-nil texts.output) };
-          messages = record { rest = error_text (result_for task input).fault; same = hidden.messages_are };
-        };
-        output = refl;
-        messages = inl refl;
-      })
-      ran.made
+  short-of_memory is_line outcome input ran = record {
+    answered = answers-same (texts_of_held reader.held) outcome.status 1 outcome.fault _ ran.status
+        (fault-at outcome.fault ran.memory);
+    made = ⊎_elim (λ by. inl (by.at, by.made)) (λ hidden. inr hidden) ran.made;
+  }
 
   is-full : (outcome : Outcome) → RunIsTooLong (filter_for task) (limit_for task) reader outcome past
       → RunIsFull task past (texts_of_held reader.held) (answer_by (Some outcome) reader)
   is-full outcome long = ⊎_elim
-      (λ said. inl (record {
+      (λ said. record {
         full = long.full;
+        fault = InputTooLong;
         answered = answers-same (texts_of_held reader.held) outcome.status 1 outcome.fault _ long.status said.0;
-        made = record {
-          good = long.good;
-          output = long.output;
-          messages = ap
-              (λ (n : ℕ). notices_text (made_by_lines task past.fed).warnings ++ fault_message n InputTooLong)
-              (ap line_in said.0) ∙ said.1;
-        };
-      }))
-      (λ hidden. inr (record {
+        last = error_text (Some (too_long_after past.fed));
+        why = inl (
+          refl,
+          ap (λ (n : ℕ). error_text (Some (record { line = n; fault = InputTooLong })))
+              (ap line_in (sym said.0)),
+        );
+        made = record { good = long.good; output = long.output; messages = said.1 };
+      })
+      (λ hidden. record {
         full = long.full;
+        fault = OutOfMemory;
         answered = answers-same (texts_of_held reader.held) outcome.status 1 outcome.fault _ long.status hidden.0;
+        last = [];
+        why = inr (refl, refl);
         made = record {
           good = long.good;
           output = long.output;
-          messages = append-nil (notices_text (made_by_lines task past.fed).warnings) ∙ hidden.1;
+          messages = append-nil (notices_text ((filter_for task).so_far (ended_lines_of past.fed)).warnings)
+              ∙ hidden.1;
         };
-      }))
+      })
       long.said
 
   over-limit : (outcome : Outcome) (input : List ℕ)
       → RunIsOverLimit (filter_for task) (limit_for task) input (result_for task input) reader outcome past
       → RunIsLimited task (record past { fed = input }) (texts_of_held reader.held)
       (answer_by (Some outcome) reader)
-  over-limit outcome input over =
-      let warnings : List ℕ = notices_text ((filter_for task).so_far over.lines).warnings in
-      let messages = sym (append-nil warnings) ∙ over.made.messages in
-      record {
-        passes = record {
-          answered = answers-same (texts_of_held reader.held) outcome.status OUTPUT_LIMIT outcome.fault None
-              over.status over.fault;
-          exceeds = (over.limited, over.longer);
-          begun = record {
-            output = subst (Begins (result_for task input).output) over.made.output
-                (output-first task input over.lines over.others over.first);
-            messages = subst (Begins (result_for task input).messages) messages
-                (messages-first task input over.lines over.others over.first);
-          };
-        };
-        lines = over.lines;
-        others = over.others;
-        first = over.first;
-        within = over.within;
-        over = over.over;
-        made = over.made;
-      }
+  over-limit outcome input over = record {
+    answered = answers-same (texts_of_held reader.held) outcome.status OUTPUT_LIMIT outcome.fault None
+        over.status over.fault;
+    exceeds = (over.limited, over.longer);
+    lines = over.lines;
+    others = over.others;
+    first = over.first;
+    within = over.within;
+    over = over.over;
+    made = over.made;
+  }
 
   has-result : (outcome : Outcome) (input : List ℕ)
       → ReaderIsOver (limit_for task) (result_for task input) reader outcome past
@@ -293,22 +245,26 @@ module _ (task : Task) (reader : Reader) (past : HandlePast) where
   stands-by None runs = runs-on runs
   stands-by (Some outcome) (inl ran) = record {
     answered = refl;
-    run = inl (inr (inr (short-of_memory (IsLineReached past.fed) outcome past.fed ran)));
+    goes_on = λ runs_on. absurd (cc);
+    ended = λ ended. inl (inr (inr (short-of_memory (IsLineReached past.fed) outcome past.fed ran)));
     within = ran.within;
   }
   stands-by (Some outcome) (inr (inl over)) = record {
     answered = refl;
-    run = inl (inr (inl (over-limit outcome past.fed over)));
+    goes_on = λ runs_on. absurd (cc);
+    ended = λ ended. inl (inr (inl (over-limit outcome past.fed over)));
     within = λ limited. omega (arith, over.within, ap length over.made.output);
   }
   stands-by (Some outcome) (inr (inr (inl long))) = record {
     answered = refl;
-    run = inr (is-full outcome long);
+    goes_on = λ runs_on. absurd (cc);
+    ended = λ ended. inr (is-full outcome long);
     within = long.within;
   }
   stands-by (Some outcome) (inr (inr (inr over))) = record {
     answered = refl;
-    run = inl (inl (has-result outcome past.fed over));
+    goes_on = λ runs_on. absurd (cc);
+    ended = λ ended. inl (inl (has-result outcome past.fed over));
     within = over.within;
   }
 

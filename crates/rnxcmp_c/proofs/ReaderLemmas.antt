@@ -30,7 +30,7 @@ use Rattle.rnxcmp_c.specs.Handles.{HasFedBy, HasEndedBy, engine_filter, has_ende
 use Rattle.rnxcmp_c.specs.meaning.Answers.{KeepsToLimit, line_in}
 use Rattle.rnxcmp_c.specs.Handles.{status_at_end}
 use Rattle.rnxcmp_c.specs.meaning.Handles.{Task, HandlePast, limit_for, result_for, Compact, Expand, Check}
-use Rattle.rnxcmp_c.specs.meaning.Handles.{fault_message, filter_for, memory_next, with_one_more}
+use Rattle.rnxcmp_c.specs.meaning.Handles.{filter_for, memory_next, with_one_more}
 use Rattle.rnxcmp_c.specs.declared.engines.AnyEngine.{AnyEngine}
 use Rattle.rnxcmp_c.specs.declared.engines.AnyEngine.TheVariants.{Compacting, Expanding, Checking}
 use Rattle.rnxcmp_c.specs.declared.held.Held.{Held}
@@ -151,7 +151,8 @@ module _ (filter : Filter) (limit : ℕ) (is_line : ℕ → Type 0) (input : Lis
     (short : IsShort mid reader.held outcome line)
     (few : KeepsToLimit limit (past.output ++ waiting mid.output)) where
   abbrev last : List ℕ → Type 0
-  last text = (text ≡ []) ⊎ (text ≡ fault_message (line_in outcome.fault) OutOfMemory)
+  last text = (text ≡ [])
+      ⊎ (text ≡ error_text (Some (record { line = line_in outcome.fault; fault = OutOfMemory })))
 
   said-or_not : (text : List ℕ) × last text × (waiting reader.held.messages ≡ waiting mid.messages ++ text)
   said-or_not = ⊎_elim (λ same. ([], inl refl, same ∙ sym (append-nil (waiting mid.messages))))

@@ -1,7 +1,8 @@
 -- What a handle is, between two calls.
 use Rattle.std.specs.Prelude.{◌≡◌, ℕ, Bool, true, List, [], ◌∷◌, None}
 use Rattle.rnxcmp_c.specs.Handles.{Ends, Feeds, ReaderStands, answer_now, state_now}
-use Rattle.rnxcmp_c.specs.meaning.Handles.{BothTexts, HandlePast, RunState, Task}
+use Rattle.rnxcmp_c.specs.meaning.Answers.{BothTexts}
+use Rattle.rnxcmp_c.specs.meaning.Handles.{HandlePast, RunState, Task}
 use Rattle.rnxcmp_c.specs.declared.answer.Answer.{Answer}
 use Rattle.rnxcmp_c.specs.declared.handle.Handle.{Handle}
 use Rattle.rnxcmp_c.specs.declared.reader.Reader.{Reader}

@@ -10,9 +10,12 @@ ghost use Rattle.crx_options.specs.meaning.Choices.{Choices, choices_of, is_date
 ghost use Rattle.crx_reading.specs.meaning.Compacted.{compacted};
 ghost use Rattle.crx_reading.specs.meaning.Expanded.{expanded};
 ghost use Rattle.crx_reading.specs.meaning.Standard.{checked};
+ghost use Rattle.crx_faults.specs.declared.fault.Fault.TheVariants.{InputTooLong, OutOfMemory};
 ghost use Rattle.crx_faults.specs.declared.limits.TheConstants.{INPUT_LIMIT};
+ghost use Rattle.crx_faults.specs.meaning.Faults.{code_of_fault};
 ghost use Rattle.rnxcmp_c.specs.meaning.Lossless.{CallBringsBackWhatPasses};
-ghost use Rattle.rnxcmp_c.specs.meaning.Answers.{AnswersWithin, CallIsOutOfMemory, HasNoMemory, IsAnswer, IsDateRefused, IsTooLong, rooms};
+ghost use Rattle.rnxcmp_c.specs.meaning.Answers.{AnswersAlone, AnswersWithin, HasNoMemory, IsAnswer, rooms};
+ghost use Rattle.rnxcmp_c.specs.declared.answer.TheConstants.{BAD_DATE};
 ghost use Rattle.rnxcmp_c.specs.meaning.Promises.{CallBringsBackWhatWasCompacted, CallJudgesStandard, CallSavesAllElse};
 ghost use Rattle.rnxcmp_c.specs.meaning.Stretches.{CallKeepsUndamaged, CallWritesWholeUnits};
 
@@ -44,11 +47,13 @@ pub extern "C" fn rnxcmp_c_compact(
     messages: &mut [u8],
 ) -> Answer
     ensures date { is_date date.now ≡ false
-        → IsDateRefused result (rooms output.old messages.old) (rooms output.new messages.new) }
+        → AnswersAlone BAD_DATE 0 0 result (rooms output.old messages.old) (rooms output.new messages.new) }
     ensures long { is_date date.now ≡ true → INPUT_LIMIT < length input.now
-        → IsTooLong result (rooms output.old messages.old) (rooms output.new messages.new) }
+        → AnswersAlone 1 0 (code_of_fault InputTooLong) result
+        (rooms output.old messages.old) (rooms output.new messages.new) }
     ensures memory { HasNoMemory result
-        → CallIsOutOfMemory result (rooms output.old messages.old) (rooms output.new messages.new) }
+        → AnswersAlone 1 result.line (code_of_fault OutOfMemory) result
+        (rooms output.old messages.old) (rooms output.new messages.new) }
     ensures runs { is_date date.now ≡ true → length input.now ≤ INPUT_LIMIT → (HasNoMemory result → ⊥)
         → AnswersWithin max_output (compacted input.now (choices_of (Some every) skip date.now)) result
         (rooms output.old messages.old) (rooms output.new messages.new) }
@@ -92,9 +97,11 @@ pub extern "C" fn rnxcmp_c_expand(
     messages: &mut [u8],
 ) -> Answer
     ensures long { INPUT_LIMIT < length input.now
-        → IsTooLong result (rooms output.old messages.old) (rooms output.new messages.new) }
+        → AnswersAlone 1 0 (code_of_fault InputTooLong) result
+        (rooms output.old messages.old) (rooms output.new messages.new) }
     ensures memory { HasNoMemory result
-        → CallIsOutOfMemory result (rooms output.old messages.old) (rooms output.new messages.new) }
+        → AnswersAlone 1 result.line (code_of_fault OutOfMemory) result
+        (rooms output.old messages.old) (rooms output.new messages.new) }
     ensures runs { length input.now ≤ INPUT_LIMIT
         → (HasNoMemory result → ⊥) → (choices : Choices) → choices.skip ≡ skip
         → AnswersWithin max_output (expanded input.now choices) result
@@ -138,9 +145,11 @@ pub extern "C" fn rnxcmp_c_check(
     messages: &mut [u8],
 ) -> Answer
     ensures long { INPUT_LIMIT < length input.now
-        → IsTooLong result (rooms output.old messages.old) (rooms output.new messages.new) }
+        → AnswersAlone 1 0 (code_of_fault InputTooLong) result
+        (rooms output.old messages.old) (rooms output.new messages.new) }
     ensures memory { HasNoMemory result
-        → CallIsOutOfMemory result (rooms output.old messages.old) (rooms output.new messages.new) }
+        → AnswersAlone 1 result.line (code_of_fault OutOfMemory) result
+        (rooms output.old messages.old) (rooms output.new messages.new) }
     ensures runs { length input.now ≤ INPUT_LIMIT → (HasNoMemory result → ⊥)
         → IsAnswer (checked input.now) result
         (rooms output.old messages.old) (rooms output.new messages.new) }

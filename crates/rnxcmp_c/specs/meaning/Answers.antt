@@ -2,18 +2,19 @@
 use Rattle.std.specs.Prelude.{◌≡◌, ◌<◌, ◌≤◌, ℕ, List, ◌++◌, take, drop, length, nat_le, Option, Some, None, if◌then◌else◌}
 use Rattle.crx_faults.specs.meaning.Faults.{code_of_fault}
 use Rattle.crx_faults.specs.declared.fault.At.{At}
-use Rattle.crx_faults.specs.declared.fault.Fault.TheVariants.{InputTooLong, OutOfMemory}
+use Rattle.crx_faults.specs.declared.fault.Fault.TheVariants.{OutOfMemory}
 use Rattle.crx_runs.specs.meaning.Results.{FilterResult}
 use Rattle.rnxcmp_c.specs.declared.answer.Answer.{Answer}
-use Rattle.rnxcmp_c.specs.declared.answer.TheConstants.{NO_ROOM, BAD_DATE, OUTPUT_LIMIT}
+use Rattle.rnxcmp_c.specs.declared.answer.TheConstants.{NO_ROOM, OUTPUT_LIMIT}
 
--- These are the bytes in the caller's two rooms at one moment.
-pub record Rooms : Type 0 where
+-- Both texts are the output and the messages: in the caller's two rooms at one moment, in a handle, or made
+-- in all.
+pub record BothTexts : Type 0 where
   pub output : List ℕ
   pub messages : List ℕ
 
--- These are rooms with such bytes.
-abbrev pub rooms : List ℕ → List ℕ → Rooms
+-- These are an output and messages with such bytes.
+abbrev pub rooms : List ℕ → List ℕ → BothTexts
 rooms output messages = record { output = output; messages = messages }
 
 -- A room in which a text was placed has the text as far as it fits, and after it what it had there before.
@@ -35,7 +36,7 @@ abbrev pub status_in : FilterResult → ℕ → ℕ
 status_in result room = if nat_le (length result.output) room then result.status else NO_ROOM
 
 -- A call answered this result, and put its output and its messages into the caller's rooms.
-pub record IsAnswer (result : FilterResult) (answer : Answer) (before after : Rooms) : Type 0 where
+pub record IsAnswer (result : FilterResult) (answer : Answer) (before after : BothTexts) : Type 0 where
   pub status : answer.status ≡ status_in result (length before.output)
   pub code : answer.code ≡ fault_code_in result.fault
   pub line : answer.line ≡ line_in result.fault
@@ -59,28 +60,16 @@ abbrev pub bare_answer : ℕ → ℕ → ℕ → Answer
 bare_answer status line code =
     record { line = line; output_length = 0; messages_length = 0; status = status; code = code }
 
--- The date was refused, and nothing in the caller's rooms was changed.
-abbrev pub IsDateRefused : Answer → Rooms → Rooms → Type 0
-IsDateRefused answer before after = (answer ≡ bare_answer BAD_DATE 0 0) × (after ≡ before)
-
--- The input is longer than the limit, and nothing in the rooms was changed.
-abbrev pub IsTooLong : Answer → Rooms → Rooms → Type 0
-IsTooLong answer before after = (answer ≡ bare_answer 1 0 (code_of_fault InputTooLong)) × (after ≡ before)
-
--- The output is longer than it may be, and nothing in the rooms was changed.
-abbrev pub IsOverLimit : Answer → Rooms → Rooms → Type 0
-IsOverLimit answer before after = (answer ≡ bare_answer OUTPUT_LIMIT 0 0) × (after ≡ before)
+-- The answer has a status, a line and a fault's number alone, and nothing in the rooms was changed.
+abbrev pub AnswersAlone : ℕ → ℕ → ℕ → Answer → BothTexts → BothTexts → Type 0
+AnswersAlone status line code answer before after = (answer ≡ bare_answer status line code) × (after ≡ before)
 
 -- A call answered this result, or that its output is longer than it may be.
-pub record AnswersWithin (most : ℕ) (result : FilterResult) (answer : Answer) (before after : Rooms) : Type 0 where
+pub record AnswersWithin (most : ℕ) (result : FilterResult) (answer : Answer) (before after : BothTexts)
+    : Type 0 where
   pub within : (ExceedsLimit most result.output → ⊥) → IsAnswer result answer before after
-  pub over : ExceedsLimit most result.output → IsOverLimit answer before after
+  pub over : ExceedsLimit most result.output → AnswersAlone OUTPUT_LIMIT 0 0 answer before after
 
 -- The number in an answer says that memory ran out.
 abbrev pub HasNoMemory : Answer → Type 0
 HasNoMemory answer = answer.code ≡ code_of_fault OutOfMemory
-
--- Memory ran out at some line, and nothing in the rooms was changed.
-abbrev pub CallIsOutOfMemory : Answer → Rooms → Rooms → Type 0
-CallIsOutOfMemory answer before after = (answer ≡ bare_answer 1 answer.line (code_of_fault OutOfMemory))
-    × (after ≡ before)

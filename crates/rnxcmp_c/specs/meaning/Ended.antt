@@ -4,7 +4,8 @@ use Rattle.std.specs.Prelude.{◌≡◌, true}
 use Rattle.crx_filter.specs.meaning.Lossless.{SaysThatItComesBack}
 use Rattle.crx_options.specs.meaning.Choices.{Choices}
 use Rattle.rnxcmp_c.specs.declared.answer.Answer.{Answer}
-use Rattle.rnxcmp_c.specs.meaning.Handles.{HandlePast, BothTexts, RunHasResult}
+use Rattle.rnxcmp_c.specs.meaning.Answers.{BothTexts}
+use Rattle.rnxcmp_c.specs.meaning.Handles.{HandlePast, RunHasResult}
 use Rattle.rnxcmp_c.specs.meaning.Lossless.{CallBringsBackWhatPasses}
 use Rattle.rnxcmp_c.specs.meaning.Promises.{CallBringsBackWhatWasCompacted, CallJudgesStandard}
 use Rattle.rnxcmp_c.specs.meaning.Promises.{CallSavesAllElse}

@@ -16,12 +16,12 @@ use Rattle.crx_reading.specs.meaning.Expanded.{expanded}
 use Rattle.crx_reading.specs.meaning.Standard.{checked}
 use Rattle.crx_runs.specs.meaning.Filters.{Filter, with_next}
 use Rattle.crx_runs.specs.meaning.Messages.{error_text, notices_text}
-use Rattle.crx_runs.specs.meaning.Results.{Begins, Course, FilterResult}
+use Rattle.crx_runs.specs.meaning.Results.{Course, FilterResult}
 use Rattle.rnxcmp_c.specs.declared.answer.Answer.{Answer}
 use Rattle.rnxcmp_c.specs.declared.answer.TheConstants.{MISUSED, OUTPUT_LIMIT}
 use Rattle.rnxcmp_c.specs.declared.limits.TheConstants.{READY_LIMIT}
-use Rattle.rnxcmp_c.specs.meaning.Answers.{ExceedsLimit, KeepsToLimit, Rooms, bare_answer, fault_code_in}
-use Rattle.rnxcmp_c.specs.meaning.Answers.{line_in, placed}
+use Rattle.rnxcmp_c.specs.meaning.Answers.{BothTexts, ExceedsLimit, KeepsToLimit, bare_answer, fault_code_in}
+use Rattle.rnxcmp_c.specs.meaning.Answers.{line_in}
 
 -- ---- a run
 
@@ -79,30 +79,12 @@ taken_with past output messages = record {
 
 -- ---- what was made
 
--- Both texts are the output and the messages: what a handle keeps of them, or all that was made.
-pub record BothTexts : Type 0 where
-  pub output : List ℕ
-  pub messages : List ℕ
-
--- Nothing is kept of both texts.
-abbrev pub nothing_kept : BothTexts
-nothing_kept = record { output = []; messages = [] }
-
 -- All that was made of both texts is what was taken, and then what is kept.
 abbrev pub texts_made : HandlePast → BothTexts → BothTexts
 texts_made past kept = record {
   output = past.output ++ kept.output;
   messages = past.messages ++ kept.messages;
 }
-
--- The texts of a result begin with these two.
-pub record AreBegun (result : FilterResult) (texts : BothTexts) : Type 0 where
-  pub output : Begins result.output texts.output
-  pub messages : Begins result.messages texts.messages
-
--- This is what the lines make whose line end was fed.
-abbrev pub made_by_lines : Task → List ℕ → Course
-made_by_lines task fed = (filter_for task).so_far (ended_lines_of fed)
 
 -- Both texts are what some lines make, in which no fault is, and after their warnings these messages.
 pub record IsMadeByLines (course : Course) (after : List ℕ) (texts : BothTexts) : Type 0 where
@@ -134,18 +116,7 @@ handle_answer status line code kept = record {
   code = code;
 }
 
--- This is the message of a fault that ends a run at a line.
-abbrev pub fault_message : ℕ → Fault → List ℕ
-fault_message line fault = error_text (Some (record { line = line; fault = fault }))
-
--- ---- a run that goes on, and one that has its result
-
--- The run goes on. What was made is all that the lines make whose line end was fed, and whatever more is fed,
--- both texts of the result begin with it.
-pub record RunGoesOn (task : Task) (past : HandlePast) (kept : BothTexts) (answer : Answer) : Type 0 where
-  pub answered : answer ≡ handle_answer 0 0 0 kept
-  pub made : IsMadeByLines (made_by_lines task past.fed) [] (texts_made past kept)
-  pub begun : (more : List ℕ) → AreBegun (result_for task (past.fed ++ more)) (texts_made past kept)
+-- ---- a run that has its result
 
 -- The run has ended with a result, whose texts are what was made.
 pub record RunHasResult (result : FilterResult) (past : HandlePast) (kept : BothTexts)
@@ -156,18 +127,11 @@ pub record RunHasResult (result : FilterResult) (past : HandlePast) (kept : Both
 
 -- ---- a run that has ended at the limit of its output
 
--- The output of the bytes that were fed is longer than it may be, and both texts of the result begin with
--- what was made.
-pub record RunPassesLimit (task : Task) (past : HandlePast) (kept : BothTexts)
-    (answer : Answer) : Type 0 where
+-- The output of the bytes that were fed is longer than it may be. What was made is what some of the first
+-- lines make, and one line more, or the end, would make more output than there may be.
+pub record RunIsLimited (task : Task) (past : HandlePast) (kept : BothTexts) (answer : Answer) : Type 0 where
   pub answered : answer ≡ handle_answer OUTPUT_LIMIT 0 0 kept
   pub exceeds : ExceedsLimit (limit_for task) (result_for task past.fed).output
-  pub begun : AreBegun (result_for task past.fed) (texts_made past kept)
-
--- So the run has ended. What was made is what some of the first lines make, and one line more, or the end,
--- would make more output than there may be.
-pub record RunIsLimited (task : Task) (past : HandlePast) (kept : BothTexts) (answer : Answer) : Type 0 where
-  pub passes : RunPassesLimit task past kept answer
   pub lines : List InputLine
   pub others : List InputLine
   pub first : lines_of past.fed ≡ lines ++ others
@@ -203,7 +167,7 @@ pub record StopsForMemory (filter : Filter) (input : List ℕ) (line : ℕ) (tex
   pub own : (notices ≡ []) ⊎ ((more : List At)
       × ((with_one_more filter lines others).warnings ≡ (filter.so_far lines).warnings ++ notices ++ more))
   pub last : List ℕ
-  pub last_is : (last ≡ []) ⊎ (last ≡ fault_message line OutOfMemory)
+  pub last_is : (last ≡ []) ⊎ (last ≡ error_text (Some (record { line = line; fault = OutOfMemory })))
   pub made : IsMadeByLines (filter.so_far lines) (notices_text notices ++ last) texts
 
 -- Memory ran out for the message of the fault that a result has, and both texts are there but for that.
@@ -213,8 +177,7 @@ pub record HidesFault (result : FilterResult) (line : ℕ) (texts : BothTexts) :
   pub output_is : result.output ≡ texts.output
   pub messages_are : result.messages ≡ texts.messages ++ error_text result.fault
 
--- Memory ran out at such a line, at the end, or for the message of the result's fault. What was made is the
--- first of the result, and after its messages is the message of this, or none.
+-- Memory ran out at such a line, at the end, or for the message of the result's fault.
 pub record RunHasNoMemory (is_line : ℕ → Type 0) (task : Task) (past : HandlePast) (kept : BothTexts)
     (answer : Answer)
     : Type 0 where
@@ -222,66 +185,36 @@ pub record RunHasNoMemory (is_line : ℕ → Type 0) (task : Task) (past : Handl
   pub made : (is_line answer.line
       × StopsForMemory (filter_for task) past.fed answer.line (texts_made past kept))
       ⊎ HidesFault (result_for task past.fed) answer.line (texts_made past kept)
-  pub begun : BothTexts
-  pub begins : AreBegun (result_for task past.fed) begun
-  pub output : (texts_made past kept).output ≡ begun.output
-  pub messages : ((texts_made past kept).messages ≡ begun.messages)
-      ⊎ ((texts_made past kept).messages ≡ begun.messages ++ fault_message answer.line OutOfMemory)
 
 -- ---- a run that has ended since its input is too long
 
--- As many bytes were fed as an input may have, and one more has ended the run after the last line end. What
--- was made is what the lines make, without a fault, and the message of this.
-pub record RunHasTooMuch (task : Task) (past : HandlePast) (kept : BothTexts) (answer : Answer) : Type 0 where
+-- As many bytes were fed as an input may have, and one more has ended the run, at the line after the last
+-- line end. What was made is what the lines make, without a fault, and the message of this; or memory ran out
+-- for that message, which isn't there.
+pub record RunIsFull (task : Task) (past : HandlePast) (kept : BothTexts) (answer : Answer) : Type 0 where
   pub full : length past.fed ≡ INPUT_LIMIT
-  pub answered : answer ≡ handle_answer 1 (length (ended_lines_of past.fed) + 1)
-      (code_of_fault InputTooLong) kept
-  pub made : IsMadeByLines (made_by_lines task past.fed) (fault_message answer.line InputTooLong)
-      (texts_made past kept)
-
--- That is so, but memory ran out for the message, which isn't there.
-pub record RunHidesTooMuch (task : Task) (past : HandlePast) (kept : BothTexts)
-    (answer : Answer) : Type 0 where
-  pub full : length past.fed ≡ INPUT_LIMIT
-  pub answered : answer ≡ handle_answer 1 (length (ended_lines_of past.fed) + 1)
-      (code_of_fault OutOfMemory) kept
-  pub made : IsMadeByLines (made_by_lines task past.fed) [] (texts_made past kept)
-
--- One byte more than an input may have has ended the run.
-abbrev pub RunIsFull : Task → HandlePast → BothTexts → Answer → Type 0
-RunIsFull task past kept answer = RunHasTooMuch task past kept answer ⊎ RunHidesTooMuch task past kept answer
+  pub fault : Fault
+  pub answered : answer ≡ handle_answer 1 (length (ended_lines_of past.fed) + 1) (code_of_fault fault) kept
+  pub last : List ℕ
+  pub why : ((fault ≡ InputTooLong)
+      × (last ≡ error_text (Some (record { line = answer.line; fault = InputTooLong }))))
+      ⊎ ((fault ≡ OutOfMemory) × (last ≡ []))
+  pub made : IsMadeByLines ((filter_for task).so_far (ended_lines_of past.fed)) last (texts_made past kept)
 
 -- ---- what bytes have ended
 
--- The bytes have a fault, and the run has ended with the result of it, whatever follows.
-abbrev pub EndedByAFault : Task → HandlePast → BothTexts → Answer → Type 0
-EndedByAFault task past kept answer = (answer.status ≡ 1)
-    × ((more : List ℕ) → RunHasResult (result_for task (past.fed ++ more)) past kept answer)
-
--- The bytes make more output than there may be, and the run has ended at that limit, whatever follows.
-abbrev pub EndedByLimit : Task → HandlePast → BothTexts → Answer → Type 0
-EndedByLimit task past kept answer = (more : List ℕ) → RunIsLimited task (fed_with past more) kept answer
-
--- Memory ran out at a line whose line end is among the bytes after those before, or for the message of a
--- fault, whatever follows.
-abbrev pub EndedByMemory : Task → List ℕ → HandlePast → BothTexts → Answer → Type 0
-EndedByMemory task before past kept answer =
-    (more : List ℕ)
-    → RunHasNoMemory
-    (λ line. (length (ended_lines_of before) < line) × (line ≤ length (ended_lines_of past.fed)))
-    task (fed_with past more) kept answer
-
--- Bytes are left of which an input may have none, and no byte was taken after those before.
-abbrev pub EndedByLength : Task → List ℕ → HandlePast → List ℕ → BothTexts → Answer → Type 0
-EndedByLength task before past left kept answer = (0 < length left) × (past.fed ≡ before)
-    × RunIsFull task past kept answer
-
--- The bytes after those before, or those that are left, have ended the run in one of these four ways.
+-- The bytes after those before have ended the run, whatever follows: a fault of theirs, whose result it has;
+-- or the limit of its output; or memory, at a line whose line end is among them, or for the message of a
+-- fault. Or no byte was taken, and bytes are left of which an input may have none.
 abbrev pub RunWasEnded : Task → List ℕ → HandlePast → List ℕ → BothTexts → Answer → Type 0
-RunWasEnded task before past left kept answer = EndedByAFault task past kept answer
-    ⊎ (EndedByLimit task past kept answer
-    ⊎ (EndedByMemory task before past kept answer
-    ⊎ EndedByLength task before past left kept answer))
+RunWasEnded task before past left kept answer =
+    ((answer.status ≡ 1)
+    × ((more : List ℕ) → RunHasResult (result_for task (past.fed ++ more)) past kept answer))
+    ⊎ (((more : List ℕ) → RunIsLimited task (fed_with past more) kept answer)
+    ⊎ (((more : List ℕ) → RunHasNoMemory
+    (λ line. (length (ended_lines_of before) < line) × (line ≤ length (ended_lines_of past.fed)))
+    task (fed_with past more) kept answer)
+    ⊎ ((0 < length left) × (past.fed ≡ before) × RunIsFull task past kept answer)))
 
 -- ---- how a run is
 
@@ -291,20 +224,19 @@ abbrev pub RunHasEnded : (ℕ → Type 0) → Task → HandlePast → BothTexts 
 RunHasEnded is_line task past kept answer = RunHasResult (result_for task past.fed) past kept answer
     ⊎ (RunIsLimited task past kept answer ⊎ RunHasNoMemory is_line task past kept answer)
 
--- A run goes on; or it has ended so, where memory ran out at one of the lines; or its input was too long.
-abbrev pub RunIs : Bool → Task → HandlePast → BothTexts → Answer → Type 0
-RunIs false task past kept answer = RunGoesOn task past kept answer
-RunIs true task past kept answer =
-    RunHasEnded (λ line. line ≤ length (lines_of past.fed)) task past kept answer
-    ⊎ RunIsFull task past kept answer
-
--- A call promises that its answer is how the run is, what that means for both texts, and that the output is
+-- A call promises that its answer is how the run is, and how many bytes are kept of both texts. While the run
+-- goes on, all three numbers are 0, and what was made is all that the lines make whose line end was fed. Once
+-- it has ended, it has so, where memory ran out at one of the lines; or its input was too long. The output is
 -- never longer than it may be.
 pub record HandlePromise (state : RunState) (task : Task) (past : HandlePast) (kept : BothTexts)
     (answer : Answer)
     : Type 0 where
   pub answered : answer ≡ handle_answer state.status state.line state.code kept
-  pub run : RunIs state.has_ended task past kept answer
+  pub goes_on : state.has_ended ≡ false → (answer ≡ handle_answer 0 0 0 kept)
+      × IsMadeByLines ((filter_for task).so_far (ended_lines_of past.fed)) [] (texts_made past kept)
+  pub ended : state.has_ended ≡ true
+      → RunHasEnded (λ line. line ≤ length (lines_of past.fed)) task past kept answer
+      ⊎ RunIsFull task past kept answer
   pub within : KeepsToLimit (limit_for task) (texts_made past kept).output
 
 -- ---- how many bytes a call takes
@@ -335,26 +267,3 @@ pub record TakesBytes (task : Task) (past : HandlePast) (bytes : List ℕ) (used
   pub still : 0 < length (allowed_after past bytes) → READY_LIMIT ≤ ready before
       → (used ≡ 0) × (after ≡ before) × (has_ended ≡ false)
   pub over : 0 < length bytes → length (allowed_after past bytes) ≡ 0 → (used ≡ 0) × (has_ended ≡ true)
-
--- ---- a handle and a call
-
--- A call over the whole input answers as a run whose texts were taken, and puts these into its rooms.
-pub record CallAnswersAlike (past : HandlePast) (answer call : Answer) (before after : Rooms) : Type 0 where
-  pub status : call.status ≡ answer.status
-  pub code : call.code ≡ answer.code
-  pub line : call.line ≡ answer.line
-  pub output_length : call.output_length ≡ length past.output
-  pub messages_length : call.messages_length ≡ length past.messages
-  pub output : after.output ≡ placed past.output before.output
-  pub messages : after.messages ≡ placed past.messages before.messages
-
--- Of an input that is too long a call has the status and the number of a run over it, but not the line, which
--- is that of the byte too much, nor texts: its rooms are as before.
-pub record CallAnswersTooLong (past : HandlePast) (answer call : Answer) (before after : Rooms) : Type 0 where
-  pub status : call.status ≡ answer.status
-  pub code : call.code ≡ answer.code
-  pub no_line : call.line ≡ 0
-  pub line : answer.line ≡ length (ended_lines_of past.fed) + 1
-  pub output_length : call.output_length ≡ 0
-  pub messages_length : call.messages_length ≡ 0
-  pub untouched : after ≡ before

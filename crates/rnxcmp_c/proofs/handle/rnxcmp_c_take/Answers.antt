@@ -121,7 +121,7 @@ returns-clause-expansion c = λ (choices : Choices) (limit : ℕ)
     c.put_in.ensures.reader c.hand_out-answer.ensures.answer after in
     run-expansion past _ c.hand_out-answer.result (IsLineReached past.fed) choices limit
     (ended-where past _ c.hand_out-answer.result
-    (Expand choices limit) _ ended promise.run memory long) memory few
+    (Expand choices limit) (promise.ended ended) memory long) memory few
 
 pub returns-clause-check : goal.returns-clause-check
 returns-clause-check c = λ (past : HandlePast) stands ended memory few long.
@@ -130,4 +130,4 @@ returns-clause-check c = λ (past : HandlePast) stands ended memory few long.
     let promise = handle-promise Check _ c.hand_out-answer.new.self past c.hand_out-answer.result
     c.put_in.ensures.reader c.hand_out-answer.ensures.answer after in
     run-check past _ c.hand_out-answer.result (IsLineReached past.fed)
-    (ended-where past _ c.hand_out-answer.result Check _ ended promise.run memory long) memory few
+    (ended-where past _ c.hand_out-answer.result Check (promise.ended ended) memory long) memory few

@@ -1,0 +1,18 @@
+use Rattle.std.proofs.Common.{ℕ, List, [], ◌++◌}
+use Rattle.crx_faults.specs.meaning.Lines.{InputLine, lines_of}
+use Rattle.crx_faults.specs.declared.fault.At.{At}
+use Rattle.crx_lines.proofs.ProgressLemmas.{ended_lines-come_first}
+use Rattle.rnxcmp_c.specs.meaning.Handles.{Task}
+use Rattle.rnxcmp_c.proofs.PromiseLemmas.{messages-own, output-first}
+use Rattle.rnxcmp_c.proofs.laws.what_lines_make_comes_first.Goals as goal
+
+pub returns-clause-begun : goal.returns-clause-begun
+returns-clause-begun c = λ (task : Task) (input : List ℕ) (lines others : List InputLine) (notices : List At)
+    first own. (
+      output-first task input lines others first,
+      messages-own task input lines others first notices own,
+    )
+
+pub returns-clause-fed : goal.returns-clause-fed
+returns-clause-fed c = λ (fed more : List ℕ).
+    let tail = ended_lines-come_first fed in (lines_of (tail.0 ++ more), tail.2 more)
