@@ -27,6 +27,7 @@ mod Justified
 pub mod Lists
 pub mod AlikeFrom
 pub mod PrintedBlocks
+mod ReadingRooms
 mod SatelliteLines
 pub mod Resizing
 pub mod placing

@@ -1,9 +1,10 @@
 -- The identifiers of an epoch text, read from left to right.
 use Rattle.std.specs.Prelude.{◌≡◌, ◌<◌, refl, ℕ, zero, suc, ◌+◌, ◌*◌, Bool, true, false, ◌||◌, List, [], ◌∷◌, ◌++◌, drop, Option, Some, None}
-use Rattle.std.specs.Prelude.{Result, Ok, Err, if◌then◌else◌}
+use Rattle.std.specs.Prelude.{Result, Ok, Err, if◌then◌else◌, All}
 use Rattle.std.specs.List.{list_any}
 use Rattle.std.specs.Str.{bytes_eq}
-use Rattle.std.proofs.Common.{sym, ◌∙◌, ap, arith}
+use Rattle.std.proofs.Common.{sym, ◌∙◌, ap, arith, subst}
+use Rattle.std.proofs.lemmas.List.Elements.{All-head, All-tail}
 use Rattle.crx_columns.specs.meaning.EachPlace.{each_place}
 use Rattle.crx_columns.proofs.EachPlace.{drop-each_place, each_place-more}
 use Rattle.crx_header.specs.meaning.Satellites.{types_of_satellite}
@@ -14,6 +15,7 @@ use Rattle.crx_header.specs.meaning.ObservationTypes.{Count}
 use Rattle.crx_compact.specs.meaning.Sequences.{before_all}
 use Rattle.crx_compact.specs.meaning.EpochText.{Satellite, names_in, satellite_before, satellites_named}
 use Rattle.crx_compact.proofs.Characters.{bytes_eq-same, bytes_eq-is}
+use Rattle.crx_compact.proofs.Results.{before-ok, if-err, ok-same}
 
 -- the names of some satellites before earlier ones, the last one first
 abbrev pub names_after : List Satellite → List (List ℕ) → List (List ℕ)
@@ -184,3 +186,28 @@ pub next-name : (text : List ℕ) (count place : ℕ) (name : List ℕ) → plac
 next-name text count place name h e =
     drop-each_place count place (λ k. columns text (42 + 3 * k) 3) h
     ∙ ap (λ n. n ∷ drop (place + 1) (names_in text count)) (sym e)
+
+-- what is so of each satellite is so of the next one
+onto-holds : (P : Satellite → Type 0) (ss : List Satellite) (s : Satellite) (b : Bool)
+    (r : Result (List Satellite) Fault) (named : List Satellite)
+    → onto ss (if b then Err RepeatedSatellite else before_all s r) ≡ Ok named → All P named → P s
+onto-holds P [] s b r named e all =
+    let rest = before-ok s r named (if-err b RepeatedSatellite (before_all s r) named e) in
+    All-head P s rest.from (subst (All P) (sym (ok-same (s ∷ rest.from) named rest.next)) all)
+onto-holds P (q ∷ qs) s b r named e all =
+    let rest = before-ok q (onto qs (if b then Err RepeatedSatellite else before_all s r)) named e in
+    onto-holds P qs s b r rest.from rest.first
+    (All-tail P q rest.from (subst (All P) (sym (ok-same (q ∷ rest.from) named rest.next)) all))
+
+pub named-holds : (P : Satellite → Type 0) (types : List Count)
+    (all : List (List ℕ)) (place : ℕ) (found : List Satellite) (name : List ℕ) (count : ℕ)
+    (named : List Satellite) → NamedSoFar types all place found
+    → drop place all ≡ name ∷ drop (place + 1) all → types_of_satellite types name ≡ Some count
+    → satellites_named types [] all ≡ Ok named → All P named → P (record { name = name; count = count })
+named-holds P types all place found name count named n e some is h =
+    let s : Satellite = record { name = name; count = count } in
+    let others : Result (List Satellite) Fault =
+    satellites_named types (name ∷ names_after found []) (drop (place + 1) all) in
+    onto-holds P found s (list_any (bytes_eq name) (names_after found [])) others named
+    (sym (at-next types all place found name n e
+    ∙ ap (λ (c : Option ℕ). onto found (satellite_before (names_after found []) name c others)) some) ∙ is) h

@@ -1,5 +1,6 @@
 -- An encoder between two lines: the tail of the epochs before; and of the open epoch, whether it was asked for in full, and its rows so far.
 use Rattle.std.specs.Prelude.{◌≡◌, ℕ, List, [], Bool, true, false, Option, None, Some, if◌then◌else◌}
+use Rattle.crx_compact.specs.EncodingRooms.{EncodingRoom}
 use Rattle.crx_compact.specs.Placing.{OpenHistory, IsBetween, tail_of_history}
 use Rattle.crx_compact.specs.Steps.{tail_written_after}
 use Rattle.crx_compact.specs.Tails.{Tail}
@@ -7,14 +8,15 @@ use Rattle.crx_compact.specs.Written.{AreRowsWritten}
 use Rattle.crx_compact.specs.declared.lines.TheConstants.{FIRST_LINES}
 use Rattle.crx_rinex.specs.meaning.Observations.{Row}
 
--- the tail of the epochs before, or none; whether an epoch is open, and then whether it was asked for in full, and its rows so far; and the
--- lines that are pending
+-- the tail of the epochs before, or none; whether an epoch is open, and then whether it was asked for in full, and its rows so far; the
+-- lines that are pending; and for how much there is room
 pub record EncoderState : Type 0 where
   pub before : Option Tail
   pub is_open : Bool
   pub in_full : Bool
   pub rows : List Row
   pub pending : List (List ℕ)
+  pub room : EncodingRoom
 
 -- the tail that the rows of the open epoch are written after
 abbrev pub tail_in : EncoderState → Tail

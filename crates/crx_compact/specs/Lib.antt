@@ -15,6 +15,7 @@ pub mod Placing
 pub mod Entries
 pub mod LineLists
 pub mod PrintedBlocks
+pub mod ReadingRooms
 pub mod ReadyLines
 pub mod Coded
 pub mod Laws
@@ -23,4 +24,5 @@ pub mod OpenLines
 pub mod ReadBlocks
 pub mod Holdings
 pub mod Written
+pub mod EncodingRooms
 pub mod Encoding

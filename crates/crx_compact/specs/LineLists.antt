@@ -14,12 +14,14 @@ pub record AreCut (lengths text : List ℕ) (past past_bytes : ℕ) : Type 0 whe
   pub bytes_within : past_bytes ≤ length text
   pub whole : lines_text (cut (drop past lengths) (drop past_bytes text)) ≡ drop past_bytes text
 
--- lines that are pending; how many lines more, of how many bytes, there is room for; for how many lines room is left in front of the
--- first one; and how many can be put there now
+-- lines that are pending; how many lines more, of how many bytes, there is room for; how many lines, of how many bytes, there is room for
+-- once all are dropped; for how many lines room is left in front of the first one; and how many can be put there now
 pub record PendingLines : Type 0 where
   pub lines : List (List ℕ)
   pub free_lines : ℕ
   pub free_bytes : ℕ
+  pub all_lines : ℕ
+  pub all_bytes : ℕ
   pub reserved : ℕ
   pub front : ℕ
 

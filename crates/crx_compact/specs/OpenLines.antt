@@ -7,6 +7,7 @@ use Rattle.crx_compact.specs.OpenEpochs.{step_with_rows}
 use Rattle.crx_compact.specs.OpenEpochs.{ColumnsState, Idle, Reading}
 use Rattle.crx_compact.specs.Placing.{OpenHistory, IsAnnounced, IsBetween, tail_of_history}
 use Rattle.crx_compact.specs.PrintedBlocks.{IsBlock}
+use Rattle.crx_compact.specs.ReadingRooms.{ReadingRoom}
 use Rattle.crx_compact.specs.declared.printed_block.PrintedBlock.{PrintedBlock}
 use Rattle.crx_compact.specs.declared.columns.Stage.{Stage}
 use Rattle.crx_compact.specs.declared.columns.Stage.TheVariants.{Unbegun, Clock, Rows}
@@ -54,3 +55,13 @@ abbrev pub have_all_come : Stage → ℕ → OpenHistory → Bool
 have_all_come Unbegun count history = false
 have_all_come Clock count history = false
 have_all_come Rows count history = count == length history.satellites.rows
+
+-- for how much there is room in a history and in the lines of a block
+abbrev pub reading_room : OpenHistory → PrintedBlock → ReadingRoom
+reading_room history block =
+    record {
+      text = history.held_room;
+      rooms = history.satellites.rooms;
+      lines = block.lines.all_lines;
+      bytes = block.lines.all_bytes;
+    }

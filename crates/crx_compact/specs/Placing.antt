@@ -93,10 +93,13 @@ satellite_of row = record { name = row.name; count = length row.cells }
 
 -- ---- the history
 
--- the text of the newest epoch, the text of the next one where it is made already, the clock's arc, and the satellites
+-- the text of the newest epoch, the text of the next one where it is made already, for a text of how many characters each of the two has
+-- room, for one of how many that of the newest epoch has, the clock's arc, and the satellites
 pub record OpenHistory : Type 0 where
   pub text : List ℕ
   pub next_text : List ℕ
+  pub text_room : ℕ
+  pub held_room : ℕ
   pub clock : Option ArcTail
   pub satellites : PlacedRows
 
@@ -112,6 +115,10 @@ IsBetween history = history.satellites.rest ≡ []
 -- each row's satellite is known, and has room for the row's types
 abbrev pub HaveRoom : List Row → List (List ℕ × ℕ) → Type 0
 HaveRoom rows rooms = All (λ (row : Row). HasRoom row.name (length row.values) rooms) rows
+
+-- each satellite is known, and has room for its types
+abbrev pub HaveTypesRoom : List Satellite → List (List ℕ × ℕ) → Type 0
+HaveTypesRoom satellites rooms = All (λ (s : Satellite). HasRoom s.name s.count rooms) satellites
 
 -- a row by its identifier, values and indicators
 abbrev pub row_of_parts : List ℕ → List (Option ℤ) → List ℕ → Row

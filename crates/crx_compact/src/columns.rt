@@ -1,7 +1,7 @@
 //! Epochs to compact lines, and compact lines to epochs, by the history, which is what they need of earlier epochs: Hatanaka's
 //! Compact RINEX 3.0.
 
-ghost use Rattle.std.specs.Prelude.{◌≡◌, ◌≤◌, ◌<◌, ◌++◌, ◌∷◌, List, if◌then◌else◌, [], Some, None, true, false, length, IfOk, IfErr, OnOk, OnErr, Err};
+ghost use Rattle.std.specs.Prelude.{◌≡◌, ◌≤◌, ◌<◌, ◌++◌, ◌∷◌, List, if◌then◌else◌, [], Some, None, true, false, length, IfOk, IfErr, OnOk, OnErr, Err, IsOk};
 ghost use Rattle.crx_rinex.specs.Epochs.{is_full_epoch};
 ghost use Rattle.crx_rinex.specs.meaning.Epochs.{IsSoundEpoch};
 ghost use Rattle.std.specs.Prelude.{◌⊎◌};
@@ -15,8 +15,9 @@ ghost use Rattle.crx_faults.specs.declared.limits.TheConstants.{LINE_LIMIT};
 ghost use Rattle.crx_header.specs.meaning.EpochColumns.{begins_epoch, is_event_line};
 ghost use Rattle.crx_compact.specs.OpenLines.{IsSoundBlock, IsSoundState, have_all_come, is_open, made_of, epoch_by_stage};
 ghost use Rattle.crx_compact.specs.declared.printed_block.PrintedBlock.{PrintedBlock};
-ghost use Rattle.crx_compact.specs.Placing.{IsAnnounced, IsBetween, tail_of_history};
-ghost use Rattle.crx_compact.specs.OpenEpochs.{next_step, awaits_row, is_faulty, is_idle, makes_epoch, tail_held, first_step, step_in, tail_for_line, Faulty, HasMade, HasPrintedLines};
+ghost use Rattle.crx_compact.specs.Placing.{IsAnnounced, IsBetween, KeepsRooms, tail_of_history};
+ghost use Rattle.crx_compact.specs.ReadingRooms.{HasRoomFor, KeepsHistoryRoom, KeepsRoom};
+ghost use Rattle.crx_compact.specs.OpenEpochs.{next_step, OpenRawEpoch, Going, awaits_row, is_faulty, is_idle, makes_epoch, tail_held, first_step, step_in, tail_for_line, Faulty, HasMade, HasPrintedLines};
 ghost use Rattle.crx_compact.specs.OpenEpochs.ColumnsState.{Idle};
 ghost use Rattle.crx_compact.specs.meaning.Compaction.{Marked, compact_epoch};
 ghost use Rattle.crx_compact.specs.Tails.{tail_left, tail_or_nothing};
@@ -64,12 +65,15 @@ pub struct Columns {
 }
 
 impl Model for Columns {
-    ghost use Rattle.crx_compact.specs.OpenEpochs.{ColumnsState};
-    ghost use Rattle.crx_compact.specs.OpenLines.{columns_state, IsSoundBlock, IsSoundState};
+    ghost use Rattle.crx_compact.specs.OpenLines.{columns_state, reading_room, IsSoundBlock, IsSoundState};
+    ghost use Rattle.crx_compact.specs.ReadingRooms.{HeldColumns};
 
-    ghost Value = { ColumnsState };
+    ghost Value = { HeldColumns };
 
-    ghost view = { λ columns. columns_state columns.is_kept columns.stage columns.count columns.history };
+    ghost view = { λ columns. record {
+      state = columns_state columns.is_kept columns.stage columns.count columns.history;
+      room = reading_room columns.history columns.block;
+    } };
 
     // Where an epoch is open, a line is awaited.
     ghost invariant = { λ columns. IsSoundState columns.stage columns.count columns.history
@@ -79,7 +83,7 @@ impl Model for Columns {
 impl Columns {
     /// Columns without a history.
     pub fn new(alloc: Global) -> Columns
-        ensures empty { result ≡ Idle None }
+        ensures empty { result.state ≡ Idle None }
     {
         Columns {
             history: History::new(alloc),
@@ -95,14 +99,16 @@ impl Columns {
 
     /// Forgets every epoch, the one whose lines have come in part too.
     pub fn reset(&mut self)
-        ensures emptied { self.new ≡ Idle None }
+        ensures emptied { self.new.state ≡ Idle None }
+        // The memory is used again.
+        ensures room { self.new.room ≡ self.old.room }
     {
         forget(&mut self.history, &mut self.is_kept, &mut self.stage);
     }
 
     /// Whether no epoch's lines have come in part.
     pub fn is_idle(&self) -> bool
-        ensures value { result ≡ is_idle self.now }
+        ensures value { result ≡ is_idle self.now.state }
     {
         matches!(self.stage, Stage::Unbegun)
     }
@@ -113,21 +119,21 @@ impl Columns {
     /// `OutOfMemory` is its one refusal: it hands the epoch back, and the columns are as they were.
     pub fn encode(&mut self, epoch: Epoch, full: bool) -> Result<Coded, (Epoch, Fault)>
         requires whole { is_full_epoch epoch ≡ true }
-        requires idle { is_idle self.old ≡ true }
+        requires idle { is_idle self.old.state ≡ true }
         ensures coded { IfOk result (λ coded. coded
             ≡ record {
               epoch = epoch;
-              lines = lines_after_tail (tail_written_after full (tail_held self.old)) epoch;
+              lines = lines_after_tail (tail_written_after full (tail_held self.old.state)) epoch;
             }) }
-        ensures kept { OnOk result (self.new
-            ≡ Idle (Some (tail_after (tail_written_after full (tail_held self.old)) epoch))) }
+        ensures kept { OnOk result (self.new.state
+            ≡ Idle (Some (tail_after (tail_written_after full (tail_held self.old.state)) epoch))) }
         ensures refused { IfErr result (λ refused. (refused.0 ≡ epoch) × (refused.1 ≡ Fault.OutOfMemory)) }
-        ensures err { OnErr result (self.new ≡ self.old) }
+        ensures err { OnErr result (self.new.state ≡ self.old.state) }
         // After any epochs at all, the lines are those of their compact text, and the columns have their tail.
-        ensures left { (epochs : List Marked) → tail_held self.old ≡ tail_or_nothing epochs
-            → OnOk result (self.new ≡ Idle
+        ensures left { (epochs : List Marked) → tail_held self.old.state ≡ tail_or_nothing epochs
+            → OnOk result (self.new.state ≡ Idle
             (tail_or_nothing (record { in_full = full; epoch = epoch } ∷ epochs))) }
-        ensures lines { (epochs : List Marked) → tail_held self.old ≡ tail_or_nothing epochs
+        ensures lines { (epochs : List Marked) → tail_held self.old.state ≡ tail_or_nothing epochs
             → IfOk result
             (λ coded. coded.lines ≡ compact_epoch (record { in_full = full; epoch = epoch } ∷ epochs)) }
     {
@@ -140,16 +146,16 @@ impl Columns {
     fn encode_next(&mut self, epoch: Epoch, full: bool) -> Result<Coded, (Epoch, Fault)>
         requires whole { is_full_epoch epoch ≡ true }
         requires sound { IsSoundEpoch epoch }
-        requires idle { is_idle self.old ≡ true }
+        requires idle { is_idle self.old.state ≡ true }
         ensures coded { IfOk result (λ coded. coded
             ≡ record {
               epoch = epoch;
-              lines = lines_after_tail (tail_written_after full (tail_held self.old)) epoch;
+              lines = lines_after_tail (tail_written_after full (tail_held self.old.state)) epoch;
             }) }
-        ensures kept { OnOk result (self.new
-            ≡ Idle (Some (tail_after (tail_written_after full (tail_held self.old)) epoch))) }
+        ensures kept { OnOk result (self.new.state
+            ≡ Idle (Some (tail_after (tail_written_after full (tail_held self.old.state)) epoch))) }
         ensures refused { IfErr result (λ refused. (refused.0 ≡ epoch) × (refused.1 ≡ Fault.OutOfMemory)) }
-        ensures err { OnErr result (self.new ≡ self.old) }
+        ensures err { OnErr result (self.new.state ≡ self.old.state) }
     {
         let mut lines = mem::replace(&mut self.lines, Lines::new(self.alloc));
         let in_full = full || !self.is_kept;
@@ -172,39 +178,55 @@ impl Columns {
     /// `BadSatellite` and `RepeatedSatellite`; `OutOfMemory` where something can't grow and the line has no fault. After a refusal everything
     /// is forgotten.
     pub fn begin(&mut self, types: &Types, line: &[u8]) -> Result<(), Fault>
-        requires idle { is_idle self.old ≡ true }
+        requires idle { is_idle self.old.state ≡ true }
         requires short { length line.now ≤ LINE_LIMIT }
         requires no_event { is_event_line line.now ≡ false }
         ensures made { OnOk result (HasMade
-            (first_step types.now (tail_held self.old) (Content line.now)) self.new None) }
-        ensures refused { IfErr result (λ fault. (first_step types.now (tail_held self.old) (Content line.now)
+            (first_step types.now (tail_held self.old.state) (Content line.now)) self.new.state None) }
+        ensures refused { IfErr result (λ fault. (first_step types.now (tail_held self.old.state) (Content line.now)
             ≡ Faulty fault) ⊎ (fault ≡ Fault.OutOfMemory)) }
-        ensures emptied { OnErr result (self.new ≡ Idle None) }
+        ensures emptied { OnErr result (self.new.state ≡ Idle None) }
         // Memory runs out only at a line without a fault.
         ensures memory { IfErr result (λ fault. fault ≡ Fault.OutOfMemory
-            → is_faulty (first_step types.now (tail_held self.old) (Content line.now)) ≡ false) }
+            → is_faulty (first_step types.now (tail_held self.old.state) (Content line.now)) ≡ false) }
         // After the raw epochs accepted since everything was last forgotten, the line makes what it makes by them.
-        ensures block { (older : List RawEpoch) → tail_held self.old ≡ tail_left older
-            → OnOk result (IsReading types.now older (Content line.now ∷ []) self.new) }
-        ensures block_fault { (older : List RawEpoch) → tail_held self.old ≡ tail_left older
+        ensures block { (older : List RawEpoch) → tail_held self.old.state ≡ tail_left older
+            → OnOk result (IsReading types.now older (Content line.now ∷ []) self.new.state) }
+        ensures block_fault { (older : List RawEpoch) → tail_held self.old.state ≡ tail_left older
             → IfErr result (λ fault. (epoch_at types.now older (Content line.now ∷ []) ≡ Wrong 0 fault)
             ⊎ (fault ≡ Fault.OutOfMemory)) }
+        // Where there is room for all that the epoch's lines need, none is asked for.
+        ensures known { (begun : OpenRawEpoch)
+            → first_step types.now (tail_held self.old.state) (Content line.now) ≡ Going begun
+            → HasRoomFor begun self.old.room → IsOk result }
+        // From then on there is, also after a refusal.
+        ensures room { (begun : OpenRawEpoch)
+            → first_step types.now (tail_held self.old.state) (Content line.now) ≡ Going begun
+            → OnOk result (HasRoomFor begun self.new.room) }
+        ensures kept { KeepsRoom self.old.room self.new.room }
     {
         self.begin_next(types, line)
     }
 
     /// Begins an epoch for [`Columns::begin`], which forgets everything after a refusal.
     fn begin_next(&mut self, types: &Types, line: &[u8]) -> Result<(), Fault>
-        requires idle { is_idle self.old ≡ true }
+        requires idle { is_idle self.old.state ≡ true }
         requires short { length line.now ≤ LINE_LIMIT }
         requires no_event { is_event_line line.now ≡ false }
         ensures made { OnOk result (HasMade
-            (first_step types.now (tail_held self.old) (Content line.now)) self.new None) }
-        ensures refused { IfErr result (λ fault. (first_step types.now (tail_held self.old) (Content line.now)
+            (first_step types.now (tail_held self.old.state) (Content line.now)) self.new.state None) }
+        ensures refused { IfErr result (λ fault. (first_step types.now (tail_held self.old.state) (Content line.now)
             ≡ Faulty fault) ⊎ (fault ≡ Fault.OutOfMemory)) }
-        ensures emptied { OnErr result (self.new ≡ Idle None) }
+        ensures emptied { OnErr result (self.new.state ≡ Idle None) }
         ensures memory { IfErr result (λ fault. fault ≡ Fault.OutOfMemory
-            → is_faulty (first_step types.now (tail_held self.old) (Content line.now)) ≡ false) }
+            → is_faulty (first_step types.now (tail_held self.old.state) (Content line.now)) ≡ false) }
+        ensures known { (begun : OpenRawEpoch)
+            → first_step types.now (tail_held self.old.state) (Content line.now) ≡ Going begun
+            → HasRoomFor begun self.old.room → IsOk result }
+        ensures room { (begun : OpenRawEpoch)
+            → first_step types.now (tail_held self.old.state) (Content line.now) ≡ Going begun
+            → OnOk result (HasRoomFor begun self.new.room) }
+        ensures kept { KeepsRoom self.old.room self.new.room }
     {
         if !has_history(&mut self.history, self.is_kept, line) {
             return Err(Fault::NotAnEpoch);
@@ -234,40 +256,43 @@ impl Columns {
     /// for both `NoArc` and `OutOfRange`, for a satellite line `BadFlags`; `OutOfMemory` where the line is the last one and has no fault, and
     /// the epoch can't be made. After a refusal everything is forgotten.
     pub fn feed(&mut self, line: &[u8]) -> Result<Option<Epoch>, Fault>
-        requires open { is_idle self.old ≡ false }
+        requires open { is_idle self.old.state ≡ false }
         requires short { length line.now ≤ LINE_LIMIT }
-        ensures made { IfOk result (λ given. HasMade (step_in self.old (Content line.now)) self.new given) }
+        ensures made { IfOk result (λ given. HasMade (step_in self.old.state (Content line.now)) self.new.state given) }
         ensures refused { IfErr result
-            (λ fault. (step_in self.old (Content line.now) ≡ Faulty fault) ⊎ (fault ≡ Fault.OutOfMemory)) }
+            (λ fault. (step_in self.old.state (Content line.now) ≡ Faulty fault) ⊎ (fault ≡ Fault.OutOfMemory)) }
         // Memory runs out only at the line of an epoch's last satellite, and only where it has no fault.
         ensures memory { IfErr result (λ fault. fault ≡ Fault.OutOfMemory
-            → (begins_epoch line.now ≡ false) × (awaits_row self.old ≡ true)
-            × (makes_epoch (step_in self.old (Content line.now)) ≡ true)) }
-        ensures emptied { OnErr result (self.new ≡ Idle None) }
+            → (begins_epoch line.now ≡ false) × (awaits_row self.old.state ≡ true)
+            × (makes_epoch (step_in self.old.state (Content line.now)) ≡ true)) }
+        ensures emptied { OnErr result (self.new.state ≡ Idle None) }
         // After the raw epochs accepted since everything was last forgotten, and the lines of the epoch so far, the line makes
         // what it makes by them: the epoch that is given is the one that stands at these lines.
         ensures block { (types : List Count) (older : List RawEpoch) (lines : List ReadLine)
-            → IsReading types older lines self.old
-            → IfOk result (λ given. HasReadTo types older (lines ++ Content line.now ∷ []) self.new given) }
+            → IsReading types older lines self.old.state
+            → IfOk result (λ given. HasReadTo types older (lines ++ Content line.now ∷ []) self.new.state given) }
         ensures block_fault { (types : List Count) (older : List RawEpoch) (lines : List ReadLine)
-            → IsReading types older lines self.old
+            → IsReading types older lines self.old.state
             → IfErr result (λ fault. (epoch_at types older (lines ++ Content line.now ∷ [])
             ≡ Wrong (length lines) fault) ⊎ (fault ≡ Fault.OutOfMemory)) }
+        // There is never less room than before.
+        ensures kept { KeepsRoom self.old.room self.new.room }
     {
         self.feed_next(line)
     }
 
     /// Takes the next line of the epoch for [`Columns::feed`], which forgets everything after a refusal.
     fn feed_next(&mut self, line: &[u8]) -> Result<Option<Epoch>, Fault>
-        requires open { is_idle self.old ≡ false }
+        requires open { is_idle self.old.state ≡ false }
         requires short { length line.now ≤ LINE_LIMIT }
-        ensures made { IfOk result (λ given. HasMade (step_in self.old (Content line.now)) self.new given) }
+        ensures made { IfOk result (λ given. HasMade (step_in self.old.state (Content line.now)) self.new.state given) }
         ensures refused { IfErr result
-            (λ fault. (step_in self.old (Content line.now) ≡ Faulty fault) ⊎ (fault ≡ Fault.OutOfMemory)) }
+            (λ fault. (step_in self.old.state (Content line.now) ≡ Faulty fault) ⊎ (fault ≡ Fault.OutOfMemory)) }
         ensures memory { IfErr result (λ fault. fault ≡ Fault.OutOfMemory
-            → (begins_epoch line.now ≡ false) × (awaits_row self.old ≡ true)
-            × (makes_epoch (step_in self.old (Content line.now)) ≡ true)) }
-        ensures emptied { OnErr result (self.new ≡ Idle None) }
+            → (begins_epoch line.now ≡ false) × (awaits_row self.old.state ≡ true)
+            × (makes_epoch (step_in self.old.state (Content line.now)) ≡ true)) }
+        ensures emptied { OnErr result (self.new.state ≡ Idle None) }
+        ensures kept { KeepsRoom self.old.room self.new.room }
     {
         match take_line(
             &mut self.history,
@@ -300,20 +325,24 @@ impl Columns {
     /// its line is read, where [`Columns::begin`] has asked for room. `true` says that it is the last one, and that the printed lines of the
     /// epoch are ready; no epoch is made of them.
     pub fn feed_into(&mut self, line: &[u8], lines: &mut ExpandedLines) -> Result<bool, Fault>
-        requires open { is_idle self.old ≡ false }
+        requires open { is_idle self.old.state ≡ false }
         requires short { length line.now ≤ LINE_LIMIT }
         requires drained { lines.old ≡ [] }
         ensures made { IfOk result (λ is_whole.
-            HasPrintedLines (step_in self.old (Content line.now)) self.new is_whole lines.new) }
+            HasPrintedLines (step_in self.old.state (Content line.now)) self.new.state is_whole lines.new) }
         ensures refused { IfErr result
-            (λ fault. (step_in self.old (Content line.now) ≡ Faulty fault) ⊎ (fault ≡ Fault.OutOfMemory)) }
+            (λ fault. (step_in self.old.state (Content line.now) ≡ Faulty fault) ⊎ (fault ≡ Fault.OutOfMemory)) }
         ensures memory { IfErr result (λ fault. fault ≡ Fault.OutOfMemory
-            → (begins_epoch line.now ≡ false) × (awaits_row self.old ≡ true)
-            × (makes_epoch (step_in self.old (Content line.now)) ≡ true)) }
+            → (begins_epoch line.now ≡ false) × (awaits_row self.old.state ≡ true)
+            × (makes_epoch (step_in self.old.state (Content line.now)) ≡ true)) }
         // No line but the epoch line asks for memory.
         ensures unasked { IfErr result (λ fault. fault ≡ Fault.OutOfMemory → ⊥) }
-        ensures emptied { OnErr result (self.new ≡ Idle None) }
+        ensures emptied { OnErr result (self.new.state ≡ Idle None) }
         ensures none { OnErr result (lines.new ≡ []) }
+        // There is never less room than before, but that the lines of a whole epoch leave with their memory.
+        ensures kept { KeepsHistoryRoom self.old.room self.new.room }
+        ensures lines_kept { IfOk result (λ is_whole. is_whole ≡ false → KeepsRoom self.old.room self.new.room) }
+        ensures err_kept { OnErr result (KeepsRoom self.old.room self.new.room) }
     {
         match take_line(
             &mut self.history,
@@ -356,6 +385,8 @@ fn forget(history: &mut History, is_kept: &mut bool, stage: &mut Stage)
     ensures between { IsBetween history.new }
     ensures kept { is_kept.new ≡ false }
     ensures stage { stage.new ≡ Stage.Unbegun }
+    ensures rooms { history.new.satellites.rooms ≡ history.old.satellites.rooms }
+    ensures held_room { history.new.held_room ≡ history.old.held_room }
 {
     history.clear();
     *is_kept = false;
@@ -369,6 +400,8 @@ fn has_history(history: &mut History, is_kept: bool, line: &[u8]) -> bool
     ensures between { IsBetween history.new }
     ensures before { tail_for_line (if is_kept then Some (tail_of_history history.old) else None) line.now
         ≡ (if result then Some (tail_of_history history.new) else None) }
+    ensures rooms { history.new.satellites.rooms ≡ history.old.satellites.rooms }
+    ensures held_room { history.new.held_room ≡ history.old.held_room }
 {
     if begins_epoch(line) {
         history.clear();
@@ -405,6 +438,8 @@ fn take_line(
         next_step (epoch_by_stage stage.old count.old history.old) (Content line.now) ≡ Faulty fault) }
     // No line but the epoch line asks for memory.
     ensures memory { IfErr result (λ fault. fault ≡ Fault.OutOfMemory → ⊥) }
+    ensures rooms { KeepsRooms history.old.satellites.rooms history.new.satellites.rooms }
+    ensures held_room { history.new.held_room ≡ history.old.held_room }
 {
     match *stage {
         Stage::Unbegun => unreachable!(),

@@ -1,10 +1,11 @@
 //! Rows to compact lines, one at a time, by the history, which they change in place: Hatanaka's Compact RINEX 3.0.
 
-ghost use Rattle.std.specs.Prelude.{◌≡◌, ◌≤◌, ◌++◌, ◌∷◌, ◌↔◌, [], None, Some, true, false, not, length, drop, slice_get, is_some, if◌then◌else◌, IsTrue, IfSome, IfOk, OnOk, OnErr};
-ghost use Rattle.crx_faults.specs.declared.limits.TheConstants.{DATE_LIMIT, LINE_LIMIT};
+ghost use Rattle.std.specs.Prelude.{◌≡◌, ◌≤◌, ◌+◌, ◌*◌, ◌++◌, ◌∷◌, ◌↔◌, [], None, Some, true, false, not, length, drop, slice_get, is_some, if◌then◌else◌, IsTrue, IfSome, IfOk, IsOk, OnOk, OnErr};
+ghost use Rattle.crx_faults.specs.declared.limits.TheConstants.{DATE_LIMIT, HEAD_WIDTH, LINE_LIMIT, NAME_WIDTH};
 ghost use Rattle.crx_header.specs.meaning.CompactHeader.{lines_before_header};
 ghost use Rattle.crx_rinex.specs.meaning.Epochs.{has_satellite};
 ghost use Rattle.crx_compact.specs.Encoding.{EncoderState, tail_in};
+ghost use Rattle.crx_compact.specs.EncodingRooms.{HasRowRoom, HasTakenRow, KeepsEncodingRoom, all_free};
 ghost use Rattle.crx_compact.specs.LineLists.{lines_text};
 ghost use Rattle.crx_compact.specs.Placing.{IsBetween};
 ghost use Rattle.crx_compact.specs.Steps.{lines_after_tail, tail_after};
@@ -37,6 +38,7 @@ pub struct Encoder {
 impl Model for Encoder {
     ghost use Rattle.std.specs.Prelude.{◌≡◌};
     ghost use Rattle.crx_compact.specs.Encoding.{EncoderState, IsEncoding};
+    ghost use Rattle.crx_compact.specs.EncodingRooms.{encoding_room};
     ghost use Rattle.crx_compact.specs.ReadyLines.{is_opened, pending_lines};
     ghost use Rattle.crx_compact.specs.declared.lines.TheConstants.{FIRST_LINES};
 
@@ -48,6 +50,7 @@ impl Model for Encoder {
       in_full = encoder.in_full;
       rows = encoder.rows.rows;
       pending = pending_lines encoder.ready;
+      room = encoding_room encoder.history encoder.ready.made;
     } };
 
     ghost invariant = { λ encoder. IsEncoding (is_opened encoder.ready.turn) encoder.before.tail encoder.is_kept encoder.in_full
@@ -88,6 +91,8 @@ impl Encoder {
         ensures closed { self.new.is_open ≡ false }
         ensures rows { self.new.rows ≡ [] }
         ensures pending { self.new.pending ≡ [] }
+        // Whatever was asked for is used again.
+        ensures room { self.new.room ≡ all_free self.old.room }
     {
         self.ready.clear();
         forget(
@@ -105,6 +110,7 @@ impl Encoder {
         ensures closed { self.new.is_open ≡ false }
         ensures rows { self.new.rows ≡ [] }
         ensures copied { self.new.pending ≡ line.now ∷ [] }
+        ensures room { self.new.room ≡ all_free self.old.room }
     {
         self.reset();
         self.ready.copy(line);
@@ -118,16 +124,23 @@ impl Encoder {
         ensures closed { self.new.is_open ≡ false }
         ensures rows { self.new.rows ≡ [] }
         ensures copied { self.new.pending ≡ lines_before_header date.now is_first ++ line.now ∷ [] }
+        ensures room { self.new.room ≡ all_free self.old.room }
     {
         self.reset();
         self.ready.copy_header(date, is_first, line);
     }
 
     /// Begins an epoch, in place of all lines: in full, where that is asked for or there is no epoch before, else as differences from the
-    /// epoch before.
+    /// epoch before. All room that was ever asked for lines is free again.
     pub fn begin(&mut self, full: bool)
         requires closed { self.old.is_open ≡ false }
-        ensures begun { self.new ≡ record self.old { is_open = true; in_full = full; rows = []; pending = [] } }
+        ensures begun { self.new ≡ record self.old {
+          is_open = true;
+          in_full = full;
+          rows = [];
+          pending = [];
+          room = all_free self.old.room;
+        } }
     {
         self.history.begin_rows(full || !self.is_kept);
         self.in_full = full;
@@ -141,11 +154,22 @@ impl Encoder {
         requires open { self.old.is_open ≡ true }
         ensures answer { IfOk result (λ is_new. is_new ≡ not (has_satellite row.now.name self.old.rows)) }
         ensures written { IfOk result (λ is_new. is_new ≡ true
-            → self.new ≡ record self.old { rows = self.old.rows ++ row.now ∷ [] }) }
+            → self.new ≡ record self.old { rows = self.old.rows ++ row.now ∷ []; room = self.new.room }) }
         ensures repeated { IfOk result (λ is_new. is_new ≡ false → self.new ≡ self.old) }
         ensures memory { OnErr result (has_satellite row.now.name self.old.rows ≡ false) }
-        ensures forgotten { OnErr result (self.new
-            ≡ record self.old { before = None; is_open = false; rows = []; pending = [] }) }
+        ensures forgotten { OnErr result (self.new ≡ record self.old {
+          before = None;
+          is_open = false;
+          rows = [];
+          pending = [];
+          room = self.new.room;
+        }) }
+        // Where there is room for the row, none is asked for.
+        ensures known { HasRowRoom row.now self.old.room → IsOk result }
+        ensures taken { IfOk result (λ is_new. is_new ≡ true
+            → HasTakenRow row.now self.old.room self.new.room) }
+        // There is never less room than before, after a refusal too.
+        ensures kept { KeepsEncodingRoom self.old.room self.new.room }
     {
         match self.history.write_row(
             row.name(),
@@ -182,8 +206,17 @@ impl Encoder {
             ≡ Some (tail_after (tail_in self.old) (epoch_by_rows head.now self.old.rows))) }
         ensures closed { self.new.is_open ≡ false }
         ensures rows { self.new.rows ≡ [] }
-        ensures forgotten { OnErr result (self.new
-            ≡ record self.old { before = None; is_open = false; rows = []; pending = [] }) }
+        ensures forgotten { OnErr result (self.new ≡ record self.old {
+          before = None;
+          is_open = false;
+          rows = [];
+          pending = [];
+          room = self.new.room;
+        }) }
+        // Where there is room for the epoch's text, none is asked for.
+        ensures known { HEAD_WIDTH + NAME_WIDTH * head.now.count ≤ self.old.room.text → IsOk result }
+        // There is never less room than before, after a refusal too.
+        ensures kept { KeepsEncodingRoom self.old.room self.new.room }
     {
         if self
             .history
@@ -239,6 +272,8 @@ fn forget(history: &mut History, is_kept: &mut bool, before: &mut KeptTail, rows
     ensures kept { is_kept.new ≡ false }
     ensures before { before.new.tail ≡ None }
     ensures rows { rows.new.rows ≡ [] }
+    ensures rooms { history.new.satellites.rooms ≡ history.old.satellites.rooms }
+    ensures text_room { history.new.text_room ≡ history.old.text_room }
 {
     history.clear();
     *is_kept = false;

@@ -1,6 +1,6 @@
 //! The history, which each epoch's lines are made and read after, and which they change in place: Hatanaka's Compact RINEX 3.0.
 
-ghost use Rattle.std.specs.Prelude.{List, sum, flat_map, ◌≡◌, ◌≤◌, ◌<◌, ◌+◌, ◌*◌, ◌++◌, ◌∷◌, ◌⊎◌, if◌then◌else◌, [], true, false, None, Some, Ok, Err, All, length, take, map, slice_get, is_some, not, OnOk, OnErr, IfOk, IfErr, IsOk};
+ghost use Rattle.std.specs.Prelude.{List, sum, flat_map, ◌≡◌, ◌≤◌, ◌<◌, ◌+◌, ◌*◌, ◌++◌, ◌∷◌, ◌⊎◌, if◌then◌else◌, [], true, false, None, Some, Ok, Err, All, length, take, map, slice_get, is_some, not, OnOk, OnErr, IfOk, IfErr, IsOk, vec_capacity};
 ghost use Rattle.std.specs.Result.{is_ok};
 ghost use Rattle.crx_columns.specs.meaning.Columns.{columns, without_end_blanks};
 ghost use Rattle.crx_columns.specs.meaning.Texts.{text_difference};
@@ -12,10 +12,11 @@ ghost use Rattle.crx_rinex.specs.meaning.Epochs.{IsSoundEpoch, has_satellite};
 ghost use Rattle.crx_rinex.specs.meaning.Observations.{Row};
 ghost use Rattle.crx_rinex.specs.meaning.Printing.{printed_head, printed_row};
 ghost use Rattle.crx_compact.specs.ArcSteps.{shown_value};
+ghost use Rattle.crx_compact.specs.EncodingRooms.{HasRoomForEpoch, encoding_room};
 ghost use Rattle.crx_compact.specs.HeldRows.{IsAwaitedSatellite, past_of_tail, row_held};
 ghost use Rattle.crx_compact.specs.meaning.CompactPlaces.{clock_line_read, satellites_of_line, satellites_of_text};
 ghost use Rattle.crx_compact.specs.meaning.EpochText.{Satellite, names_in, satellites_named};
-ghost use Rattle.crx_compact.specs.Placing.{HasAllowedCount, HasRoom, HaveRoom, IsAnnounced, IsBetween, IsRowRead, KeepsRooms, padded, padded_among, room_of_types, row_of_parts, row_room, satellite_of, tail_of_history};
+ghost use Rattle.crx_compact.specs.Placing.{HasAllowedCount, HasRoom, HaveRoom, HaveTypesRoom, IsAnnounced, IsBetween, IsRowRead, KeepsRooms, padded, padded_among, room_of_types, row_of_parts, row_room, satellite_of, tail_of_history};
 ghost use Rattle.crx_compact.specs.Written.{AreRowsWritten, epoch_by_rows};
 ghost use Rattle.crx_rinex.specs.meaning.SatelliteLines.{IsSoundRow};
 ghost use Rattle.crx_compact.specs.PrintedBlocks.{printed_room};
@@ -52,7 +53,7 @@ pub struct History {
 }
 
 impl Model for History {
-    ghost use Rattle.std.specs.Prelude.{◌≤◌, length};
+    ghost use Rattle.std.specs.Prelude.{◌≤◌, length, min, vec_capacity};
     ghost use Rattle.crx_faults.specs.declared.limits.TheConstants.{LINE_LIMIT};
     ghost use Rattle.crx_compact.specs.Placing.{OpenHistory};
 
@@ -61,6 +62,8 @@ impl Model for History {
     ghost view = { λ history. record {
       text = history.text.items;
       next_text = history.next_text.items;
+      text_room = min (vec_capacity history.text) (vec_capacity history.next_text);
+      held_room = vec_capacity history.text;
       clock = history.clock;
       satellites = history.satellites;
     } };
@@ -114,6 +117,11 @@ impl History {
             ≡ lines_after_tail (if in_full then no_tail else tail_of_history self.old) epoch.now) }
         ensures err { OnErr result (tail_of_history self.new ≡ tail_of_history self.old) }
         ensures between { IsBetween self.new }
+        // Where room was asked for before, none is now.
+        ensures known { HasRoomForEpoch epoch.now (encoding_room self.old lines.old)
+            → FIRST_LINES ≡ lines.old.reserved → IsOk result }
+        ensures rooms { KeepsRooms self.old.satellites.rooms self.new.satellites.rooms }
+        ensures text_room { self.old.text_room ≤ self.new.text_room }
     {
         self.prepare(epoch)?;
         lines.reserve_front(FIRST_LINES)?;
@@ -131,6 +139,11 @@ impl History {
         ensures rest { self.new.satellites.rest ≡ self.old.satellites.rest }
         ensures text { OnOk result (HEAD_WIDTH + NAME_WIDTH * length epoch.now.rows ≤ length self.new.next_text) }
         ensures room { OnOk result (HaveRoom epoch.now.rows self.new.satellites.rooms) }
+        // Where room was asked for before, none is now.
+        ensures known { HEAD_WIDTH + NAME_WIDTH * length epoch.now.rows ≤ self.old.text_room
+            → HaveRoom epoch.now.rows self.old.satellites.rooms → IsOk result }
+        ensures rooms { KeepsRooms self.old.satellites.rooms self.new.satellites.rooms }
+        ensures text_room { self.old.text_room ≤ self.new.text_room }
     {
         make_long(&mut self.next_text, HEAD_WIDTH + NAME_WIDTH * epoch.count())?;
         prepare_rows(&mut self.satellites, epoch)
@@ -141,7 +154,9 @@ impl History {
         requires between { IsBetween self.old }
         ensures begun { AreRowsWritten (if in_full then no_tail else tail_of_history self.old) [] self.new [] }
         ensures next_text { self.new.next_text ≡ self.old.next_text }
+        ensures text_room { self.new.text_room ≡ self.old.text_room }
         ensures rooms { KeepsRooms self.old.satellites.rooms self.new.satellites.rooms }
+        ensures same_rooms { self.new.satellites.rooms ≡ self.old.satellites.rooms }
     {
         if in_full {
             self.clear();
@@ -168,6 +183,7 @@ impl History {
             → AreRowsWritten after (rows ++ row_of_parts name values.now flags.now ∷ []) self.new lines.new.lines) }
         ensures same { IfOk result (λ is_new. is_new ≡ false
             → (self.new ≡ self.old) × (lines.new.lines ≡ lines.old.lines)) }
+        ensures same_lines { IfOk result (λ is_new. is_new ≡ false → lines.new ≡ lines.old) }
         ensures memory { (after : Tail) (rows : List Row) → AreRowsWritten after rows self.old lines.old.lines
             → OnErr result (has_satellite name rows ≡ false) }
         ensures front { lines.new.front ≡ lines.old.front }
@@ -179,6 +195,19 @@ impl History {
         ensures free_lines { lines.old.free_lines ≤ lines.new.free_lines + 1 }
         ensures free_bytes { lines.old.free_bytes ≤ lines.new.free_bytes + room_of_types (length values.now) }
         ensures next_text { self.new.next_text ≡ self.old.next_text }
+        ensures text_room { self.new.text_room ≡ self.old.text_room }
+        ensures all_lines { lines.old.all_lines ≤ lines.new.all_lines }
+        ensures all_bytes { lines.old.all_bytes ≤ lines.new.all_bytes }
+        // One line more is in use, and no more bytes than it may have; for these there was room.
+        ensures room { IfOk result (λ is_new. is_new ≡ true
+            → HasRoom name (length values.now) self.new.satellites.rooms) }
+        ensures used_lines { IfOk result (λ is_new. is_new ≡ true
+            → lines.new.free_lines + (lines.old.all_lines + 1) ≡ lines.old.free_lines + lines.new.all_lines) }
+        ensures used_bytes { IfOk result (λ is_new. is_new ≡ true → lines.old.free_bytes + lines.new.all_bytes
+            ≤ lines.new.free_bytes + (lines.old.all_bytes + room_of_types (length values.now))) }
+        ensures asked { IfOk result (λ is_new. is_new ≡ true
+            → lines.old.all_bytes + room_of_types (length values.now)
+            ≤ lines.old.free_bytes + lines.new.all_bytes) }
     {
         let count = values.len();
         if !self.satellites.place(name)? {
@@ -201,6 +230,8 @@ impl History {
             → AreRowsWritten after epoch.now.rows self.new lines.new.lines }
         ensures next_text { self.new.next_text ≡ self.old.next_text }
         ensures front { lines.new.front ≡ lines.old.front }
+        ensures rooms { KeepsRooms self.old.satellites.rooms self.new.satellites.rooms }
+        ensures text_room { self.new.text_room ≡ self.old.text_room }
     {
         let mut index = 0;
         while let Some(row) = epoch.row(index) {
@@ -227,6 +258,11 @@ impl History {
         ensures reserved { lines.new.reserved ≡ lines.old.reserved }
         // Where room was asked for before, none is now.
         ensures known { HEAD_WIDTH + NAME_WIDTH * head.now.count ≤ length self.old.next_text → IsOk result }
+        ensures asked { HEAD_WIDTH + NAME_WIDTH * head.now.count ≤ self.old.text_room → IsOk result }
+        ensures text_room { self.old.text_room ≤ self.new.text_room }
+        ensures rooms { self.new.satellites.rooms ≡ self.old.satellites.rooms }
+        ensures all_lines { lines.new.all_lines ≡ lines.old.all_lines }
+        ensures all_bytes { lines.new.all_bytes ≡ lines.old.all_bytes }
     {
         self.satellites.end();
         renew_text(&mut self.next_text, head, &self.satellites)?;
@@ -266,6 +302,18 @@ impl History {
         // Memory runs out only at a line without a fault.
         ensures memory { IfErr result (λ fault. fault ≡ Fault.OutOfMemory
             → is_ok (satellites_of_line types.now (past_of_tail (tail_of_history self.old)) line.now) ≡ true) }
+        // Where room was asked for before, none is now.
+        ensures known { (satellites : List Satellite)
+            → satellites_of_line types.now (past_of_tail (tail_of_history self.old)) line.now ≡ Ok satellites
+            → HaveTypesRoom satellites self.old.satellites.rooms
+            → length (patched self.old.text line.now) ≤ self.old.held_room → IsOk result }
+        ensures room { (satellites : List Satellite)
+            → satellites_of_line types.now (past_of_tail (tail_of_history self.old)) line.now ≡ Ok satellites
+            → OnOk result (HaveTypesRoom satellites self.new.satellites.rooms) }
+        ensures text_fits { OnOk result (length self.new.text ≤ self.new.held_room) }
+        ensures rooms { KeepsRooms self.old.satellites.rooms self.new.satellites.rooms }
+        ensures held_room { self.old.held_room ≤ self.new.held_room }
+        ensures text_room { self.old.text_room ≤ self.new.text_room }
     {
         if patch_bytes(&self.text, line, part).is_err() {
             return Err(Fault::BadEpoch);
@@ -274,7 +322,12 @@ impl History {
         let text = part.bytes();
         match read_satellites(types, text, &mut self.satellites) {
             Ok(()) => {}
-            Err(Fault::OutOfMemory) => return Err(fault_of_text(types, text)),
+            Err(Fault::OutOfMemory) => {
+                if let Some(fault) = fault_of_text(types, text) {
+                    return Err(fault);
+                }
+                return Err(Fault::OutOfMemory);
+            }
             Err(fault) => return Err(fault),
         }
         if put_text_in(&mut self.text, text).is_err() {
@@ -328,6 +381,9 @@ impl History {
         ensures err { IfErr result (λ fault. (row : RowTail)
             → slice_get self.old.satellites.rows index ≡ Some row
             → row_held (Some row) (satellite_of row) line.now ≡ Err fault) }
+        ensures rooms { KeepsRooms self.old.satellites.rooms self.new.satellites.rooms }
+        ensures held_room { self.new.held_room ≡ self.old.held_room }
+        ensures text_room { self.new.text_room ≡ self.old.text_room }
     {
         if begins_epoch(line) {
             return Err(Fault::Truncated);
@@ -399,6 +455,8 @@ impl History {
         ensures free_lines { lines.new.free_lines + 1 ≡ lines.old.free_lines }
         ensures free_bytes { (row : RowTail) → slice_get self.now.satellites.rows index ≡ Some row
             → lines.old.free_bytes ≤ lines.new.free_bytes + printed_room row }
+        ensures all_lines { lines.new.all_lines ≡ lines.old.all_lines }
+        ensures all_bytes { lines.new.all_bytes ≡ lines.old.all_bytes }
     {
         lines.put_printed(&self.satellites, index);
     }
@@ -410,6 +468,8 @@ fn prepare_rows(satellites: &mut Satellites, epoch: &Epoch) -> Result<(), AllocE
     ensures rows { satellites.new.rows ≡ satellites.old.rows }
     ensures rest { satellites.new.rest ≡ satellites.old.rest }
     ensures room { OnOk result (HaveRoom epoch.now.rows satellites.new.rooms) }
+    ensures known { HaveRoom epoch.now.rows satellites.old.rooms → IsOk result }
+    ensures rooms { KeepsRooms satellites.old.rooms satellites.new.rooms }
 {
     let mut index = 0;
     while let Some(row) = epoch.row(index) {
@@ -431,6 +491,8 @@ fn renew_text(
         (head.now.head ++ flat_map (λ (row : RowTail). row.name) satellites.now.rows)) }
     ensures within { length text.new.items ≤ LINE_LIMIT }
     ensures known { HEAD_WIDTH + NAME_WIDTH * head.now.count ≤ length text.old.items → IsOk result }
+    ensures asked { HEAD_WIDTH + NAME_WIDTH * head.now.count ≤ vec_capacity text.old → IsOk result }
+    ensures room { vec_capacity text.old ≤ vec_capacity text.new }
 {
     let length = HEAD_WIDTH + NAME_WIDTH * head.count();
     make_long(text, length)?;
@@ -448,6 +510,8 @@ fn make_long(text: &mut Vec<u8>, count: usize) -> Result<(), AllocError>
     ensures room { OnOk result (count ≤ length text.new.items) }
     ensures within { length text.new.items ≤ LINE_LIMIT }
     ensures known { count ≤ length text.old.items → IsOk result }
+    ensures asked { count ≤ vec_capacity text.old → IsOk result }
+    ensures capacity { vec_capacity text.old ≤ vec_capacity text.new }
 {
     if text.len() < count {
         text.resize(count, b' ')?;
@@ -499,6 +563,8 @@ fn room_of_rows(epoch: &Epoch) -> usize
 fn put_text_in(text: &mut Vec<u8>, new: &[u8]) -> Result<(), AllocError>
     ensures ok { OnOk result (text.new.items ≡ new.now) }
     ensures err { OnErr result (text.new.items ≡ []) }
+    ensures asked { length new.now ≤ vec_capacity text.old → IsOk result }
+    ensures room { vec_capacity text.old ≤ vec_capacity text.new }
 {
     text.clear();
     text.extend_from_slice(new)?;
@@ -529,6 +595,12 @@ fn read_satellites(types: &Types, text: &[u8], satellites: &mut Satellites) -> R
         × All IsAwaitedSatellite named) }
     ensures err { IfErr result (λ fault. (satellites_of_text types.now text.now ≡ Err fault)
         ⊎ (fault ≡ Fault.OutOfMemory)) }
+    // Where room was asked for before, none is now.
+    ensures known { (named : List Satellite) → satellites_of_text types.now text.now ≡ Ok named
+        → HaveTypesRoom named satellites.old.rooms → IsOk result }
+    ensures room { (named : List Satellite) → satellites_of_text types.now text.now ≡ Ok named
+        → OnOk result (HaveTypesRoom named satellites.new.rooms) }
+    ensures rooms { KeepsRooms satellites.old.rooms satellites.new.rooms }
 {
     let Ok(head) = EpochLine::new(padded(text, 1), None) else {
         return Err(Fault::BadEpoch);
@@ -558,6 +630,14 @@ fn read_names(
         × All IsAwaitedSatellite named) }
     ensures err { IfErr result (λ fault. (satellites_named types.now [] (names_in text.now count) ≡ Err fault)
         ⊎ (fault ≡ Fault.OutOfMemory)) }
+    // Where room was asked for before, none is now.
+    ensures known { (named : List Satellite)
+        → satellites_named types.now [] (names_in text.now count) ≡ Ok named
+        → HaveTypesRoom named satellites.old.rooms → IsOk result }
+    ensures room { (named : List Satellite)
+        → satellites_named types.now [] (names_in text.now count) ≡ Ok named
+        → OnOk result (HaveTypesRoom named satellites.new.rooms) }
+    ensures rooms { KeepsRooms satellites.old.rooms satellites.new.rooms }
 {
     for place in 0..count {
         let name = identifier(text, HEAD_WIDTH + 1 + NAME_WIDTH * place);

@@ -45,7 +45,8 @@ pub struct Lines {
 }
 
 impl Model for Lines {
-    ghost use Rattle.std.specs.Prelude.{◌≤◌, ◌-◌, drop, length, take};
+    ghost use Rattle.std.specs.Prelude.{◌≤◌, ◌+◌, ◌-◌, ◌*◌, drop, length, take};
+    ghost use Rattle.crx_faults.specs.declared.limits.TheConstants.{LINE_LIMIT};
     ghost use Rattle.crx_compact.specs.LineLists.{cut, AreCut, HasFront, PendingLines};
 
     ghost Value = { PendingLines };
@@ -55,6 +56,8 @@ impl Model for Lines {
           (drop lines.handed_out_bytes (take lines.filled lines.bytes.items));
       free_lines = length lines.lengths.items - lines.count;
       free_bytes = length lines.bytes.items - lines.filled;
+      all_lines = length lines.lengths.items - lines.reserved;
+      all_bytes = length lines.bytes.items - lines.reserved * (LINE_LIMIT + 1);
       reserved = lines.reserved;
       front = lines.front;
     } };
@@ -89,6 +92,10 @@ impl Lines {
         ensures emptied { self.new.lines ≡ [] }
         ensures free_lines { self.old.free_lines ≤ self.new.free_lines }
         ensures free_bytes { self.old.free_bytes ≤ self.new.free_bytes }
+        ensures all_free_lines { self.new.free_lines ≡ self.old.all_lines }
+        ensures all_free_bytes { self.new.free_bytes ≡ self.old.all_bytes }
+        ensures all_lines { self.new.all_lines ≡ self.old.all_lines }
+        ensures all_bytes { self.new.all_bytes ≡ self.old.all_bytes }
         ensures reserved { self.new.reserved ≡ self.old.reserved }
         ensures front { self.new.front ≡ self.old.reserved }
     {
@@ -105,6 +112,10 @@ impl Lines {
         ensures emptied { self.new.lines ≡ [] }
         ensures front { OnOk result (self.new.front ≡ lines) }
         ensures reserved { OnOk result (self.new.reserved ≡ lines) }
+        // Where room was left for as many before, none is asked for now, and all that was asked for other lines is free.
+        ensures known { lines ≡ self.old.reserved → IsOk result }
+        ensures free_lines { lines ≡ self.old.reserved → self.old.all_lines ≤ self.new.free_lines }
+        ensures free_bytes { lines ≡ self.old.reserved → self.old.all_bytes ≤ self.new.free_bytes }
     {
         self.reserved = 0;
         self.clear();
@@ -127,6 +138,14 @@ impl Lines {
         ensures free_bytes { OnOk result (bytes ≤ self.new.free_bytes) }
         ensures more_lines { self.old.free_lines ≤ self.new.free_lines }
         ensures more_bytes { self.old.free_bytes ≤ self.new.free_bytes }
+        ensures all_lines { self.old.all_lines ≤ self.new.all_lines }
+        ensures all_bytes { self.old.all_bytes ≤ self.new.all_bytes }
+        ensures among_lines { self.new.free_lines ≤ self.new.all_lines }
+        ensures among_bytes { self.new.free_bytes ≤ self.new.all_bytes }
+        ensures grown_lines { self.new.free_lines + self.old.all_lines
+            ≡ self.old.free_lines + self.new.all_lines }
+        ensures grown_bytes { self.new.free_bytes + self.old.all_bytes
+            ≡ self.old.free_bytes + self.new.all_bytes }
         ensures front { self.new.front ≡ self.old.front }
         ensures reserved { self.new.reserved ≡ self.old.reserved }
         ensures known { lines ≤ self.old.free_lines → bytes ≤ self.old.free_bytes → IsOk result }
@@ -142,6 +161,8 @@ impl Lines {
         ensures lines { self.new.lines ≡ line.now ∷ self.old.lines }
         ensures front { self.new.front + 1 ≡ self.old.front }
         ensures reserved { self.new.reserved ≡ self.old.reserved }
+        ensures all_lines { self.new.all_lines ≡ self.old.all_lines }
+        ensures all_bytes { self.new.all_bytes ≡ self.old.all_bytes }
     {
         let start = self.handed_out_bytes - line.len() - 1;
         put_line(&mut self.bytes, start, line);
@@ -158,6 +179,8 @@ impl Lines {
         ensures lines { self.new.lines ≡ self.old.lines ++ line.now ∷ [] }
         ensures free_lines { self.new.free_lines + 1 ≡ self.old.free_lines }
         ensures free_bytes { self.new.free_bytes + (length line.now + 1) ≡ self.old.free_bytes }
+        ensures all_lines { self.new.all_lines ≡ self.old.all_lines }
+        ensures all_bytes { self.new.all_bytes ≡ self.old.all_bytes }
         ensures front { self.new.front ≡ self.old.front }
         ensures reserved { self.new.reserved ≡ self.old.reserved }
     {
@@ -191,6 +214,8 @@ impl Lines {
             ≡ self.old.lines ++ row_line_after (Some old) (row_of_parts old.name values.now flags.now) ∷ [] }
         ensures free_lines { self.new.free_lines + 1 ≡ self.old.free_lines }
         ensures free_bytes { self.old.free_bytes ≤ self.new.free_bytes + room_of_types (length values.now) }
+        ensures all_lines { self.new.all_lines ≡ self.old.all_lines }
+        ensures all_bytes { self.new.all_bytes ≡ self.old.all_bytes }
         ensures front { self.new.front ≡ self.old.front }
         ensures reserved { self.new.reserved ≡ self.old.reserved }
         ensures rest { satellites.new.rest ≡ satellites.old.rest }
@@ -223,6 +248,8 @@ impl Lines {
         ensures free_lines { self.new.free_lines + 1 ≡ self.old.free_lines }
         ensures free_bytes { (old : RowTail) → slice_get satellites.now.rows index ≡ Some old
             → self.old.free_bytes ≤ self.new.free_bytes + printed_room old }
+        ensures all_lines { self.new.all_lines ≡ self.old.all_lines }
+        ensures all_bytes { self.new.all_bytes ≡ self.old.all_bytes }
         ensures front { self.new.front ≡ self.old.front }
         ensures reserved { self.new.reserved ≡ self.old.reserved }
     {

@@ -1,8 +1,9 @@
 //! The printed lines of an epoch whose compact lines come one by one.
 
-ghost use Rattle.std.specs.Prelude.{◌≡◌, ◌≤◌, [], true, false, length, OnOk};
+ghost use Rattle.std.specs.Prelude.{◌≡◌, ◌≤◌, ◌<◌, ◌+◌, [], true, false, length, map, sum, IsOk, OnOk};
+ghost use Rattle.crx_faults.specs.declared.limits.TheConstants.{LINE_LIMIT};
 ghost use Rattle.crx_compact.specs.Placing.{IsAnnounced};
-ghost use Rattle.crx_compact.specs.PrintedBlocks.{IsBlock};
+ghost use Rattle.crx_compact.specs.PrintedBlocks.{IsBlock, printed_room};
 
 use crate::expanded_lines::ExpandedLines;
 use crate::history::History;
@@ -35,6 +36,15 @@ impl PrintedBlock {
         requires announced { IsAnnounced history.now }
         ensures room { OnOk result (IsBlock self.new.has_head self.new.rows self.new.lines history.now) }
         ensures none { self.new.has_head ≡ false }
+        // Where room was asked for before, none is now.
+        ensures known { length history.now.satellites.rows < self.old.lines.all_lines
+            → LINE_LIMIT + 1 + sum (map printed_room history.now.satellites.rows) ≤ self.old.lines.all_bytes
+            → IsOk result }
+        ensures enough_lines { OnOk result (length history.now.satellites.rows < self.new.lines.all_lines) }
+        ensures enough_bytes { OnOk result (LINE_LIMIT + 1 + sum (map printed_room history.now.satellites.rows)
+            ≤ self.new.lines.all_bytes) }
+        ensures all_lines { self.old.lines.all_lines ≤ self.new.lines.all_lines }
+        ensures all_bytes { self.old.lines.all_bytes ≤ self.new.lines.all_bytes }
     {
         self.lines.clear();
         self.has_head = false;
@@ -53,6 +63,8 @@ impl PrintedBlock {
         ensures block { IsBlock self.new.has_head self.new.rows self.new.lines history.now }
         ensures head { self.new.has_head ≡ true }
         ensures rows { self.new.rows ≡ rows }
+        ensures all_lines { self.new.lines.all_lines ≡ self.old.lines.all_lines }
+        ensures all_bytes { self.new.lines.all_bytes ≡ self.old.lines.all_bytes }
     {
         self.print_head(history, part);
         while self.rows < rows {
@@ -68,6 +80,8 @@ impl PrintedBlock {
         ensures block { IsBlock self.new.has_head self.new.rows self.new.lines history.now }
         ensures head { self.new.has_head ≡ true }
         ensures rows { self.new.rows ≡ self.old.rows }
+        ensures all_lines { self.new.lines.all_lines ≡ self.old.lines.all_lines }
+        ensures all_bytes { self.new.lines.all_bytes ≡ self.old.lines.all_bytes }
     {
         if !self.has_head {
             history.print_head(part);

@@ -91,6 +91,11 @@ impl ReadyLines {
         ensures emptied { pending_lines self.new ≡ [] }
         ensures turn { self.new.turn ≡ Turn.Made }
         ensures reserved { self.new.made.reserved ≡ self.old.made.reserved }
+        // The memory of all lines is used again.
+        ensures free_lines { self.new.made.free_lines ≡ self.old.made.all_lines }
+        ensures free_bytes { self.new.made.free_bytes ≡ self.old.made.all_bytes }
+        ensures all_lines { self.new.made.all_lines ≡ self.old.made.all_lines }
+        ensures all_bytes { self.new.made.all_bytes ≡ self.old.made.all_bytes }
     {
         self.turn = Turn::Made;
         self.made.clear();
@@ -104,6 +109,11 @@ impl ReadyLines {
         ensures made { self.new.made.lines ≡ [] }
         ensures program { self.new.program ≡ self.old.program }
         ensures reserved { self.new.made.reserved ≡ self.old.made.reserved }
+        // The memory of all lines is used again.
+        ensures free_lines { self.new.made.free_lines ≡ self.old.made.all_lines }
+        ensures free_bytes { self.new.made.free_bytes ≡ self.old.made.all_bytes }
+        ensures all_lines { self.new.made.all_lines ≡ self.old.made.all_lines }
+        ensures all_bytes { self.new.made.all_bytes ≡ self.old.made.all_bytes }
     {
         self.made.clear();
         self.copied.clear();
@@ -117,6 +127,11 @@ impl ReadyLines {
         ensures copied { pending_lines self.new ≡ line.now ∷ [] }
         ensures closed { is_opened self.new.turn ≡ false }
         ensures reserved { self.new.made.reserved ≡ self.old.made.reserved }
+        // The memory of all lines is used again.
+        ensures free_lines { self.new.made.free_lines ≡ self.old.made.all_lines }
+        ensures free_bytes { self.new.made.free_bytes ≡ self.old.made.all_bytes }
+        ensures all_lines { self.new.made.all_lines ≡ self.old.made.all_lines }
+        ensures all_bytes { self.new.made.all_bytes ≡ self.old.made.all_bytes }
     {
         self.hold(line, Turn::Copied);
     }
@@ -128,6 +143,11 @@ impl ReadyLines {
         ensures copied { pending_lines self.new ≡ lines_before_header date.now is_first ++ line.now ∷ [] }
         ensures closed { is_opened self.new.turn ≡ false }
         ensures reserved { self.new.made.reserved ≡ self.old.made.reserved }
+        // The memory of all lines is used again.
+        ensures free_lines { self.new.made.free_lines ≡ self.old.made.all_lines }
+        ensures free_bytes { self.new.made.free_bytes ≡ self.old.made.all_bytes }
+        ensures all_lines { self.new.made.all_lines ≡ self.old.made.all_lines }
+        ensures all_bytes { self.new.made.all_bytes ≡ self.old.made.all_bytes }
     {
         if is_first {
             write_program_line(&mut self.program, date);
@@ -143,6 +163,11 @@ impl ReadyLines {
         ensures lines { self.new.made.lines ≡ [] }
         ensures front { self.new.made.front ≡ self.old.made.reserved }
         ensures reserved { self.new.made.reserved ≡ self.old.made.reserved }
+        // The memory of all lines is used again.
+        ensures free_lines { self.new.made.free_lines ≡ self.old.made.all_lines }
+        ensures free_bytes { self.new.made.free_bytes ≡ self.old.made.all_bytes }
+        ensures all_lines { self.new.made.all_lines ≡ self.old.made.all_lines }
+        ensures all_bytes { self.new.made.all_bytes ≡ self.old.made.all_bytes }
     {
         self.turn = Turn::Open;
         self.made.clear();
@@ -165,7 +190,8 @@ impl ReadyLines {
             (λ new. (pending_lines new ≡ drop 1 (pending_lines self.old))
             × (is_opened new.turn ≡ is_opened self.old.turn)
             × (is_opened self.old.turn ≡ true → new.made ≡ self.old.made)
-            × (new.made.reserved ≡ self.old.made.reserved))) }
+            × (new.made.reserved ≡ self.old.made.reserved)
+            × (new.made ≡ record self.old.made { lines = new.made.lines }))) }
     {
         match self.turn {
             Turn::Version => {
@@ -194,7 +220,8 @@ impl ReadyLines {
             (λ new. (pending_lines new ≡ (if is_some result then [] else pending_lines self.old))
             × (is_opened new.turn ≡ is_opened self.old.turn)
             × (is_opened self.old.turn ≡ true → new.made ≡ self.old.made)
-            × (new.made.reserved ≡ self.old.made.reserved))) }
+            × (new.made.reserved ≡ self.old.made.reserved)
+            × (new.made ≡ record self.old.made { lines = new.made.lines }))) }
     {
         match self.turn {
             Turn::Made => Some(self.made.take_text()),

@@ -175,6 +175,7 @@ impl Satellites {
         ensures rest { self.new.rest ≡ self.old.rest }
         ensures room { OnOk result (HasRoom name count self.new.rooms) }
         ensures rooms { KeepsRooms self.old.rooms self.new.rooms }
+        ensures known { HasRoom name count self.old.rooms → IsOk result }
     {
         let near = self.last.wrapping_add(1);
         let found = find_or_add(&mut self.known, near, name, self.alloc)?;
@@ -219,6 +220,10 @@ impl Satellites {
         ensures ok { OnOk result ((before : List RowTail) (row : RowTail) → self.old.rows ≡ before ++ row ∷ []
             → self.new.rows ≡ before ++ padded (record { name = row.name; count = count }) (Some row) ∷ []) }
         ensures err { OnErr result (self.new.rows ≡ self.old.rows) }
+        ensures room { OnOk result ((before : List RowTail) (row : RowTail) → self.old.rows ≡ before ++ row ∷ []
+            → HasRoom row.name count self.new.rooms) }
+        ensures known { (before : List RowTail) (row : RowTail) → self.old.rows ≡ before ++ row ∷ []
+            → HasRoom row.name count self.old.rooms → IsOk result }
         ensures rest { self.new.rest ≡ self.old.rest }
         ensures rooms { KeepsRooms self.old.rooms self.new.rooms }
     {

@@ -20,9 +20,9 @@ abbrev pub seen_in : Choices → ℕ → CompactReader → Stage → Seen OpenRa
 seen_in choices number r stage = record {
   choices = choices;
   number = number;
-  phase = seen_stage (open_in r.columns) stage;
+  phase = seen_stage (open_in r.columns.state) stage;
   types = r.types;
-  kept = tail_held r.columns;
+  kept = tail_held r.columns.state;
 }
 
 -- what it is seen as
@@ -31,11 +31,11 @@ compact_reader_state choices number r = seen_in choices number r r.stage
 
 -- where it is
 abbrev pub compact_reader_phase : CompactReader → Phase OpenRawEpoch
-compact_reader_phase r = seen_stage (open_in r.columns) r.stage
+compact_reader_phase r = seen_stage (open_in r.columns.state) r.stage
 
 -- what a line makes
 abbrev pub made_next : CompactReader → List ℕ → Made HeldEpoch OpenRawEpoch
-made_next r line = made_in expansion (compact_reader_phase r) r.types (tail_held r.columns) (Content line)
+made_next r line = made_in expansion (compact_reader_phase r) r.types (tail_held r.columns.state) (Content line)
 
 abbrev pub answer_for : Bool → Answer
 answer_for false = Quiet

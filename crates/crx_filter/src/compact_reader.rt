@@ -31,7 +31,7 @@ pub struct CompactReader {
     pub stage: Stage,
     types: Types,
     columns: Columns,
-    ghost consistent: { is_compact_stage stage columns ≡ true },
+    ghost consistent: { is_compact_stage stage columns.state ≡ true },
 }
 
 impl CompactReader {
@@ -56,13 +56,13 @@ impl CompactReader {
     /// label.
     #[inline(never)]
     fn first_line(&mut self, count: usize, line: &[u8]) -> Result<(), Fault>
-        requires idle { is_idle self.old.columns ≡ true }
+        requires idle { is_idle self.old.columns.state ≡ true }
         ensures takes { (choices : Choices) (number : ℕ)
             → OnOk result (TakesOtherLine (made_of_first_lines count line.now) line.now
             (seen_in choices number self.old (FirstLines count))
             (compact_reader_state choices number self.new) false) }
-        ensures refuses { IfErr result (RefusesCompactLine self.old.types (tail_held self.old.columns)
-            (made_of_first_lines count line.now) (seen_stage (open_in self.old.columns) (FirstLines count))
+        ensures refuses { IfErr result (RefusesCompactLine self.old.types (tail_held self.old.columns.state)
+            (made_of_first_lines count line.now) (seen_stage (open_in self.old.columns.state) (FirstLines count))
             line.now) }
         ensures types { OnErr result (self.new.types ≡ self.old.types) }
     {
@@ -81,14 +81,14 @@ impl CompactReader {
     /// The faults of the first header line come first, then `BadTypesLine`; `OutOfMemory` at a types line alone.
     #[inline(never)]
     fn header_line(&mut self, is_first: bool, line: &[u8]) -> Result<(), Fault>
-        requires idle { is_idle self.old.columns ≡ true }
+        requires idle { is_idle self.old.columns.state ≡ true }
         ensures takes { (choices : Choices) (number : ℕ)
             → OnOk result (TakesOtherLine (made_of_unit (header_line is_first line.now)) line.now
             (seen_in choices number self.old (Header is_first))
             (compact_reader_state choices number self.new) true) }
-        ensures refuses { IfErr result (RefusesCompactLine self.old.types (tail_held self.old.columns)
+        ensures refuses { IfErr result (RefusesCompactLine self.old.types (tail_held self.old.columns.state)
             (made_of_unit (header_line is_first line.now))
-            (seen_stage (open_in self.old.columns) (Header is_first)) line.now) }
+            (seen_stage (open_in self.old.columns.state) (Header is_first)) line.now) }
         ensures types { OnErr result (self.new.types ≡ self.old.types) }
     {
         accept_header_line(&mut self.types, is_first, line)?;
@@ -103,14 +103,14 @@ impl CompactReader {
     /// that counts alone.
     #[inline(never)]
     fn record(&mut self, left: usize, counted: bool, line: &[u8]) -> Result<(), Fault>
-        requires idle { is_idle self.old.columns ≡ true }
+        requires idle { is_idle self.old.columns.state ≡ true }
         ensures takes { (choices : Choices) (number : ℕ)
             → OnOk result (TakesOtherLine (made_of_unit (event_record counted line.now)) line.now
             (seen_in choices number self.old (Event left counted))
             (compact_reader_state choices number self.new) true) }
-        ensures refuses { IfErr result (RefusesCompactLine self.old.types (tail_held self.old.columns)
+        ensures refuses { IfErr result (RefusesCompactLine self.old.types (tail_held self.old.columns.state)
             (made_of_unit (event_record counted line.now))
-            (seen_stage (open_in self.old.columns) (Event left counted)) line.now) }
+            (seen_stage (open_in self.old.columns.state) (Event left counted)) line.now) }
         ensures types { OnErr result (self.new.types ≡ self.old.types) }
     {
         accept_record(&mut self.types, counted, line)?;
@@ -124,14 +124,14 @@ impl CompactReader {
     /// `BadEpoch` comes where an event's count is none; then the refusals of [`Columns::begin`].
     #[inline(never)]
     fn begin(&mut self, line: &[u8]) -> Result<bool, Fault>
-        requires idle { is_idle self.old.columns ≡ true }
+        requires idle { is_idle self.old.columns.state ≡ true }
         requires short { length line.now ≤ LINE_LIMIT }
         ensures takes { (choices : Choices) (number : ℕ) (stage : Stage) → IfOk result (TakesOtherLine
-            (compact_begins self.old.types (tail_held self.old.columns) (Content line.now)) line.now
+            (compact_begins self.old.types (tail_held self.old.columns.state) (Content line.now)) line.now
             (seen_in choices number self.old stage) (compact_reader_state choices number self.new)) }
         ensures refuses { IfErr result (λ fault.
-            RefusesCompactLine self.old.types (tail_held self.old.columns)
-            (compact_begins self.old.types (tail_held self.old.columns) (Content line.now))
+            RefusesCompactLine self.old.types (tail_held self.old.columns.state)
+            (compact_begins self.old.types (tail_held self.old.columns.state) (Content line.now))
             BetweenUnits line.now fault) }
         ensures types { OnErr result (self.new.types ≡ self.old.types) }
     {
@@ -150,15 +150,15 @@ impl CompactReader {
     /// The refusals are those of [`Columns::feed_into`].
     #[inline(always)]
     fn go_on(&mut self, line: &[u8], lines: &mut ExpandedLines) -> Result<bool, Fault>
-        requires open { wants_lines self.old.columns ≡ true }
+        requires open { wants_lines self.old.columns.state ≡ true }
         requires short { length line.now ≤ LINE_LIMIT }
         requires drained { lines.old ≡ [] }
         ensures takes { (choices : Choices) (number : ℕ) → IfOk result (TakesCompactLine (made_in expansion
-            (seen_stage (open_in self.old.columns) Open) self.old.types None (Content line.now)) line.now
+            (seen_stage (open_in self.old.columns.state) Open) self.old.types None (Content line.now)) line.now
             (seen_in choices number self.old Open) (compact_reader_state choices number self.new) lines.new) }
-        ensures refuses { IfErr result (RefusesCompactLine self.old.types (tail_held self.old.columns)
-            (made_in expansion (seen_stage (open_in self.old.columns) Open) self.old.types None
-            (Content line.now)) (seen_stage (open_in self.old.columns) Open) line.now) }
+        ensures refuses { IfErr result (RefusesCompactLine self.old.types (tail_held self.old.columns.state)
+            (made_in expansion (seen_stage (open_in self.old.columns.state) Open) self.old.types None
+            (Content line.now)) (seen_stage (open_in self.old.columns.state) Open) line.now) }
         ensures types { OnErr result (self.new.types ≡ self.old.types) }
         ensures none { OnErr result (lines.new ≡ []) }
     {
@@ -188,7 +188,7 @@ impl CompactReader {
         ensures takes { (choices : Choices) (number : ℕ)
             → IfOk result (TakesCompactLine (made_next self.old line.now) line.now (compact_reader_state
             choices number self.old) (compact_reader_state choices number self.new) lines.new) }
-        ensures refuses { IfErr result (RefusesCompactLine self.old.types (tail_held self.old.columns)
+        ensures refuses { IfErr result (RefusesCompactLine self.old.types (tail_held self.old.columns.state)
             (made_next self.old line.now) (compact_reader_phase self.old) line.now) }
         ensures types { OnErr result (self.new.types ≡ self.old.types) }
         ensures none { OnErr result (lines.new ≡ []) }
@@ -212,7 +212,7 @@ impl CompactReader {
         ensures takes { (choices : Choices) (number : ℕ)
             → IfOk result (TakesOtherLine (made_next self.old line.now) line.now (compact_reader_state
             choices number self.old) (compact_reader_state choices number self.new)) }
-        ensures refuses { IfErr result (RefusesCompactLine self.old.types (tail_held self.old.columns)
+        ensures refuses { IfErr result (RefusesCompactLine self.old.types (tail_held self.old.columns.state)
             (made_next self.old line.now) (compact_reader_phase self.old) line.now) }
         ensures types { OnErr result (self.new.types ≡ self.old.types) }
     {
@@ -242,7 +242,7 @@ impl CompactReader {
         ensures takes { (choices : Choices) (number : ℕ)
             → IfOk result (TakesOtherLine (made_next self.old line.now) line.now (compact_reader_state
             choices number self.old) (compact_reader_state choices number self.new)) }
-        ensures refuses { IfErr result (RefusesCompactLine self.old.types (tail_held self.old.columns)
+        ensures refuses { IfErr result (RefusesCompactLine self.old.types (tail_held self.old.columns.state)
             (made_next self.old line.now) (compact_reader_phase self.old) line.now) }
         ensures types { OnErr result (self.new.types ≡ self.old.types) }
     {
@@ -258,8 +258,8 @@ impl CompactReader {
         requires settled { is_settled stage ≡ true }
         ensures stage { self.new.stage ≡ stage }
         ensures types { self.new.types ≡ self.old.types }
-        ensures tail { tail_held self.new.columns
-            ≡ (if is_emptied then None else tail_held self.old.columns) }
+        ensures tail { tail_held self.new.columns.state
+            ≡ (if is_emptied then None else tail_held self.old.columns.state) }
     {
         if is_emptied || !self.columns.is_idle() {
             self.columns.reset();
@@ -277,9 +277,9 @@ fn empties_columns(counted: bool, line: &[u8]) -> bool
 
 /// Empties columns between two epochs, where that is asked for.
 fn reset_if(columns: &mut Columns, is_emptied: bool)
-    requires idle { is_idle columns.old ≡ true }
-    ensures tail { tail_held columns.new ≡ (if is_emptied then None else tail_held columns.old) }
-    ensures idle { is_idle columns.new ≡ true }
+    requires idle { is_idle columns.old.state ≡ true }
+    ensures tail { tail_held columns.new.state ≡ (if is_emptied then None else tail_held columns.old.state) }
+    ensures idle { is_idle columns.new.state ≡ true }
 {
     if is_emptied {
         columns.reset();

@@ -1,8 +1,11 @@
-use Rattle.std.proofs.Common.{ℕ, ℤ, List, Option, length, sym, ◌∙◌, subst, take}
+use Rattle.std.proofs.Common.{ℕ, ℤ, List, Option, length, sym, ◌∙◌, subst, take, arith}
+use borrow.Author.Count.{falls}
+use Rattle.std.proofs.lemmas.Bool.{false≢true}
 use Rattle.crx_rinex.specs.meaning.Observations.{Row}
 use Rattle.crx_compact.specs.Placing.{HasRoom, HaveRoom}
 use Rattle.crx_compact.proofs.Making.{taken_all}
-use Rattle.crx_compact.proofs.RowByRow.{all-next, all-of}
+use Rattle.crx_compact.proofs.PlaceByPlace.{some-there}
+use Rattle.crx_compact.proofs.RowByRow.{all-at, all-next, all-of}
 use Rattle.crx_compact.proofs.history.prepare_rows.Goals as goal
 
 pub loop-row-preserved : goal.loop-row-preserved
@@ -18,6 +21,7 @@ loop-row-preserved c =
     record {
       rows = c.prepare.ensures.rows ∙ c.loop-row.invariant.rows;
       rest = c.prepare.ensures.rest ∙ c.loop-row.invariant.rest;
+      kept = λ name count has. c.prepare.ensures.rooms name count (c.loop-row.invariant.kept name count has);
       room = all-next (λ (r : Row). HasRoom r.name (length r.values) rooms) rows index row
           (all-of (λ (r : Row). HasRoom r.name (length r.values) c.loop-row.satellites.rooms)
           (λ (r : Row). HasRoom r.name (length r.values) rooms) (take index rows)
@@ -30,3 +34,28 @@ returns-clause-room c =
     subst (λ (rows : List Row). HaveRoom rows c.loop-row.satellites.rooms)
     (taken_all c.args.epoch.now.rows c.loop-row.index (sym c.in_default.ensures.value))
     c.loop-row.invariant.room
+
+pub overflow_add-index : goal.overflow_add-index
+overflow_add-index c =
+    let within = some-there c.args.epoch.now.rows c.loop-row.index c.in-Some.row.now
+    (sym c.in-Some.ensures.value) in
+    let few = c.row.ensures.within in
+    omega (arith, within, few)
+
+pub loop-row-smaller : goal.loop-row-smaller
+loop-row-smaller c =
+    falls (length c.args.epoch.now.rows) c.loop-row.index
+    (some-there c.args.epoch.now.rows c.loop-row.index c.in-Some.row.now (sym c.in-Some.ensures.value))
+
+pub returns-in_err-prepare-clause-known : goal.returns-in_err-prepare-clause-known
+returns-in_err-prepare-clause-known c = λ have.
+    let row : Row = c.in-Some.row.now in
+    let rooms = c.loop-row.satellites.rooms in
+    let roomy : HasRoom row.name (length row.values) rooms =
+    c.loop-row.invariant.kept row.name (length row.values)
+    (all-at (λ (r : Row). HasRoom r.name (length r.values) c.args.satellites.now.rooms) c.args.epoch.now.rows
+    c.loop-row.index row have (sym c.in-Some.ensures.value)) in
+    absurd (false≢true (c.in_err-prepare.ensures.known
+    (subst (λ (name : List ℕ). HasRoom name (length c.values.result.now) rooms) (sym c.name.ensures.value)
+    (subst (λ (values : List (Option ℤ)). HasRoom row.name (length values) rooms) (sym c.values.ensures.value)
+    roomy))))

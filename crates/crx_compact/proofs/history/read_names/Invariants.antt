@@ -1,7 +1,7 @@
 use Rattle.std.specs.Prelude.{◌≡◌, All, List, map}
 use Rattle.crx_compact.specs.HeldRows.{IsAwaitedSatellite}
 use Rattle.crx_compact.specs.meaning.EpochText.{Satellite, names_in}
-use Rattle.crx_compact.specs.Placing.{padded_among}
+use Rattle.crx_compact.specs.Placing.{HaveTypesRoom, KeepsRooms, padded_among}
 use Rattle.crx_compact.proofs.ComeRows.{AreAwaited}
 use Rattle.crx_compact.proofs.Naming.{NamedSoFar}
 use Rattle.crx_compact.proofs.history.read_names.Given as goal
@@ -12,3 +12,5 @@ invariant-loop-place l = (found : List Satellite)
     × (l.satellites.rows ≡ map (padded_among l.fn.satellites.rest) found)
     × AreAwaited (λ (s : Satellite). s.name) found l.fn.satellites.rest l.satellites.rest
     × All IsAwaitedSatellite found
+    × KeepsRooms l.fn.satellites.rooms l.satellites.rooms
+    × HaveTypesRoom found l.satellites.rooms

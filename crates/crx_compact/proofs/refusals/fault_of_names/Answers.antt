@@ -1,5 +1,5 @@
 use Rattle.std.proofs.Common.{◌≡◌, ◌+◌, ◌*◌, ◌++◌, ◌∷◌, [], ℕ, List, Bool, not, true, false, map, Option, Some, None}
-use Rattle.std.proofs.Common.{sym, ap, ◌∙◌, inl, arith, drop, refl}
+use Rattle.std.proofs.Common.{sym, ap, ◌∙◌, arith, drop, refl}
 use Rattle.std.specs.Result.{is_ok}
 use Rattle.std.specs.Option.{is_some}
 use Rattle.std.proofs.lemmas.List.{map-append}
@@ -21,12 +21,12 @@ none (Some n) b e h = absurd (cc)
 pub returns-then-is_none-clause-fault : goal.returns-then-is_none-clause-fault
 returns-then-is_none-clause-fault c =
     let found = c.loop-place.invariant in
-    inl (named-bad c.args.types.now (names_in c.args.text.now c.args.count)
+    named-bad c.args.types.now (names_in c.args.text.now c.args.count)
     c.loop-place.place found.0 c.identifier-name.result found.1
     (next-name c.args.text.now c.args.count c.loop-place.place
     c.identifier-name.result c.loop-place-test.true c.identifier-name.ensures.value)
     (sym c.types_of_satellite.ensures.value
-    ∙ none c.types_of_satellite.result c.is_none.result c.is_none.ensures c.if-is_none.true))
+    ∙ none c.types_of_satellite.result c.is_none.result c.is_none.ensures c.if-is_none.true)
 
 -- some types are
 some : (o : Option ℕ) (b : Bool) → is_some o ≡ not b → b ≡ false → (n : ℕ) × (o ≡ Some n)
@@ -46,13 +46,13 @@ pub returns-then-is_among_first-clause-fault : goal.returns-then-is_among_first-
 returns-then-is_among_first-clause-fault c =
     let found = c.loop-place.invariant in
     let count = some c.types_of_satellite.result c.is_none.result c.is_none.ensures c.if-is_none.false in
-    inl (named-twice c.args.types.now (names_in c.args.text.now c.args.count)
+    named-twice c.args.types.now (names_in c.args.text.now c.args.count)
     c.loop-place.place found.0 c.identifier-name.result count.0 found.1
     (next-name c.args.text.now c.args.count c.loop-place.place
     c.identifier-name.result c.loop-place-test.true c.identifier-name.ensures.value)
     (sym c.types_of_satellite.ensures.value ∙ count.1)
     (stands c.args.text.now c.loop-place.place c.identifier-name.result found.0 true found.2
-    (sym c.is_among_first.ensures ∙ c.if-is_among_first.true)))
+    (sym c.is_among_first.ensures ∙ c.if-is_among_first.true))
 
 pub loop-place-preserved : goal.loop-place-preserved
 loop-place-preserved c =
@@ -76,8 +76,8 @@ loop-place-preserved c =
           ∙ sym (map-append (λ (s : Satellite). s.name) found.0 (satellite ∷ [])),
     )
 
-pub returns-clause-memory : goal.returns-clause-memory
-returns-clause-memory c = λ out.
+pub returns-clause-none : goal.returns-clause-none
+returns-clause-none c = λ out.
     let found = c.loop-place.invariant in
     let end : c.loop-place.place ≡ c.args.count = omega arith in
     ap is_ok (named-all c.args.types.now (names_in c.args.text.now c.args.count) c.loop-place.place found.0 found.1

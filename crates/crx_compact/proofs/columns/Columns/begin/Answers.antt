@@ -4,8 +4,8 @@ use Rattle.crx_compact.proofs.columns.Columns.begin.Goals as goal
 
 pub returns-clause-block : goal.returns-clause-block
 returns-clause-block c = λ older e. begun-block c.begin_next.result c.args.types.now older
-    (tail_held c.args.self.now) c.args.line.now c.begin_next.new.self e c.begin_next.ensures.made
+    (tail_held c.args.self.now.state) c.args.line.now c.begin_next.new.self.state e c.begin_next.ensures.made
 
 pub returns-clause-block_fault : goal.returns-clause-block_fault
 returns-clause-block_fault c = λ older e. begun-refused c.begin_next.result c.args.types.now older
-    (tail_held c.args.self.now) c.args.line.now e c.begin_next.ensures.refused
+    (tail_held c.args.self.now.state) c.args.line.now e c.begin_next.ensures.refused

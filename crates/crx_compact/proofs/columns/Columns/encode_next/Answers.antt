@@ -7,6 +7,7 @@ use Rattle.crx_compact.specs.Steps.{lines_after_tail, no_tail, tail_after, tail_
 use Rattle.crx_compact.specs.Tails.{Tail}
 use Rattle.crx_compact.specs.declared.columns.Stage.{Stage}
 use Rattle.crx_compact.specs.declared.columns.Stage.TheVariants.{Unbegun, Clock, Rows}
+use Rattle.crx_compact.specs.ReadingRooms.{HeldColumns}
 use Rattle.crx_compact.proofs.columns.Columns.encode_next.Goals.{then-full, else-full}
 use Rattle.crx_compact.proofs.columns.Columns.encode_next.Goals as goal
 
@@ -52,9 +53,9 @@ means c = elim (c.if-full.branch) [
 
 after : (c : goal.After-new-in-Ok)
     → (if c.if-full.in_full then no_tail else tail_of_history c.self.inside.history)
-    ≡ tail_written_after c.args.full (tail_held c.args.self.now)
+    ≡ tail_written_after c.args.full (tail_held c.args.self.now.state)
 after c = written-after c.args.full c.self.inside.is_kept c.if-full.in_full c.self.inside.stage c.self.inside.count
-    c.self.inside.history c.args.self.now c.self.view_is c.requires.idle (means c)
+    c.self.inside.history c.args.self.now.state (ap (λ (held : HeldColumns). held.state) c.self.view_is) c.requires.idle (means c)
 
 pub returns-in-Ok-clause-coded : goal.returns-in-Ok-clause-coded
 returns-in-Ok-clause-coded c =
@@ -65,5 +66,5 @@ returns-in-Ok-clause-coded c =
 pub returns-in-Ok-clause-kept : goal.returns-in-Ok-clause-kept
 returns-in-Ok-clause-kept c =
     still-idle c.self.inside.is_kept c.self.inside.stage c.self.inside.count c.self.inside.history
-    c.encode.new.self c.args.self.now c.self.view_is c.requires.idle
+    c.encode.new.self c.args.self.now.state (ap (λ (held : HeldColumns). held.state) c.self.view_is) c.requires.idle
     ∙ ap (λ t. Idle (Some t)) (c.in-Ok.ensures.after ∙ ap (λ t. tail_after t c.args.epoch) (after c))

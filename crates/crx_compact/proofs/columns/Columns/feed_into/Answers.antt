@@ -8,6 +8,7 @@ use Rattle.crx_compact.specs.Tails.{Tail}
 use Rattle.crx_compact.proofs.PrintedBlocks.{block-whole}
 use Rattle.crx_compact.proofs.reading.Stages.{rows-come, rows-left, rows-made, state-rows}
 use Rattle.crx_compact.proofs.reading.StepsByCode.{made-more, printed-whole}
+use Rattle.crx_compact.specs.ReadingRooms.{HeldColumns}
 use Rattle.crx_compact.proofs.columns.Columns.feed_into.Goals as goal
 
 pub returns-then-not-is_whole-clause-made : goal.returns-then-not-is_whole-clause-made
@@ -19,11 +20,11 @@ returns-then-not-is_whole-clause-made c =
     let more : c.in-Ok.is_whole ≡ false = search c.if-not-is_whole in
     let left : new.count < length new.history.satellites.rows =
     rows-left new.stage new.count new.history rows.rows (sym rows.whole ∙ more) rows.within in
-    let step : step_in c.args.self.now (Content c.args.line.now) ≡ step_with_rows tail new.count =
-    rows-made inside.is_kept inside.stage inside.count inside.history c.args.self.now c.args.line.now
-    new.stage new.count new.history c.self.view_is c.requires.open rows.made rows.rows in
+    let step : step_in c.args.self.now.state (Content c.args.line.now) ≡ step_with_rows tail new.count =
+    rows-made inside.is_kept inside.stage inside.count inside.history c.args.self.now.state c.args.line.now
+    new.stage new.count new.history (ap (λ (held : HeldColumns). held.state) c.self.view_is) c.requires.open rows.made rows.rows in
     let P : ColumnsState → Type 0 = λ s.
-    HasMade (step_in c.args.self.now (Content c.args.line.now)) s None in (
+    HasMade (step_in c.args.self.now.state (Content c.args.line.now)) s None in (
       subst P (sym (state-rows inside.is_kept new.stage new.count new.history rows.rows))
           (made-more _ tail new.count step left),
       c.requires.drained,
@@ -38,16 +39,16 @@ returns-else-not-is_whole-clause-made c =
     let whole : c.in-Ok.is_whole ≡ true = search c.if-not-is_whole in
     let come : new.count ≡ length new.history.satellites.rows =
     rows-come new.stage new.count new.history rows.rows (sym rows.whole ∙ whole) in
-    let step : step_in c.args.self.now (Content c.args.line.now) ≡ step_with_rows tail new.count =
-    rows-made inside.is_kept inside.stage inside.count inside.history c.args.self.now c.args.line.now
-    new.stage new.count new.history c.self.view_is c.requires.open rows.made rows.rows in
+    let step : step_in c.args.self.now.state (Content c.args.line.now) ≡ step_with_rows tail new.count =
+    rows-made inside.is_kept inside.stage inside.count inside.history c.args.self.now.state c.args.line.now
+    new.stage new.count new.history (ap (λ (held : HeldColumns). held.state) c.self.view_is) c.requires.open rows.made rows.rows in
     let block = c.print.new.self in
     let lines : AreLinesTo new.count block.lines new.history =
     subst (λ n. AreLinesTo n block.lines new.history) c.print.ensures.rows
     (subst (λ (b : Bool). IsBlock b block.rows block.lines new.history)
     c.print.ensures.head c.print.ensures.block) in
     let P : Tail → Type 0 = λ t.
-    HasPrintedLines (step_in c.args.self.now (Content c.args.line.now))
+    HasPrintedLines (step_in c.args.self.now.state (Content c.args.line.now))
     (Idle (Some t)) true c.hand_over.new.lines in
     subst P (sym (ap {B = Tail} tail_of_history c.end.ensures.ended))
     (printed-whole _ tail new.count c.hand_over.new.lines step (omega (arith, come))

@@ -6,6 +6,7 @@ use Rattle.crx_compact.specs.Tails.{Tail}
 use Rattle.crx_compact.proofs.reading.Stages.{row-was_awaited, rows-come, rows-left, rows-made, state-rows}
 use Rattle.crx_compact.proofs.reading.Stages.{step-whole}
 use Rattle.crx_compact.proofs.reading.StepsByCode.{made-more, made-whole}
+use Rattle.crx_compact.specs.ReadingRooms.{HeldColumns}
 use Rattle.crx_compact.proofs.columns.Columns.feed_next.Goals as goal
 
 pub returns-in-Ok-clause-made : goal.returns-in-Ok-clause-made
@@ -16,11 +17,11 @@ returns-in-Ok-clause-made c =
     let tail : Tail = tail_of_history new.history in
     let come : new.count ≡ length new.history.satellites.rows =
     rows-come new.stage new.count new.history rows.rows (sym rows.whole ∙ c.in-Ok-true.field-0-test) in
-    let step : step_in c.args.self.now (Content c.args.line.now) ≡ step_with_rows tail new.count =
-    rows-made inside.is_kept inside.stage inside.count inside.history c.args.self.now c.args.line.now
-    new.stage new.count new.history c.self.view_is c.requires.open rows.made rows.rows in
+    let step : step_in c.args.self.now.state (Content c.args.line.now) ≡ step_with_rows tail new.count =
+    rows-made inside.is_kept inside.stage inside.count inside.history c.args.self.now.state c.args.line.now
+    new.stage new.count new.history (ap (λ (held : HeldColumns). held.state) c.self.view_is) c.requires.open rows.made rows.rows in
     let P : Tail → Type 0 = λ t.
-    HasMade (step_in c.args.self.now (Content c.args.line.now)) (Idle (Some t)) (Some c.in-Ok.epoch) in
+    HasMade (step_in c.args.self.now.state (Content c.args.line.now)) (Idle (Some t)) (Some c.in-Ok.epoch) in
     subst P (sym (ap {B = Tail} tail_of_history c.end.ensures.ended))
     (made-whole _ tail new.count c.in-Ok.epoch step (omega (arith, come)) c.in-Ok.ensures.ok)
 
@@ -32,13 +33,13 @@ returns-in-Err-epoch-clause-memory c = λ out.
     let tail : Tail = tail_of_history new.history in
     let come : new.count ≡ length new.history.satellites.rows =
     rows-come new.stage new.count new.history rows.rows (sym rows.whole ∙ c.in-Ok-true.field-0-test) in
-    let step : step_in c.args.self.now (Content c.args.line.now) ≡ step_with_rows tail new.count =
-    rows-made inside.is_kept inside.stage inside.count inside.history c.args.self.now c.args.line.now
-    new.stage new.count new.history c.self.view_is c.requires.open rows.made rows.rows in
+    let step : step_in c.args.self.now.state (Content c.args.line.now) ≡ step_with_rows tail new.count =
+    rows-made inside.is_kept inside.stage inside.count inside.history c.args.self.now.state c.args.line.now
+    new.stage new.count new.history (ap (λ (held : HeldColumns). held.state) c.self.view_is) c.requires.open rows.made rows.rows in
     let some : 0 < length new.history.satellites.rows = c.in-Err-epoch.ensures.memory in (
       rows.start,
-      row-was_awaited inside.is_kept inside.stage inside.count inside.history c.args.self.now
-          c.self.view_is (rows.awaited (omega (arith, come, some))),
+      row-was_awaited inside.is_kept inside.stage inside.count inside.history c.args.self.now.state
+          (ap (λ (held : HeldColumns). held.state) c.self.view_is) (rows.awaited (omega (arith, come, some))),
       step-whole _ tail new.count step (omega (arith, come)),
     )
 
@@ -51,9 +52,9 @@ returns-in-Ok-false-clause-made c =
     let left : new.count < length new.history.satellites.rows =
     rows-left new.stage new.count new.history rows.rows
     (sym rows.whole ∙ c.in-Ok-false.field-0-test) rows.within in
-    let step : step_in c.args.self.now (Content c.args.line.now) ≡ step_with_rows tail new.count =
-    rows-made inside.is_kept inside.stage inside.count inside.history c.args.self.now c.args.line.now
-    new.stage new.count new.history c.self.view_is c.requires.open rows.made rows.rows in
-    let P : ColumnsState → Type 0 = λ s. HasMade (step_in c.args.self.now (Content c.args.line.now)) s None in
+    let step : step_in c.args.self.now.state (Content c.args.line.now) ≡ step_with_rows tail new.count =
+    rows-made inside.is_kept inside.stage inside.count inside.history c.args.self.now.state c.args.line.now
+    new.stage new.count new.history (ap (λ (held : HeldColumns). held.state) c.self.view_is) c.requires.open rows.made rows.rows in
+    let P : ColumnsState → Type 0 = λ s. HasMade (step_in c.args.self.now.state (Content c.args.line.now)) s None in
     subst P (sym (state-rows inside.is_kept new.stage new.count new.history rows.rows))
     (made-more _ tail new.count step left)

@@ -1,15 +1,16 @@
-use Rattle.std.proofs.Common.{◌≡◌, ◌++◌, All, List, ℕ, Ok, true, map, ap, sym, ◌∙◌}
+use Rattle.std.proofs.Common.{◌≡◌, ◌++◌, All, List, ℕ, Ok, true, map, ap, refl, subst, sym, ◌∙◌}
+use Rattle.std.specs.Result.{is_ok}
 use Rattle.std.specs.List.{list_all}
 use Rattle.std.proofs.lemmas.List.{append-nil}
 use Rattle.crx_columns.specs.meaning.Texts.{is_printable}
 use Rattle.crx_columns.specs.Texts.{patched}
 use Rattle.crx_compact.specs.HeldRows.{IsAwaitedSatellite, past_of_tail}
-use Rattle.crx_compact.specs.meaning.CompactPlaces.{satellites_of_line}
+use Rattle.crx_compact.specs.meaning.CompactPlaces.{satellites_of_line, satellites_of_text}
 use Rattle.crx_compact.specs.meaning.EpochText.{Satellite}
-use Rattle.crx_compact.specs.Placing.{OpenHistory, PlacedRows, padded_among, tail_of_history}
+use Rattle.crx_compact.specs.Placing.{HaveTypesRoom, OpenHistory, PlacedRows, padded_among, tail_of_history}
 use Rattle.crx_compact.specs.Tails.{RowTail}
-use Rattle.crx_compact.proofs.AnnouncedRows.{announced-rows, line-of_text}
-use Rattle.crx_compact.proofs.Results.{by_ok}
+use Rattle.crx_compact.proofs.AnnouncedRows.{announced-rows, line-of_text, text-of_line}
+use Rattle.crx_compact.proofs.Results.{by_ok, no-err}
 use Rattle.crx_compact.proofs.history.History.read_epoch_line.Goals as goal
 
 -- the text that the line makes
@@ -54,3 +55,59 @@ returns-clause-announced c =
     announced-rows c.args.types.now (tail_of_history c.args.self.now) c.args.line.now read.0 _ read.1
     (by_ok c.put_text_in.result c.if-is_err-2.ensures.negation c.put_text_in.ensures.ok ∙ text c)
     read.2 read.3
+
+pub returns-in-Some-clause-memory : goal.returns-in-Some-clause-memory
+returns-in-Some-clause-memory c = λ out. absurd (c.in-Some.ensures.no_memory out)
+
+pub returns-in-Some-clause-known : goal.returns-in-Some-clause-known
+returns-in-Some-clause-known c satellites is has within =
+    let made = c.bytes-text.ensures.value
+    ∙ by_ok c.patch_bytes.result c.if-is_err.ensures.negation c.patch_bytes.ensures.ok
+    ∙ ap (λ (t : List ℕ). patched t c.args.line.now) (c.deref.ensures.value
+    ∙ ap (λ (h : OpenHistory). h.text) c.self.view_is) in
+    let printable = sym c.patch_bytes.ensures.printable ∙ c.if-is_err.ensures.negation in
+    absurd (no-err c.in-Some.fault satellites (sym c.in-Some.ensures.fault
+    ∙ text-of_line c.args.types.now (tail_of_history c.args.self.now) c.args.line.now
+    c.bytes-text.result.now satellites printable made is))
+
+pub returns-in-Err-OutOfMemory-clause-memory : goal.returns-in-Err-OutOfMemory-clause-memory
+returns-in-Err-OutOfMemory-clause-memory c = λ out.
+    let made = c.bytes-text.ensures.value
+    ∙ by_ok c.patch_bytes.result c.if-is_err.ensures.negation c.patch_bytes.ensures.ok
+    ∙ ap (λ (t : List ℕ). patched t c.args.line.now) (c.deref.ensures.value
+    ∙ ap (λ (h : OpenHistory). h.text) c.self.view_is) in
+    let printable = sym c.patch_bytes.ensures.printable ∙ c.if-is_err.ensures.negation in
+    ap is_ok (line-of_text c.args.types.now (tail_of_history c.args.self.now) c.args.line.now
+    c.bytes-text.result.now
+    (satellites_of_text c.args.types.now c.bytes-text.result.now) printable made refl)
+    ∙ c.in_default.ensures.none refl
+
+-- the satellites have the room that they had
+pub returns-in-Err-OutOfMemory-clause-known : goal.returns-in-Err-OutOfMemory-clause-known
+returns-in-Err-OutOfMemory-clause-known c satellites is has within =
+    let made = c.bytes-text.ensures.value
+    ∙ by_ok c.patch_bytes.result c.if-is_err.ensures.negation c.patch_bytes.ensures.ok
+    ∙ ap (λ (t : List ℕ). patched t c.args.line.now) (c.deref.ensures.value
+    ∙ ap (λ (h : OpenHistory). h.text) c.self.view_is) in
+    let printable = sym c.patch_bytes.ensures.printable ∙ c.if-is_err.ensures.negation in
+    c.in-Err-OutOfMemory.ensures.known satellites
+    (text-of_line c.args.types.now (tail_of_history c.args.self.now) c.args.line.now
+    c.bytes-text.result.now satellites printable made is)
+    (subst (HaveTypesRoom satellites) (sym (ap (λ (h : OpenHistory). h.satellites.rooms) c.self.view_is)
+    ∙ sym (ap (λ (p : PlacedRows). p.rooms) c.begin.ensures.begun)) has)
+
+pub returns-then-is_err-2-clause-memory : goal.returns-then-is_err-2-clause-memory
+returns-then-is_err-2-clause-memory c = λ out.
+    let made = c.bytes-text.ensures.value
+    ∙ by_ok c.patch_bytes.result c.if-is_err.ensures.negation c.patch_bytes.ensures.ok
+    ∙ ap (λ (t : List ℕ). patched t c.args.line.now) (c.deref.ensures.value
+    ∙ ap (λ (h : OpenHistory). h.text) c.self.view_is) in
+    let printable = sym c.patch_bytes.ensures.printable ∙ c.if-is_err.ensures.negation in
+    let read = c.in-Ok.ensures.ok in
+    ap is_ok (line-of_text c.args.types.now (tail_of_history c.args.self.now) c.args.line.now
+    c.bytes-text.result.now (Ok read.0) printable made read.1)
+
+pub returns-clause-room : goal.returns-clause-room
+returns-clause-room c satellites is =
+    c.in-Ok.ensures.room satellites (text-of_line c.args.types.now (tail_of_history c.args.self.now) c.args.line.now
+    c.bytes-text.result.now satellites (printable c) (text c) is)

@@ -97,3 +97,13 @@ returns-clause-written c = λ after rows written is.
     (c.put_row.ensures.lines kept last.there
     ∙ (λ j. c.make_room.ensures.lines j ++ row_line_after (Some kept) (parts j) ∷ []))
     (ap (λ (h : OpenHistory). h.text) c.self.view_is) (ap (λ (h : OpenHistory). h.clock) c.self.view_is)
+
+pub returns-clause-room : goal.returns-clause-room
+returns-clause-room c = λ is.
+    let name = c.args.name in
+    let count = length c.args.values.now in
+    let placed = c.self.inside.satellites in
+    let come = c.in_ok-place.ensures.come c.if-not-branch.false in
+    c.put_row.ensures.rooms name count
+    (subst (λ (n : List ℕ). HasRoom n count c.make_room_last.new.self.rooms) (come-name name placed.rest)
+    (c.in_ok-make_room_last.ensures.room placed.rows (row_or_blank name placed.rest) come.rows))

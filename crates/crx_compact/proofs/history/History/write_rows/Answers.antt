@@ -79,6 +79,9 @@ loop-row-preserved c =
       free_lines = omega (arith, free_lines, one_line);
       free_bytes = omega (arith, free_bytes, some_bytes, next, many);
       next_text = c.write_row.ensures.next_text ∙ c.loop-row.invariant.next_text;
+      rooms = λ name count has.
+          c.write_row.ensures.rooms name count (c.loop-row.invariant.rooms name count has);
+      text_room = c.write_row.ensures.text_room ∙ c.loop-row.invariant.text_room;
       front = c.write_row.ensures.front ∙ c.loop-row.invariant.front;
     }
 

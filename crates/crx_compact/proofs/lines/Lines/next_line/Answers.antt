@@ -1,7 +1,8 @@
-use Rattle.std.proofs.Common.{◌≡◌, [], refl, ◌<◌, ◌≤◌, ◌+◌, ◌-◌, ◌^◌, Fits, w64, get_or, List, ℕ, Option, Some, drop, take, length, ap, sym, ◌∙◌, arith}
+use Rattle.std.proofs.Common.{◌≡◌, [], refl, ◌<◌, ◌≤◌, ◌+◌, ◌-◌, ◌*◌, ◌^◌, Fits, w64, get_or, List, ℕ, Option, Some, drop, take, length, ap, sym, ◌∙◌, arith}
 use Rattle.std.specs.Prelude.{slice_get}
 use Rattle.std.proofs.Math.ListN.{drop_of_length-le}
 use Rattle.std.proofs.lemmas.List.{length-take-le}
+use Rattle.crx_faults.specs.declared.limits.TheConstants.{LINE_LIMIT}
 use Rattle.crx_compact.specs.LineLists.{AreCut, HasFront, PendingLines, cut}
 use Rattle.crx_compact.proofs.LineTexts.{NextLine, front-kept, next-line}
 use Rattle.crx_compact.proofs.Lists.{get_or-take}
@@ -89,6 +90,8 @@ returns c =
           lines = ls;
           free_lines = length inside.lengths.items - inside.count;
           free_bytes = length inside.bytes.items - inside.filled;
+          all_lines = length inside.lengths.items - inside.reserved;
+          all_bytes = length inside.bytes.items - inside.reserved * (LINE_LIMIT + 1);
           reserved = inside.reserved;
           front = inside.front;
         }) next_line.left,
@@ -119,6 +122,8 @@ returns-then-self c =
           lines = ls;
           free_lines = c.args.self.now.free_lines;
           free_bytes = c.args.self.now.free_bytes;
+          all_lines = c.args.self.now.all_lines;
+          all_bytes = c.args.self.now.all_bytes;
           reserved = c.args.self.now.reserved;
           front = c.args.self.now.front;
         }) (none ∙ sym (ap (drop 1) none)),

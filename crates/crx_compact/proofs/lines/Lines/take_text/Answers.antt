@@ -1,5 +1,6 @@
-use Rattle.std.proofs.Common.{◌≤◌, ◌-◌, List, ℕ, ap, arith, length, refl, take}
+use Rattle.std.proofs.Common.{◌≤◌, ◌+◌, ◌-◌, ◌*◌, List, ℕ, ap, arith, length, refl, take}
 use Rattle.std.proofs.lemmas.List.{length-take-le}
+use Rattle.crx_faults.specs.declared.limits.TheConstants.{LINE_LIMIT}
 use Rattle.crx_compact.specs.LineLists.{PendingLines}
 use Rattle.crx_compact.proofs.LineTexts.{all-lines, none-left}
 use Rattle.crx_compact.proofs.lines.Lines.take_text.Goals as goal
@@ -18,6 +19,8 @@ returns c =
           lines = ls;
           free_lines = length inside.lengths.items - inside.count;
           free_bytes = length inside.bytes.items - inside.filled;
+          all_lines = length inside.lengths.items - inside.reserved;
+          all_bytes = length inside.bytes.items - inside.reserved * (LINE_LIMIT + 1);
           reserved = inside.reserved;
           front = inside.front;
         }) (none-left lengths inside.bytes.items inside.filled inside.count all),

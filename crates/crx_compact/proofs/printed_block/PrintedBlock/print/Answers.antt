@@ -1,4 +1,4 @@
-use Rattle.std.proofs.Common.{arith}
+use Rattle.std.proofs.Common.{arith, ◌∙◌}
 use Rattle.crx_compact.proofs.PrintedBlocks.{room-there, row-printed}
 use Rattle.crx_compact.proofs.RowByRow.{IsThere, is-there}
 use Rattle.crx_compact.proofs.printed_block.PrintedBlock.print.Goals as goal
@@ -22,4 +22,6 @@ loop-self-preserved c =
           (put.lines row.item row.there) put.free_lines (put.free_bytes row.item row.there);
       head = c.loop-self.invariant.head;
       within = omega (arith, next);
+      all_lines = put.all_lines ∙ c.loop-self.invariant.all_lines;
+      all_bytes = put.all_bytes ∙ c.loop-self.invariant.all_bytes;
     }

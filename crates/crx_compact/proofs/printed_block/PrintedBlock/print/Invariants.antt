@@ -8,6 +8,8 @@ invariant-loop-self l = record {
   lines : AreLinesTo l.self.rows l.self.lines l.history;
   head : l.self.has_head ≡ true;
   within : l.self.rows ≤ l.rows;
+  all_lines : l.self.lines.all_lines ≡ l.fn.self.lines.all_lines;
+  all_bytes : l.self.lines.all_bytes ≡ l.fn.self.lines.all_bytes;
 }
 
 abbrev pub decreases-loop-self : goal.decreases-loop-self

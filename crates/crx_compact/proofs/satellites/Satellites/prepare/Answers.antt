@@ -1,9 +1,12 @@
-use Rattle.std.proofs.Common.{arith}
+use Rattle.std.proofs.Common.{◌≤◌, arith, subst, sym, ◌∙◌}
+use Rattle.std.proofs.lemmas.Option.{same_Some}
 use Rattle.std.proofs.lemmas.Result.{on_ok_weaker}
 use Rattle.indexmap.specs.IndexMap.{set_value_at}
 use Rattle.indexmap.specs.Layout.{length-set_value_at}
-use Rattle.crx_compact.proofs.placing.EntryChanges.{has-room, rooms-changed}
+use Rattle.crx_compact.proofs.placing.EntryChanges.{has-room, room-there, rooms-changed}
 use Rattle.crx_compact.proofs.placing.Prepared.{front-same, none-lost, range-same, rows-same}
+use Rattle.crx_compact.specs.Entries.{Entry}
+use Rattle.crx_compact.proofs.placing.Rooms.{unknown}
 use Rattle.crx_compact.proofs.satellites.Satellites.prepare.Goals as goal
 
 pub invariant_of-self-2 : goal.invariant_of-self-2
@@ -50,3 +53,18 @@ returns-clause-rooms c name count =
     (λ has. rooms-changed c.find_or_add.new.map c.in_ok-found.found _ _ c.make_room.new.self
     c.find_or_add.ensures.unique c.pair_mut-satellite.ensures.value c.make_room.ensures.kept name count
     (c.in_ok-found.ensures.found.rooms name count has))
+
+pub returns-in_err-found-clause-known : goal.returns-in_err-found-clause-known
+returns-in_err-found-clause-known c =
+    rw (← c.self.view_is)
+    (λ has. absurd (unknown c.args.name c.args.count c.self.inside.known.entries
+    c.in_err-found.ensures.unknown has))
+
+pub returns-clause-known : goal.returns-clause-known
+returns-clause-known c =
+    let is = c.in_ok-found.ensures.found in
+    let same = same_Some _ _ (sym is.there ∙ c.pair_mut-satellite.ensures.value) in
+    rw (← c.self.view_is)
+    (λ has. c.make_room.ensures.known (subst (λ (e : Entry). c.args.count ≤ e.1.room) same
+    (room-there c.find_or_add.new.map c.in_ok-found.found c.args.name is.satellite c.make_room.new.self
+    c.find_or_add.ensures.unique is.there c.args.count (is.rooms c.args.name c.args.count has))))

@@ -5,6 +5,6 @@ use Rattle.crx_filter.proofs.compact_reader.CompactReader.header_line.Goals as g
 
 pub invariant_of-self-2 : goal.invariant_of-self-2
 invariant_of-self-2 c = record {
-  consistent = idle-stage c.after_header_line-self.result c.reset.new.self
+  consistent = idle-stage c.after_header_line-self.result c.reset.new.self.state
       (c.after_header_line-self.ensures.consistent None 0 []) (ap is_idle c.reset.ensures.emptied);
 }

@@ -15,8 +15,8 @@ pub returns-then-begins_epoch-clause-refuses : goal.returns-then-begins_epoch-cl
 returns-then-begins_epoch-clause-refuses c =
     let self = c.args.self.now in
     let line = c.args.line.now in
-    let tail = tail_held self.columns in
-    let held = open_in self.columns in
+    let tail = tail_held self.columns.state in
+    let held = open_in self.columns.state in
     subst (λ (s : Stage). IfErr c.begin.result (RefusesCompactLine self.types tail (made_in expansion
     (seen_stage held s) self.types tail (Content line)) (seen_stage held s) line)) (sym c.requires.looking)
     (look-refused self.types tail line c.begin.result

@@ -21,23 +21,23 @@ returns-clause-ends c =
     let self = c.args.self.now in
     let s = c.after_end-settled.result in
     let reader = c.settle.new.self in
-    let held = open_in self.reader.columns in
-    let at = at-stage (expander_state self) self.reader.stage self.reader.columns c.value-number.result
+    let held = open_in self.reader.columns.state in
+    let at = at-stage (expander_state self) self.reader.stage self.reader.columns.state c.value-number.result
     c.skip.result
     refl self.reader.consistent (sym c.value-number.ensures.value) (sym c.skip.ensures.value) in
     let after = compact_reader_state self.options s.number reader in
     ap (λ (n : ℕ). step_made s.answer self.lines (compact_reader_state self.options n reader))
     c.of-self.ensures.number
     ∙ ap (λ (l : List (List ℕ)). step_made s.answer l after) c.requires.drained
-    ∙ settled-as (expander_state self) (open_in reader.columns) s self.options reader.stage reader.types
-    (tail_held reader.columns) refl c.settle.ensures.stage c.settle.ensures.types c.settle.ensures.tail
-    ∙ c.after_end-settled.ensures.expansion (expander_state self) held (open_in reader.columns) at
+    ∙ settled-as (expander_state self) (open_in reader.columns.state) s self.options reader.stage reader.types
+    (tail_held reader.columns.state) refl c.settle.ensures.stage c.settle.ensures.types c.settle.ensures.tail
+    ∙ c.after_end-settled.ensures.expansion (expander_state self) held (open_in reader.columns.state) at
 
 pub returns-clause-repeated : goal.returns-clause-repeated
 returns-clause-repeated c = λ (at : At) (is : c.args.self.now.reader.stage ≡ Ended at).
     let self = c.args.self.now in
-    let held = open_in self.reader.columns in
-    let known = at-stage (expander_state self) self.reader.stage self.reader.columns c.value-number.result
+    let held = open_in self.reader.columns.state in
+    let known = at-stage (expander_state self) self.reader.stage self.reader.columns.state c.value-number.result
     c.skip.result
     refl self.reader.consistent (sym c.value-number.ensures.value) (sym c.skip.ensures.value) in
     let step = c.after_end-settled.ensures.expansion (expander_state self) held None known in

@@ -9,8 +9,8 @@ pub returns-in-Err-clause-steps : goal.returns-in-Err-clause-steps
 returns-in-Err-clause-steps c =
     let self = c.args.self.now in
     let line = c.args.line.now in
-    let held = open_in self.reader.columns in
-    let at = at-stage (expander_state self) self.reader.stage self.reader.columns self.number
+    let held = open_in self.reader.columns.state in
+    let at = at-stage (expander_state self) self.reader.stage self.reader.columns.state self.number
     self.options.skip
     refl self.reader.consistent refl refl in
     let failed = c.fail.ensures.fails

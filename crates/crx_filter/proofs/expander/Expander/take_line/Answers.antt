@@ -13,10 +13,10 @@ pub returns-in-Err-clause-steps : goal.returns-in-Err-clause-steps
 returns-in-Err-clause-steps c =
     let self = c.args.self.now in
     let line = c.args.line.now in
-    let held = open_in self.reader.columns in
-    let at = at-stage (expander_state self) Open self.reader.columns self.number self.options.skip
+    let held = open_in self.reader.columns.state in
+    let at = at-stage (expander_state self) Open self.reader.columns.state self.number self.options.skip
     (ap (seen_stage held) c.in-Open.is)
-    (subst (λ (stage : Stage). is_compact_stage stage self.reader.columns ≡ true) c.in-Open.is
+    (subst (λ (stage : Stage). is_compact_stage stage self.reader.columns.state ≡ true) c.in-Open.is
     self.reader.consistent)
     refl refl in
     let failed = c.store_fault.ensures.fails

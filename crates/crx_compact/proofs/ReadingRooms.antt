@@ -1,0 +1,180 @@
+-- The room that an epoch's lines need, by its satellites and by its rows.
+use Rattle.std.specs.Prelude.{◌≡◌, ◌≤◌, ◌<◌, ◌+◌, refl, ℕ, List, [], ◌∷◌, All, map, sum, length, true, false, Option, Some, None}
+use Rattle.std.specs.Prelude.{Result, Ok, Err}
+use Rattle.std.proofs.Common.{sym, ◌∙◌, ap, subst, arith, true≢false}
+use Rattle.std.proofs.lemmas.List.Elements.{All-nil, All-cons, All-head, All-tail}
+use Rattle.crx_columns.proofs.EachPlace.{length-each_place}
+use Rattle.crx_columns.specs.Texts.{patched}
+use Rattle.crx_faults.specs.declared.limits.TheConstants.{LINE_LIMIT}
+use Rattle.crx_faults.specs.meaning.Seen.{Content}
+use Rattle.crx_faults.specs.declared.fault.Fault.{Fault}
+use Rattle.crx_header.specs.meaning.ObservationTypes.{Count}
+use Rattle.crx_compact.specs.HeldRows.{past_of_tail}
+use Rattle.crx_compact.specs.meaning.CompactPlaces.{satellites_of_line}
+use Rattle.crx_compact.specs.meaning.EpochText.{Satellite}
+use Rattle.crx_compact.specs.meaning.Sequences.{and_then}
+use Rattle.crx_compact.specs.OpenEpochs.{ColumnsState, OpenRawEpoch, RawStep, Going, Whole, Faulty, before_clock, first_step}
+use Rattle.crx_compact.specs.OpenEpochs.{is_faulty, opened_raw, opening, rows_before, tail_for_line, tail_opened}
+use Rattle.crx_compact.specs.OpenLines.{reading_room}
+use Rattle.crx_compact.specs.Placing.{HasRoom, HaveTypesRoom, KeepsRooms, OpenHistory, padded}
+use Rattle.crx_compact.specs.PrintedBlocks.{printed_room}
+use Rattle.crx_compact.specs.ReadingRooms.{HasRoomFor, HaveCellsRoom, HeldColumns, KeepsHistoryRoom, KeepsRoom}
+use Rattle.crx_compact.specs.ReadingRooms.{ReadingRoom}
+use Rattle.crx_compact.specs.Steps.{cell_of_tail, tail_named}
+use Rattle.crx_compact.specs.Tails.{RowTail, Tail}
+use Rattle.crx_compact.specs.declared.printed_block.PrintedBlock.{PrintedBlock}
+use Rattle.crx_compact.proofs.Results.{ok-same}
+
+-- ---- satellites, and the rows of them
+
+abbrev type_room : List (List ℕ × ℕ) → Satellite → Type 0
+type_room rooms s = HasRoom s.name s.count rooms
+
+abbrev cell_room : List (List ℕ × ℕ) → RowTail → Type 0
+cell_room rooms row = HasRoom row.name (length row.cells) rooms
+
+abbrev row_before : Tail → Satellite → RowTail
+row_before before s = padded s (tail_named s.name before)
+
+counted : (before : Tail) (s : Satellite) → length (row_before before s).cells ≡ s.count
+counted before s = length-each_place s.count (λ place. cell_of_tail place (tail_named s.name before))
+
+pub types-room : (before : Tail) (satellites : List Satellite) (rooms : List (List ℕ × ℕ))
+    → HaveCellsRoom (rows_before before satellites) rooms → HaveTypesRoom satellites rooms
+types-room before [] rooms h = All-nil (type_room rooms)
+types-room before (s ∷ ss) rooms h =
+    All-cons (type_room rooms) s ss
+    (subst (λ n. HasRoom s.name n rooms) (counted before s)
+    (All-head (cell_room rooms) (row_before before s) (rows_before before ss) h))
+    (types-room before ss rooms (All-tail (cell_room rooms) (row_before before s) (rows_before before ss) h))
+
+pub cells-room : (before : Tail) (satellites : List Satellite) (rooms : List (List ℕ × ℕ))
+    → HaveTypesRoom satellites rooms → HaveCellsRoom (rows_before before satellites) rooms
+cells-room before [] rooms h = All-nil (cell_room rooms)
+cells-room before (s ∷ ss) rooms h =
+    All-cons (cell_room rooms) (row_before before s) (rows_before before ss)
+    (subst (λ n. HasRoom s.name n rooms) (sym (counted before s)) (All-head (type_room rooms) s ss h))
+    (cells-room before ss rooms (All-tail (type_room rooms) s ss h))
+
+-- ---- the epoch that a line opens
+
+abbrev begun_in : OpenRawEpoch → RawStep → OpenRawEpoch
+begun_in other (Going begun) = begun
+begun_in other (Whole held) = other
+begun_in other (Faulty fault) = other
+
+-- an epoch that was opened: its satellites, and what it is by them
+pub record IsOpened (types : List Count) (line : List ℕ) (before : Tail) (begun : OpenRawEpoch) : Type 0 where
+  pub satellites : List Satellite
+  pub read : satellites_of_line types (past_of_tail before) line ≡ Ok satellites
+  pub text : begun.text ≡ patched before.text line
+  pub rows : begun.rows ≡ rows_before before satellites
+
+pub opened-from : (types : List Count) (line : List ℕ) (tail : Option Tail) (before : Tail) (begun : OpenRawEpoch)
+    → tail_for_line tail line ≡ Some before → first_step types tail (Content line) ≡ Going begun
+    → IsOpened types line before begun
+opened-from types line tail before begun e step =
+    by_result (satellites_of_line types (past_of_tail before) line) refl
+    (sym (ap (λ (o : Option Tail). opening (opened_raw types line o)) e) ∙ step)
+  where
+    by_result : (r : Result (List Satellite) Fault) → satellites_of_line types (past_of_tail before) line ≡ r
+        → opening (and_then r (λ ss. Ok (before_clock (tail_opened before line ss)))) ≡ Going begun
+        → IsOpened types line before begun
+    by_result (Ok ss) is e =
+        let same : before_clock (tail_opened before line ss) ≡ begun = ap (begun_in begun) e in
+        record {
+          satellites = ss;
+          read = is;
+          text = sym (ap (λ (b : OpenRawEpoch). b.text) same);
+          rows = sym (ap (λ (b : OpenRawEpoch). b.rows) same);
+        }
+    by_result (Err fault) is e = absurd (true≢false (ap is_faulty e))
+
+-- none is opened where there is nothing to read the line after
+pub none-opened : (types : List Count) (line : List ℕ) (tail : Option Tail) (begun : OpenRawEpoch)
+    → tail_for_line tail line ≡ None → first_step types tail (Content line) ≡ Going begun → ⊥
+none-opened types line tail begun e step =
+    true≢false (sym (ap (λ (o : Option Tail). is_faulty (opening (opened_raw types line o))) e) ∙ ap is_faulty step)
+
+-- the satellites that a line was found to have are those of the epoch
+pub rows-opened : (types : List Count) (line : List ℕ) (before : Tail) (begun : OpenRawEpoch)
+    (found : List Satellite) (rows : List RowTail) → IsOpened types line before begun
+    → satellites_of_line types (past_of_tail before) line ≡ Ok found → rows ≡ rows_before before found
+    → rows ≡ begun.rows
+rows-opened types line before begun found rows opened read made =
+    made ∙ ap (rows_before before) (ok-same found opened.satellites (sym read ∙ opened.read)) ∙ sym opened.rows
+
+-- ---- what the lines need is there
+
+pub satellites-known : (types : List Count) (line : List ℕ) (before : Tail) (begun : OpenRawEpoch) (room : ReadingRoom)
+    (rooms : List (List ℕ × ℕ)) (opened : IsOpened types line before begun) → HasRoomFor begun room
+    → room.rooms ≡ rooms → HaveTypesRoom opened.satellites rooms
+satellites-known types line before begun room rooms opened has same =
+    types-room before opened.satellites rooms
+    (subst (λ (rows : List RowTail). HaveCellsRoom rows rooms) opened.rows
+    (subst (HaveCellsRoom begun.rows) same has.rows))
+
+pub text-known : (types : List Count) (line : List ℕ) (before : Tail) (begun : OpenRawEpoch) (room : ReadingRoom)
+    (held : ℕ) → IsOpened types line before begun → HasRoomFor begun room → room.text ≡ held
+    → length (patched before.text line) ≤ held
+text-known types line before begun room held opened has same =
+    let made = ap length opened.text in
+    let within = has.text in omega (arith, made, within, same)
+
+pub lines-known : (begun : OpenRawEpoch) (room : ReadingRoom) (rows : List RowTail) (lines : ℕ)
+    → HasRoomFor begun room → rows ≡ begun.rows → room.lines ≡ lines → length rows < lines
+lines-known begun room rows lines has same is =
+    let many = ap length same in
+    let within = has.lines in omega (arith, many, within, is)
+
+pub bytes-known : (begun : OpenRawEpoch) (room : ReadingRoom) (rows : List RowTail) (bytes : ℕ)
+    → HasRoomFor begun room → rows ≡ begun.rows → room.bytes ≡ bytes
+    → LINE_LIMIT + 1 + sum (map printed_room rows) ≤ bytes
+bytes-known begun room rows bytes has same is =
+    let many = ap (λ (rs : List RowTail). sum (map printed_room rs)) same in
+    let within = has.bytes in omega (arith, many, within, is)
+
+-- what was read for has room
+pub room-for : (types : List Count) (line : List ℕ) (before : Tail) (begun : OpenRawEpoch)
+    (opened : IsOpened types line before begun) (new : OpenHistory) (after : PrintedBlock)
+    → new.text ≡ patched before.text line → length new.text ≤ new.held_room
+    → HaveTypesRoom opened.satellites new.satellites.rooms → new.satellites.rows ≡ begun.rows
+    → length new.satellites.rows < after.lines.all_lines
+    → LINE_LIMIT + 1 + sum (map printed_room new.satellites.rows) ≤ after.lines.all_bytes
+    → HasRoomFor begun (reading_room new after)
+room-for types line before begun opened new after made fits known rows lines bytes =
+    let same = ap length opened.text in
+    let same' = ap length made in
+    record {
+      text = omega (arith, same, same', fits);
+      rows = subst (λ (rs : List RowTail). HaveCellsRoom rs new.satellites.rooms) (sym opened.rows)
+          (cells-room before opened.satellites new.satellites.rooms known);
+      lines = subst (λ (rs : List RowTail). length rs < after.lines.all_lines) rows lines;
+      bytes = subst (λ (rs : List RowTail). LINE_LIMIT + 1 + sum (map printed_room rs) ≤ after.lines.all_bytes)
+          rows bytes;
+    }
+
+-- ---- no less room
+
+pub history-kept : (old : HeldColumns) (state : ColumnsState) (history new : OpenHistory)
+    (block after : PrintedBlock) → record { state = state; room = reading_room history block } ≡ old
+    → history.held_room ≤ new.held_room → KeepsRooms history.satellites.rooms new.satellites.rooms
+    → KeepsHistoryRoom old.room (reading_room new after)
+history-kept old state history new block after is text rooms =
+    subst (λ (held : HeldColumns). KeepsHistoryRoom held.room (reading_room new after)) is
+    (record { text = text; rooms = rooms })
+
+pub room-kept : (old : HeldColumns) (state : ColumnsState) (history new : OpenHistory)
+    (block after : PrintedBlock) → record { state = state; room = reading_room history block } ≡ old
+    → history.held_room ≤ new.held_room → KeepsRooms history.satellites.rooms new.satellites.rooms
+    → block.lines.all_lines ≤ after.lines.all_lines → block.lines.all_bytes ≤ after.lines.all_bytes
+    → KeepsRoom old.room (reading_room new after)
+room-kept old state history new block after is text rooms lines bytes =
+    subst (λ (held : HeldColumns). KeepsRoom held.room (reading_room new after)) is (record {
+      history = record { text = text; rooms = rooms };
+      lines = lines;
+      bytes = bytes;
+    })
+
+pub rooms-same : (old new : List (List ℕ × ℕ)) → new ≡ old → KeepsRooms old new
+rooms-same old new same name count has = subst (HasRoom name count) (sym same) has

@@ -1,0 +1,60 @@
+-- For how much there is room in an encoder, before and after a row.
+use Rattle.std.specs.Prelude.{◌≡◌, ◌≤◌, ◌<◌, ◌+◌, ◌*◌, ℕ, List, length, map, sum}
+use Rattle.crx_faults.specs.declared.limits.TheConstants.{HEAD_WIDTH, NAME_WIDTH}
+use Rattle.crx_compact.specs.LineLists.{PendingLines}
+use Rattle.crx_compact.specs.Placing.{HasRoom, HaveRoom, KeepsRooms, OpenHistory, row_room}
+use Rattle.crx_rinex.specs.meaning.Observations.{Epoch, Row}
+
+-- so many types of each satellite that is known; a text of so many characters; so many compact lines of an epoch's rows, of so many bytes with
+-- their LFs; and how many of these lines and bytes the open epoch has left
+pub record EncodingRoom : Type 0 where
+  pub rooms : List (List ℕ × ℕ)
+  pub text : ℕ
+  pub lines : ℕ
+  pub bytes : ℕ
+  pub free_lines : ℕ
+  pub free_bytes : ℕ
+
+-- the room of a history, and of the lines that are made after it
+abbrev pub encoding_room : OpenHistory → PendingLines → EncodingRoom
+encoding_room history made =
+    record {
+      rooms = history.satellites.rooms;
+      text = history.text_room;
+      lines = made.all_lines;
+      bytes = made.all_bytes;
+      free_lines = made.free_lines;
+      free_bytes = made.free_bytes;
+    }
+
+-- all lines are dropped: whatever was ever asked for them is free
+abbrev pub all_free : EncodingRoom → EncodingRoom
+all_free room = record room { free_lines = room.lines; free_bytes = room.bytes }
+
+-- there is room for a row: its satellite is known, and has room for its types, and its line fits
+pub record HasRowRoom (row : Row) (room : EncodingRoom) : Type 0 where
+  pub satellite : HasRoom row.name (length row.values) room.rooms
+  pub line : 0 < room.free_lines
+  pub bytes : row_room row ≤ room.free_bytes
+
+-- there is room for an epoch: its text, its satellites with their types, and the lines of its rows
+pub record HasRoomForEpoch (epoch : Epoch) (room : EncodingRoom) : Type 0 where
+  pub text : HEAD_WIDTH + NAME_WIDTH * length epoch.rows ≤ room.text
+  pub rows : HaveRoom epoch.rows room.rooms
+  pub lines : length epoch.rows ≤ room.lines
+  pub bytes : sum (map row_room epoch.rows) ≤ room.bytes
+
+-- there is no less room than before
+pub record KeepsEncodingRoom (before after : EncodingRoom) : Type 0 where
+  pub rooms : KeepsRooms before.rooms after.rooms
+  pub text : before.text ≤ after.text
+  pub lines : before.lines ≤ after.lines
+  pub bytes : before.bytes ≤ after.bytes
+
+-- a row was put: there is room for its satellite from now on; one line more is in use, and no more bytes than a line of so many types may have,
+-- for which there was room
+pub record HasTakenRow (row : Row) (before after : EncodingRoom) : Type 0 where
+  pub satellite : HasRoom row.name (length row.values) after.rooms
+  pub lines : after.free_lines + (before.lines + 1) ≡ before.free_lines + after.lines
+  pub bytes : before.free_bytes + after.bytes ≤ after.free_bytes + (before.bytes + row_room row)
+  pub asked : before.bytes + row_room row ≤ before.free_bytes + after.bytes
