@@ -15,7 +15,7 @@ files_of = $(shell find $(wildcard crates/$(1)/src crates/$(1)/specs crates/$(1)
 
 # What the longest chain of crates waits for last makes way for it: it is proved at a lower priority, in a job more than there are cores. (A
 # build on 2 cores takes two minutes less.)
-ASIDE := crx_options crx_runs crx_command
+ASIDE := crx_runs crx_command
 
 proof_of = @$(if $(filter $(1),$(ASIDE)),nice) tests/gate.py proof $(1) $(KIT)/bin/rattle build --crate-name $(1) src/$(2).rt --links $(1)= --jobs 1 \
     $(foreach it,std $(call uses_of,$(1)),--extern $(it)=$(if $(filter $(it),$(CRATES)),$(PROVED),$(KIT)/rlibs)/$(it).rlib) \

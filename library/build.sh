@@ -11,7 +11,7 @@ trap 'rm -rf "$work"' EXIT
 CC=${CC:-cc}
 
 mkdir -p "$folder"
-python3 "$top/library/words.py" "$top/crates/crx_faults/src/fault.rt" > "$work/words.inc"
+python3 "$top/library/words.py" "$top/crates/crx_base/src/fault.rt" > "$work/words.inc"
 flags="-std=c11 -O2 -Wall -Wextra -Wpedantic -Werror -fPIC -ffile-prefix-map=$top=. -ffile-prefix-map=$work=."
 $CC $flags -c "$top/library/heap.c" -o "$work/heap.o"
 $CC $flags -I "$top/include" -I "$work" -DRNXCMP_VERSION="\"$version\"" -c "$top/library/rnxcmp.c" -o "$work/rnxcmp.o"

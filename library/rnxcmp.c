@@ -24,7 +24,7 @@ rnxcmp_answer rnxcmp_c_end(rnxcmp_handle *handle);
 rnxcmp_answer rnxcmp_c_take(rnxcmp_handle *handle, void *output, size_t output_room, void *messages, size_t messages_room);
 void rnxcmp_c_close(rnxcmp_handle *handle);
 
-/* The words of all faults, made of crates/crx_faults/src/fault.rt by words.py. */
+/* The words of all faults, made of crates/crx_base/src/fault.rt by words.py. */
 static const char *const words[] = {
 #include "words.inc"
 };

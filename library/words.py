@@ -1,5 +1,5 @@
 #!/usr/bin/env python3
-"""Writes the words of all faults as lines of a C array, by their numbers: words.py crates/crx_faults/src/fault.rt > words.inc"""
+"""Writes the words of all faults as lines of a C array, by their numbers: words.py crates/crx_base/src/fault.rt > words.inc"""
 
 import re
 import sys

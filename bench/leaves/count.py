@@ -8,7 +8,7 @@ between, is printed. So what the program does once isn't counted; the loop aroun
 "nothing" says what it takes.
 
 The repository's check reads every .rt file below it, so the program stands here as main.rt.in, and is proved and
-built in a folder of its own (--folder), beside copies of crates/crx_faults, crx_lines, crx_columns and crx_text. Examples:
+built in a folder of its own (--folder), beside copies of crates/crx_base, crx_lines and crx_text. Examples:
 
     bench/leaves/count.py
     bench/leaves/count.py obs_read obs_print
@@ -106,7 +106,7 @@ CASES = [
 ]
 
 # The crates that hold the leaves.
-CRATES = ("crx_faults", "crx_lines", "crx_columns", "crx_text")
+CRATES = ("crx_base", "crx_lines", "crx_text")
 
 
 def built(folder):

@@ -168,7 +168,7 @@ def figures():
 def numbers():
     """The limits by their names, and what follows from them: how long the longest lines of an epoch are, and how many it has. FAULTS is how
     many faults there are, EVERY the greatest N of -e."""
-    limits = (TOP / "crates/crx_faults/src/limits.rt").read_text(encoding="utf-8")
+    limits = (TOP / "crates/crx_base/src/limits.rt").read_text(encoding="utf-8")
     command = (TOP / "crates/crx_command/src/command.rt").read_text(encoding="utf-8")
     found = {name: int(number) for name, number in re.findall(r"const (\w+): \w+ = ([\d_]+);", limits)}
     return {
@@ -208,7 +208,7 @@ STATED = {
         "where INPUT_LIMIT bytes were taken",
     ),
     "python/rnxcmp/_calls.py": ("number, from 1 to FAULTS;", "bad date: at most DATE_LIMIT characters", "line, at most DATE_LIMIT printable"),
-    "crates/crx_faults/src/fault.rt": ("in messages, from 1 to FAULTS.",),
+    "crates/crx_base/src/fault.rt": ("in messages, from 1 to FAULTS.",),
     "crates/crx_laws/src/compact_laws.rt": ("at most COMPACT_LINE bytes: TYPES_LIMIT codes",),
     "crates/crx_laws/src/compact_reading.rt": ("at most SATELLITES_LIMIT satellites of TYPES_LIMIT types",),
     "crates/crx_laws/src/filter_laws.rt": (
@@ -216,7 +216,7 @@ STATED = {
         "at most LINES_OF_EPOCH lines, of at most LINE_LIMIT bytes each", "COMPACT_LINE bytes each in compact text", "PRINTED_LINE bytes each in RINEX",
     ),
     "crates/crx_laws/src/salvage.rt": ("at most LINE_LIMIT bytes",),
-    "crates/crx_reading/src/line_number.rt": ("at most INPUT_LIMIT lines",),
+    "crates/crx_filter/src/line_number.rt": ("at most INPUT_LIMIT lines",),
     "crates/crx_command/src/command.rt": ("N from 1 to EVERY.", "at most EVERY", "at most DATE_LIMIT bytes"),
     "crates/crx_command/src/job.rt": ("more than DATE_LIMIT bytes",),
     "crates/crx_command/src/plan.rt": ("more than DATE_LIMIT bytes",),
@@ -234,7 +234,7 @@ def stated(file, phrases):
 
 def faults():
     """The words of the faults by their numbers."""
-    source = (TOP / "crates/crx_faults/src/fault.rt").read_text(encoding="utf-8")
+    source = (TOP / "crates/crx_base/src/fault.rt").read_text(encoding="utf-8")
     words = dict(re.findall(r'Fault::(\w+) => "([^"]*)",', source))
     return {int(number): words[name] for name, number in re.findall(r"Fault::(\w+) => (\d+),", source)}
 

@@ -57,7 +57,7 @@ def check_with_sources(b, name, *flags, words=(), **more):
     """A program of this folder with the library's C, both compiled by these flags, and run with these words."""
     if not shutil.which("gcc"):
         return "there is no gcc"
-    of_faults = subprocess.run([sys.executable, b.top / "library/words.py", HERE.parents[1] / "crates/crx_faults/src/fault.rt"], capture_output=True)
+    of_faults = subprocess.run([sys.executable, b.top / "library/words.py", HERE.parents[1] / "crates/crx_base/src/fault.rt"], capture_output=True)
     (b.work / "words.inc").write_bytes(of_faults.stdout)
     sources = [HERE / f"{name}.c", b.top / "library/rnxcmp.c", b.top / "library/heap.c", b.proved]
     flags = [*flags, f'-DRNXCMP_VERSION="{VERSION}"', "-I", b.top / "include", "-I", b.work]

@@ -8,8 +8,8 @@ use Rattle.std.proofs.lemmas.List.Folds.{list_all-append}
 use Rattle.std.proofs.lemmas.Bool.{and_parts}
 use Rattle.jiff.specs.Types.{DateTime}
 use Rattle.jiff.specs.Words.{days_in_month}
-use Rattle.crx_columns.specs.meaning.Texts.{is_printable}
-use Rattle.crx_options.specs.meaning.Choices.{is_date}
+use Rattle.crx_base.specs.meaning.Lines.{is_printable}
+use Rattle.crx_base.specs.meaning.Choices.{is_date}
 use Rattle.crx_command.specs.meaning.Dates.{IsDateText, IsDefaultDate, date_text_of, months, two_digits}
 
 -- a text of so many bytes at most, each printable

@@ -8,7 +8,7 @@ use Rattle.clap.specs.Simple.{subcommand_of}
 use Rattle.clap.specs.Walk.{Row}
 use Rattle.clap.specs.declared.error.ErrorKind.{ErrorKind}
 use Rattle.clap.specs.declared.error.ErrorKind.TheVariants as kind
-use Rattle.crx_options.specs.meaning.Choices.{is_date}
+use Rattle.crx_base.specs.meaning.Choices.{is_date}
 use Rattle.crx_command.specs.meaning.Commands.{program}
 use Rattle.crx_command.specs.meaning.Names.{output_name}
 use Rattle.crx_command.specs.meaning.Planning.{Given, Plan, Help, Run, Refused, by_kind, by_kinds, given_in, judged}

@@ -3,7 +3,7 @@
 ghost use Rattle.std.specs.Prelude.{◌≡◌, ◌≢◌, IfOk, IfSome, codes, count_by, find, map, option_and_then, option_map, string_bytes, true};
 ghost use Rattle.std.specs.Option.{option_map_or};
 ghost use Rattle.clap.specs.Words.{found_of, kind_of, one_of, rows_of, subcommand_rows_of};
-ghost use Rattle.crx_options.specs.meaning.Choices.{is_date};
+ghost use Rattle.crx_base.specs.meaning.Choices.{is_date};
 ghost use Rattle.crx_command.specs.meaning.Planning.{by_kind, given_in, is_dash, is_file, is_set, job_of, judged, file_names_in, counted_argument, of_subcommand, plan_of, tool_named, with_source, writes_file};
 ghost use Rattle.crx_command.specs.Planning.{given_of, plan_in};
 
@@ -13,7 +13,7 @@ use crate::names::output_name;
 use crate::word::Word;
 use clap::error::ErrorKind;
 use clap::{ArgMatches, Error};
-use crx_options::Options;
+use crx_base::Options;
 use std::alloc::{AllocError, Global};
 
 /// What stands after a subcommand.

@@ -2,11 +2,11 @@
 use Rattle.std.proofs.Common.{◌≡◌, [], ◌∷◌, ℕ, List, Bool, not, true, All, Result, Ok, Err, map, refl, ap}
 use Rattle.std.proofs.Common.{sym, ◌∙◌, subst, if◌then◌else◌}
 use Rattle.std.specs.List.{list_all}
-use Rattle.crx_columns.specs.meaning.Texts.{is_printable}
-use Rattle.crx_columns.specs.Texts.{patched}
-use Rattle.crx_columns.proofs.EachPlace.{length-each_place}
-use Rattle.crx_faults.specs.declared.fault.Fault.{Fault}
-use Rattle.crx_faults.specs.declared.fault.Fault.TheVariants.{BadEpoch}
+use Rattle.crx_base.specs.meaning.Lines.{is_printable}
+use Rattle.crx_text.specs.Texts.{patched}
+use Rattle.crx_text.proofs.EachPlace.{length-each_place}
+use Rattle.crx_base.specs.declared.fault.Fault.{Fault}
+use Rattle.crx_base.specs.declared.fault.Fault.TheVariants.{BadEpoch}
 use Rattle.crx_header.specs.meaning.ObservationTypes.{Count}
 use Rattle.crx_compact.specs.HeldRows.{IsAwaitedSatellite, past_of_tail}
 use Rattle.crx_compact.specs.meaning.CompactPlaces.{satellites_of_line, satellites_of_text}

@@ -5,15 +5,15 @@ use Rattle.std.specs.List.{list_all, list_any, AllByRecursion}
 use Rattle.std.specs.Str.{bytes_eq}
 use Rattle.std.proofs.Common.{ap, subst, sym, ◌∙◌}
 use Rattle.std.proofs.lemmas.Bool.{and_from}
-use Rattle.crx_columns.specs.meaning.Columns.{is_blank, columns}
+use Rattle.crx_text.specs.meaning.Columns.{is_blank, columns}
 use Rattle.crx_header.specs.meaning.ObservationTypes.{Count}
 use Rattle.crx_header.specs.meaning.Satellites.{is_among, are_apart, types_of_satellite}
-use Rattle.crx_faults.specs.declared.fault.Fault.{Fault}
-use Rattle.crx_faults.specs.declared.fault.Fault.TheVariants.{BadEpoch, BadSatellite, RepeatedSatellite}
+use Rattle.crx_base.specs.declared.fault.Fault.{Fault}
+use Rattle.crx_base.specs.declared.fault.Fault.TheVariants.{BadEpoch, BadSatellite, RepeatedSatellite}
 use Rattle.crx_compact.specs.meaning.Sequences.{before_all}
 use Rattle.crx_header.specs.meaning.EpochColumns.{epoch_count}
 use Rattle.crx_header.specs.meaning.InOrder.{◌otherwise◌next◌, ◌or_else◌with◌}
-use Rattle.crx_columns.specs.meaning.Texts.{is_printable}
+use Rattle.crx_base.specs.meaning.Lines.{is_printable}
 use Rattle.crx_compact.specs.meaning.EpochText.{names_in, Satellite, satellite_before, satellites_named}
 use Rattle.crx_compact.specs.meaning.Past.{Past}
 use Rattle.crx_compact.specs.meaning.CompactPlaces.{satellites_of_text, satellites_of_line}
@@ -24,9 +24,9 @@ use Rattle.crx_header.proofs.Apart.{apart-map}
 use Rattle.crx_compact.specs.Tails.{Tail}
 use Rattle.crx_compact.specs.HeldRows.{past_of_tail}
 use Rattle.crx_compact.specs.RowsSoFar.{AreAnnounced}
-use Rattle.crx_columns.proofs.EachPlace.{length-each_place}
-use Rattle.crx_columns.specs.Texts.{patched}
-use Rattle.crx_faults.specs.declared.limits.TheConstants.{HEAD_WIDTH, NAME_WIDTH}
+use Rattle.crx_text.proofs.EachPlace.{length-each_place}
+use Rattle.crx_text.specs.Texts.{patched}
+use Rattle.crx_base.specs.declared.limits.TheConstants.{HEAD_WIDTH, NAME_WIDTH}
 
 -- whether no identifier stands twice
 abbrev pub differ : List (List ℕ) → Bool

@@ -7,7 +7,7 @@ use Rattle.std.proofs.lemmas.List.{drop-append-le, drop-drop, drop-set, drop-tak
 use Rattle.std.proofs.lemmas.List.{length-set, take-append-drop, take-append-le, take-take}
 use Rattle.std.proofs.lemmas.List.{length-append, length-drop, length-take-le, take_more_set}
 use Rattle.std.proofs.Math.ListN.{drop_of_length-le}
-use Rattle.crx_columns.proofs.WrittenTexts.{counted-line, line-ended}
+use Rattle.crx_text.proofs.WrittenTexts.{counted-line, line-ended}
 use Rattle.crx_compact.specs.LineLists.{cut, lines_text, AreCut, HasFront}
 
 -- the first of some lines ends within the text, and the others are its rest

@@ -5,16 +5,17 @@ use Rattle.std.specs.Prelude.{OnOk, if◌then◌else◌, ◌==◌, zero}
 use Rattle.std.specs.List.{list_all}
 use Rattle.std.proofs.Common.{sym, ◌∙◌, ap, arith}
 use Rattle.std.proofs.lemmas.List.{length-map}
-use Rattle.crx_columns.specs.meaning.Columns.{columns, without_end_blanks}
-use Rattle.crx_columns.specs.meaning.Texts.{by_position, is_printable, is_kept}
-use Rattle.crx_columns.specs.Texts.{character_of, patched}
+use Rattle.crx_text.specs.meaning.Columns.{columns, without_end_blanks}
+use Rattle.crx_text.specs.meaning.Texts.{by_position, is_kept}
+use Rattle.crx_base.specs.meaning.Lines.{is_printable}
+use Rattle.crx_text.specs.Texts.{character_of, patched}
 use Rattle.crx_text.specs.declared.code.Code.{Code}
 use Rattle.crx_text.specs.declared.code.Code.TheVariants.{Missing}
-use Rattle.crx_faults.specs.declared.limits.TheConstants.{OBSERVATION_WIDTH}
-use Rattle.crx_faults.specs.declared.fault.Fault.{Fault}
-use Rattle.crx_faults.specs.declared.fault.Fault.TheVariants.{BadFlags, Truncated, BadField}
+use Rattle.crx_base.specs.declared.limits.TheConstants.{OBSERVATION_WIDTH}
+use Rattle.crx_base.specs.declared.fault.Fault.{Fault}
+use Rattle.crx_base.specs.declared.fault.Fault.TheVariants.{BadFlags, Truncated, BadField}
 use Rattle.std.proofs.Math.Path.{fun_ext}
-use Rattle.crx_columns.specs.meaning.EachPlace.{each_place}
+use Rattle.crx_text.specs.meaning.EachPlace.{each_place}
 use Rattle.crx_compact.specs.meaning.Sequences.{and_then, before_all}
 use Rattle.crx_header.specs.meaning.EpochColumns.{begins_epoch}
 use Rattle.crx_header.specs.meaning.InOrder.{◌otherwise◌next◌}
@@ -33,7 +34,7 @@ use Rattle.crx_compact.specs.HeldRows.{row_held, row_held_from}
 use Rattle.crx_compact.specs.Cells.{value_at_place, CellsAreRead, arcs_of_codes}
 use Rattle.crx_compact.proofs.SoundTexts.{held-columns, patched-trimmed}
 use Rattle.crx_compact.proofs.Characters.{list_all-at, at-by_position}
-use Rattle.crx_columns.proofs.Characters.{at, at-without_end_blanks, columns-are, list_all-from_at, length-columns}
+use Rattle.crx_text.proofs.Characters.{at, at-without_end_blanks, columns-are, list_all-from_at, length-columns}
 use Rattle.crx_compact.proofs.PlaceByPlace.{at-padded, at-take}
 use Rattle.crx_text.specs.meaning.Codes.{code_of, after_cell}
 use Rattle.crx_compact.proofs.Results.{ok-same, Follows, and_then-ok, before-ok}

@@ -3,11 +3,11 @@ use Rattle.std.proofs.Common.{◌≡◌, ◌++◌, ◌∷◌, [], ℕ, List, Boo
 use Rattle.std.proofs.Common.{ap, sym, ◌∙◌, subst, Some, Ok, ◌+◌, drop}
 use Rattle.std.proofs.lemmas.List.{map-append}
 use Rattle.std.proofs.Math.Seq.{take-append_seam}
-use Rattle.crx_columns.specs.meaning.Columns.{columns}
+use Rattle.crx_text.specs.meaning.Columns.{columns}
 use Rattle.crx_header.specs.meaning.ObservationTypes.{Count, IsAllowedCount}
 use Rattle.crx_header.specs.meaning.Satellites.{is_among, is_identifier, types_of_satellite}
 use Rattle.crx_header.proofs.Apart.{among-map}
-use Rattle.crx_columns.proofs.Characters.{length-columns}
+use Rattle.crx_text.proofs.Characters.{length-columns}
 use Rattle.crx_compact.specs.HeldRows.{IsAwaitedSatellite}
 use Rattle.crx_compact.specs.meaning.EpochText.{Satellite, satellites_named}
 use Rattle.crx_compact.specs.Placing.{HasCome, HasRoom, HaveTypesRoom, KeepsRooms, PlacedRows, padded, padded_among}

@@ -5,12 +5,12 @@ use Rattle.std.specs.List.{list_any}
 use Rattle.std.specs.Str.{bytes_eq}
 use Rattle.std.proofs.Common.{sym, ◌∙◌, ap, arith, subst}
 use Rattle.std.proofs.lemmas.List.Elements.{All-head, All-tail}
-use Rattle.crx_columns.specs.meaning.EachPlace.{each_place}
-use Rattle.crx_columns.proofs.EachPlace.{drop-each_place, each_place-more}
+use Rattle.crx_text.specs.meaning.EachPlace.{each_place}
+use Rattle.crx_text.proofs.EachPlace.{drop-each_place, each_place-more}
 use Rattle.crx_header.specs.meaning.Satellites.{types_of_satellite}
-use Rattle.crx_columns.specs.meaning.Columns.{columns}
-use Rattle.crx_faults.specs.declared.fault.Fault.{Fault}
-use Rattle.crx_faults.specs.declared.fault.Fault.TheVariants.{BadSatellite, RepeatedSatellite}
+use Rattle.crx_text.specs.meaning.Columns.{columns}
+use Rattle.crx_base.specs.declared.fault.Fault.{Fault}
+use Rattle.crx_base.specs.declared.fault.Fault.TheVariants.{BadSatellite, RepeatedSatellite}
 use Rattle.crx_header.specs.meaning.ObservationTypes.{Count}
 use Rattle.crx_compact.specs.meaning.Sequences.{before_all}
 use Rattle.crx_compact.specs.meaning.EpochText.{Satellite, names_in, satellite_before, satellites_named}

@@ -4,17 +4,17 @@ use Rattle.std.specs.Prelude.{slice_index_or, Option, Some, None, refl, ◌*◌,
 use Rattle.std.proofs.Common.{sym, ◌∙◌, ap, arith, append_assoc, not-suc-le-zero, le_of_suc-le-suc}
 use Rattle.std.proofs.lemmas.List.{flat_map_more, length-map}
 use Rattle.crx_text.specs.declared.code.Code.{Code}
-use Rattle.crx_columns.specs.meaning.EachPlace.{each_place}
+use Rattle.crx_text.specs.meaning.EachPlace.{each_place}
 use Rattle.std.proofs.lemmas.Option.{same_Some, slice_get_within}
 use Rattle.crx_compact.specs.ArcTails.{ArcTail}
 use Rattle.crx_compact.specs.meaning.Cells.{cell_text}
 use Rattle.crx_compact.specs.ArcSteps.{arc_of_value, code_of_value, shown_value}
 use Rattle.crx_compact.specs.Cells.{arc_at_place, code_at_place}
-use Rattle.crx_columns.proofs.EachPlace.{each_place-more}
-use Rattle.crx_columns.specs.meaning.Columns.{columns}
+use Rattle.crx_text.proofs.EachPlace.{each_place-more}
+use Rattle.crx_text.specs.meaning.Columns.{columns}
 use Rattle.crx_text.specs.meaning.Numbers.{observation_text}
 use Rattle.crx_text.specs.meaning.PrintedCells.{printed_cells}
-use Rattle.crx_columns.proofs.Characters.{at, length-columns}
+use Rattle.crx_text.proofs.Characters.{at, length-columns}
 
 pub value-there : {X : Type 0} (xs : List X) (k : ℕ) (x d : X) → slice_get xs k ≡ Some x → slice_index_or xs k d ≡ x
 value-there [] k x d h = absurd (cc)

@@ -5,8 +5,8 @@ use Rattle.std.specs.Prelude.{length, map, sum, take, drop, slice_get, slice_set
 use Rattle.std.proofs.Common.{sym, ◌∙◌, ap, subst, arith}
 use Rattle.std.proofs.lemmas.List.{length-set, take-set-le, take_all}
 use Rattle.std.proofs.lemmas.Option.{same_Some}
-use Rattle.crx_columns.specs.meaning.Columns.{columns}
-use Rattle.crx_faults.specs.declared.limits.TheConstants.{HEAD_WIDTH}
+use Rattle.crx_text.specs.meaning.Columns.{columns}
+use Rattle.crx_base.specs.declared.limits.TheConstants.{HEAD_WIDTH}
 use Rattle.crx_rinex.specs.meaning.Printing.{printed_epoch, printed_head, printed_row}
 use Rattle.crx_compact.specs.ArcSteps.{shown_value}
 use Rattle.crx_compact.specs.ArcTails.{ArcTail}

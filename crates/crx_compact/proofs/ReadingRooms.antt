@@ -3,11 +3,11 @@ use Rattle.std.specs.Prelude.{◌≡◌, ◌≤◌, ◌<◌, ◌+◌, refl, ℕ,
 use Rattle.std.specs.Prelude.{Result, Ok, Err}
 use Rattle.std.proofs.Common.{sym, ◌∙◌, ap, subst, arith, true≢false}
 use Rattle.std.proofs.lemmas.List.Elements.{All-nil, All-cons, All-head, All-tail}
-use Rattle.crx_columns.proofs.EachPlace.{length-each_place}
-use Rattle.crx_columns.specs.Texts.{patched}
-use Rattle.crx_faults.specs.declared.limits.TheConstants.{LINE_LIMIT}
-use Rattle.crx_faults.specs.meaning.Seen.{Content}
-use Rattle.crx_faults.specs.declared.fault.Fault.{Fault}
+use Rattle.crx_text.proofs.EachPlace.{length-each_place}
+use Rattle.crx_text.specs.Texts.{patched}
+use Rattle.crx_base.specs.declared.limits.TheConstants.{LINE_LIMIT}
+use Rattle.crx_base.specs.meaning.Seen.{Content}
+use Rattle.crx_base.specs.declared.fault.Fault.{Fault}
 use Rattle.crx_header.specs.meaning.ObservationTypes.{Count}
 use Rattle.crx_compact.specs.HeldRows.{past_of_tail}
 use Rattle.crx_compact.specs.meaning.CompactPlaces.{satellites_of_line}

@@ -4,11 +4,11 @@ use Rattle.std.specs.Prelude.{replicate, Option, None, true, ◌*◌}
 use Rattle.std.specs.List.{list_all}
 use Rattle.std.proofs.Common.{sym, ◌∙◌, ap, arith, inl, inr}
 use Rattle.std.proofs.lemmas.List.{length-take, length-take-le, take-take, take_all}
-use Rattle.crx_faults.specs.declared.limits.TheConstants.{LINE_LIMIT}
-use Rattle.crx_columns.specs.meaning.Columns.{without_end_blanks}
-use Rattle.crx_columns.specs.meaning.Texts.{is_kept}
-use Rattle.crx_columns.proofs.Characters.{at, at-without_end_blanks, list_all-from_at}
-use Rattle.crx_columns.proofs.EndBlanks.{few_kept}
+use Rattle.crx_base.specs.declared.limits.TheConstants.{LINE_LIMIT}
+use Rattle.crx_text.specs.meaning.Columns.{without_end_blanks}
+use Rattle.crx_text.specs.meaning.Texts.{is_kept}
+use Rattle.crx_text.proofs.Characters.{at, at-without_end_blanks, list_all-from_at}
+use Rattle.crx_text.proofs.EndBlanks.{few_kept}
 use Rattle.crx_compact.specs.ArcTails.{ArcTail}
 use Rattle.crx_compact.specs.HeldRows.{AreHeldFlags}
 use Rattle.crx_compact.specs.Placing.{SatelliteTail, cells_for}

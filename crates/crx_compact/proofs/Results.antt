@@ -3,7 +3,7 @@ use Rattle.std.specs.Prelude.{◌≡◌, refl, Bool, true, false, not, List, ◌
 use Rattle.std.specs.Prelude.{if◌then◌else◌}
 use Rattle.std.specs.Result.{is_ok}
 use Rattle.std.proofs.Common.{sym, ap, true≢false}
-use Rattle.crx_faults.specs.declared.fault.Fault.{Fault}
+use Rattle.crx_base.specs.declared.fault.Fault.{Fault}
 use Rattle.crx_compact.specs.meaning.Sequences.{and_then, before_all}
 
 pub no-err : {X : Type 0} (f : Fault) (x : X) → Err f ≡ Ok x → ⊥

@@ -5,11 +5,11 @@ use Rattle.std.specs.Prelude.{Option, Result, Ok, Err}
 use Rattle.std.proofs.Common.{sym, ◌∙◌, ap, arith}
 use Rattle.std.proofs.lemmas.List.{length-take-le}
 use Rattle.std.proofs.Math.Seq.{drop-nil}
-use Rattle.crx_faults.specs.declared.fault.Fault.{Fault}
-use Rattle.crx_faults.specs.declared.fault.Fault.TheVariants.{BadFlags}
-use Rattle.crx_columns.specs.meaning.Columns.{columns, is_blank, without_end_blanks}
-use Rattle.crx_columns.specs.Texts.{patched}
-use Rattle.crx_columns.proofs.Characters.{at, columns-are}
+use Rattle.crx_base.specs.declared.fault.Fault.{Fault}
+use Rattle.crx_base.specs.declared.fault.Fault.TheVariants.{BadFlags}
+use Rattle.crx_text.specs.meaning.Columns.{columns, is_blank, without_end_blanks}
+use Rattle.crx_text.specs.Texts.{patched}
+use Rattle.crx_text.proofs.Characters.{at, columns-are}
 use Rattle.crx_header.specs.meaning.EpochColumns.{begins_epoch}
 use Rattle.crx_compact.specs.meaning.CompactPlaces.{are_marks}
 use Rattle.crx_compact.specs.meaning.Cells.{cells_of, cells_read}

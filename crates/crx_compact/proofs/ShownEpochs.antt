@@ -6,8 +6,8 @@ use Rattle.std.specs.Result.{is_ok}
 use Rattle.std.proofs.Common.{sym, ◌∙◌, ap, arith, true≢false, get_or}
 use Rattle.std.proofs.lemmas.Option.{slice_get_within, same_Some, slice_get-map}
 use Rattle.std.proofs.lemmas.List.{take_all, length-map, length-take-le, map-append, take-map, take-take}
-use Rattle.crx_faults.specs.declared.fault.Fault.{Fault}
-use Rattle.crx_faults.specs.declared.fault.Fault.TheVariants.{BadEpoch}
+use Rattle.crx_base.specs.declared.fault.Fault.{Fault}
+use Rattle.crx_base.specs.declared.fault.Fault.TheVariants.{BadEpoch}
 use Rattle.crx_rinex.specs.meaning.EpochLines.{ObservationHead}
 use Rattle.crx_header.specs.meaning.EpochColumns.{satellites_of, epoch_count}
 use Rattle.crx_rinex.specs.Epochs.{begun, is_full_epoch, with_row}
@@ -22,8 +22,8 @@ use Rattle.crx_compact.specs.meaning.EpochText.{Satellite}
 use Rattle.crx_compact.proofs.PlaceByPlace.{value-there}
 use Rattle.std.specs.Option.{option_map}
 use Rattle.std.proofs.lemmas.Simd.{map-map}
-use Rattle.crx_columns.specs.meaning.Columns.{columns}
-use Rattle.crx_faults.specs.declared.limits.TheConstants.{HEAD_WIDTH}
+use Rattle.crx_text.specs.meaning.Columns.{columns}
+use Rattle.crx_base.specs.declared.limits.TheConstants.{HEAD_WIDTH}
 use Rattle.crx_compact.specs.ShownRows.{shown_epoch, shown_row}
 use Rattle.crx_compact.specs.ArcSteps.{shown_value}
 use Rattle.crx_compact.proofs.Making.{taken_more}

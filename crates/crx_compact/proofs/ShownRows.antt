@@ -4,14 +4,14 @@ use Rattle.std.specs.Prelude.{replicate, slice_index_or, slice_set, Option, None
 use Rattle.std.proofs.Common.{sym, ◌∙◌, ap, arith}
 use Rattle.std.proofs.lemmas.List.{append-nil, length-map, length-take-le, map-append, take_all}
 use Rattle.std.proofs.lemmas.Option.{slice_get_within}
-use Rattle.crx_columns.proofs.Blanks.{columns_are}
+use Rattle.crx_text.proofs.Blanks.{columns_are}
 use Rattle.crx_rinex.specs.meaning.Observations.{Row}
 use Rattle.crx_rinex.specs.SatelliteLines.{with_flags, with_value}
 use Rattle.crx_compact.specs.ShownRows.{shown_row}
 use Rattle.crx_compact.specs.ArcSteps.{shown_value}
 use Rattle.crx_compact.specs.ArcTails.{ArcTail}
 use Rattle.crx_compact.proofs.Making.{taken_more}
-use Rattle.crx_columns.specs.meaning.Columns.{columns}
+use Rattle.crx_text.specs.meaning.Columns.{columns}
 
 -- ---- places
 

@@ -2,7 +2,7 @@
 use Rattle.std.specs.Prelude.{◌≡◌, ℕ, ℤ, List, [], ◌∷◌, Option, Some, None, if◌then◌else◌}
 use Rattle.std.specs.Option.{option_map}
 use Rattle.crx_text.specs.declared.code.Code.{Code}
-use Rattle.crx_faults.specs.declared.limits.TheConstants.{WRITTEN_ORDER}
+use Rattle.crx_base.specs.declared.limits.TheConstants.{WRITTEN_ORDER}
 use Rattle.crx_compact.specs.meaning.Differences.{code_at, value_at}
 use Rattle.crx_compact.specs.meaning.ArcValues.{Started, since_start, value_of}
 use Rattle.crx_compact.specs.ArcTails.{ArcTail, arc_tail, differences_of, values_of, started_tail}

@@ -1,10 +1,10 @@
 -- One step of the running differences: the next code, the next value and the next tail by the tail alone.
 use Rattle.std.specs.Prelude.{ℕ, suc, ℤ, pos, ◌+ℤ◌, ◌-ℤ◌, List, [], ◌∷◌, take, Option, Some, None, Result, Ok, Err}
-use Rattle.crx_faults.specs.declared.limits.TheConstants.{WRITTEN_ORDER}
+use Rattle.crx_base.specs.declared.limits.TheConstants.{WRITTEN_ORDER}
 use Rattle.crx_text.specs.declared.code.Code.{Code}
 use Rattle.crx_text.specs.declared.code.Code.TheVariants.{Missing, Start, Step}
-use Rattle.crx_faults.specs.declared.fault.Fault.{Fault}
-use Rattle.crx_faults.specs.declared.fault.Fault.TheVariants.{NoArc}
+use Rattle.crx_base.specs.declared.fault.Fault.{Fault}
+use Rattle.crx_base.specs.declared.fault.Fault.TheVariants.{NoArc}
 use Rattle.crx_compact.specs.meaning.Differences.{newest}
 use Rattle.crx_compact.specs.meaning.ArcValues.{in_range}
 use Rattle.crx_compact.specs.ArcTails.{ArcTail}

@@ -1,6 +1,6 @@
 -- An arc as code stores it: its order and its differences, and how large they may grow.
 use Rattle.std.specs.Prelude.{◌≤◌, ℕ, suc, ◌+◌, ◌^◌, ℤ, pos, neg_ℤ, ◌<ℤ◌, List, [], ◌∷◌, Option, Some, None}
-use Rattle.crx_faults.specs.declared.limits.TheConstants.{ORDER_LIMIT, CLOCK_WIDTH}
+use Rattle.crx_base.specs.declared.limits.TheConstants.{ORDER_LIMIT, CLOCK_WIDTH}
 use Rattle.crx_text.specs.meaning.Numbers.{IsWithin}
 use Rattle.crx_compact.specs.ArcTails.{ArcTail}
 

@@ -2,12 +2,12 @@
 use Rattle.std.specs.Prelude.{◌≡◌, ◌≤◌, ℕ, ℤ, List, length, map, drop, slice_index_or, slice_set, Option, Some, None}
 use Rattle.std.specs.Prelude.{Result, Ok}
 use Rattle.crx_text.specs.meaning.Codes.{code_of, first_cell, after_cell}
-use Rattle.crx_faults.specs.declared.limits.TheConstants.{OBSERVATION_WIDTH}
+use Rattle.crx_base.specs.declared.limits.TheConstants.{OBSERVATION_WIDTH}
 use Rattle.crx_text.specs.declared.code.Code.TheVariants.{Missing}
-use Rattle.crx_faults.specs.declared.fault.Fault.{Fault}
+use Rattle.crx_base.specs.declared.fault.Fault.{Fault}
 use Rattle.crx_compact.specs.meaning.Cells.{ReadCell, cells_read, cells_of, after_cells}
 use Rattle.crx_text.specs.declared.code.Code.{Code}
-use Rattle.crx_columns.specs.meaning.EachPlace.{each_place}
+use Rattle.crx_text.specs.meaning.EachPlace.{each_place}
 use Rattle.crx_compact.specs.ArcTails.{ArcTail}
 use Rattle.crx_compact.specs.ArcSteps.{arc_of_code, arc_of_value, code_of_value, value_of_code, shown_value}
 

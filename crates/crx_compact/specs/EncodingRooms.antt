@@ -1,6 +1,6 @@
 -- For how much there is room in an encoder, before and after a row.
 use Rattle.std.specs.Prelude.{◌≡◌, ◌≤◌, ◌<◌, ◌+◌, ◌*◌, ℕ, List, length, map, sum}
-use Rattle.crx_faults.specs.declared.limits.TheConstants.{HEAD_WIDTH, NAME_WIDTH}
+use Rattle.crx_base.specs.declared.limits.TheConstants.{HEAD_WIDTH, NAME_WIDTH}
 use Rattle.crx_compact.specs.LineLists.{PendingLines}
 use Rattle.crx_compact.specs.Placing.{HasRoom, HaveRoom, KeepsRooms, OpenHistory, row_room}
 use Rattle.crx_rinex.specs.meaning.Observations.{Epoch, Row}

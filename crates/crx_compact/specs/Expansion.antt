@@ -1,10 +1,10 @@
 -- Beside meaning/Expansion: what code and proofs see of it.
 use Rattle.std.specs.Prelude.{ℕ, ◌*◌, ℤ, List, ◌∷◌, map, length, Option, Result, Ok, [], Err}
-use Rattle.crx_columns.specs.meaning.Columns.{columns}
+use Rattle.crx_text.specs.meaning.Columns.{columns}
 use Rattle.crx_rinex.specs.meaning.Observations.{Row, Epoch}
-use Rattle.crx_faults.specs.declared.fault.Fault.{Fault}
-use Rattle.crx_faults.specs.declared.limits.TheConstants.{OBSERVATION_WIDTH, CLOCK_WIDTH, HEAD_WIDTH}
-use Rattle.crx_columns.specs.meaning.EachPlace.{each_place}
+use Rattle.crx_base.specs.declared.fault.Fault.{Fault}
+use Rattle.crx_base.specs.declared.limits.TheConstants.{OBSERVATION_WIDTH, CLOCK_WIDTH, HEAD_WIDTH}
+use Rattle.crx_text.specs.meaning.EachPlace.{each_place}
 use Rattle.crx_compact.specs.meaning.Sequences.{and_then, before_all}
 use Rattle.crx_compact.specs.meaning.Expansion.{RawRow, RawEpoch, block_of, overlaid, raw_run_of, marks_of, code_in}
 use Rattle.crx_compact.specs.meaning.ArcValues.{value_of}

@@ -2,13 +2,13 @@
 use Rattle.std.specs.Prelude.{◌≡◌, ◌≤◌, ℕ, true, List, length, [], Option, None, Some}
 use Rattle.std.specs.Prelude.{Result, Ok}
 use Rattle.std.specs.List.{list_all}
-use Rattle.crx_faults.specs.declared.limits.TheConstants.{LINE_LIMIT, OBSERVATION_WIDTH, CLOCK_WIDTH}
+use Rattle.crx_base.specs.declared.limits.TheConstants.{LINE_LIMIT, OBSERVATION_WIDTH, CLOCK_WIDTH}
 use Rattle.crx_header.specs.meaning.ObservationTypes.{IsAllowedCount}
 use Rattle.crx_header.specs.meaning.Satellites.{is_identifier}
 use Rattle.crx_compact.specs.meaning.EpochText.{Satellite}
-use Rattle.crx_columns.specs.meaning.Texts.{is_kept}
-use Rattle.crx_columns.specs.Texts.{patched}
-use Rattle.crx_faults.specs.declared.fault.Fault.{Fault}
+use Rattle.crx_text.specs.meaning.Texts.{is_kept}
+use Rattle.crx_text.specs.Texts.{patched}
+use Rattle.crx_base.specs.declared.fault.Fault.{Fault}
 use Rattle.crx_compact.specs.meaning.Sequences.{and_then}
 use Rattle.crx_compact.specs.meaning.Past.{Past}
 use Rattle.crx_compact.specs.meaning.CompactPlaces.{ReadRow, satellite_line_read}

@@ -2,13 +2,14 @@
 use Rattle.std.specs.Prelude.{◌≡◌, ◌≢◌, ℕ, ◌*◌, ◌≤◌, Bool, true, List, [], ◌∷◌, length, All, if◌then◌else◌, false, ◌||◌}
 use Rattle.std.specs.Prelude.{drop}
 use Rattle.std.specs.List.{list_all, AllByRecursion}
-use Rattle.crx_columns.specs.meaning.Columns.{without_end_blanks}
-use Rattle.crx_columns.specs.meaning.Texts.{text_difference, is_printable}
-use Rattle.crx_columns.specs.Texts.{patched}
+use Rattle.crx_text.specs.meaning.Columns.{without_end_blanks}
+use Rattle.crx_text.specs.meaning.Texts.{text_difference}
+use Rattle.crx_base.specs.meaning.Lines.{is_printable}
+use Rattle.crx_text.specs.Texts.{patched}
 use Rattle.crx_text.specs.Codes.{IsPrintable}
 use Rattle.crx_rinex.specs.meaning.Observations.{Epoch}
 use Rattle.crx_header.specs.meaning.ObservationTypes.{Count}
-use Rattle.crx_faults.specs.declared.limits.TheConstants.{WRITTEN_ORDER, TYPES_LIMIT}
+use Rattle.crx_base.specs.declared.limits.TheConstants.{WRITTEN_ORDER, TYPES_LIMIT}
 use Rattle.crx_rinex.specs.meaning.Epochs.{IsWholeEpoch}
 use Rattle.crx_compact.specs.meaning.Differences.{code_at}
 use Rattle.crx_compact.specs.meaning.Compaction.{Marked, since_full, run_of, arc_of, clock_arc, compact_epoch}

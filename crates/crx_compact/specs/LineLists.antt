@@ -1,7 +1,7 @@
 -- Lines one after another in one text, each followed by LF.
 use Rattle.std.specs.Prelude.{◌≡◌, ◌≤◌, ◌+◌, ◌*◌, ℕ, suc, List, [], ◌∷◌, length, take, drop}
-use Rattle.crx_faults.specs.declared.limits.TheConstants.{LINE_LIMIT}
-pub use Rattle.crx_faults.specs.meaning.Lines.{lines_text}
+use Rattle.crx_base.specs.declared.limits.TheConstants.{LINE_LIMIT}
+pub use Rattle.crx_base.specs.meaning.Lines.{lines_text}
 
 -- the lines of these lengths in a text in which one character follows each of them
 abbrev pub cut : List ℕ → List ℕ → List (List ℕ)

@@ -4,12 +4,12 @@ use Rattle.std.specs.Prelude.{◌≡◌, ◌≤◌, ◌+◌, ◌*◌, ⊤, lengt
 use Rattle.std.specs.Prelude.{map, Option, Some, None, Result, Ok, Err, if◌then◌else◌, unwrap_or, slice_get, slice_set}
 use Rattle.std.specs.List.{AllByRecursion}
 use Rattle.std.specs.Option.{option_map}
-use Rattle.crx_columns.specs.Texts.{patched}
-use Rattle.crx_faults.specs.meaning.Seen.{ReadLine, Content, Overlong}
-use Rattle.crx_faults.specs.declared.limits.TheConstants.{CLOCK_WIDTH, HEAD_WIDTH, NAME_WIDTH, ORDER_LIMIT}
-use Rattle.crx_faults.specs.declared.limits.TheConstants.{SATELLITES_LIMIT}
-use Rattle.crx_faults.specs.declared.fault.Fault.{Fault}
-use Rattle.crx_faults.specs.declared.fault.Fault.TheVariants.{LineTooLong, NotAnEpoch}
+use Rattle.crx_text.specs.Texts.{patched}
+use Rattle.crx_base.specs.meaning.Seen.{ReadLine, Content, Overlong}
+use Rattle.crx_base.specs.declared.limits.TheConstants.{CLOCK_WIDTH, HEAD_WIDTH, NAME_WIDTH, ORDER_LIMIT}
+use Rattle.crx_base.specs.declared.limits.TheConstants.{SATELLITES_LIMIT}
+use Rattle.crx_base.specs.declared.fault.Fault.{Fault}
+use Rattle.crx_base.specs.declared.fault.Fault.TheVariants.{LineTooLong, NotAnEpoch}
 use Rattle.crx_rinex.specs.meaning.Observations.{Epoch}
 use Rattle.crx_rinex.specs.meaning.Printing.{printed_epoch}
 use Rattle.crx_header.specs.meaning.ObservationTypes.{Count}

@@ -1,7 +1,7 @@
 -- How code stores what a reader of compact epochs is seen as: how far the lines of an epoch have come, and the
 -- history.
 use Rattle.std.specs.Prelude.{◌≡◌, ◌≤◌, ⊤, ◌<◌, ◌==◌, ℕ, length, Bool, true, false, Some, None, if◌then◌else◌}
-use Rattle.crx_faults.specs.declared.fault.Fault.TheVariants.{NotAnEpoch}
+use Rattle.crx_base.specs.declared.fault.Fault.TheVariants.{NotAnEpoch}
 use Rattle.crx_compact.specs.OpenEpochs.{OpenRawEpoch, RawStep, Going, Faulty, before_clock, with_rows}
 use Rattle.crx_compact.specs.OpenEpochs.{step_with_rows}
 use Rattle.crx_compact.specs.OpenEpochs.{ColumnsState, Idle, Reading}

@@ -3,7 +3,7 @@
 use Rattle.std.specs.Prelude.{◌≡◌, ◌≤◌, ◌++◌, ◌∷◌, ℕ, ℤ, List, [], length, slice_index_or, Option, None, Some, false, map}
 use Rattle.std.specs.Prelude.{All, sum, unwrap_or, ◌+◌, ◌*◌}
 use Rattle.std.specs.Str.{bytes_eq}
-use Rattle.crx_columns.specs.meaning.EachPlace.{each_place}
+use Rattle.crx_text.specs.meaning.EachPlace.{each_place}
 use Rattle.crx_compact.specs.ArcTails.{ArcTail}
 use Rattle.crx_compact.specs.meaning.EpochText.{Satellite}
 use Rattle.crx_compact.specs.meaning.Sequences.{named}
@@ -15,7 +15,7 @@ use Rattle.crx_compact.specs.ShownRows.{shown_row}
 use Rattle.crx_compact.specs.Steps.{cell_of_tail, flags_of_tail, flags_held}
 use Rattle.crx_compact.specs.Tails.{RowTail, Tail}
 use Rattle.crx_rinex.specs.meaning.Observations.{Row, Epoch}
-use Rattle.crx_faults.specs.declared.limits.TheConstants.{LINE_LIMIT, TYPES_LIMIT}
+use Rattle.crx_base.specs.declared.limits.TheConstants.{LINE_LIMIT, TYPES_LIMIT}
 use Rattle.crx_compact.specs.declared.cells.TheConstants.{CELL_ROOM}
 
 -- what is stored of a satellite: its indicators without the blanks at their end, the tail of each cell's arc, and how many types it has

@@ -1,8 +1,8 @@
 -- The printed lines of an epoch whose compact lines come one by one: those so far, and the room for the rest.
 use Rattle.std.specs.Prelude.{◌≡◌, ◌≤◌, ◌<◌, ◌+◌, ◌*◌, ◌∷◌, [], ℕ, List, Bool, true, false, length, map}
 use Rattle.std.specs.Prelude.{sum, take, drop}
-use Rattle.crx_columns.specs.meaning.Columns.{columns}
-use Rattle.crx_faults.specs.declared.limits.TheConstants.{CELL_WIDTH, HEAD_WIDTH, LINE_LIMIT, NAME_WIDTH}
+use Rattle.crx_text.specs.meaning.Columns.{columns}
+use Rattle.crx_base.specs.declared.limits.TheConstants.{CELL_WIDTH, HEAD_WIDTH, LINE_LIMIT, NAME_WIDTH}
 use Rattle.crx_rinex.specs.meaning.Printing.{printed_head, printed_row}
 use Rattle.crx_compact.specs.ArcSteps.{shown_value}
 use Rattle.crx_compact.specs.LineLists.{PendingLines}

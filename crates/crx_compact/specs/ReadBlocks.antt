@@ -1,6 +1,6 @@
 -- A reader of compact epochs, seen by the raw epochs that were accepted.
 use Rattle.std.specs.Prelude.{◌≡◌, List, ◌∷◌, length, Option, Some, None}
-use Rattle.crx_faults.specs.meaning.Seen.{ReadLine}
+use Rattle.crx_base.specs.meaning.Seen.{ReadLine}
 use Rattle.crx_rinex.specs.meaning.Observations.{Epoch}
 use Rattle.crx_header.specs.meaning.ObservationTypes.{Count}
 use Rattle.crx_rinex.specs.meaning.Places.{Here}

@@ -3,13 +3,14 @@ use Rattle.std.specs.Prelude.{◌≡◌, ℕ, ◌+◌, Bool, true, false, ◌||�
 use Rattle.std.specs.Prelude.{IfSome, Ok, ⊤}
 use Rattle.std.specs.List.{list_all, AllByRecursion}
 use Rattle.std.specs.Option.{is_some}
-use Rattle.crx_columns.specs.meaning.Texts.{text_difference, is_printable}
-use Rattle.crx_faults.specs.meaning.Seen.{ReadLine, Content}
+use Rattle.crx_text.specs.meaning.Texts.{text_difference}
+use Rattle.crx_base.specs.meaning.Lines.{is_printable}
+use Rattle.crx_base.specs.meaning.Seen.{ReadLine, Content}
 use Rattle.crx_rinex.specs.meaning.Observations.{Row}
 use Rattle.crx_header.specs.meaning.ObservationTypes.{Count}
 use Rattle.crx_header.specs.ObservationTypes.{AreCounts}
 use Rattle.crx_rinex.specs.meaning.Places.{Place, Here, Wrong, Wanted, then_place}
-use Rattle.crx_faults.specs.declared.limits.TheConstants.{WRITTEN_ORDER, ORDER_LIMIT}
+use Rattle.crx_base.specs.declared.limits.TheConstants.{WRITTEN_ORDER, ORDER_LIMIT}
 use Rattle.crx_rinex.specs.meaning.Epochs.{IsWholeEpoch}
 use Rattle.crx_compact.specs.meaning.Differences.{code_at}
 use Rattle.crx_compact.specs.meaning.Compaction.{Marked, since_full, run_of, clock_arc, codes_of, indicators_before}

@@ -1,7 +1,7 @@
 -- The satellites of an epoch text, the clock, and the rows of which so many have come, as a history shows them.
 use Rattle.std.specs.Prelude.{◌≡◌, ℕ, ◌≤◌, List, length, map, take, true, Some, Ok}
-use Rattle.crx_columns.specs.meaning.Columns.{columns}
-use Rattle.crx_faults.specs.declared.limits.TheConstants.{HEAD_WIDTH}
+use Rattle.crx_text.specs.meaning.Columns.{columns}
+use Rattle.crx_base.specs.declared.limits.TheConstants.{HEAD_WIDTH}
 use Rattle.crx_rinex.specs.meaning.Observations.{Row, Epoch}
 use Rattle.crx_compact.specs.meaning.EpochText.{Satellite}
 use Rattle.crx_header.specs.meaning.EpochColumns.{epoch_count}

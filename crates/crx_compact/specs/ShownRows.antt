@@ -1,7 +1,7 @@
 -- The newest epoch, as the history that it leaves shows it: each value is the newest of its arc.
 use Rattle.std.specs.Prelude.{ℕ, ◌*◌, length, map, take}
-use Rattle.crx_columns.specs.meaning.Columns.{columns}
-use Rattle.crx_faults.specs.declared.limits.TheConstants.{HEAD_WIDTH}
+use Rattle.crx_text.specs.meaning.Columns.{columns}
+use Rattle.crx_base.specs.declared.limits.TheConstants.{HEAD_WIDTH}
 use Rattle.crx_rinex.specs.meaning.Observations.{Row, Epoch}
 use Rattle.crx_compact.specs.Tails.{RowTail, Tail}
 use Rattle.crx_compact.specs.ArcSteps.{shown_value}

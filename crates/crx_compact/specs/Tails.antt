@@ -1,11 +1,11 @@
 -- Tails: what later epochs need of the earlier ones, for codes, marks and values. Comments of code call it the history.
 use Rattle.std.specs.Prelude.{◌≡◌, ℕ, List, [], ◌∷◌, map, length, Option, Some, None, ◌≤◌, ◌+◌, ◌*◌, IfSome}
 use Rattle.std.specs.List.{AllByRecursion}
-use Rattle.crx_columns.specs.meaning.Columns.{without_end_blanks}
+use Rattle.crx_text.specs.meaning.Columns.{without_end_blanks}
 use Rattle.crx_rinex.specs.meaning.Observations.{Row}
-use Rattle.crx_faults.specs.declared.limits.TheConstants.{WRITTEN_ORDER, TYPES_LIMIT, SATELLITES_LIMIT, HEAD_WIDTH}
-use Rattle.crx_faults.specs.declared.limits.TheConstants.{NAME_WIDTH}
-use Rattle.crx_columns.specs.meaning.EachPlace.{each_place}
+use Rattle.crx_base.specs.declared.limits.TheConstants.{WRITTEN_ORDER, TYPES_LIMIT, SATELLITES_LIMIT, HEAD_WIDTH}
+use Rattle.crx_base.specs.declared.limits.TheConstants.{NAME_WIDTH}
+use Rattle.crx_text.specs.meaning.EachPlace.{each_place}
 use Rattle.crx_compact.specs.meaning.Compaction.{Marked, run_of, arc_of, clock_arc, newest_text}
 use Rattle.crx_compact.specs.meaning.Expansion.{RawEpoch, RawRow, block_of, raw_run_of, marks_of, overlaid, code_in}
 use Rattle.crx_compact.specs.meaning.ArcValues.{since_start}

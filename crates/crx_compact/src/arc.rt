@@ -5,7 +5,7 @@ ghost use Rattle.std.specs.Prelude.{◌≡◌, ◌≤◌, ◌<◌, ◌+◌, ◌*
 ghost use Rattle.crx_text.specs.Codes.{IsPrintable, IsShort};
 ghost use Rattle.crx_text.specs.meaning.Numbers.{IsMissingOrWithin, IsWithin};
 ghost use Rattle.crx_compact.specs.ArcTails.{HasThird};
-ghost use Rattle.crx_faults.specs.declared.fault.Fault.TheVariants.{OutOfRange};
+ghost use Rattle.crx_base.specs.declared.fault.Fault.TheVariants.{OutOfRange};
 ghost use Rattle.crx_compact.specs.Arcs.{AreBelow, IsBelow, value_bound};
 ghost use Rattle.crx_compact.specs.meaning.Differences.{code_at, newest};
 ghost use Rattle.crx_compact.specs.meaning.ArcValues.{is_within, value_of};
@@ -13,12 +13,12 @@ ghost use Rattle.crx_compact.specs.ArcLaws.{accepted, arc_of_codes, arc_of_value
 ghost use Rattle.crx_compact.specs.meaning.Sequences.{stretch};
 ghost use Rattle.crx_text.specs.declared.code.Code.{Code};
 ghost use Rattle.crx_text.specs.declared.code.Code.TheVariants.{Step};
-ghost use Rattle.crx_faults.specs.declared.limits.TheConstants.{CLOCK_WIDTH, DIGITS_LIMIT, ORDER_LIMIT, WRITTEN_ORDER};
+ghost use Rattle.crx_base.specs.declared.limits.TheConstants.{CLOCK_WIDTH, DIGITS_LIMIT, ORDER_LIMIT, WRITTEN_ORDER};
 ghost use Rattle.crx_compact.specs.ArcSteps.{shown_value};
 ghost use Rattle.crx_compact.specs.ArcSteps.{arc_of_code, arc_of_value, code_of_value, differences_after, differences_by, highest, value_of_code};
 
-use crx_faults::Fault;
-use crx_faults::limits::{CLOCK_WIDTH, OBSERVATION_WIDTH, ORDER_LIMIT, WRITTEN_ORDER};
+use crx_base::Fault;
+use crx_base::limits::{CLOCK_WIDTH, OBSERVATION_WIDTH, ORDER_LIMIT, WRITTEN_ORDER};
 use crx_text::Code;
 use std::marker::Model;
 

@@ -2,24 +2,24 @@
 
 ghost use Rattle.std.specs.Prelude.{All, ◌≡◌, ◌≤◌, ◌<◌, ◌+◌, ◌++◌, ◌∷◌, [], ◌*◌, None, Ok, Err, drop, length, slice_index_or, map, take, IfOk, IfErr, IfSome, IfNone, Some, Option};
 ghost use Rattle.std.specs.List.{flat_map};
-ghost use Rattle.crx_columns.specs.meaning.Columns.{columns};
+ghost use Rattle.crx_text.specs.meaning.Columns.{columns};
 ghost use Rattle.crx_text.specs.meaning.PrintedCells.{printed_cells};
 ghost use Rattle.crx_text.specs.meaning.Numbers.{observation_text, IsValue};
-ghost use Rattle.crx_faults.specs.declared.limits.TheConstants.{CELL_WIDTH};
+ghost use Rattle.crx_base.specs.declared.limits.TheConstants.{CELL_WIDTH};
 ghost use Rattle.crx_compact.specs.ArcSteps.{shown_value};
 ghost use Rattle.crx_text.specs.meaning.Codes.{after_cell, code_of, first_cell};
 ghost use Rattle.crx_text.specs.Codes.{IsShort};
 ghost use Rattle.crx_compact.specs.declared.cells.TheConstants.{CELL_ROOM};
 ghost use Rattle.crx_compact.specs.Cells.{arcs_of_cells, codes_of_cells, value_at_place, CellsAreRead, IsCellRead};
 ghost use Rattle.crx_compact.specs.meaning.Cells.{cell_read, cells_of, cells_read};
-ghost use Rattle.crx_faults.specs.declared.fault.Fault.TheVariants.{BadField};
+ghost use Rattle.crx_base.specs.declared.fault.Fault.TheVariants.{BadField};
 ghost use Rattle.crx_text.specs.declared.code.Code.TheVariants.{Missing, Step};
 ghost use Rattle.crx_compact.specs.meaning.Cells.{cell_text};
 ghost use Rattle.crx_compact.specs.ArcSteps.{arc_of_value, code_of_value};
 
 use crate::arc::ObsArc;
-use crx_faults::Fault;
-use crx_faults::limits::{CELL_WIDTH, DIGITS_LIMIT};
+use crx_base::Fault;
+use crx_base::limits::{CELL_WIDTH, DIGITS_LIMIT};
 use crx_text::{Code, code_before_blank, obs_print_cell_into, step_before_blank, write_cell};
 
 /// The room for a cell in a satellite line: a code with its order, `&` and minus, and three bytes more, since digits are written four at a

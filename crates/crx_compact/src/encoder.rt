@@ -1,7 +1,7 @@
 //! Rows to compact lines, one at a time, by the history, which they change in place: Hatanaka's Compact RINEX 3.0.
 
 ghost use Rattle.std.specs.Prelude.{◌≡◌, ◌≤◌, ◌+◌, ◌*◌, ◌++◌, ◌∷◌, ◌↔◌, [], None, Some, true, false, not, length, drop, slice_get, is_some, if◌then◌else◌, IsTrue, IfSome, IfOk, IsOk, OnOk, OnErr};
-ghost use Rattle.crx_faults.specs.declared.limits.TheConstants.{DATE_LIMIT, HEAD_WIDTH, LINE_LIMIT, NAME_WIDTH};
+ghost use Rattle.crx_base.specs.declared.limits.TheConstants.{DATE_LIMIT, HEAD_WIDTH, LINE_LIMIT, NAME_WIDTH};
 ghost use Rattle.crx_header.specs.meaning.CompactHeader.{lines_before_header};
 ghost use Rattle.crx_rinex.specs.meaning.Epochs.{has_satellite};
 ghost use Rattle.crx_compact.specs.Encoding.{EncoderState, tail_in};

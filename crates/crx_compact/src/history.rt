@@ -2,10 +2,10 @@
 
 ghost use Rattle.std.specs.Prelude.{List, sum, flat_map, ◌≡◌, ◌≤◌, ◌<◌, ◌+◌, ◌*◌, ◌++◌, ◌∷◌, ◌⊎◌, if◌then◌else◌, [], true, false, None, Some, Ok, Err, All, length, take, map, slice_get, is_some, not, OnOk, OnErr, IfOk, IfErr, IsOk, vec_capacity};
 ghost use Rattle.std.specs.Result.{is_ok};
-ghost use Rattle.crx_columns.specs.meaning.Columns.{columns, without_end_blanks};
-ghost use Rattle.crx_columns.specs.meaning.Texts.{text_difference};
-ghost use Rattle.crx_columns.specs.Texts.{patched};
-ghost use Rattle.crx_faults.specs.declared.limits.TheConstants.{HEAD_WIDTH, LINE_LIMIT, NAME_WIDTH, SATELLITES_LIMIT};
+ghost use Rattle.crx_text.specs.meaning.Columns.{columns, without_end_blanks};
+ghost use Rattle.crx_text.specs.meaning.Texts.{text_difference};
+ghost use Rattle.crx_text.specs.Texts.{patched};
+ghost use Rattle.crx_base.specs.declared.limits.TheConstants.{HEAD_WIDTH, LINE_LIMIT, NAME_WIDTH, SATELLITES_LIMIT};
 ghost use Rattle.crx_header.specs.meaning.EpochColumns.{begins_epoch, epoch_count};
 ghost use Rattle.crx_rinex.specs.Epochs.{is_full_epoch, with_row};
 ghost use Rattle.crx_rinex.specs.meaning.Epochs.{IsSoundEpoch, has_satellite};
@@ -30,8 +30,8 @@ use crate::cells::CELL_ROOM;
 use crate::lines::{FIRST_LINES, Lines};
 use crate::refusals::fault_of_text;
 use crate::satellites::Satellites;
-use crx_faults::Fault;
-use crx_faults::limits::{CELL_WIDTH, HEAD_WIDTH, LINE_LIMIT, NAME_WIDTH, TYPES_LIMIT};
+use crx_base::Fault;
+use crx_base::limits::{CELL_WIDTH, HEAD_WIDTH, LINE_LIMIT, NAME_WIDTH, TYPES_LIMIT};
 use crx_header::{Types, after_columns, all_blank, identifier, padded, put_identifier};
 use crx_rinex::{Epoch, EpochLine, SatRow, begins_epoch, print_head, types_of_satellite};
 use crx_text::block::put_text;
@@ -54,7 +54,7 @@ pub struct History {
 
 impl Model for History {
     ghost use Rattle.std.specs.Prelude.{◌≤◌, length, min, vec_capacity};
-    ghost use Rattle.crx_faults.specs.declared.limits.TheConstants.{LINE_LIMIT};
+    ghost use Rattle.crx_base.specs.declared.limits.TheConstants.{LINE_LIMIT};
     ghost use Rattle.crx_compact.specs.Placing.{OpenHistory};
 
     ghost Value = { OpenHistory };

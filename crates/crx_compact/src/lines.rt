@@ -1,7 +1,7 @@
 //! Lines that are made one after another and borrowed in that order, one by one or as one text.
 
 ghost use Rattle.std.specs.Prelude.{ℕ, ◌≡◌, ◌≤◌, ◌<◌, ◌+◌, ◌++◌, ◌∷◌, [], drop, length, slice_get, slice_set, take, Some, OnOk, IsOk, IsTrue, ◌↔◌};
-ghost use Rattle.crx_faults.specs.declared.limits.TheConstants.{LINE_LIMIT};
+ghost use Rattle.crx_base.specs.declared.limits.TheConstants.{LINE_LIMIT};
 ghost use Rattle.crx_rinex.specs.meaning.SatelliteLines.{IsSoundRow};
 ghost use Rattle.std.specs.Borrow.{sem};
 ghost use Rattle.std.specs.Io.BufRead.{Rests};
@@ -16,7 +16,7 @@ ghost use Rattle.crx_compact.specs.Tails.{RowTail};
 ghost use Rattle.crx_rinex.specs.meaning.Printing.{printed_row};
 
 use crate::satellites::Satellites;
-use crx_faults::limits::LINE_LIMIT;
+use crx_base::limits::LINE_LIMIT;
 use crx_text::Text;
 use crx_text::block::{grow, put_line};
 use std::alloc::{AllocError, Global};
@@ -46,7 +46,7 @@ pub struct Lines {
 
 impl Model for Lines {
     ghost use Rattle.std.specs.Prelude.{◌≤◌, ◌+◌, ◌-◌, ◌*◌, drop, length, take};
-    ghost use Rattle.crx_faults.specs.declared.limits.TheConstants.{LINE_LIMIT};
+    ghost use Rattle.crx_base.specs.declared.limits.TheConstants.{LINE_LIMIT};
     ghost use Rattle.crx_compact.specs.LineLists.{cut, AreCut, HasFront, PendingLines};
 
     ghost Value = { PendingLines };

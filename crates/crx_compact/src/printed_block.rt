@@ -1,7 +1,7 @@
 //! The printed lines of an epoch whose compact lines come one by one.
 
 ghost use Rattle.std.specs.Prelude.{◌≡◌, ◌≤◌, ◌<◌, ◌+◌, [], true, false, length, map, sum, IsOk, OnOk};
-ghost use Rattle.crx_faults.specs.declared.limits.TheConstants.{LINE_LIMIT};
+ghost use Rattle.crx_base.specs.declared.limits.TheConstants.{LINE_LIMIT};
 ghost use Rattle.crx_compact.specs.Placing.{IsAnnounced};
 ghost use Rattle.crx_compact.specs.PrintedBlocks.{IsBlock, printed_room};
 

@@ -1,17 +1,17 @@
 //! The lines that a compaction has ready.
 
 ghost use Rattle.std.specs.Prelude.{◌≡◌, ◌≤◌, ◌++◌, ◌∷◌, ◌↔◌, if◌then◌else◌, [], drop, length, slice_get, is_some, IfOk, IfSome, IsSome, IsTrue, Some, true, false};
-ghost use Rattle.crx_faults.specs.declared.limits.TheConstants.{DATE_LIMIT, LINE_LIMIT};
+ghost use Rattle.crx_base.specs.declared.limits.TheConstants.{DATE_LIMIT, LINE_LIMIT};
 ghost use Rattle.crx_compact.specs.declared.lines.TheConstants.{FIRST_LINES};
 ghost use Rattle.crx_compact.specs.ReadyLines.{is_opened};
 ghost use Rattle.crx_header.specs.meaning.CompactHeader.{program_line, lines_before_header};
-ghost use Rattle.crx_faults.specs.meaning.Lines.{lines_text};
+ghost use Rattle.crx_base.specs.meaning.Lines.{lines_text};
 
 use crate::lines::{FIRST_LINES, Lines};
-use crx_columns::appending::append;
+use crx_base::options::in_columns;
 use crx_header::crinex::{CRINEX_PROGRAM, CRINEX_PROGRAM_LABEL, CRINEX_VERSION_LINE};
-use crx_options::options::in_columns;
 use crx_text::Text;
+use crx_text::appending::append;
 use std::alloc::{AllocError, Global};
 
 /// Which of the lines comes next.

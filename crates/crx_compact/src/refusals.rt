@@ -3,13 +3,13 @@
 
 ghost use Rattle.std.specs.Prelude.{◌≡◌, ◌≤◌, List, [], ℕ, Err, None, IfSome, true};
 ghost use Rattle.std.specs.Result.{is_ok};
-ghost use Rattle.crx_faults.specs.declared.limits.TheConstants.{SATELLITES_LIMIT};
+ghost use Rattle.crx_base.specs.declared.limits.TheConstants.{SATELLITES_LIMIT};
 ghost use Rattle.crx_header.specs.meaning.Satellites.{is_among};
 ghost use Rattle.crx_compact.specs.meaning.CompactPlaces.{satellites_of_text};
 ghost use Rattle.crx_compact.specs.meaning.EpochText.{names_in, satellites_named};
 
-use crx_faults::Fault;
-use crx_faults::limits::{HEAD_WIDTH, NAME_WIDTH};
+use crx_base::Fault;
+use crx_base::limits::{HEAD_WIDTH, NAME_WIDTH};
 use crx_header::{Types, after_columns, all_blank, identifier, padded};
 use crx_rinex::{EpochLine, types_of_satellite};
 

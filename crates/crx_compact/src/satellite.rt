@@ -3,10 +3,10 @@
 
 ghost use Rattle.std.specs.Prelude.{All, ℕ, List, ◌≡◌, ◌≤◌, ◌<◌, ◌+◌, ◌-◌, ◌*◌, ◌++◌, [], None, Some, Ok, Err, true, false, length, replicate, take, OnOk, IfOk, IfErr, IsOk};
 ghost use Rattle.std.specs.List.{flat_map, list_all};
-ghost use Rattle.crx_columns.specs.meaning.Columns.{columns, without_end_blanks};
-ghost use Rattle.crx_columns.specs.meaning.Texts.{is_kept, text_difference};
-ghost use Rattle.crx_columns.specs.Texts.{patched};
-ghost use Rattle.crx_faults.specs.declared.limits.TheConstants.{CELL_WIDTH, LINE_LIMIT, NAME_WIDTH, TYPES_LIMIT};
+ghost use Rattle.crx_text.specs.meaning.Columns.{columns, without_end_blanks};
+ghost use Rattle.crx_text.specs.meaning.Texts.{is_kept, text_difference};
+ghost use Rattle.crx_text.specs.Texts.{patched};
+ghost use Rattle.crx_base.specs.declared.limits.TheConstants.{CELL_WIDTH, LINE_LIMIT, NAME_WIDTH, TYPES_LIMIT};
 ghost use Rattle.crx_header.specs.meaning.EpochColumns.{begins_epoch};
 ghost use Rattle.crx_header.specs.meaning.ObservationTypes.{IsAllowedCount};
 ghost use Rattle.crx_header.specs.meaning.Satellites.{is_identifier};
@@ -24,8 +24,8 @@ ghost use Rattle.crx_compact.specs.Steps.{flags_held};
 use crate::arc::ObsArc;
 use crate::cells::{print_cells, read_cells, write_cells};
 use crate::same::is_same_text;
-use crx_faults::Fault;
-use crx_faults::limits::{CELL_WIDTH, NAME_WIDTH};
+use crx_base::Fault;
+use crx_base::limits::{CELL_WIDTH, NAME_WIDTH};
 use crx_header::{after_columns, all_blank, put_identifier};
 use crx_rinex::{SatRow, put_flags};
 use crx_text::block::put_text;
@@ -46,8 +46,8 @@ pub struct SatelliteHistory {
 
 impl Model for SatelliteHistory {
     ghost use Rattle.std.specs.Prelude.{◌≡◌, ◌≤◌, ◌*◌, length, take};
-    ghost use Rattle.crx_faults.specs.declared.limits.TheConstants.{TYPES_LIMIT};
-    ghost use Rattle.crx_columns.specs.meaning.Columns.{without_end_blanks};
+    ghost use Rattle.crx_base.specs.declared.limits.TheConstants.{TYPES_LIMIT};
+    ghost use Rattle.crx_text.specs.meaning.Columns.{without_end_blanks};
     ghost use Rattle.crx_compact.specs.HeldRows.{AreHeldFlags};
     ghost use Rattle.crx_compact.specs.Placing.{SatelliteTail};
 

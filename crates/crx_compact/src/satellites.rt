@@ -2,7 +2,7 @@
 
 ghost use Rattle.std.specs.Prelude.{ℕ, List, ◌≡◌, ◌≤◌, ◌<◌, ◌+◌, ◌*◌, ◌^◌, ◌++◌, ◌∷◌, [], true, false, not, Some, Ok, Err, length, take, map, slice_get, slice_set, OnOk, OnErr, IfOk, IfErr, IsOk};
 ghost use Rattle.std.specs.Str.{bytes_eq};
-ghost use Rattle.crx_faults.specs.declared.limits.TheConstants.{CELL_WIDTH, LINE_LIMIT, NAME_WIDTH, TYPES_LIMIT};
+ghost use Rattle.crx_base.specs.declared.limits.TheConstants.{CELL_WIDTH, LINE_LIMIT, NAME_WIDTH, TYPES_LIMIT};
 ghost use Rattle.crx_header.specs.meaning.EpochColumns.{begins_epoch};
 ghost use Rattle.crx_header.specs.meaning.ObservationTypes.{IsAllowedCount};
 ghost use Rattle.crx_header.specs.meaning.Satellites.{is_among, is_identifier};
@@ -18,8 +18,8 @@ ghost use Rattle.crx_compact.specs.Tails.{RowTail};
 ghost use Rattle.indexmap.specs.IndexMap.{IsUnique};
 
 use crate::satellite::SatelliteHistory;
-use crx_faults::Fault;
-use crx_faults::limits::NAME_WIDTH;
+use crx_base::Fault;
+use crx_base::limits::NAME_WIDTH;
 use crx_header::is_same_identifier;
 use crx_rinex::SatRow;
 use crx_text::Text;

@@ -3,8 +3,8 @@ use Rattle.std.proofs.Common.{[], ◌≡◌, inl, inr, Bool, true, List, ℕ, Op
 use Rattle.std.proofs.Common.{ap, ◌∙◌, true≢false, if◌then◌else◌, not}
 use Rattle.std.proofs.lemmas.Bool.{and_from}
 use Rattle.std.specs.Prelude.{◌&&◌, IfErr}
-use Rattle.crx_faults.specs.meaning.Seen.{Content}
-use Rattle.crx_faults.specs.declared.fault.Fault.{Fault}
+use Rattle.crx_base.specs.meaning.Seen.{Content}
+use Rattle.crx_base.specs.declared.fault.Fault.{Fault}
 use Rattle.crx_header.specs.meaning.ObservationTypes.{Count}
 use Rattle.crx_header.specs.meaning.EpochColumns.{begins_epoch, is_event_line}
 use Rattle.crx_compact.specs.meaning.EpochText.{Satellite}
@@ -14,15 +14,15 @@ use Rattle.crx_compact.specs.meaning.Sequences.{and_then}
 use Rattle.crx_compact.specs.OpenEpochs.{ColumnsState, RawStep, Going, Whole, Faulty, HasMade, first_step, opened_raw}
 use Rattle.crx_compact.specs.OpenEpochs.{awaited_row, before_clock, is_idle, opening, tail_for_line, tail_opened}
 use Rattle.crx_compact.specs.HeldRows.{past_of_tail}
-use Rattle.crx_reading.specs.RinexStages.{is_rinex_stage as is_consistent_in_rinex}
-use Rattle.crx_reading.specs.CompactStages.{is_compact_stage, wants_line, wants_lines}
+use Rattle.crx_filter.specs.RinexStages.{is_rinex_stage as is_consistent_in_rinex}
+use Rattle.crx_filter.specs.CompactStages.{is_compact_stage, wants_line, wants_lines}
 use Rattle.crx_filter.specs.CompactReaders.{RefusesCompactLine}
-use Rattle.crx_reading.specs.ExpansionByLine.{compact_begins, expansion, is_good_beginning}
-use Rattle.crx_reading.specs.LineByLine.{BetweenUnits, LookingOn, Moves, made_in}
-use Rattle.crx_reading.specs.declared.stage.Stage.{Stage}
-use Rattle.crx_reading.specs.declared.stage.Stage.TheVariants.{FirstLines, Header, Between, Event, Open, Looking}
-use Rattle.crx_reading.specs.declared.stage.Stage.TheVariants.{Closed}
-use Rattle.crx_reading.specs.declared.stage.Stage.TheVariants.{Ended}
+use Rattle.crx_filter.specs.ExpansionByLine.{compact_begins, expansion, is_good_beginning}
+use Rattle.crx_filter.specs.LineByLine.{BetweenUnits, LookingOn, Moves, made_in}
+use Rattle.crx_filter.specs.declared.stage.Stage.{Stage}
+use Rattle.crx_filter.specs.declared.stage.Stage.TheVariants.{FirstLines, Header, Between, Event, Open, Looking}
+use Rattle.crx_filter.specs.declared.stage.Stage.TheVariants.{Closed}
+use Rattle.crx_filter.specs.declared.stage.Stage.TheVariants.{Ended}
 
 -- a stage that RINEX can be in with no epoch is one in which none is open
 pub idle-stage : (stage : Stage) (columns : ColumnsState)

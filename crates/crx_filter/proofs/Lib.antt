@@ -1,3 +1,9 @@
+pub mod Checkers
+pub mod Choosing
+pub mod EventLines
+pub mod Reports
+pub mod RinexSteps
+pub mod TypesLines
 pub mod Words
 pub mod reading
 pub mod following

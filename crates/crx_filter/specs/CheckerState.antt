@@ -1,19 +1,19 @@
 -- What a checker is seen as.
 use Rattle.std.specs.Prelude.{◌≡◌, ◌≤◌, ℕ, Bool, true, false, List, [], drop, take, map, length, Option, Some, None}
 use Rattle.std.proofs.Common.{ap}
-use Rattle.crx_faults.specs.meaning.Lines.{InputLine}
+use Rattle.crx_base.specs.meaning.Lines.{InputLine}
 use Rattle.crx_rinex.specs.meaning.EpochPlaces.{OpenEpoch}
 use Rattle.crx_runs.specs.Engines.{Awaited}
-use Rattle.crx_reading.specs.LineByLine.{Phase, InHeader, BetweenUnits, InEvent, InEpoch}
-use Rattle.crx_reading.specs.RinexReaders.{reader_phase}
-use Rattle.crx_reading.specs.meaning.Standard.{Findings, report_lines, findings_of}
-use Rattle.crx_reading.specs.CheckByLine.{CheckSeen, no_choices, check_seen}
+use Rattle.crx_filter.specs.LineByLine.{Phase, InHeader, BetweenUnits, InEvent, InEpoch}
+use Rattle.crx_filter.specs.RinexReaders.{reader_phase}
+use Rattle.crx_filter.specs.meaning.Standard.{Findings, report_lines, findings_of}
+use Rattle.crx_filter.specs.CheckByLine.{CheckSeen, no_choices, check_seen}
 use Rattle.crx_filter.specs.declared.checker.Checker.{Checker}
-use Rattle.crx_reading.specs.declared.report.Totals.{Totals}
-use Rattle.crx_reading.specs.declared.rinex_reader.RinexReader.{RinexReader}
-use Rattle.crx_reading.specs.RinexStages.{is_open_stage}
+use Rattle.crx_filter.specs.declared.report.Totals.{Totals}
+use Rattle.crx_filter.specs.declared.rinex_reader.RinexReader.{RinexReader}
+use Rattle.crx_filter.specs.RinexStages.{is_open_stage}
 use Rattle.crx_rinex.specs.meaning.Observations.{Row as ObservationRow}
-use Rattle.crx_reading.specs.Totals.{totals_held, found_held, AreBounded, IsObserved}
+use Rattle.crx_filter.specs.Totals.{totals_held, found_held, AreBounded, IsObserved}
 
 -- ---- what a checker is seen as
 

@@ -1,14 +1,14 @@
 -- What the laws of a check say.
 use Rattle.std.specs.Prelude.{◌≡◌, ◌↔◌, ℕ, true, false, List, [], ◌∷◌, ◌++◌, None}
-use Rattle.crx_faults.specs.meaning.Lines.{InputLine, lines_of}
-use Rattle.crx_options.specs.meaning.Choices.{Choices, is_date}
-use Rattle.crx_reading.specs.LineByLine.{seen_end}
+use Rattle.crx_base.specs.meaning.Lines.{InputLine, lines_of}
+use Rattle.crx_base.specs.meaning.Choices.{Choices, is_date}
+use Rattle.crx_filter.specs.LineByLine.{seen_end}
 use Rattle.crx_filter.specs.Laws.{failed_by, is_again}
-use Rattle.crx_reading.specs.meaning.Compacted.{compacted}
-use Rattle.crx_reading.specs.meaning.Expanded.{expanded}
-use Rattle.crx_reading.specs.meaning.Standard.{whole_of, whole_reading_of, findings_of, checked, IsStandard}
-use Rattle.crx_reading.specs.CheckByLine.{checking, check_seen, check_step, check_next, found_by}
-use Rattle.crx_reading.specs.meaning.Directions.{fault_so_far}
+use Rattle.crx_filter.specs.meaning.Compacted.{compacted}
+use Rattle.crx_filter.specs.meaning.Expanded.{expanded}
+use Rattle.crx_filter.specs.meaning.Standard.{whole_of, whole_reading_of, findings_of, checked, IsStandard}
+use Rattle.crx_filter.specs.CheckByLine.{checking, check_seen, check_step, check_next, found_by}
+use Rattle.crx_filter.specs.meaning.Directions.{fault_so_far}
 
 -- a check is given one line more: no line comes again; the line's fault is the one that ends the reading; and where
 -- there is none, what is seen then is made of the line and of what was seen before it alone

@@ -1,18 +1,18 @@
 -- What a reader of compact text makes of a line.
 use Rattle.std.specs.Prelude.{◌≡◌, ◌⊎◌, ℕ, ◌+◌, Bool, true, false, if◌then◌else◌, List, [], ◌∷◌, Option}
-use Rattle.crx_faults.specs.meaning.Seen.{Content}
-use Rattle.crx_faults.specs.declared.fault.Fault.{Fault}
-use Rattle.crx_faults.specs.declared.fault.Fault.TheVariants.{OutOfMemory}
+use Rattle.crx_base.specs.meaning.Seen.{Content}
+use Rattle.crx_base.specs.declared.fault.Fault.{Fault}
+use Rattle.crx_base.specs.declared.fault.Fault.TheVariants.{OutOfMemory}
 use Rattle.crx_compact.specs.OpenEpochs.{OpenRawEpoch, HeldEpoch, tail_held}
 use Rattle.crx_compact.specs.Tails.{Tail}
-use Rattle.crx_options.specs.meaning.Choices.{Choices}
-use Rattle.crx_reading.specs.ExpansionByLine.{expansion, is_good_beginning, is_last_row}
+use Rattle.crx_base.specs.meaning.Choices.{Choices}
+use Rattle.crx_filter.specs.ExpansionByLine.{expansion, is_good_beginning, is_last_row}
 use Rattle.crx_header.specs.meaning.ObservationTypes.{Count}
-use Rattle.crx_reading.specs.LineByLine.{Phase, Seen, Made, Fails, Answer, Quiet, Ready, made_in, step_of_made}
-use Rattle.crx_reading.specs.Memory.{may_take_memory}
-use Rattle.crx_reading.specs.Stages.{seen_stage}
-use Rattle.crx_reading.specs.CompactStages.{open_in}
-use Rattle.crx_reading.specs.declared.stage.Stage.{Stage}
+use Rattle.crx_filter.specs.LineByLine.{Phase, Seen, Made, Fails, Answer, Quiet, Ready, made_in, step_of_made}
+use Rattle.crx_filter.specs.Memory.{may_take_memory}
+use Rattle.crx_filter.specs.Stages.{seen_stage}
+use Rattle.crx_filter.specs.CompactStages.{open_in}
+use Rattle.crx_filter.specs.declared.stage.Stage.{Stage}
 use Rattle.crx_filter.specs.declared.compact_reader.CompactReader.{CompactReader}
 
 -- what an expansion with this reader would be seen as in a stage, by its choices and the number of its last line

@@ -1,10 +1,10 @@
 -- Beside meaning/Compacted: what code and proofs see of it.
-use Rattle.crx_reading.specs.meaning.Directions.{rinex_reading}
+use Rattle.crx_filter.specs.meaning.Directions.{rinex_reading}
 use Rattle.std.specs.Prelude.{ℕ, List}
-use Rattle.crx_faults.specs.meaning.Seen.{ReadLine}
-use Rattle.crx_options.specs.meaning.Choices.{Choices}
-use Rattle.crx_faults.specs.meaning.Lines.{lines_text}
-use Rattle.crx_reading.specs.meaning.Compacted.{compact_lines}
+use Rattle.crx_base.specs.meaning.Seen.{ReadLine}
+use Rattle.crx_base.specs.meaning.Choices.{Choices}
+use Rattle.crx_base.specs.meaning.Lines.{lines_text}
+use Rattle.crx_filter.specs.meaning.Compacted.{compact_lines}
 
 -- ---- whole files
 

@@ -1,11 +1,11 @@
 -- The parts of a compaction, and how they belong together.
 use Rattle.std.specs.Prelude.{◌≡◌, ◌≤◌, ℕ, Bool}
-use Rattle.crx_faults.specs.declared.limits.TheConstants.{INPUT_LIMIT}
-use Rattle.crx_options.specs.meaning.Choices.{Choices}
+use Rattle.crx_base.specs.declared.limits.TheConstants.{INPUT_LIMIT}
+use Rattle.crx_base.specs.meaning.Choices.{Choices}
 use Rattle.crx_compact.specs.Encoding.{EncoderState}
-use Rattle.crx_reading.specs.RinexStages.{is_open_stage, rows_open, when_open}
-use Rattle.crx_reading.specs.meaning.Compacted.{is_at_every}
-use Rattle.crx_reading.specs.declared.rinex_reader.RinexReader.{RinexReader}
+use Rattle.crx_filter.specs.RinexStages.{is_open_stage, rows_open, when_open}
+use Rattle.crx_filter.specs.meaning.Compacted.{is_at_every}
+use Rattle.crx_filter.specs.declared.rinex_reader.RinexReader.{RinexReader}
 
 -- the user's choices, the number of the last line, how many epochs were accepted, the reader, and what is written
 pub record CompactionParts : Type 0 where

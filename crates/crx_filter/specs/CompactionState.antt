@@ -2,11 +2,11 @@
 use Rattle.std.specs.Prelude.{ℕ, List, [], ◌∷◌, ◌++◌, false}
 use Rattle.crx_header.specs.meaning.CompactHeader.{lines_before_header}
 use Rattle.crx_rinex.specs.meaning.EpochPlaces.{OpenEpoch}
-use Rattle.crx_reading.specs.CompactionByLine.{Written}
-use Rattle.crx_reading.specs.LineByLine.{Seen}
-use Rattle.crx_reading.specs.RinexReaders.{reader_phase}
-use Rattle.crx_reading.specs.declared.rinex_reader.RinexStep.{RinexStep}
-use Rattle.crx_reading.specs.declared.rinex_reader.RinexStep.TheVariants.{Header}
+use Rattle.crx_filter.specs.CompactionByLine.{Written}
+use Rattle.crx_filter.specs.LineByLine.{Seen}
+use Rattle.crx_filter.specs.RinexReaders.{reader_phase}
+use Rattle.crx_filter.specs.declared.rinex_reader.RinexStep.{RinexStep}
+use Rattle.crx_filter.specs.declared.rinex_reader.RinexStep.TheVariants.{Header}
 use Rattle.crx_filter.specs.CompactionParts.{CompactionParts}
 
 abbrev pub compaction_state : CompactionParts → Seen OpenEpoch Written

@@ -1,11 +1,11 @@
 -- What an engine of compaction is seen as.
 use Rattle.std.specs.Prelude.{ℕ, List}
 use Rattle.crx_rinex.specs.meaning.EpochPlaces.{OpenEpoch}
-use Rattle.crx_faults.specs.meaning.Lines.{InputLine}
-use Rattle.crx_reading.specs.CompactionByLine.{Written, compaction, compaction_seen}
+use Rattle.crx_base.specs.meaning.Lines.{InputLine}
+use Rattle.crx_filter.specs.CompactionByLine.{Written, compaction, compaction_seen}
 use Rattle.crx_filter.specs.EngineLines.{HasTaken}
 use Rattle.crx_runs.specs.Engines.{Awaited}
-use Rattle.crx_reading.specs.LineByLine.{Seen}
+use Rattle.crx_filter.specs.LineByLine.{Seen}
 use Rattle.crx_filter.specs.CompactionState.{compaction_ready, compaction_state}
 use Rattle.crx_filter.specs.declared.compactor.Compactor.{Compactor}
 

@@ -1,12 +1,12 @@
 -- Beside meaning/Damage: what code and proofs see of it.
 use Rattle.std.specs.Prelude.{ℕ, ◌≡◌, true, List, ◌∷◌, ◌++◌}
 use Rattle.crx_rinex.specs.meaning.Observations.{Epoch}
-use Rattle.crx_options.specs.meaning.Choices.{Choices, is_date}
-use Rattle.crx_faults.specs.meaning.Lines.{lines_text}
-use Rattle.crx_reading.specs.meaning.Compacted.{compact_lines, compacted}
-use Rattle.crx_reading.specs.meaning.Expanded.{expanded}
-use Rattle.crx_reading.specs.meaning.Standard.{whole_of}
-use Rattle.crx_reading.specs.meaning.Damage.{lines_of_epochs, with_epochs, lines_after, IsDamaged, IsSalvaged}
+use Rattle.crx_base.specs.meaning.Choices.{Choices, is_date}
+use Rattle.crx_base.specs.meaning.Lines.{lines_text}
+use Rattle.crx_filter.specs.meaning.Compacted.{compact_lines, compacted}
+use Rattle.crx_filter.specs.meaning.Expanded.{expanded}
+use Rattle.crx_filter.specs.meaning.Standard.{whole_of}
+use Rattle.crx_filter.specs.meaning.Damage.{lines_of_epochs, with_epochs, lines_after, IsDamaged, IsSalvaged}
 
 -- ---- the law
 

@@ -1,9 +1,9 @@
 -- Which lines an engine of either direction has taken.
 use Rattle.std.specs.Prelude.{◌≡◌, true, List, [], ◌∷◌, map}
-use Rattle.crx_faults.specs.meaning.Lines.{InputLine}
-use Rattle.crx_faults.specs.meaning.Seen.{ReadLine, seen}
+use Rattle.crx_base.specs.meaning.Lines.{InputLine}
+use Rattle.crx_base.specs.meaning.Seen.{ReadLine, seen}
 use Rattle.crx_runs.specs.Engines.{Awaited}
-use Rattle.crx_reading.specs.LineByLine.{Direction, Seen, Notice, seen_next}
+use Rattle.crx_filter.specs.LineByLine.{Direction, Seen, Notice, seen_next}
 
 -- an engine that is seen as this has taken these lines, by what is seen after some lines; or, where a line is to come a
 -- second time, it has taken the lines before that one, and answered the warning that this line gives first

@@ -1,18 +1,18 @@
 -- What an engine of either direction does with a line, and how the stage that it is in is seen.
 use Rattle.std.specs.Prelude.{◌≡◌, ◌⊎◌, ℕ, ◌+◌, Bool, true, List, [], Option, Result, Ok, Err, if◌then◌else◌}
-use Rattle.crx_faults.specs.meaning.Seen.{ReadLine}
-use Rattle.crx_faults.specs.declared.fault.At.{At}
-use Rattle.crx_faults.specs.declared.fault.Fault.{Fault}
-use Rattle.crx_faults.specs.declared.fault.Fault.TheVariants.{OutOfMemory}
-use Rattle.crx_reading.specs.LineByLine.{Seen, Direction, Answer, Quiet as SeenQuiet, Ready as SeenReady, Notice}
-use Rattle.crx_reading.specs.LineByLine.{Failed, Step as SeenStep, seen_next, seen_end, failed_step}
-use Rattle.crx_reading.specs.meaning.Reading.{can_go_on}
-use Rattle.crx_reading.specs.Memory.{takes_memory}
+use Rattle.crx_base.specs.meaning.Seen.{ReadLine}
+use Rattle.crx_base.specs.declared.fault.At.{At}
+use Rattle.crx_base.specs.declared.fault.Fault.{Fault}
+use Rattle.crx_base.specs.declared.fault.Fault.TheVariants.{OutOfMemory}
+use Rattle.crx_filter.specs.LineByLine.{Seen, Direction, Answer, Quiet as SeenQuiet, Ready as SeenReady, Notice}
+use Rattle.crx_filter.specs.LineByLine.{Failed, Step as SeenStep, seen_next, seen_end, failed_step}
+use Rattle.crx_filter.specs.meaning.Reading.{can_go_on}
+use Rattle.crx_filter.specs.Memory.{takes_memory}
 use Rattle.crx_runs.specs.declared.engine.Step.{Step}
 use Rattle.crx_runs.specs.declared.engine.Step.TheVariants.{Quiet, Ready, Warned}
 use Rattle.crx_filter.specs.declared.settled.Settled.{Settled}
-use Rattle.crx_reading.specs.declared.stage.Stage.{Stage}
-use Rattle.crx_reading.specs.Stages.{seen_stage, is_held}
+use Rattle.crx_filter.specs.declared.stage.Stage.{Stage}
+use Rattle.crx_filter.specs.Stages.{seen_stage, is_held}
 
 -- ---- steps
 

@@ -1,13 +1,13 @@
 -- Beside meaning/Expanded: what code and proofs see of it.
-use Rattle.crx_reading.specs.meaning.Directions.{compact_reading}
+use Rattle.crx_filter.specs.meaning.Directions.{compact_reading}
 use Rattle.std.specs.Prelude.{ℕ, List}
-use Rattle.crx_faults.specs.meaning.Seen.{ReadLine}
+use Rattle.crx_base.specs.meaning.Seen.{ReadLine}
 use Rattle.crx_compact.specs.meaning.CompactPlaces.{ReadEpoch}
-use Rattle.crx_options.specs.meaning.Choices.{Choices}
-use Rattle.crx_reading.specs.meaning.Items.{Item}
-use Rattle.crx_faults.specs.meaning.Lines.{lines_text}
-use Rattle.crx_reading.specs.meaning.Written.{written_lines}
-use Rattle.crx_reading.specs.meaning.Expanded.{expanded_unit}
+use Rattle.crx_base.specs.meaning.Choices.{Choices}
+use Rattle.crx_filter.specs.meaning.Items.{Item}
+use Rattle.crx_base.specs.meaning.Lines.{lines_text}
+use Rattle.crx_filter.specs.meaning.Written.{written_lines}
+use Rattle.crx_filter.specs.meaning.Expanded.{expanded_unit}
 
 -- ---- whole files
 

@@ -1,21 +1,21 @@
 -- What an engine of expansion is seen as, and what it does at a fault.
 use Rattle.std.specs.Prelude.{◌≡◌, Bool, List, [], Option, Result}
-use Rattle.crx_faults.specs.meaning.Lines.{InputLine}
-use Rattle.crx_faults.specs.meaning.Seen.{ReadLine}
-use Rattle.crx_faults.specs.declared.fault.At.{At}
-use Rattle.crx_faults.specs.declared.fault.Fault.{Fault}
+use Rattle.crx_base.specs.meaning.Lines.{InputLine}
+use Rattle.crx_base.specs.meaning.Seen.{ReadLine}
+use Rattle.crx_base.specs.declared.fault.At.{At}
+use Rattle.crx_base.specs.declared.fault.Fault.{Fault}
 use Rattle.crx_compact.specs.OpenEpochs.{OpenRawEpoch}
 use Rattle.crx_compact.specs.Tails.{Tail}
-use Rattle.crx_reading.specs.ExpansionByLine.{expansion, expansion_seen}
+use Rattle.crx_filter.specs.ExpansionByLine.{expansion, expansion_seen}
 use Rattle.crx_filter.specs.EngineLines.{HasTaken}
 use Rattle.crx_runs.specs.Engines.{Awaited}
-use Rattle.crx_reading.specs.LineByLine.{Seen, failed_step}
-use Rattle.crx_reading.specs.meaning.Reading.{can_go_on}
+use Rattle.crx_filter.specs.LineByLine.{Seen, failed_step}
+use Rattle.crx_filter.specs.meaning.Reading.{can_go_on}
 use Rattle.crx_filter.specs.EngineSteps.{IsAt, step_made}
 use Rattle.crx_filter.specs.CompactReaders.{compact_reader_state}
 use Rattle.crx_runs.specs.declared.engine.Step.{Step}
 use Rattle.crx_filter.specs.declared.expander.Expander.{Expander}
-use Rattle.crx_reading.specs.declared.stage.Stage.{Stage}
+use Rattle.crx_filter.specs.declared.stage.Stage.{Stage}
 
 -- what an engine is seen as
 abbrev pub expander_state : Expander → Seen OpenRawEpoch (Option Tail)

@@ -1,37 +1,37 @@
 -- What the laws of both filters say, where it is long.
-use Rattle.crx_reading.specs.meaning.Reading.{fault_of_stop}
+use Rattle.crx_filter.specs.meaning.Reading.{fault_of_stop}
 use Rattle.std.specs.Prelude.{◌≡◌, ◌<◌, if◌then◌else◌, ℕ, Bool, true, false, List, [], ◌∷◌, ◌++◌, Option, Some, None}
 use Rattle.std.specs.Prelude.{map, ⊤}
-use Rattle.crx_faults.specs.meaning.Seen.{ReadLine, seen}
+use Rattle.crx_base.specs.meaning.Seen.{ReadLine, seen}
 use Rattle.crx_rinex.specs.meaning.Places.{Place, Here, Wanted}
 use Rattle.crx_rinex.specs.Steady.{IsSteady}
 use Rattle.crx_rinex.specs.meaning.Units.{Unit as FileUnit, HeaderLine, EventLine, EventRecord, Observation, Unit}
 use Rattle.crx_header.specs.meaning.EpochColumns.{is_event_line, records_in}
 use Rattle.crx_rinex.specs.meaning.Epochs.{IsWholeEpoch}
-use Rattle.crx_reading.specs.meaning.UnitPlaces.{types_fault, header_line_fault}
+use Rattle.crx_filter.specs.meaning.UnitPlaces.{types_fault, header_line_fault}
 use Rattle.std.specs.Option.{is_some}
-use Rattle.crx_faults.specs.meaning.Lines.{lines_of}
-use Rattle.crx_faults.specs.declared.fault.At.{At}
-use Rattle.crx_options.specs.meaning.Choices.{Choices}
-use Rattle.crx_reading.specs.meaning.Items.{Item, Accepted, Warned, is_at_start, header_has_ended, records_left}
-use Rattle.crx_reading.specs.meaning.Items.{records_count_types, types_in_force}
-use Rattle.crx_reading.specs.meaning.Reading.{Reading, AtFault, AtLines, Looking, WholeReading, reading_from}
-use Rattle.crx_reading.specs.meaning.Reading.{looked_for}
-use Rattle.crx_faults.specs.meaning.Faults.{is_skippable}
-use Rattle.crx_reading.specs.meaning.Written.{warnings_in}
-use Rattle.crx_reading.specs.LineByLine.{Direction, Seen, Step, Answer, Quiet, Ready, Notice, Failed, seen_next}
-use Rattle.crx_reading.specs.LineByLine.{seen_end}
+use Rattle.crx_base.specs.meaning.Lines.{lines_of}
+use Rattle.crx_base.specs.declared.fault.At.{At}
+use Rattle.crx_base.specs.meaning.Choices.{Choices}
+use Rattle.crx_filter.specs.meaning.Items.{Item, Accepted, Warned, is_at_start, header_has_ended, records_left}
+use Rattle.crx_filter.specs.meaning.Items.{records_count_types, types_in_force}
+use Rattle.crx_filter.specs.meaning.Reading.{Reading, AtFault, AtLines, Looking, WholeReading, reading_from}
+use Rattle.crx_filter.specs.meaning.Reading.{looked_for}
+use Rattle.crx_base.specs.meaning.Faults.{is_skippable}
+use Rattle.crx_filter.specs.meaning.Written.{warnings_in}
+use Rattle.crx_filter.specs.LineByLine.{Direction, Seen, Step, Answer, Quiet, Ready, Notice, Failed, seen_next}
+use Rattle.crx_filter.specs.LineByLine.{seen_end}
 use Rattle.crx_rinex.specs.meaning.Observations.{Epoch}
 use Rattle.crx_compact.specs.meaning.CompactPlaces.{ReadEpoch}
 use Rattle.crx_filter.specs.Compacted.{compaction_so_far}
 pub use Rattle.crx_filter.specs.meaning.UnitsAndText.{IsInPlace}
-use Rattle.crx_reading.specs.meaning.Directions.{rinex_reading}
-use Rattle.crx_reading.specs.meaning.Compacted.{whole_rinex, compact_lines}
+use Rattle.crx_filter.specs.meaning.Directions.{rinex_reading}
+use Rattle.crx_filter.specs.meaning.Compacted.{whole_rinex, compact_lines}
 use Rattle.crx_filter.specs.Expanded.{expanded_lines, expansion_so_far}
-use Rattle.crx_reading.specs.meaning.Directions.{compact_reading}
-use Rattle.crx_reading.specs.meaning.Expanded.{whole_compact}
-use Rattle.crx_reading.specs.CompactionByLine.{compaction, compaction_seen}
-use Rattle.crx_reading.specs.ExpansionByLine.{expansion, expansion_seen}
+use Rattle.crx_filter.specs.meaning.Directions.{compact_reading}
+use Rattle.crx_filter.specs.meaning.Expanded.{whole_compact}
+use Rattle.crx_filter.specs.CompactionByLine.{compaction, compaction_seen}
+use Rattle.crx_filter.specs.ExpansionByLine.{expansion, expansion_seen}
 use Rattle.crx_runs.specs.meaning.Results.{Begins}
 
 -- a reading that is continued, once more lines have come

@@ -1,4 +1,14 @@
 pub mod meaning
+pub mod LineByLine
+pub mod CompactionByLine
+pub mod ExpansionByLine
+pub mod CheckByLine
+pub mod Memory
+pub mod Stages
+pub mod RinexStages
+pub mod RinexReaders
+pub mod CompactStages
+pub mod Totals
 pub mod Compacted
 pub mod Expanded
 pub mod Damage

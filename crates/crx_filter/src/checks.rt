@@ -1,13 +1,13 @@
 //! The check of a RINEX file.
 
 ghost use Rattle.std.specs.Prelude.{◌≡◌, ℕ, List, [], None, Some};
-ghost use Rattle.crx_faults.specs.declared.fault.At.{At};
+ghost use Rattle.crx_base.specs.declared.fault.At.{At};
 ghost use Rattle.crx_filter.specs.CheckerState.{CheckerHasTaken, CheckerIsOpen, pending_report};
-ghost use Rattle.crx_reading.specs.meaning.Directions.{check_filter};
+ghost use Rattle.crx_filter.specs.meaning.Directions.{check_filter};
 ghost use Rattle.crx_filter.specs.meaning.Lossless.{SaysThatItComesBack};
 ghost use Rattle.crx_filter.specs.meaning.Promises.{JudgesStandard, Keeps};
 ghost use Rattle.crx_runs.specs.meaning.Runs.{Runs};
-ghost use Rattle.crx_reading.specs.meaning.Standard.{checked, report_status};
+ghost use Rattle.crx_filter.specs.meaning.Standard.{checked, report_status};
 ghost use Rattle.crx_runs.specs.meaning.Spans.{span};
 ghost use Rattle.crx_runs.specs.meaning.Spans.{reader_span};
 

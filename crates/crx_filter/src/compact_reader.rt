@@ -1,27 +1,27 @@
 //! Compact RINEX 3.0, one line at a time: what each line is, the observation types in force, and the epoch whose lines come.
 
 ghost use Rattle.std.specs.Prelude.{◌≡◌, ◌≢◌, ◌≤◌, ℕ, if◌then◌else◌, [], None, true, false, length, IfOk, IfErr, OnErr, OnOk};
-ghost use Rattle.crx_faults.specs.declared.limits.TheConstants.{LINE_LIMIT};
-ghost use Rattle.crx_faults.specs.meaning.Seen.{Content};
+ghost use Rattle.crx_base.specs.declared.limits.TheConstants.{LINE_LIMIT};
+ghost use Rattle.crx_base.specs.meaning.Seen.{Content};
 ghost use Rattle.crx_compact.specs.OpenEpochs.{is_idle, tail_held};
 ghost use Rattle.crx_compact.specs.OpenEpochs.ColumnsState.{Idle};
-ghost use Rattle.crx_options.specs.meaning.Choices.{Choices};
-ghost use Rattle.crx_reading.specs.CompactStages.{is_compact_stage, open_in, wants_lines};
-ghost use Rattle.crx_reading.specs.Stages.{is_ended, is_settled, seen_stage};
-ghost use Rattle.crx_reading.specs.meaning.Expanded.{empties_state};
-ghost use Rattle.crx_reading.specs.ExpansionByLine.{expansion, compact_begins};
-ghost use Rattle.crx_reading.specs.LineByLine.{BetweenUnits, made_in, made_of_first_lines, made_of_unit};
-ghost use Rattle.crx_reading.specs.meaning.UnitPlaces.{event_record, header_line};
-ghost use Rattle.crx_reading.specs.declared.stage.Stage.{Stage};
-ghost use Rattle.crx_reading.specs.declared.stage.Stage.TheVariants.{FirstLines, Header, Event, Looking, Open};
+ghost use Rattle.crx_base.specs.meaning.Choices.{Choices};
+ghost use Rattle.crx_filter.specs.CompactStages.{is_compact_stage, open_in, wants_lines};
+ghost use Rattle.crx_filter.specs.Stages.{is_ended, is_settled, seen_stage};
+ghost use Rattle.crx_filter.specs.meaning.Expanded.{empties_state};
+ghost use Rattle.crx_filter.specs.ExpansionByLine.{expansion, compact_begins};
+ghost use Rattle.crx_filter.specs.LineByLine.{BetweenUnits, made_in, made_of_first_lines, made_of_unit};
+ghost use Rattle.crx_filter.specs.meaning.UnitPlaces.{event_record, header_line};
+ghost use Rattle.crx_filter.specs.declared.stage.Stage.{Stage};
+ghost use Rattle.crx_filter.specs.declared.stage.Stage.TheVariants.{FirstLines, Header, Event, Looking, Open};
 
+use crate::event_lines::records_announced;
+use crate::first_lines::{check_program, check_version};
+use crate::stage::{Stage, after_header_line, counts_types, with_records_left};
+use crate::types_lines::{accept_header_line, accept_record};
+use crx_base::Fault;
 use crx_compact::{Columns, ExpandedLines};
-use crx_faults::Fault;
 use crx_header::{Types, is_types};
-use crx_reading::event_lines::records_announced;
-use crx_reading::first_lines::{check_program, check_version};
-use crx_reading::stage::{Stage, after_header_line, counts_types, with_records_left};
-use crx_reading::types_lines::{accept_header_line, accept_record};
 use crx_rinex::{begins_epoch, is_event_line};
 use std::alloc::Global;
 
@@ -36,7 +36,7 @@ pub struct CompactReader {
 
 impl CompactReader {
     ghost use Rattle.crx_filter.specs.CompactReaders.{RefusesCompactLine, TakesCompactLine, TakesOtherLine, made_next, compact_reader_phase, seen_in, compact_reader_state};
-    ghost use Rattle.crx_reading.specs.ExpansionByLine.{expansion_seen};
+    ghost use Rattle.crx_filter.specs.ExpansionByLine.{expansion_seen};
 
     /// A reader before the first line.
     pub fn new(alloc: Global) -> CompactReader

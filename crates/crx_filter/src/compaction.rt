@@ -1,21 +1,20 @@
 //! What a compaction keeps between two lines of RINEX, and what it does with the next one.
 
 ghost use Rattle.std.specs.Prelude.{◌≡◌, ◌≤◌, [], true, false, length, is_some, Some, OnErr, OnOk, IfSome};
-ghost use Rattle.crx_faults.specs.declared.limits.TheConstants.{INPUT_LIMIT};
-ghost use Rattle.crx_faults.specs.meaning.Seen.{Content};
+ghost use Rattle.crx_base.specs.declared.limits.TheConstants.{INPUT_LIMIT};
+ghost use Rattle.crx_base.specs.meaning.Seen.{Content};
 ghost use Rattle.crx_compact.specs.Encoding.{tail_in};
 ghost use Rattle.crx_compact.specs.Steps.{lines_after_tail, tail_after};
 ghost use Rattle.crx_compact.specs.Written.{epoch_by_rows};
 ghost use Rattle.crx_rinex.specs.meaning.EpochLines.{ObservationHead};
-ghost use Rattle.crx_reading.specs.RinexStages.{is_open_stage};
-ghost use Rattle.crx_reading.specs.meaning.Compacted.{is_at_every};
+ghost use Rattle.crx_filter.specs.RinexStages.{is_open_stage};
+ghost use Rattle.crx_filter.specs.meaning.Compacted.{is_at_every};
 
+use crate::rinex_reader::{RinexReader, RinexStep};
 use crate::settled::{Settled, after_end, after_fault};
+use crate::stage::Stage;
+use crx_base::{At, Fault, Options};
 use crx_compact::Encoder;
-use crx_faults::{At, Fault};
-use crx_options::Options;
-use crx_reading::rinex_reader::{RinexReader, RinexStep};
-use crx_reading::stage::Stage;
 use crx_rinex::begins_epoch;
 use crx_runs::Step;
 use std::alloc::{AllocError, Global};
@@ -89,18 +88,18 @@ impl Compaction {
     ghost use Rattle.std.specs.Borrow.{sem};
     ghost use Rattle.std.specs.Io.BufRead.{Rests};
     ghost use Rattle.std.specs.Option.{option_copied};
-    ghost use Rattle.crx_faults.specs.meaning.Lines.{lines_text};
+    ghost use Rattle.crx_base.specs.meaning.Lines.{lines_text};
     ghost use Rattle.crx_filter.specs.contracts.compaction.Compaction.{the_row};
-    ghost use Rattle.crx_faults.specs.meaning.Seen.{ReadLine, Overlong};
-    ghost use Rattle.crx_faults.specs.declared.limits.TheConstants.{LINE_LIMIT};
-    ghost use Rattle.crx_reading.specs.CompactionByLine.{compaction, compaction_seen};
+    ghost use Rattle.crx_base.specs.meaning.Seen.{ReadLine, Overlong};
+    ghost use Rattle.crx_base.specs.declared.limits.TheConstants.{LINE_LIMIT};
+    ghost use Rattle.crx_filter.specs.CompactionByLine.{compaction, compaction_seen};
     ghost use Rattle.crx_runs.specs.Engines.{answer_given};
-    ghost use Rattle.crx_reading.specs.LineByLine.{Ended, failed_step, seen_end, seen_next};
-    ghost use Rattle.crx_reading.specs.meaning.Reading.{can_go_on};
-    ghost use Rattle.crx_faults.specs.meaning.Faults.{is_skippable};
-    ghost use Rattle.crx_reading.specs.RinexReaders.{epoch_open};
+    ghost use Rattle.crx_filter.specs.LineByLine.{Ended, failed_step, seen_end, seen_next};
+    ghost use Rattle.crx_filter.specs.meaning.Reading.{can_go_on};
+    ghost use Rattle.crx_base.specs.meaning.Faults.{is_skippable};
+    ghost use Rattle.crx_filter.specs.RinexReaders.{epoch_open};
     ghost use Rattle.crx_filter.specs.EngineSteps.{Steps, step_made, settled_seen};
-    ghost use Rattle.crx_reading.specs.Stages.{is_settled};
+    ghost use Rattle.crx_filter.specs.Stages.{is_settled};
     ghost use Rattle.crx_filter.specs.CompactionState.{compaction_ready, compaction_state, copied_lines};
 
     /// A compaction before the first line of its input.

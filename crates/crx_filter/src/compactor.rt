@@ -1,9 +1,8 @@
 //! The engine that compacts RINEX one line at a time.
 
 use crate::compaction::Compaction;
-use crx_faults::At;
+use crx_base::{At, Options};
 use crx_lines::Line;
-use crx_options::Options;
 use crx_runs::Step;
 use crx_runs::engine::answer_given;
 use std::alloc::{AllocError, Global};
@@ -22,17 +21,17 @@ impl Compactor {
     ghost use Rattle.std.specs.Borrow.{sem};
     ghost use Rattle.std.specs.Io.BufRead.{Rests};
     ghost use Rattle.std.specs.Option.{option_copied};
-    ghost use Rattle.crx_faults.specs.meaning.Lines.{InputLine, is_long};
+    ghost use Rattle.crx_base.specs.meaning.Lines.{InputLine, is_long};
     ghost use Rattle.crx_lines.specs.Reading.{line_shown, line_number};
-    ghost use Rattle.crx_faults.specs.meaning.Seen.{Content, Overlong};
-    ghost use Rattle.crx_faults.specs.declared.fault.At.{At};
-    ghost use Rattle.crx_faults.specs.declared.limits.TheConstants.{INPUT_LIMIT, LINE_LIMIT};
-    ghost use Rattle.crx_reading.specs.CompactionByLine.{compaction, compaction_seen};
-    ghost use Rattle.crx_reading.specs.LineByLine.{Ended, seen_next, seen_end};
+    ghost use Rattle.crx_base.specs.meaning.Seen.{Content, Overlong};
+    ghost use Rattle.crx_base.specs.declared.fault.At.{At};
+    ghost use Rattle.crx_base.specs.declared.limits.TheConstants.{INPUT_LIMIT, LINE_LIMIT};
+    ghost use Rattle.crx_filter.specs.CompactionByLine.{compaction, compaction_seen};
+    ghost use Rattle.crx_filter.specs.LineByLine.{Ended, seen_next, seen_end};
     ghost use Rattle.crx_filter.specs.EngineSteps.{Steps, step_made};
     ghost use Rattle.crx_filter.specs.CompactorState.{compactor_seen, compactor_ready, compactor_took};
-    ghost use Rattle.crx_reading.specs.meaning.Directions.{compaction_filter};
-    ghost use Rattle.crx_faults.specs.meaning.Lines.{lines_text};
+    ghost use Rattle.crx_filter.specs.meaning.Directions.{compaction_filter};
+    ghost use Rattle.crx_base.specs.meaning.Lines.{lines_text};
     ghost use Rattle.crx_runs.specs.Engines.{EngineAnswers, answer_given, Awaited, Concludes, IsAwaited};
     ghost use Rattle.crx_filter.specs.contracts.compactor.Compactor.{the_row};
 

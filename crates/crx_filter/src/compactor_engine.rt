@@ -1,13 +1,13 @@
 //! The compactor as an engine.
 
 ghost use Rattle.std.specs.Prelude.{◌≡◌, ⊤, length};
-ghost use Rattle.crx_reading.specs.meaning.Directions.{compaction_filter};
+ghost use Rattle.crx_filter.specs.meaning.Directions.{compaction_filter};
 ghost use Rattle.crx_filter.specs.EngineLines.{HasTaken};
-ghost use Rattle.crx_reading.specs.CompactionByLine.{compaction, compaction_seen};
+ghost use Rattle.crx_filter.specs.CompactionByLine.{compaction, compaction_seen};
 ghost use Rattle.crx_filter.specs.CompactorState.{compactor_seen, compactor_ready};
 
 use crate::compactor::Compactor;
-use crx_faults::At;
+use crx_base::At;
 use crx_lines::Line;
 use crx_runs::{Engine, Step};
 

@@ -1,28 +1,27 @@
 //! Expansion, one line of compact text at a time.
 
 ghost use Rattle.std.specs.Prelude.{◌≡◌, ℕ, ◌+◌, ◌≤◌, ◌<◌, ◌↔◌, List, [], IsTrue, IfOk, IfErr, OnErr, Err, Ok, true, false, drop, length, slice_get, if◌then◌else◌, is_some, IfSome};
-ghost use Rattle.crx_faults.specs.meaning.Lines.{InputLine, is_long};
-ghost use Rattle.crx_faults.specs.meaning.Seen.{Content, Overlong};
+ghost use Rattle.crx_base.specs.meaning.Lines.{InputLine, is_long};
+ghost use Rattle.crx_base.specs.meaning.Seen.{Content, Overlong};
 ghost use Rattle.crx_lines.specs.Reading.{line_number, line_shown};
-ghost use Rattle.crx_faults.specs.declared.fault.At.{At};
-ghost use Rattle.crx_faults.specs.declared.limits.TheConstants.{INPUT_LIMIT, LINE_LIMIT};
-ghost use Rattle.crx_options.specs.meaning.Choices.{Choices};
-ghost use Rattle.crx_reading.specs.meaning.Directions.{expansion_filter};
+ghost use Rattle.crx_base.specs.declared.fault.At.{At};
+ghost use Rattle.crx_base.specs.declared.limits.TheConstants.{INPUT_LIMIT, LINE_LIMIT};
+ghost use Rattle.crx_base.specs.meaning.Choices.{Choices};
+ghost use Rattle.crx_filter.specs.meaning.Directions.{expansion_filter};
 ghost use Rattle.crx_runs.specs.Engines.{EngineAnswers, answer_given, Awaited, Concludes, IsAwaited};
 ghost use Rattle.crx_filter.specs.EngineSteps.{Steps, step_made};
-ghost use Rattle.crx_reading.specs.LineByLine.{seen_end, seen_next};
-ghost use Rattle.crx_reading.specs.ExpansionByLine.{expansion, expansion_seen};
-ghost use Rattle.crx_faults.specs.meaning.Faults.{is_skippable};
-ghost use Rattle.crx_reading.specs.declared.stage.Stage.TheVariants.{Ended, Open};
+ghost use Rattle.crx_filter.specs.LineByLine.{seen_end, seen_next};
+ghost use Rattle.crx_filter.specs.ExpansionByLine.{expansion, expansion_seen};
+ghost use Rattle.crx_base.specs.meaning.Faults.{is_skippable};
+ghost use Rattle.crx_filter.specs.declared.stage.Stage.TheVariants.{Ended, Open};
 
 use crate::compact_reader::CompactReader;
+use crate::line_number::LineNumber;
 use crate::settled::{after_end, after_fault};
+use crate::stage::Stage;
+use crx_base::{At, Fault, Options};
 use crx_compact::ExpandedLines;
-use crx_faults::{At, Fault};
 use crx_lines::Line;
-use crx_options::Options;
-use crx_reading::line_number::LineNumber;
-use crx_reading::stage::Stage;
 use crx_rinex::begins_epoch;
 use crx_runs::Step;
 use crx_runs::engine::answer_given;
@@ -46,7 +45,7 @@ impl Expander {
     ghost use Rattle.std.specs.Option.{option_copied};
     ghost use Rattle.crx_filter.specs.contracts.expander.Expander.{the_row};
     ghost use Rattle.crx_filter.specs.ExpanderState.{Fails, expander_took, expander_state};
-    ghost use Rattle.crx_faults.specs.meaning.Lines.{lines_text};
+    ghost use Rattle.crx_base.specs.meaning.Lines.{lines_text};
 
     /// An expansion before the first line of its input. Of the options it uses alone whether faults are skipped.
     ///

@@ -1,13 +1,13 @@
 //! The expander as an engine.
 
 ghost use Rattle.std.specs.Prelude.{◌≡◌, ⊤, length};
-ghost use Rattle.crx_reading.specs.meaning.Directions.{expansion_filter};
+ghost use Rattle.crx_filter.specs.meaning.Directions.{expansion_filter};
 ghost use Rattle.crx_filter.specs.EngineLines.{HasTaken};
-ghost use Rattle.crx_reading.specs.ExpansionByLine.{expansion, expansion_seen};
+ghost use Rattle.crx_filter.specs.ExpansionByLine.{expansion, expansion_seen};
 ghost use Rattle.crx_filter.specs.ExpanderState.{expander_state};
 
 use crate::expander::Expander;
-use crx_faults::At;
+use crx_base::At;
 use crx_lines::Line;
 use crx_runs::{Engine, Step};
 

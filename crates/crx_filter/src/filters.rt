@@ -5,9 +5,9 @@ ghost use Rattle.crx_filter.specs.meaning.Canonical.{DependsOnNormalForm};
 ghost use Rattle.crx_filter.specs.meaning.Lossless.{BringsBackWhatPasses};
 ghost use Rattle.crx_filter.specs.meaning.UnitsAndText.{ReadsUnits, WritesUnits};
 ghost use Rattle.crx_filter.specs.meaning.WrittenStandard.{WroteStandard};
-ghost use Rattle.crx_reading.specs.meaning.Compacted.{compacted};
-ghost use Rattle.crx_reading.specs.meaning.Directions.{compaction_filter, expansion_filter};
-ghost use Rattle.crx_reading.specs.meaning.Expanded.{expanded};
+ghost use Rattle.crx_filter.specs.meaning.Compacted.{compacted};
+ghost use Rattle.crx_filter.specs.meaning.Directions.{compaction_filter, expansion_filter};
+ghost use Rattle.crx_filter.specs.meaning.Expanded.{expanded};
 ghost use Rattle.crx_filter.specs.meaning.Promises.{BringsBackWhatWasCompacted, Keeps, SavesAllElse};
 ghost use Rattle.crx_filter.specs.meaning.Stretches.{KeepsUndamaged, WritesWholeUnits};
 ghost use Rattle.crx_runs.specs.meaning.Runs.{Runs};
@@ -24,7 +24,7 @@ use std::alloc::Global;
 /// is ready, and reports warnings and the fault that ends the run, one line each.
 ///
 /// Where no device failed and memory didn't run out, the output, the messages, the status and the fault are those of the compaction of
-/// the whole input, of at most [`INPUT_LIMIT`](crx_faults::limits::INPUT_LIMIT) bytes. `ReadFailed`, `WriteFailed`, `InputTooLong` and
+/// the whole input, of at most [`INPUT_LIMIT`](crx_base::limits::INPUT_LIMIT) bytes. `ReadFailed`, `WriteFailed`, `InputTooLong` and
 /// `OutOfMemory` come where a device or memory failed or the input is longer; what was written by then is a prefix of the defined output.
 ///
 /// Of the RINEX text of units that make a file it writes their compact text. Files that have the same normal form have the same compact
@@ -62,7 +62,7 @@ pub fn compact<R: Source, W: Sink, M: Sink>(
 /// Expands Compact RINEX 3.0 into RINEX 3.0x, in the same way; of the options it uses alone whether faults are skipped.
 ///
 /// Where no device failed and memory didn't run out, the output, the messages, the status and the fault are those of the expansion of
-/// the whole input, of at most [`INPUT_LIMIT`](crx_faults::limits::INPUT_LIMIT) bytes. `ReadFailed`, `WriteFailed`, `InputTooLong` and
+/// the whole input, of at most [`INPUT_LIMIT`](crx_base::limits::INPUT_LIMIT) bytes. `ReadFailed`, `WriteFailed`, `InputTooLong` and
 /// `OutOfMemory` come where a device or memory failed or the input is longer; what was written by then is a prefix of the defined output.
 ///
 /// A file that a check passes comes back from its compact text byte for byte, and of the compact text of units that make a file it writes

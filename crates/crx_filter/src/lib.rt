@@ -1,5 +1,5 @@
-//! The reader of compact text and the engines, which do line by line what both filters and the check mean, and whole runs of them: from a
-//! reader to a writer and messages.
+//! What files mean, unit by unit, and what both filters and the check make of them: the readers of RINEX and of compact text, the engines
+//! line by line, and whole runs of them, from a reader to a writer and messages.
 #![tactic(auto)]
 
 pub mod checker;
@@ -8,15 +8,23 @@ mod compact_reader;
 mod compaction;
 pub mod compactor;
 mod compactor_engine;
+pub mod event_lines;
 pub mod expander;
 mod expander_engine;
 mod filters;
+pub mod first_lines;
 pub mod laws;
+pub mod line_number;
+pub mod report;
+pub mod rinex_reader;
 mod settled;
+pub mod stage;
+pub mod totals;
+pub mod types_lines;
 
 pub use checks::check;
 pub use compactor::Compactor;
-pub use crx_options::{BadDate, Options};
+pub use crx_base::{BadDate, Options};
 pub use crx_runs::{Outcome, Step, UntilFailure};
 pub use expander::Expander;
 pub use filters::{compact, expand};

@@ -3,17 +3,17 @@
 ghost use Rattle.std.specs.Prelude.{◌≡◌, ◌+◌, ◌<◌, ◌≤◌, Option, Some, true, false, IfErr, Err};
 ghost use Rattle.crx_rinex.specs.meaning.EpochPlaces.{OpenEpoch};
 ghost use Rattle.crx_compact.specs.OpenEpochs.{OpenRawEpoch};
-ghost use Rattle.crx_faults.specs.declared.limits.TheConstants.{INPUT_LIMIT};
-ghost use Rattle.crx_reading.specs.LineByLine.{fault_at_end_in};
-ghost use Rattle.crx_faults.specs.meaning.Faults.{is_skippable};
-ghost use Rattle.crx_reading.specs.CompactionByLine.{compaction};
-ghost use Rattle.crx_reading.specs.ExpansionByLine.{expansion};
+ghost use Rattle.crx_base.specs.declared.limits.TheConstants.{INPUT_LIMIT};
+ghost use Rattle.crx_filter.specs.LineByLine.{fault_at_end_in};
+ghost use Rattle.crx_base.specs.meaning.Faults.{is_skippable};
+ghost use Rattle.crx_filter.specs.CompactionByLine.{compaction};
+ghost use Rattle.crx_filter.specs.ExpansionByLine.{expansion};
 ghost use Rattle.crx_filter.specs.EngineSteps.{SettlesEnd, SettlesFault};
-ghost use Rattle.crx_reading.specs.RinexStages.{is_open_stage};
-ghost use Rattle.crx_reading.specs.Stages.{is_held, is_settled, seen_stage};
+ghost use Rattle.crx_filter.specs.RinexStages.{is_open_stage};
+ghost use Rattle.crx_filter.specs.Stages.{is_held, is_settled, seen_stage};
 
-use crx_faults::{At, Fault};
-use crx_reading::stage::Stage;
+use crate::stage::Stage;
+use crx_base::{At, Fault};
 use crx_runs::Step;
 
 /// What is answered to a fault or to the end of the input, and where the run is then.

@@ -15,9 +15,9 @@ use Rattle.crx_header.specs.meaning.ObservationTypes.{without, last_count, last_
 use Rattle.crx_header.specs.meaning.ObservationTypes.{types_of, is_types_line, count_in, count_if_allowed}
 use Rattle.crx_header.specs.declared.types.TheConstants.{LETTERS}
 use Rattle.crx_header.specs.ObservationTypes.{AreCounts, AreByLetter, IsCount, letters_differ, with_count, after_count, with_line}
-use Rattle.crx_faults.specs.declared.limits.TheConstants.{TYPES_LIMIT}
+use Rattle.crx_base.specs.declared.limits.TheConstants.{TYPES_LIMIT}
 use Rattle.crx_header.specs.meaning.Label.{number_in}
-use Rattle.crx_columns.specs.meaning.Columns.{character_at, columns}
+use Rattle.crx_text.specs.meaning.Columns.{character_at, columns}
 use Rattle.std.proofs.lemmas.Option.{cond_some, option_and_then_some}
 
 same_test : (a b : ℕ) → eqb a b ≡ eqb b a

@@ -2,8 +2,8 @@
 use Rattle.std.proofs.Common.{◌≡◌, ℕ, true, ◌&&◌, List, [], ◌∷◌, refl, ap, sym, ◌∙◌}
 use Rattle.std.proofs.lemmas.Bool.{and_parts}
 use Rattle.std.specs.Prelude.{slice_index_or}
-use Rattle.crx_faults.specs.declared.limits.TheConstants.{NAME_WIDTH}
-use Rattle.crx_columns.specs.meaning.Columns.{character_at, columns}
+use Rattle.crx_base.specs.declared.limits.TheConstants.{NAME_WIDTH}
+use Rattle.crx_text.specs.meaning.Columns.{character_at, columns}
 use Rattle.crx_header.specs.meaning.ObservationTypes.{is_system, count_of, Count}
 use Rattle.crx_header.specs.meaning.Satellites.{has_number, types_of_satellite, is_identifier}
 

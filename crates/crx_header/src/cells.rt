@@ -1,12 +1,12 @@
 //! Where the cells of a satellite line stand, and their indicators. RINEX 3.05, table A3, m(F14.3,I1,I1).
 
 ghost use Rattle.std.specs.Prelude.{ℕ, ◌≡◌, ◌≤◌, ◌<◌, ◌+◌, ◌-◌, ◌*◌, ◌++◌, replicate, slice_set, length};
-ghost use Rattle.crx_columns.specs.meaning.Columns.{character_at};
-ghost use Rattle.crx_faults.specs.declared.limits.TheConstants.{CELL_WIDTH, LINE_LIMIT, NAME_WIDTH, OBSERVATION_WIDTH, TYPES_LIMIT};
+ghost use Rattle.crx_text.specs.meaning.Columns.{character_at};
+ghost use Rattle.crx_base.specs.declared.limits.TheConstants.{CELL_WIDTH, LINE_LIMIT, NAME_WIDTH, OBSERVATION_WIDTH, TYPES_LIMIT};
 
-use crx_columns::columns::character;
-use crx_columns::copies::{copy_text, put_blanks};
-use crx_faults::limits::{CELL_WIDTH, NAME_WIDTH, OBSERVATION_WIDTH};
+use crx_base::limits::{CELL_WIDTH, NAME_WIDTH, OBSERVATION_WIDTH};
+use crx_text::columns::character;
+use crx_text::copies::{copy_text, put_blanks};
 
 /// How many of so many cells stand within a line.
 #[inline(always)]

@@ -2,13 +2,13 @@
 //! RINEX 3.05, tables A1 and A2.
 
 ghost use Rattle.std.specs.Prelude.{◌≡◌, ◌≤◌, ◌<◌, ◌+◌, ◌++◌, ◌≢◌, length, take, IfSome, MatchBool};
-ghost use Rattle.crx_faults.specs.declared.limits.TheConstants.{LINE_LIMIT, NAME_WIDTH};
-ghost use Rattle.crx_columns.specs.meaning.Columns.{columns};
+ghost use Rattle.crx_base.specs.declared.limits.TheConstants.{LINE_LIMIT, NAME_WIDTH};
+ghost use Rattle.crx_text.specs.meaning.Columns.{columns};
 ghost use Rattle.crx_header.specs.meaning.Label.{has_label, number_in, number_of_digits};
 
-use crx_columns::columns::{character, end_trimmed, is_blank, trimmed};
-pub use crx_columns::columns::{after_columns, all_blank, padded};
-use crx_faults::limits::NAME_WIDTH;
+use crx_base::limits::NAME_WIDTH;
+use crx_text::columns::{character, end_trimmed, is_blank, trimmed};
+pub use crx_text::columns::{after_columns, all_blank, padded};
 
 /// The number that at most three digits spell.
 fn number_of_digits(digits: &[u8]) -> Option<usize>

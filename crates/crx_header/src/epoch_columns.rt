@@ -1,13 +1,13 @@
 //! The columns of an epoch line before the clock: its flag and its count. RINEX 3.05, table A3, EPOCH record.
 
 ghost use Rattle.std.specs.Prelude.{◌≡◌, ◌≤◌, IfSome};
-ghost use Rattle.crx_faults.specs.declared.limits.TheConstants.{SATELLITES_LIMIT};
+ghost use Rattle.crx_base.specs.declared.limits.TheConstants.{SATELLITES_LIMIT};
 ghost use Rattle.crx_header.specs.meaning.EpochColumns.{begins_epoch, epoch_count, is_event_flag, is_event_line, is_observation_flag, records_in, satellites_in};
 
 use crate::columns::number;
-use crx_columns::columns::{character, is_blank};
-use crx_columns::difference::all_kept;
-use crx_faults::limits::SATELLITES_LIMIT;
+use crx_base::limits::SATELLITES_LIMIT;
+use crx_text::columns::{character, is_blank};
+use crx_text::difference::all_kept;
 
 /// Whether a line begins an epoch or an event: its first character is `>`.
 #[inline(always)]

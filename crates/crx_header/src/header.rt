@@ -5,9 +5,9 @@ ghost use Rattle.crx_header.specs.meaning.Header.{first_header_fault, is_end_of_
 
 use crate::columns::is_labelled;
 use crate::labels::{END_LABEL, VERSION_LABEL};
-use crx_columns::columns::{character, trimmed};
-use crx_faults::Fault;
-use crx_faults::limits::VERSION_WIDTH;
+use crx_base::Fault;
+use crx_base::limits::VERSION_WIDTH;
+use crx_text::columns::{character, trimmed};
 
 /// Checks the first line of a header, `RINEX VERSION / TYPE` (RINEX 3.05, table A2).
 ///

@@ -4,7 +4,7 @@ ghost use Rattle.std.specs.Prelude.{ℕ, List, ◌≡◌, ◌≤◌, ◌<◌, �
 ghost use Rattle.crx_header.specs.meaning.Satellites.{is_among};
 
 use crate::columns::is_same_identifier;
-use crx_faults::limits::NAME_WIDTH;
+use crx_base::limits::NAME_WIDTH;
 use indexmap::IndexSet;
 use std::alloc::{AllocError, Global};
 use std::marker::Model;

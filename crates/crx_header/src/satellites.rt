@@ -1,13 +1,13 @@
 //! The satellite of a line: its identifier, and how many types its system has. RINEX 3.05, table A3, A1,I2.2.
 
 ghost use Rattle.std.specs.Prelude.{◌≡◌, true, IfSome, OnSome};
-ghost use Rattle.crx_columns.specs.meaning.Columns.{columns};
-ghost use Rattle.crx_faults.specs.declared.limits.TheConstants.{NAME_WIDTH};
+ghost use Rattle.crx_text.specs.meaning.Columns.{columns};
+ghost use Rattle.crx_base.specs.declared.limits.TheConstants.{NAME_WIDTH};
 ghost use Rattle.crx_header.specs.meaning.ObservationTypes.{IsAllowedCount};
 ghost use Rattle.crx_header.specs.meaning.Satellites.{has_number, is_identifier, types_of_satellite};
 
 use crate::types::Types;
-use crx_columns::columns::character;
+use crx_text::columns::character;
 
 /// How many types the satellite of a line has, where the line begins with an identifier of a system with types.
 #[inline(always)]

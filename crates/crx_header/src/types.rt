@@ -7,9 +7,9 @@ ghost use Rattle.indexmap.specs.IndexMap.{spare};
 
 use crate::columns::{is_labelled, number};
 use crate::labels::TYPES_LABEL;
-use crx_columns::columns::character;
-use crx_faults::Fault;
-use crx_faults::limits::TYPES_LIMIT;
+use crx_base::Fault;
+use crx_base::limits::TYPES_LIMIT;
+use crx_text::columns::character;
 use indexmap::IndexMap;
 use std::alloc::{AllocError, Global};
 use std::marker::Model;

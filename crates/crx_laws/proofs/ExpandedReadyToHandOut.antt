@@ -4,7 +4,7 @@ use Rattle.crx_filter.proofs.Words.{NAME_WIDTH, TYPES_LIMIT, Epoch, IsWholeEpoch
 use Rattle.crx_filter.proofs.Words.{printed_epoch, HeaderLine, EventLine, EventRecord, Observation, ReadEpoch}
 use Rattle.crx_filter.proofs.Words.{IsGood, Choices, Item, Accepted, Warned, types_in_force, expanded_unit}
 use Rattle.crx_filter.proofs.Words.{compact_reading, OfCopiedLines}
-use Rattle.crx_faults.specs.declared.limits.TheConstants.{CELL_WIDTH}
+use Rattle.crx_base.specs.declared.limits.TheConstants.{CELL_WIDTH}
 use Rattle.crx_laws.specs.Bounds.{AreReadyToHandOut, OfUnits, longest_printed, ExpandedIsReadyToHandOut}
 use Rattle.crx_filter.proofs.reading.WhatWasRead.{compact-items-read}
 use Rattle.crx_filter.proofs.wayback.ExpandedWhole.{AreGoodEpochs, epochs-good}

@@ -15,7 +15,7 @@ use Rattle.crx_filter.proofs.Words.{as_observation, compact_place, first_lines, 
 use Rattle.crx_filter.proofs.Words.{expanded, expanded_lines, ItemsAreRead}
 use Rattle.crx_compact.proofs.soundness.Soundness.{EpochFacts, epoch-facts}
 use Rattle.crx_compact.specs.meaning.CompactPlaces.{ReadRow}
-use Rattle.crx_reading.proofs.Choosing.{by_bool}
+use Rattle.crx_filter.proofs.Choosing.{by_bool}
 use Rattle.crx_filter.proofs.reading.CompactPrefixes.{whole-at}
 use Rattle.crx_filter.proofs.reading.ForwardCompact.{compact-forward, steady-first_lines, compact_beginning}
 use Rattle.crx_filter.proofs.reading.KeptThroughout.{within-kept}

@@ -3,20 +3,20 @@
 use Rattle.std.specs.Prelude.{ℕ, ◌≡◌, Bool, true, List, ◌++◌, Option, None, map}
 use Rattle.std.specs.List.{list_all}
 use Rattle.std.specs.Option.{option_map}
-use Rattle.crx_faults.specs.meaning.Lines.{Piece, pieces_of, lines_of, lines_text}
-use Rattle.crx_faults.specs.meaning.Seen.{seen}
-use Rattle.crx_faults.specs.declared.fault.At.{At}
-use Rattle.crx_faults.specs.declared.fault.Fault.{Fault}
+use Rattle.crx_base.specs.meaning.Lines.{Piece, pieces_of, lines_of, lines_text}
+use Rattle.crx_base.specs.meaning.Seen.{seen}
+use Rattle.crx_base.specs.declared.fault.At.{At}
+use Rattle.crx_base.specs.declared.fault.Fault.{Fault}
 use Rattle.crx_filter.specs.Anew.{starts_anew}
 use Rattle.crx_filter.specs.meaning.Stretches.{read_of_file, IsReadWhole}
 use Rattle.crx_compact.specs.meaning.CompactPlaces.{ReadEpoch}
-use Rattle.crx_options.specs.meaning.Choices.{Choices}
+use Rattle.crx_base.specs.meaning.Choices.{Choices}
 use Rattle.crx_rinex.specs.meaning.Observations.{Epoch}
-use Rattle.crx_reading.specs.meaning.Compacted.{compacted}
-use Rattle.crx_reading.specs.meaning.Damage.{BeginsAnew, lines_after}
-use Rattle.crx_reading.specs.meaning.Expanded.{whole_compact, expanded}
-use Rattle.crx_reading.specs.meaning.Items.{Item, header_has_ended, records_left, types_in_force}
-use Rattle.crx_reading.specs.meaning.Reading.{WholeReading}
+use Rattle.crx_filter.specs.meaning.Compacted.{compacted}
+use Rattle.crx_filter.specs.meaning.Damage.{BeginsAnew, lines_after}
+use Rattle.crx_filter.specs.meaning.Expanded.{whole_compact, expanded}
+use Rattle.crx_filter.specs.meaning.Items.{Item, header_has_ended, records_left, types_in_force}
+use Rattle.crx_filter.specs.meaning.Reading.{WholeReading}
 
 -- whether each line of a text ends with LF
 abbrev pub has_whole_lines : List ℕ → Bool

@@ -1,9 +1,9 @@
 -- The state between two lines is bounded, however long the input is.
 use Rattle.std.specs.Prelude.{ℕ, ◌≡◌, ◌≤◌, ◌+◌, ◌*◌, ⊤, true, List, [], ◌∷◌, length, Option, IfSome}
 use Rattle.std.specs.List.{AllByRecursion}
-use Rattle.crx_faults.specs.declared.limits.TheConstants.{LINE_LIMIT, SATELLITES_LIMIT, TYPES_LIMIT, HEAD_WIDTH}
-use Rattle.crx_faults.specs.declared.limits.TheConstants.{NAME_WIDTH, CELL_WIDTH, ORDER_LIMIT, WRITTEN_ORDER}
-use Rattle.crx_faults.specs.meaning.Seen.{ReadLine, Content, Overlong}
+use Rattle.crx_base.specs.declared.limits.TheConstants.{LINE_LIMIT, SATELLITES_LIMIT, TYPES_LIMIT, HEAD_WIDTH}
+use Rattle.crx_base.specs.declared.limits.TheConstants.{NAME_WIDTH, CELL_WIDTH, ORDER_LIMIT, WRITTEN_ORDER}
+use Rattle.crx_base.specs.meaning.Seen.{ReadLine, Content, Overlong}
 use Rattle.crx_rinex.specs.meaning.Observations.{Row, Epoch}
 use Rattle.crx_rinex.specs.meaning.Units.{Unit as FileUnit, HeaderLine, EventLine, EventRecord, Observation}
 use Rattle.crx_rinex.specs.meaning.EpochPlaces.{OpenEpoch}
@@ -12,14 +12,14 @@ use Rattle.crx_header.specs.meaning.ObservationTypes.{system_letters}
 use Rattle.crx_compact.specs.Tails.{Tail, IsBoundedTail}
 use Rattle.crx_compact.specs.meaning.CompactPlaces.{ReadEpoch}
 use Rattle.crx_compact.specs.OpenEpochs.{OpenRawEpoch, IsBoundedOpen}
-use Rattle.crx_options.specs.meaning.Choices.{Choices, is_date}
-use Rattle.crx_reading.specs.meaning.Items.{Item, Accepted, Warned}
-use Rattle.crx_reading.specs.meaning.Compacted.{compact_unit}
-use Rattle.crx_reading.specs.meaning.Directions.{rinex_reading}
-use Rattle.crx_reading.specs.meaning.Expanded.{expanded_unit}
-use Rattle.crx_reading.specs.meaning.Directions.{compact_reading}
-use Rattle.crx_reading.specs.LineByLine.{Phase, InEpoch, Seen}
-use Rattle.crx_reading.specs.CompactionByLine.{Written}
+use Rattle.crx_base.specs.meaning.Choices.{Choices, is_date}
+use Rattle.crx_filter.specs.meaning.Items.{Item, Accepted, Warned}
+use Rattle.crx_filter.specs.meaning.Compacted.{compact_unit}
+use Rattle.crx_filter.specs.meaning.Directions.{rinex_reading}
+use Rattle.crx_filter.specs.meaning.Expanded.{expanded_unit}
+use Rattle.crx_filter.specs.meaning.Directions.{compact_reading}
+use Rattle.crx_filter.specs.LineByLine.{Phase, InEpoch, Seen}
+use Rattle.crx_filter.specs.CompactionByLine.{Written}
 
 -- a row within the limits: its identifier, a value for each type, and two indicators
 pub record IsBoundedRow (row : Row) : Type 0 where

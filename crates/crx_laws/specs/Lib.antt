@@ -1,3 +1,5 @@
+pub mod CompactExamples
+pub mod FilterExamples
 pub mod SmallFiles
 pub mod Examples
 pub mod BorrowedLines

@@ -1,8 +1,8 @@
 -- The normal form of a file: what a file that is read to its good end, and has no copied line that ends in CR, is read
 -- as again.
 use Rattle.std.specs.Prelude.{◌≡◌, ℕ, List}
-use Rattle.crx_reading.specs.meaning.Standard.{whole_of, normal_form, IsStandard}
-use Rattle.crx_reading.specs.meaning.WayBack.{HasNormalForm}
+use Rattle.crx_filter.specs.meaning.Standard.{whole_of, normal_form, IsStandard}
+use Rattle.crx_filter.specs.meaning.WayBack.{HasNormalForm}
 
 -- its normal form is read as the very same units
 abbrev pub IsReadAsNormal : List ℕ → Type 0

@@ -1,8 +1,8 @@
 -- How much an expansion can make of compact text.
 use Rattle.std.specs.Prelude.{ℕ, ◌≤◌, ◌+◌, ◌*◌, List, length}
-use Rattle.crx_faults.specs.declared.limits.TheConstants.{NAME_WIDTH, CELL_WIDTH, TYPES_LIMIT}
-use Rattle.crx_options.specs.meaning.Choices.{Choices}
-use Rattle.crx_reading.specs.meaning.Expanded.{expanded}
+use Rattle.crx_base.specs.declared.limits.TheConstants.{NAME_WIDTH, CELL_WIDTH, TYPES_LIMIT}
+use Rattle.crx_base.specs.meaning.Choices.{Choices}
+use Rattle.crx_filter.specs.meaning.Expanded.{expanded}
 
 -- the longest line of an epoch in RINEX with its LF, 6404 bytes: an identifier, and a cell for each of as
 -- many types as a system may have. In compact text a line of one byte, its LF, can stand for it

@@ -2,9 +2,9 @@
 use Rattle.std.specs.Prelude.{ℕ, pos, ◌+◌, false, true, List, [], ◌∷◌, ◌++◌, Some, None, codes, replicate, flat_map}
 use Rattle.crx_rinex.specs.meaning.Observations.{Epoch}
 use Rattle.crx_rinex.specs.meaning.Units.{Unit as FileUnit, HeaderLine, EventLine, EventRecord, Observation}
-use Rattle.crx_options.specs.meaning.Choices.{Choices}
-use Rattle.crx_reading.specs.meaning.Items.{Item, Accepted}
-use Rattle.crx_faults.specs.meaning.Lines.{lines_text}
+use Rattle.crx_base.specs.meaning.Choices.{Choices}
+use Rattle.crx_filter.specs.meaning.Items.{Item, Accepted}
+use Rattle.crx_base.specs.meaning.Lines.{lines_text}
 
 -- so many blanks
 abbrev pub blanks : ℕ → List ℕ

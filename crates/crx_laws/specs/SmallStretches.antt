@@ -1,9 +1,9 @@
 -- Small files that are damaged in stretches, and one that is cut off, for the laws' premises.
 use Rattle.std.specs.Prelude.{ℕ, List, [], ◌∷◌, ◌++◌, codes}
-use Rattle.crx_faults.specs.meaning.Lines.{lines_text}
+use Rattle.crx_base.specs.meaning.Lines.{lines_text}
 use Rattle.crx_rinex.specs.meaning.Observations.{Epoch}
 use Rattle.crx_rinex.specs.meaning.Units.{EventLine, EventRecord, Observation}
-use Rattle.crx_reading.specs.meaning.Items.{Item, Accepted}
+use Rattle.crx_filter.specs.meaning.Items.{Item, Accepted}
 use Rattle.crx_filter.specs.meaning.Stretches.{Stretch}
 use Rattle.crx_laws.specs.SmallFiles.{blanks, header, first_two, line_at, full_line_at, second_changed}
 use Rattle.crx_laws.specs.SmallFiles.{epoch_at_second}

@@ -1,17 +1,17 @@
 //! Blocks of compact text stand alone: each law is the contract of a function that does nothing.
 
 ghost use Rattle.std.specs.Prelude.{◌≡◌, ◌++◌, [], List, ℕ, true, map};
-ghost use Rattle.crx_faults.specs.meaning.Lines.{lines_of, lines_text};
-ghost use Rattle.crx_faults.specs.meaning.Seen.{seen};
+ghost use Rattle.crx_base.specs.meaning.Lines.{lines_of, lines_text};
+ghost use Rattle.crx_base.specs.meaning.Seen.{seen};
 ghost use Rattle.crx_filter.specs.Anew.{starts_anew};
 ghost use Rattle.crx_filter.specs.meaning.Stretches.{read_of_file};
 ghost use Rattle.crx_laws.specs.Blocks.{CanGoOn, HaveSameTypes, StandAlone, IsPieceAfter};
 ghost use Rattle.crx_laws.specs.SmallFiles.{header, first_two, plain_choices, in_full_every_second, file_of_five};
 ghost use Rattle.crx_laws.specs.SmallStretches.{first_epoch_text, second_block_text};
-ghost use Rattle.crx_options.specs.meaning.Choices.{Choices, is_date};
-ghost use Rattle.crx_reading.specs.meaning.Expanded.{expanded};
-ghost use Rattle.crx_reading.specs.meaning.Standard.{printed_items};
-ghost use Rattle.crx_reading.specs.meaning.WayBack.{written_well};
+ghost use Rattle.crx_base.specs.meaning.Choices.{Choices, is_date};
+ghost use Rattle.crx_filter.specs.meaning.Expanded.{expanded};
+ghost use Rattle.crx_filter.specs.meaning.Standard.{printed_items};
+ghost use Rattle.crx_filter.specs.meaning.WayBack.{written_well};
 
 /// Blocks stand alone. Of two compact texts, each of whole lines and expanded without a fault, both leave the same observation types in
 /// force, as a file up to some block and its header alone do where the types don't change. Then what comes after them, from a line on

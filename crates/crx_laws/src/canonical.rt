@@ -1,12 +1,12 @@
 //! Compact text is canonical: each law is the contract of a function that does nothing.
 
 ghost use Rattle.std.specs.Prelude.{◌≡◌, ◌∷◌, ◌++◌, [], ℕ, List, true, codes};
-ghost use Rattle.crx_faults.specs.meaning.Lines.{lines_text};
+ghost use Rattle.crx_base.specs.meaning.Lines.{lines_text};
 ghost use Rattle.crx_filter.specs.meaning.Canonical.{CompactsAsNormal, IsCanonical};
 ghost use Rattle.crx_laws.specs.SmallFiles.{header, epoch_line_at, observed, plain_choices};
-ghost use Rattle.crx_options.specs.meaning.Choices.{Choices, is_date};
-ghost use Rattle.crx_reading.specs.meaning.Standard.{normal_form};
-ghost use Rattle.crx_reading.specs.meaning.WayBack.{HasNormalForm};
+ghost use Rattle.crx_base.specs.meaning.Choices.{Choices, is_date};
+ghost use Rattle.crx_filter.specs.meaning.Standard.{normal_form};
+ghost use Rattle.crx_filter.specs.meaning.WayBack.{HasNormalForm};
 
 /// The normal form of a file is compacted as the file is, whatever is chosen.
 pub fn the_normal_form_compacts_the_same()

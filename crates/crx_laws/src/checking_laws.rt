@@ -1,14 +1,14 @@
 //! What a check means line by line, and what `standard yes` means: each law is the contract of a function that does nothing.
 
 ghost use Rattle.std.specs.Prelude.{◌≡◌, [], List, ℕ, None, true};
-ghost use Rattle.crx_faults.specs.meaning.Lines.{InputLine};
-ghost use Rattle.crx_reading.specs.meaning.Directions.{check_filter};
-ghost use Rattle.crx_options.specs.meaning.Choices.{Choices, is_date};
+ghost use Rattle.crx_base.specs.meaning.Lines.{InputLine};
+ghost use Rattle.crx_filter.specs.meaning.Directions.{check_filter};
+ghost use Rattle.crx_base.specs.meaning.Choices.{Choices, is_date};
 ghost use Rattle.crx_filter.specs.CheckingLaws.{IsCheckedOn, IsCheckEnded, IsNamedWhereNot, IsStandardExactlyWhereSame};
 ghost use Rattle.crx_laws.specs.SmallFiles.{file_of_five, plain_choices, returned_text};
-ghost use Rattle.crx_faults.specs.meaning.Lines.{lines_text};
+ghost use Rattle.crx_base.specs.meaning.Lines.{lines_text};
 ghost use Rattle.crx_runs.specs.Lawful.{IsLawful};
-ghost use Rattle.crx_reading.specs.meaning.Standard.{whole_of};
+ghost use Rattle.crx_filter.specs.meaning.Standard.{whole_of};
 
 /// A check goes line by line: what it has seen after a line is made of the line and of what it had seen before it, and the fault is that
 /// of the reading of all lines so far.

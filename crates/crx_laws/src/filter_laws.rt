@@ -1,27 +1,27 @@
 //! Laws over the definitions of both filters: each is the contract of a function that does nothing.
 
 ghost use Rattle.std.specs.Prelude.{◌≡◌, ◌∷◌, ◌++◌, [], List, Bool, true, false, Some, codes, map, take, drop};
-ghost use Rattle.crx_faults.specs.meaning.Seen.{ReadLine, Content, seen};
-ghost use Rattle.crx_faults.specs.meaning.Lines.{lines_of};
-ghost use Rattle.crx_faults.specs.declared.fault.Fault.TheVariants.{NotAnEpoch, NotCompact};
-ghost use Rattle.crx_faults.specs.declared.fault.At.{At};
+ghost use Rattle.crx_base.specs.meaning.Seen.{ReadLine, Content, seen};
+ghost use Rattle.crx_base.specs.meaning.Lines.{lines_of};
+ghost use Rattle.crx_base.specs.declared.fault.Fault.TheVariants.{NotAnEpoch, NotCompact};
+ghost use Rattle.crx_base.specs.declared.fault.At.{At};
 ghost use Rattle.crx_filter.specs.Anew.{starts_anew, DependsOnTypes};
 ghost use Rattle.crx_laws.specs.Bounds.{IsBoundedCompaction, IsBoundedExpansion, CompactIsReadyToHandOut, ExpandedIsReadyToHandOut};
-ghost use Rattle.crx_options.specs.meaning.Choices.{Choices};
-ghost use Rattle.crx_reading.specs.CompactionByLine.{compaction, compaction_seen};
+ghost use Rattle.crx_base.specs.meaning.Choices.{Choices};
+ghost use Rattle.crx_filter.specs.CompactionByLine.{compaction, compaction_seen};
 ghost use Rattle.crx_laws.specs.SmallFiles.{header, line_at, one_type_line, full_line_at, second_changed};
-ghost use Rattle.crx_reading.specs.ExpansionByLine.{expansion, expansion_seen};
-ghost use Rattle.crx_reading.specs.meaning.Compacted.{rinex_place, whole_rinex, compacted};
+ghost use Rattle.crx_filter.specs.ExpansionByLine.{expansion, expansion_seen};
+ghost use Rattle.crx_filter.specs.meaning.Compacted.{rinex_place, whole_rinex, compacted};
 ghost use Rattle.crx_filter.specs.Compacted.{compacted_so_far};
-ghost use Rattle.crx_reading.specs.meaning.Directions.{rinex_reading};
-ghost use Rattle.crx_reading.specs.meaning.Directions.{compaction_filter, expansion_filter};
+ghost use Rattle.crx_filter.specs.meaning.Directions.{rinex_reading};
+ghost use Rattle.crx_filter.specs.meaning.Directions.{compaction_filter, expansion_filter};
 ghost use Rattle.crx_runs.specs.Lawful.{IsLawful};
-ghost use Rattle.crx_reading.specs.meaning.Expanded.{compact_place, whole_compact, expanded};
+ghost use Rattle.crx_filter.specs.meaning.Expanded.{compact_place, whole_compact, expanded};
 ghost use Rattle.crx_filter.specs.Expanded.{expanded_so_far};
-ghost use Rattle.crx_reading.specs.meaning.Directions.{compact_reading};
-ghost use Rattle.crx_faults.specs.meaning.Lines.{lines_text};
+ghost use Rattle.crx_filter.specs.meaning.Directions.{compact_reading};
+ghost use Rattle.crx_base.specs.meaning.Lines.{lines_text};
 ghost use Rattle.crx_filter.specs.Laws.{IsReadForward, IsResumed, IsWrittenFirst, IsCompactedOn, IsExpandedOn, IsCompactionEnded, IsExpansionEnded, StaysEnded, ItemsAreRead, AreInPlace, IsReadyWhereHandedOut};
-ghost use Rattle.crx_reading.specs.meaning.Reading.{fault_of_stop};
+ghost use Rattle.crx_filter.specs.meaning.Reading.{fault_of_stop};
 
 /// What stands at a line of a RINEX file is certain as soon as its last line has come; so the reading of some lines and more goes on
 /// from where the reading of the first lines stopped.

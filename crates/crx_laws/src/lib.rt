@@ -1,12 +1,15 @@
-//! The laws of lines, of RINEX and Compact RINEX, and of what both filters and the check mean. Each is the contract of a function that does
-//! nothing, but for the way back through `Columns`, which reads what was written.
+//! The laws of lines, of RINEX and Compact RINEX, and of what both filters and the check mean, and worked examples of the definitions. Each is
+//! the contract of a function that does nothing, but for the way back through `Columns`, which reads what was written.
 #![tactic(auto)]
 
 pub mod blocks;
 pub mod canonical;
+pub mod checking_examples;
 pub mod checking_laws;
+pub mod compact_examples;
 pub mod compact_laws;
 pub mod compact_reading;
+pub mod filter_examples;
 pub mod filter_laws;
 pub mod line_laws;
 pub mod lossless;
@@ -16,6 +19,7 @@ pub mod reading_back;
 pub mod rinex_laws;
 pub mod salvage;
 pub mod sizes;
+pub mod stretch_examples;
 pub mod stretches;
 pub mod units;
 pub mod way_back;

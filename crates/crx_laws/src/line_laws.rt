@@ -2,15 +2,15 @@
 ghost use Rattle.std.specs.Prelude.{◌≡◌, ℕ, List, [], ◌∷◌, ◌++◌, ◌+◌, ◌<◌, ◌≤◌, ◌⊎◌, length, take, true, false, Option, Result};
 ghost use Rattle.crx_lines.specs.meaning.Devices.{one_more, tally_of};
 ghost use Rattle.crx_lines.specs.Reading.{HasNoFeed};
-ghost use Rattle.crx_faults.specs.meaning.Lines.{InputLine, line_of, lines_of};
+ghost use Rattle.crx_base.specs.meaning.Lines.{InputLine, line_of, lines_of};
 ghost use Rattle.crx_lines.specs.Progress.{AtAnswer, HasRead};
 ghost use Rattle.crx_lines.specs.Reading.{ReaderAnswers, ReaderState};
-ghost use Rattle.crx_faults.specs.meaning.Seen.{ended_lines_of};
-ghost use Rattle.crx_faults.specs.declared.fault.At.{At};
-ghost use Rattle.crx_faults.specs.declared.limits.TheConstants.{INPUT_LIMIT};
+ghost use Rattle.crx_base.specs.meaning.Seen.{ended_lines_of};
+ghost use Rattle.crx_base.specs.declared.fault.At.{At};
+ghost use Rattle.crx_base.specs.declared.limits.TheConstants.{INPUT_LIMIT};
 ghost use Rattle.crx_lines.specs.declared.line.Line.{Line};
 
-use crx_faults::Fault;
+use crx_base::Fault;
 use crx_lines::Source;
 use crx_lines::phase::Phase;
 

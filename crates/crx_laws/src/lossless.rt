@@ -1,11 +1,11 @@
 //! Losslessness, by the results of the three calls alone: the law is the contract of a function that does nothing.
 
 ghost use Rattle.std.specs.Prelude.{◌≡◌, ◌∷◌, ◌++◌, [], true, codes};
-ghost use Rattle.crx_faults.specs.meaning.Lines.{lines_text};
+ghost use Rattle.crx_base.specs.meaning.Lines.{lines_text};
 ghost use Rattle.crx_filter.specs.meaning.Lossless.{WhatPassesComesBack};
 ghost use Rattle.crx_laws.specs.SmallFiles.{header, epoch_line_at, observed, plain_choices};
-ghost use Rattle.crx_options.specs.meaning.Choices.{is_date};
-ghost use Rattle.crx_reading.specs.meaning.Standard.{checked};
+ghost use Rattle.crx_base.specs.meaning.Choices.{is_date};
+ghost use Rattle.crx_filter.specs.meaning.Standard.{checked};
 
 /// A file that a check passes, with status 0, comes back byte for byte from its compact text, with no message and status 0, whatever is
 /// chosen on either way: how often epochs stand in full, whether faults are skipped, and the date.

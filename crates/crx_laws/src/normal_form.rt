@@ -4,10 +4,10 @@
 
 ghost use Rattle.std.specs.Prelude.{◌≡◌, ◌∷◌, ◌++◌, [], List, ℕ, codes};
 ghost use Rattle.crx_laws.specs.SmallFiles.{header, epoch_line_at, observed};
-ghost use Rattle.crx_reading.specs.meaning.WayBack.{HasNormalForm};
+ghost use Rattle.crx_filter.specs.meaning.WayBack.{HasNormalForm};
 ghost use Rattle.crx_laws.specs.NormalForm.{IsReadAsNormal, IsStandardAsNormal, IsNormalForGood};
-ghost use Rattle.crx_faults.specs.meaning.Lines.{lines_text};
-ghost use Rattle.crx_reading.specs.meaning.Standard.{normal_form};
+ghost use Rattle.crx_base.specs.meaning.Lines.{lines_text};
+ghost use Rattle.crx_filter.specs.meaning.Standard.{normal_form};
 
 /// The normal form is read as the very same units as the file: each header line, event line and record, and each epoch with its clock
 /// offset, values and indicators.

@@ -1,7 +1,7 @@
 //! The way back: what one `Columns` makes of an epoch, another one reads.
 
 ghost use Rattle.std.specs.Prelude.{◌≡◌, ◌⊎◌, ◌↔◌, ◌∷◌, List, Some, true, false, map, IfOk, IfErr, IsTrue};
-ghost use Rattle.crx_faults.specs.meaning.Seen.{Content};
+ghost use Rattle.crx_base.specs.meaning.Seen.{Content};
 ghost use Rattle.crx_compact.specs.meaning.Compaction.{Marked, compact_epoch, since_full};
 ghost use Rattle.crx_compact.specs.Laws.{AreWhole};
 ghost use Rattle.crx_laws.specs.BorrowedLines.{AreReadable, HasGiven, IsReadable, IsFaultAt};
@@ -9,9 +9,9 @@ ghost use Rattle.crx_compact.specs.OpenEpochs.{is_idle, place_by_steps, tail_hel
 ghost use Rattle.crx_compact.specs.OpenEpochs.ColumnsState.{Idle};
 ghost use Rattle.crx_compact.specs.Tails.{tail_or_nothing};
 
+use crx_base::Fault;
+use crx_base::limits::LINE_LIMIT;
 use crx_compact::{Coded, Columns};
-use crx_faults::Fault;
-use crx_faults::limits::LINE_LIMIT;
 use crx_header::Types;
 use crx_rinex::{Epoch, is_event_line};
 

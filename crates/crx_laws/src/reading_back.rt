@@ -2,7 +2,7 @@
 //! that does nothing.
 
 ghost use Rattle.std.specs.Prelude.{◌≡◌, ◌+◌, ◌++◌, List, Ok, length, map};
-ghost use Rattle.crx_faults.specs.meaning.Seen.{ReadLine, Content};
+ghost use Rattle.crx_base.specs.meaning.Seen.{ReadLine, Content};
 ghost use Rattle.crx_rinex.specs.meaning.Observations.{Row, Epoch};
 ghost use Rattle.crx_header.specs.meaning.ObservationTypes.{Count};
 ghost use Rattle.crx_rinex.specs.meaning.EpochLines.{EpochHead, ObservationHead, IsObservationHead, head_of};

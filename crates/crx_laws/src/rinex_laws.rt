@@ -2,15 +2,15 @@
 
 ghost use Rattle.std.specs.Prelude.{◌≡◌, ◌≤◌, ◌+◌, ◌∷◌, [], ℕ, List, Some, length};
 ghost use Rattle.std.specs.Prelude.{Result};
-ghost use Rattle.crx_faults.specs.declared.fault.Fault.{Fault};
-ghost use Rattle.crx_faults.specs.meaning.Seen.{ReadLine};
+ghost use Rattle.crx_base.specs.declared.fault.Fault.{Fault};
+ghost use Rattle.crx_base.specs.meaning.Seen.{ReadLine};
 ghost use Rattle.crx_header.specs.meaning.ObservationTypes.{Count};
 ghost use Rattle.crx_header.specs.ObservationTypes.{AreCounts};
 ghost use Rattle.crx_rinex.specs.meaning.Observations.{Epoch};
 ghost use Rattle.crx_rinex.specs.meaning.Epochs.{IsWholeEpoch};
 ghost use Rattle.crx_rinex.specs.meaning.Places.{Place, Here, Wrong, Wanted, first_line, then_place};
 ghost use Rattle.crx_laws.specs.Examples.{one_type, first_line_of_two, g01_line, g02_line, half_open, epoch_of_two};
-ghost use Rattle.crx_faults.specs.declared.fault.Fault.TheVariants.{Truncated, RepeatedSatellite};
+ghost use Rattle.crx_base.specs.declared.fault.Fault.TheVariants.{Truncated, RepeatedSatellite};
 ghost use Rattle.crx_rinex.specs.meaning.Units.{Observation};
 ghost use Rattle.crx_rinex.specs.Steady.{IsSteady};
 ghost use Rattle.crx_rinex.specs.meaning.EpochPlaces.{OpenEpoch, epoch_place, row_at, rest_at};

@@ -1,10 +1,10 @@
 //! What is saved of damaged compact text: each law is the contract of a function that does nothing.
 
 ghost use Rattle.std.specs.Prelude.{◌≡◌, ◌∷◌, ◌++◌, [], List, ℕ, true, codes, drop};
-ghost use Rattle.crx_options.specs.meaning.Choices.{Choices, is_date};
-ghost use Rattle.crx_reading.specs.meaning.Damage.{lines_of_epochs, IsDamaged};
+ghost use Rattle.crx_base.specs.meaning.Choices.{Choices, is_date};
+ghost use Rattle.crx_filter.specs.meaning.Damage.{lines_of_epochs, IsDamaged};
 ghost use Rattle.crx_filter.specs.Damage.{IsOfCompaction, StaysInItsBlock};
-ghost use Rattle.crx_faults.specs.meaning.Lines.{lines_text};
+ghost use Rattle.crx_base.specs.meaning.Lines.{lines_text};
 ghost use Rattle.crx_laws.specs.SmallFiles.{file_of_five, with_event, plain_choices, in_full_every_second, with_skip, epoch_at_second, first_block, damaged_by, other_block, last_damaged_by, damaged_before_event};
 
 /// Damage to compact text stays in its block. Of the compact text of a standard file, the lines of one block of epochs, from an epoch in

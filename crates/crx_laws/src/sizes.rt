@@ -2,7 +2,7 @@
 
 ghost use Rattle.std.specs.Prelude.{◌≡◌, List, ℕ};
 ghost use Rattle.crx_laws.specs.Sizes.{most_for_a_byte, IsWithinSize};
-ghost use Rattle.crx_options.specs.meaning.Choices.{Choices};
+ghost use Rattle.crx_base.specs.meaning.Choices.{Choices};
 
 /// The output of an expansion is at most 6404 times as long as its input, whatever the input is: each line of compact text takes a byte
 /// at least, and stands for at most the longest line of an epoch in RINEX, or for itself.

@@ -1,13 +1,13 @@
 //! What is saved of compact text that is damaged in stretches, or cut off: each law is the contract of a function that does nothing.
 
 ghost use Rattle.std.specs.Prelude.{◌≡◌, [], List, ℕ, true};
-ghost use Rattle.crx_faults.specs.meaning.Lines.{lines_text};
+ghost use Rattle.crx_base.specs.meaning.Lines.{lines_text};
 ghost use Rattle.crx_filter.specs.meaning.Stretches.{HasStretches, KeepsTheRest, BeginsWhole};
 ghost use Rattle.crx_laws.specs.SmallFiles.{file_of_five, with_event, plain_choices, in_full_every_second};
 ghost use Rattle.crx_laws.specs.SmallStretches.{damaged_twice, cut_off, with_lost_count, without_event};
-ghost use Rattle.crx_options.specs.meaning.Choices.{Choices, is_date};
-ghost use Rattle.crx_reading.specs.meaning.Expanded.{expanded};
-ghost use Rattle.crx_reading.specs.meaning.Standard.{printed_items};
+ghost use Rattle.crx_base.specs.meaning.Choices.{Choices, is_date};
+ghost use Rattle.crx_filter.specs.meaning.Expanded.{expanded};
+ghost use Rattle.crx_filter.specs.meaning.Standard.{printed_items};
 ghost use Rattle.crx_runs.specs.meaning.Results.{Begins};
 
 /// Damage costs what it touches. Of the compact text of a file, any number of stretches after the header are damaged: in place of the

@@ -1,10 +1,10 @@
 //! What compact text is, of a file in order: each law is the contract of a function that does nothing.
 
 ghost use Rattle.std.specs.Prelude.{◌≡◌, ◌∷◌, ◌++◌, [], ℕ, List, codes};
-ghost use Rattle.crx_faults.specs.meaning.Lines.{lines_text};
+ghost use Rattle.crx_base.specs.meaning.Lines.{lines_text};
 ghost use Rattle.crx_filter.specs.meaning.UnitsAndText.{MakeAFile, TextsOfUnits, IsStandardByUnits, rinex_text, compact_text};
 ghost use Rattle.crx_laws.specs.SmallFiles.{header, first_two, full_line_at, second_changed, comment_event, with_event, units_with_event, plain_choices};
-ghost use Rattle.crx_options.specs.meaning.Choices.{Choices};
+ghost use Rattle.crx_base.specs.meaning.Choices.{Choices};
 ghost use Rattle.crx_rinex.specs.meaning.Observations.{Epoch};
 ghost use Rattle.crx_rinex.specs.meaning.Units.{Unit};
 

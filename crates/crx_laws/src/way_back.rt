@@ -1,16 +1,16 @@
 //! The way back: each law is the contract of a function that does nothing.
 
 ghost use Rattle.std.specs.Prelude.{◌≡◌, ◌∷◌, ◌++◌, [], List, ℕ, None, true, codes, map};
-ghost use Rattle.crx_faults.specs.meaning.Seen.{seen};
-ghost use Rattle.crx_faults.specs.meaning.Lines.{lines_of};
-ghost use Rattle.crx_options.specs.meaning.Choices.{Choices, is_date};
-ghost use Rattle.crx_reading.specs.meaning.Compacted.{whole_rinex, compacted};
-ghost use Rattle.crx_reading.specs.meaning.Expanded.{expanded};
+ghost use Rattle.crx_base.specs.meaning.Seen.{seen};
+ghost use Rattle.crx_base.specs.meaning.Lines.{lines_of};
+ghost use Rattle.crx_base.specs.meaning.Choices.{Choices, is_date};
+ghost use Rattle.crx_filter.specs.meaning.Compacted.{whole_rinex, compacted};
+ghost use Rattle.crx_filter.specs.meaning.Expanded.{expanded};
 ghost use Rattle.crx_laws.specs.SmallFiles.{blanks, header, epoch_line_at, observed, line_at, plain_choices};
-ghost use Rattle.crx_faults.specs.meaning.Lines.{lines_text};
-ghost use Rattle.crx_reading.specs.meaning.Standard.{whole_of, IsStandard};
+ghost use Rattle.crx_base.specs.meaning.Lines.{lines_text};
+ghost use Rattle.crx_filter.specs.meaning.Standard.{whole_of, IsStandard};
 ghost use Rattle.crx_filter.specs.WayBack.{ComesBack, NormalFormComesBack, StandardComesBack, IsStandardWhereSame};
-ghost use Rattle.crx_reading.specs.meaning.WayBack.{HaveNoReturns};
+ghost use Rattle.crx_filter.specs.meaning.WayBack.{HaveNoReturns};
 
 /// Whatever was compacted comes back: where the compaction isn't ended by a fault, the expansion of its compact text writes each
 /// accepted unit as RINEX prints it, reports nothing, and ends with status 0. Faults may be skipped or not, on both ways, and epochs

@@ -3,8 +3,8 @@
 ghost use Rattle.std.specs.Prelude.{◌≡◌, ◌∷◌, ◌++◌, [], ℕ, List, None, true, false, codes};
 ghost use Rattle.crx_filter.specs.meaning.WrittenStandard.{WhatIsExpandedIsStandard, has_plain_lines};
 ghost use Rattle.crx_laws.specs.SmallFiles.{damaged_by, of_other_orders, with_returns, with_skip, plain_choices};
-ghost use Rattle.crx_options.specs.meaning.Choices.{Choices};
-ghost use Rattle.crx_reading.specs.meaning.Expanded.{expanded};
+ghost use Rattle.crx_base.specs.meaning.Choices.{Choices};
+ghost use Rattle.crx_filter.specs.meaning.Expanded.{expanded};
 
 /// What an expansion writes, where no fault ends it, is a standard file, unless a line of it ends in CR: whoever wrote the compact text,
 /// whatever was damaged of it, and whether faults were skipped or not. A line ends in CR exactly where one that was copied does.

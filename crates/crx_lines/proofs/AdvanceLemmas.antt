@@ -7,15 +7,15 @@ use Rattle.std.proofs.lemmas.List.{drop_more, get_or-take, take_all, drop_all, t
 use Rattle.std.proofs.lemmas.List.Elements.{All-append, All-from_get_or}
 use Rattle.std.proofs.lemmas.Bool.{true≢false, lt-ltb}
 use Rattle.crx_lines.specs.meaning.Devices.{Tally, with_failure}
-use Rattle.crx_faults.specs.meaning.Lines.{Piece, InputLine, line_of, is_long, without_return, ends_with_return}
+use Rattle.crx_base.specs.meaning.Lines.{Piece, InputLine, line_of, is_long, without_return, ends_with_return}
 use Rattle.crx_lines.specs.Readers.{part_shown}
 use Rattle.crx_lines.specs.Reading.{HasNoFeed, ReaderState, BeginsWith, TakesPiece, Stops, AnswersFault, AnswersAs}
 use Rattle.crx_lines.specs.Reading.{ReaderAnswers, line_shown, line_number}
-use Rattle.crx_faults.specs.declared.fault.At.{At}
-use Rattle.crx_faults.specs.declared.fault.Fault.{Fault}
-use Rattle.crx_faults.specs.declared.fault.Fault.TheVariants.{InputTooLong, ReadFailed}
+use Rattle.crx_base.specs.declared.fault.At.{At}
+use Rattle.crx_base.specs.declared.fault.Fault.{Fault}
+use Rattle.crx_base.specs.declared.fault.Fault.TheVariants.{InputTooLong, ReadFailed}
 use Rattle.crx_lines.specs.Seeking.{Seeking}
-use Rattle.crx_faults.specs.declared.limits.TheConstants.{LINE_LIMIT, INPUT_LIMIT}
+use Rattle.crx_base.specs.declared.limits.TheConstants.{LINE_LIMIT, INPUT_LIMIT}
 use Rattle.crx_lines.specs.declared.line.Line.{Line}
 use Rattle.crx_lines.specs.declared.line.Part.{Part}
 use Rattle.crx_lines.specs.declared.phase.Phase.TheVariants.{Open, Ended}

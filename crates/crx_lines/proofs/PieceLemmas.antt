@@ -4,9 +4,9 @@ use Rattle.std.proofs.Common.{length, refl, sym, ap, subst, arith}
 use Rattle.std.proofs.lemmas.List.Elements.{All-head, All-tail, All-cons}
 use Rattle.std.proofs.lemmas.Bool.{ne_eqb}
 use Rattle.std.proofs.lemmas.Bool.Decides.{eqb_tells}
-use Rattle.crx_faults.specs.meaning.Lines.{Piece, pieces_of, onto_first}
+use Rattle.crx_base.specs.meaning.Lines.{Piece, pieces_of, onto_first}
 use Rattle.crx_lines.specs.Reading.{HasNoFeed}
-use Rattle.crx_faults.specs.meaning.Seen.{ended_pieces}
+use Rattle.crx_base.specs.meaning.Seen.{ended_pieces}
 
 abbrev pub NoFeed : ℕ → Type 0
 NoFeed b = b ≢ 10

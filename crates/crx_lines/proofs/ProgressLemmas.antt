@@ -6,15 +6,15 @@ use Rattle.std.proofs.lemmas.List.{length_push, map-append, take_all}
 use Rattle.std.proofs.Math.Seq.{take-append-add}
 use Rattle.crx_lines.specs.meaning.Devices.{one_more, Tally, with_failure}
 use Rattle.crx_lines.specs.Devices.{with_end, tally_after_line}
-use Rattle.crx_faults.specs.meaning.Lines.{InputLine, Piece, pieces_of, lines_of, line_of}
+use Rattle.crx_base.specs.meaning.Lines.{InputLine, Piece, pieces_of, lines_of, line_of}
 use Rattle.crx_lines.specs.Reading.{HasNoFeed, ReaderState, TakesPiece, ReaderAnswers, AnswersFault, line_shown}
 use Rattle.crx_lines.specs.Reading.{line_number}
-use Rattle.crx_faults.specs.meaning.Seen.{ended_pieces, ended_lines_of}
+use Rattle.crx_base.specs.meaning.Seen.{ended_pieces, ended_lines_of}
 use Rattle.crx_lines.specs.Progress.{IsOpen, IsOver, IsStopped, StandsAt, HasRead, IsOneMore, AtFault, AtAnswer}
-use Rattle.crx_faults.specs.declared.limits.TheConstants.{INPUT_LIMIT}
-use Rattle.crx_faults.specs.declared.fault.At.{At}
-use Rattle.crx_faults.specs.declared.fault.Fault.{Fault}
-use Rattle.crx_faults.specs.declared.fault.Fault.TheVariants.{LineTooLong, InputTooLong, ReadFailed}
+use Rattle.crx_base.specs.declared.limits.TheConstants.{INPUT_LIMIT}
+use Rattle.crx_base.specs.declared.fault.At.{At}
+use Rattle.crx_base.specs.declared.fault.Fault.{Fault}
+use Rattle.crx_base.specs.declared.fault.Fault.TheVariants.{LineTooLong, InputTooLong, ReadFailed}
 use Rattle.crx_lines.specs.declared.line.Line.{Line}
 use Rattle.crx_lines.specs.declared.phase.Phase.{Phase}
 use Rattle.crx_lines.specs.declared.phase.Phase.TheVariants.{Open, Ended, Stopped}

@@ -4,7 +4,7 @@ use Rattle.std.proofs.Common.{length, take, drop, get_or, slice_range, refl, sym
 use Rattle.std.proofs.Common.{length-drop}
 use Rattle.std.proofs.lemmas.List.{take-take, take_more, get_or-take, get_or-drop}
 use Rattle.std.proofs.lemmas.Bool.{ne_eqb}
-use Rattle.crx_faults.specs.meaning.Lines.{without_return, ends_with_return}
+use Rattle.crx_base.specs.meaning.Lines.{without_return, ends_with_return}
 
 pub without_return-cr : (xs : List ℕ) (x : ℕ) → (x == 13) ≡ true → without_return (xs ++ x ∷ []) ≡ xs
 without_return-cr [] x e = rw e refl

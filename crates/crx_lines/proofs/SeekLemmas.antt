@@ -7,7 +7,7 @@ use Rattle.std.proofs.lemmas.List.Elements.{All-append, All-from_get_or, All-con
 use Rattle.std.proofs.lemmas.Bool.{cases_lt}
 use Rattle.crx_lines.specs.Reading.{HasNoFeed}
 use Rattle.crx_lines.specs.Seeking.{Seeking}
-use Rattle.crx_faults.specs.declared.limits.TheConstants.{LINE_LIMIT}
+use Rattle.crx_base.specs.declared.limits.TheConstants.{LINE_LIMIT}
 use Rattle.crx_lines.proofs.PieceLemmas.{NoFeed}
 
 pub Seeking-start : (gave : List ℕ → Type 0) (old : List ℕ) (room : ℕ) → gave [] → Seeking gave old old room 0 0 0

@@ -1,6 +1,6 @@
 -- What a clause reads of a reader of lines.
 use Rattle.std.specs.Prelude.{ℕ, List, slice_range}
-use Rattle.crx_faults.specs.meaning.Lines.{InputLine}
+use Rattle.crx_base.specs.meaning.Lines.{InputLine}
 use Rattle.crx_lines.specs.Reading.{ReaderState}
 use Rattle.crx_lines.specs.Window.{kept}
 use Rattle.crx_lines.specs.declared.line.LineReader.{LineReader}

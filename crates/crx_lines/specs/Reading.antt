@@ -3,11 +3,11 @@ use Rattle.std.specs.Prelude.{◌≡◌, ℕ, ◌+◌, ◌-◌, ◌<◌, ◌≤�
 use Rattle.std.specs.Prelude.{if◌then◌else◌, Option, Some, None, Result, Ok, Err, ◌≢◌, All}
 use Rattle.crx_lines.specs.meaning.Devices.{Tally, with_failure}
 use Rattle.crx_lines.specs.Devices.{with_end, tally_after_line}
-use Rattle.crx_faults.specs.meaning.Lines.{InputLine, Piece, line_of, is_long}
-use Rattle.crx_faults.specs.declared.limits.TheConstants.{INPUT_LIMIT}
-use Rattle.crx_faults.specs.declared.fault.At.{At}
-use Rattle.crx_faults.specs.declared.fault.Fault.{Fault}
-use Rattle.crx_faults.specs.declared.fault.Fault.TheVariants.{LineTooLong, InputTooLong, ReadFailed}
+use Rattle.crx_base.specs.meaning.Lines.{InputLine, Piece, line_of, is_long}
+use Rattle.crx_base.specs.declared.limits.TheConstants.{INPUT_LIMIT}
+use Rattle.crx_base.specs.declared.fault.At.{At}
+use Rattle.crx_base.specs.declared.fault.Fault.{Fault}
+use Rattle.crx_base.specs.declared.fault.Fault.TheVariants.{LineTooLong, InputTooLong, ReadFailed}
 use Rattle.crx_lines.specs.declared.line.Line.{Line}
 use Rattle.crx_lines.specs.declared.phase.Phase.{Phase}
 use Rattle.crx_lines.specs.declared.phase.Phase.TheVariants.{Open, Ended, Stopped}

@@ -1,7 +1,7 @@
 -- The search for the end of a line, between two reads. No public clause cites this module.
 use Rattle.std.specs.Prelude.{◌≡◌, ◌≢◌, ℕ, ◌+◌, ◌<◌, ◌≤◌, List, ◌++◌, ◌⊎◌, length, slice_index}
 use Rattle.crx_lines.specs.Reading.{HasNoFeed}
-use Rattle.crx_faults.specs.declared.limits.TheConstants.{LINE_LIMIT}
+use Rattle.crx_base.specs.declared.limits.TheConstants.{LINE_LIMIT}
 
 -- the old bytes and the given ones are those that were discarded, without LF, and those that are held;
 -- the first of these were searched, without finding an LF

@@ -5,7 +5,7 @@ ghost use Rattle.crx_lines.specs.Window.{kept};
 ghost use Rattle.crx_lines.specs.declared.line.LineReader.{LineReader};
 ghost use Rattle.crx_lines.specs.declared.window.TheConstants.{SIZE};
 ghost use Rattle.crx_lines.specs.declared.window.Window.{Window};
-ghost use Rattle.crx_faults.specs.declared.limits.TheConstants.{INPUT_LIMIT};
+ghost use Rattle.crx_base.specs.declared.limits.TheConstants.{INPUT_LIMIT};
 
 /// What a reader of lines holds, in full: one that takes over these parts of another is that other. So there is no part beside them, in which
 /// a record of the past lines could grow; its buffer has one size, and its numbers are within the limit of an input.

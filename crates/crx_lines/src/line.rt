@@ -1,9 +1,9 @@
 //! Lines of an input, and what hands them out one after another.
 ghost use Rattle.std.specs.Prelude.{◌≡◌, ◌≢◌, ℕ, ◌+◌, ◌-◌, ◌<◌, ◌≤◌, ◌&&◌, ◌⊎◌, not, true, false, IsTrue, List, [], ◌++◌, length, slice_range, Option, Some, None, Ok, Err, IfOk, IfSome, Contains, if◌then◌else◌};
 ghost use Rattle.crx_lines.specs.meaning.Devices.{tally_of};
-ghost use Rattle.crx_faults.specs.declared.fault.At.{At};
+ghost use Rattle.crx_base.specs.declared.fault.At.{At};
 ghost use Rattle.crx_lines.specs.Window.{kept};
-ghost use Rattle.crx_faults.specs.declared.limits.TheConstants.{INPUT_LIMIT, LINE_LIMIT};
+ghost use Rattle.crx_base.specs.declared.limits.TheConstants.{INPUT_LIMIT, LINE_LIMIT};
 ghost use Rattle.crx_lines.specs.declared.window.TheConstants.{SIZE};
 
 use crate::device::Source;
@@ -11,8 +11,8 @@ use crate::feed::feed_from;
 use crate::phase::Phase;
 use crate::seek::seek;
 use crate::window::Window;
-use crx_faults::limits::{INPUT_LIMIT, LINE_LIMIT};
-use crx_faults::{At, Fault};
+use crx_base::limits::{INPUT_LIMIT, LINE_LIMIT};
+use crx_base::{At, Fault};
 use std::alloc::{AllocError, Global};
 
 /// A line: its content without the line end, its number and how it ends.

@@ -1,6 +1,6 @@
 //! How far the reading of an input is.
 
-use crx_faults::At;
+use crx_base::At;
 
 /// Whether lines may come.
 #[derive(Clone, Copy, Debug, PartialEq, Eq)]

@@ -3,13 +3,13 @@ ghost use Rattle.std.specs.Prelude.{◌≡◌, ◌≢◌, ℕ, ◌+◌, ◌<◌,
 ghost use Rattle.crx_lines.specs.meaning.Devices.{one_more};
 ghost use Rattle.crx_lines.specs.Window.{kept};
 ghost use Rattle.crx_lines.specs.Seeking.{Seeking};
-ghost use Rattle.crx_faults.specs.declared.limits.TheConstants.{INPUT_LIMIT, LINE_LIMIT};
+ghost use Rattle.crx_base.specs.declared.limits.TheConstants.{INPUT_LIMIT, LINE_LIMIT};
 
 use crate::device::{ReadFailed, Source};
 use crate::feed::feed_from;
 use crate::window::{SIZE, Window};
-use crx_faults::Fault;
-use crx_faults::limits::LINE_LIMIT;
+use crx_base::Fault;
+use crx_base::limits::LINE_LIMIT;
 
 /// The first line of an input: what was discarded of it, and what stands in the window.
 #[derive(Clone, Copy)]

@@ -1,12 +1,12 @@
 //! The buffer of a reader of lines: bytes that were given and are pending, and room after them.
 ghost use Rattle.std.specs.Prelude.{◌≡◌, ℕ, ◌+◌, ◌-◌, ◌<◌, ◌≤◌, List, [], ◌++◌, length, take, drop, slice_range, IfOk, OnOk, OnErr};
 ghost use Rattle.crx_lines.specs.meaning.Devices.{ends_after, one_more};
-ghost use Rattle.crx_faults.specs.meaning.Lines.{ends_with_return, without_return};
-ghost use Rattle.crx_faults.specs.declared.limits.TheConstants.{LINE_LIMIT};
+ghost use Rattle.crx_base.specs.meaning.Lines.{ends_with_return, without_return};
+ghost use Rattle.crx_base.specs.declared.limits.TheConstants.{LINE_LIMIT};
 ghost use Rattle.crx_lines.specs.declared.window.TheConstants.{LEAST_ROOM, SIZE};
 
 use crate::device::{ReadFailed, Source};
-use crx_faults::limits::LINE_LIMIT;
+use crx_base::limits::LINE_LIMIT;
 use std::alloc::{AllocError, Global};
 
 /// How many bytes are held at once: some hundreds of lines of common files.

@@ -4,7 +4,7 @@ use Rattle.crx_lines.specs.declared.device.Std.{Std}
 use Rattle.crx_program.specs.declared.log.Logged.{Logged}
 use Rattle.crx_lines.specs.declared.device.Sink.{Ghosts as SinkGhosts}
 use Rattle.crx_lines.specs.declared.device.Source.{Ghosts as SourceGhosts}
-use Rattle.crx_options.specs.meaning.Choices.{Choices}
+use Rattle.crx_base.specs.meaning.Choices.{Choices}
 use Rattle.crx_runs.specs.meaning.Spans.{Input, Device, reader_span}
 use Rattle.crx_program.specs.meaning.Jobs.{IsJobDone, IsFilteredFrom, IsFilteredInto, IsNotBegun, IsOpened}
 use Rattle.jiff.specs.declared.timestamp.Timestamp.{Timestamp}

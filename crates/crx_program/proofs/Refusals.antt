@@ -2,7 +2,7 @@
 use Rattle.std.proofs.Common.{◌≡◌, ◌∙◌, List, [], ℕ, Err, Some, inr, ap, refl, Bool, true, false, true≢false}
 use Rattle.std.specs.Option.{IfSome}
 use Rattle.crx_runs.specs.meaning.Spans.{Device}
-use Rattle.crx_faults.specs.declared.fault.Fault.TheVariants.{OutOfMemory}
+use Rattle.crx_base.specs.declared.fault.Fault.TheVariants.{OutOfMemory}
 use Rattle.crx_command.specs.meaning.Planning.{Plan, Help, Run, Refused, Refusal, Parse, DashTwice, TwoFiles, BadDate}
 use Rattle.crx_command.specs.meaning.Planning.{NoName}
 use Rattle.crx_command.specs.Planning.{plan_in}

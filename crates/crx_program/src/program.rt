@@ -2,7 +2,7 @@
 
 ghost use Rattle.std.specs.Prelude.{◌≡◌, ◌⊎◌, IfOk, None, is_some, map, string_bytes, true};
 ghost use Rattle.std.specs.Option.{option_map_or};
-ghost use Rattle.crx_options.specs.meaning.Choices.{choices_of, is_date};
+ghost use Rattle.crx_base.specs.meaning.Choices.{choices_of, is_date};
 ghost use Rattle.crx_command.specs.meaning.Planning.{Help, Refusal, Refused, Run, plan_of};
 ghost use Rattle.crx_program.specs.meaning.Jobs.{IsChosen, IsJobDone, IsJobEnded, IsFiltered, IsFilteredFrom, IsFilteredInto, IsFilteredToFile, IsMadeBy, IsNotBegun};
 ghost use Rattle.crx_program.specs.meaning.Program.{IsHelped, IsRefused, IsShown, at_start};
@@ -10,11 +10,11 @@ ghost use Rattle.crx_runs.specs.meaning.Spans.{span, reader_span};
 
 use crate::log::{Made, SourceFile, TargetFile, open_to_read, open_to_write};
 use crate::refusal::{refuse, report, report_at_start};
+use crx_base::Fault;
 use crx_command::date::date_text;
 use crx_command::job::{Decision, Job, Tool};
 use crx_command::plan::plan;
 use crx_command::word::Word;
-use crx_faults::Fault;
 use crx_filter::{Options, check, compact, expand};
 use crx_lines::{Sink, Source, write_all_counted};
 use jiff::Timestamp;

@@ -7,9 +7,9 @@ ghost use Rattle.crx_command.specs.meaning.ErrorLines.{error_line};
 ghost use Rattle.crx_program.specs.meaning.Program.{IsRefused, IsShown, IsShownOr, at_start};
 ghost use Rattle.crx_runs.specs.meaning.Spans.{span};
 
+use crx_base::{At, Fault};
 use crx_command::job::UsageFault;
 use crx_command::word::Word;
-use crx_faults::{At, Fault};
 use crx_lines::{Sink, write_all_counted};
 use crx_runs::message::{Severity, message};
 use std::alloc::Global;

@@ -9,18 +9,18 @@ use Rattle.std.specs.Prelude.{slice_set}
 use Rattle.std.proofs.lemmas.List.{take_more_set, length-set, take_at, take-append-le, drop_all, length-drop, take-take}
 use Rattle.std.proofs.lemmas.List.{length-append, length-replicate, take-replicate, append_assoc}
 use Rattle.std.proofs.lemmas.Option.{option_and_then_some, same_Some, none-some}
-use Rattle.crx_columns.specs.meaning.Columns.{character_at}
-use Rattle.crx_columns.specs.meaning.EachPlace.{each_place}
+use Rattle.crx_text.specs.meaning.Columns.{character_at}
+use Rattle.crx_text.specs.meaning.EachPlace.{each_place}
 use Rattle.crx_rinex.specs.meaning.Observations.{Row}
 use Rattle.crx_text.specs.Numbers.{IsObservation}
 use Rattle.crx_text.specs.meaning.Numbers.{observation_of, number_of, IsValue}
-use Rattle.crx_columns.specs.meaning.Texts.{is_kept}
+use Rattle.crx_text.specs.meaning.Texts.{is_kept}
 use Rattle.crx_header.specs.meaning.ObservationTypes.{IsAllowedCount}
 use Rattle.crx_rinex.specs.meaning.SatelliteLines.{all_some, values_in, flags_at, flags_in, field}
 use Rattle.crx_header.specs.meaning.Satellites.{is_identifier}
 use Rattle.crx_rinex.specs.meaning.SatelliteLines.{IsSoundRow}
 use Rattle.crx_rinex.specs.SatelliteLines.{blank_row, with_flags, with_value}
-use Rattle.crx_columns.proofs.EachPlace.{each_place-more, index-each_place, length-each_place}
+use Rattle.crx_text.proofs.EachPlace.{each_place-more, index-each_place, length-each_place}
 
 -- one value more
 pub all_some-push : (xs : List (Option (Option ℤ))) (vs : List (Option ℤ)) (v : Option ℤ)

@@ -4,8 +4,8 @@ use Rattle.std.proofs.Common.{Ok, Err, refl, ap, sym, subst, ◌∙◌, inl, inr
 use Rattle.std.specs.Prelude.{⊤}
 use Rattle.std.proofs.lemmas.List.{length_push}
 use Rattle.std.proofs.lemmas.Option.{same_Some, none-some}
-use Rattle.crx_faults.specs.meaning.Seen.{ReadLine, Content, Overlong}
-use Rattle.crx_faults.specs.declared.fault.Fault.{Fault}
+use Rattle.crx_base.specs.meaning.Seen.{ReadLine, Content, Overlong}
+use Rattle.crx_base.specs.declared.fault.Fault.{Fault}
 use Rattle.crx_rinex.specs.meaning.Observations.{Row, Epoch}
 use Rattle.crx_rinex.specs.meaning.Units.{Unit, Observation}
 use Rattle.crx_rinex.specs.meaning.Places.{Place, Here, Wrong, Wanted, after_lines, then_place, one_line, first_line}

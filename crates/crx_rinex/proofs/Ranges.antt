@@ -11,11 +11,11 @@ use Rattle.std.proofs.lemmas.Bool.{cases_Bool, and_parts, eqb-true}
 use Rattle.std.proofs.lemmas.List.{length-append, length-take, length-drop}
 use Rattle.std.proofs.lemmas.Option.{cond_some, same_Some, none-some}
 use Rattle.std.proofs.lemmas.Str.Parse.{digits_value_short, numerals_by_value, tells_all_ascii_digits}
-use Rattle.crx_columns.specs.meaning.Columns.{is_blank, without_first_blanks}
+use Rattle.crx_text.specs.meaning.Columns.{is_blank, without_first_blanks}
 use Rattle.crx_text.specs.meaning.Numbers.{size_of, decimal_number, signed_number, missing_or_number, number_of}
 use Rattle.crx_text.specs.meaning.Numbers.{observation_of, clock_of, IsWithin, IsMissingOrWithin, IsValue}
-use Rattle.crx_faults.specs.declared.limits.TheConstants.{OBSERVATION_WIDTH, OBSERVATION_DECIMALS, CLOCK_WIDTH}
-use Rattle.crx_faults.specs.declared.limits.TheConstants.{CLOCK_DECIMALS}
+use Rattle.crx_base.specs.declared.limits.TheConstants.{OBSERVATION_WIDTH, OBSERVATION_DECIMALS, CLOCK_WIDTH}
+use Rattle.crx_base.specs.declared.limits.TheConstants.{CLOCK_DECIMALS}
 use Rattle.crx_text.proofs.Sizes.{signed_is_within, IsWithin_more}
 use Rattle.crx_rinex.specs.meaning.EpochLines.{IsClockOffset}
 

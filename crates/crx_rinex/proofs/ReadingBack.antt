@@ -11,15 +11,15 @@ use Rattle.std.proofs.lemmas.Bool.Decides.{eqb_tells}
 use Rattle.std.proofs.lemmas.List.Elements.{All-head, All-tail}
 use Rattle.std.proofs.lemmas.List.Folds.{list_any-append}
 use Rattle.std.proofs.lemmas.Option.{none-some}
-use Rattle.crx_columns.specs.meaning.Columns.{character_at, columns, is_blank, without_first_blanks}
+use Rattle.crx_text.specs.meaning.Columns.{character_at, columns, is_blank, without_first_blanks}
 use Rattle.crx_text.specs.meaning.Numbers.{number_of, missing_or_number, observation_of, observation_text, clock_of}
 use Rattle.crx_text.specs.meaning.Numbers.{clock_text, IsWithin, IsValue}
-use Rattle.crx_faults.specs.meaning.Seen.{ReadLine, Content}
-use Rattle.crx_faults.specs.declared.limits.TheConstants.{OBSERVATION_WIDTH, OBSERVATION_DECIMALS, CLOCK_WIDTH}
-use Rattle.crx_faults.specs.declared.limits.TheConstants.{CLOCK_DECIMALS}
-use Rattle.crx_faults.specs.declared.fault.Fault.{Fault}
+use Rattle.crx_base.specs.meaning.Seen.{ReadLine, Content}
+use Rattle.crx_base.specs.declared.limits.TheConstants.{OBSERVATION_WIDTH, OBSERVATION_DECIMALS, CLOCK_WIDTH}
+use Rattle.crx_base.specs.declared.limits.TheConstants.{CLOCK_DECIMALS}
+use Rattle.crx_base.specs.declared.fault.Fault.{Fault}
 use Rattle.crx_text.proofs.ReadBack.{number_of-number_text}
-use Rattle.crx_columns.specs.meaning.Texts.{is_kept}
+use Rattle.crx_text.specs.meaning.Texts.{is_kept}
 use Rattle.crx_rinex.specs.meaning.Observations.{Row, Epoch}
 use Rattle.crx_header.specs.meaning.ObservationTypes.{Count, is_system}
 use Rattle.crx_rinex.specs.meaning.EpochLines.{EpochHead, ObservationHead, IsObservationHead, IsClockOffset}
@@ -37,10 +37,10 @@ use Rattle.crx_text.specs.meaning.PrintedCells.{printed_cells}
 use Rattle.crx_rinex.specs.meaning.SatelliteLines.{all_some, field, flags_at, flags_in}
 use Rattle.crx_header.specs.meaning.Satellites.{has_number, types_of_satellite}
 use Rattle.crx_rinex.specs.meaning.SatelliteLines.{row_with, row_of_types, row_of, IsSoundRow, HasItsTypes}
-use Rattle.crx_columns.specs.meaning.EachPlace.{each_place}
-use Rattle.crx_columns.proofs.EachPlace.{each_place-same}
-use Rattle.crx_columns.proofs.Characters.{at, at-without_end_blanks, at-drop, at-append, at-append_past, columns-are}
-use Rattle.crx_columns.proofs.Characters.{list_all-from_at}
+use Rattle.crx_text.specs.meaning.EachPlace.{each_place}
+use Rattle.crx_text.proofs.EachPlace.{each_place-same}
+use Rattle.crx_text.proofs.Characters.{at, at-without_end_blanks, at-drop, at-append, at-append_past, columns-are}
+use Rattle.crx_text.proofs.Characters.{list_all-from_at}
 use Rattle.crx_header.proofs.Apart.{other_way}
 use Rattle.crx_rinex.proofs.SoundEpochs.{name_types}
 

@@ -3,13 +3,13 @@ use Rattle.std.proofs.Common.{◌≡◌, ℕ, ◌+◌, ◌<◌, ◌≤◌, Bool,
 use Rattle.std.proofs.Common.{refl, ap, sym, ◌∙◌, inl, inr, arith, Option, Some, None, unwrap_or, cond, leb}
 use Rattle.std.specs.List.{list_all}
 use Rattle.std.specs.Option.{option_and_then}
-use Rattle.crx_columns.specs.meaning.Columns.{character_at, columns}
-use Rattle.crx_faults.specs.declared.limits.TheConstants.{SATELLITES_LIMIT}
+use Rattle.crx_text.specs.meaning.Columns.{character_at, columns}
+use Rattle.crx_base.specs.declared.limits.TheConstants.{SATELLITES_LIMIT}
 use Rattle.crx_header.specs.meaning.Label.{number_in}
 use Rattle.std.proofs.lemmas.Bool.{cases_Bool, leb-true, eqb-false}
 use Rattle.std.proofs.lemmas.List.{length-take, length_push, map-append}
 use Rattle.std.proofs.lemmas.List.Elements.{All-push}
-use Rattle.crx_columns.specs.meaning.Texts.{is_kept}
+use Rattle.crx_text.specs.meaning.Texts.{is_kept}
 use Rattle.crx_rinex.specs.meaning.Observations.{Row, Epoch}
 use Rattle.crx_rinex.specs.meaning.EpochLines.{ObservationHead}
 use Rattle.crx_header.specs.meaning.EpochColumns.{satellites_of, count_within_limit, begins_epoch, is_observation_flag}

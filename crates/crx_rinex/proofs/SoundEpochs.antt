@@ -8,14 +8,14 @@ use Rattle.std.proofs.lemmas.Bool.{and_from}
 use Rattle.std.proofs.lemmas.List.{length_push, length-append}
 use Rattle.std.proofs.lemmas.List.Elements.{All-cons, All-nil, All-push}
 use Rattle.std.proofs.lemmas.Option.{option_and_then_some, same_Some, none-some}
-use Rattle.crx_columns.specs.meaning.Columns.{character_at, columns, is_blank}
+use Rattle.crx_text.specs.meaning.Columns.{character_at, columns, is_blank}
 use Rattle.crx_text.specs.meaning.Numbers.{observation_of, clock_of, IsValue}
-use Rattle.crx_faults.specs.meaning.Seen.{ReadLine, Content, Overlong}
-use Rattle.crx_faults.specs.declared.fault.Fault.{Fault}
-use Rattle.crx_faults.specs.declared.fault.Fault.TheVariants.{NotAnEpoch, BadEpoch, RepeatedSatellite, BadField}
-use Rattle.crx_faults.specs.declared.fault.Fault.TheVariants.{BadClock, BadFlags, Truncated}
-use Rattle.crx_faults.specs.declared.limits.TheConstants.{SATELLITES_LIMIT}
-use Rattle.crx_columns.specs.meaning.Texts.{is_kept}
+use Rattle.crx_base.specs.meaning.Seen.{ReadLine, Content, Overlong}
+use Rattle.crx_base.specs.declared.fault.Fault.{Fault}
+use Rattle.crx_base.specs.declared.fault.Fault.TheVariants.{NotAnEpoch, BadEpoch, RepeatedSatellite, BadField}
+use Rattle.crx_base.specs.declared.fault.Fault.TheVariants.{BadClock, BadFlags, Truncated}
+use Rattle.crx_base.specs.declared.limits.TheConstants.{SATELLITES_LIMIT}
+use Rattle.crx_text.specs.meaning.Texts.{is_kept}
 use Rattle.crx_header.specs.meaning.ObservationTypes.{Count, IsAllowedCount, is_system, count_of}
 use Rattle.crx_header.specs.ObservationTypes.{AreCounts}
 use Rattle.crx_rinex.specs.meaning.Observations.{Row, Epoch}
@@ -34,9 +34,9 @@ use Rattle.crx_rinex.specs.meaning.Epochs.{has_satellite, are_different, IsWhole
 use Rattle.crx_rinex.specs.meaning.EpochPlaces.{OpenEpoch, Beginning, EventBegins, EpochBegins, opened, rows_wanted}
 use Rattle.crx_rinex.specs.meaning.EpochPlaces.{epoch_of, with_next_row, row_if_new, next_row, rows_at, rest_at}
 use Rattle.crx_rinex.specs.meaning.EpochPlaces.{begun_by, beginning_of, unit_begun, epoch_place}
-use Rattle.crx_columns.specs.meaning.EachPlace.{each_place}
-use Rattle.crx_columns.proofs.Characters.{length-columns}
-use Rattle.crx_columns.proofs.EachPlace.{each_place-all, length-each_place}
+use Rattle.crx_text.specs.meaning.EachPlace.{each_place}
+use Rattle.crx_text.proofs.Characters.{length-columns}
+use Rattle.crx_text.proofs.EachPlace.{each_place-all, length-each_place}
 use Rattle.crx_rinex.proofs.Cells.{flags_in_more}
 use Rattle.crx_header.proofs.FirstColumns.{identifier_columns}
 use Rattle.crx_header.proofs.Counts.{allowed_of, system_of}

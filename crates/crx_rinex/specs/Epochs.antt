@@ -1,6 +1,6 @@
 -- Beside meaning/Epochs: what code and proofs see of it.
 use Rattle.std.specs.Prelude.{◌≡◌, ◌≤◌, ℕ, List, Bool, [], ◌∷◌, ◌++◌, ◌==◌, length, map, take}
-use Rattle.crx_faults.specs.declared.limits.TheConstants.{SATELLITES_LIMIT}
+use Rattle.crx_base.specs.declared.limits.TheConstants.{SATELLITES_LIMIT}
 use Rattle.crx_rinex.specs.meaning.Observations.{Row, Epoch}
 use Rattle.crx_rinex.specs.meaning.EpochLines.{IsObservationHead, ObservationHead}
 use Rattle.crx_header.specs.meaning.EpochColumns.{satellites_of}

@@ -1,6 +1,6 @@
 -- What the laws of this crate say, where it is long.
 use Rattle.std.specs.Prelude.{◌≡◌, ◌↔◌, ◌⊎◌, List, [], ◌∷◌, ◌++◌, length, Some}
-use Rattle.crx_faults.specs.meaning.Seen.{ReadLine}
+use Rattle.crx_base.specs.meaning.Seen.{ReadLine}
 use Rattle.crx_rinex.specs.meaning.Places.{Wanted}
 use Rattle.crx_header.specs.meaning.ObservationTypes.{Count}
 use Rattle.crx_rinex.specs.meaning.EpochPlaces.{OpenEpoch, epoch_place}

@@ -1,7 +1,7 @@
 -- When what stands at a place is certain: lines come one after another, and those to come must not change what was
 -- found.
 use Rattle.std.specs.Prelude.{◌≡◌, ◌≤◌, ◌<◌, ⊤, ℕ, List, ◌++◌, length}
-use Rattle.crx_faults.specs.meaning.Seen.{ReadLine}
+use Rattle.crx_base.specs.meaning.Seen.{ReadLine}
 use Rattle.crx_rinex.specs.meaning.Places.{Place, Here, Wrong, Wanted}
 
 -- what is found after so many lines wanted more: the thing's last line, or the fault's line, is not among them

@@ -2,7 +2,7 @@
 
 ghost use Rattle.std.specs.Prelude.{◌≡◌, ◌≤◌, ◌⊎◌, length, true, false, OnOk, OnErr, IfErr, IfSome, slice_get};
 ghost use Rattle.std.specs.Option.{option_copied};
-ghost use Rattle.crx_faults.specs.declared.limits.TheConstants.{SATELLITES_LIMIT};
+ghost use Rattle.crx_base.specs.declared.limits.TheConstants.{SATELLITES_LIMIT};
 ghost use Rattle.crx_header.specs.meaning.EpochColumns.{satellites_of};
 ghost use Rattle.crx_rinex.specs.meaning.EpochLines.{IsObservationHead};
 ghost use Rattle.crx_rinex.specs.Epochs.{begun, is_full_epoch, with_row};
@@ -11,7 +11,7 @@ ghost use Rattle.crx_rinex.specs.meaning.SatelliteLines.{IsSoundRow};
 
 use crate::epoch_line::EpochLine;
 use crate::satellite_row::SatRow;
-use crx_faults::Fault;
+use crx_base::Fault;
 use crx_header::Identifiers;
 use std::alloc::Global;
 use std::marker::Model;

@@ -2,19 +2,19 @@
 
 ghost use Rattle.std.specs.Prelude.{◌≡◌, None, Some, Ok, Err, MatchResult};
 ghost use Rattle.std.specs.Option.{ForSome};
-ghost use Rattle.crx_columns.specs.meaning.Columns.{columns};
+ghost use Rattle.crx_text.specs.meaning.Columns.{columns};
 ghost use Rattle.crx_text.specs.Numbers.{IsClock};
-ghost use Rattle.crx_faults.specs.declared.limits.TheConstants.{HEAD_WIDTH};
+ghost use Rattle.crx_base.specs.declared.limits.TheConstants.{HEAD_WIDTH};
 ghost use Rattle.crx_rinex.specs.meaning.EpochLines.{head_of, epoch_head, EpochHead, IsObservationHead};
 ghost use Rattle.crx_header.specs.meaning.EpochColumns.{epoch_count};
 ghost use Rattle.crx_rinex.specs.Heads.{head_line};
 
-use crx_columns::columns::character;
-use crx_faults::Fault;
-use crx_faults::limits::{CLOCK_WIDTH, HEAD_WIDTH};
+use crx_base::Fault;
+use crx_base::limits::{CLOCK_WIDTH, HEAD_WIDTH};
 use crx_header::epoch_columns::{is_event_flag, records_in, satellites};
 use crx_header::{after_columns, all_blank, padded};
 use crx_text::clock_read;
+use crx_text::columns::character;
 use std::marker::Model;
 
 /// The first line of an observation epoch: columns 1 to 41, the count of satellites that they hold, and the

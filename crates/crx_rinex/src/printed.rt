@@ -5,13 +5,13 @@ ghost use Rattle.std.specs.Bool.{OnTrue};
 ghost use Rattle.std.specs.Borrow.{sem};
 ghost use Rattle.std.specs.Io.BufRead.{Rests};
 ghost use Rattle.std.specs.Option.{option_copied};
-ghost use Rattle.crx_faults.specs.declared.limits.TheConstants.{SATELLITES_LIMIT};
+ghost use Rattle.crx_base.specs.declared.limits.TheConstants.{SATELLITES_LIMIT};
 ghost use Rattle.crx_rinex.specs.meaning.Printing.{printed_epoch, printed_head};
 ghost use Rattle.crx_rinex.specs.contracts.printed.Printed.{the_row};
 
 use crate::epoch::Epoch;
 use crate::epoch_line::EpochLine;
-use crx_faults::limits::{CLOCK_WIDTH, SATELLITES_LIMIT};
+use crx_base::limits::{CLOCK_WIDTH, SATELLITES_LIMIT};
 use crx_text::{Text, clock_print};
 use std::marker::Model;
 
@@ -25,7 +25,7 @@ pub struct Printed {
 
 impl Model for Printed {
     ghost use Rattle.std.specs.Prelude.{ℕ, List, drop, ◌≤◌, ◌+◌};
-    ghost use Rattle.crx_faults.specs.declared.limits.TheConstants.{SATELLITES_LIMIT};
+    ghost use Rattle.crx_base.specs.declared.limits.TheConstants.{SATELLITES_LIMIT};
     ghost use Rattle.crx_rinex.specs.meaning.Printing.{printed_epoch};
 
     ghost Value = { List (List ℕ) };

@@ -2,17 +2,17 @@
 
 ghost use Rattle.std.specs.Prelude.{◌≡◌, ◌≤◌, ◌*◌, true, length, take, All, Ok, Err, OnOk, IfErr};
 ghost use Rattle.std.specs.List.{list_all};
-ghost use Rattle.crx_columns.specs.meaning.Columns.{columns};
-ghost use Rattle.crx_columns.specs.meaning.Texts.{is_kept};
-ghost use Rattle.crx_faults.specs.declared.limits.TheConstants.{NAME_WIDTH, TYPES_LIMIT};
+ghost use Rattle.crx_text.specs.meaning.Columns.{columns};
+ghost use Rattle.crx_text.specs.meaning.Texts.{is_kept};
+ghost use Rattle.crx_base.specs.declared.limits.TheConstants.{NAME_WIDTH, TYPES_LIMIT};
 ghost use Rattle.crx_rinex.specs.meaning.Observations.{observations_of};
 ghost use Rattle.crx_rinex.specs.meaning.Printing.{printed_row};
 ghost use Rattle.crx_rinex.specs.meaning.SatelliteLines.{row_of, row_with, values_in, IsSoundRow};
 ghost use Rattle.crx_text.specs.meaning.Numbers.{IsValue};
 
 use crate::satellite_row::{count_values, print_row, read_cells};
-use crx_faults::Fault;
-use crx_faults::limits::{NAME_WIDTH, TYPES_LIMIT};
+use crx_base::Fault;
+use crx_base::limits::{NAME_WIDTH, TYPES_LIMIT};
 use crx_header::{Types, identifier, types_of_satellite};
 use crx_text::Text;
 use std::marker::Model;
@@ -29,7 +29,7 @@ pub struct RowBuffer {
 
 impl Model for RowBuffer {
     ghost use Rattle.std.specs.Prelude.{take, ◌*◌, ◌≤◌};
-    ghost use Rattle.crx_faults.specs.declared.limits.TheConstants.{TYPES_LIMIT};
+    ghost use Rattle.crx_base.specs.declared.limits.TheConstants.{TYPES_LIMIT};
     ghost use Rattle.crx_rinex.specs.meaning.Observations.{Row};
     ghost use Rattle.crx_rinex.specs.meaning.SatelliteLines.{IsSoundRow};
 

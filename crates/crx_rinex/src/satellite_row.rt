@@ -4,11 +4,11 @@ ghost use Rattle.std.specs.Prelude.{◌≡◌, ◌≤◌, ◌<◌, ◌+◌, ◌-
 ghost use Rattle.std.specs.Bool.{OnTrue, OnFalse};
 ghost use Rattle.std.specs.List.{list_all};
 ghost use Rattle.std.specs.Option.{ForSome};
-ghost use Rattle.crx_columns.specs.meaning.Columns.{character_at, columns, is_blank};
-ghost use Rattle.crx_faults.specs.declared.limits.TheConstants.{CELL_WIDTH, LINE_LIMIT, NAME_WIDTH, OBSERVATION_WIDTH, TYPES_LIMIT};
+ghost use Rattle.crx_text.specs.meaning.Columns.{character_at, columns, is_blank};
+ghost use Rattle.crx_base.specs.declared.limits.TheConstants.{CELL_WIDTH, LINE_LIMIT, NAME_WIDTH, OBSERVATION_WIDTH, TYPES_LIMIT};
 ghost use Rattle.crx_text.specs.meaning.Numbers.{observation_of, IsValue};
 ghost use Rattle.crx_text.specs.Numbers.{IsObservation};
-ghost use Rattle.crx_columns.specs.meaning.Texts.{is_kept};
+ghost use Rattle.crx_text.specs.meaning.Texts.{is_kept};
 ghost use Rattle.crx_header.specs.meaning.ObservationTypes.{IsAllowedCount};
 ghost use Rattle.crx_rinex.specs.meaning.Observations.{observations_of};
 ghost use Rattle.crx_rinex.specs.meaning.Printing.{printed_row};
@@ -17,13 +17,13 @@ ghost use Rattle.crx_rinex.specs.SatelliteLines.{blank_row, with_flags, with_val
 ghost use Rattle.crx_rinex.specs.meaning.SatelliteLines.{field, flags_in, row_of, row_with, values_in, IsSoundRow};
 ghost use Rattle.crx_header.specs.meaning.Satellites.{is_identifier, types_of_satellite};
 
-use crx_columns::columns::character;
-use crx_faults::Fault;
-use crx_faults::limits::{CELL_WIDTH, NAME_WIDTH, OBSERVATION_WIDTH, TYPES_LIMIT};
+use crx_base::Fault;
+use crx_base::limits::{CELL_WIDTH, NAME_WIDTH, OBSERVATION_WIDTH, TYPES_LIMIT};
 use crx_header::cells::{cells_within, put_indicators, put_indicators_within};
 use crx_header::{
     Types, after_columns, all_blank, identifier, padded, put_flags, types_of_satellite,
 };
+use crx_text::columns::character;
 use crx_text::{Text, all_kept, obs_print_cell, obs_read, obs_read_into};
 use std::alloc::Global;
 use std::marker::Model;

@@ -2,12 +2,12 @@
 use Rattle.std.proofs.Common.{◌≡◌, ◌⊎◌, inl, inr, ℕ, ◌+◌, Bool, true, List, [], ◌++◌, length, take, Option, Some, None}
 use Rattle.std.proofs.Common.{refl, sym, ap, subst, ◌∙◌, append-nil}
 use Rattle.crx_lines.specs.meaning.Devices.{with_failed_flush, with_failed_write, with_flush}
-use Rattle.crx_faults.specs.meaning.Lines.{InputLine, lines_of}
+use Rattle.crx_base.specs.meaning.Lines.{InputLine, lines_of}
 use Rattle.crx_lines.specs.Reading.{ReaderState}
 use Rattle.crx_lines.specs.Progress.{IsStopped}
-use Rattle.crx_faults.specs.declared.fault.At.{At}
-use Rattle.crx_faults.specs.declared.fault.Fault.{Fault}
-use Rattle.crx_faults.specs.declared.fault.Fault.TheVariants.{InputTooLong, ReadFailed, WriteFailed, OutOfMemory}
+use Rattle.crx_base.specs.declared.fault.At.{At}
+use Rattle.crx_base.specs.declared.fault.Fault.{Fault}
+use Rattle.crx_base.specs.declared.fault.Fault.TheVariants.{InputTooLong, ReadFailed, WriteFailed, OutOfMemory}
 use Rattle.crx_lines.proofs.ProgressLemmas.{HasRead-stopped}
 use Rattle.crx_runs.specs.declared.taking.Halt.{Halt}
 use Rattle.crx_runs.specs.declared.taking.Halt.TheVariants as halt

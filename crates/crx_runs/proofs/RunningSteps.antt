@@ -5,7 +5,7 @@ use Rattle.std.proofs.Common.{arith, append-nil, length-append}
 use Rattle.std.proofs.Math.Seq.{take-append-add}
 use Rattle.std.proofs.lemmas.List.{take-append-le}
 use Rattle.crx_lines.specs.meaning.Devices.{with_failed_write}
-use Rattle.crx_faults.specs.declared.fault.At.{At}
+use Rattle.crx_base.specs.declared.fault.At.{At}
 use Rattle.crx_runs.specs.declared.taking.Halt.{Halt}
 use Rattle.crx_runs.specs.declared.taking.Halt.TheVariants.{Fault, Unwritten, Unreported}
 use Rattle.crx_runs.specs.meaning.Results.{Course}

@@ -4,13 +4,13 @@ use Rattle.std.proofs.Common.{length, Option, Some, None, Result, Ok, Err, refl,
 use Rattle.std.proofs.Common.{length-append}
 use Rattle.std.proofs.lemmas.List.{length_push}
 use Rattle.crx_lines.specs.meaning.Devices.{Tally}
-use Rattle.crx_faults.specs.meaning.Lines.{InputLine, is_long}
+use Rattle.crx_base.specs.meaning.Lines.{InputLine, is_long}
 use Rattle.crx_lines.specs.Reading.{ReaderState, ReaderAnswers, AnswersFault, TakesPiece, line_shown, line_number}
 use Rattle.crx_lines.specs.Progress.{HasRead, AtFault}
-use Rattle.crx_faults.specs.declared.limits.TheConstants.{INPUT_LIMIT}
-use Rattle.crx_faults.specs.declared.fault.At.{At}
-use Rattle.crx_faults.specs.declared.fault.Fault.{Fault}
-use Rattle.crx_faults.specs.declared.fault.Fault.TheVariants.{LineTooLong, InputTooLong, ReadFailed}
+use Rattle.crx_base.specs.declared.limits.TheConstants.{INPUT_LIMIT}
+use Rattle.crx_base.specs.declared.fault.At.{At}
+use Rattle.crx_base.specs.declared.fault.Fault.{Fault}
+use Rattle.crx_base.specs.declared.fault.Fault.TheVariants.{LineTooLong, InputTooLong, ReadFailed}
 use Rattle.crx_lines.specs.declared.line.Line.{Line}
 use Rattle.crx_lines.specs.declared.phase.Phase.{Phase}
 use Rattle.crx_lines.specs.declared.phase.Phase.TheVariants.{Open, Ended, Stopped}

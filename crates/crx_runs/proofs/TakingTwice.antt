@@ -3,8 +3,8 @@ use Rattle.std.proofs.Common.{◌≡◌, inl, inr, ℕ, ◌+◌, Bool, true, Lis
 use Rattle.std.proofs.Common.{ap, subst, ◌∙◌, arith, append_assoc, length-append}
 use Rattle.std.proofs.Math.Seq.{take-append-add}
 use Rattle.crx_lines.specs.meaning.Devices.{with_failed_write}
-use Rattle.crx_faults.specs.meaning.Lines.{InputLine}
-use Rattle.crx_faults.specs.declared.fault.At.{At}
+use Rattle.crx_base.specs.meaning.Lines.{InputLine}
+use Rattle.crx_base.specs.declared.fault.At.{At}
 use Rattle.crx_runs.specs.declared.taking.Halt.{Halt}
 use Rattle.crx_runs.specs.declared.taking.Halt.TheVariants.{Fault, Unwritten, Unreported}
 use Rattle.crx_runs.specs.declared.taking.Once.{Once}

@@ -1,8 +1,8 @@
 -- How a run is finished once its work has ended: the writer is flushed, and the fault is reported.
 use Rattle.std.specs.Prelude.{◌≡◌, ◌⊎◌, ℕ, Bool, [], Option, Some, None}
 use Rattle.crx_lines.specs.meaning.Devices.{with_failed_flush, with_flush}
-use Rattle.crx_faults.specs.declared.fault.At.{At}
-use Rattle.crx_faults.specs.declared.fault.Fault.TheVariants.{WriteFailed}
+use Rattle.crx_base.specs.declared.fault.At.{At}
+use Rattle.crx_base.specs.declared.fault.Fault.TheVariants.{WriteFailed}
 use Rattle.crx_runs.specs.declared.taking.Halt.{Halt}
 use Rattle.crx_runs.specs.declared.taking.Halt.TheVariants.{Unwritten, Unreported}
 use Rattle.crx_runs.specs.declared.taking.Halt.TheVariants as halt

@@ -1,6 +1,6 @@
 -- Beside meaning/Runs: what code and proofs see of it.
 use Rattle.std.specs.Prelude.{ℕ, List}
-use Rattle.crx_faults.specs.meaning.Lines.{lines_of}
+use Rattle.crx_base.specs.meaning.Lines.{lines_of}
 use Rattle.crx_runs.specs.meaning.Filters.{Filter}
 use Rattle.crx_runs.specs.meaning.Results.{FilterResult, result_of_course}
 

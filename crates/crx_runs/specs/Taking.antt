@@ -1,9 +1,9 @@
 -- What becomes of one line of the input.
 use Rattle.std.specs.Prelude.{◌≡◌, ◌⊎◌, ℕ, Bool, true, false, List, [], ◌∷◌, ◌++◌, Option, Some, None}
-use Rattle.crx_faults.specs.meaning.Lines.{InputLine, is_long}
+use Rattle.crx_base.specs.meaning.Lines.{InputLine, is_long}
 use Rattle.crx_lines.specs.Reading.{line_shown, line_number}
-use Rattle.crx_faults.specs.declared.fault.At.{At}
-use Rattle.crx_faults.specs.declared.fault.Fault.TheVariants.{OutOfMemory}
+use Rattle.crx_base.specs.declared.fault.At.{At}
+use Rattle.crx_base.specs.declared.fault.Fault.TheVariants.{OutOfMemory}
 use Rattle.crx_runs.specs.declared.engine.Step.{Step}
 use Rattle.crx_runs.specs.declared.engine.Step.TheVariants.{Quiet, Ready, Warned}
 use Rattle.crx_runs.specs.declared.taking.Halt.{Halt}

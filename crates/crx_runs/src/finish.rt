@@ -9,7 +9,7 @@ use crate::message::{Severity, message};
 use crate::outcome::Outcome;
 use crate::taking::Halt;
 use crate::work::Work;
-use crx_faults::{At, Fault};
+use crx_base::{At, Fault};
 use crx_lines::{Sink, write_all_counted};
 
 /// Reports a fault once the writer was flushed, well or not; a failure ends the message where it comes. The writer is there for the

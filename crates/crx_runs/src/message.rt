@@ -4,9 +4,9 @@ ghost use Rattle.std.specs.Prelude.{◌≡◌, ◌≤◌, length};
 ghost use Rattle.crx_runs.specs.meaning.Messages.{message_text};
 ghost use Rattle.crx_runs.specs.Severities.{word_of};
 
-use crx_columns::appending::append;
-use crx_columns::text::Text;
-use crx_faults::At;
+use crx_base::At;
+use crx_text::appending::append;
+use crx_text::text::Text;
 use itoa::Buffer;
 
 /// How grave a fault is.

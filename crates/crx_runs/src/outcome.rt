@@ -1,6 +1,6 @@
 //! How a run ended.
 
-use crx_faults::At;
+use crx_base::At;
 
 /// The exit status, and the fault that ended the run.
 #[derive(Clone, Copy, Debug, PartialEq, Eq)]

@@ -1,11 +1,11 @@
 //! Writing the lines that an engine has ready.
 
 ghost use Rattle.std.specs.Prelude.{◌≡◌, ◌<◌, ℕ, List, [], length, take, IfErr, OnOk, OnErr};
-ghost use Rattle.crx_faults.specs.meaning.Lines.{InputLine};
+ghost use Rattle.crx_base.specs.meaning.Lines.{InputLine};
 ghost use Rattle.crx_lines.specs.meaning.Devices.{one_more};
-ghost use Rattle.crx_faults.specs.declared.fault.At.{At};
+ghost use Rattle.crx_base.specs.declared.fault.At.{At};
 ghost use Rattle.crx_runs.specs.Engines.{Awaited};
-ghost use Rattle.crx_faults.specs.meaning.Lines.{lines_text};
+ghost use Rattle.crx_base.specs.meaning.Lines.{lines_text};
 
 use crate::engine::Engine;
 use crx_lines::{Sink, WriteFailed, write_all_counted};

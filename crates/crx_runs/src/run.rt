@@ -1,7 +1,7 @@
 //! A whole run: an input through an engine to a writer and its messages.
 
 ghost use Rattle.std.specs.Prelude.{◌≡◌, ℕ, List, [], Some, None, false};
-ghost use Rattle.crx_faults.specs.meaning.Lines.{lines_of};
+ghost use Rattle.crx_base.specs.meaning.Lines.{lines_of};
 ghost use Rattle.crx_runs.specs.Lawful.{IsLawful};
 ghost use Rattle.crx_runs.specs.Runs.{result_by};
 ghost use Rattle.crx_runs.specs.meaning.Runs.{RunsAs};
@@ -13,7 +13,7 @@ use crate::finish::finish;
 use crate::outcome::Outcome;
 use crate::taking::Halt;
 use crate::work::{Work, take_all};
-use crx_faults::{At, Fault};
+use crx_base::{At, Fault};
 use crx_lines::{LineReader, Sink, Source};
 use std::alloc::Global;
 

@@ -1,16 +1,16 @@
 //! One step of a run: the next line of the input, or its end.
 
 ghost use Rattle.std.specs.Prelude.{◌≡◌, ◌⊎◌, ◌+◌, ℕ, List, [], IfOk, IfErr, IfSome, OnOk, ◌<◌, ◌≤◌};
-ghost use Rattle.crx_faults.specs.meaning.Lines.{InputLine};
+ghost use Rattle.crx_base.specs.meaning.Lines.{InputLine};
 ghost use Rattle.crx_lines.specs.Readers.{reading};
-ghost use Rattle.crx_faults.specs.declared.limits.TheConstants.{INPUT_LIMIT};
+ghost use Rattle.crx_base.specs.declared.limits.TheConstants.{INPUT_LIMIT};
 ghost use Rattle.crx_runs.specs.Running.{IsWithinLimit, IsRunning, Goes, StopsAt};
 ghost use Rattle.crx_runs.specs.meaning.Spans.{reader_span};
 ghost use Rattle.crx_runs.specs.meaning.Spans.{span};
 
 use crate::engine::Engine;
 use crate::taking::{Halt, take_line, take_overlong};
-use crx_faults::Fault;
+use crx_base::Fault;
 use crx_lines::phase::Phase;
 use crx_lines::{LineReader, Sink, Source};
 

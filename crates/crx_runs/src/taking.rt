@@ -1,13 +1,13 @@
 //! One line of the input, through an engine to the writer and the messages.
 
 ghost use Rattle.std.specs.Prelude.{◌≡◌, ◌+◌, ◌<◌, ◌≤◌, ℕ, List, [], length, take, IfOk, IfErr, OnOk, OnErr, None, true};
-ghost use Rattle.crx_faults.specs.meaning.Lines.{InputLine, is_long};
+ghost use Rattle.crx_base.specs.meaning.Lines.{InputLine, is_long};
 ghost use Rattle.crx_lines.specs.Reading.{line_shown, line_number};
 ghost use Rattle.crx_lines.specs.meaning.Devices.{one_more};
-ghost use Rattle.crx_faults.specs.declared.fault.At.{At};
-ghost use Rattle.crx_faults.specs.declared.limits.TheConstants.{INPUT_LIMIT};
+ghost use Rattle.crx_base.specs.declared.fault.At.{At};
+ghost use Rattle.crx_base.specs.declared.limits.TheConstants.{INPUT_LIMIT};
 ghost use Rattle.crx_runs.specs.meaning.Filters.{Filter};
-ghost use Rattle.crx_faults.specs.meaning.Lines.{lines_text};
+ghost use Rattle.crx_base.specs.meaning.Lines.{lines_text};
 ghost use Rattle.crx_runs.specs.meaning.Messages.{warning_text, notices_text};
 ghost use Rattle.crx_runs.specs.Engines.{EngineAnswers, Awaited, IsAwaited, awaited_notices as warnings_awaited, IsDrainedAfter, taken_after};
 ghost use Rattle.crx_runs.specs.meaning.Filters.{with_next};
@@ -18,7 +18,7 @@ ghost use Rattle.crx_runs.specs.meaning.Spans.{span};
 use crate::engine::{Engine, Step, answer_given};
 use crate::message::{Severity, message};
 use crate::ready::write_ready;
-use crx_faults::At;
+use crx_base::At;
 use crx_lines::{Line, Sink, write_all_counted};
 
 /// What ended a run.

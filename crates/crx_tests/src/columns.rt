@@ -5,8 +5,8 @@ ghost use Rattle.crx_compact.specs.OpenEpochs.ColumnsState.{Idle};
 
 use crate::owned::Owned;
 use crate::rinex::{ONE_TYPE, TWO_TYPES, types_of};
+use crx_base::Fault;
 use crx_compact::Columns;
-use crx_faults::Fault;
 use crx_header::Types;
 use crx_rinex::{Epoch, Head, SatRow};
 use std::alloc::Global;

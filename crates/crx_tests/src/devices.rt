@@ -1,7 +1,7 @@
 //! What a device of std is asked, call by call: `Std` neither tries again nor leaves out a call, nor does `UntilFailure` before a failure.
 
 use crate::expecting::expect_at;
-use crx_faults::Fault;
+use crx_base::Fault;
 use crx_lines::{Sink, Source, Std};
 use crx_runs::UntilFailure;
 use std::io;

@@ -2,7 +2,7 @@
 
 use crate::expecting::{expect, expect_at};
 use crate::texts::shown;
-use crx_faults::limits::LINE_LIMIT;
+use crx_base::limits::LINE_LIMIT;
 use crx_text::{Text, diff_text, patch_text, trim_end};
 use std::process::Abort;
 

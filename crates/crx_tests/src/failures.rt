@@ -4,8 +4,8 @@ ghost use Rattle.std.specs.Prelude.{◌≡◌, ◌<◌};
 
 use crate::expecting::{expect, expect_at};
 use crate::texts::text;
+use crx_base::{At, Fault};
 use crx_devices::{FailingSink, FailingSource, Plan, When};
-use crx_faults::{At, Fault};
 use crx_filter::{Options, check, compact, expand};
 use crx_runs::Outcome;
 use std::alloc::{AllocError, Global};

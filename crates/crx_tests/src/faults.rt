@@ -1,7 +1,7 @@
 //! The texts of all faults, alone and at a line.
 
 use crate::expecting::expect;
-use crx_faults::{At, Fault};
+use crx_base::{At, Fault};
 use std::alloc::{AllocError, Global};
 use std::test::Fail;
 

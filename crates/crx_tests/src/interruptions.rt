@@ -3,7 +3,7 @@
 
 use crate::expecting::expect;
 use crate::texts::text;
-use crx_faults::{At, Fault};
+use crx_base::{At, Fault};
 use crx_filter::{Options, compact};
 use crx_lines::{Sink, Std, Uninterrupted, write_all_counted};
 use crx_runs::Outcome;

@@ -1,9 +1,9 @@
 //! Lines with each kind of line end, out of a slice and out of a reader that fails.
 
 use crate::expecting::expect_at;
+use crx_base::limits::LINE_LIMIT;
+use crx_base::{At, Fault};
 use crx_devices::{FailingSource, Plan, When};
-use crx_faults::limits::LINE_LIMIT;
-use crx_faults::{At, Fault};
 use crx_lines::{Line, LineReader, Source, Std};
 use std::alloc::{AllocError, Global};
 use std::process::Abort;

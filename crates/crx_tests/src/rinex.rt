@@ -6,7 +6,7 @@ ghost use Rattle.crx_header.specs.meaning.Satellites.{is_identifier};
 use crate::expecting::expect;
 use crate::owned::Owned;
 use crate::texts::shown;
-use crx_faults::Fault;
+use crx_base::Fault;
 use crx_header::{Types, header_first, is_end};
 use crx_rinex::{Epoch, EpochLine, Head, Printed, SatRow};
 use std::alloc::Global;

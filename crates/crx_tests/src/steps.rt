@@ -5,7 +5,7 @@ ghost use Rattle.crx_runs.specs.Engines.{taken_after};
 
 use crate::expecting::expect_at;
 use crate::texts::text;
-use crx_faults::{At, Fault};
+use crx_base::{At, Fault};
 use crx_filter::Options;
 use crx_lines::{Line, LineReader, Std};
 use crx_runs::Step;

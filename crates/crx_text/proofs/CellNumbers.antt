@@ -7,7 +7,7 @@ use Rattle.std.specs.Char.{is_ascii_digit}
 use Rattle.std.specs.Option.{option_map}
 use Rattle.std.specs.Str.{all_ascii_digits}
 use Rattle.std.specs.Str.Parse.{digits_value, starts_with_minus}
-use Rattle.crx_columns.specs.meaning.Columns.{is_blank}
+use Rattle.crx_text.specs.meaning.Columns.{is_blank}
 use Rattle.crx_text.specs.meaning.Codes.{code_of, coded_number, first_cell, is_count_of_digits}
 use Rattle.crx_text.specs.Codes.{counted_digits}
 use Rattle.crx_text.specs.declared.code.Code.TheVariants.{Step}

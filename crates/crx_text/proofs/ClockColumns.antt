@@ -10,7 +10,7 @@ use Rattle.std.specs.List.{list_all, list_any, range_with_len}
 use Rattle.std.specs.Str.{all_ascii_digits}
 use Rattle.std.specs.Str.Parse.{digits_value}
 use lib.Lanes.{pick_l, mask_l, top, zip2, dots}
-use Rattle.crx_columns.specs.meaning.Columns.{without_first_blanks}
+use Rattle.crx_text.specs.meaning.Columns.{without_first_blanks}
 use Rattle.crx_text.specs.Fields.{is_plain_after, weighed}
 use Rattle.crx_text.specs.meaning.Numbers.{IsWithin, number_of, missing_or_number, signed_number}
 use Rattle.crx_text.specs.Digits.{above_zero}

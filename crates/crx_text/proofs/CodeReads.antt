@@ -8,7 +8,7 @@ use Rattle.std.specs.Str.Parse.{digits_value_after, starts_with_minus}
 use lib.IntN.{nat_abs}
 use Rattle.crx_text.specs.meaning.Codes.{coded_number, is_count_of_digits}
 use Rattle.crx_text.specs.meaning.Numbers.{signed_number, without_minus}
-use Rattle.crx_faults.specs.declared.limits.TheConstants.{DIGITS_LIMIT}
+use Rattle.crx_base.specs.declared.limits.TheConstants.{DIGITS_LIMIT}
 
 pub coded_number_counted : (text digits : List ℕ)
     → digits ≡ without_minus text → (length digits ≡ 0) ⊎ (DIGITS_LIMIT < length digits) → coded_number text ≡ None

@@ -13,7 +13,7 @@ use Rattle.std.specs.Str.{all_ascii_digits}
 use Rattle.std.specs.Str.Parse.{starts_with_minus}
 use Rattle.crx_text.specs.declared.code.Code.{Code}
 use Rattle.crx_text.specs.declared.code.Code.TheVariants.{Missing, Start, Step}
-use Rattle.crx_faults.specs.declared.limits.TheConstants.{DIGITS_LIMIT, ORDER_LIMIT}
+use Rattle.crx_base.specs.declared.limits.TheConstants.{DIGITS_LIMIT, ORDER_LIMIT}
 use Rattle.crx_text.specs.meaning.Codes.{code_of, code_text, coded_number, is_order, step_of}
 use Rattle.crx_text.specs.Codes.{IsPrintable, IsShort}
 use Rattle.crx_text.specs.meaning.Numbers.{without_minus}

@@ -1,3 +1,14 @@
+pub mod Blanks
+pub mod Characters
+pub mod CopiedTexts
+pub mod EndBlanks
+pub mod LaneTexts
+pub mod LaneWords
+pub mod PositionParts
+pub mod Positions
+pub mod TextEnds
+pub mod WrittenTexts
+pub mod EachPlace
 pub mod CellNumbers
 pub mod ClockColumns
 pub mod ClockTexts

@@ -8,7 +8,7 @@ use Rattle.std.specs.List.{list_all, range_with_len}
 use lib.Lanes.{Each1, pick_l, fold_l, sel_l, top, zip2}
 use Rattle.crx_text.specs.Fields.{IsPlain}
 use Rattle.crx_text.proofs.LaneBits.{sixteen, or_lane, and_lane, top_lane}
-use Rattle.crx_columns.proofs.LaneWords.{none_in_fold}
+use Rattle.crx_text.proofs.LaneWords.{none_in_fold}
 
 pub lane_fits : (v : List ℕ) (i : ℕ) → Each1 (Fits w8) v → get_or v i 0 < 256
 lane_fits [] i h = omega arith

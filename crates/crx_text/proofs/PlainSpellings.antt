@@ -8,7 +8,7 @@ use Rattle.std.specs.List.{list_all, list_any, range_with_len}
 use Rattle.std.specs.Option.{option_map}
 use Rattle.std.specs.Str.{all_ascii_digits}
 use Rattle.std.specs.Str.Parse.{digits_value_after}
-use Rattle.crx_columns.specs.meaning.Columns.{without_first_blanks}
+use Rattle.crx_text.specs.meaning.Columns.{without_first_blanks}
 use Rattle.crx_text.specs.Fields.{IsPlain, is_plain_after, weighed, plain_digits}
 use Rattle.crx_text.specs.meaning.Numbers.{number_of, missing_or_number, signed_number, size_of}
 use Rattle.crx_text.proofs.LaneBits.{fourteen}

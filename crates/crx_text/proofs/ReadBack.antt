@@ -14,7 +14,7 @@ use Rattle.std.specs.Option.{option_map, ForSome}
 use Rattle.std.proofs.lemmas.Int.{ints}
 use Rattle.std.specs.Str.{all_ascii_digits}
 use Rattle.std.specs.Str.Parse.{digits_value, digits_value_after}
-use Rattle.crx_columns.specs.meaning.Columns.{without_first_blanks}
+use Rattle.crx_text.specs.meaning.Columns.{without_first_blanks}
 use Rattle.crx_text.specs.meaning.Numbers.{IsWithin, number_of, number_text, size_of, size_text, zero_padded}
 use Rattle.crx_text.specs.meaning.Numbers.{right_justified, decimal_number, missing_or_number}
 use Rattle.crx_text.proofs.PowersOfTen.{ten_pow_pos}

@@ -10,7 +10,7 @@ use Rattle.std.specs.Str.{all_ascii_digits}
 use Rattle.std.specs.Str.Parse.{digits_value, digits_value_after}
 use Rattle.crx_text.specs.meaning.Numbers.{size_of, decimal_number, missing_or_number, number_of, signed_number}
 use Rattle.crx_text.specs.meaning.Numbers.{IsWithin}
-use Rattle.crx_columns.specs.meaning.Columns.{without_first_blanks}
+use Rattle.crx_text.specs.meaning.Columns.{without_first_blanks}
 use Rattle.crx_text.proofs.PowersOfTen.{ten_pow_pos, digits_value_after-append}
 
 pub size_of_short : (decimals : ℕ) (text : List ℕ) → length text ≤ decimals → size_of decimals text ≡ None

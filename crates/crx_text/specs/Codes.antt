@@ -5,7 +5,7 @@ use Rattle.std.specs.Str.{all_ascii_digits}
 use Rattle.std.specs.Str.Parse.{digits_value}
 use Rattle.crx_text.specs.declared.code.Code.{Code}
 use Rattle.crx_text.specs.declared.code.Code.TheVariants.{Missing, Start, Step}
-use Rattle.crx_faults.specs.declared.limits.TheConstants.{ORDER_LIMIT, DIGITS_LIMIT}
+use Rattle.crx_base.specs.declared.limits.TheConstants.{ORDER_LIMIT, DIGITS_LIMIT}
 use Rattle.crx_text.specs.meaning.Codes.{is_count_of_digits}
 
 -- ---- printing

@@ -4,7 +4,7 @@ use Rattle.std.specs.Char.{is_ascii_digit}
 use Rattle.std.specs.Str.{all_ascii_digits}
 use Rattle.std.specs.Str.Parse.{digits_value, digits_value_after}
 use Rattle.crx_text.specs.meaning.Codes.{after_cell, first_cell}
-use Rattle.crx_faults.specs.declared.limits.TheConstants.{DIGITS_LIMIT}
+use Rattle.crx_base.specs.declared.limits.TheConstants.{DIGITS_LIMIT}
 
 -- a size and a count of digits at the beginning of a cell: all its digits go on from them, and the character after
 -- them is no digit, or they are too many

@@ -1,4 +1,5 @@
 pub mod meaning
+pub mod Texts
 pub mod Codes
 pub mod Digits
 pub mod FirstDigits

@@ -1,6 +1,6 @@
 -- Beside meaning/Numbers: what code and proofs see of it.
 use Rattle.std.specs.Prelude.{ℤ}
-use Rattle.crx_faults.specs.declared.limits.TheConstants.{OBSERVATION_WIDTH, CLOCK_WIDTH}
+use Rattle.crx_base.specs.declared.limits.TheConstants.{OBSERVATION_WIDTH, CLOCK_WIDTH}
 use Rattle.crx_text.specs.meaning.Numbers.{IsWithin}
 
 -- ---- range

@@ -9,8 +9,8 @@ use crate::code_digits::{
 };
 use crate::digits::{digits_read, signed, split_minus};
 use crate::number::BadField;
-use crx_columns::text::{Text, TextFull};
-use crx_faults::limits::{DIGITS_LIMIT, LINE_LIMIT, ORDER_LIMIT};
+use crate::text::{Text, TextFull};
+use crx_base::limits::{DIGITS_LIMIT, LINE_LIMIT, ORDER_LIMIT};
 
 /// What stands for a value in compact text.
 #[derive(Clone, Copy, Debug, PartialEq, Eq)]
@@ -31,7 +31,7 @@ pub enum Code {
 ghost use Rattle.crx_text.specs.Codes.{IsPrintable, IsShort};
 ghost use Rattle.crx_text.specs.meaning.Codes.{after_cell, code_of, code_text, coded_number, first_cell, is_order};
 ghost use Rattle.crx_text.specs.declared.code.Code.TheVariants.{Step};
-ghost use Rattle.crx_faults.specs.declared.limits.TheConstants.{LINE_LIMIT};
+ghost use Rattle.crx_base.specs.declared.limits.TheConstants.{LINE_LIMIT};
 
 /// The most bytes that are written with a code: an order, `&`, a minus, the digits, and three more, since digits
 /// are written four at a time.

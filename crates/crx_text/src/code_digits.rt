@@ -9,10 +9,10 @@ ghost use Rattle.crx_text.specs.Digits.{above_zero, written};
 ghost use Rattle.crx_text.specs.meaning.Codes.{after_cell, first_cell};
 ghost use Rattle.crx_text.specs.Codes.{counted_digits};
 ghost use Rattle.crx_text.specs.FirstDigits.{HasFirstDigits, is_below_ten};
-ghost use Rattle.crx_faults.specs.declared.limits.TheConstants.{DIGITS_LIMIT};
+ghost use Rattle.crx_base.specs.declared.limits.TheConstants.{DIGITS_LIMIT};
 
-use crx_columns::copies::copy_text;
-use crx_faults::limits::DIGITS_LIMIT;
+use crate::copies::copy_text;
+use crx_base::limits::DIGITS_LIMIT;
 use std::simd::prelude::*;
 
 // The number that the digits up to a text's first blank write, and the index after that blank or of

@@ -4,7 +4,7 @@
 ghost use Rattle.std.specs.Prelude.{take, ◌≡◌, ◌==◌, ◌++◌, ◌+◌, ◌*◌, ◌^◌, ◌<◌, ◌∷◌, [], length, slice_index, IsTrue};
 ghost use Rattle.std.specs.List.{list_all, list_any};
 ghost use Rattle.std.specs.Simd.Lanes.{Each1};
-ghost use Rattle.crx_faults.specs.declared.limits.TheConstants.{CELL_WIDTH, OBSERVATION_WIDTH};
+ghost use Rattle.crx_base.specs.declared.limits.TheConstants.{CELL_WIDTH, OBSERVATION_WIDTH};
 ghost use Rattle.crx_text.specs.Fields.{IsPlain, weighed, plain_digits};
 ghost use Rattle.crx_text.specs.Numbers.{IsObservation};
 ghost use Rattle.crx_text.specs.meaning.Numbers.{signed_number};

@@ -3,7 +3,7 @@
 
 ghost use Rattle.std.specs.Prelude.{◌≡◌, ◌+◌, ◌-◌, ◌/◌, ◌%◌, ◌^◌, ◌<◌, ◌≤◌, ◌∷◌, ◌++◌, [], ◌*◌, length, map, slice_index, take, drop, replicate};
 ghost use Rattle.std.specs.Simd.Lanes.{Each1, zip2};
-ghost use Rattle.crx_faults.specs.declared.limits.TheConstants.{CELL_WIDTH, OBSERVATION_WIDTH, OBSERVATION_DECIMALS};
+ghost use Rattle.crx_base.specs.declared.limits.TheConstants.{CELL_WIDTH, OBSERVATION_WIDTH, OBSERVATION_DECIMALS};
 ghost use Rattle.crx_text.specs.FieldTexts.{group_digits, spread, leading_zeros};
 ghost use Rattle.crx_text.specs.meaning.Numbers.{size_text};
 

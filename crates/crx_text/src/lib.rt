@@ -1,29 +1,35 @@
-//! The texts that RINEX and Compact RINEX files are made of: numbers in columns, and codes of numbers. Texts and their differences are
-//! those of crx_columns, lines and devices those of crx_lines, faults those of crx_faults; they are handed on.
+//! The texts that RINEX and Compact RINEX files are made of: their columns, the differences of two texts column by column, numbers in columns,
+//! and codes of numbers. Lines and devices are those of crx_lines, faults those of crx_base; they are handed on.
 #![tactic(auto)]
 
+pub mod appending;
+pub mod block;
 mod clock_field;
 mod clock_text;
 pub mod code;
 mod code_digits;
+pub mod columns;
+pub mod copies;
+pub mod difference;
 mod digits;
 mod field;
 mod field_text;
+mod lanes;
 pub mod number;
+pub mod text;
 
 pub use code::{Code, code_before_blank, code_print, code_read, step_before_blank, write_cell};
-pub use crx_columns::copies::{copy_text, put_blanks};
-pub use crx_columns::difference::{
-    BadCharacter, all_kept, all_printable, append_difference, diff_bytes, diff_text, patch_bytes,
-    patch_text,
-};
-pub use crx_columns::text::{Text, TextFull, trim_end};
-pub use crx_columns::{block, columns, difference, text};
-pub use crx_faults::{At, Fault};
+pub use copies::{copy_text, put_blanks};
+pub use crx_base::{At, Fault};
 pub use crx_lines::{
     Line, LineReader, ReadFailed, Sink, Source, Std, WriteFailed, write_all_counted,
+};
+pub use difference::{
+    BadCharacter, all_kept, all_printable, append_difference, diff_bytes, diff_text, patch_bytes,
+    patch_text,
 };
 pub use number::{
     BadField, clock_print, clock_read, obs_print, obs_print_cell, obs_print_cell_into, obs_read,
     obs_read_into,
 };
+pub use text::{Text, TextFull, trim_end};

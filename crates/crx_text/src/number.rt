@@ -6,16 +6,16 @@ ghost use Rattle.std.specs.Bool.{OnFalse, OnTrue};
 ghost use Rattle.std.specs.Option.{ForSome};
 ghost use Rattle.std.specs.Result.{result_ok};
 ghost use Rattle.crx_text.specs.declared.digits.TheConstants.{WIDEST};
-ghost use Rattle.crx_faults.specs.declared.limits.TheConstants.{CELL_WIDTH, LINE_LIMIT, OBSERVATION_WIDTH, CLOCK_WIDTH};
-ghost use Rattle.crx_columns.specs.meaning.Columns.{without_first_blanks};
+ghost use Rattle.crx_base.specs.declared.limits.TheConstants.{CELL_WIDTH, LINE_LIMIT, OBSERVATION_WIDTH, CLOCK_WIDTH};
+ghost use Rattle.crx_text.specs.meaning.Columns.{without_first_blanks};
 ghost use Rattle.crx_text.specs.meaning.Numbers.{IsWithin, number_of, observation_of, clock_of, size_of, decimal_number, number_text, observation_text, clock_text, size_text, zero_padded};
 ghost use Rattle.crx_text.specs.Numbers.{IsObservation, IsClock};
 
+use crate::columns::trim_start;
 use crate::digits::{WIDEST, digits_read, signed, split_minus};
+use crate::text::Text;
 use crate::{clock_field, clock_text, field, field_text};
-use crx_columns::columns::trim_start;
-use crx_columns::text::Text;
-use crx_faults::limits::{
+use crx_base::limits::{
     CELL_WIDTH, CLOCK_DECIMALS, CLOCK_WIDTH, OBSERVATION_DECIMALS, OBSERVATION_WIDTH,
 };
 use itoa::write_digits;

@@ -8,7 +8,7 @@ ghost use Rattle.crx_program.specs.meaning.Streams.{FromUnused, IsExact, IsPrefi
 ghost use Rattle.crx_runs.specs.meaning.Spans.{reader_span, span};
 
 use crate::{Job, UsageFault, Word};
-use crx_faults::Fault;
+use crx_base::Fault;
 use crx_lines::{Sink, Source, Std, Uninterrupted};
 use crx_program::log::{OUTPUT_BUFFER, SourceFile, TargetFile};
 use crx_program::program::moment_now;

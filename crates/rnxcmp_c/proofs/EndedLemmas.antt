@@ -1,9 +1,9 @@
 -- What the result of a run brings back, saves and judges follows from what it is, by the laws.
 use Rattle.std.proofs.Common.{◌≡◌, ◌⊎◌, inl, inr, ⊎_elim, ℕ, true, ap, sym, ◌∙◌}
-use Rattle.crx_faults.specs.meaning.Faults.{code_of_fault}
-use Rattle.crx_faults.specs.declared.fault.Fault.TheVariants.{InputTooLong}
-use Rattle.crx_options.specs.meaning.Choices.{Choices}
-use Rattle.crx_reading.specs.meaning.Expanded.{expanded}
+use Rattle.crx_base.specs.meaning.Faults.{code_of_fault}
+use Rattle.crx_base.specs.declared.fault.Fault.TheVariants.{InputTooLong}
+use Rattle.crx_base.specs.meaning.Choices.{Choices}
+use Rattle.crx_filter.specs.meaning.Expanded.{expanded}
 use Rattle.crx_filter.proofs.standard.Lossless.{what-passes}
 use Rattle.crx_filter.proofs.stretches.StretchesSaved.{rest-kept, whole-first}
 use Rattle.crx_runs.specs.meaning.Results.{FilterResult}

@@ -2,7 +2,7 @@
 use Rattle.std.proofs.Common.{◌≡◌, ⊎_elim, ℕ, ◌-◌, ◌<◌, ◌≤◌, true, false, List, length, take, Option, Some, None, is_some}
 use Rattle.std.proofs.Common.{refl, sym, ap, ◌∙◌, subst, arith, length-take}
 use Rattle.std.proofs.lemmas.List.{take-take}
-use Rattle.crx_faults.specs.declared.limits.TheConstants.{INPUT_LIMIT}
+use Rattle.crx_base.specs.declared.limits.TheConstants.{INPUT_LIMIT}
 use Rattle.crx_runs.specs.declared.outcome.Outcome.{Outcome}
 use Rattle.rnxcmp_c.specs.Handles.{FeedsBy, FeedsBytes, HasFed, IsFed, ReaderHasPassed, ReaderRuns, StandsBy}
 use Rattle.rnxcmp_c.specs.Handles.{answer_now}

@@ -3,8 +3,8 @@ use Rattle.std.proofs.Common.{◌≡◌, inl, inr, ℕ, ◌<◌, ◌≤◌, List
 use Rattle.std.proofs.Common.{true, false}
 use Rattle.std.proofs.Common.{take}
 use Rattle.std.proofs.Common.{◌++◌, arith, refl, sym, ap, ◌∙◌, subst, append-nil, length-append, ⊎_elim}
-use Rattle.crx_faults.specs.meaning.Lines.{lines_of}
-use Rattle.crx_faults.specs.meaning.Seen.{ended_lines_of}
+use Rattle.crx_base.specs.meaning.Lines.{lines_of}
+use Rattle.crx_base.specs.meaning.Seen.{ended_lines_of}
 use Rattle.crx_lines.proofs.ProgressLemmas.{ended_lines-come_first}
 use Rattle.crx_runs.specs.Lawful.{IsLawful}
 use Rattle.crx_runs.specs.meaning.Messages.{notices_text}

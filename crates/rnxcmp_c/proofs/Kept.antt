@@ -2,13 +2,13 @@
 use Rattle.std.proofs.Common.{inl, inr, ℕ, ◌≡◌, ◌≤◌, List, length, Option, Some, None, refl, ap, sym, subst, ◌∙◌, cond}
 use Rattle.std.specs.Prelude.{◌↔◌, true}
 use Rattle.std.proofs.lemmas.Bool.{le-leb}
-use Rattle.crx_faults.specs.meaning.Lines.{lines_of}
-use Rattle.crx_options.specs.meaning.Choices.{Choices}
-use Rattle.crx_reading.specs.meaning.Compacted.{compacted}
-use Rattle.crx_reading.specs.meaning.Expanded.{expanded}
-use Rattle.crx_reading.specs.meaning.WayBack.{HasNormalForm}
+use Rattle.crx_base.specs.meaning.Lines.{lines_of}
+use Rattle.crx_base.specs.meaning.Choices.{Choices}
+use Rattle.crx_filter.specs.meaning.Compacted.{compacted}
+use Rattle.crx_filter.specs.meaning.Expanded.{expanded}
+use Rattle.crx_filter.specs.meaning.WayBack.{HasNormalForm}
 use Rattle.crx_runs.specs.meaning.Results.{FilterResult}
-use Rattle.crx_reading.specs.meaning.Standard.{Findings, checked, checked_by, findings_of, report_status}
+use Rattle.crx_filter.specs.meaning.Standard.{Findings, checked, checked_by, findings_of, report_status}
 use Rattle.crx_filter.proofs.standard.CheckStandard.{named-where_not}
 use Rattle.crx_filter.proofs.wayback.WayBack.{comes-back}
 use Rattle.crx_filter.proofs.wayback.Standard.{normal-comes_back, standard-comes_back}

@@ -1,10 +1,10 @@
 -- What passes a check comes back, in the caller's memory, by the law.
 use Rattle.std.proofs.Common.{ℕ, ◌≡◌, List, length, ap, sym, subst, ◌∙◌, arith}
 use Rattle.std.specs.Prelude.{nat_le}
-use Rattle.crx_options.specs.meaning.Choices.{Choices}
-use Rattle.crx_reading.specs.meaning.Expanded.{expanded}
-use Rattle.crx_reading.specs.meaning.Standard.{checked}
-use Rattle.crx_reading.proofs.Choosing.{by_bool}
+use Rattle.crx_base.specs.meaning.Choices.{Choices}
+use Rattle.crx_filter.specs.meaning.Expanded.{expanded}
+use Rattle.crx_filter.specs.meaning.Standard.{checked}
+use Rattle.crx_filter.proofs.Choosing.{by_bool}
 use Rattle.crx_runs.specs.meaning.Results.{FilterResult}
 use Rattle.crx_filter.specs.meaning.Lossless.{SaysThatItComesBack}
 use Rattle.crx_filter.proofs.standard.Lossless.{what-passes}

@@ -3,8 +3,8 @@ use Rattle.std.proofs.Common.{◌≡◌, ◌⊎◌, inl, inr, ⊎_elim, ℕ, ◌
 use Rattle.std.proofs.Common.{refl, sym, ap, ◌∙◌, subst, arith, length-take}
 use Rattle.std.proofs.lemmas.Bool.{ltb-true, ltb-false}
 use Rattle.std.proofs.lemmas.List.{take_all}
-use Rattle.crx_faults.specs.declared.limits.TheConstants.{LINE_LIMIT}
-use Rattle.crx_faults.specs.meaning.Lines.{without_return}
+use Rattle.crx_base.specs.declared.limits.TheConstants.{LINE_LIMIT}
+use Rattle.crx_base.specs.meaning.Lines.{without_return}
 use Rattle.crx_lines.proofs.ReturnLemmas.{length-without_return}
 use Rattle.crx_runs.specs.Taking.{IsDone}
 use Rattle.crx_runs.specs.meaning.Results.{Course}

@@ -3,15 +3,15 @@ use Rattle.std.proofs.Common.{◌≡◌, ◌⊎◌, inl, inr, ⊎_elim, ℕ, ◌
 use Rattle.std.proofs.Common.{reverse, take, drop, append_assoc, Option, Some, None, is_some, true, false}
 use Rattle.std.proofs.Common.{arith, refl, sym, ap, ◌∙◌, subst, append-nil}
 use Rattle.std.proofs.lemmas.List.{map-append, reverse-append}
-use Rattle.crx_faults.specs.meaning.Lines.{InputLine, lines_of}
-use Rattle.crx_faults.specs.meaning.Seen.{ReadLine, ended_lines_of, seen}
-use Rattle.crx_faults.specs.declared.fault.At.{At}
-use Rattle.crx_faults.specs.declared.fault.Fault.TheVariants.{InputTooLong, OutOfMemory}
-use Rattle.crx_reading.specs.meaning.Compacted.{rinex_place, whole_rinex}
-use Rattle.crx_reading.specs.meaning.Directions.{compact_reading, rinex_reading}
-use Rattle.crx_reading.specs.meaning.Expanded.{whole_compact}
-use Rattle.crx_reading.specs.meaning.Items.{Item, Accepted, Warned}
-use Rattle.crx_reading.specs.meaning.Written.{warnings_in}
+use Rattle.crx_base.specs.meaning.Lines.{InputLine, lines_of}
+use Rattle.crx_base.specs.meaning.Seen.{ReadLine, ended_lines_of, seen}
+use Rattle.crx_base.specs.declared.fault.At.{At}
+use Rattle.crx_base.specs.declared.fault.Fault.TheVariants.{InputTooLong, OutOfMemory}
+use Rattle.crx_filter.specs.meaning.Compacted.{rinex_place, whole_rinex}
+use Rattle.crx_filter.specs.meaning.Directions.{compact_reading, rinex_reading}
+use Rattle.crx_filter.specs.meaning.Expanded.{whole_compact}
+use Rattle.crx_filter.specs.meaning.Items.{Item, Accepted, Warned}
+use Rattle.crx_filter.specs.meaning.Written.{warnings_in}
 use Rattle.crx_filter.proofs.reading.CompactPrefixes.{whole-more}
 use Rattle.crx_filter.proofs.reading.Forward.{rinex-forward}
 use Rattle.crx_filter.proofs.reading.Prefixes.{AreMore, whole-items}

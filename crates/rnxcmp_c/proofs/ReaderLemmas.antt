@@ -2,17 +2,17 @@
 use Rattle.std.proofs.Common.{◌≡◌, ◌⊎◌, inl, inr, ⊎_elim, ℕ, List, [], ◌++◌, Option, Some, None, refl, sym, ap, ◌∙◌, subst}
 use Rattle.std.proofs.Common.{◌<◌, ◌≤◌, ◌+◌, ◌∷◌, is_some, arith, length, append-nil, append_assoc}
 use Rattle.std.proofs.Common.{length-append, take}
-use Rattle.crx_faults.specs.meaning.Lines.{InputLine, lines_of}
-use Rattle.crx_faults.specs.declared.limits.TheConstants.{INPUT_LIMIT}
-use Rattle.crx_faults.specs.declared.fault.At.{At}
-use Rattle.crx_faults.specs.declared.fault.Fault.{Fault as FaultOf}
-use Rattle.crx_faults.specs.declared.fault.Fault.TheVariants.{InputTooLong, OutOfMemory}
-use Rattle.crx_reading.specs.meaning.Directions.{check_filter, report_unless}
+use Rattle.crx_base.specs.meaning.Lines.{InputLine, lines_of}
+use Rattle.crx_base.specs.declared.limits.TheConstants.{INPUT_LIMIT}
+use Rattle.crx_base.specs.declared.fault.At.{At}
+use Rattle.crx_base.specs.declared.fault.Fault.{Fault as FaultOf}
+use Rattle.crx_base.specs.declared.fault.Fault.TheVariants.{InputTooLong, OutOfMemory}
+use Rattle.crx_filter.specs.meaning.Directions.{check_filter, report_unless}
 use Rattle.crx_runs.specs.Lawful.{IsLawful}
 use Rattle.crx_runs.specs.meaning.Filters.{Filter, with_next}
 use Rattle.crx_runs.specs.meaning.Messages.{error_text, notices_text}
 use Rattle.crx_runs.specs.meaning.Results.{Begins, Course, FilterResult, good_status, result_of_course, status_after}
-use Rattle.crx_reading.specs.meaning.Standard.{Findings, checked_by, findings_of, report_status, whole_of}
+use Rattle.crx_filter.specs.meaning.Standard.{Findings, checked_by, findings_of, report_status, whole_of}
 use Rattle.crx_filter.proofs.following.CheckLawful.{check-lawful}
 use Rattle.crx_filter.proofs.following.Lawful.{compaction-lawful, expansion-lawful}
 use Rattle.crx_runs.specs.declared.outcome.Outcome.{Outcome}

@@ -2,12 +2,12 @@
 use Rattle.std.proofs.Common.{◌≡◌, ⊎_elim, inl, inr, ℕ, ◌≤◌, List, [], ◌++◌, length, take, Option, Some, None}
 use Rattle.std.proofs.Common.{sym, ap, ◌∙◌, subst, arith, append-nil, length-append}
 use Rattle.std.proofs.lemmas.List.{take_all}
-use Rattle.crx_faults.specs.meaning.Lines.{lines_of}
-use Rattle.crx_faults.specs.meaning.Seen.{ended_lines_of}
-use Rattle.crx_faults.specs.meaning.Faults.{code_of_fault}
-use Rattle.crx_faults.specs.declared.fault.At.{At}
-use Rattle.crx_faults.specs.declared.fault.Fault.TheVariants.{OutOfMemory}
-use Rattle.crx_faults.specs.declared.limits.TheConstants.{INPUT_LIMIT}
+use Rattle.crx_base.specs.meaning.Lines.{lines_of}
+use Rattle.crx_base.specs.meaning.Seen.{ended_lines_of}
+use Rattle.crx_base.specs.meaning.Faults.{code_of_fault}
+use Rattle.crx_base.specs.declared.fault.At.{At}
+use Rattle.crx_base.specs.declared.fault.Fault.TheVariants.{OutOfMemory}
+use Rattle.crx_base.specs.declared.limits.TheConstants.{INPUT_LIMIT}
 use Rattle.crx_lines.proofs.ProgressLemmas.{ended_lines-come_first}
 use Rattle.crx_runs.specs.Lawful.{IsLawful}
 use Rattle.crx_runs.specs.declared.outcome.Outcome.{Outcome}

@@ -1,7 +1,7 @@
 -- What was collected of a run over the caller's input.
 use Rattle.std.specs.Prelude.{◌≡◌, ◌⊎◌, ◌<◌, ◌≤◌, ℕ, true, false, [], length, take, vec_capacity}
-use Rattle.crx_faults.specs.meaning.Faults.{code_of_fault}
-use Rattle.crx_faults.specs.declared.fault.Fault.TheVariants.{OutOfMemory}
+use Rattle.crx_base.specs.meaning.Faults.{code_of_fault}
+use Rattle.crx_base.specs.declared.fault.Fault.TheVariants.{OutOfMemory}
 use Rattle.crx_runs.specs.meaning.Results.{FilterResult}
 use Rattle.crx_runs.specs.declared.outcome.Outcome.{Outcome}
 use Rattle.rnxcmp_c.specs.meaning.Answers.{HasNoMemory, ExceedsLimit, bare_answer, fault_code_in, line_in}

@@ -1,12 +1,12 @@
 -- A run between two calls, by the bytes that were fed and the texts that were taken.
 use Rattle.std.specs.Prelude.{◌≡◌, ◌⊎◌, ◌<◌, ◌≤◌, ℕ, ◌+◌, Bool, true, ◌||◌, List, [], ◌∷◌, ◌++◌, length, take}
 use Rattle.std.specs.Prelude.{Option, Some, None, is_some}
-use Rattle.crx_faults.specs.meaning.Lines.{InputLine, line_of, lines_of}
-use Rattle.crx_faults.specs.meaning.Seen.{ended_lines_of}
+use Rattle.crx_base.specs.meaning.Lines.{InputLine, line_of, lines_of}
+use Rattle.crx_base.specs.meaning.Seen.{ended_lines_of}
 use Rattle.crx_lines.specs.Reading.{HasNoFeed}
 use Rattle.crx_lines.specs.meaning.Devices.{one_more}
-use Rattle.crx_faults.specs.declared.fault.At.{At}
-use Rattle.crx_faults.specs.declared.fault.Fault.TheVariants.{OutOfMemory}
+use Rattle.crx_base.specs.declared.fault.At.{At}
+use Rattle.crx_base.specs.declared.fault.Fault.TheVariants.{OutOfMemory}
 use Rattle.crx_runs.specs.Engines.{Awaited}
 use Rattle.crx_runs.specs.meaning.Filters.{Filter, with_next}
 use Rattle.crx_runs.specs.meaning.Messages.{notices_text}

@@ -1,24 +1,24 @@
 -- A handle between two calls.
 use Rattle.std.specs.Prelude.{is_some, true, ◌≡◌, ◌⊎◌, ◌<◌, ◌≤◌, ⊤, ℕ, ◌+◌, Bool, List, [], ◌++◌, length}
 use Rattle.std.specs.Prelude.{take, Option, Some, None}
-use Rattle.crx_faults.specs.meaning.Lines.{InputLine, lines_of}
-use Rattle.crx_faults.specs.meaning.Seen.{ended_lines_of}
-use Rattle.crx_faults.specs.declared.limits.TheConstants.{INPUT_LIMIT}
-use Rattle.crx_faults.specs.declared.fault.At.{At}
-use Rattle.crx_faults.specs.declared.fault.Fault.TheVariants.{InputTooLong, OutOfMemory}
+use Rattle.crx_base.specs.meaning.Lines.{InputLine, lines_of}
+use Rattle.crx_base.specs.meaning.Seen.{ended_lines_of}
+use Rattle.crx_base.specs.declared.limits.TheConstants.{INPUT_LIMIT}
+use Rattle.crx_base.specs.declared.fault.At.{At}
+use Rattle.crx_base.specs.declared.fault.Fault.TheVariants.{InputTooLong, OutOfMemory}
 use Rattle.crx_runs.specs.meaning.Filters.{Filter}
 use Rattle.crx_runs.specs.meaning.Results.{FilterResult, good_status}
 use Rattle.crx_runs.specs.meaning.Messages.{error_text, notices_text}
-use Rattle.crx_reading.specs.meaning.Standard.{report_status}
-use Rattle.crx_reading.specs.meaning.Directions.{check_filter}
+use Rattle.crx_filter.specs.meaning.Standard.{report_status}
+use Rattle.crx_filter.specs.meaning.Directions.{check_filter}
 use Rattle.crx_filter.specs.CheckerState.{CheckerHasTaken, CheckerIsOpen, HasEnded as CheckerHasEnded, pending_report}
-use Rattle.crx_reading.specs.CompactionByLine.{compaction, compaction_seen}
+use Rattle.crx_filter.specs.CompactionByLine.{compaction, compaction_seen}
 use Rattle.crx_filter.specs.CompactorState.{compactor_ready, compactor_seen}
-use Rattle.crx_reading.specs.meaning.Directions.{compaction_filter, expansion_filter}
+use Rattle.crx_filter.specs.meaning.Directions.{compaction_filter, expansion_filter}
 use Rattle.crx_filter.specs.EngineLines.{HasTaken}
 use Rattle.crx_runs.specs.Engines.{Awaited}
 use Rattle.crx_filter.specs.ExpanderState.{expander_state}
-use Rattle.crx_reading.specs.ExpansionByLine.{expansion, expansion_seen}
+use Rattle.crx_filter.specs.ExpansionByLine.{expansion, expansion_seen}
 use Rattle.crx_runs.specs.declared.outcome.Outcome.{Outcome}
 use Rattle.crx_runs.specs.meaning.Runs.{FaultIs}
 use Rattle.rnxcmp_c.specs.Going.{IsGoing, IsLineEnded}

@@ -2,11 +2,11 @@
 
 ghost use Rattle.std.specs.Prelude.{◌≡◌};
 ghost use Rattle.crx_runs.specs.meaning.Results.{FilterResult};
-ghost use Rattle.crx_faults.specs.declared.fault.Fault.TheVariants.{InputTooLong, OutOfMemory};
-ghost use Rattle.crx_faults.specs.meaning.Faults.{code_of_fault};
+ghost use Rattle.crx_base.specs.declared.fault.Fault.TheVariants.{InputTooLong, OutOfMemory};
+ghost use Rattle.crx_base.specs.meaning.Faults.{code_of_fault};
 ghost use Rattle.rnxcmp_c.specs.meaning.Answers.{bare_answer, fault_code_in, line_in, placed};
 
-use crx_faults::{At, Fault};
+use crx_base::{At, Fault};
 
 /// The status where the output doesn't fit into the caller's room.
 pub const NO_ROOM: u32 = 3;

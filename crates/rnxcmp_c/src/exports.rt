@@ -6,13 +6,13 @@
 
 ghost use Rattle.std.specs.Prelude.{◌≡◌, ◌<◌, ◌≤◌, length, Some, true, false};
 ghost use Rattle.crx_filter.specs.meaning.Lossless.{SaysThatItComesBack};
-ghost use Rattle.crx_options.specs.meaning.Choices.{Choices, choices_of, is_date};
-ghost use Rattle.crx_reading.specs.meaning.Compacted.{compacted};
-ghost use Rattle.crx_reading.specs.meaning.Expanded.{expanded};
-ghost use Rattle.crx_reading.specs.meaning.Standard.{checked};
-ghost use Rattle.crx_faults.specs.declared.fault.Fault.TheVariants.{InputTooLong, OutOfMemory};
-ghost use Rattle.crx_faults.specs.declared.limits.TheConstants.{INPUT_LIMIT};
-ghost use Rattle.crx_faults.specs.meaning.Faults.{code_of_fault};
+ghost use Rattle.crx_base.specs.meaning.Choices.{Choices, choices_of, is_date};
+ghost use Rattle.crx_filter.specs.meaning.Compacted.{compacted};
+ghost use Rattle.crx_filter.specs.meaning.Expanded.{expanded};
+ghost use Rattle.crx_filter.specs.meaning.Standard.{checked};
+ghost use Rattle.crx_base.specs.declared.fault.Fault.TheVariants.{InputTooLong, OutOfMemory};
+ghost use Rattle.crx_base.specs.declared.limits.TheConstants.{INPUT_LIMIT};
+ghost use Rattle.crx_base.specs.meaning.Faults.{code_of_fault};
 ghost use Rattle.rnxcmp_c.specs.meaning.Lossless.{CallBringsBackWhatPasses};
 ghost use Rattle.rnxcmp_c.specs.meaning.Answers.{AnswersAlone, AnswersWithin, HasNoMemory, IsAnswer, rooms};
 ghost use Rattle.rnxcmp_c.specs.declared.answer.TheConstants.{BAD_DATE};
@@ -21,7 +21,7 @@ ghost use Rattle.rnxcmp_c.specs.meaning.Stretches.{CallKeepsUndamaged, CallWrite
 
 use crate::answer::{Answer, date_refused, too_long};
 use crate::runs::{Bounds, compaction, examination, expansion};
-use crx_faults::limits::INPUT_LIMIT;
+use crx_base::limits::INPUT_LIMIT;
 use crx_filter::Options;
 use std::alloc::Global;
 

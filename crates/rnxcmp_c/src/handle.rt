@@ -5,10 +5,10 @@
 //! were fed, a prefix of the result's texts, while the run goes on; and after its end the whole of them, unless memory or a limit ended it.
 
 ghost use Rattle.std.specs.Prelude.{◌≡◌, ◌⊎◌, ℕ, [], IfSome, drop, length, take, Some, true, false};
-ghost use Rattle.crx_options.specs.meaning.Choices.{Choices, choices_of, is_date};
-ghost use Rattle.crx_faults.specs.declared.fault.Fault.TheVariants.{InputTooLong, OutOfMemory};
-ghost use Rattle.crx_faults.specs.meaning.Faults.{code_of_fault};
-ghost use Rattle.crx_faults.specs.meaning.Lines.{lines_of};
+ghost use Rattle.crx_base.specs.meaning.Choices.{Choices, choices_of, is_date};
+ghost use Rattle.crx_base.specs.declared.fault.Fault.TheVariants.{InputTooLong, OutOfMemory};
+ghost use Rattle.crx_base.specs.meaning.Faults.{code_of_fault};
+ghost use Rattle.crx_base.specs.meaning.Lines.{lines_of};
 ghost use Rattle.rnxcmp_c.specs.Handles.{IsFresh};
 ghost use Rattle.rnxcmp_c.specs.meaning.Handles.{HandlePast, HandlePromise, IsMisused, RunHasEnded, RunWasEnded, TakesBytes, Task, fed_with, limit_for, nothing_fed, taken_with};
 ghost use Rattle.rnxcmp_c.specs.Holding.{HoldsNothing};

@@ -1,11 +1,11 @@
 //! Laws over the definitions of this crate: each is the contract of a function that does nothing.
 
 ghost use Rattle.std.specs.Prelude.{◌≡◌, ◌⊎◌, ◌≤◌, ℕ, List, [], ◌++◌, length};
-ghost use Rattle.crx_faults.specs.declared.fault.At.{At};
-ghost use Rattle.crx_faults.specs.declared.fault.Fault.TheVariants.{InputTooLong, OutOfMemory};
-ghost use Rattle.crx_faults.specs.meaning.Faults.{code_of_fault};
-ghost use Rattle.crx_faults.specs.meaning.Lines.{InputLine, lines_of};
-ghost use Rattle.crx_faults.specs.meaning.Seen.{ended_lines_of};
+ghost use Rattle.crx_base.specs.declared.fault.At.{At};
+ghost use Rattle.crx_base.specs.declared.fault.Fault.TheVariants.{InputTooLong, OutOfMemory};
+ghost use Rattle.crx_base.specs.meaning.Faults.{code_of_fault};
+ghost use Rattle.crx_base.specs.meaning.Lines.{InputLine, lines_of};
+ghost use Rattle.crx_base.specs.meaning.Seen.{ended_lines_of};
 ghost use Rattle.crx_runs.specs.meaning.Messages.{notices_text};
 ghost use Rattle.crx_runs.specs.meaning.Results.{Begins};
 ghost use Rattle.rnxcmp_c.specs.Holdings.{IsBounded, reader_with};

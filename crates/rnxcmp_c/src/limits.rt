@@ -1,6 +1,6 @@
 //! How much a handle keeps. Code and definitions cite these numbers from here alone.
 
-use crx_faults::limits::{LINE_LIMIT, SATELLITES_LIMIT};
+use crx_base::limits::{LINE_LIMIT, SATELLITES_LIMIT};
 
 /// The most bytes that are kept of a line before its LF comes: a content that isn't too long, CR, and one byte more. What has so many
 /// is too long, whatever follows.

@@ -1,9 +1,9 @@
 //! Lines out of the bytes that are fed, through an engine.
 
 ghost use Rattle.std.specs.Prelude.{◌≡◌, ◌⊎◌, ◌≤◌, ◌<◌, ◌+◌, ◌-◌, ℕ, List, [], length, take, drop, None, false, true, IsOk, OnOk, OnErr, IfOk, IfErr};
-ghost use Rattle.crx_faults.specs.declared.fault.Fault.TheVariants.{OutOfMemory};
-ghost use Rattle.crx_faults.specs.declared.limits.TheConstants.{INPUT_LIMIT};
-ghost use Rattle.crx_faults.specs.meaning.Lines.{InputLine, ends_with_return, lines_of, without_return};
+ghost use Rattle.crx_base.specs.declared.fault.Fault.TheVariants.{OutOfMemory};
+ghost use Rattle.crx_base.specs.declared.limits.TheConstants.{INPUT_LIMIT};
+ghost use Rattle.crx_base.specs.meaning.Lines.{InputLine, ends_with_return, lines_of, without_return};
 ghost use Rattle.crx_lines.specs.Reading.{HasNoFeed};
 ghost use Rattle.crx_runs.specs.Lawful.{IsLawful};
 ghost use Rattle.crx_runs.specs.meaning.Filters.{with_next};
@@ -16,8 +16,8 @@ ghost use Rattle.rnxcmp_c.specs.declared.limits.TheConstants.{LINE_ROOM, READY_L
 use crate::held::{Held, Mark};
 use crate::pending::Pending;
 use crate::stop::Stop;
-use crx_faults::limits::LINE_LIMIT;
-use crx_faults::{At, Fault};
+use crx_base::limits::LINE_LIMIT;
+use crx_base::{At, Fault};
 use crx_lines::Line;
 use crx_lines::feed::feed_from;
 use crx_runs::Engine;

@@ -1,7 +1,7 @@
 //! A run that goes on from call to call.
 
 ghost use Rattle.std.specs.Prelude.{drop, ◌≡◌, ◌<◌, ◌≤◌, ◌+◌, ◌-◌, false, length, take, true, None, Some};
-ghost use Rattle.crx_faults.specs.declared.limits.TheConstants.{INPUT_LIMIT};
+ghost use Rattle.crx_base.specs.declared.limits.TheConstants.{INPUT_LIMIT};
 ghost use Rattle.rnxcmp_c.specs.Handles.{Ends, Feeds, HasFed, IsFed, IsPut, EndsRunBy, ReaderHasEnded, ReaderHasPassed, ReaderRuns, ReaderStands, answer_now};
 ghost use Rattle.rnxcmp_c.specs.meaning.Handles.{Task, HandlePast, StopsSoon, fed_with, filter_for, taken_with};
 ghost use Rattle.rnxcmp_c.specs.Waiting.{waiting};
@@ -12,8 +12,8 @@ use crate::answer::{Answer, OUTPUT_LIMIT, code_in, line_in, misused};
 use crate::engines::{AnyEngine, end_any, status_at_end, take_any};
 use crate::held::Held;
 use crate::stop::Stop;
-use crx_faults::limits::INPUT_LIMIT;
-use crx_faults::{At, Fault};
+use crx_base::limits::INPUT_LIMIT;
+use crx_base::{At, Fault};
 use crx_runs::Outcome;
 use crx_runs::message::{Severity, message};
 

@@ -1,17 +1,17 @@
 //! Runs over the caller's input, whose output and messages are collected as far as the caller's rooms go.
 
 ghost use Rattle.std.specs.Prelude.{◌≡◌, ◌+◌, ◌-◌, ◌^◌, ◌<◌, ◌≤◌, ◌⊎◌, ℕ, length, IfErr, IfOk, false, true};
-ghost use Rattle.crx_reading.specs.meaning.Compacted.{compacted};
-ghost use Rattle.crx_reading.specs.meaning.Expanded.{expanded};
+ghost use Rattle.crx_filter.specs.meaning.Compacted.{compacted};
+ghost use Rattle.crx_filter.specs.meaning.Expanded.{expanded};
 ghost use Rattle.crx_runs.specs.meaning.Results.{FilterResult};
-ghost use Rattle.crx_reading.specs.meaning.Standard.{checked};
-ghost use Rattle.crx_faults.specs.declared.limits.TheConstants.{INPUT_LIMIT};
+ghost use Rattle.crx_filter.specs.meaning.Standard.{checked};
+ghost use Rattle.crx_base.specs.declared.limits.TheConstants.{INPUT_LIMIT};
 ghost use Rattle.rnxcmp_c.specs.meaning.Answers.{IsAnswer, ExceedsLimit, fault_code_in, rooms};
 ghost use Rattle.rnxcmp_c.specs.Collecting.{EndsWithout, HasMemory, HasNone, IsCollected, IsRun};
 
 use crate::answer::{Answer, NO_ROOM, code_in, line_in, out_of_memory, over_limit, place};
 use crate::devices::{Counted, Given};
-use crx_faults::Fault;
+use crx_base::Fault;
 use crx_filter::{Options, check, compact, expand};
 use crx_runs::Outcome;
 use std::alloc::Global;

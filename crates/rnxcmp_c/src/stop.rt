@@ -1,6 +1,6 @@
 //! What ends the run of a handle.
 
-use crx_faults::At;
+use crx_base::At;
 
 /// What ended a run.
 #[derive(Clone, Copy, Debug, PartialEq, Eq)]

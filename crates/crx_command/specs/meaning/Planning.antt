@@ -11,7 +11,7 @@ use Rattle.clap.specs.Kinds.{Kinds}
 use Rattle.clap.specs.Faults.{fault_of}
 use Rattle.clap.specs.declared.error.ErrorKind.{ErrorKind}
 use Rattle.clap.specs.declared.error.ErrorKind.TheVariants.{DisplayHelp}
-use Rattle.crx_options.specs.meaning.Choices.{is_date}
+use Rattle.crx_base.specs.meaning.Choices.{is_date}
 use Rattle.crx_command.specs.meaning.Commands.{program}
 use Rattle.crx_command.specs.meaning.Names.{output_name}
 use Rattle.crx_command.specs.declared.job.Tool.{Tool}

@@ -3,7 +3,7 @@ use Rattle.std.specs.Prelude.{◌≡◌, refl, ℕ, ℤ, Bool, true, false, List
 use Rattle.std.specs.Result.{is_ok}
 use Rattle.std.proofs.Common.{sym, ◌∙◌, ap}
 use Rattle.crx_text.specs.declared.code.Code.{Code}
-use Rattle.crx_faults.specs.declared.limits.TheConstants.{WRITTEN_ORDER}
+use Rattle.crx_base.specs.declared.limits.TheConstants.{WRITTEN_ORDER}
 use Rattle.crx_compact.specs.meaning.Sequences.{stretch}
 use Rattle.crx_compact.specs.meaning.ArcValues.{since_start, value_of}
 use Rattle.crx_compact.specs.ArcTails.{ArcTail, arc_tail, started_tail}

@@ -5,7 +5,7 @@ use Rattle.std.specs.List.{AllByRecursion}
 use Rattle.std.proofs.Common.{sym, subst, arith}
 use Rattle.std.proofs.lemmas.Int.{ints}
 use Rattle.std.proofs.Math.Nat.{pow-le-pow_right}
-use Rattle.crx_faults.specs.declared.limits.TheConstants.{WRITTEN_ORDER, DIGITS_LIMIT}
+use Rattle.crx_base.specs.declared.limits.TheConstants.{WRITTEN_ORDER, DIGITS_LIMIT}
 use Rattle.crx_text.specs.meaning.Numbers.{IsWithin}
 use Rattle.crx_text.specs.Codes.{IsShort, IsPrintable}
 use Rattle.crx_compact.specs.meaning.Differences.{difference, code_at}

@@ -10,7 +10,7 @@ use Rattle.crx_compact.specs.ArcTails.{ArcTail, started_tail, arc_tail}
 use Rattle.crx_compact.specs.ArcSteps.{value_of_code, arc_of_code, code_of_value, arc_of_value}
 use Rattle.crx_compact.proofs.arcs.Inversion.{value-first}
 use Rattle.crx_compact.proofs.arcs.Stepping.{values-by_tail, first-differences, codes-by_tail}
-use Rattle.crx_faults.specs.declared.limits.TheConstants.{WRITTEN_ORDER}
+use Rattle.crx_base.specs.declared.limits.TheConstants.{WRITTEN_ORDER}
 use Rattle.crx_compact.specs.meaning.Sequences.{stretch}
 
 -- a started arc has numbers

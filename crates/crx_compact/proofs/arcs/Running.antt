@@ -16,9 +16,9 @@ use Rattle.crx_compact.specs.meaning.Differences.{newest}
 use Rattle.crx_compact.specs.ArcSteps.{differences_after, onto_sum, differences_by, highest, code_of_value, arc_of_value}
 use Rattle.crx_compact.specs.ArcSteps.{value_of_code, arc_of_code}
 use Rattle.crx_compact.specs.meaning.ArcValues.{in_range, is_within}
-use Rattle.crx_faults.specs.declared.fault.Fault.{Fault}
-use Rattle.crx_faults.specs.declared.fault.Fault.TheVariants.{OutOfRange}
-use Rattle.crx_faults.specs.declared.limits.TheConstants.{WRITTEN_ORDER}
+use Rattle.crx_base.specs.declared.fault.Fault.{Fault}
+use Rattle.crx_base.specs.declared.fault.Fault.TheVariants.{OutOfRange}
+use Rattle.crx_base.specs.declared.limits.TheConstants.{WRITTEN_ORDER}
 
 -- ---- size
 

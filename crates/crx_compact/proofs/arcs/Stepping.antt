@@ -4,12 +4,12 @@ use Rattle.std.specs.Prelude.{Option, Some}
 use Rattle.std.proofs.Common.{sym, ◌∙◌, ap, arith}
 use Rattle.std.proofs.lemmas.Int.{ints}
 use Rattle.crx_text.specs.declared.code.Code.TheVariants.{Step}
-use Rattle.crx_columns.specs.meaning.EachPlace.{each_place}
+use Rattle.crx_text.specs.meaning.EachPlace.{each_place}
 use Rattle.crx_compact.specs.meaning.Differences.{difference, value_at, newest}
 use Rattle.crx_compact.specs.ArcTails.{ArcTail, differences_of, values_of}
 use Rattle.crx_compact.specs.ArcSteps.{differences_after, highest, onto_sum, differences_by}
 use Rattle.crx_compact.specs.ArcLaws.{CodesByTail, ValuesByTail}
-use Rattle.crx_columns.proofs.EachPlace.{take-each_place}
+use Rattle.crx_text.proofs.EachPlace.{take-each_place}
 use Rattle.crx_compact.proofs.arcs.Weights.{difference-suc, difference-zero}
 use Rattle.crx_compact.proofs.arcs.Inversion.{numbers_of, value-numbers, value-first, value-step, without_oldest}
 

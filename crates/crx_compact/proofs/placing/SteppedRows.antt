@@ -5,10 +5,10 @@ use Rattle.std.proofs.Common.{arith, slice_set, slice_index_or}
 use Rattle.std.specs.Prelude.{flat_map}
 use Rattle.std.proofs.lemmas.List.{length-map, length-take, length-take-le}
 use Rattle.std.proofs.lemmas.Option.{none-some, same_Some, slice_get-map}
-use Rattle.crx_columns.proofs.EachPlace.{index-each_place}
-use Rattle.crx_columns.specs.meaning.Columns.{without_end_blanks}
-use Rattle.crx_columns.specs.meaning.EachPlace.{each_place}
-use Rattle.crx_columns.specs.meaning.Texts.{text_difference}
+use Rattle.crx_text.proofs.EachPlace.{index-each_place}
+use Rattle.crx_text.specs.meaning.Columns.{without_end_blanks}
+use Rattle.crx_text.specs.meaning.EachPlace.{each_place}
+use Rattle.crx_text.specs.meaning.Texts.{text_difference}
 use Rattle.crx_rinex.specs.meaning.Observations.{Row}
 use Rattle.crx_compact.specs.ArcSteps.{arc_of_value, code_of_value}
 use Rattle.crx_compact.specs.ArcTails.{ArcTail}

@@ -5,8 +5,8 @@ use Rattle.std.proofs.Common.{sym, ◌∙◌, ap, subst, arith}
 use Rattle.std.proofs.lemmas.List.{length-map}
 use Rattle.std.proofs.lemmas.List.Elements.{All-cons, All-head, All-tail}
 use Rattle.std.proofs.lemmas.Option.{same_Some}
-use Rattle.crx_columns.specs.meaning.Columns.{columns}
-use Rattle.crx_faults.specs.declared.limits.TheConstants.{HEAD_WIDTH, SATELLITES_LIMIT}
+use Rattle.crx_text.specs.meaning.Columns.{columns}
+use Rattle.crx_base.specs.declared.limits.TheConstants.{HEAD_WIDTH, SATELLITES_LIMIT}
 use Rattle.crx_rinex.proofs.Rows.{satellites_few}
 use Rattle.crx_compact.specs.meaning.EpochText.{Satellite}
 use Rattle.crx_compact.specs.HeldRows.{IsAwaitedSatellite}

@@ -1,9 +1,9 @@
 -- A line that begins with > forgets what was read before it.
 use Rattle.std.specs.Prelude.{◌≡◌, ℕ, true, List, [], ◌∷◌, drop, Option, Some, None, Result, Ok, Err, if◌then◌else◌}
 use Rattle.std.proofs.Common.{sym, ◌∙◌, ap}
-use Rattle.crx_faults.specs.meaning.Seen.{ReadLine, Content}
-use Rattle.crx_faults.specs.declared.fault.Fault.{Fault}
-use Rattle.crx_faults.specs.declared.fault.Fault.TheVariants.{NotAnEpoch}
+use Rattle.crx_base.specs.meaning.Seen.{ReadLine, Content}
+use Rattle.crx_base.specs.declared.fault.Fault.{Fault}
+use Rattle.crx_base.specs.declared.fault.Fault.TheVariants.{NotAnEpoch}
 use Rattle.crx_header.specs.meaning.ObservationTypes.{Count}
 use Rattle.crx_rinex.specs.meaning.Places.{Place, Here, then_place, one_line, first_line}
 use Rattle.crx_header.specs.meaning.EpochColumns.{begins_epoch}

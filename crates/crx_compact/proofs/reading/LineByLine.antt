@@ -5,12 +5,12 @@ use Rattle.std.specs.Option.{option_map, is_some}
 use Rattle.std.proofs.Common.{sym, ◌∙◌, ap, arith, true≢false}
 use Rattle.std.proofs.lemmas.List.{append_assoc, length-append, take_all}
 use Rattle.std.proofs.lemmas.Simd.{map-map}
-use Rattle.crx_columns.specs.Texts.{patched}
-use Rattle.crx_columns.specs.meaning.Columns.{columns, without_end_blanks}
-use Rattle.crx_faults.specs.meaning.Seen.{ReadLine, Content, Overlong}
-use Rattle.crx_faults.specs.declared.fault.Fault.{Fault}
-use Rattle.crx_faults.specs.declared.fault.Fault.TheVariants.{BadClock, Truncated}
-use Rattle.crx_faults.specs.declared.limits.TheConstants.{CLOCK_WIDTH, HEAD_WIDTH}
+use Rattle.crx_text.specs.Texts.{patched}
+use Rattle.crx_text.specs.meaning.Columns.{columns, without_end_blanks}
+use Rattle.crx_base.specs.meaning.Seen.{ReadLine, Content, Overlong}
+use Rattle.crx_base.specs.declared.fault.Fault.{Fault}
+use Rattle.crx_base.specs.declared.fault.Fault.TheVariants.{BadClock, Truncated}
+use Rattle.crx_base.specs.declared.limits.TheConstants.{CLOCK_WIDTH, HEAD_WIDTH}
 use Rattle.crx_header.specs.meaning.EpochColumns.{begins_epoch}
 use Rattle.crx_header.specs.meaning.ObservationTypes.{Count}
 use Rattle.crx_rinex.specs.meaning.Observations.{Row}

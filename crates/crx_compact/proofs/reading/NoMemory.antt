@@ -5,10 +5,10 @@ use Rattle.std.proofs.Common.{◌∙◌, ap}
 use Rattle.crx_text.specs.declared.code.Code.{Code}
 use Rattle.crx_text.specs.declared.code.Code.TheVariants.{Missing, Start, Step}
 use Rattle.crx_text.specs.meaning.Codes.{code_of}
-use Rattle.crx_faults.specs.declared.fault.Fault.{Fault}
-use Rattle.crx_faults.specs.declared.fault.Fault.TheVariants.{BadField, BadFlags, OutOfMemory, OutOfRange}
-use Rattle.crx_faults.specs.declared.fault.Fault.TheVariants.{Truncated}
-use Rattle.crx_faults.specs.declared.limits.TheConstants.{OBSERVATION_WIDTH}
+use Rattle.crx_base.specs.declared.fault.Fault.{Fault}
+use Rattle.crx_base.specs.declared.fault.Fault.TheVariants.{BadField, BadFlags, OutOfMemory, OutOfRange}
+use Rattle.crx_base.specs.declared.fault.Fault.TheVariants.{Truncated}
+use Rattle.crx_base.specs.declared.limits.TheConstants.{OBSERVATION_WIDTH}
 use Rattle.crx_header.specs.meaning.EpochColumns.{begins_epoch}
 use Rattle.crx_compact.specs.meaning.Sequences.{and_then, before_all}
 use Rattle.crx_compact.specs.meaning.EpochText.{Satellite}

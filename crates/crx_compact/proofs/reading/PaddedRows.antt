@@ -4,15 +4,15 @@ use Rattle.std.specs.Prelude.{◌≡◌, refl, ℕ, zero, suc, ◌<◌, ◌≤�
 use Rattle.std.specs.Prelude.{take, slice_index_or, Option, None, Some, Result, Ok, Err, if◌then◌else◌}
 use Rattle.std.proofs.Common.{sym, ◌∙◌, ap, subst, arith, inl, inr}
 use Rattle.std.proofs.lemmas.List.{length-map}
-use Rattle.crx_columns.specs.meaning.Columns.{columns}
-use Rattle.crx_columns.specs.meaning.EachPlace.{each_place}
-use Rattle.crx_columns.specs.meaning.Texts.{by_position}
-use Rattle.crx_columns.specs.Texts.{character_of, patched}
-use Rattle.crx_columns.proofs.Characters.{at, at-without_end_blanks}
-use Rattle.crx_columns.proofs.EachPlace.{index-each_place, length-each_place}
-use Rattle.crx_faults.specs.declared.fault.Fault.{Fault}
-use Rattle.crx_faults.specs.declared.fault.Fault.TheVariants.{BadFlags, Truncated}
-use Rattle.crx_faults.specs.declared.limits.TheConstants.{OBSERVATION_WIDTH}
+use Rattle.crx_text.specs.meaning.Columns.{columns}
+use Rattle.crx_text.specs.meaning.EachPlace.{each_place}
+use Rattle.crx_text.specs.meaning.Texts.{by_position}
+use Rattle.crx_text.specs.Texts.{character_of, patched}
+use Rattle.crx_text.proofs.Characters.{at, at-without_end_blanks}
+use Rattle.crx_text.proofs.EachPlace.{index-each_place, length-each_place}
+use Rattle.crx_base.specs.declared.fault.Fault.{Fault}
+use Rattle.crx_base.specs.declared.fault.Fault.TheVariants.{BadFlags, Truncated}
+use Rattle.crx_base.specs.declared.limits.TheConstants.{OBSERVATION_WIDTH}
 use Rattle.crx_header.specs.meaning.EpochColumns.{begins_epoch}
 use Rattle.crx_header.specs.meaning.InOrder.{◌otherwise◌next◌}
 use Rattle.crx_text.specs.declared.code.Code.{Code}

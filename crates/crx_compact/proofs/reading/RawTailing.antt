@@ -5,13 +5,13 @@ use Rattle.std.specs.Option.{option_map}
 use Rattle.std.proofs.Common.{sym, ◌∙◌, ap}
 use Rattle.std.proofs.Math.Path.{fun_ext}
 use Rattle.std.proofs.lemmas.List.{get_or_past}
-use Rattle.crx_columns.specs.Texts.{patched}
-use Rattle.crx_faults.specs.meaning.Seen.{ReadLine}
+use Rattle.crx_text.specs.Texts.{patched}
+use Rattle.crx_base.specs.meaning.Seen.{ReadLine}
 use Rattle.crx_text.specs.declared.code.Code.{Code}
 use Rattle.crx_text.specs.declared.code.Code.TheVariants.{Missing}
-use Rattle.crx_faults.specs.declared.limits.TheConstants.{OBSERVATION_WIDTH, CLOCK_WIDTH}
+use Rattle.crx_base.specs.declared.limits.TheConstants.{OBSERVATION_WIDTH, CLOCK_WIDTH}
 use Rattle.crx_header.specs.meaning.ObservationTypes.{Count}
-use Rattle.crx_columns.specs.meaning.EachPlace.{each_place}
+use Rattle.crx_text.specs.meaning.EachPlace.{each_place}
 use Rattle.crx_compact.specs.meaning.Sequences.{stretch}
 use Rattle.crx_header.specs.meaning.EpochColumns.{begins_epoch}
 use Rattle.crx_compact.specs.meaning.Expansion.{RawRow, RawEpoch, block_of, overlaid, raw_row_named, raw_run_of}
@@ -27,7 +27,7 @@ use Rattle.crx_compact.specs.ArcSteps.{value_of_code, arc_of_code}
 use Rattle.crx_compact.specs.HeldRows.{past_of_tail}
 use Rattle.crx_compact.specs.OpenEpochs.{tail_for_line, epoch_after}
 use Rattle.crx_compact.specs.ReadingLaws.{HasSingleLines, RawByTail}
-use Rattle.crx_columns.proofs.EachPlace.{each_place-same, index-each_place}
+use Rattle.crx_text.proofs.EachPlace.{each_place-same, index-each_place}
 use Rattle.crx_compact.proofs.Lists.{mapped-same}
 use Rattle.crx_compact.proofs.wayback.Overlays.{overlaid-patched}
 use Rattle.crx_compact.proofs.wayback.Cuts.{overlaid-take}

@@ -4,10 +4,10 @@ use Rattle.std.specs.Prelude.{Option, Some, None, Result, Ok, Err, slice_get, sl
 use Rattle.std.proofs.Common.{sym, ◌∙◌, ap, arith, add-one}
 use Rattle.std.proofs.lemmas.List.{take_all}
 use Rattle.std.proofs.lemmas.Option.{slice_get-get_or, slice_get_past}
-use Rattle.crx_columns.specs.meaning.Columns.{columns}
-use Rattle.crx_faults.specs.declared.fault.Fault.{Fault}
-use Rattle.crx_faults.specs.declared.limits.TheConstants.{HEAD_WIDTH}
-use Rattle.crx_faults.specs.meaning.Seen.{Content}
+use Rattle.crx_text.specs.meaning.Columns.{columns}
+use Rattle.crx_base.specs.declared.fault.Fault.{Fault}
+use Rattle.crx_base.specs.declared.limits.TheConstants.{HEAD_WIDTH}
+use Rattle.crx_base.specs.meaning.Seen.{Content}
 use Rattle.crx_rinex.specs.meaning.Observations.{Epoch}
 use Rattle.crx_rinex.specs.meaning.Printing.{printed_epoch, printed_head, printed_row}
 use Rattle.crx_compact.specs.ArcSteps.{shown_value}

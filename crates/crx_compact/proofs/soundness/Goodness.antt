@@ -7,7 +7,7 @@ use Rattle.std.proofs.Common.{sym, ◌∙◌, ap, subst, arith}
 use Rattle.std.proofs.lemmas.List.{length-map}
 use Rattle.std.proofs.lemmas.List.Elements.{All-from_recursion}
 use Rattle.std.proofs.lemmas.Bool.{and_parts, and_from}
-use Rattle.crx_columns.specs.meaning.Columns.{columns, character_at, is_blank}
+use Rattle.crx_text.specs.meaning.Columns.{columns, character_at, is_blank}
 use Rattle.crx_text.specs.meaning.Numbers.{IsMissingOrWithin, IsValue}
 use Rattle.crx_rinex.specs.meaning.Observations.{Row}
 use Rattle.crx_header.specs.meaning.ObservationTypes.{Count, is_system, count_of, IsAllowedCount}
@@ -20,10 +20,11 @@ use Rattle.crx_header.proofs.Counts.{allowed_of, system_of}
 use Rattle.crx_rinex.proofs.Rows.{satellites_few}
 use Rattle.crx_text.specs.declared.code.Code.{Code}
 use Rattle.crx_text.specs.declared.code.Code.TheVariants.{Missing, Start, Step}
-use Rattle.crx_faults.specs.declared.fault.Fault.{Fault}
-use Rattle.crx_faults.specs.declared.fault.Fault.TheVariants.{NoArc}
-use Rattle.crx_faults.specs.declared.limits.TheConstants.{OBSERVATION_WIDTH, CLOCK_WIDTH}
-use Rattle.crx_columns.specs.meaning.Texts.{is_kept, is_printable}
+use Rattle.crx_base.specs.declared.fault.Fault.{Fault}
+use Rattle.crx_base.specs.declared.fault.Fault.TheVariants.{NoArc}
+use Rattle.crx_base.specs.declared.limits.TheConstants.{OBSERVATION_WIDTH, CLOCK_WIDTH}
+use Rattle.crx_text.specs.meaning.Texts.{is_kept}
+use Rattle.crx_base.specs.meaning.Lines.{is_printable}
 use Rattle.crx_compact.specs.meaning.Sequences.{stretch}
 use Rattle.crx_compact.specs.meaning.EpochText.{Satellite}
 use Rattle.crx_compact.specs.meaning.Expansion.{RawRow, RawEpoch, block_of, latest_mark, shown, overlaid}
@@ -35,10 +36,10 @@ use Rattle.crx_compact.specs.meaning.Past.{Past, past_of_block}
 use Rattle.crx_compact.specs.meaning.Cells.{ReadCell}
 use Rattle.crx_compact.specs.meaning.CompactPlaces.{ReadRow, ReadEpoch}
 use Rattle.crx_compact.specs.ReadingLaws.{HasPrintableMarks, IsGood, ReadsWholeEpochs}
-use Rattle.crx_columns.proofs.EachPlace.{each_place-all, length-each_place}
+use Rattle.crx_text.proofs.EachPlace.{each_place-all, length-each_place}
 use Rattle.crx_compact.proofs.Lists.{all-from}
 use Rattle.crx_compact.proofs.wayback.Overlays.{at-overlaid}
-use Rattle.crx_columns.proofs.Characters.{length-columns, list_all-from_at}
+use Rattle.crx_text.proofs.Characters.{length-columns, list_all-from_at}
 use Rattle.crx_compact.proofs.Characters.{all-take, list_all-at, list_all-append}
 use Rattle.crx_compact.proofs.Results.{no-err, ok-same}
 use Rattle.crx_compact.proofs.soundness.Soundness.{AreReadCells, RowFacts, Paired}

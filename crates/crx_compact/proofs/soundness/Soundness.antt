@@ -4,19 +4,19 @@ use Rattle.std.specs.Prelude.{slice_index_or, drop, Option, Some, None, Result, 
 use Rattle.std.specs.List.{AllByRecursion}
 use Rattle.std.proofs.Common.{sym, ◌∙◌, ap, subst, arith}
 use Rattle.std.proofs.lemmas.List.{length-map}
-use Rattle.crx_columns.specs.meaning.Columns.{columns, without_end_blanks}
+use Rattle.crx_text.specs.meaning.Columns.{columns, without_end_blanks}
 use Rattle.crx_text.specs.meaning.Codes.{code_of}
-use Rattle.crx_faults.specs.meaning.Seen.{ReadLine, Content, Overlong}
+use Rattle.crx_base.specs.meaning.Seen.{ReadLine, Content, Overlong}
 use Rattle.crx_rinex.specs.meaning.Observations.{Row, Epoch}
 use Rattle.crx_header.specs.meaning.ObservationTypes.{Count}
 use Rattle.crx_header.proofs.Apart.{apart-map}
 use Rattle.crx_rinex.specs.meaning.Places.{Place, Here, Wrong, Wanted, then_place, after_lines, first_line, one_line}
 use Rattle.crx_text.specs.declared.code.Code.{Code}
 use Rattle.crx_text.specs.declared.code.Code.TheVariants.{Missing}
-use Rattle.crx_faults.specs.declared.fault.Fault.{Fault}
-use Rattle.crx_faults.specs.declared.fault.Fault.TheVariants.{NotAnEpoch, BadClock, BadField, BadFlags}
-use Rattle.crx_faults.specs.declared.fault.Fault.TheVariants.{Truncated}
-use Rattle.crx_columns.specs.meaning.EachPlace.{each_place}
+use Rattle.crx_base.specs.declared.fault.Fault.{Fault}
+use Rattle.crx_base.specs.declared.fault.Fault.TheVariants.{NotAnEpoch, BadClock, BadField, BadFlags}
+use Rattle.crx_base.specs.declared.fault.Fault.TheVariants.{Truncated}
+use Rattle.crx_text.specs.meaning.EachPlace.{each_place}
 use Rattle.crx_compact.specs.meaning.Sequences.{and_then, before_all}
 use Rattle.crx_compact.specs.Expansion.{all_ok, text_of, row_from, rows_from, epoch_of_block, epoch_from}
 use Rattle.crx_header.specs.meaning.EpochColumns.{begins_epoch}

@@ -3,7 +3,7 @@ use Rattle.std.specs.Prelude.{◌≡◌, refl, ℕ, true, List, [], ◌∷◌, �
 use Rattle.std.specs.List.{list_all, AllByRecursion}
 use Rattle.std.proofs.Common.{◌∙◌, ap, arith}
 use Rattle.std.proofs.lemmas.List.{append_assoc}
-use Rattle.crx_columns.specs.meaning.Columns.{without_end_blanks}
+use Rattle.crx_text.specs.meaning.Columns.{without_end_blanks}
 use Rattle.crx_text.specs.declared.code.Code.{Code}
 use Rattle.crx_text.specs.meaning.Codes.{code_text, first_cell, after_cell}
 use Rattle.crx_compact.specs.meaning.Cells.{cell_text}

@@ -8,13 +8,13 @@ use Rattle.std.specs.Char.{is_ascii_digit}
 use Rattle.std.proofs.Common.{◌∙◌, ap, arith}
 use Rattle.std.proofs.lemmas.Fmt.{decimal_digit}
 use Rattle.crx_text.proofs.ReadBack.{decimal_is_digits}
-use Rattle.crx_columns.specs.meaning.Columns.{is_blank}
-use Rattle.crx_columns.specs.meaning.Texts.{is_printable}
+use Rattle.crx_text.specs.meaning.Columns.{is_blank}
+use Rattle.crx_base.specs.meaning.Lines.{is_printable}
 use Rattle.crx_text.specs.meaning.Codes.{code_text}
 use Rattle.crx_text.specs.Codes.{IsShort, IsPrintable}
 use Rattle.crx_text.specs.declared.code.Code.{Code}
 use Rattle.crx_text.specs.declared.code.Code.TheVariants.{Missing, Start, Step}
-use Rattle.crx_faults.specs.declared.limits.TheConstants.{ORDER_LIMIT, DIGITS_LIMIT}
+use Rattle.crx_base.specs.declared.limits.TheConstants.{ORDER_LIMIT, DIGITS_LIMIT}
 
 -- ---- characters of codes: digits, a minus and &
 

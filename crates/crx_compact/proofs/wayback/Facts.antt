@@ -5,23 +5,24 @@ use Rattle.std.specs.List.{list_all, AllByRecursion}
 use Rattle.std.proofs.Common.{sym, ◌∙◌, ap, arith, true≢false}
 use Rattle.std.proofs.lemmas.List.{length-append}
 use Rattle.std.proofs.lemmas.Bool.{and_parts, not-true}
-use Rattle.crx_columns.specs.meaning.Columns.{character_at, without_end_blanks, columns}
-use Rattle.crx_columns.specs.meaning.Texts.{text_difference, mark_of, by_position, is_kept, is_printable}
+use Rattle.crx_text.specs.meaning.Columns.{character_at, without_end_blanks, columns}
+use Rattle.crx_text.specs.meaning.Texts.{text_difference, mark_of, by_position, is_kept}
+use Rattle.crx_base.specs.meaning.Lines.{is_printable}
 use Rattle.crx_rinex.specs.meaning.Observations.{Row, Epoch}
 use Rattle.crx_rinex.specs.meaning.Epochs.{has_satellite, are_different, IsWholeEpoch}
-use Rattle.crx_faults.specs.declared.fault.Fault.{Fault}
-use Rattle.crx_columns.specs.meaning.EachPlace.{each_place}
+use Rattle.crx_base.specs.declared.fault.Fault.{Fault}
+use Rattle.crx_text.specs.meaning.EachPlace.{each_place}
 use Rattle.crx_header.specs.meaning.EpochColumns.{begins_epoch, is_observation_flag, satellites_in}
 use Rattle.crx_compact.specs.meaning.EpochText.{Satellite, satellites_named}
 use Rattle.crx_header.specs.meaning.ObservationTypes.{Count}
 use Rattle.crx_compact.specs.meaning.Compaction.{epoch_text}
-use Rattle.crx_columns.proofs.EachPlace.{each_place-same}
+use Rattle.crx_text.proofs.EachPlace.{each_place-same}
 use Rattle.crx_compact.proofs.Identifiers.{AreNew, new-after}
 use Rattle.crx_compact.proofs.wayback.Writable.{IsTypedRow, head-counted, sound-name_kept, typed-rows}
 use Rattle.crx_compact.proofs.Characters.{at-by_position, same_characters, list_all-at, list_all-append, if_some}
 use Rattle.crx_compact.proofs.wayback.Runs.{IsUnmarked}
-use Rattle.crx_columns.proofs.Characters.{at, at-without_end_blanks, at-append, at-append_past, columns-are}
-use Rattle.crx_columns.proofs.Characters.{list_all-from_at}
+use Rattle.crx_text.proofs.Characters.{at, at-without_end_blanks, at-append, at-append_past, columns-are}
+use Rattle.crx_text.proofs.Characters.{list_all-from_at}
 use Rattle.crx_rinex.proofs.ReadingBack.{name-length}
 
 -- ---- tests of all characters

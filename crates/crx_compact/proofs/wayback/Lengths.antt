@@ -9,12 +9,12 @@ use Rattle.std.proofs.lemmas.Int.{ints}
 use Rattle.std.proofs.lemmas.Fmt.{length-decimal-le}
 use Rattle.std.proofs.lemmas.List.{length-append}
 use Rattle.std.proofs.Math.Nat.{pow-le-pow_right}
-use Rattle.crx_columns.specs.meaning.Texts.{by_position, mark_of, text_difference}
+use Rattle.crx_text.specs.meaning.Texts.{by_position, mark_of, text_difference}
 use Rattle.crx_text.specs.meaning.Codes.{code_text}
 use Rattle.crx_rinex.specs.meaning.Observations.{Row, Epoch, value_in}
 use Rattle.crx_text.specs.declared.code.Code.{Code}
-use Rattle.crx_faults.specs.declared.limits.TheConstants.{WRITTEN_ORDER, DIGITS_LIMIT, TYPES_LIMIT, SATELLITES_LIMIT}
-use Rattle.crx_faults.specs.declared.limits.TheConstants.{OBSERVATION_WIDTH, CLOCK_WIDTH}
+use Rattle.crx_base.specs.declared.limits.TheConstants.{WRITTEN_ORDER, DIGITS_LIMIT, TYPES_LIMIT, SATELLITES_LIMIT}
+use Rattle.crx_base.specs.declared.limits.TheConstants.{OBSERVATION_WIDTH, CLOCK_WIDTH}
 use Rattle.crx_compact.specs.meaning.Differences.{difference, code_at}
 use Rattle.crx_compact.specs.meaning.Compaction.{Marked, epoch_text, since_full, arc_of, clock_arc}
 use Rattle.crx_compact.specs.meaning.Compaction.{newest_text, indicators_before, codes_of, satellite_line}
@@ -23,7 +23,7 @@ use Rattle.crx_compact.specs.meaning.Compaction.{compact_epoch}
 use Rattle.crx_header.specs.meaning.ObservationTypes.{Count}
 use Rattle.crx_text.specs.meaning.Numbers.{IsWithin}
 use Rattle.crx_compact.specs.Laws.{AreWhole}
-use Rattle.crx_columns.proofs.EachPlace.{each_place-all, length-each_place}
+use Rattle.crx_text.proofs.EachPlace.{each_place-all, length-each_place}
 use Rattle.crx_rinex.specs.meaning.Epochs.{IsWholeEpoch}
 use Rattle.crx_compact.proofs.wayback.Writable.{IsTypedRow, typed-rows}
 use Rattle.crx_compact.proofs.wayback.CodeTexts.{order-text}
@@ -32,7 +32,7 @@ use Rattle.crx_compact.proofs.arcs.Bounds.{ten-more}
 use Rattle.crx_compact.proofs.wayback.Runs.{marked}
 use Rattle.crx_compact.proofs.wayback.Rows.{IsRowOf, clocks-fit, lines-each, near-all, stretch-within, values-fit}
 use Rattle.crx_compact.proofs.wayback.Facts.{length-text}
-use Rattle.crx_columns.proofs.EndBlanks.{few_kept}
+use Rattle.crx_text.proofs.EndBlanks.{few_kept}
 
 -- ---- numbers and codes
 

@@ -7,17 +7,17 @@ use Rattle.std.proofs.lemmas.List.{length-map, length-append, append_assoc, map-
 use Rattle.std.proofs.lemmas.Simd.{map-map}
 use Rattle.std.proofs.Math.Seq.{drop-append_seam}
 use Rattle.std.proofs.lemmas.Bool.{and_parts}
-use Rattle.crx_columns.specs.meaning.Columns.{is_blank, without_end_blanks, columns}
+use Rattle.crx_text.specs.meaning.Columns.{is_blank, without_end_blanks, columns}
 use Rattle.crx_text.specs.meaning.Codes.{code_text}
 use Rattle.crx_text.specs.Codes.{IsPrintable}
-use Rattle.crx_faults.specs.meaning.Seen.{ReadLine, Content}
+use Rattle.crx_base.specs.meaning.Seen.{ReadLine, Content}
 use Rattle.crx_rinex.specs.meaning.Observations.{Row, Epoch}
 use Rattle.crx_header.specs.meaning.ObservationTypes.{Count}
 use Rattle.crx_rinex.specs.meaning.Places.{Here}
 use Rattle.crx_text.specs.declared.code.Code.{Code}
-use Rattle.crx_faults.specs.declared.fault.Fault.{Fault}
-use Rattle.crx_faults.specs.declared.fault.Fault.TheVariants.{BadEpoch}
-use Rattle.crx_faults.specs.declared.limits.TheConstants.{WRITTEN_ORDER, CLOCK_WIDTH}
+use Rattle.crx_base.specs.declared.fault.Fault.{Fault}
+use Rattle.crx_base.specs.declared.fault.Fault.TheVariants.{BadEpoch}
+use Rattle.crx_base.specs.declared.limits.TheConstants.{WRITTEN_ORDER, CLOCK_WIDTH}
 use Rattle.crx_compact.specs.meaning.Sequences.{back_to, and_then}
 use Rattle.crx_compact.specs.meaning.Differences.{code_at}
 use Rattle.crx_compact.specs.meaning.Compaction.{Marked, epoch_text, row_named, since_full, run_of, clock_arc}
@@ -40,7 +40,7 @@ use Rattle.crx_compact.specs.Laws.{AreWhole}
 use Rattle.crx_compact.proofs.Lists.{all-from}
 use Rattle.crx_compact.proofs.wayback.Writable.{head-counted, typed-rows}
 use Rattle.crx_text.proofs.CodeTexts.{code_of-code_text}
-use Rattle.crx_columns.proofs.EndBlanks.{few_kept}
+use Rattle.crx_text.proofs.EndBlanks.{few_kept}
 use Rattle.crx_compact.proofs.wayback.CodeTexts.{is_code_character, code-characters}
 use Rattle.crx_compact.proofs.wayback.Runs.{raw_block, marked, Begins, begins_full, begins_later, block-raws, raw_run}
 use Rattle.crx_compact.proofs.wayback.Runs.{runs-read, clocks-read, value-back, text-read, rows_before}
@@ -49,7 +49,7 @@ use Rattle.crx_compact.proofs.wayback.Facts.{satellites_of_rows, satellites-good
 use Rattle.crx_compact.proofs.wayback.Rows.{run-begins, rows-of_run, clock-printable, satellite_of, row-read}
 use Rattle.crx_compact.proofs.Identifiers.{each-own, none-earlier}
 use Rattle.crx_compact.proofs.EpochLines.{satellites_counted}
-use Rattle.crx_columns.proofs.Characters.{at, at-without_end_blanks, columns-are}
+use Rattle.crx_text.proofs.Characters.{at, at-without_end_blanks, columns-are}
 
 -- ---- the epochs of a block
 

@@ -11,16 +11,16 @@ use Rattle.std.proofs.lemmas.List.Elements.{All-head, All-tail}
 use Rattle.crx_text.specs.meaning.Numbers.{IsWithin, IsMissingOrWithin, IsValue}
 use Rattle.crx_rinex.specs.meaning.EpochLines.{IsClockOffset}
 use Rattle.crx_header.specs.meaning.EpochColumns.{begins_epoch}
-use Rattle.crx_columns.specs.meaning.Columns.{is_blank, without_end_blanks}
-use Rattle.crx_columns.specs.meaning.Texts.{text_difference, mark_of, by_position}
+use Rattle.crx_text.specs.meaning.Columns.{is_blank, without_end_blanks}
+use Rattle.crx_text.specs.meaning.Texts.{text_difference, mark_of, by_position}
 use Rattle.crx_text.specs.meaning.Codes.{code_text}
 use Rattle.crx_text.specs.Codes.{IsPrintable}
 use Rattle.crx_rinex.specs.meaning.Observations.{Row, Epoch, value_in}
 use Rattle.crx_text.specs.declared.code.Code.{Code}
 use Rattle.crx_text.specs.declared.code.Code.TheVariants.{Missing}
-use Rattle.crx_faults.specs.declared.fault.Fault.{Fault}
-use Rattle.crx_faults.specs.declared.limits.TheConstants.{WRITTEN_ORDER, OBSERVATION_WIDTH, CLOCK_WIDTH}
-use Rattle.crx_columns.specs.meaning.EachPlace.{each_place}
+use Rattle.crx_base.specs.declared.fault.Fault.{Fault}
+use Rattle.crx_base.specs.declared.limits.TheConstants.{WRITTEN_ORDER, OBSERVATION_WIDTH, CLOCK_WIDTH}
+use Rattle.crx_text.specs.meaning.EachPlace.{each_place}
 use Rattle.crx_compact.specs.meaning.Sequences.{back_to, stretch}
 use Rattle.crx_compact.specs.meaning.Differences.{code_at}
 use Rattle.crx_compact.specs.meaning.Compaction.{Marked, run_of, since_full, row_named, arc_of}
@@ -34,7 +34,7 @@ use Rattle.crx_compact.specs.meaning.Cells.{ReadCell, cells_read, cells_of, afte
 use Rattle.crx_compact.specs.meaning.CompactPlaces.{are_marks, row_of_cells}
 use Rattle.crx_compact.specs.meaning.CompactPlaces.{satellite_line_read}
 use Rattle.crx_compact.specs.Laws.{AreWhole, CodesFit}
-use Rattle.crx_columns.proofs.EachPlace.{each_place-all, index-each_place, length-each_place, map-each_place}
+use Rattle.crx_text.proofs.EachPlace.{each_place-all, index-each_place, length-each_place, map-each_place}
 use Rattle.crx_compact.proofs.Lists.{all-from}
 use Rattle.crx_compact.proofs.wayback.Writable.{IsTypedRow, typed-rows}
 use Rattle.crx_compact.specs.ReadingLaws.{raw_row}
@@ -47,7 +47,7 @@ use Rattle.crx_compact.proofs.wayback.Runs.{raw_run, codes-read, marked, rows_be
 use Rattle.crx_compact.proofs.Characters.{bytes_eq-is}
 use Rattle.crx_compact.proofs.arcs.Bounds.{IsNear, near-within, code-printable}
 use Rattle.crx_compact.proofs.wayback.Facts.{unmarked, at-difference, difference-printable, trimmed-again}
-use Rattle.crx_columns.proofs.Characters.{at, at-drop, at-without_end_blanks, columns-are, list_all-from_at}
+use Rattle.crx_text.proofs.Characters.{at, at-drop, at-without_end_blanks, columns-are, list_all-from_at}
 
 -- ---- rows of a run
 

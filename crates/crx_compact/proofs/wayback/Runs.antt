@@ -6,13 +6,13 @@ use Rattle.std.specs.Option.{option_map}
 use Rattle.std.specs.Str.{bytes_eq}
 use Rattle.std.proofs.Common.{◌∙◌, ap, arith}
 use Rattle.std.proofs.lemmas.List.{get_or_past}
-use Rattle.crx_columns.specs.meaning.Columns.{without_end_blanks}
-use Rattle.crx_columns.specs.meaning.Texts.{text_difference, mark_of, by_position}
-use Rattle.crx_columns.specs.Texts.{patched, character_of}
+use Rattle.crx_text.specs.meaning.Columns.{without_end_blanks}
+use Rattle.crx_text.specs.meaning.Texts.{text_difference, mark_of, by_position}
+use Rattle.crx_text.specs.Texts.{patched, character_of}
 use Rattle.crx_rinex.specs.meaning.Observations.{Row, Epoch, value_in}
 use Rattle.crx_text.specs.declared.code.Code.{Code}
 use Rattle.crx_text.specs.declared.code.Code.TheVariants.{Missing}
-use Rattle.crx_faults.specs.declared.limits.TheConstants.{WRITTEN_ORDER}
+use Rattle.crx_base.specs.declared.limits.TheConstants.{WRITTEN_ORDER}
 use Rattle.crx_compact.specs.meaning.Sequences.{back_to, named, stretch}
 use Rattle.crx_compact.specs.meaning.Differences.{code_at}
 use Rattle.crx_compact.specs.meaning.Compaction.{Marked, epoch_text, row_named, since_full, run_of, arc_of, clock_arc}
@@ -21,7 +21,7 @@ use Rattle.crx_compact.specs.meaning.Expansion.{RawRow, RawEpoch, block_of, raw_
 use Rattle.crx_compact.specs.meaning.Expansion.{code_in, overlaid}
 use Rattle.crx_compact.specs.meaning.ArcValues.{since_start, value_since, value_of}
 use Rattle.crx_compact.specs.ArcLaws.{codes_of_arc}
-use Rattle.crx_columns.proofs.EachPlace.{index-each_place, length-each_place}
+use Rattle.crx_text.proofs.EachPlace.{index-each_place, length-each_place}
 use Rattle.crx_text.specs.meaning.Numbers.{IsMissingOrWithin}
 use Rattle.crx_compact.proofs.arcs.Bounds.{within-is}
 use Rattle.crx_compact.specs.ReadingLaws.{raw_row, raw_of, raws_of}
@@ -29,7 +29,7 @@ use Rattle.crx_compact.proofs.arcs.Inversion.{value-numbers, started-codes}
 use Rattle.crx_compact.proofs.Characters.{at-by_position, same_characters, bytes_eq-is}
 use Rattle.crx_compact.proofs.wayback.Overlays.{character-mark, overlaid-patched}
 use Rattle.crx_compact.proofs.wayback.Cuts.{overlaid-take, trimmed-within}
-use Rattle.crx_columns.proofs.Characters.{at, at-without_end_blanks}
+use Rattle.crx_text.proofs.Characters.{at, at-without_end_blanks}
 
 -- ---- the block that a reader finds
 

@@ -4,11 +4,12 @@ use Rattle.std.specs.Prelude.{if◌then◌else◌}
 use Rattle.std.specs.List.{list_all, AllByRecursion}
 use Rattle.std.proofs.Common.{◌∙◌, ap, arith}
 use Rattle.std.proofs.lemmas.Bool.{and_parts}
-use Rattle.crx_columns.specs.meaning.Columns.{character_at, without_end_blanks}
-use Rattle.crx_columns.specs.meaning.Texts.{text_difference, is_printable, mark_of, is_kept}
+use Rattle.crx_text.specs.meaning.Columns.{character_at, without_end_blanks}
+use Rattle.crx_text.specs.meaning.Texts.{text_difference, mark_of, is_kept}
+use Rattle.crx_base.specs.meaning.Lines.{is_printable}
 use Rattle.crx_text.specs.meaning.Codes.{code_text}
 use Rattle.crx_text.specs.declared.code.Code.{Code}
-use Rattle.crx_faults.specs.declared.limits.TheConstants.{WRITTEN_ORDER}
+use Rattle.crx_base.specs.declared.limits.TheConstants.{WRITTEN_ORDER}
 use Rattle.crx_rinex.specs.meaning.Observations.{Row, Epoch}
 use Rattle.crx_header.specs.meaning.ObservationTypes.{Count}
 use Rattle.crx_header.specs.meaning.EpochColumns.{begins_epoch, is_event_flag, is_event_line, is_observation_flag}
@@ -17,7 +18,7 @@ use Rattle.crx_compact.specs.meaning.Compaction.{indicators_before, codes_of, sa
 use Rattle.crx_compact.specs.meaning.Cells.{cell_text}
 use Rattle.crx_compact.specs.meaning.Differences.{code_at}
 use Rattle.crx_compact.specs.Laws.{AreWhole, has_no_epochs, LinesCanStand}
-use Rattle.crx_columns.proofs.EachPlace.{length-each_place}
+use Rattle.crx_text.proofs.EachPlace.{length-each_place}
 use Rattle.crx_rinex.specs.meaning.Epochs.{IsWholeEpoch}
 use Rattle.crx_compact.proofs.Lists.{all-from}
 use Rattle.crx_compact.proofs.wayback.Writable.{IsTypedRow, typed-rows}
@@ -29,7 +30,7 @@ use Rattle.crx_compact.proofs.wayback.Facts.{head_tests, text-kept, text-head}
 use Rattle.crx_compact.proofs.wayback.Facts.{text-begins, at-difference, difference-printable}
 use Rattle.crx_compact.proofs.wayback.Rows.{IsRowOf, clock-printable, line-begins, lines-each, written-codes}
 use Rattle.crx_compact.proofs.wayback.Reading.{text-other}
-use Rattle.crx_columns.proofs.Characters.{at, at-without_end_blanks, list_all-from_at}
+use Rattle.crx_text.proofs.Characters.{at, at-without_end_blanks, list_all-from_at}
 
 -- ---- characters
 

@@ -4,10 +4,10 @@ use Rattle.std.specs.Prelude.{Some, None, if◌then◌else◌}
 use Rattle.std.specs.Option.{option_map}
 use Rattle.std.proofs.Common.{sym, ◌∙◌, ap}
 use Rattle.std.proofs.lemmas.List.{get_or_past}
-use Rattle.crx_columns.specs.meaning.Columns.{without_end_blanks}
-use Rattle.crx_columns.specs.meaning.Texts.{text_difference}
+use Rattle.crx_text.specs.meaning.Columns.{without_end_blanks}
+use Rattle.crx_text.specs.meaning.Texts.{text_difference}
 use Rattle.crx_rinex.specs.meaning.Observations.{Row, Epoch, value_in}
-use Rattle.crx_faults.specs.declared.limits.TheConstants.{WRITTEN_ORDER}
+use Rattle.crx_base.specs.declared.limits.TheConstants.{WRITTEN_ORDER}
 use Rattle.crx_compact.specs.meaning.Sequences.{back_to, stretch}
 use Rattle.crx_compact.specs.meaning.Differences.{code_at}
 use Rattle.crx_compact.specs.meaning.Compaction.{Marked, epoch_text, row_named, run_of, arc_of, newest_text}
@@ -17,7 +17,7 @@ use Rattle.crx_compact.specs.ArcTails.{arc_tail}
 use Rattle.crx_compact.specs.Steps.{no_tail, tail_named, cell_of_tail, flags_of_tail, row_line_in, row_tail_in}
 use Rattle.crx_compact.specs.ArcSteps.{code_of_value, arc_of_value}
 use Rattle.crx_compact.specs.Laws.{EpochByTail}
-use Rattle.crx_columns.proofs.EachPlace.{each_place-same, index-each_place}
+use Rattle.crx_text.proofs.EachPlace.{each_place-same, index-each_place}
 use Rattle.crx_rinex.specs.meaning.Epochs.{are_different}
 use Rattle.crx_compact.proofs.Lists.{mapped-same}
 use Rattle.crx_compact.proofs.wayback.Runs.{marked, named-made, rows_before}

@@ -3,8 +3,8 @@
 use Rattle.std.specs.Prelude.{ℕ, ℤ, zero, suc, List, [], ◌∷◌, Option, Some, None, Result, Ok, Err, ◌++◌}
 use Rattle.crx_text.specs.meaning.Codes.{code_of, first_cell, after_cell, code_text}
 use Rattle.crx_text.specs.declared.code.Code.{Code}
-use Rattle.crx_faults.specs.declared.fault.Fault.{Fault}
-use Rattle.crx_faults.specs.declared.fault.Fault.TheVariants.{BadField}
+use Rattle.crx_base.specs.declared.fault.Fault.{Fault}
+use Rattle.crx_base.specs.declared.fault.Fault.TheVariants.{BadField}
 use Rattle.crx_compact.specs.meaning.Sequences.{and_then, before_all}
 
 -- a code and the value that it gives, none where it is missing

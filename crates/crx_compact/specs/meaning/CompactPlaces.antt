@@ -3,19 +3,19 @@
 use Rattle.std.specs.Prelude.{ℕ, ◌+◌, ◌*◌, Bool, ◌&&◌, List, [], ◌∷◌, map, length, drop, Option}
 use Rattle.std.specs.Prelude.{Result, Ok, Err, if◌then◌else◌}
 use Rattle.std.specs.List.{list_all}
-use Rattle.crx_columns.specs.meaning.Columns.{columns, is_blank, without_end_blanks}
+use Rattle.crx_text.specs.meaning.Columns.{columns, is_blank, without_end_blanks}
 use Rattle.crx_text.specs.meaning.Codes.{code_of}
-use Rattle.crx_faults.specs.meaning.Seen.{ReadLine}
-use Rattle.crx_faults.specs.declared.limits.TheConstants.{HEAD_WIDTH, NAME_WIDTH}
-use Rattle.crx_faults.specs.declared.fault.Fault.{Fault}
-use Rattle.crx_faults.specs.declared.fault.Fault.TheVariants.{NotAnEpoch, BadEpoch, BadClock, BadFlags, Truncated}
+use Rattle.crx_base.specs.meaning.Seen.{ReadLine}
+use Rattle.crx_base.specs.declared.limits.TheConstants.{HEAD_WIDTH, NAME_WIDTH}
+use Rattle.crx_base.specs.declared.fault.Fault.{Fault}
+use Rattle.crx_base.specs.declared.fault.Fault.TheVariants.{NotAnEpoch, BadEpoch, BadClock, BadFlags, Truncated}
 use Rattle.crx_rinex.specs.meaning.Observations.{Row, Epoch}
 use Rattle.crx_header.specs.meaning.ObservationTypes.{Count}
 use Rattle.crx_header.specs.meaning.InOrder.{◌otherwise◌next◌, ◌or_else◌with◌}
 use Rattle.crx_rinex.specs.meaning.Places.{Place, Here, then_place, first_line}
 use Rattle.crx_compact.specs.meaning.Sequences.{and_then}
 use Rattle.crx_header.specs.meaning.EpochColumns.{begins_epoch, epoch_count}
-use Rattle.crx_columns.specs.meaning.Texts.{is_printable}
+use Rattle.crx_base.specs.meaning.Lines.{is_printable}
 use Rattle.crx_compact.specs.meaning.EpochText.{names_in, Satellite, satellites_named}
 use Rattle.crx_compact.specs.meaning.Expansion.{RawRow, RawEpoch}
 use Rattle.crx_compact.specs.meaning.Past.{Past, past_of_line}

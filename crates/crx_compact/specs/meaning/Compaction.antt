@@ -1,13 +1,13 @@
 -- The compact text of epochs: Hatanaka's Compact RINEX 3.0, epoch line, clock line and satellite lines.
 -- Lists of epochs stand newest first: the first one is the epoch that is written.
 use Rattle.std.specs.Prelude.{ℕ, ℤ, Bool, List, [], ◌∷◌, ◌++◌, map, length, Option, if◌then◌else◌, flat_map}
-use Rattle.crx_columns.specs.meaning.Columns.{without_end_blanks}
-use Rattle.crx_columns.specs.meaning.Texts.{text_difference}
+use Rattle.crx_text.specs.meaning.Columns.{without_end_blanks}
+use Rattle.crx_text.specs.meaning.Texts.{text_difference}
 use Rattle.crx_text.specs.meaning.Codes.{code_text}
 use Rattle.crx_rinex.specs.meaning.Observations.{Row, Epoch, value_in}
 use Rattle.crx_text.specs.declared.code.Code.{Code}
-use Rattle.crx_faults.specs.declared.limits.TheConstants.{WRITTEN_ORDER}
-use Rattle.crx_columns.specs.meaning.EachPlace.{each_place}
+use Rattle.crx_base.specs.declared.limits.TheConstants.{WRITTEN_ORDER}
+use Rattle.crx_text.specs.meaning.EachPlace.{each_place}
 use Rattle.crx_compact.specs.meaning.Sequences.{back_to, named, stretch}
 use Rattle.crx_compact.specs.meaning.Differences.{code_at}
 use Rattle.crx_compact.specs.meaning.Cells.{cell_text}

@@ -2,10 +2,10 @@
 -- Lists of raw epochs stand newest first, and hold the accepted ones since the reader's state was last emptied.
 use Rattle.std.specs.Prelude.{ℕ, ◌*◌, ◌==◌, max, List, [], ◌∷◌, map, length, slice_index_or, take, Option}
 use Rattle.std.specs.Prelude.{if◌then◌else◌}
-use Rattle.crx_columns.specs.meaning.Columns.{is_blank, without_end_blanks}
+use Rattle.crx_text.specs.meaning.Columns.{is_blank, without_end_blanks}
 use Rattle.crx_text.specs.declared.code.Code.{Code}
 use Rattle.crx_text.specs.declared.code.Code.TheVariants.{Missing}
-use Rattle.crx_columns.specs.meaning.EachPlace.{each_place}
+use Rattle.crx_text.specs.meaning.EachPlace.{each_place}
 use Rattle.crx_compact.specs.meaning.Sequences.{back_to, named, stretch}
 use Rattle.crx_header.specs.meaning.EpochColumns.{begins_epoch}
 

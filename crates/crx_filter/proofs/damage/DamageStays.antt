@@ -14,7 +14,7 @@ use Rattle.crx_filter.proofs.Words.{expanded_lines, whole_of, printed_items, Are
 use Rattle.crx_filter.proofs.Words.{IsBetweenUnits, lines_of_epochs, with_epochs, lines_after, IsDamaged}
 use Rattle.std.proofs.lemmas.List.{append_cancel_left, take-append-drop}
 use Rattle.crx_runs.specs.meaning.Results.{status_after}
-use Rattle.crx_reading.specs.meaning.Damage.{IsSalvaged}
+use Rattle.crx_filter.specs.meaning.Damage.{IsSalvaged}
 use Rattle.crx_filter.specs.Damage.{IsOfCompaction}
 use Rattle.crx_filter.proofs.reading.WhatWasRead.{items-read}
 use Rattle.crx_filter.proofs.wayback.Carried.{started, types-same}

@@ -2,7 +2,7 @@
 use Rattle.crx_filter.proofs.Words.{◌≡◌, false, [], ◌++◌, map, Some, refl, ap, sym, ◌∙◌, map-append, seen}
 use Rattle.crx_filter.proofs.Words.{Epoch, WholeReading, IsLawful, whole_rinex, whole_reading_of, findings_of}
 use Rattle.crx_filter.proofs.Words.{check_filter}
-use Rattle.crx_reading.specs.meaning.Directions.{report_unless}
+use Rattle.crx_filter.specs.meaning.Directions.{report_unless}
 use Rattle.crx_filter.proofs.reading.StaysEnded.{rinex-stays}
 use Rattle.crx_filter.proofs.reading.FineReadings.{rinex-found, rinex-found-at-end}
 

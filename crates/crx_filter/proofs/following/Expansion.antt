@@ -15,8 +15,8 @@ use Rattle.crx_compact.specs.ReadingLaws.{is_wanted}
 use Rattle.crx_compact.proofs.soundness.Soundness.{reads-soundly}
 use Rattle.crx_compact.proofs.reading.RawTailing.{place-by_tail, left-by_tail}
 use Rattle.crx_compact.proofs.reading.LineByLine.{steps-agree, wanted-where_open, steps-from_open}
-use Rattle.crx_reading.specs.ExpansionByLine.{compact_begins}
-use Rattle.crx_reading.proofs.Choosing.{by_bool}
+use Rattle.crx_filter.specs.ExpansionByLine.{compact_begins}
+use Rattle.crx_filter.proofs.Choosing.{by_bool}
 use Rattle.crx_filter.proofs.reading.ForwardCompact.{compact-forward, compact_beginning}
 use Rattle.crx_filter.proofs.following.Lines.{one_line-decided}
 use Rattle.crx_filter.proofs.following.Following.{IsSameEpoch, AgreeOn, IsCarriedOut}

@@ -16,8 +16,8 @@ use Rattle.crx_filter.proofs.Words.{with_phase, after_warning, failed_step, step
 use Rattle.crx_filter.proofs.Words.{phase_in_body, phase_after_items, seen_of, IsReadForward, IsFollowed, Fed}
 use Rattle.crx_filter.proofs.Words.{fed, fed_once, fed_twice, is_again, fault_of_stop}
 use Rattle.std.proofs.Math.Seq.{drop-length}
-use Rattle.crx_reading.specs.LineByLine.{Quiet, Ready, after_record, after_unit}
-use Rattle.crx_reading.proofs.Choosing.{by_bool}
+use Rattle.crx_filter.specs.LineByLine.{Quiet, Ready, after_record, after_unit}
+use Rattle.crx_filter.proofs.Choosing.{by_bool}
 use Rattle.crx_filter.proofs.reading.Resuming.{here-within, wrong-within, within-here, within-wrong}
 use Rattle.crx_filter.proofs.reading.Resuming.{within-wanted, fault-skipped, fault-ends, looked-here}
 use Rattle.crx_filter.proofs.reading.Resuming.{looked-on}

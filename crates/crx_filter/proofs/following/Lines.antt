@@ -17,7 +17,7 @@ use Rattle.crx_filter.proofs.Words.{made_in, phase_after, types_after, may_skip,
 use Rattle.crx_filter.proofs.Words.{kept_in, after_warning, failed_step, step_of_made, seen_next}
 use Rattle.crx_filter.proofs.Words.{phase_in_body, phase_after_items, seen_of, and_parts}
 use Rattle.crx_header.proofs.Counts.{types_of-push}
-use Rattle.crx_reading.proofs.Choosing.{by_bool, false-true}
+use Rattle.crx_filter.proofs.Choosing.{by_bool, false-true}
 use Rattle.crx_filter.proofs.reading.Resuming.{enough-units, looked-here, looked-on}
 use Rattle.crx_filter.proofs.following.Following.{IsCarriedOut, AreKept, IsInside, Follows, Agrees, place}
 use Rattle.crx_filter.proofs.following.Following.{reads, seen_at, emptied-same, skipped-same, body-place}

@@ -15,11 +15,11 @@ use Rattle.crx_filter.proofs.Words.{seen_of, step_of_made, with_phase, may_take_
 use Rattle.crx_filter.proofs.Words.{none-some, and_parts, not-true}
 use Rattle.std.specs.Prelude.{is_none}
 use Rattle.crx_header.specs.meaning.ObservationTypes.{count_of_types_line}
-use Rattle.crx_reading.specs.meaning.Memory.{line_takes, takes_after_warning}
-use Rattle.crx_reading.specs.LineByLine.{Quiet, Ready}
+use Rattle.crx_filter.specs.meaning.Memory.{line_takes, takes_after_warning}
+use Rattle.crx_filter.specs.LineByLine.{Quiet, Ready}
 use Rattle.crx_filter.proofs.following.Following.{AgreeOn, IsCarriedOut, body-phase, body-place, failed-ends}
 use Rattle.crx_filter.proofs.following.Following.{place, failed-skipped, seen_in, skipped-same, wrong-last}
-use Rattle.crx_reading.proofs.Choosing.{by_bool, false-true}
+use Rattle.crx_filter.proofs.Choosing.{by_bool, false-true}
 use Rattle.crx_filter.proofs.steps.EngineAnswers.{ComesAgain, comes-again}
 use Rattle.crx_filter.proofs.following.Lines.{IsStopped, only_none, header-place, record-place}
 

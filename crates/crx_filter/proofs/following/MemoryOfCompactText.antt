@@ -12,11 +12,11 @@ use Rattle.crx_filter.proofs.Words.{reading_from, and_parts, not-true}
 use Rattle.crx_compact.specs.OpenEpochs.{Going, Whole, Faulty, is_faulty, before_clock, has_come, makes_epoch}
 use Rattle.crx_compact.specs.OpenEpochs.{tail_opened, opened_raw, opening, tail_for_line}
 use Rattle.crx_compact.specs.HeldRows.{past_of_tail}
-use Rattle.crx_reading.specs.meaning.Memory.{expansion_takes}
+use Rattle.crx_filter.specs.meaning.Memory.{expansion_takes}
 use Rattle.crx_filter.proofs.following.Expansion.{Agrees, agree-content, agree-continues}
 use Rattle.crx_filter.proofs.following.Expansion.{expansion-carried_out}
 use Rattle.crx_filter.proofs.reading.ForwardCompact.{compact_beginning, compact-forward, steady-first_lines}
-use Rattle.crx_reading.proofs.Choosing.{false-true}
+use Rattle.crx_filter.proofs.Choosing.{false-true}
 use Rattle.crx_filter.proofs.following.Memory.{TakesAsItStands, allowed-again, allowed-first}
 use Rattle.crx_filter.proofs.following.ExpandedOn.{reading_by, seen_by}
 use Rattle.crx_filter.proofs.following.Lines.{IsStopped}

@@ -10,12 +10,12 @@ use Rattle.crx_filter.proofs.Words.{rinex_begins, Written, compaction_seen, rine
 use Rattle.crx_filter.proofs.Words.{Direction, Made, Notice, Seen, seen_next, seen_of, compact_unit}
 use Rattle.crx_filter.proofs.Words.{rinex_place}
 use Rattle.std.specs.Result.{is_ok}
-use Rattle.crx_reading.specs.meaning.Memory.{check_takes}
-use Rattle.crx_reading.specs.CompactionByLine.{is_whole_at_once}
+use Rattle.crx_filter.specs.meaning.Memory.{check_takes}
+use Rattle.crx_filter.specs.CompactionByLine.{is_whole_at_once}
 use Rattle.crx_filter.proofs.following.Check.{check-carried_out, printed_after}
 use Rattle.crx_filter.proofs.following.Compaction.{compaction-carried_out}
 use Rattle.crx_filter.proofs.following.Following.{AgreeOn}
-use Rattle.crx_reading.proofs.Choosing.{false-true}
+use Rattle.crx_filter.proofs.Choosing.{false-true}
 use Rattle.crx_filter.proofs.following.Memory.{TakesAsItStands, allowed-again, allowed-first}
 use Rattle.crx_filter.proofs.reading.Forward.{rinex-forward, rinex_beginning}
 use Rattle.crx_filter.proofs.reading.Stopping.{reading-stopped}

@@ -1,18 +1,18 @@
 -- A line is answered as ready exactly where lines are borrowed.
 use Rattle.std.proofs.Common.{ℕ, ◌≡◌, Bool, true, false, List, [], ◌∷◌, ◌++◌, refl, ap, sym, ◌∙◌}
-use Rattle.crx_faults.specs.meaning.Seen.{ReadLine}
+use Rattle.crx_base.specs.meaning.Seen.{ReadLine}
 use Rattle.crx_rinex.specs.meaning.Observations.{Epoch}
 use Rattle.crx_rinex.specs.meaning.Units.{Unit as FileUnit, HeaderLine, EventLine, EventRecord, Observation}
 use Rattle.crx_compact.specs.OpenEpochs.{HeldEpoch, OpenRawEpoch}
 use Rattle.crx_compact.specs.Tails.{Tail}
 use Rattle.crx_rinex.specs.meaning.EpochPlaces.{OpenEpoch}
-use Rattle.crx_reading.specs.LineByLine.{Seen, Made, Completes, Moves, Fails, Repeats, Direction, Step, is_skipped_in}
-use Rattle.crx_reading.specs.LineByLine.{made_in, step_of_made}
+use Rattle.crx_filter.specs.LineByLine.{Seen, Made, Completes, Moves, Fails, Repeats, Direction, Step, is_skipped_in}
+use Rattle.crx_filter.specs.LineByLine.{made_in, step_of_made}
 use Rattle.crx_header.specs.meaning.CompactHeader.{lines_before_header}
-use Rattle.crx_reading.specs.CompactionByLine.{Written, compaction, is_before_header}
-use Rattle.crx_reading.specs.ExpansionByLine.{expansion}
+use Rattle.crx_filter.specs.CompactionByLine.{Written, compaction, is_before_header}
+use Rattle.crx_filter.specs.ExpansionByLine.{expansion}
 use Rattle.crx_filter.specs.Laws.{is_ready, has_lines, IsReadyWhereHandedOut}
-use Rattle.crx_reading.proofs.Choosing.{by_bool}
+use Rattle.crx_filter.proofs.Choosing.{by_bool}
 use Rattle.crx_filter.proofs.following.Following.{failed-ends, failed-skipped}
 use Rattle.std.specs.Prelude.{Option}
 

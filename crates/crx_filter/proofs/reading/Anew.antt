@@ -15,7 +15,7 @@ use Rattle.crx_filter.proofs.Words.{starts_anew, GoOnAlike}
 use Rattle.crx_header.proofs.Counts.{types_of-push}
 use Rattle.crx_compact.proofs.reading.Forgetting.{forgets}
 use Rattle.crx_filter.specs.Anew.{DependsOnTypes}
-use Rattle.crx_reading.proofs.Choosing.{by_bool}
+use Rattle.crx_filter.proofs.Choosing.{by_bool}
 use Rattle.crx_filter.proofs.reading.Resuming.{by_place}
 use Rattle.crx_filter.proofs.reading.WhatStands.{OfHere, first-line, unless-wrong, of-compact}
 use Rattle.crx_filter.proofs.following.Following.{body-place}

@@ -9,9 +9,9 @@ use Rattle.crx_filter.proofs.Words.{fault_at_end, ended_with, ended_reading, is_
 use Rattle.crx_filter.proofs.Words.{warnings_in, Phase, InHeader, BetweenUnits, InEvent, InEpoch, Direction}
 use Rattle.crx_filter.proofs.Words.{Step, is_skipped_in, kept_in, seen_end, phase_in_body, phase_after_items}
 use Rattle.crx_filter.proofs.Words.{seen_of, IsEndedBy}
-use Rattle.crx_faults.specs.declared.fault.Fault.TheVariants.{NoEndOfHeader}
-use Rattle.crx_reading.specs.LineByLine.{end_step}
-use Rattle.crx_reading.proofs.Choosing.{by_bool}
+use Rattle.crx_base.specs.declared.fault.Fault.TheVariants.{NoEndOfHeader}
+use Rattle.crx_filter.specs.LineByLine.{end_step}
+use Rattle.crx_filter.proofs.Choosing.{by_bool}
 use Rattle.crx_filter.proofs.following.Following.{seen_in, IsCarriedOut, skipped-same, body-place, body-phase}
 use Rattle.crx_filter.proofs.following.Lines.{IsStopped, only_none, never-before, never-in-event}
 use Rattle.crx_filter.proofs.following.Lines.{record-place}

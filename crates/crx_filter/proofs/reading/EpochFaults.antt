@@ -13,7 +13,7 @@ use Rattle.crx_filter.proofs.Words.{past_of_epochs, past_of_line, and_then, is_s
 use Rattle.std.specs.List.{list_any}
 use Rattle.crx_text.specs.declared.code.Code.{Code}
 use Rattle.crx_text.specs.declared.code.Code.TheVariants.{Missing, Start, Step}
-use Rattle.crx_faults.specs.declared.fault.Fault.TheVariants.{OutOfRange}
+use Rattle.crx_base.specs.declared.fault.Fault.TheVariants.{OutOfRange}
 use Rattle.crx_compact.specs.meaning.CompactPlaces.{satellites_of_text, are_marks, row_of_cells}
 use Rattle.crx_compact.specs.meaning.Cells.{cells_of, after_cells, cells_read}
 use Rattle.crx_compact.specs.meaning.Differences.{value_at}

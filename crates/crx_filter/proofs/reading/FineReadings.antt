@@ -7,7 +7,7 @@ use Rattle.crx_filter.proofs.Words.{can_go_on, looked_for, reading_within, readi
 use Rattle.crx_filter.proofs.Words.{ended_with, after_fault, ended_reading, whole_reading, rinex_place}
 use Rattle.crx_filter.proofs.Words.{whole_rinex, rinex_reading, compact_place, first_lines, whole_compact}
 use Rattle.crx_filter.proofs.Words.{fault_in_first_lines, compact_reading, fault_of_stop, is_of_lines}
-use Rattle.crx_reading.proofs.Choosing.{by_bool}
+use Rattle.crx_filter.proofs.Choosing.{by_bool}
 use Rattle.crx_filter.proofs.reading.Resuming.{by_place, within-here, within-wrong, within-wanted}
 use Rattle.crx_filter.proofs.reading.LineFaults.{IsFineAt, IsFineFault, rinex-fine, compact-fine}
 use Rattle.crx_filter.proofs.reading.LineFaults.{first_lines-fine}

@@ -7,7 +7,7 @@ use Rattle.crx_filter.proofs.Words.{epoch_after_line, epoch_at, Item, types_in_f
 use Rattle.crx_filter.proofs.Words.{as_observation, compact_epoch_place, compact_place, crinex_version}
 use Rattle.crx_filter.proofs.Words.{crinex_program, first_lines, IsReadForward}
 use Rattle.crx_rinex.proofs.Steady.{steady-here, steady-first_line, steady-then}
-use Rattle.crx_reading.proofs.Choosing.{by_bool}
+use Rattle.crx_filter.proofs.Choosing.{by_bool}
 use Rattle.crx_filter.proofs.reading.Forward.{unit_place-forward}
 use Rattle.crx_compact.proofs.reading.SteadyEpochs.{steady-after_line}
 

@@ -12,7 +12,7 @@ use Rattle.crx_filter.proofs.Words.{Warned, is_at_start, header_has_ended, recor
 use Rattle.crx_filter.proofs.Words.{types_in_force, types_fault, header_line_fault, header_line, event_record}
 use Rattle.crx_filter.proofs.Words.{rinex_place, ItemsAreRead, IsInPlace, AreInPlace}
 use Rattle.crx_rinex.proofs.SoundEpochs.{with_clock, sound-epoch_place}
-use Rattle.crx_reading.proofs.Choosing.{by_bool}
+use Rattle.crx_filter.proofs.Choosing.{by_bool}
 use Rattle.crx_filter.proofs.following.Following.{body-place}
 use Rattle.crx_filter.proofs.following.Lines.{record-place}
 use Rattle.crx_filter.proofs.reading.Types.{counts-in_force}

@@ -2,7 +2,7 @@
 use Rattle.crx_filter.proofs.Words.{ℕ, zero, suc, ◌≡◌, ◌+◌, max, Bool, true, List, [], ◌∷◌, drop, ReadLine}
 use Rattle.crx_filter.proofs.Words.{At, Place, Here, FileUnit, Item, Accepted, Warned, Reading, is_skipped}
 use Rattle.crx_filter.proofs.Words.{can_go_on, looked_for, after_fault, reading_within}
-use Rattle.crx_reading.proofs.Choosing.{by_bool}
+use Rattle.crx_filter.proofs.Choosing.{by_bool}
 use Rattle.crx_filter.proofs.reading.Resuming.{by_place, within-here, within-wrong, within-wanted}
 
 module _ {E : Type 0} (place : List (Item E) → List ReadLine → Place (FileUnit E)) (skip : Bool)

@@ -15,12 +15,12 @@ use Rattle.crx_filter.proofs.Words.{types_in_force, unless_wrong, types_fault, h
 use Rattle.crx_filter.proofs.Words.{event_record, unit_place, rinex_place, compact_epoch_place, compact_place}
 use Rattle.crx_filter.proofs.Words.{raws_kept, crinex_version, crinex_program, first_lines, is_skippable}
 use Rattle.crx_filter.proofs.Words.{is_of_lines, EventHead, EpochHead}
-use Rattle.crx_columns.specs.meaning.Columns.{without_blanks}
-use Rattle.crx_faults.specs.declared.limits.TheConstants.{CELL_WIDTH}
-use Rattle.crx_faults.specs.declared.fault.Fault.TheVariants.{InputTooLong, ReadFailed, WriteFailed}
-use Rattle.crx_faults.specs.declared.fault.Fault.TheVariants.{UnsupportedVersion, NotObservation}
-use Rattle.crx_faults.specs.declared.fault.Fault.TheVariants.{BadTypesLine, NotCompact, BadProgLine}
-use Rattle.crx_faults.specs.declared.fault.Fault.TheVariants.{NotAnEpoch}
+use Rattle.crx_text.specs.meaning.Columns.{without_blanks}
+use Rattle.crx_base.specs.declared.limits.TheConstants.{CELL_WIDTH}
+use Rattle.crx_base.specs.declared.fault.Fault.TheVariants.{InputTooLong, ReadFailed, WriteFailed}
+use Rattle.crx_base.specs.declared.fault.Fault.TheVariants.{UnsupportedVersion, NotObservation}
+use Rattle.crx_base.specs.declared.fault.Fault.TheVariants.{BadTypesLine, NotCompact, BadProgLine}
+use Rattle.crx_base.specs.declared.fault.Fault.TheVariants.{NotAnEpoch}
 use Rattle.crx_header.specs.meaning.Header.{is_supported, first_header_fault}
 use Rattle.crx_header.specs.declared.labels.TheConstants.{VERSION_LABEL}
 use Rattle.crx_header.specs.meaning.Label.{has_label}
@@ -28,7 +28,7 @@ use Rattle.crx_rinex.specs.meaning.EpochPlaces.{row_if_new, row_at}
 use Rattle.crx_header.specs.meaning.ObservationTypes.{is_bad_types_line}
 use Rattle.crx_rinex.specs.meaning.SatelliteLines.{values_in, flags_in, row_with, row_of_types}
 use Rattle.crx_header.specs.declared.crinex.TheConstants.{CRINEX_VERSION, CRINEX_VERSION_LABEL}
-use Rattle.crx_reading.specs.meaning.UnitPlaces.{first_fault}
+use Rattle.crx_filter.specs.meaning.UnitPlaces.{first_fault}
 use Rattle.crx_filter.proofs.reading.EpochFaults.{FaultsPass, FaultsPassAt, place-then, place-first}
 use Rattle.crx_filter.proofs.reading.EpochFaults.{IsSkippableAt, epoch-skippable, place-observation}
 use Rattle.crx_filter.proofs.reading.WhatStands.{chosen, of-unit, of-compact}

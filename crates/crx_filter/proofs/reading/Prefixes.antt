@@ -5,7 +5,7 @@ use Rattle.crx_filter.proofs.Words.{Fault, Place, FileUnit, Item, Accepted, Warn
 use Rattle.crx_filter.proofs.Words.{AtLines, Looking, is_skipped, reading_within, reading_from, fault_at_end}
 use Rattle.crx_filter.proofs.Words.{ended_reading, ended_with, whole_reading, continued_reading}
 use Rattle.crx_filter.proofs.Words.{IsReadForward, lines_text, Begins, written_lines}
-use Rattle.crx_reading.proofs.Choosing.{by_bool}
+use Rattle.crx_filter.proofs.Choosing.{by_bool}
 use Rattle.crx_filter.proofs.reading.KeptThroughout.{IsKept, looked-kept, within-kept}
 use Rattle.crx_filter.proofs.reading.Resuming.{resumed}
 

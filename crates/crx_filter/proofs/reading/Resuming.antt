@@ -6,7 +6,7 @@ use Rattle.crx_filter.proofs.Words.{IsDecidedAfter, FileUnit, Item, Accepted, Wa
 use Rattle.crx_filter.proofs.Words.{AtLines, is_skipped, can_go_on, looked_for, after_fault, reading_within}
 use Rattle.crx_filter.proofs.Words.{reading_from, continued_reading, IsReadForward}
 use Rattle.crx_filter.specs.Laws.{IsResumed}
-use Rattle.crx_reading.proofs.Choosing.{by_bool}
+use Rattle.crx_filter.proofs.Choosing.{by_bool}
 
 -- ---- what stands at a place
 

@@ -4,7 +4,7 @@ use Rattle.crx_filter.proofs.Words.{drop, refl, arith, length-drop, ReadLine, At
 use Rattle.crx_filter.proofs.Words.{Accepted, Warned, header_has_ended, records_left, Reading, is_skipped}
 use Rattle.crx_filter.proofs.Words.{can_go_on, looked_for, after_fault, reading_within, reading_from}
 use Rattle.crx_filter.proofs.Words.{IsReadForward}
-use Rattle.crx_reading.proofs.Choosing.{by_bool}
+use Rattle.crx_filter.proofs.Choosing.{by_bool}
 use Rattle.crx_filter.proofs.reading.Resuming.{by_place, here-within, wrong-within, within-here, within-wrong}
 use Rattle.crx_filter.proofs.reading.Resuming.{within-wanted}
 use Rattle.crx_filter.proofs.reading.WhatWasRead.{allowed}

@@ -5,7 +5,7 @@ use Rattle.crx_filter.proofs.Words.{count_in, with_line, Item, Accepted, Warned,
 use Rattle.crx_filter.proofs.Words.{declaring_lines, types_in_force}
 use Rattle.crx_header.specs.ObservationTypes.{AreCounts, IsCount, after_count}
 use Rattle.crx_header.proofs.Counts.{types_of-push, AreCounts-with_count, count_in_allowed}
-use Rattle.crx_reading.proofs.Choosing.{by_bool}
+use Rattle.crx_filter.proofs.Choosing.{by_bool}
 
 no-counts : AreCounts []
 no-counts = record { allowed = All-nil IsCount; apart = refl }

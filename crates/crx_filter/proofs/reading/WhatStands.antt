@@ -6,7 +6,7 @@ use Rattle.crx_filter.proofs.Words.{one_line, first_line, FileUnit, EventLine, R
 use Rattle.crx_filter.proofs.Words.{Item, is_at_start, header_has_ended, records_left, records_count_types}
 use Rattle.crx_filter.proofs.Words.{unless_wrong, header_line, event_record, unit_place, event_line}
 use Rattle.crx_filter.proofs.Words.{as_observation, compact_epoch_place}
-use Rattle.crx_reading.proofs.Choosing.{by_bool}
+use Rattle.crx_filter.proofs.Choosing.{by_bool}
 
 -- what holds of a thing that stands somewhere
 abbrev pub OfHere : {X : Type 0} → (X → Type 0) → Place X → Type 0

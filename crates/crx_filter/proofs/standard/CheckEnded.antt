@@ -8,8 +8,8 @@ use Rattle.crx_filter.proofs.Words.{whole_rinex, rinex_reading, Phase, InEpoch, 
 use Rattle.crx_filter.proofs.Words.{AreInPlace, failed_by, fault_of_stop, printed_items, whole_reading_of}
 use Rattle.crx_filter.proofs.Words.{Totals, checking, totals_of, printed_open, printed_so_far, no_choices}
 use Rattle.crx_filter.proofs.Words.{check_seen}
-use Rattle.crx_reading.specs.meaning.Standard.{first_header_line, version_in}
-use Rattle.crx_reading.specs.CheckByLine.{version_accepted}
+use Rattle.crx_filter.specs.meaning.Standard.{first_header_line, version_in}
+use Rattle.crx_filter.specs.CheckByLine.{version_accepted}
 use Rattle.crx_filter.specs.CheckingLaws.{IsCheckEnded}
 use Rattle.crx_filter.proofs.following.Following.{seen_in}
 use Rattle.crx_filter.proofs.following.Check.{check-end}

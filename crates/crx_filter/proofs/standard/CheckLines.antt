@@ -15,10 +15,10 @@ use Rattle.crx_filter.proofs.Words.{Completes, Step, made_of_unit, made_in, with
 use Rattle.crx_filter.proofs.Words.{phase_in_body, phase_after_items, phase_of, failed_by, is_again, Totals}
 use Rattle.crx_filter.proofs.Words.{checking, printed_open, printed_made, no_choices}
 use Rattle.crx_rinex.specs.meaning.Printing.{printed_head}
-use Rattle.crx_reading.proofs.Choosing.{by_bool}
+use Rattle.crx_filter.proofs.Choosing.{by_bool}
 use Rattle.crx_filter.proofs.following.Following.{seen_in}
 use Rattle.crx_filter.proofs.reading.Resuming.{by_place, within-here, within-wrong, within-wanted}
-use Rattle.crx_reading.proofs.Checkers.{last-of}
+use Rattle.crx_filter.proofs.Checkers.{last-of}
 
 -- ---- where nothing is skipped, no line is looked for
 

@@ -5,9 +5,9 @@ use Rattle.crx_filter.proofs.Words.{lines_of, Choices, FilterResult, printed_ite
 use Rattle.crx_filter.proofs.Words.{is_standard_line, first_not_standard, findings_of, checked_by, checked}
 use Rattle.crx_filter.proofs.Words.{IsStandard}
 use Rattle.crx_compact.proofs.Characters.{bytes_eq-same, bytes_eq-is}
-use Rattle.crx_reading.specs.meaning.Standard.{report_status}
+use Rattle.crx_filter.specs.meaning.Standard.{report_status}
 use Rattle.crx_filter.specs.CheckingLaws.{IsNamedWhereNot, IsStandardExactlyWhereSame}
-use Rattle.crx_reading.proofs.Choosing.{by_bool}
+use Rattle.crx_filter.proofs.Choosing.{by_bool}
 use Rattle.crx_filter.proofs.wayback.Standard.{standard-comes_back}
 use Rattle.crx_filter.proofs.wayback.ReturnsLost.{standard-where_same}
 use Rattle.crx_filter.proofs.standard.CheckEnded.{whole-many}

@@ -6,8 +6,8 @@ use Rattle.crx_filter.proofs.Words.{epoch_open, whole_reading_of, findings_of, T
 use Rattle.crx_filter.proofs.Words.{no_choices, check_seen, checker_state_with, Quiet, Held, RinexReader}
 use Rattle.crx_filter.proofs.Words.{Settled}
 use Rattle.crx_filter.specs.EngineSteps.{SettlesEnd}
-use Rattle.crx_reading.specs.CheckByLine.{found_by}
-use Rattle.crx_reading.specs.Totals.{found_held}
+use Rattle.crx_filter.specs.CheckByLine.{found_by}
+use Rattle.crx_filter.specs.Totals.{found_held}
 use Rattle.crx_runs.specs.declared.engine.Step.{Step}
 use Rattle.crx_filter.proofs.standard.CheckEnded.{check-ended}
 use Rattle.crx_filter.proofs.following.Following.{seen_in}

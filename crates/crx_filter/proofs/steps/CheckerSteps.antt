@@ -14,22 +14,22 @@ use Rattle.crx_filter.proofs.Words.{check_seen, check_next, check_filter, checke
 use Rattle.crx_filter.proofs.Words.{RinexReader, RinexStep, Nothing, Header, Event, Record, Begun, length-map}
 use Rattle.crx_filter.proofs.Words.{rinex_open, totals_of, seen_of, rinex_reading}
 use Rattle.crx_rinex.specs.meaning.Units.{Unit}
-use Rattle.crx_reading.specs.CompactionByLine.{is_before_header}
+use Rattle.crx_filter.specs.CompactionByLine.{is_before_header}
 use Rattle.crx_runs.specs.Engines.{RunsOutAt}
-use Rattle.crx_reading.specs.RinexReaders.{RefusesRinexLine}
-use Rattle.crx_reading.specs.CheckByLine.{totals_with, totals_made, check_step}
-use Rattle.crx_reading.specs.meaning.Directions.{fault_so_far}
-use Rattle.crx_reading.specs.Totals.{totals_held, HasPrinted}
+use Rattle.crx_filter.specs.RinexReaders.{RefusesRinexLine}
+use Rattle.crx_filter.specs.CheckByLine.{totals_with, totals_made, check_step}
+use Rattle.crx_filter.specs.meaning.Directions.{fault_so_far}
+use Rattle.crx_filter.specs.Totals.{totals_held, HasPrinted}
 use Rattle.crx_filter.specs.CheckerState.{is_reading}
-use Rattle.crx_reading.specs.declared.rinex_reader.RinexStep.TheVariants.{Row, Epoch}
+use Rattle.crx_filter.specs.declared.rinex_reader.RinexStep.TheVariants.{Row, Epoch}
 use Rattle.crx_filter.proofs.steps.EngineAnswers.{seen-short, seen-long}
 use Rattle.crx_filter.proofs.following.Following.{seen_in}
 use Rattle.crx_filter.proofs.following.MemoryOfRinex.{check-allowed}
 use Rattle.crx_filter.proofs.standard.CheckLines.{IsReached, Grows, line-grows}
 use Rattle.crx_filter.proofs.following.CheckedOn.{checked-on}
 use Rattle.crx_filter.proofs.standard.CheckEnded.{kept-always}
-use Rattle.crx_reading.proofs.Checkers.{not-none}
-use Rattle.crx_reading.proofs.Choosing.{false-true}
+use Rattle.crx_filter.proofs.Checkers.{not-none}
+use Rattle.crx_filter.proofs.Choosing.{false-true}
 
 -- a check keeps nothing of the epochs: what a line makes does not hang on it
 

@@ -14,13 +14,13 @@ use Rattle.crx_filter.proofs.Words.{RinexStep, Nothing, Header, Event, Record, B
 use Rattle.crx_filter.proofs.Words.{Ready, RinexReader, Stage, Open}
 use Rattle.std.proofs.Common.{OnErr}
 use Rattle.std.specs.declared.alloc.AllocError.{AllocError}
-use Rattle.crx_reading.specs.LineByLine.{Closed as SeenClosed}
-use Rattle.crx_reading.specs.Stages.{is_ended}
-use Rattle.crx_reading.specs.declared.rinex_reader.RinexStep.TheVariants.{Row, Epoch}
+use Rattle.crx_filter.specs.LineByLine.{Closed as SeenClosed}
+use Rattle.crx_filter.specs.Stages.{is_ended}
+use Rattle.crx_filter.specs.declared.rinex_reader.RinexStep.TheVariants.{Row, Epoch}
 use Rattle.crx_filter.specs.CompactionState.{copied_lines}
 use Rattle.crx_header.specs.meaning.CompactHeader.{lines_before_header}
 use Rattle.crx_runs.specs.declared.engine.Step.{Step}
-use Rattle.crx_reading.specs.declared.stage.Stage.TheVariants.{Looking, Closed, Ended}
+use Rattle.crx_filter.specs.declared.stage.Stage.TheVariants.{Looking, Closed, Ended}
 use Rattle.crx_filter.proofs.following.Following.{seen_in}
 use Rattle.crx_filter.proofs.steps.EngineLemmas.{out-fatal, fatal-counts, ran-out}
 

@@ -15,7 +15,7 @@ use Rattle.crx_filter.specs.EngineLines.{HasTaken}
 use Rattle.crx_filter.specs.Laws.{is_ready, has_lines}
 use Rattle.crx_runs.specs.declared.engine.Step.{Step}
 use Rattle.crx_runs.specs.declared.engine.Step.TheVariants.{Warned}
-use Rattle.crx_reading.proofs.Choosing.{by_bool}
+use Rattle.crx_filter.proofs.Choosing.{by_bool}
 use Rattle.crx_filter.proofs.following.Following.{fed-once as feeds-once, fed-twice as feeds-twice}
 
 -- ---- what a direction has to keep to, in the words of a filter

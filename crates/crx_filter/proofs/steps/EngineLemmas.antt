@@ -7,9 +7,9 @@ use Rattle.crx_filter.proofs.Words.{failed_step, step_of_made, seen_next, seen_e
 use Rattle.crx_filter.proofs.Words.{takes_memory, is_skippable, answer_of_step, step_made, Steps, is_held}
 use Rattle.crx_filter.proofs.Words.{epoch_open, RinexReader, Quiet, Stage, Open}
 use Rattle.crx_filter.specs.EngineSteps.{RanOut}
-use Rattle.crx_reading.specs.RinexStages.{open_epoch, is_rinex_stage}
+use Rattle.crx_filter.specs.RinexStages.{open_epoch, is_rinex_stage}
 use Rattle.crx_runs.specs.declared.engine.Step.{Step}
-use Rattle.crx_reading.proofs.Choosing.{false-true}
+use Rattle.crx_filter.proofs.Choosing.{false-true}
 
 -- in the stage of an open epoch one is held
 pub held-open : (types : List Count) (stage : Stage) (head : Option ObservationHead) (count : ℕ)

@@ -7,11 +7,11 @@ use Rattle.crx_filter.proofs.Words.{Steps, step_made, is_held, seen_stage, Settl
 use Rattle.crx_compact.specs.OpenEpochs.{ColumnsState}
 use Rattle.crx_compact.specs.OpenEpochs.ColumnsState.{Idle, Reading}
 use Rattle.crx_filter.specs.EngineSteps.{IsAt, settled_seen}
-use Rattle.crx_reading.specs.Stages.{is_settled}
-use Rattle.crx_reading.specs.CompactStages.{is_compact_stage, open_in}
+use Rattle.crx_filter.specs.Stages.{is_settled}
+use Rattle.crx_filter.specs.CompactStages.{is_compact_stage, open_in}
 use Rattle.crx_filter.specs.CompactReaders.{RefusesCompactLine}
 use Rattle.crx_runs.specs.declared.engine.Step.{Step}
-use Rattle.crx_reading.specs.declared.stage.Stage.TheVariants.{Looking, Closed, Ended}
+use Rattle.crx_filter.specs.declared.stage.Stage.TheVariants.{Looking, Closed, Ended}
 use Rattle.crx_filter.proofs.following.Following.{seen_in}
 use Rattle.crx_filter.proofs.steps.EngineLemmas.{fatal-counts}
 

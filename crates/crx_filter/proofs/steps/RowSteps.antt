@@ -4,7 +4,7 @@ use Rattle.crx_filter.proofs.Words.{OpenEpoch, Observation, epoch_by_rows, Writt
 use Rattle.crx_filter.proofs.Words.{is_next_row, Phase, made_in, phase_after, may_take_memory, made_at}
 use Rattle.crx_filter.proofs.Words.{reader_phase, is_row, CompletedEpoch, IsSameReader, MovesReader}
 use Rattle.crx_filter.proofs.Words.{TakesRinexLine, RinexReader, RinexStep}
-use Rattle.crx_reading.specs.declared.rinex_reader.RinexStep.TheVariants.{Row, Epoch}
+use Rattle.crx_filter.specs.declared.rinex_reader.RinexStep.TheVariants.{Row, Epoch}
 
 pub same-phase : (before mid : RinexReader) → IsSameReader before mid → reader_phase mid ≡ reader_phase before
 same-phase before mid same = rw (same.stage, same.types, same.head, same.rows) refl

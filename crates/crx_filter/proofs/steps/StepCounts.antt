@@ -5,7 +5,7 @@ use Rattle.crx_filter.proofs.Words.{Seen, Made, Completes, Moves, Fails, Repeats
 use Rattle.crx_filter.proofs.Words.{Failed, SeenStep, is_in_epoch, is_skipped_in, after_warning, with_phase}
 use Rattle.crx_filter.proofs.Words.{made_in, step_of_made, Steps, answer_of_step, step_made, Quiet, Ready}
 use Rattle.std.proofs.Common.{IfOk}
-use Rattle.crx_reading.specs.LineByLine.{Quiet as SeenQuiet, Ready as SeenReady}
+use Rattle.crx_filter.specs.LineByLine.{Quiet as SeenQuiet, Ready as SeenReady}
 use Rattle.crx_runs.specs.Engines.{taken_after, IsDrainedAfter}
 use Rattle.crx_runs.specs.declared.engine.Step.{Step}
 use Rattle.crx_runs.specs.declared.engine.Step.TheVariants.{Warned}

@@ -7,12 +7,12 @@ use Rattle.crx_filter.proofs.Words.{lines_after_tail, tail_after, epoch_by_rows,
 use Rattle.crx_filter.proofs.Words.{written_kept, is_row, made_at, CompletedEpoch, IsSameReader, MovesReader}
 use Rattle.crx_filter.proofs.Words.{TakesRinexLine, Made, is_open_stage, RinexReader, RinexStep, Stage, Open}
 use Rattle.std.specs.Prelude.{IfSome}
-use Rattle.crx_faults.specs.declared.limits.TheConstants.{INPUT_LIMIT}
+use Rattle.crx_base.specs.declared.limits.TheConstants.{INPUT_LIMIT}
 use Rattle.crx_rinex.specs.meaning.Observations.{Row as ObservationRow}
 use Rattle.crx_compact.specs.Encoding.{EncoderState, tail_in}
-use Rattle.crx_reading.specs.RinexReaders.{BeginsEpoch}
-use Rattle.crx_reading.specs.RinexStages.{rows_open, when_open}
-use Rattle.crx_reading.specs.declared.rinex_reader.RinexStep.TheVariants.{Row, Epoch}
+use Rattle.crx_filter.specs.RinexReaders.{BeginsEpoch}
+use Rattle.crx_filter.specs.RinexStages.{rows_open, when_open}
+use Rattle.crx_filter.specs.declared.rinex_reader.RinexStep.TheVariants.{Row, Epoch}
 use Rattle.crx_filter.specs.CompactionParts.{BelongTogether, CompactionParts, is_due}
 use Rattle.crx_filter.specs.CompactionState.{compaction_state}
 use Rattle.crx_filter.proofs.steps.RowSteps.{taken-from}

@@ -10,7 +10,7 @@ use Rattle.crx_filter.proofs.Words.{Observation, ReadEpoch, epoch_at, Item, Acce
 use Rattle.crx_filter.proofs.Words.{Reading, AtLines, Looking, is_skipped, can_go_on, looked_for}
 use Rattle.crx_filter.proofs.Words.{reading_within, reading_from, raws_kept, compact_place, event_line}
 use Rattle.crx_filter.proofs.Words.{as_observation, IsBetweenUnits, continued_reading}
-use Rattle.crx_reading.proofs.Choosing.{by_bool}
+use Rattle.crx_filter.proofs.Choosing.{by_bool}
 use Rattle.crx_filter.proofs.reading.EpochFaults.{IsSkippableAt, epoch-skippable, place-observation}
 use Rattle.crx_filter.proofs.reading.ForwardCompact.{compact-forward}
 use Rattle.crx_filter.proofs.reading.Resuming.{by_place, here-within, wrong-within, within-here, within-wrong}

@@ -7,7 +7,7 @@ use Rattle.crx_filter.proofs.Words.{pieces_of, lines_of, is_long, lines_text, Co
 use Rattle.crx_filter.proofs.Words.{Item, Accepted, Warned, header_has_ended, compact_lines, lines_after}
 use Rattle.crx_filter.proofs.Words.{OfCopiedLines, HaveNoReturns, AreInPlace, Stretch, up_to_end, up_to_next}
 use Rattle.crx_filter.proofs.Words.{with_stretches, announces_records, IsStretch, AreStretches}
-use Rattle.crx_reading.proofs.Choosing.{by_bool}
+use Rattle.crx_filter.proofs.Choosing.{by_bool}
 use Rattle.crx_filter.specs.meaning.Stretches.{stretches_text, begins_no_event}
 use Rattle.crx_filter.proofs.wayback.Cut.{IsClean, CanStand}
 use Rattle.crx_filter.proofs.wayback.Reading.{lines_back}

@@ -18,7 +18,7 @@ use Rattle.crx_text.specs.meaning.Numbers.{observation_text, IsValue}
 use Rattle.crx_text.proofs.Spellings.{abs_within}
 use Rattle.crx_compact.proofs.wayback.Writable.{sound-name_kept}
 use Rattle.crx_compact.proofs.wayback.Facts.{head-kept}
-use Rattle.crx_faults.specs.declared.limits.TheConstants.{OBSERVATION_DECIMALS, CLOCK_DECIMALS}
+use Rattle.crx_base.specs.declared.limits.TheConstants.{OBSERVATION_DECIMALS, CLOCK_DECIMALS}
 use Rattle.crx_text.proofs.ReadBack.{decimal_is_digits}
 use Rattle.crx_filter.proofs.wayback.WayBack.{IsSettled, whole-settled}
 use Rattle.crx_filter.proofs.wayback.Cut.{CanStand, return-kept, first-cut}

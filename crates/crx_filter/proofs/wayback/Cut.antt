@@ -7,7 +7,7 @@ use Rattle.crx_filter.proofs.Words.{without_return, line_of, lines_of, is_long, 
 use Rattle.crx_filter.proofs.Words.{Overlong, seen, LINE_LIMIT, lines_text}
 use Rattle.std.proofs.lemmas.Bool.{le-ltb}
 use Rattle.crx_lines.proofs.PieceLemmas.{pieces-first, NoFeed}
-use Rattle.crx_reading.proofs.Choosing.{by_bool}
+use Rattle.crx_filter.proofs.Choosing.{by_bool}
 
 -- a line that is read as it was written
 pub record IsClean (line : List ℕ) : Type 0 where

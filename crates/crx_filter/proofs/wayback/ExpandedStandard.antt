@@ -18,10 +18,10 @@ use Rattle.crx_filter.proofs.Words.{ended_reading, printed_items, IsStandard, ty
 use Rattle.crx_filter.proofs.Words.{header_line, event_record, OfCopiedLine, OfCopiedLines, HaveNoReturns}
 use Rattle.crx_filter.proofs.Words.{written_lines, FilterResult, IsResult, Device, ItemsAreRead, IsInPlace}
 use Rattle.crx_filter.proofs.Words.{AreInPlace, compact_reading}
-use Rattle.crx_reading.specs.meaning.Expanded.{rinex_unit}
+use Rattle.crx_filter.specs.meaning.Expanded.{rinex_unit}
 use Rattle.crx_filter.specs.meaning.WrittenStandard.{has_plain_lines, rinex_items, WhatIsExpandedIsStandard}
 use Rattle.crx_filter.specs.meaning.WrittenStandard.{WroteStandard}
-use Rattle.crx_reading.proofs.Choosing.{by_bool}
+use Rattle.crx_filter.proofs.Choosing.{by_bool}
 use Rattle.crx_filter.proofs.following.Following.{body-place}
 use Rattle.crx_filter.proofs.following.Lines.{record-place, IsStopped}
 use Rattle.crx_filter.proofs.reading.ForwardCompact.{compact-forward, compact_beginning}

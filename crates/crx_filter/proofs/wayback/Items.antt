@@ -14,7 +14,7 @@ use Rattle.crx_compact.specs.Laws.{AreWhole}
 use Rattle.crx_compact.specs.ReadingLaws.{raws_of, read_of, lines_of_epoch, EpochReadsBack}
 use Rattle.crx_compact.proofs.wayback.Reading.{each-reads_back}
 use Rattle.crx_compact.proofs.wayback.Standing.{lines-stand}
-use Rattle.crx_reading.proofs.Choosing.{by_bool}
+use Rattle.crx_filter.proofs.Choosing.{by_bool}
 use Rattle.crx_filter.proofs.following.Following.{body-place}
 use Rattle.crx_filter.proofs.wayback.Carried.{carried_unit, carried, header-same, start-same, left-same}
 use Rattle.crx_filter.proofs.wayback.Carried.{count-same, types-same, header-here, record-here}

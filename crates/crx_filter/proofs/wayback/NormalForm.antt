@@ -24,7 +24,7 @@ use Rattle.crx_filter.proofs.wayback.WayBack.{IsSettled, whole-settled}
 use Rattle.crx_filter.proofs.wayback.Cut.{IsClean, CanStand, lines-cut}
 use Rattle.crx_filter.proofs.wayback.Converse.{IsPlainLine, plain, lines-plain, printed-plain, all-plain}
 use Rattle.crx_filter.proofs.wayback.Converse.{contents-plain}
-use Rattle.crx_columns.proofs.EndBlanks.{few_kept}
+use Rattle.crx_text.proofs.EndBlanks.{few_kept}
 use Rattle.crx_filter.proofs.reading.Each.{all-append, contents}
 
 -- ---- what stands at a unit's printed lines

@@ -5,7 +5,7 @@ use Rattle.crx_filter.proofs.Words.{take, drop, refl, arith, ◌==◌, AllByRecu
 use Rattle.crx_filter.proofs.Words.{and_parts, Piece, InputLine, pieces_of, onto_first, ends_with_return}
 use Rattle.crx_filter.proofs.Words.{without_return, line_of, lines_of, is_long, HasNoFeed, ReadLine, Content}
 use Rattle.crx_filter.proofs.Words.{Overlong, seen, is_printable, lines_text}
-use Rattle.crx_reading.proofs.Choosing.{by_bool}
+use Rattle.crx_filter.proofs.Choosing.{by_bool}
 use Rattle.crx_filter.proofs.wayback.First.{printable-other}
 use Rattle.crx_filter.proofs.wayback.Cut.{first-cut}
 

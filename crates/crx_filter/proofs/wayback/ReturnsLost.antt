@@ -13,7 +13,7 @@ use Rattle.crx_filter.proofs.Words.{version_line, program_line, compact_place, f
 use Rattle.crx_filter.proofs.Words.{expanded, expanded_unit, expanded_lines, whole_of, AreInPlace}
 use Rattle.crx_filter.proofs.Words.{OfCopiedLines, HaveNoReturns}
 use Rattle.crx_filter.specs.WayBack.{IsStandardWhereSame}
-use Rattle.crx_reading.proofs.Choosing.{by_bool}
+use Rattle.crx_filter.proofs.Choosing.{by_bool}
 use Rattle.crx_filter.proofs.reading.WhatWasRead.{items-read}
 use Rattle.crx_filter.proofs.wayback.Carried.{started}
 use Rattle.crx_filter.proofs.wayback.WayBack.{IsSettled, whole-settled, lines-same}

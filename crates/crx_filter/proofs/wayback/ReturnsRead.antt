@@ -11,7 +11,7 @@ use Rattle.crx_filter.proofs.Words.{unit_place, Reading, WholeReading, Stop, AtL
 use Rattle.crx_filter.proofs.Words.{reading_from, fault_at_end, ended_with, ended_reading, rinex_place}
 use Rattle.crx_filter.proofs.Words.{whole_rinex, raws_kept, as_observation, compact_epoch_place}
 use Rattle.crx_filter.proofs.Words.{compact_place, first_lines, whole_compact}
-use Rattle.crx_reading.proofs.Choosing.{by_bool}
+use Rattle.crx_filter.proofs.Choosing.{by_bool}
 use Rattle.crx_filter.proofs.reading.WhatStands.{of-unit, of-compact}
 use Rattle.crx_filter.proofs.reading.KeptThroughout.{within-kept}
 use Rattle.crx_filter.proofs.wayback.Returns.{returns, returns_read, read-cut}

@@ -10,7 +10,7 @@ use Rattle.crx_filter.proofs.Words.{after_fault, reading_within, fault_at_end, e
 use Rattle.crx_filter.proofs.Words.{lines_text, rinex_place, whole_rinex, rinex_reading, printed_items}
 use Rattle.crx_filter.proofs.Words.{whole_of, OfCopiedLines, HaveNoReturns, written_well, not-true}
 use Rattle.crx_lines.proofs.PieceLemmas.{EachEnded}
-use Rattle.crx_reading.proofs.Choosing.{by_bool}
+use Rattle.crx_filter.proofs.Choosing.{by_bool}
 use Rattle.crx_filter.specs.WayBack.{NormalFormComesBack, StandardComesBack}
 use Rattle.crx_filter.proofs.reading.Resuming.{by_place}
 use Rattle.crx_filter.proofs.wayback.Cut.{OfContent, return-kept}

@@ -14,9 +14,9 @@ use Rattle.crx_filter.proofs.Words.{program_line, compact_lines, rinex_reading, 
 use Rattle.crx_filter.proofs.Words.{expanded_unit, expanded, printed_items, AreInPlace, OfCopiedLine}
 use Rattle.crx_filter.proofs.Words.{OfCopiedLines, HaveNoReturns, written_well}
 use Rattle.crx_compact.proofs.wayback.Lengths.{lines-short}
-use Rattle.crx_reading.specs.meaning.Expanded.{expansion_result}
+use Rattle.crx_filter.specs.meaning.Expanded.{expansion_result}
 use Rattle.crx_filter.specs.WayBack.{ComesBack}
-use Rattle.crx_reading.proofs.Choosing.{by_bool}
+use Rattle.crx_filter.proofs.Choosing.{by_bool}
 use Rattle.crx_filter.proofs.reading.Forward.{rinex-forward}
 use Rattle.crx_filter.proofs.following.Lines.{IsStopped}
 use Rattle.crx_filter.proofs.reading.Stopping.{reading-stopped}

@@ -1,10 +1,10 @@
 -- Compact text is canonical: files that say the same have the same compact text, and no others do.
 use Rattle.std.specs.Prelude.{◌≡◌, ◌↔◌, ℕ, List, Option, true}
-use Rattle.crx_faults.specs.declared.fault.At.{At}
-use Rattle.crx_options.specs.meaning.Choices.{Choices, is_date}
-use Rattle.crx_reading.specs.meaning.Compacted.{compacted}
-use Rattle.crx_reading.specs.meaning.Standard.{normal_form}
-use Rattle.crx_reading.specs.meaning.WayBack.{HasNormalForm}
+use Rattle.crx_base.specs.declared.fault.At.{At}
+use Rattle.crx_base.specs.meaning.Choices.{Choices, is_date}
+use Rattle.crx_filter.specs.meaning.Compacted.{compacted}
+use Rattle.crx_filter.specs.meaning.Standard.{normal_form}
+use Rattle.crx_filter.specs.meaning.WayBack.{HasNormalForm}
 use Rattle.crx_runs.specs.meaning.Runs.{IsResult}
 use Rattle.crx_runs.specs.meaning.Spans.{Device}
 

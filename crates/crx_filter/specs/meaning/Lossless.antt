@@ -1,12 +1,12 @@
 -- Losslessness, said by the results of the three calls alone: what passes a check comes back from its compact
 -- text. Nothing of RINEX or of compact text has to be known for it.
 use Rattle.std.specs.Prelude.{◌≡◌, ℕ, List, Option, true}
-use Rattle.crx_faults.specs.declared.fault.At.{At}
-use Rattle.crx_options.specs.meaning.Choices.{Choices, is_date}
-use Rattle.crx_reading.specs.meaning.Compacted.{compacted}
-use Rattle.crx_reading.specs.meaning.Expanded.{expanded}
-use Rattle.crx_reading.specs.meaning.Standard.{checked}
-use Rattle.crx_reading.specs.meaning.WayBack.{written_well}
+use Rattle.crx_base.specs.declared.fault.At.{At}
+use Rattle.crx_base.specs.meaning.Choices.{Choices, is_date}
+use Rattle.crx_filter.specs.meaning.Compacted.{compacted}
+use Rattle.crx_filter.specs.meaning.Expanded.{expanded}
+use Rattle.crx_filter.specs.meaning.Standard.{checked}
+use Rattle.crx_filter.specs.meaning.WayBack.{written_well}
 use Rattle.crx_runs.specs.meaning.Runs.{IsResult}
 use Rattle.crx_runs.specs.meaning.Spans.{Device}
 

@@ -1,21 +1,21 @@
 -- What runs bring back, save and judge: the laws of the way back, of damage and of standard files, as promises about
 -- runs.
 use Rattle.std.specs.Prelude.{◌≡◌, ◌≤◌, ◌↔◌, ℕ, List, [], ◌++◌, length, map, Option, None, true}
-use Rattle.crx_faults.specs.meaning.Lines.{lines_of}
-use Rattle.crx_faults.specs.meaning.Seen.{seen}
-use Rattle.crx_faults.specs.declared.fault.At.{At}
-use Rattle.crx_faults.specs.declared.fault.Fault.TheVariants.{OutOfMemory}
-use Rattle.crx_faults.specs.declared.limits.TheConstants.{INPUT_LIMIT}
+use Rattle.crx_base.specs.meaning.Lines.{lines_of}
+use Rattle.crx_base.specs.meaning.Seen.{seen}
+use Rattle.crx_base.specs.declared.fault.At.{At}
+use Rattle.crx_base.specs.declared.fault.Fault.TheVariants.{OutOfMemory}
+use Rattle.crx_base.specs.declared.limits.TheConstants.{INPUT_LIMIT}
 use Rattle.crx_rinex.specs.meaning.Observations.{Epoch}
-use Rattle.crx_options.specs.meaning.Choices.{Choices, is_date}
-use Rattle.crx_reading.specs.meaning.Compacted.{whole_rinex, compacted}
-use Rattle.crx_reading.specs.meaning.Damage.{IsDamaged, IsSalvaged}
-use Rattle.crx_reading.specs.meaning.Expanded.{expanded}
-use Rattle.crx_reading.specs.meaning.WayBack.{HasNormalForm, HaveNoReturns, written_well}
-use Rattle.crx_reading.specs.meaning.Reading.{WholeReading}
+use Rattle.crx_base.specs.meaning.Choices.{Choices, is_date}
+use Rattle.crx_filter.specs.meaning.Compacted.{whole_rinex, compacted}
+use Rattle.crx_filter.specs.meaning.Damage.{IsDamaged, IsSalvaged}
+use Rattle.crx_filter.specs.meaning.Expanded.{expanded}
+use Rattle.crx_filter.specs.meaning.WayBack.{HasNormalForm, HaveNoReturns, written_well}
+use Rattle.crx_filter.specs.meaning.Reading.{WholeReading}
 use Rattle.crx_runs.specs.meaning.Results.{FilterResult}
-use Rattle.crx_faults.specs.meaning.Lines.{lines_text}
-use Rattle.crx_reading.specs.meaning.Standard.{Findings, IsStandard, normal_form, printed_items, report_lines, whole_of}
+use Rattle.crx_base.specs.meaning.Lines.{lines_text}
+use Rattle.crx_filter.specs.meaning.Standard.{Findings, IsStandard, normal_form, printed_items, report_lines, whole_of}
 use Rattle.crx_runs.specs.meaning.Spans.{Input, Device}
 use Rattle.crx_runs.specs.meaning.Runs.{FaultIs, IsResult, NoneFailed}
 

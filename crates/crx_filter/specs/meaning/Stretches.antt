@@ -3,20 +3,20 @@
 use Rattle.std.specs.Prelude.{ℕ, ◌≡◌, ◌⊎◌, Bool, true, not, ◌||◌, ◌&&◌, ⊤, List, [], ◌∷◌, ◌++◌, Option, None}
 use Rattle.std.specs.Prelude.{map, is_some}
 use Rattle.std.specs.List.{AllByRecursion, list_all, flat_map}
-use Rattle.crx_faults.specs.meaning.Lines.{Piece, InputLine, pieces_of, lines_of, is_long, lines_text}
-use Rattle.crx_faults.specs.meaning.Seen.{seen}
-use Rattle.crx_faults.specs.declared.fault.At.{At}
+use Rattle.crx_base.specs.meaning.Lines.{Piece, InputLine, pieces_of, lines_of, is_long, lines_text}
+use Rattle.crx_base.specs.meaning.Seen.{seen}
+use Rattle.crx_base.specs.declared.fault.At.{At}
 use Rattle.crx_header.specs.meaning.EpochColumns.{is_event_line, records_in}
 use Rattle.crx_rinex.specs.meaning.Observations.{Epoch}
 use Rattle.crx_rinex.specs.meaning.Epochs.{IsWholeEpoch}
 use Rattle.crx_rinex.specs.meaning.Printing.{printed_epoch}
-use Rattle.crx_options.specs.meaning.Choices.{Choices, is_date}
-use Rattle.crx_reading.specs.meaning.Items.{Item, header_has_ended, records_left, types_in_force}
-use Rattle.crx_reading.specs.meaning.Reading.{WholeReading}
-use Rattle.crx_reading.specs.meaning.Compacted.{compact_lines, whole_rinex}
-use Rattle.crx_reading.specs.meaning.Damage.{BeginsAnew, lines_after}
-use Rattle.crx_reading.specs.meaning.Standard.{printed_items}
-use Rattle.crx_reading.specs.meaning.WayBack.{HaveNoReturns}
+use Rattle.crx_base.specs.meaning.Choices.{Choices, is_date}
+use Rattle.crx_filter.specs.meaning.Items.{Item, header_has_ended, records_left, types_in_force}
+use Rattle.crx_filter.specs.meaning.Reading.{WholeReading}
+use Rattle.crx_filter.specs.meaning.Compacted.{compact_lines, whole_rinex}
+use Rattle.crx_filter.specs.meaning.Damage.{BeginsAnew, lines_after}
+use Rattle.crx_filter.specs.meaning.Standard.{printed_items}
+use Rattle.crx_filter.specs.meaning.WayBack.{HaveNoReturns}
 use Rattle.crx_runs.specs.meaning.Messages.{notices_text}
 use Rattle.crx_runs.specs.meaning.Results.{FilterResult, status_after}
 use Rattle.crx_runs.specs.meaning.Runs.{IsResult}

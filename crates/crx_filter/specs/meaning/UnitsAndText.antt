@@ -3,21 +3,21 @@
 use Rattle.std.specs.Prelude.{◌≡◌, ◌≢◌, ◌<◌, ◌≤◌, ◌↔◌, if◌then◌else◌, ℕ, true, false, List, [], ◌∷◌, length, map, None}
 use Rattle.std.specs.Prelude.{All, ⊤, Option}
 use Rattle.std.specs.Option.{is_some}
-use Rattle.crx_faults.specs.meaning.Lines.{ends_with_return, lines_text}
-use Rattle.crx_faults.specs.declared.fault.At.{At}
-use Rattle.crx_faults.specs.declared.limits.TheConstants.{LINE_LIMIT}
+use Rattle.crx_base.specs.meaning.Lines.{ends_with_return, lines_text}
+use Rattle.crx_base.specs.declared.fault.At.{At}
+use Rattle.crx_base.specs.declared.limits.TheConstants.{LINE_LIMIT}
 use Rattle.crx_header.specs.meaning.EpochColumns.{is_event_line, records_in}
 use Rattle.crx_rinex.specs.meaning.Epochs.{IsWholeEpoch}
 use Rattle.crx_rinex.specs.meaning.Observations.{Epoch}
 use Rattle.crx_rinex.specs.meaning.Units.{Unit as FileUnit, HeaderLine, EventLine, EventRecord, Observation}
-use Rattle.crx_options.specs.meaning.Choices.{Choices, is_date}
-use Rattle.crx_reading.specs.meaning.Compacted.{compact_lines, compacted}
-use Rattle.crx_reading.specs.meaning.Expanded.{expanded}
-use Rattle.crx_reading.specs.meaning.Items.{Item, Accepted, is_at_start, header_has_ended, records_left}
-use Rattle.crx_reading.specs.meaning.Items.{records_count_types, types_in_force}
-use Rattle.crx_reading.specs.meaning.Standard.{printed_items, IsStandard}
-use Rattle.crx_reading.specs.meaning.UnitPlaces.{types_fault, header_line_fault}
-use Rattle.crx_reading.specs.meaning.WayBack.{OfCopiedLine, written_well}
+use Rattle.crx_base.specs.meaning.Choices.{Choices, is_date}
+use Rattle.crx_filter.specs.meaning.Compacted.{compact_lines, compacted}
+use Rattle.crx_filter.specs.meaning.Expanded.{expanded}
+use Rattle.crx_filter.specs.meaning.Items.{Item, Accepted, is_at_start, header_has_ended, records_left}
+use Rattle.crx_filter.specs.meaning.Items.{records_count_types, types_in_force}
+use Rattle.crx_filter.specs.meaning.Standard.{printed_items, IsStandard}
+use Rattle.crx_filter.specs.meaning.UnitPlaces.{types_fault, header_line_fault}
+use Rattle.crx_filter.specs.meaning.WayBack.{OfCopiedLine, written_well}
 use Rattle.crx_runs.specs.meaning.Runs.{IsResult}
 use Rattle.crx_runs.specs.meaning.Spans.{Device}
 

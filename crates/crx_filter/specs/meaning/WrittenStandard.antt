@@ -1,15 +1,15 @@
 -- What an expansion writes is a standard file, whoever wrote the compact text, and whatever of it was damaged.
 use Rattle.std.specs.Prelude.{◌≡◌, ◌↔◌, ℕ, Bool, List, [], ◌∷◌, None, true, map}
 use Rattle.std.specs.List.{list_all}
-use Rattle.crx_faults.specs.meaning.Lines.{InputLine, lines_of}
-use Rattle.crx_faults.specs.meaning.Seen.{seen}
+use Rattle.crx_base.specs.meaning.Lines.{InputLine, lines_of}
+use Rattle.crx_base.specs.meaning.Seen.{seen}
 use Rattle.crx_rinex.specs.meaning.Observations.{Epoch}
 use Rattle.crx_compact.specs.meaning.CompactPlaces.{ReadEpoch}
-use Rattle.crx_options.specs.meaning.Choices.{Choices}
-use Rattle.crx_reading.specs.meaning.Expanded.{expanded, rinex_unit, whole_compact}
-use Rattle.crx_reading.specs.meaning.Items.{Item, Accepted, Warned}
-use Rattle.crx_reading.specs.meaning.Standard.{IsStandard}
-use Rattle.crx_reading.specs.meaning.WayBack.{HaveNoReturns}
+use Rattle.crx_base.specs.meaning.Choices.{Choices}
+use Rattle.crx_filter.specs.meaning.Expanded.{expanded, rinex_unit, whole_compact}
+use Rattle.crx_filter.specs.meaning.Items.{Item, Accepted, Warned}
+use Rattle.crx_filter.specs.meaning.Standard.{IsStandard}
+use Rattle.crx_filter.specs.meaning.WayBack.{HaveNoReturns}
 use Rattle.crx_runs.specs.meaning.Spans.{Device}
 
 -- whether each line of a text ends with LF and no CR before it

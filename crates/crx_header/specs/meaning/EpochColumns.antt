@@ -2,9 +2,9 @@
 use Rattle.std.specs.Prelude.{ℕ, Bool, ◌||◌, ◌&&◌, List, ◌==◌, Option, Some, None, if◌then◌else◌, nat_le, unwrap_or}
 use Rattle.std.specs.List.{list_all}
 use Rattle.std.specs.Option.{option_and_then}
-use Rattle.crx_columns.specs.meaning.Columns.{columns, character_at, is_blank}
-use Rattle.crx_columns.specs.meaning.Texts.{is_kept}
-use Rattle.crx_faults.specs.declared.limits.TheConstants.{SATELLITES_LIMIT}
+use Rattle.crx_text.specs.meaning.Columns.{columns, character_at, is_blank}
+use Rattle.crx_text.specs.meaning.Texts.{is_kept}
+use Rattle.crx_base.specs.declared.limits.TheConstants.{SATELLITES_LIMIT}
 use Rattle.crx_header.specs.meaning.Label.{number_in}
 
 -- an epoch line begins with >

@@ -3,10 +3,10 @@ use Rattle.std.specs.Prelude.{ℕ, Bool, false, ◌||◌, ◌&&◌, List, [], �
 use Rattle.std.specs.Prelude.{codes}
 use Rattle.std.specs.Char.{is_ascii_digit}
 use Rattle.std.specs.Str.{bytes_eq}
-use Rattle.crx_columns.specs.meaning.Columns.{columns, character_at, without_blanks}
-use Rattle.crx_faults.specs.declared.limits.TheConstants.{VERSION_WIDTH}
-use Rattle.crx_faults.specs.declared.fault.Fault.{Fault}
-use Rattle.crx_faults.specs.declared.fault.Fault.TheVariants.{MissingVersion, UnsupportedVersion, NotObservation}
+use Rattle.crx_text.specs.meaning.Columns.{columns, character_at, without_blanks}
+use Rattle.crx_base.specs.declared.limits.TheConstants.{VERSION_WIDTH}
+use Rattle.crx_base.specs.declared.fault.Fault.{Fault}
+use Rattle.crx_base.specs.declared.fault.Fault.TheVariants.{MissingVersion, UnsupportedVersion, NotObservation}
 use Rattle.crx_header.specs.declared.labels.TheConstants.{VERSION_LABEL, END_LABEL}
 use Rattle.crx_header.specs.meaning.InOrder.{◌otherwise◌next◌}
 use Rattle.crx_header.specs.meaning.Label.{has_label}

@@ -4,7 +4,7 @@ use Rattle.std.specs.Char.{is_ascii_digit}
 use Rattle.std.specs.List.{list_all}
 use Rattle.std.specs.Str.{bytes_eq}
 use Rattle.std.specs.Str.Parse.{digits_value}
-use Rattle.crx_columns.specs.meaning.Columns.{columns, without_blanks, without_end_blanks}
+use Rattle.crx_text.specs.meaning.Columns.{columns, without_blanks, without_end_blanks}
 
 -- the label of a header line: columns 61 to 80 without the blanks at their end
 abbrev pub label_of : List ℕ → List ℕ

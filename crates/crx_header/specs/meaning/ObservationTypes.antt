@@ -3,8 +3,8 @@ use Rattle.std.specs.Prelude.{ℕ, Bool, ◌≤◌, ◌&&◌, List, [], ◌∷�
 use Rattle.std.specs.Prelude.{is_none, not, filter, codes}
 use Rattle.std.specs.List.{filter_map, list_any}
 use Rattle.std.specs.Option.{option_and_then}
-use Rattle.crx_columns.specs.meaning.Columns.{columns, character_at, is_blank}
-use Rattle.crx_faults.specs.declared.limits.TheConstants.{TYPES_LIMIT}
+use Rattle.crx_text.specs.meaning.Columns.{columns, character_at, is_blank}
+use Rattle.crx_base.specs.declared.limits.TheConstants.{TYPES_LIMIT}
 use Rattle.crx_header.specs.declared.labels.TheConstants.{TYPES_LABEL}
 use Rattle.crx_header.specs.meaning.Label.{has_label, number_in}
 

@@ -3,8 +3,8 @@ use Rattle.std.specs.Prelude.{ℕ, Bool, true, ◌==◌, ◌||◌, ◌&&◌, Lis
 use Rattle.std.specs.Char.{is_ascii_digit}
 use Rattle.std.specs.List.{list_any}
 use Rattle.std.specs.Str.{bytes_eq}
-use Rattle.crx_columns.specs.meaning.Columns.{character_at, is_blank}
-use Rattle.crx_faults.specs.declared.limits.TheConstants.{NAME_WIDTH}
+use Rattle.crx_text.specs.meaning.Columns.{character_at, is_blank}
+use Rattle.crx_base.specs.declared.limits.TheConstants.{NAME_WIDTH}
 use Rattle.crx_header.specs.meaning.ObservationTypes.{Count, count_of, is_system}
 
 -- whether columns 2 and 3 of a satellite line go on with an identifier: a digit or a blank, and a digit

@@ -8,8 +8,8 @@ use Rattle.crx_filter.proofs.Words.{header_has_ended, records_left, records_coun
 use Rattle.crx_filter.proofs.Words.{types_in_force, Reading, Stop, AtFault, AtLines, Looking, is_skipped}
 use Rattle.crx_filter.proofs.Words.{can_go_on, looked_for, reading_within, fault_at_end, ended_with}
 use Rattle.crx_filter.proofs.Words.{ended_reading, raws_kept, empties_state, compact_place, expanded_lines}
-use Rattle.crx_reading.specs.meaning.Expanded.{rinex_unit}
-use Rattle.crx_reading.proofs.Choosing.{by_bool}
+use Rattle.crx_filter.specs.meaning.Expanded.{rinex_unit}
+use Rattle.crx_filter.proofs.Choosing.{by_bool}
 use Rattle.crx_filter.proofs.reading.Resuming.{by_place, within-here, within-wrong, within-wanted}
 use Rattle.crx_filter.proofs.reading.Resuming.{fault-skipped, fault-ends, looked-here, looked-on}
 use Rattle.crx_laws.specs.Blocks.{kind_of}

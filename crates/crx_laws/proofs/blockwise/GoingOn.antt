@@ -11,7 +11,7 @@ use Rattle.crx_filter.proofs.Words.{Stop, AtFault, AtLines, Looking, is_skipped,
 use Rattle.crx_filter.proofs.Words.{ended_with, ended_reading, raws_kept, event_line, as_observation}
 use Rattle.crx_filter.proofs.Words.{compact_place, first_lines, whole_compact, expanded, IsBetweenUnits}
 use Rattle.crx_filter.proofs.Words.{GoOnAlike, starts_anew, expanded_lines, continued_reading}
-use Rattle.crx_reading.proofs.Choosing.{by_bool}
+use Rattle.crx_filter.proofs.Choosing.{by_bool}
 use Rattle.crx_filter.proofs.following.Lines.{IsStopped, one_line-decided}
 use Rattle.crx_filter.proofs.reading.Anew.{depends-on_types}
 use Rattle.crx_filter.proofs.reading.CompactPrefixes.{whole-at}

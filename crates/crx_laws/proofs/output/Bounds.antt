@@ -12,7 +12,7 @@ use Rattle.crx_filter.proofs.Words.{compact_place, empties_state, raws_kept, fir
 use Rattle.crx_filter.proofs.Words.{expansion, tail_of_items, begins_event, compact_open, expansion_seen}
 use Rattle.crx_filter.proofs.Words.{ItemsAreRead, AreInPlace}
 use Rattle.std.proofs.Common.{IfSome}
-use Rattle.crx_faults.specs.declared.limits.TheConstants.{ORDER_LIMIT, WRITTEN_ORDER}
+use Rattle.crx_base.specs.declared.limits.TheConstants.{ORDER_LIMIT, WRITTEN_ORDER}
 use Rattle.crx_header.specs.ObservationTypes.{AreCounts}
 use Rattle.crx_header.proofs.Counts.{systems_few}
 use Rattle.crx_laws.proofs.OpenSound.{IsOpenSoundly, open-sound}
@@ -24,10 +24,10 @@ use Rattle.crx_compact.proofs.reading.LineByLine.{steps-agree}
 use Rattle.crx_compact.proofs.reading.RawTailing.{place-by_tail, left-by_tail}
 use Rattle.crx_compact.proofs.soundness.Soundness.{reads-soundly}
 use Rattle.crx_compact.proofs.Characters.{length-is}
-use Rattle.crx_reading.specs.ExpansionByLine.{phase_from_first_lines}
+use Rattle.crx_filter.specs.ExpansionByLine.{phase_from_first_lines}
 use Rattle.crx_laws.specs.Bounds.{IsBoundedRow, IsBoundedEpoch, OfOpen, IsBoundedCompaction}
 use Rattle.crx_laws.specs.Bounds.{IsBoundedExpansion}
-use Rattle.crx_reading.proofs.Choosing.{by_bool}
+use Rattle.crx_filter.proofs.Choosing.{by_bool}
 use Rattle.crx_filter.proofs.wayback.ExpandedWhole.{epoch-read}
 use Rattle.crx_filter.proofs.reading.Types.{counts-in_force}
 use Rattle.crx_filter.proofs.wayback.Items.{marked_now, whole-next}

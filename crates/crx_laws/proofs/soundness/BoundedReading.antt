@@ -11,14 +11,14 @@ use Rattle.std.specs.Prelude.{slice_get, IfSome, slice_index_or, slice_set, unwr
 use Rattle.std.specs.Option.{option_map}
 use Rattle.std.proofs.lemmas.List.{length-set, length-take}
 use Rattle.std.proofs.lemmas.Option.{same_Some, slice_get_within}
-use Rattle.crx_columns.proofs.Characters.{length-columns, at, at-without_end_blanks, at-drop}
-use Rattle.crx_columns.specs.meaning.Columns.{before_end_blanks}
+use Rattle.crx_text.proofs.Characters.{length-columns, at, at-without_end_blanks, at-drop}
+use Rattle.crx_text.specs.meaning.Columns.{before_end_blanks}
 use Rattle.crx_text.specs.meaning.Codes.{coded_number}
-use Rattle.crx_columns.specs.Texts.{patched, character_of}
-use Rattle.crx_columns.specs.meaning.Texts.{by_position}
+use Rattle.crx_text.specs.Texts.{patched, character_of}
+use Rattle.crx_text.specs.meaning.Texts.{by_position}
 use Rattle.crx_text.specs.declared.code.Code.{Code}
 use Rattle.crx_text.specs.declared.code.Code.TheVariants.{Missing, Start, Step}
-use Rattle.crx_faults.specs.declared.limits.TheConstants.{ORDER_LIMIT, SATELLITES_LIMIT}
+use Rattle.crx_base.specs.declared.limits.TheConstants.{ORDER_LIMIT, SATELLITES_LIMIT}
 use Rattle.crx_header.specs.meaning.ObservationTypes.{IsAllowedCount}
 use Rattle.crx_header.specs.ObservationTypes.{AreCounts}
 use Rattle.crx_header.proofs.Counts.{allowed_of}
@@ -38,7 +38,7 @@ use Rattle.crx_compact.specs.OpenEpochs.{opening, past_of_clock, place_of_steps,
 use Rattle.crx_compact.specs.OpenEpochs.{raw_step_with_row, row_step, rows_before, tail_opened, tail_so_far}
 use Rattle.crx_compact.specs.OpenEpochs.{whole_or_awaiting, IsBoundedOpen, IsBoundedStep}
 use Rattle.crx_compact.specs.ReadingLaws.{ReadAreBounded}
-use Rattle.crx_columns.proofs.EachPlace.{each_place-all, length-each_place}
+use Rattle.crx_text.proofs.EachPlace.{each_place-all, length-each_place}
 use Rattle.crx_compact.proofs.Characters.{same_characters, list_all-at}
 use Rattle.crx_compact.proofs.SoundTexts.{length-held}
 use Rattle.crx_compact.proofs.soundness.Goodness.{typed-parts}

@@ -2,16 +2,16 @@
 use Rattle.crx_filter.proofs.Words.{ℕ, suc, ◌-◌, ℤ, List, [], ◌∷◌, length, map, Option, AllByRecursion, arith}
 use Rattle.crx_filter.proofs.Words.{length-map, Row, Count, Marked}
 use Rattle.std.specs.Prelude.{min, IfSome}
-use Rattle.crx_faults.specs.declared.limits.TheConstants.{WRITTEN_ORDER}
+use Rattle.crx_base.specs.declared.limits.TheConstants.{WRITTEN_ORDER}
 use Rattle.crx_compact.specs.meaning.Differences.{difference}
 use Rattle.crx_compact.specs.meaning.Compaction.{epoch_text, run_of, arc_of, clock_arc}
 use Rattle.crx_compact.specs.ArcTails.{ArcTail, arc_tail, IsBoundedArc}
 use Rattle.crx_compact.specs.Tails.{row_tail, IsBoundedRowTail}
 use Rattle.crx_compact.specs.Laws.{WrittenAreBounded}
-use Rattle.crx_columns.proofs.EachPlace.{each_place-all, length-each_place}
+use Rattle.crx_text.proofs.EachPlace.{each_place-all, length-each_place}
 use Rattle.crx_compact.proofs.wayback.Lengths.{few-satellites, text-short}
 use Rattle.crx_compact.proofs.wayback.Writable.{IsTypedRow, typed-rows}
-use Rattle.crx_columns.proofs.EndBlanks.{few_kept}
+use Rattle.crx_text.proofs.EndBlanks.{few_kept}
 use Rattle.crx_rinex.proofs.ReadingBack.{name-length}
 
 pub arc-bounded : (order : ℕ) (values : List ℤ) → IfSome (arc_tail order values) (IsBoundedArc order)

@@ -3,7 +3,7 @@ use Rattle.crx_filter.proofs.Words.{◌≡◌, refl, ℕ, ℤ, Bool, List, [], �
 use Rattle.crx_filter.proofs.Words.{AllByRecursion, sym, ◌∙◌, ap, subst, without_end_blanks, Row, Epoch}
 use Rattle.crx_filter.proofs.Words.{Count, Marked, RawEpoch}
 use Rattle.std.proofs.lemmas.Simd.{map-map}
-use Rattle.crx_faults.specs.declared.limits.TheConstants.{WRITTEN_ORDER}
+use Rattle.crx_base.specs.declared.limits.TheConstants.{WRITTEN_ORDER}
 use Rattle.crx_rinex.specs.meaning.Observations.{value_in}
 use Rattle.crx_compact.specs.meaning.Sequences.{stretch}
 use Rattle.crx_compact.specs.meaning.Differences.{code_at}
@@ -15,7 +15,7 @@ use Rattle.crx_compact.specs.Tails.{tail_of_block}
 use Rattle.crx_compact.specs.ArcTails.{arc_tail, values_of, started_tail}
 use Rattle.crx_compact.specs.ReadingLaws.{raw_row, OneTail}
 use Rattle.crx_compact.specs.Laws.{AreWhole}
-use Rattle.crx_columns.proofs.EachPlace.{each_place-same, length-each_place}
+use Rattle.crx_text.proofs.EachPlace.{each_place-same, length-each_place}
 use Rattle.crx_compact.proofs.arcs.Inversion.{numbers_of, value-numbers, started-codes}
 use Rattle.crx_compact.proofs.Lists.{mapped-same}
 use Rattle.crx_compact.proofs.wayback.Runs.{raw_block, marked, block-raws, raw_run, runs-read}

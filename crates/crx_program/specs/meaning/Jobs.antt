@@ -5,19 +5,19 @@ use Rattle.std.specs.declared.fs.options.OpenOptions.{OpenOptions}
 use Rattle.crx_lines.specs.declared.device.Sink.{Ghosts as SinkGhosts}
 use Rattle.crx_lines.specs.declared.device.Source.{Ghosts as SourceGhosts}
 use Rattle.crx_lines.specs.declared.device.Std.{Std}
-use Rattle.crx_faults.specs.declared.fault.Fault.TheVariants.{OutOfMemory}
-use Rattle.crx_faults.specs.declared.fault.At.{At}
-use Rattle.crx_reading.specs.meaning.Directions.{check_filter}
-use Rattle.crx_options.specs.meaning.Choices.{Choices, choices_of}
-use Rattle.crx_reading.specs.meaning.Compacted.{compacted}
-use Rattle.crx_reading.specs.meaning.Directions.{compaction_filter, expansion_filter}
-use Rattle.crx_reading.specs.meaning.Expanded.{expanded}
+use Rattle.crx_base.specs.declared.fault.Fault.TheVariants.{OutOfMemory}
+use Rattle.crx_base.specs.declared.fault.At.{At}
+use Rattle.crx_filter.specs.meaning.Directions.{check_filter}
+use Rattle.crx_base.specs.meaning.Choices.{Choices, choices_of}
+use Rattle.crx_filter.specs.meaning.Compacted.{compacted}
+use Rattle.crx_filter.specs.meaning.Directions.{compaction_filter, expansion_filter}
+use Rattle.crx_filter.specs.meaning.Expanded.{expanded}
 use Rattle.crx_runs.specs.meaning.Spans.{Input, Device}
 pub use Rattle.crx_runs.specs.meaning.Spans.{reader_span, span}
 use Rattle.crx_runs.specs.meaning.Filters.{Filter}
 use Rattle.crx_runs.specs.meaning.Results.{FilterResult}
 use Rattle.crx_runs.specs.meaning.Runs.{RunsAs}
-use Rattle.crx_reading.specs.meaning.Standard.{checked}
+use Rattle.crx_filter.specs.meaning.Standard.{checked}
 use Rattle.crx_command.specs.meaning.Dates.{IsDateText}
 use Rattle.jiff.specs.declared.timestamp.Timestamp.{Timestamp}
 use Rattle.crx_command.specs.declared.job.Job.{Job}

@@ -1,8 +1,8 @@
 -- What a user reads where nothing is run, and what a run of the program leaves.
 use Rattle.std.specs.Prelude.{◌≡◌, ◌⊎◌, ℕ, List, [], Some}
 use Rattle.crx_lines.specs.meaning.Devices.{with_failed_flush, with_failed_write, with_flush}
-use Rattle.crx_faults.specs.declared.fault.Fault.{Fault}
-use Rattle.crx_faults.specs.declared.fault.Fault.TheVariants.{OutOfMemory, WriteFailed}
+use Rattle.crx_base.specs.declared.fault.Fault.{Fault}
+use Rattle.crx_base.specs.declared.fault.Fault.TheVariants.{OutOfMemory, WriteFailed}
 use Rattle.crx_runs.specs.meaning.Messages.{error_text}
 use Rattle.crx_runs.specs.meaning.Spans.{Device, TookAll, TookPart}
 use Rattle.crx_command.specs.meaning.Planning.{Refusal}

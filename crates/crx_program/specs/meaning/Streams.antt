@@ -1,8 +1,8 @@
 -- What a run over standard streams read, wrote and reported, by the logs of its devices.
 use Rattle.std.specs.Prelude.{◌≡◌, ◌⊎◌, ◌<◌, ℕ, Bool, true, List, [], Option, Some, None}
-use Rattle.crx_faults.specs.meaning.Lines.{lines_of}
+use Rattle.crx_base.specs.meaning.Lines.{lines_of}
 use Rattle.crx_lines.specs.declared.device.Std.{Std}
-use Rattle.crx_options.specs.meaning.Choices.{Choices}
+use Rattle.crx_base.specs.meaning.Choices.{Choices}
 use Rattle.crx_runs.specs.meaning.Interruptions.{complete_lines}
 use Rattle.crx_runs.specs.meaning.Results.{Begins}
 use Rattle.jiff.specs.declared.timestamp.Timestamp.{Timestamp}

@@ -1,8 +1,8 @@
 -- Observation epochs among the lines of a file, and the epoch whose lines have come in part: RINEX 3.05, table A3.
 use Rattle.std.specs.Prelude.{ℕ, zero, suc, ◌-◌, List, [], ◌∷◌, ◌++◌, length, Result, Ok, Err, if◌then◌else◌}
-use Rattle.crx_faults.specs.meaning.Seen.{ReadLine}
-use Rattle.crx_faults.specs.declared.fault.Fault.{Fault}
-use Rattle.crx_faults.specs.declared.fault.Fault.TheVariants.{RepeatedSatellite, Truncated}
+use Rattle.crx_base.specs.meaning.Seen.{ReadLine}
+use Rattle.crx_base.specs.declared.fault.Fault.{Fault}
+use Rattle.crx_base.specs.declared.fault.Fault.TheVariants.{RepeatedSatellite, Truncated}
 use Rattle.crx_rinex.specs.meaning.Observations.{Row, Epoch}
 use Rattle.crx_rinex.specs.meaning.Units.{Unit, EventLine, Observation}
 use Rattle.crx_rinex.specs.meaning.Places.{Place, Here, then_place, first_line}

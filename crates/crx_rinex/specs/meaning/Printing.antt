@@ -1,6 +1,6 @@
 -- How an observation epoch is printed: RINEX 3.05, table A3.
 use Rattle.std.specs.Prelude.{ℕ, ℤ, List, ◌∷◌, ◌++◌, Option, map}
-use Rattle.crx_columns.specs.meaning.Columns.{without_end_blanks}
+use Rattle.crx_text.specs.meaning.Columns.{without_end_blanks}
 use Rattle.crx_text.specs.meaning.Numbers.{clock_text}
 use Rattle.crx_text.specs.meaning.PrintedCells.{printed_cells}
 use Rattle.crx_rinex.specs.meaning.Observations.{Row, Epoch}

@@ -3,14 +3,14 @@ use Rattle.std.specs.Prelude.{◌≡◌, ℕ, ℤ, true, ◌+◌, ◌*◌, List,
 use Rattle.std.specs.Prelude.{Result, Ok, Err, drop, length, All}
 use Rattle.std.specs.List.{list_all, concat}
 use Rattle.std.specs.Option.{option_and_then}
-use Rattle.crx_columns.specs.meaning.Columns.{columns, character_at, is_blank}
+use Rattle.crx_text.specs.meaning.Columns.{columns, character_at, is_blank}
 use Rattle.crx_text.specs.meaning.Numbers.{observation_of, IsValue}
-use Rattle.crx_columns.specs.meaning.EachPlace.{each_place}
+use Rattle.crx_text.specs.meaning.EachPlace.{each_place}
 use Rattle.crx_rinex.specs.meaning.Observations.{Row}
-use Rattle.crx_faults.specs.declared.limits.TheConstants.{OBSERVATION_WIDTH, NAME_WIDTH, CELL_WIDTH}
-use Rattle.crx_faults.specs.declared.fault.Fault.{Fault}
-use Rattle.crx_faults.specs.declared.fault.Fault.TheVariants.{BadSatellite, BadField, BadFlags}
-use Rattle.crx_columns.specs.meaning.Texts.{is_kept}
+use Rattle.crx_base.specs.declared.limits.TheConstants.{OBSERVATION_WIDTH, NAME_WIDTH, CELL_WIDTH}
+use Rattle.crx_base.specs.declared.fault.Fault.{Fault}
+use Rattle.crx_base.specs.declared.fault.Fault.TheVariants.{BadSatellite, BadField, BadFlags}
+use Rattle.crx_text.specs.meaning.Texts.{is_kept}
 use Rattle.crx_header.specs.meaning.InOrder.{◌otherwise◌next◌, ◌or_else◌with◌}
 use Rattle.crx_header.specs.meaning.ObservationTypes.{Count, IsAllowedCount}
 use Rattle.crx_header.specs.meaning.Satellites.{is_identifier, types_of_satellite}

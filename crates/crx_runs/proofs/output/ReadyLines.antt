@@ -4,7 +4,7 @@ use Rattle.std.proofs.Common.{arith, append_assoc, length-append}
 use Rattle.std.specs.Prelude.{slice_get}
 use Rattle.std.proofs.Math.Seq.{take-append-add}
 use Rattle.std.proofs.lemmas.List.{take-append-le}
-use Rattle.crx_faults.specs.meaning.Lines.{lines_text}
+use Rattle.crx_base.specs.meaning.Lines.{lines_text}
 
 -- the first of some lines, and the rest
 pub first-and-rest : (lines : List (List ℕ)) (line : List ℕ)

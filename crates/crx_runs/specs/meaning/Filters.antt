@@ -2,8 +2,8 @@
 use Rattle.std.specs.Prelude.{List, Option, [], ◌∷◌, ◌++◌}
 pub use Rattle.crx_runs.specs.meaning.Results.{lines_text}
 pub use Rattle.crx_runs.specs.meaning.Results.{Course}
-use Rattle.crx_faults.specs.meaning.Lines.{InputLine}
-use Rattle.crx_faults.specs.declared.fault.At.{At}
+use Rattle.crx_base.specs.meaning.Lines.{InputLine}
+use Rattle.crx_base.specs.declared.fault.At.{At}
 
 -- what is to be written and reported for the lines so far, the end of the input not being judged, and for all lines;
 -- and after which of its warnings memory may run out at a line that comes after some others, where the line may take

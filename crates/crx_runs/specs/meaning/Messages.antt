@@ -1,8 +1,8 @@
 -- The lines that a run writes to its messages.
 use Rattle.std.specs.Prelude.{ℕ, List, [], ◌∷◌, ◌++◌, Option, Some, None, codes, decimal}
 use Rattle.std.specs.List.{flat_map}
-use Rattle.crx_faults.specs.meaning.Faults.{code_of_fault, words_of_fault}
-use Rattle.crx_faults.specs.declared.fault.At.{At}
+use Rattle.crx_base.specs.meaning.Faults.{code_of_fault, words_of_fault}
+use Rattle.crx_base.specs.declared.fault.At.{At}
 
 -- a message of a fault: the word, the line, the fault's number and its words
 abbrev pub message_text : List ℕ → At → List ℕ

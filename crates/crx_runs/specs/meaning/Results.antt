@@ -1,9 +1,9 @@
 -- What a run writes, and how it ends.
 use Rattle.std.specs.Prelude.{ℕ, Bool, true, false, List, [], ◌∷◌, ◌++◌, Option, Some, None, if◌then◌else◌}
 use Rattle.std.specs.Prelude.{◌≡◌}
-use Rattle.crx_faults.specs.declared.fault.At.{At}
+use Rattle.crx_base.specs.declared.fault.At.{At}
 use Rattle.crx_runs.specs.meaning.Messages.{notices_text, error_text}
-pub use Rattle.crx_faults.specs.meaning.Lines.{lines_text}
+pub use Rattle.crx_base.specs.meaning.Lines.{lines_text}
 
 -- what is written and reported for some lines, and the fault that ends the run, where there is one; warnings stand
 -- oldest first

@@ -2,7 +2,7 @@
 use Rattle.std.specs.Prelude.{◌≡◌, ◌<◌, ◌≤◌, ℕ, List, ◌++◌, length, take}
 use Rattle.crx_lines.specs.meaning.Devices.{Tally, tally_of, with_failed_write, SinkTally}
 use Rattle.crx_lines.specs.declared.device.Source.{Ghosts}
-use Rattle.crx_faults.specs.declared.fault.At.{At}
+use Rattle.crx_base.specs.declared.fault.At.{At}
 use Rattle.crx_runs.specs.meaning.Results.{Course}
 use Rattle.crx_lines.specs.declared.device.Sink.{Ghosts as SinkGhosts}
 

@@ -2,13 +2,13 @@
 
 ghost use Rattle.std.specs.Bool.{OnTrue};
 ghost use Rattle.std.specs.Prelude.{◌≡◌, ◌≤◌, length, false};
-ghost use Rattle.crx_faults.specs.declared.limits.TheConstants.{LINE_LIMIT};
+ghost use Rattle.crx_base.specs.declared.limits.TheConstants.{LINE_LIMIT};
 ghost use Rattle.crx_header.specs.meaning.EpochColumns.{is_event_line};
 
 use super::cases::{Table, both_forms, both_ways, read_alone};
 use super::*;
 use crate::expecting::{expect, expect_at};
-use crx_faults::limits::LINE_LIMIT;
+use crx_base::limits::LINE_LIMIT;
 use crx_laws::read_back::read_back;
 use crx_rinex::{Printed, is_event_line};
 use std::process::Abort;

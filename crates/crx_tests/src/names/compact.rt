@@ -1,7 +1,7 @@
 //! The names of crx_compact: arcs, and compact lines both ways.
 
 ghost use Rattle.std.specs.Prelude.{◌≡◌, ◌≤◌, false, length, true};
-ghost use Rattle.crx_faults.specs.declared.limits.TheConstants.{CLOCK_WIDTH, LINE_LIMIT, OBSERVATION_WIDTH};
+ghost use Rattle.crx_base.specs.declared.limits.TheConstants.{CLOCK_WIDTH, LINE_LIMIT, OBSERVATION_WIDTH};
 ghost use Rattle.crx_header.specs.meaning.EpochColumns.{is_event_line};
 ghost use Rattle.crx_compact.specs.OpenEpochs.{is_idle};
 ghost use Rattle.crx_rinex.specs.Epochs.{is_full_epoch};

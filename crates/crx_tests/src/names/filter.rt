@@ -1,7 +1,7 @@
 //! The names of crx_filter: engines line by line, and whole runs.
 
 ghost use Rattle.std.specs.Prelude.{◌≡◌, ◌≤◌, ◌+◌, []};
-ghost use Rattle.crx_faults.specs.declared.limits.TheConstants.{INPUT_LIMIT};
+ghost use Rattle.crx_base.specs.declared.limits.TheConstants.{INPUT_LIMIT};
 ghost use Rattle.crx_filter.specs.CompactorState.{compactor_ready, compactor_seen};
 ghost use Rattle.crx_lines.specs.Reading.{line_number};
 

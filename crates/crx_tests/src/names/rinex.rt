@@ -3,7 +3,7 @@
 ghost use Rattle.std.specs.Prelude.{◌≡◌, ◌≤◌, ◌<◌, ◌*◌, false, length, true};
 ghost use Rattle.std.specs.List.{list_all};
 ghost use Rattle.std.specs.Option.{ForSome};
-ghost use Rattle.crx_columns.specs.meaning.Texts.{is_kept};
+ghost use Rattle.crx_text.specs.meaning.Texts.{is_kept};
 ghost use Rattle.crx_header.specs.meaning.ObservationTypes.{IsAllowedCount};
 ghost use Rattle.crx_header.specs.meaning.Satellites.{is_identifier};
 ghost use Rattle.crx_rinex.specs.Epochs.{is_full_epoch};

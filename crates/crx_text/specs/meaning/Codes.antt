@@ -6,11 +6,11 @@ use Rattle.std.specs.Option.{option_map}
 use Rattle.std.specs.Str.{all_ascii_digits}
 use Rattle.std.specs.Char.{is_ascii_digit}
 use Rattle.std.specs.Str.Parse.{digits_value, starts_with_minus}
-use Rattle.crx_columns.specs.meaning.Columns.{is_blank}
+use Rattle.crx_text.specs.meaning.Columns.{is_blank}
 use Rattle.crx_text.specs.meaning.Numbers.{without_minus, signed_number}
 use Rattle.crx_text.specs.declared.code.Code.{Code}
 use Rattle.crx_text.specs.declared.code.Code.TheVariants.{Missing, Start, Step}
-use Rattle.crx_faults.specs.declared.limits.TheConstants.{ORDER_LIMIT, DIGITS_LIMIT}
+use Rattle.crx_base.specs.declared.limits.TheConstants.{ORDER_LIMIT, DIGITS_LIMIT}
 
 -- ---- printing
 

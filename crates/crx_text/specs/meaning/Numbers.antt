@@ -7,9 +7,9 @@ use Rattle.std.specs.Prelude.{Some, None, IfSome, decimal}
 use Rattle.std.specs.Option.{option_map}
 use Rattle.std.specs.Str.{all_ascii_digits}
 use Rattle.std.specs.Str.Parse.{digits_value, starts_with_minus}
-use Rattle.crx_columns.specs.meaning.Columns.{without_first_blanks}
-use Rattle.crx_faults.specs.declared.limits.TheConstants.{OBSERVATION_WIDTH, OBSERVATION_DECIMALS, CLOCK_WIDTH}
-use Rattle.crx_faults.specs.declared.limits.TheConstants.{CLOCK_DECIMALS}
+use Rattle.crx_text.specs.meaning.Columns.{without_first_blanks}
+use Rattle.crx_base.specs.declared.limits.TheConstants.{OBSERVATION_WIDTH, OBSERVATION_DECIMALS, CLOCK_WIDTH}
+use Rattle.crx_base.specs.declared.limits.TheConstants.{CLOCK_DECIMALS}
 
 -- ---- reading
 

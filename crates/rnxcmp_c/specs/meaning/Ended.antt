@@ -2,7 +2,7 @@
 -- its result.
 use Rattle.std.specs.Prelude.{◌≡◌, true}
 use Rattle.crx_filter.specs.meaning.Lossless.{SaysThatItComesBack}
-use Rattle.crx_options.specs.meaning.Choices.{Choices}
+use Rattle.crx_base.specs.meaning.Choices.{Choices}
 use Rattle.rnxcmp_c.specs.declared.answer.Answer.{Answer}
 use Rattle.rnxcmp_c.specs.meaning.Answers.{BothTexts}
 use Rattle.rnxcmp_c.specs.meaning.Handles.{HandlePast, RunHasResult}

@@ -2,18 +2,18 @@
 -- what a call answers.
 use Rattle.std.specs.Prelude.{◌≡◌, ◌⊎◌, ◌<◌, ◌≤◌, ℕ, ◌+◌, ◌-◌, Bool, true, false, List, [], ◌∷◌, ◌++◌, length}
 use Rattle.std.specs.Prelude.{take, Option, Some, None, is_some}
-use Rattle.crx_faults.specs.meaning.Faults.{code_of_fault}
-use Rattle.crx_faults.specs.meaning.Lines.{InputLine, lines_of}
-use Rattle.crx_faults.specs.meaning.Seen.{ended_lines_of}
-use Rattle.crx_faults.specs.declared.fault.At.{At}
-use Rattle.crx_faults.specs.declared.fault.Fault.{Fault}
-use Rattle.crx_faults.specs.declared.fault.Fault.TheVariants.{InputTooLong, OutOfMemory}
-use Rattle.crx_faults.specs.declared.limits.TheConstants.{INPUT_LIMIT}
-use Rattle.crx_options.specs.meaning.Choices.{Choices}
-use Rattle.crx_reading.specs.meaning.Compacted.{compacted}
-use Rattle.crx_reading.specs.meaning.Directions.{check_filter, compaction_filter, expansion_filter}
-use Rattle.crx_reading.specs.meaning.Expanded.{expanded}
-use Rattle.crx_reading.specs.meaning.Standard.{checked}
+use Rattle.crx_base.specs.meaning.Faults.{code_of_fault}
+use Rattle.crx_base.specs.meaning.Lines.{InputLine, lines_of}
+use Rattle.crx_base.specs.meaning.Seen.{ended_lines_of}
+use Rattle.crx_base.specs.declared.fault.At.{At}
+use Rattle.crx_base.specs.declared.fault.Fault.{Fault}
+use Rattle.crx_base.specs.declared.fault.Fault.TheVariants.{InputTooLong, OutOfMemory}
+use Rattle.crx_base.specs.declared.limits.TheConstants.{INPUT_LIMIT}
+use Rattle.crx_base.specs.meaning.Choices.{Choices}
+use Rattle.crx_filter.specs.meaning.Compacted.{compacted}
+use Rattle.crx_filter.specs.meaning.Directions.{check_filter, compaction_filter, expansion_filter}
+use Rattle.crx_filter.specs.meaning.Expanded.{expanded}
+use Rattle.crx_filter.specs.meaning.Standard.{checked}
 use Rattle.crx_runs.specs.meaning.Filters.{Filter, with_next}
 use Rattle.crx_runs.specs.meaning.Messages.{error_text, notices_text}
 use Rattle.crx_runs.specs.meaning.Results.{Course, FilterResult}

@@ -1,10 +1,10 @@
 -- What passes a check comes back, in the caller's memory. `holds result` says that a call answered this result, and put
 -- its texts into the caller's rooms.
 use Rattle.std.specs.Prelude.{◌≡◌, ℕ, List, true}
-use Rattle.crx_options.specs.meaning.Choices.{Choices, is_date}
-use Rattle.crx_reading.specs.meaning.Compacted.{compacted}
-use Rattle.crx_reading.specs.meaning.Standard.{checked}
-use Rattle.crx_reading.specs.meaning.WayBack.{written_well}
+use Rattle.crx_base.specs.meaning.Choices.{Choices, is_date}
+use Rattle.crx_filter.specs.meaning.Compacted.{compacted}
+use Rattle.crx_filter.specs.meaning.Standard.{checked}
+use Rattle.crx_filter.specs.meaning.WayBack.{written_well}
 use Rattle.crx_runs.specs.meaning.Results.{FilterResult}
 
 -- the expansion of the compact text of a file that a check passes is the file, with no message and status 0

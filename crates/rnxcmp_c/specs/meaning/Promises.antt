@@ -1,17 +1,17 @@
 -- What the expansion and the check promise of the files that they were made of, in the caller's memory.
 -- `holds result` says that a call answered this result, and put its texts into the caller's rooms.
 use Rattle.std.specs.Prelude.{◌≡◌, ◌↔◌, ℕ, List, map, None, true}
-use Rattle.crx_faults.specs.meaning.Lines.{lines_of}
-use Rattle.crx_faults.specs.meaning.Seen.{seen}
+use Rattle.crx_base.specs.meaning.Lines.{lines_of}
+use Rattle.crx_base.specs.meaning.Seen.{seen}
 use Rattle.crx_rinex.specs.meaning.Observations.{Epoch}
-use Rattle.crx_options.specs.meaning.Choices.{Choices, is_date}
-use Rattle.crx_reading.specs.meaning.Compacted.{whole_rinex, compacted}
-use Rattle.crx_reading.specs.meaning.Damage.{IsDamaged, IsSalvaged}
-use Rattle.crx_reading.specs.meaning.WayBack.{HasNormalForm, HaveNoReturns, written_well}
-use Rattle.crx_reading.specs.meaning.Reading.{WholeReading}
+use Rattle.crx_base.specs.meaning.Choices.{Choices, is_date}
+use Rattle.crx_filter.specs.meaning.Compacted.{whole_rinex, compacted}
+use Rattle.crx_filter.specs.meaning.Damage.{IsDamaged, IsSalvaged}
+use Rattle.crx_filter.specs.meaning.WayBack.{HasNormalForm, HaveNoReturns, written_well}
+use Rattle.crx_filter.specs.meaning.Reading.{WholeReading}
 use Rattle.crx_runs.specs.meaning.Results.{FilterResult}
-use Rattle.crx_faults.specs.meaning.Lines.{lines_text}
-use Rattle.crx_reading.specs.meaning.Standard.{IsStandard, normal_form, printed_items, whole_of}
+use Rattle.crx_base.specs.meaning.Lines.{lines_text}
+use Rattle.crx_filter.specs.meaning.Standard.{IsStandard, normal_form, printed_items, whole_of}
 
 -- ---- the way back
 

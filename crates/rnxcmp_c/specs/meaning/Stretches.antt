@@ -1,10 +1,10 @@
 -- What the expansion promises of damaged text and of text that is cut off, in the caller's memory.
 -- `holds result` says that a call answered this result, and put its texts into the caller's rooms.
 use Rattle.std.specs.Prelude.{◌≡◌, ℕ, List, true}
-use Rattle.crx_faults.specs.meaning.Lines.{lines_text}
+use Rattle.crx_base.specs.meaning.Lines.{lines_text}
 use Rattle.crx_filter.specs.meaning.Stretches.{HasStretches, KeepsTheRest, BeginsWhole}
-use Rattle.crx_options.specs.meaning.Choices.{Choices, is_date}
-use Rattle.crx_reading.specs.meaning.Standard.{printed_items}
+use Rattle.crx_base.specs.meaning.Choices.{Choices, is_date}
+use Rattle.crx_filter.specs.meaning.Standard.{printed_items}
 use Rattle.crx_runs.specs.meaning.Results.{FilterResult, Begins}
 
 -- an expansion that skips faults keeps all units outside the damaged stretches

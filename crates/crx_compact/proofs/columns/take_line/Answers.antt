@@ -1,7 +1,7 @@
 use Rattle.std.proofs.Common.{ℕ, ◌≡◌, ◌+◌, sym, subst, arith}
 use Rattle.std.specs.Prelude.{Some}
 use Rattle.std.proofs.lemmas.Result.{err_from_is_err_and}
-use Rattle.crx_faults.specs.meaning.Seen.{Content}
+use Rattle.crx_base.specs.meaning.Seen.{Content}
 use Rattle.crx_compact.specs.OpenEpochs.{Faulty, next_step}
 use Rattle.crx_compact.specs.OpenLines.{IsSoundBlock, made_of, epoch_by_stage}
 use Rattle.crx_compact.specs.Placing.{OpenHistory, satellite_of, tail_of_history}

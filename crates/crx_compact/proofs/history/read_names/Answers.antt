@@ -2,8 +2,8 @@ use Rattle.std.proofs.Common.{◌≡◌, refl, ◌+◌, ◌*◌, ◌++◌, ◌�
 use Rattle.std.proofs.Common.{ℕ, List, Ok, Err, Result, All}
 use Rattle.std.proofs.lemmas.Bool.{false≢true}
 use Rattle.std.proofs.lemmas.List.Elements.{All-append}
-use Rattle.crx_columns.specs.meaning.Columns.{columns}
-use Rattle.crx_columns.proofs.EachPlace.{drop_all-each_place}
+use Rattle.crx_text.specs.meaning.Columns.{columns}
+use Rattle.crx_text.proofs.EachPlace.{drop_all-each_place}
 use Rattle.crx_compact.specs.HeldRows.{IsAwaitedSatellite}
 use Rattle.crx_compact.specs.meaning.EpochText.{Satellite, names_in}
 use Rattle.crx_compact.specs.Placing.{HasRoom, HaveTypesRoom, row_or_blank}

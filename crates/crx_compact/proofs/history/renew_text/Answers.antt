@@ -1,8 +1,8 @@
 use Rattle.std.proofs.Common.{◌≡◌, ◌≤◌, ◌++◌, ◌+◌, ◌*◌, List, ℕ, length, take, sym, ap, ◌∙◌, arith}
 use Rattle.std.specs.List.{flat_map}
 use Rattle.std.proofs.lemmas.List.{length-take, take-take, take_at}
-use Rattle.crx_columns.specs.meaning.Columns.{without_end_blanks}
-use Rattle.crx_columns.proofs.EndBlanks.{few_kept, take_kept}
+use Rattle.crx_text.specs.meaning.Columns.{without_end_blanks}
+use Rattle.crx_text.proofs.EndBlanks.{few_kept, take_kept}
 use Rattle.crx_compact.specs.Tails.{RowTail}
 use Rattle.crx_compact.proofs.history.renew_text.Goals as goal
 

@@ -5,10 +5,10 @@ use Rattle.std.specs.Option.{is_some}
 use Rattle.std.proofs.lemmas.List.{map-append}
 use Rattle.std.specs.List.{list_any}
 use Rattle.std.specs.Str.{bytes_eq}
-use Rattle.crx_columns.specs.meaning.Columns.{columns}
+use Rattle.crx_text.specs.meaning.Columns.{columns}
 use Rattle.crx_header.specs.meaning.Satellites.{is_among}
 use Rattle.crx_header.proofs.Apart.{among-map}
-use Rattle.crx_columns.proofs.EachPlace.{drop_all-each_place, each_place-more}
+use Rattle.crx_text.proofs.EachPlace.{drop_all-each_place, each_place-more}
 use Rattle.crx_compact.specs.meaning.EpochText.{Satellite, names_in}
 use Rattle.crx_compact.proofs.Naming.{named-all, named-bad, named-more, named-twice, next-name}
 use Rattle.crx_compact.proofs.refusals.fault_of_names.Goals as goal

@@ -1,5 +1,5 @@
 use Rattle.std.proofs.Common.{◌*◌, ◌-◌, ◌++◌, List, ℕ, length, replicate, sym, ap, ◌∙◌, subst}
-use Rattle.crx_columns.proofs.Blanks.{columns_are}
+use Rattle.crx_text.proofs.Blanks.{columns_are}
 use Rattle.crx_compact.specs.HeldRows.{AreHeldFlags}
 use Rattle.crx_compact.proofs.SoundTexts.{columns-held}
 use Rattle.crx_compact.proofs.satellite.put_columns.Goals as goal

@@ -1,6 +1,6 @@
 use Rattle.std.proofs.Common.{sym, ap, ◌∙◌}
 use Rattle.std.specs.List.{list_all}
-use Rattle.crx_columns.specs.meaning.Texts.{is_kept}
+use Rattle.crx_text.specs.meaning.Texts.{is_kept}
 use Rattle.crx_compact.proofs.Marks.{patched-kept}
 use Rattle.crx_compact.proofs.satellite.read_marks.Goals as goal
 

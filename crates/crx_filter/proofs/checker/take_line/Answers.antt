@@ -2,18 +2,18 @@ use Rattle.std.proofs.Common.{◌≡◌, ℕ, true, false, List, [], Result, Ok,
 use Rattle.std.proofs.Common.{subst, ◌∙◌, arith}
 use Rattle.std.specs.Prelude.{OnOk, IfOk}
 use Rattle.std.proofs.lemmas.Bool.{false≢true}
-use Rattle.crx_faults.specs.declared.fault.Fault.{Fault}
+use Rattle.crx_base.specs.declared.fault.Fault.{Fault}
 use Rattle.crx_rinex.specs.meaning.EpochPlaces.{OpenEpoch}
 use Rattle.crx_rinex.specs.meaning.Observations.{Epoch as ObservationEpoch, Row as ObservationRow}
-use Rattle.crx_reading.specs.CompactionByLine.{Written}
-use Rattle.crx_reading.specs.LineByLine.{Made}
-use Rattle.crx_reading.specs.RinexStages.{is_open_stage}
-use Rattle.crx_reading.specs.RinexReaders.{is_row, made_at, TakesRinexLine}
-use Rattle.crx_reading.specs.Totals.{IsCounting}
-use Rattle.crx_reading.specs.declared.rinex_reader.RinexReader.{RinexReader}
-use Rattle.crx_reading.specs.declared.rinex_reader.RinexStep.{RinexStep}
-use Rattle.crx_reading.specs.declared.rinex_reader.RinexStep.TheVariants.{Nothing, Header, Event, Record}
-use Rattle.crx_reading.specs.declared.rinex_reader.RinexStep.TheVariants.{Begun, Row, Epoch}
+use Rattle.crx_filter.specs.CompactionByLine.{Written}
+use Rattle.crx_filter.specs.LineByLine.{Made}
+use Rattle.crx_filter.specs.RinexStages.{is_open_stage}
+use Rattle.crx_filter.specs.RinexReaders.{is_row, made_at, TakesRinexLine}
+use Rattle.crx_filter.specs.Totals.{IsCounting}
+use Rattle.crx_filter.specs.declared.rinex_reader.RinexReader.{RinexReader}
+use Rattle.crx_filter.specs.declared.rinex_reader.RinexStep.{RinexStep}
+use Rattle.crx_filter.specs.declared.rinex_reader.RinexStep.TheVariants.{Nothing, Header, Event, Record}
+use Rattle.crx_filter.specs.declared.rinex_reader.RinexStep.TheVariants.{Begun, Row, Epoch}
 use Rattle.crx_filter.specs.CheckerState.{AreNamed}
 use Rattle.crx_filter.proofs.checker.take_line.Goals as goal
 

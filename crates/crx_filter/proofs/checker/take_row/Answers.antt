@@ -5,9 +5,9 @@ use Rattle.crx_header.specs.meaning.Satellites.{is_among}
 use Rattle.crx_rinex.specs.meaning.Epochs.{has_satellite}
 use Rattle.crx_rinex.specs.meaning.Observations.{Row}
 use Rattle.crx_rinex.specs.meaning.SatelliteLines.{row_of}
-use Rattle.crx_reading.specs.RinexReaders.{IsSameReader}
-use Rattle.crx_reading.specs.RinexStages.{is_open_stage}
-use Rattle.crx_reading.specs.declared.rinex_reader.RinexReader.{RinexReader}
+use Rattle.crx_filter.specs.RinexReaders.{IsSameReader}
+use Rattle.crx_filter.specs.RinexStages.{is_open_stage}
+use Rattle.crx_filter.specs.declared.rinex_reader.RinexReader.{RinexReader}
 use Rattle.crx_filter.specs.CheckerState.{AreNamed}
 use Rattle.crx_rinex.proofs.Rows.{by_names}
 use Rattle.crx_filter.proofs.steps.RowSteps.{taken-from}

@@ -1,5 +1,5 @@
-use Rattle.crx_reading.specs.meaning.Directions.{check_filter}
-use Rattle.crx_reading.specs.meaning.Standard.{checked}
+use Rattle.crx_filter.specs.meaning.Directions.{check_filter}
+use Rattle.crx_filter.specs.meaning.Standard.{checked}
 use Rattle.crx_filter.specs.meaning.Lossless.{SaysThatItComesBack}
 use Rattle.crx_filter.specs.meaning.Promises.{JudgesStandard}
 use Rattle.crx_runs.specs.meaning.Spans.{Input, reader_span, Device, span}

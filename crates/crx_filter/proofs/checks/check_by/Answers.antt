@@ -1,14 +1,14 @@
 use Rattle.std.proofs.Common.{◌≡◌, ℕ, List, [], ◌++◌, Option, Some, None, ap, sym, subst, ◌∙◌}
 use Rattle.std.proofs.lemmas.List.{append-nil}
-use Rattle.crx_faults.specs.meaning.Lines.{lines_of}
-use Rattle.crx_faults.specs.declared.fault.At.{At}
+use Rattle.crx_base.specs.meaning.Lines.{lines_of}
+use Rattle.crx_base.specs.declared.fault.At.{At}
 use Rattle.crx_runs.specs.Runs.{result_by}
 use Rattle.crx_runs.specs.meaning.Results.{result_of_course}
 use Rattle.crx_runs.specs.meaning.Runs.{IsResult, RunsAs}
 use Rattle.crx_runs.specs.meaning.Spans.{Input, reader_span, Device, span}
-use Rattle.crx_reading.specs.meaning.Directions.{check_filter, report_unless}
-use Rattle.crx_reading.specs.meaning.Standard.{Findings, checked, checked_by, findings_of, report_status}
-use Rattle.crx_reading.specs.meaning.Standard.{whole_of}
+use Rattle.crx_filter.specs.meaning.Directions.{check_filter, report_unless}
+use Rattle.crx_filter.specs.meaning.Standard.{Findings, checked, checked_by, findings_of, report_status}
+use Rattle.crx_filter.specs.meaning.Standard.{whole_of}
 use Rattle.crx_filter.proofs.following.CheckLawful.{check-lawful}
 use Rattle.crx_filter.proofs.checks.check_by.Goals as goal
 

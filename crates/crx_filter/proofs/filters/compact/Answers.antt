@@ -1,11 +1,11 @@
 use Rattle.std.proofs.Common.{◌≡◌, ℕ, List, [], ap}
 use Rattle.crx_rinex.specs.meaning.EpochPlaces.{OpenEpoch}
-use Rattle.crx_reading.specs.LineByLine.{Seen}
-use Rattle.crx_reading.specs.CompactionByLine.{Written, compaction_seen}
+use Rattle.crx_filter.specs.LineByLine.{Seen}
+use Rattle.crx_filter.specs.CompactionByLine.{Written, compaction_seen}
 use Rattle.crx_filter.specs.CompactorState.{compactor_seen}
 use Rattle.crx_filter.specs.declared.compactor.Compactor.{Compactor}
-use Rattle.crx_reading.specs.meaning.Compacted.{compacted}
-use Rattle.crx_reading.specs.meaning.Directions.{compaction_filter}
+use Rattle.crx_filter.specs.meaning.Compacted.{compacted}
+use Rattle.crx_filter.specs.meaning.Directions.{compaction_filter}
 use Rattle.crx_runs.specs.meaning.Spans.{Input, reader_span, Device, span}
 use Rattle.std.proofs.lemmas.Result.{IfOk-weaker}
 use Rattle.crx_filter.proofs.following.Lawful.{compaction-lawful}

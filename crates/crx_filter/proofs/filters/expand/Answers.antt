@@ -1,17 +1,17 @@
 use Rattle.std.proofs.Common.{◌≡◌, ℕ, List, [], Option, ap}
 use Rattle.crx_compact.specs.OpenEpochs.{OpenRawEpoch}
 use Rattle.crx_compact.specs.Tails.{Tail}
-use Rattle.crx_reading.specs.ExpansionByLine.{expansion_seen}
+use Rattle.crx_filter.specs.ExpansionByLine.{expansion_seen}
 use Rattle.crx_filter.specs.meaning.Lossless.{BringsBackWhatPasses}
 use Rattle.crx_filter.specs.meaning.UnitsAndText.{ReadsUnits}
 use Rattle.crx_filter.proofs.standard.Lossless.{brings-back_passed}
 use Rattle.crx_filter.proofs.wayback.ExpandedStandard.{wrote-standard}
 use Rattle.crx_filter.proofs.wayback.Units.{reads-units}
 use Rattle.crx_filter.specs.declared.expander.Expander.{Expander}
-use Rattle.crx_reading.specs.LineByLine.{Seen}
-use Rattle.crx_reading.specs.meaning.Expanded.{expanded}
+use Rattle.crx_filter.specs.LineByLine.{Seen}
+use Rattle.crx_filter.specs.meaning.Expanded.{expanded}
 use Rattle.crx_filter.specs.ExpanderState.{expander_state}
-use Rattle.crx_reading.specs.meaning.Directions.{expansion_filter}
+use Rattle.crx_filter.specs.meaning.Directions.{expansion_filter}
 use Rattle.crx_runs.specs.meaning.Spans.{Input, reader_span, Device, span}
 use Rattle.std.proofs.lemmas.Result.{IfOk-weaker}
 use Rattle.crx_filter.proofs.following.Lawful.{expansion-lawful}

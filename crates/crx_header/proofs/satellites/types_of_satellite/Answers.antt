@@ -1,7 +1,7 @@
 use Rattle.std.proofs.Common.{◌≡◌, true, ap, sym, ◌∙◌}
 use Rattle.std.proofs.lemmas.Option.{IfSome_then}
 use Rattle.std.proofs.lemmas.Bool.{and_from}
-use Rattle.crx_columns.specs.meaning.Columns.{character_at}
+use Rattle.crx_text.specs.meaning.Columns.{character_at}
 use Rattle.crx_header.specs.meaning.ObservationTypes.{is_system}
 use Rattle.crx_header.specs.meaning.Satellites.{has_number}
 use Rattle.crx_header.proofs.FirstColumns.{identifier_columns}

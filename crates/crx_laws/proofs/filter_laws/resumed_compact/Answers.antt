@@ -1,6 +1,6 @@
 use Rattle.crx_filter.proofs.reading.Resuming.{resumed}
 use Rattle.crx_filter.proofs.reading.ForwardCompact.{compact-forward}
-use Rattle.crx_reading.specs.meaning.Expanded.{compact_place}
+use Rattle.crx_filter.specs.meaning.Expanded.{compact_place}
 use Rattle.crx_laws.proofs.filter_laws.resumed_compact.Goals as goal
 
 pub returns : goal.returns

@@ -1,4 +1,4 @@
-use Rattle.crx_reading.specs.meaning.Compacted.{rinex_place}
+use Rattle.crx_filter.specs.meaning.Compacted.{rinex_place}
 use Rattle.crx_filter.proofs.reading.WhatWasRead.{items-read, compact-items-read}
 use Rattle.crx_laws.proofs.filter_laws.what_was_read.Goals as goal
 

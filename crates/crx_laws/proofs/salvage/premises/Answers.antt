@@ -6,7 +6,7 @@ use Rattle.std.proofs.Common.{codes}
 use Rattle.std.specs.Fmt.{digits}
 use Rattle.crx_text.specs.meaning.Codes.{coded_number}
 use Rattle.crx_text.specs.meaning.Numbers.{size_of, number_of, number_text}
-use Rattle.crx_reading.specs.meaning.Damage.{may_replace}
+use Rattle.crx_filter.specs.meaning.Damage.{may_replace}
 use Rattle.crx_laws.specs.SmallFiles.{blanks, line_at, file_of_five, with_event, plain_choices}
 use Rattle.crx_laws.specs.SmallFiles.{in_full_every_second, epoch_at_second, header_items, first_block}
 use Rattle.crx_laws.specs.SmallFiles.{damaged_by, other_block, last_damaged_by, damaged_before_event}

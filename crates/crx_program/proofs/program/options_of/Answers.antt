@@ -1,6 +1,6 @@
 use Rattle.std.proofs.Common.{◌≡◌, ◌∙◌, ℕ, Bool, List, Option, None, Some, ap, inr, string_bytes}
 use Rattle.jiff.specs.declared.timestamp.Timestamp.{Timestamp}
-use Rattle.crx_options.specs.meaning.Choices.{Choices, choices_of, is_date}
+use Rattle.crx_base.specs.meaning.Choices.{Choices, choices_of, is_date}
 use Rattle.crx_command.specs.meaning.Dates.{IsDateText}
 use Rattle.crx_command.specs.declared.job.Tool.{Tool}
 use Rattle.crx_command.specs.declared.job.Tool.TheVariants.{Compact}

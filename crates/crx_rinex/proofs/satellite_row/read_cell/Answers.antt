@@ -1,7 +1,7 @@
 use Rattle.std.proofs.Common.{◌≡◌, ℕ, ◌+◌, ◌*◌, ◌-◌, ap, sym, ◌∙◌, arith}
 use Rattle.std.specs.Prelude.{slice_set}
 use Rattle.std.proofs.lemmas.List.{get_or_past}
-use Rattle.crx_columns.specs.meaning.Columns.{character_at}
+use Rattle.crx_text.specs.meaning.Columns.{character_at}
 use Rattle.crx_text.specs.meaning.Numbers.{observation_of}
 use Rattle.crx_rinex.proofs.Cells.{field_past, read_inside}
 use Rattle.crx_rinex.proofs.satellite_row.read_cell.Goals as goal

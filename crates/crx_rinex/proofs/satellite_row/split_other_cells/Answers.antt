@@ -2,7 +2,7 @@ use Rattle.std.proofs.Common.{ℤ, ◌+◌, ◌*◌, ◌<◌, List, Option, Some
 use Rattle.std.proofs.Common.{◌++◌, ◌∷◌, [], refl, ◌≡◌, ℕ}
 use Rattle.std.proofs.lemmas.List.{take_more_set, take_all, length-set}
 use Rattle.std.proofs.lemmas.List.Elements.{All-push, All-same}
-use Rattle.crx_columns.specs.meaning.Columns.{character_at}
+use Rattle.crx_text.specs.meaning.Columns.{character_at}
 use Rattle.crx_text.specs.meaning.Numbers.{IsValue}
 use Rattle.crx_rinex.specs.meaning.SatelliteLines.{flags_in, values_in}
 use Rattle.crx_rinex.proofs.Cells.{values_in_none, values_in_more, pair_pushed}

@@ -3,7 +3,7 @@ use Rattle.std.proofs.Common.{arith, ◌++◌, ◌∷◌, [], refl}
 use Rattle.std.proofs.lemmas.List.{take_more_set, take-set, length-set}
 use Rattle.std.proofs.lemmas.List.Elements.{All-push, All-same}
 use Rattle.crx_text.specs.meaning.Numbers.{observation_of, IsValue}
-use Rattle.crx_columns.specs.meaning.Columns.{character_at}
+use Rattle.crx_text.specs.meaning.Columns.{character_at}
 use Rattle.crx_rinex.proofs.Cells.{values_in_more, pair_pushed, read_inside}
 use Rattle.crx_rinex.proofs.satellite_row.split_plain_cells.Goals as goal
 

@@ -5,7 +5,7 @@ use Rattle.std.specs.Bool.{OnTrue}
 use Rattle.std.specs.List.{list_all}
 use Rattle.std.proofs.lemmas.Bool.{leb-true}
 use Rattle.std.proofs.lemmas.List.{get_or_past, length-set, set-get_or, take_all, take_more_set, drop_all}
-use Rattle.crx_columns.specs.meaning.Columns.{is_blank}
+use Rattle.crx_text.specs.meaning.Columns.{is_blank}
 use Rattle.std.proofs.lemmas.List.Elements.{All-push, All-same}
 use Rattle.crx_text.specs.meaning.Numbers.{observation_of, IsValue}
 use Rattle.crx_rinex.specs.meaning.SatelliteLines.{field, flags_in, values_in}

@@ -1,7 +1,7 @@
 use Rattle.std.proofs.Common.{◌≡◌, ℕ, ◌+◌, List, [], ◌∷◌, ◌++◌, length, take, drop, sym, ap, subst, ◌∙◌, append_assoc}
-use Rattle.crx_faults.specs.meaning.Lines.{InputLine}
+use Rattle.crx_base.specs.meaning.Lines.{InputLine}
 use Rattle.crx_runs.specs.Engines.{Awaited}
-use Rattle.crx_faults.specs.meaning.Lines.{lines_text}
+use Rattle.crx_base.specs.meaning.Lines.{lines_text}
 use Rattle.crx_runs.proofs.output.ReadyLines.{first-and-rest, one-written, part-written}
 use Rattle.crx_runs.proofs.ready.write_lines.Goals as goal
 

@@ -1,7 +1,7 @@
 use Rattle.std.proofs.Common.{◌≡◌, ℕ, List, ◌++◌, length}
-use Rattle.crx_faults.specs.meaning.Lines.{InputLine}
+use Rattle.crx_base.specs.meaning.Lines.{InputLine}
 use Rattle.crx_runs.specs.Engines.{Awaited}
-use Rattle.crx_faults.specs.meaning.Lines.{lines_text}
+use Rattle.crx_base.specs.meaning.Lines.{lines_text}
 use Rattle.crx_runs.proofs.ready.write_lines.Given as goal
 
 abbrev pub invariant-loop-line : goal.invariant-loop-line

@@ -1,7 +1,7 @@
 use Rattle.std.proofs.Common.{◌≡◌, inl, inr, ℕ, ◌+◌, List, Ok, refl, sym, ap, subst, ◌∙◌}
 use Rattle.std.proofs.lemmas.Result.{err_from_is_err_and}
 use Rattle.crx_lines.specs.meaning.Devices.{tally_of}
-use Rattle.crx_faults.specs.meaning.Lines.{InputLine}
+use Rattle.crx_base.specs.meaning.Lines.{InputLine}
 use Rattle.crx_lines.specs.Readers.{reading}
 use Rattle.crx_lines.specs.Reading.{ReaderState, line_shown, line_number}
 use Rattle.crx_lines.specs.Progress.{HasRead}

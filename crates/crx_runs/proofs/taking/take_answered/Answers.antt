@@ -1,6 +1,6 @@
 use Rattle.std.proofs.Common.{◌+◌, length, List, [], ◌∷◌, refl, ap, sym, subst, ◌∙◌}
 use Rattle.std.proofs.lemmas.Result.{err_from_is_err_and}
-use Rattle.crx_faults.specs.meaning.Lines.{InputLine}
+use Rattle.crx_base.specs.meaning.Lines.{InputLine}
 use Rattle.crx_runs.specs.declared.taking.Once.{Once}
 use Rattle.crx_runs.specs.meaning.Filters.{with_next}
 use Rattle.crx_runs.specs.meaning.Spans.{Device, span}

@@ -1,7 +1,7 @@
 use Rattle.std.proofs.Common.{◌≡◌, Bool, List, [], Result, IfOk, refl, sym, subst}
-use Rattle.crx_faults.specs.meaning.Lines.{InputLine}
+use Rattle.crx_base.specs.meaning.Lines.{InputLine}
 use Rattle.crx_lines.specs.Reading.{line_shown}
-use Rattle.crx_faults.specs.declared.fault.At.{At}
+use Rattle.crx_base.specs.declared.fault.At.{At}
 use Rattle.crx_runs.specs.declared.engine.Step.{Step}
 use Rattle.crx_runs.specs.Engines.{EngineAnswers, IsDrainedAfter, answer_given, taken_after}
 use Rattle.crx_runs.proofs.taking.take_line.Goals as goal

@@ -1,5 +1,5 @@
 use Rattle.std.proofs.Common.{List}
-use Rattle.crx_faults.specs.meaning.Lines.{InputLine}
+use Rattle.crx_base.specs.meaning.Lines.{InputLine}
 use Rattle.crx_runs.specs.Engines.{Awaited}
 use Rattle.crx_runs.proofs.taking.take_once.Goals as goal
 

@@ -5,7 +5,7 @@ use Rattle.std.specs.Str.{all_ascii_digits}
 use Rattle.std.specs.Str.Parse.{digits_value_after, starts_with_minus}
 use mir.Val.{SFits}
 use Rattle.crx_text.specs.meaning.Numbers.{signed_number}
-use Rattle.crx_faults.specs.declared.limits.TheConstants.{DIGITS_LIMIT}
+use Rattle.crx_base.specs.declared.limits.TheConstants.{DIGITS_LIMIT}
 use Rattle.crx_text.proofs.CodeReads.{coded_number_counted, coded_number_fitting, no_number, a_number}
 use Rattle.crx_text.proofs.CodeReads.{nat_abs-signed_number, few_digits_small}
 use Rattle.crx_text.proofs.PowersOfTen.{more_digits_fit}

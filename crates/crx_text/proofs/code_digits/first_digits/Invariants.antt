@@ -2,7 +2,7 @@ use Rattle.std.proofs.Common.{◌≡◌, ◌+◌, ◌-◌, ◌<◌, ◌≤◌, �
 use Rattle.std.specs.Str.{all_ascii_digits}
 use Rattle.std.specs.Str.Parse.{digits_value_after}
 use Rattle.crx_text.specs.meaning.Codes.{after_cell, first_cell}
-use Rattle.crx_faults.specs.declared.limits.TheConstants.{DIGITS_LIMIT}
+use Rattle.crx_base.specs.declared.limits.TheConstants.{DIGITS_LIMIT}
 use Rattle.crx_text.proofs.code_digits.first_digits.Given as goal
 
 -- the rest of the cell decides, and goes on from the number so far

@@ -3,7 +3,7 @@ use Rattle.std.proofs.lemmas.Bool.Decides.{nat_tests}
 use Rattle.std.proofs.lemmas.Int.{to_z-of_z}
 use Rattle.std.specs.Option.{option_map}
 use mir.Val.{SFits}
-use Rattle.crx_columns.specs.meaning.Columns.{without_first_blanks}
+use Rattle.crx_text.specs.meaning.Columns.{without_first_blanks}
 use Rattle.crx_text.specs.meaning.Numbers.{missing_or_number}
 use Rattle.crx_text.proofs.Sizes.{IsWithin_more, number_of_width}
 use Rattle.crx_text.proofs.Sizes.{missing_or_number_blank, missing_or_number_text}

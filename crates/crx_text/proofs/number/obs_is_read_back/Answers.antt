@@ -1,5 +1,5 @@
 use Rattle.std.proofs.Common.{arith}
-use Rattle.crx_faults.specs.declared.limits.TheConstants.{OBSERVATION_WIDTH, OBSERVATION_DECIMALS}
+use Rattle.crx_base.specs.declared.limits.TheConstants.{OBSERVATION_WIDTH, OBSERVATION_DECIMALS}
 use Rattle.crx_text.proofs.ReadBack.{number_of-number_text}
 use Rattle.crx_text.proofs.number.obs_is_read_back.Goals as goal
 

@@ -5,7 +5,7 @@ use Rattle.std.proofs.lemmas.List.{length-set, length-take-le, length-drop, take
 use lib.Seq.{take-append-add}
 use Rattle.std.proofs.lemmas.Slice.{take-put_mid}
 use borrow.Rule.Slice.PartMut.{put_mid, same_len_mid}
-use Rattle.crx_faults.specs.declared.limits.TheConstants.{CELL_WIDTH}
+use Rattle.crx_base.specs.declared.limits.TheConstants.{CELL_WIDTH}
 use Rattle.crx_text.proofs.number.obs_print_cell_into.Goals as goal
 
 -- the first 14 bytes of a part of some bytes

@@ -1,5 +1,5 @@
 use Rattle.std.proofs.Common.{IfErr, OnOk, sym, subst}
-use Rattle.crx_faults.specs.meaning.Lines.{lines_of}
+use Rattle.crx_base.specs.meaning.Lines.{lines_of}
 use Rattle.rnxcmp_c.specs.Going.{IsAll, IsGoing, RunFails}
 use Rattle.rnxcmp_c.specs.meaning.Handles.{HandlePast}
 use Rattle.rnxcmp_c.specs.Handles.{engine_filter, shows_of}

@@ -1,6 +1,6 @@
 use Rattle.std.proofs.Common.{Some, length, subst}
-use Rattle.crx_options.specs.meaning.Choices.{Choices, choices_of}
-use Rattle.crx_reading.specs.meaning.Compacted.{compacted}
+use Rattle.crx_base.specs.meaning.Choices.{Choices, choices_of}
+use Rattle.crx_filter.specs.meaning.Compacted.{compacted}
 use Rattle.rnxcmp_c.specs.Collecting.{HasNone, IsRun}
 use Rattle.rnxcmp_c.specs.meaning.Answers.{ExceedsLimit, rooms}
 use Rattle.rnxcmp_c.proofs.Kept.{answers-none, answers-run}

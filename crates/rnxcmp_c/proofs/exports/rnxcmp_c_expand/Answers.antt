@@ -1,9 +1,9 @@
 use Rattle.std.proofs.Common.{map, subst, sym, ◌∙◌}
-use Rattle.crx_faults.specs.meaning.Lines.{lines_of}
-use Rattle.crx_faults.specs.meaning.Seen.{seen}
-use Rattle.crx_reading.specs.meaning.Expanded.{expanded, expanded_unit, whole_compact}
+use Rattle.crx_base.specs.meaning.Lines.{lines_of}
+use Rattle.crx_base.specs.meaning.Seen.{seen}
+use Rattle.crx_filter.specs.meaning.Expanded.{expanded, expanded_unit, whole_compact}
 use Rattle.crx_runs.specs.meaning.Results.{FilterResult}
-use Rattle.crx_reading.specs.meaning.Written.{result_of}
+use Rattle.crx_filter.specs.meaning.Written.{result_of}
 use Rattle.rnxcmp_c.proofs.Lossless.{brings-back_passed}
 use Rattle.crx_filter.proofs.stretches.StretchesSaved.{rest-kept, whole-first}
 use Rattle.rnxcmp_c.specs.meaning.Answers.{AnswersWithin, rooms}

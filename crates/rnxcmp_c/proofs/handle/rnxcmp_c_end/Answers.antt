@@ -1,5 +1,5 @@
 use Rattle.std.proofs.Common.{ℕ, [], ◌∷◌, sym, ap, ◌∙◌, subst}
-use Rattle.crx_options.specs.meaning.Choices.{Choices}
+use Rattle.crx_base.specs.meaning.Choices.{Choices}
 use Rattle.rnxcmp_c.specs.Handles.{ReaderStands}
 use Rattle.rnxcmp_c.specs.meaning.Handles.{HandlePast, Task, Expand, Check}
 use Rattle.rnxcmp_c.specs.Handles.{IsLastLine}

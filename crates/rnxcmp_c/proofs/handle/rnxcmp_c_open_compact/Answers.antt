@@ -1,10 +1,10 @@
 use Rattle.std.proofs.Common.{◌≡◌, [], sym, ap, ◌∙◌}
 use Rattle.crx_rinex.specs.meaning.EpochPlaces.{OpenEpoch}
-use Rattle.crx_reading.specs.CompactionByLine.{Written, compaction_seen}
+use Rattle.crx_filter.specs.CompactionByLine.{Written, compaction_seen}
 use Rattle.crx_filter.specs.CompactorState.{compactor_seen}
-use Rattle.crx_reading.specs.meaning.Directions.{compaction_filter}
-use Rattle.crx_reading.specs.LineByLine.{Seen}
-use Rattle.crx_options.specs.meaning.Choices.{Choices}
+use Rattle.crx_filter.specs.meaning.Directions.{compaction_filter}
+use Rattle.crx_filter.specs.LineByLine.{Seen}
+use Rattle.crx_base.specs.meaning.Choices.{Choices}
 use Rattle.rnxcmp_c.specs.meaning.Handles.{Compact}
 use Rattle.rnxcmp_c.proofs.handle.rnxcmp_c_open_compact.Goals as goal
 

@@ -1,10 +1,10 @@
 use Rattle.std.proofs.Common.{◌≡◌, [], Option, sym, ap, ◌∙◌}
 use Rattle.crx_compact.specs.OpenEpochs.{OpenRawEpoch}
 use Rattle.crx_compact.specs.Tails.{Tail}
-use Rattle.crx_reading.specs.meaning.Directions.{expansion_filter}
-use Rattle.crx_reading.specs.ExpansionByLine.{expansion_seen}
-use Rattle.crx_reading.specs.LineByLine.{Seen}
-use Rattle.crx_options.specs.meaning.Choices.{Choices}
+use Rattle.crx_filter.specs.meaning.Directions.{expansion_filter}
+use Rattle.crx_filter.specs.ExpansionByLine.{expansion_seen}
+use Rattle.crx_filter.specs.LineByLine.{Seen}
+use Rattle.crx_base.specs.meaning.Choices.{Choices}
 use Rattle.rnxcmp_c.specs.meaning.Handles.{Expand}
 use Rattle.rnxcmp_c.proofs.handle.rnxcmp_c_open_expand.Goals as goal
 

@@ -1,5 +1,5 @@
 use Rattle.std.proofs.Common.{ℕ, List, [], ◌∷◌, length, take, drop, sym, ap, ◌∙◌, subst}
-use Rattle.crx_options.specs.meaning.Choices.{Choices}
+use Rattle.crx_base.specs.meaning.Choices.{Choices}
 use Rattle.rnxcmp_c.specs.Handles.{IsLineReached, ReaderStands, state_now}
 use Rattle.rnxcmp_c.specs.meaning.Handles.{HandlePast, Task, Expand, Check, taken_with}
 use Rattle.rnxcmp_c.specs.Opened.{messages_kept, output_kept, run_in}

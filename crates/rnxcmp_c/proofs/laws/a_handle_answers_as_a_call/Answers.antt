@@ -1,5 +1,5 @@
 use Rattle.std.proofs.Common.{◌≡◌, ◌≤◌, inl, inr, ⊎_elim, ℕ, List, length, arith, refl, sym, ap, ◌∙◌, subst}
-use Rattle.crx_faults.specs.meaning.Faults.{code_of_fault}
+use Rattle.crx_base.specs.meaning.Faults.{code_of_fault}
 use Rattle.crx_runs.specs.meaning.Results.{FilterResult}
 use Rattle.rnxcmp_c.specs.declared.answer.Answer.{Answer}
 use Rattle.rnxcmp_c.specs.meaning.Answers.{BothTexts, ExceedsLimit, fault_code_in, line_in, placed}

@@ -1,6 +1,6 @@
 use Rattle.std.proofs.Common.{ℕ, List, [], ◌++◌}
-use Rattle.crx_faults.specs.meaning.Lines.{InputLine, lines_of}
-use Rattle.crx_faults.specs.declared.fault.At.{At}
+use Rattle.crx_base.specs.meaning.Lines.{InputLine, lines_of}
+use Rattle.crx_base.specs.declared.fault.At.{At}
 use Rattle.crx_lines.proofs.ProgressLemmas.{ended_lines-come_first}
 use Rattle.rnxcmp_c.specs.meaning.Handles.{Task}
 use Rattle.rnxcmp_c.proofs.PromiseLemmas.{messages-own, output-first}

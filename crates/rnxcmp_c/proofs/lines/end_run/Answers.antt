@@ -1,6 +1,6 @@
 use Rattle.std.proofs.Common.{List, ap}
 use Rattle.std.proofs.lemmas.Result.{err_from_is_err_and}
-use Rattle.crx_faults.specs.meaning.Lines.{InputLine}
+use Rattle.crx_base.specs.meaning.Lines.{InputLine}
 use Rattle.crx_lines.specs.meaning.Devices.{SinkTally}
 use Rattle.rnxcmp_c.proofs.Cut.{halted-stops}
 use Rattle.rnxcmp_c.proofs.lines.end_run.Goals as goal

@@ -1,6 +1,6 @@
 use Rattle.std.proofs.Common.{ℕ, ◌≤◌, List, None, length, sym, subst}
 use Rattle.std.proofs.lemmas.Result.{IfErr-weaker, on_ok_weaker}
-use Rattle.crx_faults.specs.meaning.Lines.{InputLine}
+use Rattle.crx_base.specs.meaning.Lines.{InputLine}
 use Rattle.rnxcmp_c.specs.Waiting.{waiting}
 use Rattle.rnxcmp_c.proofs.WithinLemmas.{more-messages-either, more-output-either, step-stays, step-stops}
 use Rattle.rnxcmp_c.proofs.lines.end_within.Goals as goal

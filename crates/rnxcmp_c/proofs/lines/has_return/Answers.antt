@@ -1,5 +1,5 @@
 use Rattle.std.proofs.Common.{sym, ap, ◌∙◌}
-use Rattle.crx_faults.specs.meaning.Lines.{ends_with_return}
+use Rattle.crx_base.specs.meaning.Lines.{ends_with_return}
 use Rattle.crx_lines.proofs.ReturnLemmas.{ends_with_return-push}
 use Rattle.rnxcmp_c.proofs.lines.has_return.Goals as goal
 

@@ -2,8 +2,8 @@ use Rattle.std.proofs.Common.{◌≡◌, ℕ, ◌+◌, ◌<◌, List, [], ◌∷
 use Rattle.std.proofs.Common.{false, ◌∙◌, arith, length-append, length-take}
 use Rattle.rnxcmp_c.specs.declared.limits.TheConstants.{LINE_ROOM}
 use Rattle.std.proofs.lemmas.Result.{on_ok_weaker, IfErr-weaker, err_from_is_err_and}
-use Rattle.crx_faults.specs.meaning.Lines.{InputLine}
-use Rattle.crx_faults.specs.meaning.Seen.{ended_lines_of}
+use Rattle.crx_base.specs.meaning.Lines.{InputLine}
+use Rattle.crx_base.specs.meaning.Seen.{ended_lines_of}
 use Rattle.crx_runs.specs.meaning.Filters.{Filter, with_next}
 use Rattle.rnxcmp_c.specs.Going.{MovesWithin, StepStops, piece_line}
 use Rattle.rnxcmp_c.specs.meaning.Handles.{HandlePast}

@@ -1,6 +1,6 @@
 use Rattle.std.proofs.Common.{◌≡◌, ℕ, ◌+◌, ◌-◌, List, [], ◌∷◌, ◌++◌, length, take, drop, refl, sym, ap, ◌∙◌, subst, arith}
 use Rattle.std.proofs.lemmas.List.{take_all, take_more}
-use Rattle.crx_faults.specs.meaning.Seen.{ended_lines_of}
+use Rattle.crx_base.specs.meaning.Seen.{ended_lines_of}
 use Rattle.crx_lines.specs.Reading.{HasNoFeed}
 use Rattle.rnxcmp_c.specs.Going.{RunBreaks, IsGoing}
 use Rattle.rnxcmp_c.specs.meaning.Handles.{HandlePast, fed_with}

@@ -1,6 +1,6 @@
 use Rattle.std.proofs.Common.{ℕ, List, ◌∙◌}
 use Rattle.std.proofs.lemmas.Result.{err_from_is_err_and}
-use Rattle.crx_faults.specs.meaning.Lines.{InputLine}
+use Rattle.crx_base.specs.meaning.Lines.{InputLine}
 use Rattle.rnxcmp_c.proofs.lines.take_piece.Goals as goal
 
 pub returns-in_err-warned-clause-stops : goal.returns-in_err-warned-clause-stops

@@ -1,7 +1,7 @@
 use Rattle.std.proofs.Common.{List, ℕ, refl, sym, ◌∙◌, arith}
 use Rattle.std.proofs.lemmas.Result.{IfErr-weaker, IfOk-weaker}
-use Rattle.crx_reading.specs.meaning.Standard.{checked}
-use Rattle.crx_reading.specs.meaning.Directions.{check_filter}
+use Rattle.crx_filter.specs.meaning.Standard.{checked}
+use Rattle.crx_filter.specs.meaning.Directions.{check_filter}
 use Rattle.rnxcmp_c.specs.meaning.Handles.{Check}
 use Rattle.rnxcmp_c.proofs.ReaderLemmas.{lawful-for, output-for}
 use Rattle.rnxcmp_c.proofs.RunLemmas.{none-of, none-over, run-of}

@@ -1,7 +1,7 @@
 use Rattle.std.proofs.Common.{List, ℕ, refl, sym, ◌∙◌, arith}
 use Rattle.std.proofs.lemmas.Result.{IfErr-weaker, IfOk-weaker}
-use Rattle.crx_reading.specs.meaning.Expanded.{expanded}
-use Rattle.crx_reading.specs.meaning.Directions.{expansion_filter}
+use Rattle.crx_filter.specs.meaning.Expanded.{expanded}
+use Rattle.crx_filter.specs.meaning.Directions.{expansion_filter}
 use Rattle.rnxcmp_c.specs.meaning.Handles.{Expand}
 use Rattle.rnxcmp_c.proofs.ReaderLemmas.{lawful-for, output-for}
 use Rattle.rnxcmp_c.proofs.RunLemmas.{none-of, run-of}

@@ -1,7 +1,7 @@
 use Rattle.std.proofs.Common.{rules, ◌≡◌, ℤ, ap, ◌∙◌, Option, Result, Ok, Err}
 use Rattle.std.specs.Prelude.{OnOk, OnErr, if◌then◌else◌}
 use Rattle.std.specs.Result.{is_ok}
-use Rattle.crx_faults.specs.declared.fault.Fault.{Fault}
+use Rattle.crx_base.specs.declared.fault.Fault.{Fault}
 use Rattle.crx_compact.specs.ArcTails.{ArcTail}
 use Rattle.crx_compact.specs.ArcSteps.{value_of_code, arc_of_code}
 use Rattle.crx_compact.proofs.arcs.Arcs.{values-of_codes}

@@ -1,8 +1,8 @@
 use Rattle.std.proofs.Common.{rules, ◌≡◌, ◌<◌, ◌+◌, ℤ, true, length, take, sym, ap, ◌∙◌}
 use Rattle.std.proofs.Common.{FitsSigned, w64, Some, Result, Ok, Err, Option}
 use Rattle.std.specs.Prelude.{if◌then◌else◌}
-use Rattle.crx_faults.specs.declared.fault.Fault.{Fault}
-use Rattle.crx_faults.specs.declared.fault.Fault.TheVariants.{OutOfRange}
+use Rattle.crx_base.specs.declared.fault.Fault.{Fault}
+use Rattle.crx_base.specs.declared.fault.Fault.TheVariants.{OutOfRange}
 use Rattle.crx_compact.specs.meaning.ArcValues.{is_within, in_range}
 use Rattle.crx_compact.specs.ArcSteps.{differences_after}
 use Rattle.crx_compact.specs.Arcs.{kept_tail}

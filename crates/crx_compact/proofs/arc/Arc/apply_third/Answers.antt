@@ -1,8 +1,8 @@
 use Rattle.std.proofs.Common.{rules, ◌≡◌, [], ◌∷◌, ℕ, ℤ, true, take, sym, ap, subst, ◌∙◌, arith, FitsSigned, w64}
 use Rattle.std.proofs.Common.{Some, Result, Ok, Err, Option}
 use Rattle.std.specs.Prelude.{if◌then◌else◌}
-use Rattle.crx_faults.specs.declared.fault.Fault.{Fault}
-use Rattle.crx_faults.specs.declared.fault.Fault.TheVariants.{OutOfRange}
+use Rattle.crx_base.specs.declared.fault.Fault.{Fault}
+use Rattle.crx_base.specs.declared.fault.Fault.TheVariants.{OutOfRange}
 use Rattle.crx_compact.specs.meaning.Differences.{newest}
 use Rattle.crx_compact.specs.meaning.ArcValues.{is_within, in_range}
 use Rattle.crx_compact.specs.ArcSteps.{differences_after, differences_by}

@@ -1,5 +1,5 @@
 use Rattle.std.proofs.Common.{◌≡◌, ◌∙◌, ◌<◌, sym, ap, subst, arith, Bool, length, Some, None, true, false}
-use Rattle.crx_faults.specs.meaning.Seen.{Content}
+use Rattle.crx_base.specs.meaning.Seen.{Content}
 use Rattle.crx_compact.specs.OpenEpochs.{ColumnsState, HasMade, HasPrintedLines, Idle, step_in}
 use Rattle.crx_compact.specs.OpenEpochs.{step_with_rows}
 use Rattle.crx_compact.specs.Placing.{tail_of_history}

@@ -1,5 +1,5 @@
 use Rattle.std.proofs.Common.{◌≡◌, ◌∙◌, ◌<◌, sym, ap, subst, arith, length, Some, None}
-use Rattle.crx_faults.specs.meaning.Seen.{Content}
+use Rattle.crx_base.specs.meaning.Seen.{Content}
 use Rattle.crx_compact.specs.OpenEpochs.{ColumnsState, HasMade, Idle, step_in, step_with_rows}
 use Rattle.crx_compact.specs.Placing.{tail_of_history}
 use Rattle.crx_compact.specs.Tails.{Tail}

@@ -1,5 +1,5 @@
 use Rattle.std.proofs.Common.{rules, ap, ◌∙◌, sym}
-use Rattle.crx_faults.specs.declared.limits.TheConstants.{CLOCK_WIDTH}
+use Rattle.crx_base.specs.declared.limits.TheConstants.{CLOCK_WIDTH}
 use Rattle.crx_compact.specs.meaning.Cells.{ReadCell}
 use Rattle.crx_compact.specs.ArcSteps.{shown_value}
 use Rattle.crx_compact.proofs.CellsRead.{shown-code}

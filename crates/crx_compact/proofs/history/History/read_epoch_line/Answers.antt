@@ -2,8 +2,8 @@ use Rattle.std.proofs.Common.{◌≡◌, ◌++◌, All, List, ℕ, Ok, true, map
 use Rattle.std.specs.Result.{is_ok}
 use Rattle.std.specs.List.{list_all}
 use Rattle.std.proofs.lemmas.List.{append-nil}
-use Rattle.crx_columns.specs.meaning.Texts.{is_printable}
-use Rattle.crx_columns.specs.Texts.{patched}
+use Rattle.crx_base.specs.meaning.Lines.{is_printable}
+use Rattle.crx_text.specs.Texts.{patched}
 use Rattle.crx_compact.specs.HeldRows.{IsAwaitedSatellite, past_of_tail}
 use Rattle.crx_compact.specs.meaning.CompactPlaces.{satellites_of_line, satellites_of_text}
 use Rattle.crx_compact.specs.meaning.EpochText.{Satellite}

@@ -2,7 +2,7 @@ use Rattle.std.proofs.Common.{◌≡◌, [], refl, ◌<◌, ◌≤◌, ◌+◌, 
 use Rattle.std.specs.Prelude.{slice_get}
 use Rattle.std.proofs.Math.ListN.{drop_of_length-le}
 use Rattle.std.proofs.lemmas.List.{length-take-le}
-use Rattle.crx_faults.specs.declared.limits.TheConstants.{LINE_LIMIT}
+use Rattle.crx_base.specs.declared.limits.TheConstants.{LINE_LIMIT}
 use Rattle.crx_compact.specs.LineLists.{AreCut, HasFront, PendingLines, cut}
 use Rattle.crx_compact.proofs.LineTexts.{NextLine, front-kept, next-line}
 use Rattle.crx_compact.proofs.Lists.{get_or-take}

@@ -1,7 +1,7 @@
 use Rattle.std.proofs.Common.{◌≡◌, ◌≤◌, ◌<◌, ◌+◌, ◌-◌, ◌++◌, ◌∷◌, [], List, ℕ, drop, length, take}
 use Rattle.std.proofs.Common.{ap, ◌∙◌, arith, subst}
 use Rattle.std.proofs.lemmas.List.{length-set, take_at}
-use Rattle.crx_faults.specs.declared.limits.TheConstants.{LINE_LIMIT}
+use Rattle.crx_base.specs.declared.limits.TheConstants.{LINE_LIMIT}
 use Rattle.crx_compact.specs.LineLists.{AreCut, HasFront, PendingLines}
 use Rattle.crx_compact.proofs.LineTexts.{PutFront, put-front}
 use Rattle.crx_compact.proofs.lines.Lines.put_front.Goals as goal

@@ -1,9 +1,9 @@
 use Rattle.std.proofs.Common.{◌≤◌, ◌*◌, ◌++◌, List, ℕ, length, take, ap, arith, sym, ◌∙◌}
 use Rattle.std.proofs.lemmas.List.{length-take}
-use Rattle.crx_columns.specs.meaning.Columns.{without_end_blanks}
-use Rattle.crx_columns.specs.meaning.Texts.{by_position, mark_of, text_difference}
-use Rattle.crx_columns.proofs.EachPlace.{length-each_place}
-use Rattle.crx_columns.proofs.EndBlanks.{few_kept}
+use Rattle.crx_text.specs.meaning.Columns.{without_end_blanks}
+use Rattle.crx_text.specs.meaning.Texts.{by_position, mark_of, text_difference}
+use Rattle.crx_text.proofs.EachPlace.{length-each_place}
+use Rattle.crx_text.proofs.EndBlanks.{few_kept}
 use Rattle.crx_compact.specs.Placing.{SatelliteTail}
 use Rattle.crx_compact.proofs.SoundTexts.{before-trimmed}
 use Rattle.crx_compact.proofs.wayback.Lengths.{difference-length}

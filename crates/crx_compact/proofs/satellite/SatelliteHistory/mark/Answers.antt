@@ -1,7 +1,7 @@
 use Rattle.std.proofs.Common.{◌≡◌, ◌*◌, List, ℕ, length, take, ap, arith, sym, ◌∙◌}
 use Rattle.std.proofs.lemmas.List.{length-take-le}
-use Rattle.crx_columns.specs.meaning.Columns.{without_end_blanks}
-use Rattle.crx_columns.specs.meaning.Texts.{text_difference}
+use Rattle.crx_text.specs.meaning.Columns.{without_end_blanks}
+use Rattle.crx_text.specs.meaning.Texts.{text_difference}
 use Rattle.crx_compact.specs.Placing.{SatelliteTail}
 use Rattle.crx_compact.proofs.Resizing.{same-cells}
 use Rattle.crx_compact.proofs.SoundTexts.{before-trimmed, same-text}

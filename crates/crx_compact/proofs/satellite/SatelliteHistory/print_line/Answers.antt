@@ -1,8 +1,8 @@
 use Rattle.std.proofs.Common.{◌≡◌, ◌≤◌, ◌<◌, sym, ◌+◌, ◌*◌, ◌++◌, List, ℕ, Option, length, map, take, ap}
 use Rattle.std.proofs.Common.{◌∙◌, arith}
 use Rattle.std.proofs.lemmas.List.{length-take-le}
-use Rattle.crx_columns.specs.meaning.Columns.{columns, without_end_blanks}
-use Rattle.crx_columns.proofs.WrittenTexts.{LineWritten, line-written}
+use Rattle.crx_text.specs.meaning.Columns.{columns, without_end_blanks}
+use Rattle.crx_text.proofs.WrittenTexts.{LineWritten, line-written}
 use Rattle.crx_rinex.specs.meaning.Printing.{printed_row}
 use Rattle.crx_text.specs.meaning.PrintedCells.{printed_cells}
 use Rattle.crx_compact.specs.ArcSteps.{shown_value}

@@ -1,7 +1,7 @@
 use Rattle.std.proofs.Common.{ap, ◌∙◌, ◌≡◌, slice_get, Some, Ok, Err, arith, subst, length, List, ℕ}
 use Rattle.std.proofs.lemmas.Result.{on_ok_weaker, IfErr-weaker}
 use Rattle.indexmap.specs.Layout.{length-set_value_at}
-use Rattle.crx_faults.specs.declared.fault.Fault.{Fault}
+use Rattle.crx_base.specs.declared.fault.Fault.{Fault}
 use Rattle.crx_compact.specs.HeldRows.{row_held}
 use Rattle.crx_compact.specs.Placing.{row_tail_of, satellite_of}
 use Rattle.crx_compact.specs.ShownRows.{shown_row}

@@ -1,6 +1,6 @@
 use Rattle.std.proofs.Common.{ap, ◌∙◌, ◌++◌, take, arith, length, slice_set, Some}
 use Rattle.indexmap.specs.Layout.{length-set_value_at}
-use Rattle.crx_columns.proofs.EachPlace.{length-each_place}
+use Rattle.crx_text.proofs.EachPlace.{length-each_place}
 use Rattle.crx_compact.specs.Placing.{SatelliteTail, row_of_parts}
 use Rattle.crx_compact.specs.Steps.{row_line_after, row_tail_after}
 use Rattle.crx_compact.specs.Tails.{RowTail}

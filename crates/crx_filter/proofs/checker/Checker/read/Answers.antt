@@ -1,14 +1,14 @@
 use Rattle.std.proofs.Common.{◌≡◌, ◌⊎◌, ◌≤◌, [], None, Some, length, ap, sym, subst, ◌∙◌}
 use Rattle.crx_lines.specs.Reading.{line_shown}
-use Rattle.crx_faults.specs.declared.limits.TheConstants.{LINE_LIMIT}
-use Rattle.crx_faults.specs.declared.fault.At.{At}
-use Rattle.crx_reading.specs.meaning.Directions.{check_filter, fault_so_far}
+use Rattle.crx_base.specs.declared.limits.TheConstants.{LINE_LIMIT}
+use Rattle.crx_base.specs.declared.fault.At.{At}
+use Rattle.crx_filter.specs.meaning.Directions.{check_filter, fault_so_far}
 use Rattle.crx_filter.specs.CheckerState.{is_reading, checker_state_with}
-use Rattle.crx_reading.specs.RinexStages.{is_open_stage}
-use Rattle.crx_reading.specs.declared.rinex_reader.RinexReader.{RinexReader}
+use Rattle.crx_filter.specs.RinexStages.{is_open_stage}
+use Rattle.crx_filter.specs.declared.rinex_reader.RinexReader.{RinexReader}
 use Rattle.crx_runs.specs.Engines.{RunsOutAt}
 use Rattle.crx_runs.specs.meaning.Filters.{with_next}
-use Rattle.crx_reading.specs.RinexReaders.{reader_phase, made_at, TakesRinexLine, RefusesRinexLine}
+use Rattle.crx_filter.specs.RinexReaders.{reader_phase, made_at, TakesRinexLine, RefusesRinexLine}
 use Rattle.crx_filter.proofs.steps.EngineAnswers.{short-line}
 use Rattle.crx_filter.proofs.steps.CheckerSteps.{has-printed, still-reading, took-line, refused-line}
 use Rattle.crx_filter.proofs.checker.Checker.read.Goals as goal

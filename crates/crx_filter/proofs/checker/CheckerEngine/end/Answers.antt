@@ -1,7 +1,7 @@
 use Rattle.std.proofs.Common.{refl, ap, sym, ◌∙◌}
-use Rattle.crx_faults.specs.meaning.Lines.{lines_text}
-use Rattle.crx_reading.specs.meaning.Standard.{Findings, report_lines, findings_of}
-use Rattle.crx_reading.specs.meaning.Directions.{report_unless}
+use Rattle.crx_base.specs.meaning.Lines.{lines_text}
+use Rattle.crx_filter.specs.meaning.Standard.{Findings, report_lines, findings_of}
+use Rattle.crx_filter.specs.meaning.Directions.{report_unless}
 use Rattle.crx_filter.proofs.steps.CheckerEnds.{end-fault, good-end, bad-end, found-there}
 use Rattle.crx_filter.proofs.checker.CheckerEngine.end.Goals as goal
 

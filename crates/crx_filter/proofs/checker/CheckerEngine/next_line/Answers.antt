@@ -3,8 +3,8 @@ use Rattle.std.proofs.Common.{true≢false}
 use Rattle.std.specs.Prelude.{is_some, slice_get}
 use Rattle.std.proofs.lemmas.List.{drop-drop}
 use Rattle.crx_header.specs.meaning.ObservationTypes.{Count}
-use Rattle.crx_reading.specs.Totals.{found_held}
-use Rattle.crx_reading.specs.meaning.Standard.{report_lines}
+use Rattle.crx_filter.specs.Totals.{found_held}
+use Rattle.crx_filter.specs.meaning.Standard.{report_lines}
 use Rattle.crx_filter.specs.CheckerState.{report_left}
 use Rattle.crx_filter.proofs.checker.CheckerEngine.next_line.Goals as goal
 

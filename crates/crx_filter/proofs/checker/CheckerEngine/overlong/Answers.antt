@@ -1,6 +1,6 @@
 use Rattle.std.proofs.Common.{◌≡◌, inr, Some, refl, ap, sym, subst}
-use Rattle.crx_faults.specs.declared.fault.At.{At}
-use Rattle.crx_reading.specs.meaning.Directions.{fault_so_far}
+use Rattle.crx_base.specs.declared.fault.At.{At}
+use Rattle.crx_filter.specs.meaning.Directions.{fault_so_far}
 use Rattle.crx_runs.specs.Engines.{awaited_notices}
 use Rattle.crx_runs.specs.meaning.Filters.{with_next}
 use Rattle.crx_filter.proofs.steps.CheckerSteps.{long-line}

@@ -1,13 +1,13 @@
 use Rattle.std.proofs.Common.{sym, subst}
 use Rattle.std.specs.Prelude.{IfErr}
-use Rattle.crx_faults.specs.meaning.Seen.{Content}
+use Rattle.crx_base.specs.meaning.Seen.{Content}
 use Rattle.crx_compact.specs.OpenEpochs.{tail_held}
 use Rattle.crx_filter.specs.CompactReaders.{RefusesCompactLine}
-use Rattle.crx_reading.specs.CompactStages.{open_in}
-use Rattle.crx_reading.specs.Stages.{seen_stage}
-use Rattle.crx_reading.specs.ExpansionByLine.{expansion}
-use Rattle.crx_reading.specs.LineByLine.{made_in}
-use Rattle.crx_reading.specs.declared.stage.Stage.{Stage}
+use Rattle.crx_filter.specs.CompactStages.{open_in}
+use Rattle.crx_filter.specs.Stages.{seen_stage}
+use Rattle.crx_filter.specs.ExpansionByLine.{expansion}
+use Rattle.crx_filter.specs.LineByLine.{made_in}
+use Rattle.crx_filter.specs.declared.stage.Stage.{Stage}
 use Rattle.crx_filter.proofs.CompactSteps.{look-refused}
 use Rattle.crx_filter.proofs.compact_reader.CompactReader.look.Goals as goal
 

@@ -1,6 +1,6 @@
 use Rattle.std.proofs.Common.{◌≡◌, ◌<◌, false, sym, subst, arith, ◌∙◌}
-use Rattle.crx_faults.specs.declared.limits.TheConstants.{INPUT_LIMIT}
-use Rattle.crx_reading.specs.RinexStages.{is_open_stage}
+use Rattle.crx_base.specs.declared.limits.TheConstants.{INPUT_LIMIT}
+use Rattle.crx_filter.specs.RinexStages.{is_open_stage}
 use Rattle.crx_filter.specs.CompactionParts.{CompactionParts}
 use Rattle.crx_filter.specs.contracts.compaction.Compaction.{the_view}
 use Rattle.crx_filter.proofs.steps.Together.{closed-together, none-there}

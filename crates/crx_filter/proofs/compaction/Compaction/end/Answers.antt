@@ -1,11 +1,11 @@
 use Rattle.std.proofs.Common.{◌≡◌, sym, refl, subst, ◌∙◌, []}
-use Rattle.crx_reading.specs.CompactionByLine.{compaction}
-use Rattle.crx_reading.specs.LineByLine.{seen_end}
+use Rattle.crx_filter.specs.CompactionByLine.{compaction}
+use Rattle.crx_filter.specs.LineByLine.{seen_end}
 use Rattle.crx_filter.specs.CompactionParts.{CompactionParts}
 use Rattle.crx_filter.specs.CompactionState.{compaction_state}
 use Rattle.crx_filter.specs.contracts.compaction.Compaction.{the_view}
 use Rattle.crx_filter.specs.EngineSteps.{settled_seen, step_made}
-use Rattle.crx_reading.specs.RinexReaders.{epoch_open}
+use Rattle.crx_filter.specs.RinexReaders.{epoch_open}
 use Rattle.crx_filter.proofs.steps.EngineLemmas.{held-by_reader, same-step}
 use Rattle.crx_filter.proofs.compaction.Compaction.end.Goals as goal
 

@@ -1,13 +1,13 @@
 use Rattle.std.proofs.Common.{◌≡◌, ◌+◌, ap, sym, refl, subst, ◌∙◌, []}
-use Rattle.crx_faults.specs.meaning.Seen.{ReadLine}
-use Rattle.crx_reading.specs.CompactionByLine.{Written, compaction}
+use Rattle.crx_base.specs.meaning.Seen.{ReadLine}
+use Rattle.crx_filter.specs.CompactionByLine.{Written, compaction}
 use Rattle.crx_rinex.specs.meaning.EpochPlaces.{OpenEpoch}
-use Rattle.crx_reading.specs.LineByLine.{Seen, failed_step}
+use Rattle.crx_filter.specs.LineByLine.{Seen, failed_step}
 use Rattle.crx_filter.specs.CompactionParts.{CompactionParts}
 use Rattle.crx_filter.specs.CompactionState.{compaction_state}
 use Rattle.crx_filter.specs.contracts.compaction.Compaction.{the_view}
 use Rattle.crx_filter.specs.EngineSteps.{settled_seen, step_made}
-use Rattle.crx_reading.specs.RinexReaders.{epoch_open}
+use Rattle.crx_filter.specs.RinexReaders.{epoch_open}
 use Rattle.crx_filter.proofs.steps.EngineLemmas.{held-by_reader, same-step}
 use Rattle.crx_filter.proofs.compaction.Compaction.fail.Goals as goal
 

@@ -1,9 +1,9 @@
 use Rattle.std.proofs.Common.{◌≡◌, sym, refl, ap, subst, ◌∙◌}
-use Rattle.crx_faults.specs.declared.fault.Fault.TheVariants.{LineTooLong}
-use Rattle.crx_faults.specs.meaning.Seen.{Overlong}
-use Rattle.crx_reading.specs.CompactionByLine.{compaction}
-use Rattle.crx_reading.specs.LineByLine.{Fails, made_in, step_of_made}
-use Rattle.crx_reading.specs.RinexReaders.{epoch_open, reader_phase}
+use Rattle.crx_base.specs.declared.fault.Fault.TheVariants.{LineTooLong}
+use Rattle.crx_base.specs.meaning.Seen.{Overlong}
+use Rattle.crx_filter.specs.CompactionByLine.{compaction}
+use Rattle.crx_filter.specs.LineByLine.{Fails, made_in, step_of_made}
+use Rattle.crx_filter.specs.RinexReaders.{epoch_open, reader_phase}
 use Rattle.crx_filter.specs.CompactionParts.{CompactionParts}
 use Rattle.crx_filter.specs.CompactionState.{compaction_state}
 use Rattle.crx_filter.specs.contracts.compaction.Compaction.{the_view}

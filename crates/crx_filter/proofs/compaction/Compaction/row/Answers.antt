@@ -1,15 +1,15 @@
 use Rattle.std.proofs.Common.{◌≡◌, ◌<◌, ◌+◌, ℕ, Option, inl, true, refl, sym, ap, subst, ◌∙◌, arith, rules}
-use Rattle.crx_faults.specs.declared.limits.TheConstants.{INPUT_LIMIT}
-use Rattle.crx_faults.specs.meaning.Seen.{Content}
+use Rattle.crx_base.specs.declared.limits.TheConstants.{INPUT_LIMIT}
+use Rattle.crx_base.specs.meaning.Seen.{Content}
 use Rattle.crx_compact.specs.Encoding.{EncoderState}
 use Rattle.crx_compact.specs.Tails.{Tail}
 use Rattle.crx_rinex.specs.meaning.EpochPlaces.{OpenEpoch}
-use Rattle.crx_reading.specs.CompactionByLine.{Written, compaction}
-use Rattle.crx_reading.specs.LineByLine.{Seen}
-use Rattle.crx_reading.specs.RinexReaders.{CompletedEpoch, TakesRinexLine, made_at, reader_phase}
-use Rattle.crx_reading.specs.RinexStages.{is_open_stage}
-use Rattle.crx_reading.specs.declared.rinex_reader.RinexReader.{RinexReader}
-use Rattle.crx_reading.specs.declared.rinex_reader.RinexStep.{RinexStep}
+use Rattle.crx_filter.specs.CompactionByLine.{Written, compaction}
+use Rattle.crx_filter.specs.LineByLine.{Seen}
+use Rattle.crx_filter.specs.RinexReaders.{CompletedEpoch, TakesRinexLine, made_at, reader_phase}
+use Rattle.crx_filter.specs.RinexStages.{is_open_stage}
+use Rattle.crx_filter.specs.declared.rinex_reader.RinexReader.{RinexReader}
+use Rattle.crx_filter.specs.declared.rinex_reader.RinexStep.{RinexStep}
 use Rattle.crx_filter.specs.CompactionParts.{CompactionParts}
 use Rattle.crx_filter.specs.CompactionState.{compaction_ready, compaction_state}
 use Rattle.crx_filter.specs.EngineSteps.{Steps}

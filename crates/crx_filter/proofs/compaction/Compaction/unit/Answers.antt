@@ -1,13 +1,13 @@
 use Rattle.std.proofs.Common.{◌≡◌, ◌<◌, ◌+◌, [], ℕ, Option, false, true, refl, sym, ap, subst, ◌∙◌, arith, rules}
-use Rattle.crx_faults.specs.declared.limits.TheConstants.{INPUT_LIMIT}
-use Rattle.crx_faults.specs.meaning.Seen.{Content}
+use Rattle.crx_base.specs.declared.limits.TheConstants.{INPUT_LIMIT}
+use Rattle.crx_base.specs.meaning.Seen.{Content}
 use Rattle.crx_compact.specs.Encoding.{EncoderState}
 use Rattle.crx_compact.specs.Tails.{Tail}
-use Rattle.crx_reading.specs.CompactionByLine.{Written, compaction}
-use Rattle.crx_reading.specs.RinexReaders.{TakesRinexLine, made_at, reader_phase}
-use Rattle.crx_reading.specs.RinexStages.{is_open_stage}
-use Rattle.crx_reading.specs.meaning.Compacted.{is_at_every}
-use Rattle.crx_reading.specs.declared.rinex_reader.RinexStep.{RinexStep}
+use Rattle.crx_filter.specs.CompactionByLine.{Written, compaction}
+use Rattle.crx_filter.specs.RinexReaders.{TakesRinexLine, made_at, reader_phase}
+use Rattle.crx_filter.specs.RinexStages.{is_open_stage}
+use Rattle.crx_filter.specs.meaning.Compacted.{is_at_every}
+use Rattle.crx_filter.specs.declared.rinex_reader.RinexStep.{RinexStep}
 use Rattle.crx_runs.specs.declared.engine.Step.TheVariants.{Quiet, Ready}
 use Rattle.std.specs.Prelude.{Ok}
 use Rattle.crx_filter.specs.CompactionParts.{CompactionParts}

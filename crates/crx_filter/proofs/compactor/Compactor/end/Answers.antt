@@ -1,4 +1,4 @@
-use Rattle.crx_reading.specs.CompactionByLine.{compaction}
+use Rattle.crx_filter.specs.CompactionByLine.{compaction}
 use Rattle.crx_filter.specs.CompactionState.{compaction_state}
 use Rattle.crx_filter.proofs.following.DirectionSteps.{compaction-goes}
 use Rattle.crx_filter.proofs.steps.EngineAnswers.{concludes}

@@ -1,10 +1,10 @@
 use Rattle.std.proofs.Common.{Result, sym, subst, ◌∙◌}
-use Rattle.crx_faults.specs.declared.fault.At.{At}
+use Rattle.crx_base.specs.declared.fault.At.{At}
 use Rattle.crx_runs.specs.declared.engine.Step.{Step}
 use Rattle.crx_lines.specs.Reading.{line_shown}
-use Rattle.crx_faults.specs.meaning.Seen.{Content}
+use Rattle.crx_base.specs.meaning.Seen.{Content}
 use Rattle.crx_filter.specs.EngineSteps.{Steps}
-use Rattle.crx_reading.specs.CompactionByLine.{compaction}
+use Rattle.crx_filter.specs.CompactionByLine.{compaction}
 use Rattle.crx_filter.specs.CompactionState.{compaction_ready, compaction_state}
 use Rattle.crx_filter.proofs.following.DirectionSteps.{compaction-goes}
 use Rattle.crx_filter.proofs.steps.EngineAnswers.{answers-seen, seen-within}

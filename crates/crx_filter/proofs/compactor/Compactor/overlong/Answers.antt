@@ -1,6 +1,6 @@
 use Rattle.std.proofs.Common.{inl}
-use Rattle.crx_faults.specs.meaning.Seen.{Overlong}
-use Rattle.crx_reading.specs.CompactionByLine.{compaction}
+use Rattle.crx_base.specs.meaning.Seen.{Overlong}
+use Rattle.crx_filter.specs.CompactionByLine.{compaction}
 use Rattle.crx_filter.specs.CompactionState.{compaction_ready, compaction_state}
 use Rattle.crx_filter.proofs.following.DirectionSteps.{compaction-goes}
 use Rattle.crx_filter.proofs.steps.EngineAnswers.{answers-seen, seen-long}

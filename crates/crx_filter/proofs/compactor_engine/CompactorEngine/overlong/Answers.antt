@@ -1,5 +1,5 @@
 use Rattle.std.proofs.Common.{inl}
-use Rattle.crx_faults.specs.meaning.Seen.{Overlong}
+use Rattle.crx_base.specs.meaning.Seen.{Overlong}
 use Rattle.crx_filter.specs.CompactorState.{compactor_seen, compactor_ready}
 use Rattle.crx_filter.proofs.following.DirectionSteps.{compaction-goes}
 use Rattle.crx_filter.proofs.steps.EngineAnswers.{answers-seen, seen-long}

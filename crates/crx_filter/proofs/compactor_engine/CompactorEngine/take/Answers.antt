@@ -1,7 +1,7 @@
 use Rattle.crx_lines.specs.Reading.{line_shown}
-use Rattle.crx_faults.specs.meaning.Seen.{Content}
+use Rattle.crx_base.specs.meaning.Seen.{Content}
 use Rattle.crx_runs.specs.Engines.{answer_given}
-use Rattle.crx_reading.specs.CompactionByLine.{compaction}
+use Rattle.crx_filter.specs.CompactionByLine.{compaction}
 use Rattle.crx_filter.specs.CompactorState.{compactor_seen, compactor_ready}
 use Rattle.crx_filter.proofs.following.DirectionSteps.{compaction-goes}
 use Rattle.crx_filter.proofs.steps.EngineAnswers.{answers-seen, seen-within}

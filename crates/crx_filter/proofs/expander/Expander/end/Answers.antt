@@ -1,15 +1,15 @@
 use Rattle.std.proofs.Common.{◌≡◌, List, ℕ, Option, None, refl, sym, ap, ◌∙◌}
-use Rattle.crx_faults.specs.declared.fault.At.{At}
+use Rattle.crx_base.specs.declared.fault.At.{At}
 use Rattle.crx_compact.specs.OpenEpochs.{OpenRawEpoch, tail_held}
 use Rattle.crx_compact.specs.Tails.{Tail}
-use Rattle.crx_reading.specs.CompactStages.{open_in}
+use Rattle.crx_filter.specs.CompactStages.{open_in}
 use Rattle.crx_filter.specs.EngineSteps.{step_made}
 use Rattle.crx_filter.specs.CompactReaders.{seen_in, compact_reader_state}
-use Rattle.crx_reading.specs.ExpansionByLine.{expansion}
+use Rattle.crx_filter.specs.ExpansionByLine.{expansion}
 use Rattle.crx_filter.specs.ExpanderState.{expander_state}
-use Rattle.crx_reading.specs.declared.stage.Stage.{Stage}
-use Rattle.crx_reading.specs.declared.stage.Stage.TheVariants.{Ended}
-use Rattle.crx_reading.specs.LineByLine.{Step, seen_end}
+use Rattle.crx_filter.specs.declared.stage.Stage.{Stage}
+use Rattle.crx_filter.specs.declared.stage.Stage.TheVariants.{Ended}
+use Rattle.crx_filter.specs.LineByLine.{Step, seen_end}
 use Rattle.crx_filter.proofs.steps.ExpanderSteps.{at-stage, settled-as}
 use Rattle.crx_filter.proofs.steps.EngineLemmas.{failed-at}
 use Rattle.crx_filter.proofs.following.DirectionSteps.{expansion-goes}

@@ -1,9 +1,9 @@
 use Rattle.std.proofs.Common.{Bool, ℕ, [], Option, None, sym, ap, subst, ◌∙◌, if◌then◌else◌}
 use Rattle.crx_compact.specs.OpenEpochs.{OpenRawEpoch, tail_held}
 use Rattle.crx_compact.specs.Tails.{Tail}
-use Rattle.crx_faults.specs.meaning.Seen.{ReadLine}
-use Rattle.crx_reading.specs.CompactStages.{open_in}
-use Rattle.crx_reading.specs.LineByLine.{Seen}
+use Rattle.crx_base.specs.meaning.Seen.{ReadLine}
+use Rattle.crx_filter.specs.CompactStages.{open_in}
+use Rattle.crx_filter.specs.LineByLine.{Seen}
 use Rattle.crx_filter.specs.CompactReaders.{compact_reader_state}
 use Rattle.crx_filter.specs.EngineSteps.{IsAt, step_made}
 use Rattle.crx_filter.proofs.steps.ExpanderSteps.{settled-as}

@@ -1,11 +1,11 @@
 use Rattle.std.proofs.Common.{rules, List, ℕ, refl, sym, ap, ◌∙◌}
-use Rattle.crx_faults.specs.meaning.Seen.{Overlong}
+use Rattle.crx_base.specs.meaning.Seen.{Overlong}
 use Rattle.crx_compact.specs.OpenEpochs.{tail_held}
-use Rattle.crx_reading.specs.CompactStages.{open_in}
+use Rattle.crx_filter.specs.CompactStages.{open_in}
 use Rattle.crx_filter.specs.EngineSteps.{step_made}
-use Rattle.crx_reading.specs.ExpansionByLine.{expansion}
+use Rattle.crx_filter.specs.ExpansionByLine.{expansion}
 use Rattle.crx_filter.specs.ExpanderState.{expander_state}
-use Rattle.crx_reading.specs.LineByLine.{step_of_made}
+use Rattle.crx_filter.specs.LineByLine.{step_of_made}
 use Rattle.crx_filter.proofs.steps.ExpanderSteps.{at-stage, too-long}
 use Rattle.crx_filter.proofs.expander.Expander.pass.Goals as goal
 

@@ -1,6 +1,6 @@
 use Rattle.std.proofs.Common.{refl, sym}
-use Rattle.crx_faults.specs.meaning.Seen.{Content}
-use Rattle.crx_reading.specs.CompactStages.{open_in}
+use Rattle.crx_base.specs.meaning.Seen.{Content}
+use Rattle.crx_filter.specs.CompactStages.{open_in}
 use Rattle.crx_filter.specs.ExpanderState.{expander_state}
 use Rattle.crx_filter.proofs.steps.ExpanderSteps.{at-stage, refused-line}
 use Rattle.crx_filter.proofs.expander.Expander.take_any.Goals as goal

@@ -1,13 +1,13 @@
 use Rattle.std.proofs.Common.{◌≡◌, true, refl, sym, ap, subst}
-use Rattle.crx_faults.specs.meaning.Seen.{Content}
-use Rattle.crx_reading.specs.CompactStages.{open_in}
-use Rattle.crx_reading.specs.Stages.{seen_stage}
+use Rattle.crx_base.specs.meaning.Seen.{Content}
+use Rattle.crx_filter.specs.CompactStages.{open_in}
+use Rattle.crx_filter.specs.Stages.{seen_stage}
 use Rattle.crx_filter.specs.ExpanderState.{expander_state}
-use Rattle.crx_reading.specs.declared.stage.Stage.{Stage}
-use Rattle.crx_reading.specs.declared.stage.Stage.TheVariants.{Open}
+use Rattle.crx_filter.specs.declared.stage.Stage.{Stage}
+use Rattle.crx_filter.specs.declared.stage.Stage.TheVariants.{Open}
 use Rattle.crx_filter.proofs.steps.ExpanderSteps.{at-stage, refused-line}
 use Rattle.crx_filter.proofs.expander.Expander.take_line.Goals as goal
-use Rattle.crx_reading.specs.CompactStages.{is_compact_stage}
+use Rattle.crx_filter.specs.CompactStages.{is_compact_stage}
 
 pub returns-in-Err-clause-steps : goal.returns-in-Err-clause-steps
 returns-in-Err-clause-steps c =

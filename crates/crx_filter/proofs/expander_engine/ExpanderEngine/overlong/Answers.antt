@@ -1,5 +1,5 @@
 use Rattle.std.proofs.Common.{inl}
-use Rattle.crx_faults.specs.meaning.Seen.{Overlong}
+use Rattle.crx_base.specs.meaning.Seen.{Overlong}
 use Rattle.crx_filter.specs.ExpanderState.{expander_state}
 use Rattle.crx_filter.proofs.following.DirectionSteps.{expansion-goes}
 use Rattle.crx_filter.proofs.steps.EngineAnswers.{answers-seen, seen-long}

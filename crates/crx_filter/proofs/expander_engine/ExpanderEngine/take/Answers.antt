@@ -1,7 +1,7 @@
 use Rattle.crx_lines.specs.Reading.{line_shown}
-use Rattle.crx_faults.specs.meaning.Seen.{Content}
+use Rattle.crx_base.specs.meaning.Seen.{Content}
 use Rattle.crx_runs.specs.Engines.{answer_given}
-use Rattle.crx_reading.specs.ExpansionByLine.{expansion}
+use Rattle.crx_filter.specs.ExpansionByLine.{expansion}
 use Rattle.crx_filter.specs.ExpanderState.{expander_state}
 use Rattle.crx_filter.proofs.following.DirectionSteps.{expansion-goes}
 use Rattle.crx_filter.proofs.steps.EngineAnswers.{answers-seen, seen-within}

@@ -1,10 +1,10 @@
 use Rattle.std.proofs.Common.{◌≡◌, ℕ, true, not, ◌+◌, ◌-◌, ◌<◌, List, inr, length, take, drop, slice_index, slice_range}
 use Rattle.std.proofs.Common.{subst, sym, ap, ◌∙◌, refl, arith, length-drop}
-use Rattle.crx_faults.specs.meaning.Lines.{without_return, ends_with_return}
+use Rattle.crx_base.specs.meaning.Lines.{without_return, ends_with_return}
 use Rattle.crx_lines.specs.Reading.{ReaderState}
 use Rattle.crx_lines.specs.Readers.{reading}
 use Rattle.crx_lines.specs.Window.{kept}
-use Rattle.crx_faults.specs.declared.limits.TheConstants.{LINE_LIMIT}
+use Rattle.crx_base.specs.declared.limits.TheConstants.{LINE_LIMIT}
 use Rattle.crx_lines.proofs.DeviceLemmas.{tally-line}
 use Rattle.crx_lines.proofs.SeekLemmas.{Seeking-start, Seeking-searched}
 use Rattle.crx_lines.proofs.AdvanceLemmas.{piece_at, takes, whole-piece, content-long, shown-line}

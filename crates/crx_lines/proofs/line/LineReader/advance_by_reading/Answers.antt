@@ -2,13 +2,13 @@ use Rattle.std.proofs.Common.{◌≡◌, ℕ, false, cond, ◌+◌, ◌-◌, ◌
 use Rattle.std.proofs.Common.{length, take, drop, slice_range, subst, sym, ap, ◌∙◌, refl, arith, rules}
 use Rattle.std.proofs.lemmas.List.{length-drop}
 use Rattle.crx_lines.specs.meaning.Devices.{one_more}
-use Rattle.crx_faults.specs.meaning.Lines.{without_return, ends_with_return}
+use Rattle.crx_base.specs.meaning.Lines.{without_return, ends_with_return}
 use Rattle.crx_lines.specs.declared.phase.Phase.TheVariants.{Ended}
 use Rattle.crx_lines.specs.Reading.{ReaderState}
 use Rattle.crx_lines.specs.Readers.{reading}
 use Rattle.crx_lines.specs.Window.{kept}
-use Rattle.crx_faults.specs.declared.limits.TheConstants.{INPUT_LIMIT, LINE_LIMIT}
-use Rattle.crx_faults.specs.declared.fault.Fault.TheVariants.{InputTooLong, ReadFailed}
+use Rattle.crx_base.specs.declared.limits.TheConstants.{INPUT_LIMIT, LINE_LIMIT}
+use Rattle.crx_base.specs.declared.fault.Fault.TheVariants.{InputTooLong, ReadFailed}
 use Rattle.crx_lines.proofs.DeviceLemmas.{tally-same, tally-line}
 use Rattle.crx_lines.proofs.SeekLemmas.{Seeking-sum}
 use Rattle.crx_lines.proofs.WindowLemmas.{length-kept}

@@ -1,5 +1,5 @@
 use Rattle.crx_rinex.proofs.Cells.{sound-cleared}
-use Rattle.crx_faults.specs.declared.limits.TheConstants.{TYPES_LIMIT}
+use Rattle.crx_base.specs.declared.limits.TheConstants.{TYPES_LIMIT}
 use Rattle.crx_rinex.proofs.row_buffer.RowBuffer.read.Goals as goal
 
 pub invariant_of-self : goal.invariant_of-self

@@ -1,10 +1,10 @@
 use Rattle.std.proofs.Common.{◌≡◌, ℕ, Ok, sym, subst}
 use Rattle.crx_lines.specs.Reading.{line_shown}
-use Rattle.crx_faults.specs.meaning.Seen.{Content}
-use Rattle.crx_reading.specs.CompactionByLine.{compaction}
+use Rattle.crx_base.specs.meaning.Seen.{Content}
+use Rattle.crx_filter.specs.CompactionByLine.{compaction}
 use Rattle.crx_filter.specs.CompactorState.{compactor_seen, compactor_ready}
 use Rattle.crx_runs.specs.Engines.{taken_after}
-use Rattle.crx_reading.specs.LineByLine.{Seen}
+use Rattle.crx_filter.specs.LineByLine.{Seen}
 use Rattle.crx_filter.proofs.steps.StepCounts.{steps-counted}
 use Rattle.crx_tests.proofs.steps.compactor.feed_one.Goals as goal
 

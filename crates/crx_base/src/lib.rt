@@ -1,0 +1,11 @@
+//! What every other crate stands on: the faults that a message can name, the limits of the formats, what the lines of an input are, and what
+//! the user chose for a run.
+#![tactic(auto)]
+
+pub mod fault;
+pub mod laws;
+pub mod limits;
+pub mod options;
+
+pub use fault::{At, Fault};
+pub use options::{BadDate, Options};

@@ -1,5 +1,0 @@
-use Rattle.crx_columns.proofs.LaneWords.{mark_lanes}
-use Rattle.crx_columns.proofs.difference.MarksRule.apply_to.Goals as goal
-
-pub returns : goal.returns
-returns c = record { value = mark_lanes c.args.old c.args.new c.fits-old.0 c.fits-new.0 }

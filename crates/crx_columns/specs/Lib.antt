@@ -1,2 +1,0 @@
-pub mod meaning
-pub mod Texts

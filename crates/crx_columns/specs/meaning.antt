@@ -1,4 +1,0 @@
--- What has to be believed: the definitions that the promises stand on. docs/READING.md gives their order.
-pub mod Columns
-pub mod Texts
-pub mod EachPlace

@@ -1,2 +1,0 @@
-pub mod CompactExamples
-pub mod FilterExamples

@@ -1,4 +1,0 @@
--- What has to be believed: the definitions that the promises stand on. docs/READING.md gives their order.
-pub mod Faults
-pub mod Lines
-pub mod Seen

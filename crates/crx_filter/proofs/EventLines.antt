@@ -1,0 +1,44 @@
+-- What the reading of an event's first line comes to.
+use Rattle.std.proofs.Common.{◌≡◌, ℕ, ◌&&◌, Bool, true, false, List, Option, Some, None, Result, Ok, Err, refl, sym, ap}
+use Rattle.std.proofs.Common.{◌∙◌, true≢false}
+use Rattle.crx_text.specs.meaning.Columns.{character_at}
+use Rattle.crx_base.specs.declared.fault.Fault.{Fault}
+use Rattle.crx_base.specs.declared.fault.Fault.TheVariants.{BadEpoch}
+use Rattle.crx_rinex.specs.meaning.EpochLines.{HeadLine, EventHead, EpochHead, event_head, head_of}
+use Rattle.crx_header.specs.meaning.EpochColumns.{begins_epoch, is_event_flag, is_event_line, records_in}
+
+head-of-event : (line : List ℕ) (begins flagged : Bool)
+    → begins_epoch line ≡ begins → is_event_flag (character_at line 32) ≡ flagged → begins && flagged ≡ true
+    → head_of line ≡ event_head (character_at line 32) (records_in line)
+head-of-event line true true b f is = rw (b, f) refl
+head-of-event line true false b f is = absurd (true≢false (sym is))
+head-of-event line false flagged b f is = absurd (true≢false (sym is))
+
+abbrev pub count_in : Result HeadLine Fault → Option ℕ
+count_in (Ok (EventHead flag count)) = Some count
+count_in (Ok (EpochHead head count clock)) = None
+count_in (Err fault) = None
+
+abbrev fault_in : Result HeadLine Fault → Fault
+fault_in (Ok head) = BadEpoch
+fault_in (Err fault) = fault
+
+counted : (flag : ℕ) (count : Option ℕ) → count_in (event_head flag count) ≡ count
+counted flag None = refl
+counted flag (Some n) = refl
+
+faulty : (flag : ℕ) (count : Option ℕ) → fault_in (event_head flag count) ≡ BadEpoch
+faulty flag None = refl
+faulty flag (Some n) = refl
+
+-- how many records an event's first line announces, as its reading says
+pub event-count : (line : List ℕ) (r : Result HeadLine Fault)
+    → is_event_line line ≡ true → head_of line ≡ r → records_in line ≡ count_in r
+event-count line r event is = sym (counted (character_at line 32) (records_in line)) ∙ ap count_in
+    (sym (head-of-event line (begins_epoch line) (is_event_flag (character_at line 32)) refl refl event) ∙ is)
+
+-- its one fault
+pub event-fault : (line : List ℕ) (fault : Fault)
+    → is_event_line line ≡ true → head_of line ≡ Err fault → fault ≡ BadEpoch
+event-fault line fault event is = ap fault_in (sym is ∙ head-of-event line (begins_epoch line)
+    (is_event_flag (character_at line 32)) refl refl event) ∙ faulty (character_at line 32) (records_in line)

@@ -1,0 +1,31 @@
+use Rattle.std.proofs.Common.{◌++◌, length, take, ap, sym, ◌∙◌, arith, append_assoc}
+use Rattle.std.specs.List.{flat_map}
+use Rattle.crx_filter.specs.meaning.Standard.{count_text}
+use Rattle.crx_filter.proofs.Reports.{counts-more, one-there}
+use Rattle.crx_filter.proofs.report.append_counts.Goals.{in-Some, in_default}
+use Rattle.crx_filter.proofs.report.append_counts.Goals as goal
+
+pub loop-index-preserved : goal.loop-index-preserved
+loop-index-preserved c =
+    let types = c.args.types.now in
+    let index = c.loop-index.index in
+    let old = c.args.text.now in
+    let i = c.loop-index.invariant in
+    elim c.match-entry.branch [
+      | in-Some w ↦
+          let found = sym c.entry.ensures.value ∙ w.in-Some.is in
+          let size = w.append_count.ensures.size in
+          let longer = ap length w.text-is in (
+            w.text-is ∙ w.append_count.ensures.value ∙ ap (λ t. t ++ count_text
+                (w.in-Some.letter, w.in-Some.count)) i.0
+                ∙ append_assoc old (flat_map count_text (take index types))
+                (count_text (w.in-Some.letter, w.in-Some.count))
+                ∙ ap (λ t. old ++ t) (sym (counts-more types index
+                (w.in-Some.letter, w.in-Some.count) found)),
+            omega (arith, size, longer, i.1),
+            i.2,
+            i.3,
+          )
+      | in_default w ↦ absurd (one-there types index (sym c.entry.ensures.value
+          ∙ w.in_default.is) (omega (arith, c.loop-index-test.true, i.2)))
+    ]

@@ -1,0 +1,150 @@
+-- A check line by line: what it has seen after some lines, and what one line more makes of that. It holds no more than
+-- the reading does, and four totals. Lists of items have the newest first.
+use Rattle.std.specs.Prelude.{ℕ, Bool, false, ◌+◌, List, [], ◌∷◌, ◌++◌, length, map, Option, Some, None, if◌then◌else◌}
+use Rattle.crx_base.specs.meaning.Lines.{InputLine}
+use Rattle.crx_base.specs.meaning.Seen.{seen}
+use Rattle.crx_rinex.specs.meaning.Observations.{Epoch, observations_in}
+use Rattle.crx_rinex.specs.meaning.Units.{Unit, HeaderLine, EventLine, EventRecord, Observation, printed_unit}
+use Rattle.crx_rinex.specs.meaning.Printing.{printed_epoch}
+use Rattle.crx_rinex.specs.Printing.{last_line}
+use Rattle.crx_rinex.specs.meaning.EpochPlaces.{OpenEpoch, epoch_of}
+use Rattle.crx_base.specs.meaning.Choices.{Choices}
+use Rattle.crx_filter.specs.meaning.Items.{Item, Accepted, Warned, is_at_start}
+use Rattle.crx_filter.specs.meaning.Reading.{Reading}
+use Rattle.crx_filter.specs.meaning.Compacted.{epochs_accepted}
+use Rattle.crx_filter.specs.meaning.Directions.{rinex_reading}
+use Rattle.crx_filter.specs.LineByLine.{Phase, InEpoch, Seen, Made, Completes, Moves, Fails, Repeats, Direction, Step}
+use Rattle.crx_filter.specs.LineByLine.{made_in, seen_next, seen_of, phase_of}
+use Rattle.crx_filter.specs.CompactionByLine.{rinex_begins, rinex_continues, rinex_open, is_before_header, is_next_row}
+use Rattle.crx_filter.specs.meaning.Standard.{Findings, printed_items, version_in, events_accepted}
+use Rattle.crx_filter.specs.meaning.Standard.{observations_accepted, is_standard_line, first_not_standard}
+
+-- ---- the units so far
+
+-- the version in the header's first line, and how many epochs, events and observations were accepted
+pub record Totals : Type 0 where
+  pub version : List ℕ
+  pub epochs : ℕ
+  pub events : ℕ
+  pub observations : ℕ
+
+-- the totals once a unit is accepted, which may be the header's first line
+abbrev pub totals_with : Totals → Bool → Unit Epoch → Totals
+totals_with totals is_first (HeaderLine line) =
+    record totals { version = if is_first then version_in line else totals.version }
+totals_with totals is_first (EventLine line) = record totals { events = totals.events + 1 }
+totals_with totals is_first (EventRecord line) = totals
+totals_with totals is_first (Observation epoch) =
+    record totals { epochs = totals.epochs + 1; observations = totals.observations + observations_in epoch }
+
+abbrev pub totals_after : Seen OpenEpoch Totals → Unit Epoch → Totals
+totals_after seen unit = totals_with seen.kept (is_before_header seen.phase) unit
+
+-- the totals once a line has made this
+abbrev pub totals_made : Totals → Bool → Made Epoch OpenEpoch → Totals
+totals_made totals is_first (Completes unit) = totals_with totals is_first unit
+totals_made totals is_first (Moves phase) = totals
+totals_made totals is_first (Fails fault) = totals
+totals_made totals is_first (Repeats at) = totals
+
+-- a check as a direction: it reads as compaction does, keeps the totals, and a unit's lines are those that printing
+-- gives
+abbrev pub checking : Direction Epoch OpenEpoch Totals
+checking = record {
+  begins = rinex_begins;
+  continues = rinex_continues;
+  memory_first = λ types kept line. false;
+  memory_next = is_next_row;
+  kept_after = totals_after;
+  kept_open = λ kept. kept;
+  emptied = λ kept. kept;
+  written = λ seen. printed_unit;
+}
+
+-- the version in the first line of the header
+abbrev pub version_accepted : List (Item Epoch) → List ℕ
+version_accepted [] = []
+version_accepted (Accepted (HeaderLine line) ∷ before) =
+    if is_at_start before then version_in line else version_accepted before
+version_accepted (Accepted (EventLine line) ∷ before) = version_accepted before
+version_accepted (Accepted (EventRecord line) ∷ before) = version_accepted before
+version_accepted (Accepted (Observation epoch) ∷ before) = version_accepted before
+version_accepted (Warned at ∷ before) = version_accepted before
+
+abbrev pub totals_of : List (Item Epoch) → Totals
+totals_of items = record {
+  version = version_accepted items;
+  epochs = epochs_accepted items;
+  events = events_accepted items;
+  observations = observations_accepted items;
+}
+
+-- ---- standard lines
+
+-- the lines of an epoch that is open, as RINEX prints them
+abbrev pub printed_open : Phase OpenEpoch → List (List ℕ)
+printed_open (InEpoch so_far) = printed_epoch (epoch_of so_far)
+printed_open phase = []
+
+-- the lines that printing gives back for some lines: those of the units, and of the epoch that is open
+abbrev pub printed_so_far : List InputLine → List (List ℕ)
+printed_so_far lines =
+    let r : Reading Epoch = rinex_reading false (map seen lines) in
+    printed_items r.items ++ printed_open (phase_of rinex_open r)
+
+-- the lines of the unit or the open epoch that a line makes; that line is the last of them
+abbrev pub printed_made : Made Epoch OpenEpoch → List (List ℕ)
+printed_made (Completes unit) = printed_unit unit
+printed_made (Moves phase) = printed_open phase
+printed_made (Fails fault) = []
+printed_made (Repeats at) = []
+
+-- the first line that isn't standard, with one line more
+abbrev pub earliest : Option ℕ → Bool → ℕ → Option ℕ
+earliest (Some first) is_standard number = Some first
+earliest None is_standard number = if is_standard then None else Some number
+
+-- ---- what is seen
+
+-- how far the reading is, with the totals; and the number of the first line that isn't standard, if there is one
+pub record CheckSeen : Type 0 where
+  pub reading : Seen OpenEpoch Totals
+  pub not_standard : Option ℕ
+
+-- a check chooses nothing, and never skips
+abbrev pub no_choices : Choices
+no_choices = record { every = None; skip = false; date = [] }
+
+-- what a check has seen after some lines
+abbrev pub check_seen : List InputLine → CheckSeen
+check_seen lines = record {
+  reading = seen_of checking rinex_open totals_of no_choices (length lines) (rinex_reading false (map seen lines));
+  not_standard = first_not_standard 1 lines (printed_so_far lines);
+}
+
+-- the step of the reading
+abbrev pub check_step : CheckSeen → InputLine → Step OpenEpoch Totals
+check_step before line = seen_next checking before.reading (seen line)
+
+-- whether a line is standard, by what it makes
+abbrev pub is_standard_after : CheckSeen → InputLine → Bool
+is_standard_after before line = is_standard_line line (last_line
+    (printed_made (made_in checking before.reading.phase before.reading.types before.reading.kept (seen line))))
+
+-- what one line more makes of what was seen
+abbrev pub check_next : CheckSeen → InputLine → CheckSeen
+check_next before line = record {
+  reading = (check_step before line).next;
+  not_standard = earliest before.not_standard (is_standard_after before line) (before.reading.number + 1);
+}
+
+-- what a check finds at the end, by what it has seen
+abbrev pub found_by : CheckSeen → Findings
+found_by end = record {
+  version = end.reading.kept.version;
+  systems = end.reading.types;
+  epochs = end.reading.kept.epochs;
+  events = end.reading.kept.events;
+  observations = end.reading.kept.observations;
+  not_standard = end.not_standard;
+}

@@ -1,0 +1,109 @@
+-- Expansion line by line: the state between two lines, by the tail of the epochs alone.
+use Rattle.std.specs.Prelude.{ℕ, Bool, false, not, ◌&&◌, List, [], ◌∷◌, length, Option, Some, None, if◌then◌else◌}
+use Rattle.crx_base.specs.meaning.Seen.{ReadLine, Content, Overlong}
+use Rattle.crx_header.specs.meaning.EpochColumns.{is_event_line}
+use Rattle.crx_rinex.specs.meaning.Places.{Here, Wrong, Wanted}
+use Rattle.crx_rinex.specs.meaning.Units.{Unit, HeaderLine, EventLine, EventRecord, Observation, printed_unit}
+use Rattle.crx_header.specs.meaning.ObservationTypes.{Count}
+use Rattle.crx_rinex.specs.meaning.Observations.{Epoch}
+use Rattle.crx_compact.specs.meaning.CompactPlaces.{ReadEpoch}
+use Rattle.crx_compact.specs.Tails.{Tail, tail_left}
+use Rattle.crx_compact.specs.OpenEpochs.{OpenRawEpoch, HeldEpoch, RawStep, Going, Whole, Faulty, first_step, next_step}
+use Rattle.crx_compact.specs.OpenEpochs.{has_come, is_faulty, makes_epoch, open_raw_with}
+use Rattle.crx_base.specs.meaning.Choices.{Choices}
+use Rattle.crx_filter.specs.meaning.Items.{Item, types_in_force}
+use Rattle.crx_filter.specs.LineByLine.{Phase, InFirstLines, InEpoch, Seen, Made, Completes, Moves, Fails}
+use Rattle.crx_filter.specs.LineByLine.{made_of_line}
+use Rattle.crx_filter.specs.LineByLine.{made_of_unit, are_types_counted, Direction, seen_of}
+use Rattle.crx_filter.specs.meaning.Expanded.{raws_kept, empties_state, event_line, first_lines}
+use Rattle.crx_filter.specs.meaning.Directions.{compact_reading}
+
+-- ---- what a line makes
+
+abbrev pub made_of_raw_step : RawStep → Made HeldEpoch OpenRawEpoch
+made_of_raw_step (Going so_far) = Moves (InEpoch so_far)
+made_of_raw_step (Whole held) = Completes (Observation held)
+made_of_raw_step (Faulty fault) = Fails fault
+
+-- where an epoch or an event may begin, by the tail of the epochs before, or none
+abbrev pub compact_begins : List Count → Option Tail → ReadLine → Made HeldEpoch OpenRawEpoch
+compact_begins types tail line =
+    made_of_line (λ content. if is_event_line content then made_of_unit (event_line content)
+    else made_of_raw_step (first_step types tail (Content content))) line
+
+-- in an epoch
+abbrev pub compact_continues : OpenRawEpoch → ReadLine → Made HeldEpoch OpenRawEpoch
+compact_continues so_far line = made_of_raw_step (next_step so_far line)
+
+-- ---- what takes memory
+
+-- an epoch's line takes memory where it has no fault
+abbrev pub is_good_beginning : List Count → Option Tail → List ℕ → Bool
+is_good_beginning types tail line = not (is_faulty (first_step types tail (Content line)))
+
+-- the line of the last satellite takes memory where it has no fault; the lines before it, but the epoch line, take none
+abbrev pub is_last_row : OpenRawEpoch → List ℕ → Bool
+is_last_row so_far line = has_come so_far.clock && makes_epoch (next_step so_far (Content line))
+
+-- ---- the state, and what is written
+
+-- a types line that is accepted among an event's records empties the reader's state, and so does all before the first
+-- epoch
+abbrev pub tail_kept : Seen OpenRawEpoch (Option Tail) → Unit HeldEpoch → Option Tail
+tail_kept seen (HeaderLine line) = None
+tail_kept seen (EventLine line) = seen.kept
+tail_kept seen (EventRecord line) = if empties_state (are_types_counted seen.phase) line then None else seen.kept
+tail_kept seen (Observation held) = Some held.tail
+
+-- a unit with its epoch
+abbrev pub held_unit : Unit HeldEpoch → Unit Epoch
+held_unit (HeaderLine line) = HeaderLine line
+held_unit (EventLine line) = EventLine line
+held_unit (EventRecord line) = EventRecord line
+held_unit (Observation held) = Observation held.epoch
+
+-- expansion as a direction; while an epoch is open, it holds what its lines are read after
+abbrev pub expansion : Direction HeldEpoch OpenRawEpoch (Option Tail)
+expansion = record {
+  begins = compact_begins;
+  continues = compact_continues;
+  memory_first = is_good_beginning;
+  memory_next = is_last_row;
+  kept_after = tail_kept;
+  kept_open = λ tail. None;
+  emptied = λ tail. None;
+  written = λ seen unit. printed_unit (held_unit unit);
+}
+
+-- ---- what is seen after some lines
+
+-- the state after the epochs of some items
+abbrev pub tail_of_items : List (Item ReadEpoch) → Option Tail
+tail_of_items items = tail_left (raws_kept items)
+
+-- whether the first of some lines begins an event, which leaves no epoch open
+abbrev pub begins_event : List ReadLine → Bool
+begins_event [] = false
+begins_event (Overlong ∷ lines) = false
+begins_event (Content line ∷ lines) = is_event_line line
+
+-- the epoch that lines after some items leave open
+abbrev pub compact_open : List (Item ReadEpoch) → List ReadLine → Option OpenRawEpoch
+compact_open items lines = if begins_event lines then None
+    else open_raw_with (types_in_force items) (tail_of_items items) lines
+
+-- the first two lines have a phase of their own
+abbrev pub phase_from_first_lines : {O : Type 0} → List ReadLine → Phase O → Phase O
+phase_from_first_lines lines phase =
+    elim (first_lines lines) [
+      | Here two count ↦ phase
+      | Wrong offset fault ↦ phase
+      | Wanted ↦ InFirstLines (length lines)
+    ]
+
+-- what an expansion has seen after some lines
+abbrev pub expansion_seen : Choices → List ReadLine → Seen OpenRawEpoch (Option Tail)
+expansion_seen choices lines =
+    let seen : Seen OpenRawEpoch (Option Tail) =
+    seen_of expansion compact_open tail_of_items choices (length lines) (compact_reading choices.skip lines) in
+    record seen { phase = phase_from_first_lines lines seen.phase }

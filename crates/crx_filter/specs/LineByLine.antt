@@ -1,0 +1,280 @@
+-- A run line by line: the state between two lines, and what one line more makes of it. Both directions go this way;
+-- what differs between them stands in a `Direction`. O is the state of an epoch whose lines have come in part, K
+-- that of the epochs before, and U what a whole epoch gives.
+use Rattle.std.specs.Prelude.{ℕ, zero, suc, Bool, true, false, not, ◌&&◌, ◌+◌, ◌-◌, List, [], Option, Some, None}
+use Rattle.std.specs.Prelude.{Result, Ok, Err, if◌then◌else◌}
+use Rattle.crx_base.specs.meaning.Seen.{ReadLine, Content, Overlong}
+use Rattle.crx_base.specs.declared.fault.At.{At}
+use Rattle.crx_base.specs.declared.fault.Fault.{Fault}
+use Rattle.crx_base.specs.declared.fault.Fault.TheVariants.{LineTooLong, MissingVersion, NoEndOfHeader, Truncated}
+use Rattle.crx_header.specs.meaning.Header.{is_end_of_header}
+use Rattle.crx_header.specs.meaning.ObservationTypes.{Count}
+use Rattle.crx_header.specs.ObservationTypes.{with_line}
+use Rattle.crx_rinex.specs.meaning.Units.{Unit, HeaderLine, EventLine, EventRecord, Observation}
+use Rattle.crx_base.specs.meaning.Choices.{Choices}
+use Rattle.crx_filter.specs.meaning.Items.{Item, is_at_start, header_has_ended, records_announced, records_left}
+use Rattle.crx_filter.specs.meaning.Items.{counts_types, records_count_types, types_in_force}
+use Rattle.crx_filter.specs.meaning.UnitPlaces.{header_line, event_record}
+use Rattle.crx_filter.specs.meaning.Reading.{Reading, AtFault, AtLines, Looking, can_go_on}
+use Rattle.crx_base.specs.meaning.Faults.{is_skippable}
+use Rattle.crx_filter.specs.meaning.Expanded.{crinex_version, crinex_program, fault_in_first_lines}
+
+-- ---- what is seen between two lines
+
+-- where a run is: so many of the first two lines of compact text are read; in the header, before its first line or
+-- later; between two units; in an event, with so many records still to come, among which types lines count or don't; in an
+-- epoch; after a warning, where a line that begins with > is looked for; after the end of the input; or ended by a
+-- fault
+pub data Phase (O : Type 0) : Type 0 where
+  InFirstLines : ℕ → Phase O
+  InHeader : Bool → Phase O
+  BetweenUnits : Phase O
+  InEvent : ℕ → Bool → Phase O
+  InEpoch : O → Phase O
+  LookingOn : Phase O
+  Closed : Phase O
+  Ended : At → Phase O
+
+-- the user's choices, the last line's number, the phase, the observation types in force, and the state of the epochs
+pub record Seen (O K : Type 0) : Type 0 where
+  pub choices : Choices
+  pub number : ℕ
+  pub phase : Phase O
+  pub types : List Count
+  pub kept : K
+
+-- ---- what one line more makes
+
+-- a unit; another phase, with no unit; a fault; or the fault that ended the run, once more
+pub data Made (U O : Type 0) : Type 0 where
+  Completes : Unit U → Made U O
+  Moves : Phase O → Made U O
+  Fails : Fault → Made U O
+  Repeats : At → Made U O
+
+-- what differs between the two directions: what a line makes where an epoch or an event may begin; what it makes in an
+-- epoch; whether a line may take memory where an epoch begins, and in an epoch; the state after a unit, while an
+-- epoch is open, and after a fault; and the lines written for a unit
+pub record Direction (U O K : Type 0) : Type 0 where
+  pub begins : List Count → K → ReadLine → Made U O
+  pub continues : O → ReadLine → Made U O
+  pub memory_first : List Count → K → List ℕ → Bool
+  pub memory_next : O → List ℕ → Bool
+  pub kept_after : Seen O K → Unit U → K
+  pub kept_open : K → K
+  pub emptied : K → K
+  pub written : Seen O K → Unit U → List (List ℕ)
+
+-- what a line makes by its content; one that is too long is a fault
+abbrev pub made_of_line : {U O : Type 0} → (List ℕ → Made U O) → ReadLine → Made U O
+made_of_line make Overlong = Fails LineTooLong
+made_of_line make (Content line) = make line
+
+-- a unit of one line, or the line's fault
+abbrev pub made_of_unit : {U O : Type 0} → Result (Unit U) Fault → Made U O
+made_of_unit (Ok unit) = Completes unit
+made_of_unit (Err fault) = Fails fault
+
+-- another phase, or the line's fault
+abbrev pub moved_to : {U O : Type 0} → Phase O → Result (List ℕ) Fault → Made U O
+moved_to phase (Ok line) = Moves phase
+moved_to phase (Err fault) = Fails fault
+
+-- the first line of compact text, or the second
+abbrev pub made_of_first_lines : {U O : Type 0} → ℕ → List ℕ → Made U O
+made_of_first_lines zero line = moved_to (InFirstLines 1) (crinex_version line)
+made_of_first_lines (suc count) line = moved_to (InHeader true) (crinex_program line)
+
+-- what a line makes in a phase
+abbrev pub made_in : {U O K : Type 0} → Direction U O K → Phase O → List Count → K → ReadLine → Made U O
+made_in direction (InFirstLines count) types kept line = made_of_line (made_of_first_lines count) line
+made_in direction (InHeader is_first) types kept line =
+    made_of_line (λ content. made_of_unit (header_line is_first content)) line
+made_in direction BetweenUnits types kept line = direction.begins types kept line
+made_in direction (InEvent left counted) types kept line =
+    made_of_line (λ content. made_of_unit (event_record counted content)) line
+made_in direction (InEpoch so_far) types kept line = direction.continues so_far line
+made_in direction LookingOn types kept line =
+    if can_go_on line then direction.begins types kept line else Moves LookingOn
+made_in direction Closed types kept line = Moves Closed
+made_in direction (Ended at) types kept line = Repeats at
+
+-- ---- after a unit
+
+-- so many records of an event are still to come
+abbrev pub with_records_left : {O : Type 0} → ℕ → Bool → Phase O
+with_records_left zero counted = BetweenUnits
+with_records_left (suc left) counted = InEvent (suc left) counted
+
+-- one record less of the event
+abbrev pub after_record : {O : Type 0} → Phase O → Phase O
+after_record (InEvent left counted) = with_records_left (left - 1) counted
+after_record phase = BetweenUnits
+
+abbrev pub phase_after : {U O : Type 0} → Phase O → Unit U → Phase O
+phase_after phase (HeaderLine line) = if is_end_of_header line then BetweenUnits else InHeader false
+phase_after phase (EventLine line) = with_records_left (records_announced line) (counts_types line)
+phase_after phase (EventRecord line) = after_record phase
+phase_after phase (Observation epoch) = BetweenUnits
+
+-- whether types lines count among the records that come now
+abbrev pub are_types_counted : {O : Type 0} → Phase O → Bool
+are_types_counted (InEvent left counted) = counted
+are_types_counted phase = false
+
+abbrev pub types_after : {U O : Type 0} → Phase O → List Count → Unit U → List Count
+types_after phase types (HeaderLine line) = with_line types line
+types_after phase types (EventLine line) = types
+types_after phase types (EventRecord line) = if are_types_counted phase then with_line types line else types
+types_after phase types (Observation epoch) = types
+
+-- ---- what is answered, what is borrowed, and what is seen then
+
+-- nothing; lines are pending; a fault that is skipped, and whether reading goes on at the very line that was given,
+-- which then comes a second time and doesn't count yet; or the fault that ended the run
+pub data Answer : Type 0 where
+  Quiet : Answer
+  Ready : Answer
+  Notice : At → Bool → Answer
+  Failed : At → Answer
+
+pub record Step (O K : Type 0) : Type 0 where
+  pub answer : Answer
+  pub handed_out : List (List ℕ)
+  pub next : Seen O K
+
+-- faults are skipped where an epoch or an event may begin and in an epoch
+abbrev pub may_skip : {O : Type 0} → Phase O → Bool
+may_skip BetweenUnits = true
+may_skip (InEpoch so_far) = true
+may_skip LookingOn = true
+may_skip phase = false
+
+abbrev pub is_in_epoch : {O : Type 0} → Phase O → Bool
+is_in_epoch (InEpoch so_far) = true
+is_in_epoch phase = false
+
+-- whether a fault is skipped
+abbrev pub is_skipped_in : {O K : Type 0} → Seen O K → Fault → Bool
+is_skipped_in seen fault = seen.choices.skip && (may_skip seen.phase && is_skippable fault)
+
+-- the state of the epochs in a phase: an open epoch may have it, and a fault empties it
+abbrev pub kept_in : {U O K : Type 0} → Direction U O K → Phase O → K → K
+kept_in direction (InEpoch so_far) kept = direction.kept_open kept
+kept_in direction (Ended at) kept = direction.emptied kept
+kept_in direction phase kept = kept
+
+abbrev pub after_unit : {U O K : Type 0} → Direction U O K → Seen O K → Unit U → Seen O K
+after_unit direction seen unit = record {
+  choices = seen.choices;
+  number = seen.number + 1;
+  phase = phase_after seen.phase unit;
+  types = types_after seen.phase seen.types unit;
+  kept = direction.kept_after seen unit;
+}
+
+-- the next line's phase, and the state of the epochs in it
+abbrev pub with_phase : {U O K : Type 0} → Direction U O K → Seen O K → Phase O → Seen O K
+with_phase direction seen phase =
+    record seen { number = seen.number + 1; phase = phase; kept = kept_in direction phase seen.kept }
+
+-- after a warning: a line that is to come again doesn't count yet
+abbrev pub after_warning : {U O K : Type 0} → Direction U O K → Seen O K → Bool → Seen O K
+after_warning direction seen again = record seen {
+  number = if again then seen.number else seen.number + 1;
+  phase = LookingOn;
+  kept = direction.emptied seen.kept;
+}
+
+-- a fault of a line: reading goes on at this very line where it stands in an epoch and begins with >
+abbrev pub failed_step : {U O K : Type 0} → Direction U O K → Seen O K → ReadLine → Fault → Step O K
+failed_step direction seen line fault =
+    let at : At = record { line = seen.number + 1; fault = fault } in
+    let again : Bool = is_in_epoch seen.phase && can_go_on line in
+    if is_skipped_in seen fault
+    then record { answer = Notice at again; handed_out = []; next = after_warning direction seen again }
+    else record { answer = Failed at; handed_out = []; next = with_phase direction seen (Ended at) }
+
+abbrev pub step_of_made : {U O K : Type 0} → Direction U O K → Seen O K → ReadLine → Made U O → Step O K
+step_of_made direction seen line (Completes unit) =
+    record { answer = Ready; handed_out = direction.written seen unit; next = after_unit direction seen unit }
+step_of_made direction seen line (Moves phase) =
+    record { answer = Quiet; handed_out = []; next = with_phase direction seen phase }
+step_of_made direction seen line (Fails fault) = failed_step direction seen line fault
+step_of_made direction seen line (Repeats at) =
+    record { answer = Failed at; handed_out = []; next = record seen { number = seen.number + 1 } }
+
+-- what one line more makes
+abbrev pub seen_next : {U O K : Type 0} → Direction U O K → Seen O K → ReadLine → Step O K
+seen_next direction seen line =
+    step_of_made direction seen line (made_in direction seen.phase seen.types seen.kept line)
+
+-- ---- the end of the input
+
+-- what the end of the input means in a phase
+abbrev pub fault_at_end_in : {O : Type 0} → Phase O → Option Fault
+fault_at_end_in (InFirstLines count) = Some (fault_in_first_lines count)
+fault_at_end_in (InHeader is_first) = Some (if is_first then MissingVersion else NoEndOfHeader)
+fault_at_end_in BetweenUnits = None
+fault_at_end_in (InEvent left counted) = Some Truncated
+fault_at_end_in (InEpoch so_far) = Some Truncated
+fault_at_end_in LookingOn = None
+fault_at_end_in Closed = None
+fault_at_end_in (Ended at) = None
+
+-- the input has ended, after a warning or without
+abbrev pub closed_after_warning : {U O K : Type 0} → Direction U O K → Seen O K → Seen O K
+closed_after_warning direction seen = record seen { phase = Closed; kept = direction.emptied seen.kept }
+
+abbrev pub end_step : {U O K : Type 0} → Direction U O K → Seen O K → Option Fault → Step O K
+end_step direction seen None = record { answer = Quiet; handed_out = []; next = record seen { phase = Closed } }
+end_step direction seen (Some fault) =
+    let at : At = record { line = seen.number + 1; fault = fault } in
+    if is_skipped_in seen fault
+    then record { answer = Notice at false; handed_out = []; next = closed_after_warning direction seen }
+    else record {
+      answer = Failed at;
+      handed_out = [];
+      next = record seen { phase = Ended at; kept = direction.emptied seen.kept };
+    }
+
+-- what the end of the input makes: a fault that ended the run is answered again
+abbrev pub seen_end : {U O K : Type 0} → Direction U O K → Seen O K → Step O K
+seen_end direction seen =
+    elim (seen.phase) [
+      | Ended at ↦ record { answer = Failed at; handed_out = []; next = seen }
+      | phase ↦ end_step direction seen (fault_at_end_in phase)
+    ]
+
+-- ---- what is seen of a reading
+
+-- the phase where an epoch or an event may begin, or in one
+abbrev pub phase_in_body : {O : Type 0} → ℕ → Bool → Option O → Phase O
+phase_in_body zero counted None = BetweenUnits
+phase_in_body zero counted (Some so_far) = InEpoch so_far
+phase_in_body (suc left) counted so_far = InEvent (suc left) counted
+
+-- the phase after some items, where more lines could make a unit, or the lines so far leave an epoch open
+abbrev pub phase_after_items : {E O : Type 0} → List (Item E) → Option O → Phase O
+phase_after_items items so_far = if not (header_has_ended items) then InHeader (is_at_start items)
+    else phase_in_body (records_left items) (records_count_types items) so_far
+
+-- the phase where a reading stops, by the epoch that lines after some items leave open
+abbrev pub phase_of : {E O : Type 0} → (List (Item E) → List ReadLine → Option O) → Reading E → Phase O
+phase_of open_with r =
+    elim (r.stop) [
+      | AtFault at ↦ Ended at
+      | AtLines number lines ↦ phase_after_items r.items (open_with r.items lines)
+      | Looking number ↦ LookingOn
+    ]
+
+-- the state after so many lines, by where their reading stops and by the epochs of its items
+abbrev pub seen_of : {E U O K : Type 0} → Direction U O K
+    → (List (Item E) → List ReadLine → Option O) → (List (Item E) → K) → Choices → ℕ → Reading E → Seen O K
+seen_of direction open_with kept_of choices count r = record {
+  choices = choices;
+  number = count;
+  phase = phase_of open_with r;
+  types = types_in_force r.items;
+  kept = kept_in direction (phase_of open_with r) (kept_of r.items);
+}

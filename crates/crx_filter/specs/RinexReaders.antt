@@ -1,0 +1,92 @@
+-- What a reader of RINEX makes of a line.
+use Rattle.std.specs.Prelude.{◌≡◌, ◌⊎◌, ℕ, Bool, true, false, List, [], Option, Some, length}
+use Rattle.crx_base.specs.meaning.Seen.{Content}
+use Rattle.crx_base.specs.declared.fault.Fault.{Fault}
+use Rattle.crx_base.specs.declared.fault.Fault.TheVariants.{OutOfMemory}
+use Rattle.crx_rinex.specs.meaning.EpochLines.{ObservationHead}
+use Rattle.crx_rinex.specs.meaning.Observations.{Epoch as ObservationEpoch}
+use Rattle.crx_rinex.specs.meaning.EpochPlaces.{OpenEpoch}
+use Rattle.crx_rinex.specs.meaning.Units.{Unit, HeaderLine, EventLine, EventRecord, Observation}
+use Rattle.crx_compact.specs.Written.{epoch_by_rows}
+use Rattle.crx_filter.specs.CompactionByLine.{compaction, epoch_written, is_before_header, is_next_row, Written}
+use Rattle.crx_filter.specs.LineByLine.{Phase, Made, Completes, Moves, Fails, made_in, phase_after, types_after}
+use Rattle.crx_filter.specs.Memory.{may_take_memory}
+use Rattle.crx_filter.specs.Stages.{seen_stage, is_ended}
+use Rattle.crx_filter.specs.RinexStages.{is_open_stage, open_epoch}
+use Rattle.crx_filter.specs.declared.rinex_reader.RinexReader.{RinexReader}
+use Rattle.crx_filter.specs.declared.rinex_reader.RinexStep.{RinexStep}
+use Rattle.crx_filter.specs.declared.rinex_reader.RinexStep.TheVariants.{Nothing, Header, Event, Record}
+use Rattle.crx_filter.specs.declared.rinex_reader.RinexStep.TheVariants.{Begun, Row, Epoch}
+
+-- the epoch that a reader holds open
+abbrev pub epoch_open : RinexReader → Option OpenEpoch
+epoch_open r = open_epoch r.types r.head r.rows.rows
+
+-- where a reader is
+abbrev pub reader_phase : RinexReader → Phase OpenEpoch
+reader_phase r = seen_stage (epoch_open r) r.stage
+
+-- what a line makes
+abbrev pub made_at : RinexReader → List ℕ → Written → Made ObservationEpoch OpenEpoch
+made_at r line kept = made_in compaction (reader_phase r) r.types kept (Content line)
+
+-- a reader that differs from another at most in the row that was read last
+pub record IsSameReader (before after : RinexReader) : Type 0 where
+  pub stage : after.stage ≡ before.stage
+  pub types : after.types ≡ before.types
+  pub head : after.head ≡ before.head
+  pub count : after.count ≡ before.count
+  pub rows : after.rows.rows ≡ before.rows.rows
+
+-- a unit was completed, and the reader goes on after it
+pub record Completed (made : Made ObservationEpoch OpenEpoch)
+    (unit : Unit ObservationEpoch) (before after : RinexReader) : Type 0 where
+  pub unit_made : made ≡ Completes unit
+  pub phase_then : reader_phase after ≡ phase_after (reader_phase before) unit
+  pub types_then : after.types ≡ types_after (reader_phase before) before.types unit
+  pub closed : is_open_stage after.stage ≡ false
+
+-- an epoch was completed with this line, and the reader has its parts
+pub record CompletedEpoch (made : Made ObservationEpoch OpenEpoch)
+    (line : List ℕ) (before after : RinexReader) : Type 0 where
+  pub head : ObservationHead
+  pub held : after.head ≡ Some head
+  pub is : Completed made (Observation (epoch_by_rows head after.rows.rows)) before after
+  pub counted : length after.rows.rows ≡ head.count
+  pub allowed : may_take_memory (epoch_written before.types before.types) is_next_row
+      (reader_phase before) (Content line) ≡ true
+
+-- a line after which no unit is complete
+pub record MovesReader (made : Made ObservationEpoch OpenEpoch) (before after : RinexReader) : Type 0 where
+  pub moved : made ≡ Moves (reader_phase after)
+  pub types_then : after.types ≡ before.types
+  pub goes_on : is_ended after.stage ≡ false
+
+-- the line of an epoch: the epoch is whole with it, or wants rows
+abbrev pub BeginsEpoch : Made ObservationEpoch OpenEpoch → List ℕ → RinexReader → RinexReader → Type 0
+BeginsEpoch made line before after = (after.rows.rows ≡ [])
+    × (((is_open_stage after.stage ≡ true) × MovesReader made before after)
+    ⊎ ((is_open_stage after.stage ≡ false) × CompletedEpoch made line before after))
+
+-- whether a line was a row of an epoch
+abbrev pub is_row : RinexStep → Bool
+is_row Row = true
+is_row Epoch = true
+is_row step = false
+
+-- what a step says of a line
+abbrev pub TakesRinexLine : Made ObservationEpoch OpenEpoch → RinexReader → List ℕ → RinexStep → RinexReader → Type 0
+TakesRinexLine made before line Nothing after = MovesReader made before after × (is_open_stage after.stage ≡ false)
+TakesRinexLine made before line (Header is_first) after = Completed made (HeaderLine line) before after
+    × (is_first ≡ is_before_header (reader_phase before))
+TakesRinexLine made before line Event after = Completed made (EventLine line) before after
+TakesRinexLine made before line Record after = Completed made (EventRecord line) before after
+TakesRinexLine made before line Begun after = BeginsEpoch made line before after
+TakesRinexLine made before line Row after = MovesReader made before after × (is_open_stage after.stage ≡ true)
+TakesRinexLine made before line Epoch after = CompletedEpoch made line before after
+
+-- a fault is that of the line, or memory ran out at a line that may take some: the reading of an epoch's line takes
+-- none
+abbrev pub RefusesRinexLine : Made ObservationEpoch OpenEpoch → RinexReader → List ℕ → Fault → Type 0
+RefusesRinexLine made before line fault = (made ≡ Fails fault) ⊎ ((fault ≡ OutOfMemory)
+    × (may_take_memory (λ first. false) is_next_row (reader_phase before) (Content line) ≡ true))

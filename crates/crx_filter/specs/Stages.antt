@@ -1,0 +1,47 @@
+-- The stage between two lines, as code stores it and as definitions see it.
+use Rattle.std.specs.Prelude.{Bool, true, false, Option, Some, None}
+use Rattle.crx_filter.specs.LineByLine.{Phase as SeenPhase, InFirstLines, InHeader, BetweenUnits, InEvent, InEpoch}
+use Rattle.crx_filter.specs.LineByLine.{LookingOn, Closed as SeenClosed, Ended as SeenEnded}
+use Rattle.crx_filter.specs.declared.stage.Stage.{Stage}
+use Rattle.crx_filter.specs.declared.stage.Stage.TheVariants.{FirstLines, Header, Between, Event, Open, Looking}
+use Rattle.crx_filter.specs.declared.stage.Stage.TheVariants.{Closed, Ended}
+
+-- in the open epoch
+abbrev pub phase_of_open : {O : Type 0} → Option O → SeenPhase O
+phase_of_open None = BetweenUnits
+phase_of_open (Some so_far) = InEpoch so_far
+
+-- a stage with its open epoch
+abbrev pub seen_stage : {O : Type 0} → Option O → Stage → SeenPhase O
+seen_stage held (FirstLines count) = InFirstLines count
+seen_stage held (Header is_first) = InHeader is_first
+seen_stage held Between = BetweenUnits
+seen_stage held (Event left counted) = InEvent left counted
+seen_stage held Open = phase_of_open held
+seen_stage held Looking = LookingOn
+seen_stage held Closed = SeenClosed
+seen_stage held (Ended at) = SeenEnded at
+
+-- in the stage of an open epoch there is one
+abbrev pub is_held : {O : Type 0} → Stage → Option O → Bool
+is_held Open None = false
+is_held Open (Some so_far) = true
+is_held (FirstLines count) held = true
+is_held (Header is_first) held = true
+is_held Between held = true
+is_held (Event left counted) held = true
+is_held Looking held = true
+is_held Closed held = true
+is_held (Ended at) held = true
+
+-- whether a fault has ended the run
+abbrev pub is_ended : Stage → Bool
+is_ended (Ended at) = true
+is_ended stage = false
+
+-- whether a stage is one after a fault or after the end of the input
+abbrev pub is_settled : Stage → Bool
+is_settled Looking = true
+is_settled Closed = true
+is_settled (Ended at) = true
+is_settled stage = false

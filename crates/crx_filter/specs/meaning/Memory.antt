@@ -1,0 +1,74 @@
+-- At which lines memory may run out: only where what stands at a line has no fault, and where the line takes memory.
+-- Which lines of an epoch take memory differs between compaction, expansion and check: the function `takes` says it, by
+-- how many of the epoch's lines stand before the line, and whether the epoch is whole with it.
+-- Lists of items have the newest first.
+use Rattle.std.specs.Prelude.{ℕ, zero, suc, Bool, true, false, ◌&&◌, ◌+◌, List, [], ◌∷◌, ◌++◌, length, Option, Some, None}
+use Rattle.std.specs.Prelude.{if◌then◌else◌, nat_lt}
+use Rattle.crx_base.specs.meaning.Seen.{ReadLine}
+use Rattle.crx_base.specs.declared.fault.At.{At}
+use Rattle.crx_header.specs.meaning.ObservationTypes.{is_types_line}
+use Rattle.crx_rinex.specs.meaning.Places.{Place, Here, Wrong, Wanted}
+use Rattle.crx_rinex.specs.meaning.Units.{Unit, HeaderLine, EventLine, EventRecord, Observation}
+use Rattle.crx_filter.specs.meaning.Items.{Item, Warned, records_count_types}
+use Rattle.crx_filter.specs.meaning.Reading.{Reading, AtFault, AtLines, Looking, is_skipped, can_go_on}
+
+-- whether a line takes memory that completes a unit after some items, so many lines of the unit standing before it: a
+-- types line that counts does, other header lines and records and an event's line don't, and an epoch's last line as
+-- `takes` says
+abbrev pub unit_takes : {E : Type 0} → (ℕ → Bool → Bool) → List (Item E) → ℕ → Unit E → Bool
+unit_takes takes items count (HeaderLine line) = is_types_line line
+unit_takes takes items count (EventLine line) = false
+unit_takes takes items count (EventRecord line) = records_count_types items && is_types_line line
+unit_takes takes items count (Observation epoch) = takes count true
+
+-- whether a line takes memory, by what stands at the lines up to it: none that has a fault does, and an epoch's other
+-- lines do as `takes` says
+abbrev pub place_takes : {E : Type 0} → (ℕ → Bool → Bool) → List (Item E) → ℕ → Place (Unit E) → Bool
+place_takes takes items count (Here unit lines) = unit_takes takes items count unit
+place_takes takes items count (Wrong offset fault) = false
+place_takes takes items count Wanted = takes count false
+
+-- whether a line takes memory after some items and the lines of its unit before it
+abbrev pub line_takes : {E : Type 0} → (List (Item E) → List ReadLine → Place (Unit E))
+    → (ℕ → Bool → Bool) → List (Item E) → List ReadLine → ReadLine → Bool
+line_takes place takes items before line =
+    place_takes takes items (length before) (place items (before ++ line ∷ []))
+
+-- where a line cuts an epoch off, its fault is skipped, and reading goes on at that very line: the warning, where the
+-- line takes memory then
+abbrev pub takes_after_warning : {E : Type 0} → (List (Item E) → List ReadLine → Place (Unit E)) → (ℕ → Bool → Bool)
+    → Bool → List (Item E) → ℕ → ReadLine → Place (Unit E) → Option (List At)
+takes_after_warning place takes skip items number line (Here unit lines) = None
+takes_after_warning place takes skip items number line (Wrong offset fault) =
+    let cut : At = record { line = number + offset; fault = fault } in
+    if is_skipped skip items fault
+    && ((nat_lt 0 offset && can_go_on line) && line_takes place takes (Warned cut ∷ items) [] line)
+    then Some (cut ∷ []) else None
+takes_after_warning place takes skip items number line Wanted = None
+
+-- the warnings of a line after which memory may run out at it, where it may at all, by the reading of the lines before it
+abbrev pub memory_allowed : {E : Type 0} → (List (Item E) → List ReadLine → Place (Unit E))
+    → (ℕ → Bool → Bool) → Bool → Reading E → ReadLine → Option (List At)
+memory_allowed place takes skip r line =
+    elim (r.stop) [
+      | AtFault at ↦ None
+      | AtLines number before ↦ if line_takes place takes r.items before line then Some []
+          else takes_after_warning place takes skip r.items number line (place r.items (before ++ line ∷ []))
+      | Looking number ↦ if can_go_on line && line_takes place takes r.items [] line then Some [] else None
+    ]
+
+-- RINEX, compacted: an epoch's line takes memory where the epoch is whole with it, and each satellite's line does
+abbrev pub compaction_takes : ℕ → Bool → Bool
+compaction_takes zero is_whole = is_whole
+compaction_takes (suc count) is_whole = true
+
+-- compact text: an epoch's line takes memory, and the line of its last satellite; no line between them does
+abbrev pub expansion_takes : ℕ → Bool → Bool
+expansion_takes zero is_whole = true
+expansion_takes (suc zero) is_whole = false
+expansion_takes (suc (suc count)) is_whole = is_whole
+
+-- RINEX, checked: each satellite's line does
+abbrev pub check_takes : ℕ → Bool → Bool
+check_takes zero is_whole = false
+check_takes (suc count) is_whole = true

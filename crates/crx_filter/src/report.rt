@@ -1,0 +1,115 @@
+//! The report of a check: six lines.
+
+ghost use Rattle.std.specs.Prelude.{◌≡◌, ◌+◌, ◌≤◌, ◌++◌, ◌∷◌, ℕ, None, Some, MatchBool, codes, decimal, length, slice_get};
+ghost use Rattle.std.specs.List.{flat_map};
+ghost use Rattle.crx_filter.specs.meaning.Standard.{standard_text, systems_text, count_text, report_lines};
+ghost use Rattle.crx_filter.specs.Totals.{totals_held, found_held};
+
+use crx_base::limits::VERSION_WIDTH;
+use crx_header::Types;
+use crx_rinex::Epoch;
+use crx_text::Text;
+use crx_text::appending::append;
+use crx_text::columns::trimmed;
+use itoa::Buffer;
+
+/// What a check counts.
+#[derive(Clone, Copy)]
+pub struct Totals {
+    /// Columns 1 to 9 of the header's first line, blanks before it.
+    pub version: [u8; VERSION_WIDTH],
+    /// How many observation epochs were accepted.
+    pub epochs: u64,
+    /// How many events were accepted.
+    pub events: u64,
+    /// How many observations were accepted.
+    pub observations: u64,
+}
+
+/// Replaces a text by a word and a number.
+fn put_count(text: &mut Text, word: &[u8], count: u64)
+    requires { length word.now ≤ 20 }
+    ensures { text.new ≡ word.now ++ decimal count }
+{
+    text.clear();
+    append(text, word);
+    append(text, Buffer::new().format(count).as_bytes());
+}
+
+/// Appends a system's letter and its count of types.
+fn append_count(text: &mut Text, letter: u8, count: usize)
+    requires { length text.old ≤ 1000 }
+    ensures value { text.new ≡ text.old ++ count_text (letter, count) }
+    ensures size { length text.new ≤ length text.old + 30 }
+{
+    append(text, b" ");
+    append(text, &[letter]);
+    append(text, b" ");
+    append(text, Buffer::new().format(count).as_bytes());
+}
+
+/// Appends the systems' letters and their counts of types.
+fn append_counts(text: &mut Text, types: &Types)
+    requires { length text.old ≤ 100 }
+    ensures { text.new ≡ text.old ++ flat_map count_text types.now }
+{
+    for index in 0..types.systems() {
+        if let Some((letter, count)) = types.entry(index) {
+            append_count(text, letter, count);
+        }
+    }
+}
+
+/// Replaces a text by the line of the systems and their counts of types.
+fn put_systems(text: &mut Text, types: &Types)
+    ensures { text.new ≡ codes "systems" ++ systems_text types.now }
+{
+    text.clear();
+    append(text, b"systems");
+    if types.systems() == 0 {
+        append(text, b" none");
+        return;
+    }
+    append_counts(text, types);
+}
+
+/// Replaces a text by the line that says whether the file is standard, or names the first line that isn't.
+fn put_standard(text: &mut Text, not_standard: Option<u64>)
+    ensures { text.new ≡ codes "standard" ++ standard_text not_standard }
+{
+    match not_standard {
+        None => {
+            text.clear();
+            append(text, b"standard yes");
+        }
+        Some(number) => put_count(text, b"standard no ", number),
+    }
+}
+
+/// Replaces a text by the line of the report at a place, from 0; `false` where it has no such line.
+pub fn print_report_line(
+    index: usize,
+    totals: &Totals,
+    types: &Types,
+    not_standard: Option<u64>,
+    text: &mut Text,
+) -> bool
+    ensures line { MatchBool result
+        (slice_get (report_lines (found_held totals.now types.now not_standard)) index ≡ Some text.new)
+        (slice_get (report_lines (found_held totals.now types.now not_standard)) index ≡ None) }
+{
+    match index {
+        0 => {
+            text.clear();
+            append(text, b"format ");
+            append(text, trimmed(&totals.version, 1, VERSION_WIDTH));
+        }
+        1 => put_systems(text, types),
+        2 => put_count(text, b"epochs ", totals.epochs),
+        3 => put_count(text, b"events ", totals.events),
+        4 => put_count(text, b"observations ", totals.observations),
+        5 => put_standard(text, not_standard),
+        _ => return false,
+    }
+    true
+}

@@ -1,0 +1,258 @@
+//! RINEX observation files, one line at a time: what each line is, the types in force, and the row that was read last.
+
+ghost use Rattle.std.specs.Prelude.{ℕ, List, not, ◌≡◌, true};
+ghost use Rattle.crx_filter.specs.RinexStages.{is_rinex_stage};
+
+use crate::stage::{Stage, after_header_line, counts_types, with_records_left};
+use crate::types_lines::{accept_header_line, accept_record};
+use crx_base::Fault;
+use crx_header::Types;
+use crx_rinex::{EpochLine, Head, RowBuffer, RowsSoFar, begins_epoch};
+use std::alloc::Global;
+
+/// What a line of RINEX is, where it has no fault.
+#[derive(Clone, Copy)]
+pub enum RinexStep {
+    /// A line that was passed over.
+    Nothing,
+    /// A header line.
+    Header {
+        /// Whether it is the first.
+        is_first: bool,
+    },
+    /// An event's first line.
+    Event,
+    /// A record of an event.
+    Record,
+    /// The line of an epoch; no satellite line of it has come.
+    Begun,
+    /// A satellite line after which others of the epoch are to come.
+    Row,
+    /// The last line of an epoch whose satellite lines have come.
+    Epoch,
+}
+
+/// Reads RINEX one line at a time. Of an epoch it has the line and the row that was read last; whoever takes the rows looks whether a
+/// satellite comes twice.
+#[derive(Drop)]
+pub struct RinexReader {
+    pub stage: Stage,
+    types: Types,
+    /// The line of the epoch whose rows come, or of the last one.
+    head: Option<EpochLine>,
+    /// How many rows of it have come.
+    count: usize,
+    /// The row that was read last.
+    row: RowBuffer,
+    /// The rows that have come.
+    rows: RowsSoFar,
+    ghost consistent: { is_rinex_stage stage head count rows.rows ≡ true },
+}
+
+impl RinexReader {
+    ghost use Rattle.std.specs.Prelude.{◌⊎◌, ◌++◌, ◌∷◌, [], Ok, false, length, ◌≤◌, OnOk, IfOk, IfErr, OnErr};
+    ghost use Rattle.std.specs.Option.{option_copied};
+    ghost use Rattle.crx_base.specs.declared.limits.TheConstants.{SATELLITES_LIMIT};
+    ghost use Rattle.crx_base.specs.meaning.Seen.{Content};
+    ghost use Rattle.crx_header.specs.meaning.EpochColumns.{begins_epoch};
+    ghost use Rattle.crx_rinex.specs.meaning.Epochs.{has_satellite};
+    ghost use Rattle.crx_rinex.specs.meaning.SatelliteLines.{row_of};
+    ghost use Rattle.crx_filter.specs.CompactionByLine.{Written, is_next_row};
+    ghost use Rattle.crx_filter.specs.LineByLine.{Fails, InHeader};
+    ghost use Rattle.crx_filter.specs.Memory.{may_take_memory};
+    ghost use Rattle.crx_filter.specs.RinexStages.{is_open_stage};
+    ghost use Rattle.crx_filter.specs.Stages.{is_ended};
+    ghost use Rattle.crx_filter.specs.RinexReaders.{is_row, reader_phase, made_at, IsSameReader, TakesRinexLine, RefusesRinexLine};
+
+    /// A reader before the first line.
+    pub fn new(alloc: Global) -> RinexReader
+        ensures phase { reader_phase result ≡ InHeader true }
+        ensures types { result.types ≡ [] }
+        ensures stage { is_open_stage result.stage ≡ false }
+    {
+        RinexReader {
+            stage: Stage::Header { is_first: true },
+            types: Types::new(alloc),
+            head: None,
+            count: 0,
+            row: RowBuffer::new(),
+            rows: RowsSoFar::new(),
+        }
+    }
+
+    /// The types in force.
+    pub fn types(&self) -> &Types
+        ensures value { result.now ≡ self.now.types }
+    {
+        &self.types
+    }
+
+    /// The line of the epoch that was begun last.
+    pub fn head(&self) -> Option<&EpochLine>
+        ensures value { option_copied result ≡ self.now.head }
+    {
+        self.head.as_ref()
+    }
+
+    /// The row that was read last.
+    #[inline(always)]
+    pub fn row(&self) -> &RowBuffer
+        ensures value { result.now ≡ self.now.row }
+    {
+        &self.row
+    }
+
+    /// How many rows of the epoch have come.
+    #[inline(always)]
+    pub fn count(&self) -> usize
+        ensures value { result ≡ self.now.count }
+        ensures rows { is_open_stage self.now.stage ≡ true → result ≡ length self.now.rows.rows }
+    {
+        self.count
+    }
+
+    /// Takes a line that is no row of an open epoch, where no fault has ended the reading; while a line that begins with `>` is looked for,
+    /// others are passed over.
+    ///
+    /// In the header: the faults of [`header_first`](crx_header::header_first) for the first line, then `BadTypesLine`. Among an event's
+    /// records `BadTypesLine`, where types lines count. Where an epoch or an event may begin, the faults of [`Head::read`]. `OutOfMemory` comes
+    /// only at a line without a fault: a types line that counts. After a fault the reader is as it was.
+    pub fn take(&mut self, line: &[u8]) -> Result<RinexStep, Fault>
+        requires running { is_ended self.old.stage ≡ false }
+        requires closed { is_open_stage self.old.stage ≡ false }
+        ensures takes { (kept : Written) → IfOk result
+            (λ step. TakesRinexLine (made_at self.old line.now kept) self.old line.now step self.new) }
+        ensures refuses { (kept : Written) → IfErr result
+            (λ fault. RefusesRinexLine (made_at self.old line.now kept) self.old line.now fault) }
+        ensures steps { IfOk result (λ step. is_row step ≡ false) }
+        ensures same { OnErr result (IsSameReader self.old self.new) }
+    {
+        match self.stage {
+            Stage::Header { is_first } => self.header_line(is_first, line),
+            Stage::Between => self.begin(line),
+            Stage::Event { left, counted } => self.record(left, counted, line),
+            Stage::Looking => {
+                if begins_epoch(line) {
+                    self.begin(line)
+                } else {
+                    Ok(RinexStep::Nothing)
+                }
+            }
+            Stage::Open | Stage::FirstLines { .. } | Stage::Closed | Stage::Ended(_) => {
+                Ok(RinexStep::Nothing)
+            }
+        }
+    }
+
+    /// Takes a header line.
+    fn header_line(&mut self, is_first: bool, line: &[u8]) -> Result<RinexStep, Fault>
+        requires stage { self.old.stage ≡ Stage.Header is_first }
+        ensures takes { (kept : Written) → IfOk result
+            (λ step. TakesRinexLine (made_at self.old line.now kept) self.old line.now step self.new) }
+        ensures refuses { (kept : Written) → IfErr result
+            (λ fault. RefusesRinexLine (made_at self.old line.now kept) self.old line.now fault) }
+        ensures steps { IfOk result (λ step. is_row step ≡ false) }
+        ensures same { OnErr result (IsSameReader self.old self.new) }
+    {
+        accept_header_line(&mut self.types, is_first, line)?;
+        self.stage = after_header_line(line);
+        Ok(RinexStep::Header { is_first })
+    }
+
+    /// Takes a record of an event.
+    fn record(&mut self, left: usize, counted: bool, line: &[u8]) -> Result<RinexStep, Fault>
+        requires stage { self.old.stage ≡ Stage.Event left counted }
+        ensures takes { (kept : Written) → IfOk result
+            (λ step. TakesRinexLine (made_at self.old line.now kept) self.old line.now step self.new) }
+        ensures refuses { (kept : Written) → IfErr result
+            (λ fault. RefusesRinexLine (made_at self.old line.now kept) self.old line.now fault) }
+        ensures steps { IfOk result (λ step. is_row step ≡ false) }
+        ensures same { OnErr result (IsSameReader self.old self.new) }
+    {
+        accept_record(&mut self.types, counted, line)?;
+        self.stage = with_records_left(left.saturating_sub(1), counted);
+        Ok(RinexStep::Record)
+    }
+
+    /// Takes a line where an epoch or an event may begin.
+    fn begin(&mut self, line: &[u8]) -> Result<RinexStep, Fault>
+        requires stage { (self.old.stage ≡ Stage.Between)
+            ⊎ ((self.old.stage ≡ Stage.Looking) × (begins_epoch line.now ≡ true)) }
+        ensures takes { (kept : Written) → IfOk result
+            (λ step. TakesRinexLine (made_at self.old line.now kept) self.old line.now step self.new) }
+        ensures refuses { (kept : Written) → IfErr result
+            (λ fault. RefusesRinexLine (made_at self.old line.now kept) self.old line.now fault) }
+        ensures steps { IfOk result (λ step. is_row step ≡ false) }
+        ensures same { OnErr result (IsSameReader self.old self.new) }
+    {
+        match Head::read(line)? {
+            Head::Event { count, .. } => {
+                self.stage = with_records_left(count, counts_types(line));
+                Ok(RinexStep::Event)
+            }
+            Head::Epoch(head) => {
+                self.stage = if head.count() == 0 {
+                    Stage::Between
+                } else {
+                    Stage::Open
+                };
+                self.head = Some(head);
+                self.count = 0;
+                self.rows = RowsSoFar::new();
+                Ok(RinexStep::Begun)
+            }
+        }
+    }
+
+    /// Whether all satellite lines of the epoch that was begun last have come.
+    pub fn is_whole(&self) -> bool
+        ensures value { result ≡ not (is_open_stage self.now.stage) }
+    {
+        !self.stage.is_in_epoch()
+    }
+
+    /// Reads a line of an open epoch: `Truncated` where it begins with `>`, else the faults of [`RowBuffer::read`]. Whether the satellite has
+    /// come already isn't looked at: where it has, the line's fault is `RepeatedSatellite`, else [`RinexReader::take_row`] takes the row.
+    #[inline(always)]
+    pub fn read_row(&mut self, line: &[u8]) -> Result<(), Fault>
+        requires open { is_open_stage self.old.stage ≡ true }
+        ensures ok { OnOk result (row_of self.old.types line.now ≡ Ok self.new.row) }
+        ensures row { OnOk result (begins_epoch line.now ≡ false) }
+        ensures repeated { (kept : Written) → OnOk result (has_satellite self.new.row.name self.old.rows.rows ≡ true
+            → made_at self.old line.now kept ≡ Fails Fault.RepeatedSatellite) }
+        ensures memory { OnOk result (has_satellite self.new.row.name self.old.rows.rows ≡ false
+            → may_take_memory (λ first. false) is_next_row (reader_phase self.old) (Content line.now) ≡ true) }
+        ensures refused { (kept : Written) → IfErr result (λ fault. made_at self.old line.now kept ≡ Fails fault) }
+        ensures same { IsSameReader self.old self.new }
+    {
+        if begins_epoch(line) {
+            return Err(Fault::Truncated);
+        }
+        self.row.read(&self.types, line)
+    }
+
+    /// Takes the row that was read last: it is the next one of the open epoch.
+    #[inline(always)]
+    pub fn take_row(&mut self) -> RinexStep
+        requires open { is_open_stage self.old.stage ≡ true }
+        ensures takes { (line : List ℕ) (kept : Written) → row_of self.old.types line ≡ Ok self.old.row
+            → begins_epoch line ≡ false → has_satellite self.old.row.name self.old.rows.rows ≡ false
+            → TakesRinexLine (made_at self.old line kept) self.old line result self.new }
+        ensures steps { is_row result ≡ true }
+        ensures rows { self.new.rows.rows ≡ self.old.rows.rows ++ self.old.row ∷ [] }
+        ensures row { self.new.row ≡ self.old.row }
+        ensures few { length self.new.rows.rows ≤ SATELLITES_LIMIT }
+    {
+        self.rows.add(&self.row);
+        let Some(head) = &self.head else {
+            unreachable!()
+        };
+        let announced = head.count();
+        self.count += 1;
+        if self.count == announced {
+            self.stage = Stage::Between;
+            return RinexStep::Epoch;
+        }
+        RinexStep::Row
+    }
+}

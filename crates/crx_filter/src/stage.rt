@@ -1,0 +1,114 @@
+//! Where a run is between two lines, in either direction.
+
+ghost use Rattle.std.specs.Prelude.{ℕ, ◌≡◌, List, Option, Bool, true, false, if◌then◌else◌};
+ghost use Rattle.crx_rinex.specs.meaning.EpochPlaces.{OpenEpoch};
+ghost use Rattle.crx_compact.specs.OpenEpochs.{OpenRawEpoch};
+ghost use Rattle.crx_filter.specs.LineByLine.{is_in_epoch, may_skip, with_records_left, InHeader, BetweenUnits};
+ghost use Rattle.crx_filter.specs.meaning.Items.{counts_types};
+ghost use Rattle.crx_filter.specs.Stages.{seen_stage, is_held, is_settled};
+ghost use Rattle.crx_filter.specs.RinexStages.{is_open_stage, is_rinex_stage};
+ghost use Rattle.crx_header.specs.meaning.Header.{is_end_of_header};
+ghost use Rattle.crx_rinex.specs.meaning.Observations.{Row};
+ghost use Rattle.crx_rinex.specs.meaning.EpochLines.{ObservationHead};
+
+use crx_base::At;
+use crx_header::is_end;
+
+/// Where a run is between two lines.
+#[derive(Clone, Copy)]
+pub enum Stage {
+    /// In the first lines of compact text.
+    FirstLines {
+        /// How many of them have come.
+        count: usize,
+    },
+    /// In the header, before its first line or later.
+    Header {
+        /// Whether no line has come yet.
+        is_first: bool,
+    },
+    /// Where an epoch or an event may begin.
+    Between,
+    /// Among the records of an event.
+    Event {
+        /// How many records are still to come.
+        left: usize,
+        /// Whether types lines count among them.
+        counted: bool,
+    },
+    /// In an epoch whose lines have come in part.
+    Open,
+    /// After a warning: a line that begins with `>` is looked for.
+    Looking,
+    /// After the end of the input.
+    Closed,
+    /// Ended by a fault.
+    Ended(At),
+}
+
+impl Stage {
+    /// Whether an epoch's lines have come in part.
+    pub fn is_in_epoch(&self) -> bool
+        ensures rinex { (held : Option OpenEpoch)
+            → is_held self.now held ≡ true → result ≡ is_in_epoch (seen_stage held self.now) }
+        ensures compact { (held : Option OpenRawEpoch)
+            → is_held self.now held ≡ true → result ≡ is_in_epoch (seen_stage held self.now) }
+        ensures value { result ≡ is_open_stage self.now }
+    {
+        matches!(self, Stage::Open)
+    }
+
+    /// Whether the stage is one after a fault or after the end of the input.
+    pub fn is_settled(&self) -> bool
+        ensures value { result ≡ is_settled self.now }
+    {
+        matches!(self, Stage::Looking | Stage::Closed | Stage::Ended(_))
+    }
+
+    /// Whether faults may be skipped: outside the header and the records of events.
+    pub fn may_skip(&self) -> bool
+        ensures rinex { (held : Option OpenEpoch) → result ≡ may_skip (seen_stage held self.now) }
+        ensures compact { (held : Option OpenRawEpoch) → result ≡ may_skip (seen_stage held self.now) }
+    {
+        matches!(self, Stage::Between | Stage::Open | Stage::Looking)
+    }
+}
+
+/// The stage after a header line.
+pub fn after_header_line(line: &[u8]) -> Stage
+    ensures rinex { (held : Option OpenEpoch)
+        → seen_stage held result ≡ (if is_end_of_header line.now then BetweenUnits else InHeader false) }
+    ensures compact { (held : Option OpenRawEpoch)
+        → seen_stage held result ≡ (if is_end_of_header line.now then BetweenUnits else InHeader false) }
+    ensures consistent { (head : Option ObservationHead) (count : ℕ) (rows : List Row)
+        → is_rinex_stage result head count rows ≡ true }
+    ensures closed { is_open_stage result ≡ false }
+{
+    if is_end(line) {
+        Stage::Between
+    } else {
+        Stage::Header { is_first: false }
+    }
+}
+
+/// The stage with so many records of an event still to come.
+pub fn with_records_left(left: usize, counted: bool) -> Stage
+    ensures rinex { (held : Option OpenEpoch) → seen_stage held result ≡ with_records_left left counted }
+    ensures compact { (held : Option OpenRawEpoch) → seen_stage held result ≡ with_records_left left counted }
+    ensures consistent { (head : Option ObservationHead) (count : ℕ) (rows : List Row)
+        → is_rinex_stage result head count rows ≡ true }
+    ensures closed { is_open_stage result ≡ false }
+{
+    if left == 0 {
+        Stage::Between
+    } else {
+        Stage::Event { left, counted }
+    }
+}
+
+/// Whether types lines count among the records of an event: the flag in column 32 of its line is from 2 to 5.
+pub fn counts_types(line: &[u8]) -> bool
+    ensures value { result ≡ counts_types line.now }
+{
+    line.len() > 31 && matches!(line[31], b'2'..=b'5')
+}

@@ -1,0 +1,50 @@
+-- by computation
+use Rattle.std.proofs.Common.{refl, arith, [], ◌∷◌, ◌++◌, codes, inl}
+use Rattle.std.specs.Fmt.{digits}
+use Rattle.crx_text.specs.meaning.Codes.{coded_number}
+use Rattle.crx_text.specs.meaning.Numbers.{size_of, number_of, number_text}
+use Rattle.crx_base.specs.declared.fault.Fault.TheVariants.{Truncated}
+use Rattle.crx_laws.specs.SmallFiles.{header, header_items, first_two, epoch_at_second, epoch_line_at, full_line_at}
+use Rattle.crx_laws.specs.SmallFiles.{observed, plain_choices}
+use Rattle.crx_base.specs.meaning.Lines.{lines_text}
+use Rattle.crx_filter.specs.meaning.Damage.{IsDamaged}
+use Rattle.crx_runs.specs.meaning.Messages.{warning_text}
+use Rattle.crx_laws.proofs.filter_examples.a_block_cut_off.Goals as goal
+
+cut : IsDamaged (lines_text (header ++ epoch_line_at 0 1 ∷ observed (codes "1.000") ∷ [])) plain_choices
+    (lines_text (first_two ++ header ++ full_line_at 0 1 (codes "G01") ∷ []))
+unfolding digits coded_number size_of number_of number_text
+cut = record {
+  standard = record { good = refl; plain = refl; given_back = refl };
+  before = header_items;
+  first = epoch_at_second 0 1000;
+  others = [];
+  after = [];
+  instead = [];
+  parts = refl;
+  starts = refl;
+  continued = tt;
+  anew = tt;
+  allowed = refl;
+  ended = inl refl;
+  text = refl;
+}
+
+pub returns : goal.returns
+unfolding warning_text digits coded_number size_of number_of number_text cut
+returns c = record {
+  salvaged = (
+    cut,
+    record {
+      epochs = [];
+      whole = tt;
+      warnings = record { line = 7; fault = Truncated } ∷ [];
+      few = omega arith;
+      output = refl;
+      messages = refl;
+      status = refl;
+      fault = refl;
+      own = λ count rest e. absurd (cc);
+    },
+  );
+}

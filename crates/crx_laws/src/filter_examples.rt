@@ -1,0 +1,232 @@
+//! Worked examples, by the definitions alone: each is the contract of a function that does nothing.
+
+ghost use Rattle.std.specs.Prelude.{◌≡◌, ◌∷◌, ◌++◌, [], take, drop, true, false, codes};
+ghost use Rattle.crx_base.specs.declared.fault.Fault.TheVariants.{MissingVersion, NoEndOfHeader, NotCompact, BadProgLine, RepeatedSatellite, NoArc, BadClock, BadFlags, Truncated, NotAnEpoch, BadEpoch};
+ghost use Rattle.crx_laws.specs.FilterExamples.{two_types, good, failed, warned, warning, compaction_of, expansion_of, compaction_answers, expansion_answers, notice, report, reported};
+ghost use Rattle.crx_laws.specs.SmallFiles.{comment_event, damaged_before_event, damaged_by, other_block, last_damaged_by, blanks, header, first_two, epoch_line_at, line_at, full_line_at, second_changed, one_type_line, observed, plain_choices, with_skip, in_full_every_second, returned_text};
+ghost use Rattle.crx_filter.specs.meaning.Damage.{IsDamaged, IsSalvaged};
+ghost use Rattle.crx_filter.specs.meaning.Expanded.{expanded};
+ghost use Rattle.crx_filter.specs.meaning.Standard.{checked};
+ghost use Rattle.crx_base.specs.meaning.Lines.{lines_text};
+ghost use Rattle.crx_filter.specs.LineByLine.{Quiet, Ready};
+
+/// A header alone.
+pub fn header_alone()
+    ensures compaction { compaction_of plain_choices (header) ≡ good (first_two ++ header) }
+{}
+
+/// Types that change in an event: the next epoch stands in full, with the new count; and the way back.
+pub fn types_that_change()
+    ensures compaction { compaction_of plain_choices (header ++ epoch_line_at 0 1 ∷ observed (codes "1.000")
+        ∷ line_at 1 4 1 ∷ two_types ∷ epoch_line_at 2 1 ∷ observed (codes "3.000          12.500") ∷ [])
+        ≡ good (first_two ++ header ++ full_line_at 0 1 (codes "G01") ∷ [] ∷ codes "3&1000"
+        ∷ line_at 1 4 1 ∷ two_types ∷ full_line_at 2 1 (codes "G01") ∷ [] ∷ codes "3&3000 3&12500" ∷ []) }
+    ensures expansion { expansion_of plain_choices (first_two ++ header ++ full_line_at 0 1 (codes "G01")
+        ∷ [] ∷ codes "3&1000" ∷ line_at 1 4 1 ∷ two_types ∷ full_line_at 2 1 (codes "G01")
+        ∷ [] ∷ codes "3&3000 3&12500" ∷ []) ≡ good (header ++ epoch_line_at 0 1 ∷ observed (codes "1.000")
+        ∷ line_at 1 4 1 ∷ two_types ∷ epoch_line_at 2 1 ∷ observed (codes "3.000          12.500") ∷ []) }
+{}
+
+/// An identifier that stands twice in an epoch ends the run, and nothing of the epoch is written; where faults are skipped, it is a
+/// warning.
+pub fn repeated_satellite()
+    ensures ends { compaction_of plain_choices (header ++ epoch_line_at 0 2 ∷ observed (codes "1.000")
+        ∷ observed (codes "1.000") ∷ []) ≡ failed (first_two ++ header) 6 RepeatedSatellite }
+    ensures skipped { compaction_of with_skip (header ++ epoch_line_at 0 2 ∷ observed (codes "1.000")
+        ∷ observed (codes "1.000") ∷ []) ≡ warned (first_two ++ header) (warning 6 RepeatedSatellite) }
+{}
+
+/// A difference without an arc ends the run; an epoch in full starts all arcs anew.
+pub fn no_arc()
+    ensures first { expansion_of plain_choices (first_two
+        ++ header ++ full_line_at 0 1 (codes "G01") ∷ [] ∷ codes "5" ∷ []) ≡ failed header 8 NoArc }
+    ensures later { expansion_of plain_choices (first_two ++ header ++ full_line_at 0 1 (codes "G01")
+        ∷ [] ∷ codes "3&1000" ∷ full_line_at 1 1 (codes "G01") ∷ [] ∷ codes "5" ∷ [])
+        ≡ failed (header ++ epoch_line_at 0 1 ∷ observed (codes "1.000") ∷ []) 11 NoArc }
+{}
+
+/// A new epoch line cuts an epoch off; where faults are skipped, reading goes on at that line. The end of the input cuts it off too.
+pub fn cut_epochs()
+    ensures ends { expansion_of plain_choices (first_two ++ header ++ full_line_at 0 1 (codes "G01")
+        ∷ [] ∷ full_line_at 1 1 (codes "G01") ∷ [] ∷ codes "3&1000" ∷ []) ≡ failed header 8 Truncated }
+    ensures skipped { expansion_of with_skip (first_two ++ header
+        ++ full_line_at 0 1 (codes "G01") ∷ [] ∷ full_line_at 1 1 (codes "G01") ∷ [] ∷ codes "3&1000" ∷ [])
+        ≡ warned (header ++ epoch_line_at 1 1 ∷ observed (codes "1.000") ∷ []) (warning 8 Truncated) }
+    ensures at_end { expansion_of plain_choices
+        (first_two ++ header ++ full_line_at 0 1 (codes "G01") ∷ [] ∷ []) ≡ failed header 8 Truncated }
+    ensures at_end_skipped { expansion_of with_skip (first_two
+        ++ header ++ full_line_at 0 1 (codes "G01") ∷ [] ∷ []) ≡ warned header (warning 8 Truncated) }
+{}
+
+/// An event leaves the reader's state, but one with a types line empties it.
+pub fn across_an_event()
+    ensures kept { expansion_of plain_choices (first_two ++ header ++ full_line_at 0 1 (codes "G01")
+        ∷ [] ∷ codes "3&1000" ∷ line_at 1 4 1 ∷ (blanks 60 ++ codes "COMMENT") ∷ second_changed 2 ∷ []
+        ∷ codes "500" ∷ []) ≡ good (header ++ epoch_line_at 0 1 ∷ observed (codes "1.000") ∷ line_at 1 4 1
+        ∷ (blanks 60 ++ codes "COMMENT") ∷ epoch_line_at 2 1 ∷ observed (codes "1.500") ∷ []) }
+    ensures emptied { expansion_of plain_choices (first_two ++ header ++ full_line_at 0 1 (codes "G01")
+        ∷ [] ∷ codes "3&1000" ∷ line_at 1 4 1 ∷ one_type_line ∷ second_changed 2 ∷ [] ∷ codes "500" ∷ [])
+        ≡ failed (header
+        ++ epoch_line_at 0 1 ∷ observed (codes "1.000") ∷ line_at 1 4 1 ∷ one_type_line ∷ []) 11 NotAnEpoch }
+{}
+
+/// A line that cuts an epoch off and is itself bad gives two warnings.
+pub fn two_warnings()
+    ensures compaction { compaction_of with_skip (header ++ epoch_line_at 0 1 ∷ codes ">" ∷ epoch_line_at 1 1
+        ∷ observed (codes "1.000") ∷ []) ≡ warned (first_two ++ header ++ full_line_at 1 1 (codes "G01")
+        ∷ [] ∷ codes "3&1000" ∷ []) (warning 5 Truncated ++ warning 5 BadEpoch) }
+{}
+
+/// Cycle slip records are copied and never read; an event without records is its first line alone.
+pub fn cycle_slips()
+    ensures compaction { compaction_of plain_choices (header ++ line_at 0 6 1
+        ∷ observed (codes "1.000") ∷ line_at 1 3 0 ∷ epoch_line_at 2 1 ∷ observed (codes "2.000") ∷ [])
+        ≡ good (first_two ++ header ++ line_at 0 6 1 ∷ observed (codes "1.000")
+        ∷ line_at 1 3 0 ∷ full_line_at 2 1 (codes "G01") ∷ [] ∷ codes "3&2000" ∷ []) }
+{}
+
+/// After a fault that is skipped, compact text is read on at the next epoch in full.
+pub fn skipped_to_full()
+    ensures expansion { expansion_of with_skip
+        (first_two ++ header ++ full_line_at 0 1 (codes "G01") ∷ [] ∷ codes "5"
+        ∷ second_changed 1 ∷ [] ∷ codes "3&2000" ∷ full_line_at 2 1 (codes "G01") ∷ [] ∷ codes "3&3000" ∷ [])
+        ≡ warned (header ++ epoch_line_at 2 1 ∷ observed (codes "3.000") ∷ []) (warning 8 NoArc) }
+{}
+
+/// An empty input.
+pub fn no_input()
+    ensures compaction { compaction_of plain_choices ([]) ≡ failed [] 1 MissingVersion }
+    ensures expansion { expansion_of plain_choices ([]) ≡ failed [] 1 NotCompact }
+{}
+
+/// A header that doesn't end; of compact text, the first two lines alone.
+pub fn no_end_of_header()
+    ensures compaction { compaction_of with_skip (take 2 header)
+        ≡ failed (first_two ++ take 2 header) 3 NoEndOfHeader }
+    ensures expansion { expansion_of with_skip (first_two) ≡ failed [] 3 MissingVersion }
+    ensures second { expansion_of with_skip (take 1 first_two) ≡ failed [] 2 BadProgLine }
+{}
+
+/// Compact text of another writer: differences of order 1, and & where nothing stands.
+pub fn first_differences()
+    ensures expansion { expansion_of plain_choices (first_two ++ header ++ full_line_at 0 1 (codes "G01") ∷ []
+        ∷ codes "1&1000" ∷ (second_changed 1 ++ blanks 30 ++ codes "&&&") ∷ [] ∷ codes "500" ∷ second_changed
+        2 ∷ [] ∷ codes "500" ∷ []) ≡ good (header ++ epoch_line_at 0 1 ∷ observed (codes "1.000")
+        ∷ epoch_line_at 1 1 ∷ observed (codes "1.500") ∷ epoch_line_at 2 1 ∷ observed (codes "2.000") ∷ []) }
+{}
+
+/// A bad indicator ends the run; where faults are skipped, the next epoch stands in full.
+pub fn bad_indicator()
+    ensures ends { compaction_of plain_choices (header ++ epoch_line_at 0 1 ∷ codes "G01  20000000.000"
+        ∷ epoch_line_at 1 1 ∷ codes "G01  20000100.500&" ∷ epoch_line_at 2 1 ∷ codes "G01  20000202.000"
+        ∷ epoch_line_at 3 1 ∷ codes "G01  20000304.500" ∷ epoch_line_at 4 1 ∷ codes "G01  20000408.000" ∷ [])
+        ≡ failed
+        (first_two ++ header ++ full_line_at 0 1 (codes "G01") ∷ [] ∷ codes "3&20000000000" ∷ []) 7 BadFlags }
+    ensures skipped { compaction_of with_skip (header ++ epoch_line_at 0 1 ∷ codes "G01  20000000.000"
+        ∷ epoch_line_at 1 1 ∷ codes "G01  20000100.500&" ∷ epoch_line_at 2 1 ∷ codes "G01  20000202.000"
+        ∷ epoch_line_at 3 1 ∷ codes "G01  20000304.500" ∷ epoch_line_at 4 1 ∷ codes "G01  20000408.000" ∷ [])
+        ≡ warned (first_two ++ header ++ full_line_at 0 1 (codes "G01") ∷ [] ∷ codes "3&20000000000"
+        ∷ full_line_at 2 1 (codes "G01") ∷ [] ∷ codes "3&20000202000" ∷ second_changed 3
+        ∷ [] ∷ codes "102500" ∷ second_changed 4 ∷ [] ∷ codes "1000" ∷ []) (warning 7 BadFlags) }
+{}
+
+/// What is answered line by line: the compact lines before the header come with its first line, an epoch with its last line.
+pub fn steps_of_a_compaction()
+    ensures one { compaction_answers plain_choices (header ++ epoch_line_at 0 1 ∷ codes "G01  20000000.000"
+        ∷ []) ≡ (Ready, 3) ∷ (Ready, 1) ∷ (Ready, 1) ∷ (Quiet, 0) ∷ (Ready, 3) ∷ [] }
+    ensures no_satellites { compaction_answers plain_choices (header ++ epoch_line_at 0 0
+        ∷ epoch_line_at 0 0 ∷ []) ≡ (Ready, 3) ∷ (Ready, 1) ∷ (Ready, 1) ∷ (Ready, 2) ∷ (Ready, 2) ∷ [] }
+{}
+
+/// What an expansion answers line by line: nothing at the first two lines, a header line at once, and an epoch with its last line.
+pub fn steps_of_an_expansion()
+    ensures one { expansion_answers plain_choices
+        (first_two ++ header ++ full_line_at 0 1 (codes "G01") ∷ [] ∷ codes "3&20000000000" ∷ []) ≡ (Quiet, 0)
+        ∷ (Quiet, 0) ∷ (Ready, 1) ∷ (Ready, 1) ∷ (Ready, 1) ∷ (Quiet, 0) ∷ (Quiet, 0) ∷ (Ready, 2) ∷ [] }
+    ensures no_satellites { expansion_answers plain_choices
+        (first_two ++ header ++ epoch_line_at 0 0 ∷ [] ∷ [])
+        ≡ (Quiet, 0) ∷ (Quiet, 0) ∷ (Ready, 1) ∷ (Ready, 1) ∷ (Ready, 1) ∷ (Quiet, 0) ∷ (Ready, 1) ∷ [] }
+{}
+
+/// A line that cuts an epoch off comes again, and may give a second warning.
+pub fn a_line_that_comes_again()
+    ensures answers { compaction_answers with_skip
+        (header ++ epoch_line_at 0 1 ∷ codes ">" ∷ epoch_line_at 1 1
+        ∷ observed (codes "1.000") ∷ []) ≡ (Ready, 3) ∷ (Ready, 1) ∷ (Ready, 1) ∷ (Quiet, 0)
+        ∷ (notice 5 Truncated true, 0) ∷ (notice 5 BadEpoch false, 0) ∷ (Quiet, 0) ∷ (Ready, 3) ∷ [] }
+{}
+
+/// The report of a file: a standard one with an event, one without types, and one whose lines end with CR LF.
+pub fn reports()
+    ensures with_an_event { report (header ++ epoch_line_at 0 1 ∷ observed (codes "1.000")
+        ∷ line_at 1 4 1 ∷ two_types ∷ epoch_line_at 2 1 ∷ observed (codes "3.000          12.500") ∷ [])
+        ≡ reported (codes "systems G 2")
+        (codes "epochs 2") (codes "events 1") (codes "observations 3") (codes "standard yes") 0 }
+    ensures without_types { report (take 1 header ++ drop 2 header) ≡ reported (codes "systems none")
+        (codes "epochs 0") (codes "events 0") (codes "observations 0") (codes "standard yes") 0 }
+    ensures with_returns { checked (returned_text (header ++ (epoch_line_at 0 2 ++ codes "  ")
+        ∷ codes "G01        -0.000" ∷ codes "G02          .353" ∷ [])) ≡ reported (codes "systems G 1")
+        (codes "epochs 1") (codes "events 0") (codes "observations 2") (codes "standard no 1") 2 }
+{}
+
+/// A damaged block costs its own epochs alone, and one warning at most.
+pub fn damaged_blocks()
+    ensures replaced { expansion_of with_skip (first_two ++ header ++ full_line_at 0 1 (codes "G01")
+        ∷ [] ∷ codes "3&20000000000" ∷ second_changed 1 ∷ [] ∷ codes "100500" ∷ full_line_at 2 1 (codes "G01")
+        ∷ codes "xyz" ∷ full_line_at 4 1 (codes "G01") ∷ [] ∷ codes "3&20000408000" ∷ [])
+        ≡ warned (header ++ epoch_line_at 0 1 ∷ codes "G01  20000000.000" ∷ epoch_line_at 1 1 ∷ codes
+        "G01  20000100.500" ∷ epoch_line_at 4 1 ∷ codes "G01  20000408.000" ∷ []) (warning 13 BadClock) }
+    ensures removed { expansion_of with_skip (first_two ++ header ++ full_line_at 0 1 (codes "G01")
+        ∷ [] ∷ codes "3&20000000000" ∷ second_changed 1 ∷ [] ∷ codes "100500"
+        ∷ full_line_at 2 1 (codes "G01") ∷ full_line_at 4 1 (codes "G01") ∷ [] ∷ codes "3&20000408000" ∷ [])
+        ≡ warned (header ++ epoch_line_at 0 1 ∷ codes "G01  20000000.000" ∷ epoch_line_at 1 1 ∷ codes
+        "G01  20000100.500" ∷ epoch_line_at 4 1 ∷ codes "G01  20000408.000" ∷ []) (warning 13 Truncated) }
+    ensures shortened { expansion_of with_skip (first_two ++ header ++ full_line_at 0 1 (codes "G01")
+        ∷ [] ∷ codes "3&20000000000" ∷ second_changed 1 ∷ [] ∷ codes "100500" ∷ full_line_at 2 1 (codes "G01")
+        ∷ [] ∷ codes "3&20000202000" ∷ full_line_at 4 1 (codes "G01") ∷ [] ∷ codes "3&20000408000" ∷ [])
+        ≡ good (header ++ epoch_line_at 0 1
+        ∷ codes "G01  20000000.000" ∷ epoch_line_at 1 1 ∷ codes "G01  20000100.500" ∷ epoch_line_at 2 1
+        ∷ codes "G01  20000202.000" ∷ epoch_line_at 4 1 ∷ codes "G01  20000408.000" ∷ []) }
+    ensures before_event { expanded (damaged_before_event (codes "xyz" ∷ [])) with_skip ≡ warned
+        (header ++ comment_event ++ epoch_line_at 2 1 ∷ codes "G01  20000202.000" ∷ []) (warning 7 BadClock) }
+{}
+
+/// What isn't noticed: a block whose lines read as other epochs, and a last line that is cut off in mid-number.
+pub fn damage_not_noticed()
+    ensures other_epochs { expanded (damaged_by other_block) with_skip
+        ≡ good (header ++ epoch_line_at 0 1 ∷ codes "G01  20000000.000" ∷ epoch_line_at 1 1
+        ∷ codes "G01  20000100.500" ∷ epoch_line_at 2 1 ∷ codes "G01  20000202.001" ∷ epoch_line_at 3 1
+        ∷ codes "G01  20000304.501" ∷ epoch_line_at 4 1 ∷ codes "G01  20000408.000" ∷ []) }
+    ensures last { expanded (last_damaged_by (codes "\n3&2000")) with_skip
+        ≡ good (header ++ epoch_line_at 0 1 ∷ codes "G01  20000000.000"
+        ∷ epoch_line_at 1 1 ∷ codes "G01  20000100.500" ∷ epoch_line_at 2 1 ∷ codes "G01  20000202.000"
+        ∷ epoch_line_at 3 1 ∷ codes "G01  20000304.500" ∷ epoch_line_at 4 1 ∷ observed (codes "2.000") ∷ []) }
+{}
+
+/// Every second epoch in full, counted from the first; and the way back.
+pub fn every_second_epoch()
+    ensures compaction { compaction_of in_full_every_second
+        (header ++ epoch_line_at 0 1 ∷ codes "G01  20000000.000" ∷ epoch_line_at 1 1
+        ∷ codes "G01  20000100.500" ∷ epoch_line_at 2 1 ∷ codes "G01  20000202.000" ∷ epoch_line_at 3 1
+        ∷ codes "G01  20000304.500" ∷ epoch_line_at 4 1 ∷ codes "G01  20000408.000" ∷ []) ≡ good
+        (first_two ++ header ++ full_line_at 0 1 (codes "G01") ∷ [] ∷ codes "3&20000000000" ∷ second_changed 1
+        ∷ [] ∷ codes "100500" ∷ full_line_at 2 1 (codes "G01") ∷ [] ∷ codes "3&20000202000" ∷ second_changed 3
+        ∷ [] ∷ codes "102500" ∷ full_line_at 4 1 (codes "G01") ∷ [] ∷ codes "3&20000408000" ∷ []) }
+    ensures expansion { expansion_of plain_choices
+        (first_two ++ header ++ full_line_at 0 1 (codes "G01") ∷ [] ∷ codes "3&20000000000" ∷ second_changed 1
+        ∷ [] ∷ codes "100500" ∷ full_line_at 2 1 (codes "G01") ∷ [] ∷ codes "3&20000202000" ∷ second_changed 3
+        ∷ [] ∷ codes "102500" ∷ full_line_at 4 1 (codes "G01") ∷ [] ∷ codes "3&20000408000" ∷ [])
+        ≡ good (header ++ epoch_line_at 0 1 ∷ codes "G01  20000000.000" ∷ epoch_line_at 1 1
+        ∷ codes "G01  20000100.500" ∷ epoch_line_at 2 1 ∷ codes "G01  20000202.000" ∷ epoch_line_at 3 1
+        ∷ codes "G01  20000304.500" ∷ epoch_line_at 4 1 ∷ codes "G01  20000408.000" ∷ []) }
+{}
+
+/// A block of which the first line alone is left: the units before it are saved, with one warning.
+pub fn a_block_cut_off()
+    ensures salvaged { (damage : IsDamaged
+        (lines_text (header ++ epoch_line_at 0 1 ∷ observed (codes "1.000") ∷ [])) plain_choices
+        (lines_text (first_two ++ header ++ full_line_at 0 1 (codes "G01") ∷ [])))
+        × IsSalvaged (lines_text (header ++ epoch_line_at 0 1 ∷ observed (codes "1.000") ∷ [])) plain_choices
+        (lines_text (first_two ++ header ++ full_line_at 0 1 (codes "G01") ∷ [])) damage
+        (expansion_of with_skip (first_two ++ header ++ full_line_at 0 1 (codes "G01") ∷ [])) }
+{}

@@ -1,2 +1,0 @@
--- What has to be believed: the definitions that the promises stand on. docs/READING.md gives their order.
-pub mod Choices

@@ -1,0 +1,76 @@
+-- Blanks at the ends of texts, and the columns of a line that ends before them.
+use Rattle.std.proofs.Common.{◌≡◌, ℕ, ◌-◌, ◌≤◌, Bool, true, false, List, [], ◌∷◌, ◌++◌, length, take, drop}
+use Rattle.std.proofs.Common.{replicate, refl, ap, ◌∙◌, arith, suc, zero, cond, ◌&&◌}
+use Rattle.std.specs.List.{list_all}
+use Rattle.std.proofs.lemmas.List.{take-replicate}
+use Rattle.crx_text.specs.meaning.Columns.{is_blank, columns, before_end_blanks, without_end_blanks}
+use Rattle.crx_text.specs.meaning.Columns.{without_first_blanks, without_blanks}
+
+end_blanks_none : (n : ℕ) → without_end_blanks (replicate n 32) ≡ []
+end_blanks_none zero = refl
+end_blanks_none (suc n) = ap (before_end_blanks 32) (end_blanks_none n)
+
+first_blanks_none : (n : ℕ) → without_first_blanks (replicate n 32) ≡ []
+first_blanks_none zero = refl
+first_blanks_none (suc n) = first_blanks_none n
+
+-- more blanks at the end are no matter
+pub end_blanks-more : (xs : List ℕ) (n : ℕ)
+    → without_end_blanks (xs ++ replicate n 32) ≡ without_end_blanks xs
+end_blanks-more [] n = end_blanks_none n
+end_blanks-more (x ∷ xs) n = ap (before_end_blanks x) (end_blanks-more xs n)
+
+pub blanks-more : (xs : List ℕ) (n : ℕ) → without_blanks (xs ++ replicate n 32) ≡ without_blanks xs
+blanks-more [] n = ap without_end_blanks (first_blanks_none n)
+blanks-more (x ∷ xs) n =
+    elim (is_blank x) as (λ b. without_end_blanks (cond b (without_first_blanks (xs ++ replicate n 32))
+    (x ∷ (xs ++ replicate n 32))) ≡ without_end_blanks (cond b (without_first_blanks xs) (x ∷ xs)))
+    [ true ↦ blanks-more xs n | false ↦ end_blanks-more (x ∷ xs) n ]
+
+padded_more : (w n : ℕ) (s : List ℕ)
+    → w ≤ n → take w (s ++ replicate n 32) ≡ take w s ++ replicate (w - length (take w s)) 32
+padded_more zero n s h = refl
+padded_more (suc w) n [] h = let e : suc w - 0 ≡ suc w = omega arith in rw e
+    (take-replicate {X = ℕ} (suc w) n 32 h)
+padded_more (suc w) n (x ∷ s) h =
+    let e : suc w - suc (length (take w s)) ≡ w - length (take w s) = omega arith in
+    rw e (ap (λ (t : List ℕ). x ∷ t) (padded_more w n s (omega arith)))
+
+-- columns are the part inside the line, and blanks after it
+pub columns_are : (line : List ℕ) (first width : ℕ) →
+    columns line first width ≡ take width (drop (first - 1) line)
+    ++ replicate (width - length (take width (drop (first - 1) line))) 32
+columns_are line first width = padded_more width width (drop (first - 1) line) (omega arith)
+
+-- so what doesn't read blanks at the ends reads the part alone
+pub end_blanks_columns : (line : List ℕ) (first width : ℕ)
+    → without_end_blanks (columns line first width) ≡ without_end_blanks (take width (drop (first - 1) line))
+end_blanks_columns line first width = let e : columns line first width ≡ take width (drop (first - 1) line)
+    ++ replicate (width - length (take width (drop (first - 1) line))) 32 = columns_are line first width in
+    ap without_end_blanks e
+    ∙ end_blanks-more (take width (drop (first - 1) line))
+    (width - length (take width (drop (first - 1) line)))
+
+pub blanks_columns : (line : List ℕ) (first width : ℕ)
+    → without_blanks (columns line first width) ≡ without_blanks (take width (drop (first - 1) line))
+blanks_columns line first width = let e : columns line first width ≡ take width (drop (first - 1) line)
+    ++ replicate (width - length (take width (drop (first - 1) line))) 32 = columns_are line first width in
+    ap without_blanks e
+    ∙ blanks-more (take width (drop (first - 1) line)) (width - length (take width (drop (first - 1) line)))
+
+all_blank : (n : ℕ) → list_all is_blank (replicate n 32) ≡ true
+all_blank zero = refl
+all_blank (suc n) = all_blank n
+
+all_blank-more : (xs : List ℕ) (n : ℕ) → list_all is_blank (xs ++ replicate n 32) ≡ list_all is_blank xs
+all_blank-more [] n = all_blank n
+all_blank-more (x ∷ xs) n = ap (λ (b : Bool). is_blank x && b) (all_blank-more xs n)
+
+pub all_blank_columns : (line : List ℕ) (first width : ℕ)
+    → list_all is_blank (columns line first width) ≡ list_all is_blank (take width (drop (first - 1) line))
+all_blank_columns line first width =
+    let e : columns line first width ≡ take width (drop (first - 1) line)
+    ++ replicate (width - length (take width (drop (first - 1) line))) 32 = columns_are line first width in
+    ap (list_all is_blank) e
+    ∙ all_blank-more (take width (drop (first - 1) line))
+    (width - length (take width (drop (first - 1) line)))

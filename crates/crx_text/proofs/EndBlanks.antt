@@ -1,0 +1,209 @@
+-- The blanks at the end of a text, 16 characters at a time.
+use Rattle.std.proofs.Common.{true, false, not, cond, if◌then◌else◌, eqb, ℕ, suc, zero, ◌≡◌, ◌+◌, ◌-◌, ◌*◌}
+use Rattle.std.proofs.Common.{◌/◌, ◌%◌, ◌^◌, ◌<◌, ◌≤◌, List, [], ◌∷◌, ◌++◌, length, drop, take, map}
+use Rattle.std.proofs.Common.{replicate, w8, arith, refl, ap, sym, ◌∙◌, ◌≢◌, get_or}
+use Rattle.std.proofs.Math.Nat.{pow-le-pow_right}
+use Rattle.std.proofs.Math.Seq.{take-add}
+use Rattle.std.proofs.lemmas.Bool.{ne_eqb}
+use Rattle.std.proofs.lemmas.List.{drop_all, drop_more, length-append, length-map, length-take-le}
+use Rattle.std.proofs.lemmas.List.{take-append-drop, take_more}
+use Rattle.std.proofs.lemmas.Nat.{leading_top}
+use Rattle.std.proofs.lemmas.Simd.{bitmask_splat, chunk-drop, mask_l-lt}
+use Rattle.std.specs.Int.Count.{count_leading_zeros, leading_of_zero}
+use lib.Lanes.{chunk, mask_l, top, zip2}
+use Rattle.crx_text.specs.meaning.Columns.{is_blank, before_end_blanks, without_end_blanks}
+
+before_some : (x : ℕ) (zs : List ℕ) → 0 < length zs → before_end_blanks x zs ≡ x ∷ zs
+before_some x [] some = absurd (omega arith)
+before_some x (z ∷ zs) some = refl
+
+before_none : (x : ℕ) (zs : List ℕ) → before_end_blanks x zs ≡ [] → zs ≡ []
+before_none x [] none = refl
+before_none x (z ∷ zs) none = let long = ap length none in absurd (omega (arith, long))
+
+-- what stands after a part decides which blanks are dropped
+kept_append : (xs ys : List ℕ)
+    → 0 < length (without_end_blanks ys) → without_end_blanks (xs ++ ys) ≡ xs ++ without_end_blanks ys
+kept_append [] ys some = refl
+kept_append (x ∷ xs) ys some =
+    let rest = kept_append xs ys some in
+    let long : 0 < length (xs ++ without_end_blanks ys) =
+    omega (arith, length-append xs (without_end_blanks ys), some) in
+    ap (before_end_blanks x) rest ∙ before_some x (xs ++ without_end_blanks ys) long
+
+none_append : (xs ys : List ℕ) → without_end_blanks ys ≡ []
+    → without_end_blanks (xs ++ ys) ≡ without_end_blanks xs
+none_append [] ys none = none
+none_append (x ∷ xs) ys none = ap (before_end_blanks x) (none_append xs ys none)
+
+none_after : (xs ys : List ℕ) → without_end_blanks (xs ++ ys) ≡ [] → without_end_blanks ys ≡ []
+none_after [] ys none = none
+none_after (x ∷ xs) ys none = none_after xs ys (before_none x (without_end_blanks (xs ++ ys)) none)
+
+nothing : (xs : List ℕ) → length xs ≡ 0 → xs ≡ []
+nothing [] long = refl
+nothing (x ∷ xs) long = absurd (omega (arith, long))
+
+pub take_kept : (xs : List ℕ) → take (length (without_end_blanks xs)) xs ≡ without_end_blanks xs
+take_kept [] = refl
+take_kept (x ∷ xs) = go (without_end_blanks xs) (take_kept xs)
+  where
+    go : (kept : List ℕ) → take (length kept) xs ≡ kept
+        → take (length (before_end_blanks x kept)) (x ∷ xs) ≡ before_end_blanks x kept
+    go [] same = elim (is_blank x) as (λ b. take (length {A = ℕ} (if b then [] else (x ∷ []))) (x ∷ xs)
+        ≡ (if b then [] else (x ∷ []))) [ true ↦ refl | false ↦ refl ]
+    go (d ∷ ds) same = ap (λ (t : List ℕ). x ∷ t) same
+
+pub few_kept : (xs : List ℕ) → length (without_end_blanks xs) ≤ length xs
+few_kept [] = omega arith
+few_kept (x ∷ xs) = go (without_end_blanks xs) (few_kept xs)
+  where
+    go : (kept : List ℕ) → length kept ≤ length xs → length (before_end_blanks x kept) ≤ suc (length xs)
+    go [] few = elim (is_blank x) as (λ b. length {A = ℕ} (if b then [] else (x ∷ [])) ≤ suc (length xs))
+        [ true ↦ omega arith | false ↦ omega arith ]
+    go (d ∷ ds) few = omega (arith, few)
+
+-- ---- from the end on
+
+pub nothing_after : (text : List ℕ) → without_end_blanks (drop (length text) text) ≡ []
+nothing_after text = ap without_end_blanks (drop_all (length text) text (omega arith))
+
+-- a blank before blanks is passed
+pub blank_passed : (text : List ℕ) (last end : ℕ) → last + 1 ≡ end → end ≤ length text
+    → get_or text last 0 ≡ 32
+    → without_end_blanks (drop end text) ≡ [] → without_end_blanks (drop last text) ≡ []
+blank_passed text last end sum within blank none =
+    let rest : without_end_blanks (drop (last + 1) text) ≡ [] =
+    ap (λ (k : ℕ). without_end_blanks (drop k text)) sum ∙ none in
+    ap without_end_blanks (drop_more text last 0 (omega (arith, sum, within)))
+    ∙ (λ i. before_end_blanks (blank i) (rest i))
+
+-- another character before blanks ends the text
+pub ended_at : (text : List ℕ) (last end : ℕ) → last + 1 ≡ end → end ≤ length text → get_or text last 0 ≢ 32
+    → without_end_blanks (drop end text) ≡ [] → take end text ≡ without_end_blanks text
+ended_at text last end sum within other none =
+    let less : last < length text = omega (arith, sum, within) in
+    let c : ℕ = get_or text last 0 in
+    let test = ne_eqb c 32 other in
+    let rest : without_end_blanks (drop (last + 1) text) ≡ [] =
+    ap (λ (k : ℕ). without_end_blanks (drop k text)) sum ∙ none in
+    let here : before_end_blanks c [] ≡ c ∷ [] = rw test refl in
+    let kept : without_end_blanks (drop last text) ≡ c ∷ [] =
+    ap without_end_blanks (drop_more text last 0 less) ∙ ap (before_end_blanks c) rest ∙ here in
+    ap (λ (k : ℕ). take k text) (sym sum) ∙ take_more text last 0 less
+    ∙ ap (λ (t : List ℕ). take last text ++ t) (sym kept)
+    ∙ sym (kept_append (take last text) (drop last text) (omega (arith, ap length kept)))
+    ∙ ap without_end_blanks (take-append-drop last text)
+
+module _ (text : List ℕ) (end : ℕ) (within : end ≤ length text)
+    (none : without_end_blanks (drop end text) ≡ []) where
+  -- a piece that keeps something decides
+  pub kept_in_piece : (size start count : ℕ) → start + size ≡ end → 0 < count
+      → count ≡ length (without_end_blanks (chunk start size text))
+      → take (start + count) text ≡ without_end_blanks text
+  kept_in_piece size start count sum some kept =
+      let piece : List ℕ = chunk start size text in
+      let before : without_end_blanks (take end text) ≡ without_end_blanks text =
+      sym (none_append (take end text) (drop end text) none)
+      ∙ ap without_end_blanks (take-append-drop end text) in
+      let whole : without_end_blanks text ≡ take start text ++ without_end_blanks piece =
+      sym before ∙ (ap (λ (k : ℕ). without_end_blanks (take k text)) (sym sum) ∙ (ap without_end_blanks
+      (take-add start size text) ∙ kept_append (take start text) piece (omega (arith, kept, some)))) in
+      let long : start + count ≡ length (without_end_blanks text) = omega (
+        arith,
+        ap length whole,
+        length-append (take start text) (without_end_blanks piece),
+        length-take-le start text (omega (arith, sum, within)),
+        kept,
+      ) in
+      ap (λ (k : ℕ). take k text) long ∙ take_kept text
+
+  -- one that keeps nothing goes with the blanks after it
+  pub none_in_piece : (size start : ℕ) → start + size ≡ end
+      → length (without_end_blanks (chunk start size text)) ≡ 0 → without_end_blanks (drop start text) ≡ []
+  none_in_piece size start sum long =
+      ap without_end_blanks (chunk-drop start size text)
+      ∙ (none_append (chunk start size text)
+      (drop (start + size) text) (ap (λ (k : ℕ). without_end_blanks (drop k text)) sum ∙ none)
+      ∙ nothing (without_end_blanks (chunk start size text)) long)
+
+  -- the first piece decides where only blanks stand after it
+  pub kept_in_first : (count : ℕ) → end < 16
+      → count ≡ length (without_end_blanks (chunk 0 16 text)) → take count text ≡ without_end_blanks text
+  kept_in_first count few kept =
+      let sum : end + (16 - end) ≡ 16 = omega (arith, few) in
+      let blank : without_end_blanks (drop 16 text) ≡ [] =
+      ap (λ (k : ℕ). without_end_blanks (drop k text)) (sym sum) ∙ none_after (chunk end (16 - end) text)
+      (drop (end + (16 - end)) text) (ap without_end_blanks (sym (chunk-drop end (16 - end) text)) ∙ none) in
+      let whole : without_end_blanks (take 16 text) ≡ without_end_blanks text =
+      sym (none_append (take 16 text) (drop 16 text) blank)
+      ∙ ap without_end_blanks (take-append-drop 16 text) in
+      ap (λ (k : ℕ). take k text) (kept ∙ ap length whole) ∙ take_kept text
+
+-- ---- the mask of 16 characters
+
+leading_double : (k b m : ℕ) → b ≤ 1 → 0 < m
+    → count_leading_zeros (suc k) (b + 2 * m) ≡ count_leading_zeros k m
+unfolding count_leading_zeros
+leading_double k b m small some =
+    let more : b + 2 * m ≡ suc (b + 2 * m - 1) = omega (arith, some) in
+    let half : suc (b + 2 * m - 1) / 2 ≡ m = omega (arith, small, some) in
+    ap (count_leading_zeros (suc k)) more ∙ ap (count_leading_zeros k) half
+
+abbrev others : List ℕ → ℕ
+others xs = mask_l (map (λ c. not (eqb c 32)) xs)
+
+first_bit : (k x : ℕ) (zs : List ℕ) → zs ≡ []
+    → suc k - count_leading_zeros (suc k) (cond (not (eqb x 32)) 1 0 + 2 * 0)
+    ≡ length (before_end_blanks x zs)
+unfolding count_leading_zeros
+first_bit k x zs none = rw none
+    (elim (eqb x 32) as (λ b. suc k - count_leading_zeros (suc k) (cond (not b) 1 0 + 2 * 0)
+    ≡ length {A = ℕ} (if b then [] else (x ∷ []))) [
+      | true ↦ omega arith
+      | false ↦ omega (arith, leading_of_zero k)
+    ])
+
+all_fit : (xs : List ℕ) (k : ℕ) → length xs ≤ k → others xs < 2 ^ k
+all_fit xs k few =
+    let below = mask_l-lt (map (λ c. not (eqb c 32)) xs) in
+    let power : 2 ^ length (map (λ c. not (eqb c 32)) xs) ≤ 2 ^ k =
+    pow-le-pow_right {n = 2} (omega arith) (omega (arith, length-map xs (λ c. not (eqb c 32)), few)) in
+    omega (arith, below, power)
+
+next_bit : (k x m : ℕ) (xs : List ℕ)
+    → length xs ≤ k → k - count_leading_zeros k (others xs) ≡ length (without_end_blanks xs) → others xs ≡ m
+    → suc k - count_leading_zeros (suc k) (cond (not (eqb x 32)) 1 0 + 2 * others xs)
+    ≡ length (before_end_blanks x (without_end_blanks xs))
+next_bit k x zero xs few rest is =
+    let empty : k - count_leading_zeros k 0 ≡ length (without_end_blanks xs) =
+    ap (λ (m : ℕ). k - count_leading_zeros k m) (sym is) ∙ rest in
+    let none = nothing (without_end_blanks xs) (omega (arith, empty, leading_of_zero k)) in
+    ap (λ (m : ℕ). suc k - count_leading_zeros (suc k) (cond (not (eqb x 32)) 1 0 + 2 * m)) is
+    ∙ first_bit k x (without_end_blanks xs) none
+next_bit k x (suc m) xs few rest is =
+    let some : 0 < others xs = omega (arith, is) in
+    let bit : cond (not (eqb x 32)) 1 0 ≤ 1 =
+    elim (eqb x 32) as (λ b. cond (not b) 1 0 ≤ 1) [ true ↦ omega arith | false ↦ omega arith ] in
+    let top = leading_top k (others xs) some (all_fit xs k few) in
+    let double = leading_double k (cond (not (eqb x 32)) 1 0) (others xs) bit some in
+    let long : 0 < length (without_end_blanks xs) = omega (arith, rest, top.1) in
+    let next : length (before_end_blanks x (without_end_blanks xs)) ≡ suc (length (without_end_blanks xs)) =
+    ap length (before_some x (without_end_blanks xs) long) in
+    omega (arith, double, rest, next, top.1)
+
+-- as many bits up to the highest as characters up to the last one that isn't a blank
+bits_kept : (k : ℕ) (xs : List ℕ)
+    → length xs ≤ k → k - count_leading_zeros k (others xs) ≡ length (without_end_blanks xs)
+bits_kept k [] few = omega (arith, leading_of_zero k)
+bits_kept zero (x ∷ xs) few = absurd (omega (arith, few))
+bits_kept (suc k) (x ∷ xs) few =
+    next_bit k x (others xs) xs (omega (arith, few)) (bits_kept k xs (omega (arith, few))) refl
+
+pub lanes_kept : (size : ℕ) (v : List ℕ) → size ≤ 64 → length v ≡ size
+    → 64 - count_leading_zeros 64 (mask_l (map
+    (top 7) (zip2 (λ a b. cond (not (eqb a b)) 255 0) v (replicate size 32))) % 2 ^ 64) ≡ length
+    (without_end_blanks v)
+lanes_kept size v few long =
+    ap (λ m. 64 - count_leading_zeros 64 m) (bitmask_splat w8
+    (λ a b. not (eqb a b)) v size 32 long (omega (arith, few))) ∙ bits_kept 64 v (omega (arith, long))

@@ -1,0 +1,26 @@
+use Rattle.std.proofs.Common.{◌-◌, ◌&&◌, length, ap, ◌∙◌, arith}
+use Rattle.std.specs.List.{list_all}
+use Rattle.std.specs.Simd.Lanes.{chunk}
+use Rattle.crx_text.proofs.LaneTexts.{list_all-piece, list_all-last_piece}
+use Rattle.crx_text.proofs.lanes.all_of.Goals as goal
+
+pub loop-at-preserved : goal.loop-at-preserved
+loop-at-preserved g c =
+    let kind = g.K.Kind.is_of_kind in
+    let i = c.loop-at.at in
+    let text = c.args.text.now in (
+      omega (arith, c.loop-at-test.true),
+      c.with_others-others.ensures.both
+          ∙ ap (λ b. b && list_all kind (chunk i 16 text)) c.loop-at.invariant.1
+          ∙ list_all-piece kind i 16 text,
+    )
+
+pub returns : goal.returns
+returns g c =
+    let kind = g.K.Kind.is_of_kind in
+    let text = c.args.text.now in
+    c.none_set.ensures
+    ∙ c.with_others.ensures.both
+    ∙ ap (λ b. b && list_all kind (chunk (length text - 16) 16 text)) c.loop-at.invariant.1
+    ∙ list_all-last_piece kind 16 c.loop-at.at text (omega (arith, c.if-text-lt-LANES.false))
+    (omega (arith, c.loop-at-test.false))

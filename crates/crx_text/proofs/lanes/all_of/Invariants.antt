@@ -1,0 +1,12 @@
+use Rattle.std.proofs.Common.{◌≡◌, ◌≤◌, ◌-◌, eqb, length, take}
+use Rattle.std.specs.List.{list_all}
+use Rattle.crx_text.proofs.lanes.all_of.Given as goal
+
+-- no lane is set where all characters that were passed are of the kind
+abbrev pub invariant-loop-at : goal.invariant-loop-at
+invariant-loop-at g l =
+    (l.at ≤ length l.text)
+    × (list_all (λ lane. eqb lane 0) l.others ≡ list_all g.K.Kind.is_of_kind (take l.at l.text))
+
+abbrev pub decreases-loop-at : goal.decreases-loop-at
+decreases-loop-at g l = length l.text - l.at

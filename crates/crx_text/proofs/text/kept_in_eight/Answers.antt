@@ -1,0 +1,10 @@
+use Rattle.std.proofs.Common.{arith}
+use Rattle.crx_text.proofs.EndBlanks.{lanes_kept, few_kept}
+use Rattle.crx_text.proofs.text.kept_in_eight.Goals as goal
+
+pub returns : goal.returns
+returns c =
+    let kept = lanes_kept 8 c.args.characters (omega arith) c.fits-characters.0 in record {
+      kept = kept;
+      within = omega (arith, kept, few_kept c.args.characters, c.fits-characters.0);
+    }

@@ -1,0 +1,14 @@
+//! Bytes at the end of a text.
+
+ghost use Rattle.std.specs.Prelude.{◌≡◌, ◌+◌, ◌≤◌, ◌++◌, length};
+ghost use Rattle.crx_base.specs.declared.limits.TheConstants.{LINE_LIMIT};
+
+use crate::text::Text;
+
+/// Appends bytes that fit.
+pub fn append(text: &mut Text, bytes: &[u8])
+    requires { length text.old + length bytes.now ≤ LINE_LIMIT }
+    ensures appended { text.new ≡ text.old ++ bytes.now }
+{
+    let _ = text.extend(bytes);
+}

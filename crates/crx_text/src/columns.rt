@@ -1,0 +1,99 @@
+//! Columns of a line: they count from 1, and blanks stand without end after a line's end.
+//! RINEX 3.05, appendix A (its tables A1 to A3 count columns so).
+ghost use Rattle.std.specs.Prelude.{◌≡◌, ◌≤◌, ◌-◌, take, drop, length};
+ghost use Rattle.std.specs.List.{list_all};
+ghost use Rattle.crx_text.specs.meaning.Columns.{character_at, columns, is_blank, without_blanks, without_end_blanks, without_first_blanks};
+
+use crate::text::trim_end;
+
+/// The character in a column, from 1: a blank after the line's end.
+pub fn character(line: &[u8], column: usize) -> u8
+    requires { 1 ≤ column }
+    ensures value { result ≡ character_at line.now column }
+{
+    line.get(column - 1).copied().unwrap_or(b' ')
+}
+
+/// The part of so many columns, from a first one on, that stands inside the line.
+fn part(line: &[u8], first: usize, width: usize) -> &[u8]
+    requires from_one { 1 ≤ first }
+    ensures value { result.now ≡ take width (drop (first - 1) line.now) }
+{
+    let start = first - 1;
+    if start < line.len() {
+        let rest = &line[start..];
+        let end = rest.len().min(width);
+        &rest[..end]
+    } else {
+        &[]
+    }
+}
+
+/// A text without the blanks at its beginning.
+pub fn trim_start(text: &[u8]) -> &[u8]
+    ensures value { result.now ≡ without_first_blanks text.now }
+    ensures shorter { length result.now ≤ length text.now }
+{
+    let mut rest = text;
+    while let [b' ', back @ ..] = rest {
+        rest = back;
+    }
+    rest
+}
+
+/// Whether all characters of a text are blanks.
+pub fn all_blank(text: &[u8]) -> bool
+    ensures value { result ≡ list_all is_blank text.now }
+{
+    text.iter().all(|c| *c == b' ')
+}
+
+/// So many columns from a first one on, without the blanks at their end.
+#[tactic(auto, using(crate::proofs::Blanks::end_blanks_columns))]
+pub fn end_trimmed(line: &[u8], first: usize, width: usize) -> &[u8]
+    requires from_one { 1 ≤ first }
+    ensures value { result.now ≡ without_end_blanks (columns line.now first width) }
+{
+    trim_end(part(line, first, width))
+}
+
+/// So many columns from a first one on, without the blanks at both ends.
+#[tactic(auto, using(crate::proofs::Blanks::blanks_columns))]
+pub fn trimmed(line: &[u8], first: usize, width: usize) -> &[u8]
+    requires from_one { 1 ≤ first }
+    ensures value { result.now ≡ without_blanks (columns line.now first width) }
+    ensures within { length result.now ≤ width }
+{
+    trim_end(trim_start(part(line, first, width)))
+}
+
+/// Whether so many columns from a first one on are blank.
+#[tactic(auto, using(crate::proofs::Blanks::all_blank_columns))]
+pub fn is_blank(line: &[u8], first: usize, width: usize) -> bool
+    requires from_one { 1 ≤ first }
+    ensures value { result ≡ list_all is_blank (columns line.now first width) }
+{
+    all_blank(part(line, first, width))
+}
+
+/// What comes after so many columns.
+pub fn after_columns(line: &[u8], width: usize) -> &[u8]
+    ensures value { result.now ≡ drop width line.now }
+{
+    if width < line.len() {
+        &line[width..]
+    } else {
+        &[]
+    }
+}
+
+/// So many columns from a first one on, blanks after the line's end included.
+pub fn padded<const N: usize>(line: &[u8], first: usize) -> [u8; N]
+    requires from_one { 1 ≤ first }
+    ensures value { result ≡ columns line.now first N }
+{
+    let mut text = [b' '; N];
+    let found = part(line, first, N);
+    text[..found.len()].copy_from_slice(found);
+    text
+}
