@@ -18,6 +18,7 @@
 # make debian11-test tries what make dist made in a root of Debian 11, in out/debian11 (tests/debian11)
 # make docs   writes what one reads to know what is claimed, from the sources, into out/docs (docs/READING.md): DEFINITIONS, with the
 #             definitions that the promises stand on, and CONTRACTS, with each public function's clauses, as Markdown and HTML
+# make numbers puts the limits, how many faults there are, and other numbers of the sources into the texts that state them
 # make install PREFIX=/usr/local
 #             puts the program that make built, its manual pages, completions and other names in place, and the tool for whole files,
 #             for which it builds the library where that isn't built
@@ -50,7 +51,7 @@ JOBS := $(shell awk -v jobs="$$(($$(nproc) + 1))" '/^MemTotal/ { n = int($$2 / 2
 # What crates.mk makes, all at once; where a proof fails, its errors are the last lines that are printed.
 made = @rm -rf out/failed; $(MAKE) --no-print-directory $(if $(findstring jobserver,$(MAKEFLAGS)),,-j$(JOBS)) $(1) || tests/gate.py failures
 
-.PHONY: all proofs test quick memory-test memory-random-test instruction-counts archive-test files-test laws-test cluster-test debian11-test docs install dist
+.PHONY: all proofs test quick memory-test memory-random-test instruction-counts archive-test files-test laws-test cluster-test debian11-test docs numbers install dist
 
 all:
 	$(call made,$(PROGRAM))
@@ -106,6 +107,10 @@ debian11-test:
 
 docs:
 	docs/pages.py out/docs
+
+# the limits, how many faults there are, and other numbers of the sources, in the texts that state them
+numbers:
+	docs/stated.py
 
 install:
 	@[ -f out/library/librnxcmp.so.2 ] || $(MAKE) --no-print-directory library || echo "the library isn't built"

@@ -12,8 +12,9 @@ from pathlib import Path
 
 TOP = Path(__file__).resolve().parents[2]
 sys.path.insert(0, str(TOP / "docs"))
-from chapters import CHAPTERS, Book, is_definition, lines_of  # noqa: E402
+from chapters import CHAPTERS, Book, is_definition  # noqa: E402
 from sources import crates, functions_in, public_functions  # noqa: E402
+from stated import STATED, faults, wrong_in  # noqa: E402
 
 CRATE_PAGES = tuple(f"crates/{crate}/README.md" for crate in crates())
 PAGES = ("README.md", "CONTRIBUTING.md", "tests/README.md", "bench/README.md", "samples/README.md") + CRATE_PAGES + tuple(
@@ -165,87 +166,10 @@ def figures():
     return [f"docs/pictures/speed.txt: bench/README.md has no {it}" for it in re.findall(r"[\d.]+", " ".join(bars)) if it not in cells]
 
 
-def numbers():
-    """The limits by their names, and what follows from them: how long the longest lines of an epoch are, and how many it has. FAULTS is how
-    many faults there are, EVERY the greatest N of -e."""
-    limits = (TOP / "crates/crx_base/src/limits.rt").read_text(encoding="utf-8")
-    command = (TOP / "crates/crx_command/src/command.rt").read_text(encoding="utf-8")
-    found = {name: int(number) for name, number in re.findall(r"const (\w+): \w+ = ([\d_]+);", limits)}
-    return {
-        **found,
-        "INPUT_LIMIT": f"2^{found['INPUT_LIMIT'].bit_length() - 1}",
-        "LINES_OF_EPOCH": found["SATELLITES_LIMIT"] + 2,
-        "COMPACT_LINE": 18 * found["TYPES_LIMIT"],
-        "PRINTED_LINE": found["NAME_WIDTH"] + found["CELL_WIDTH"] * found["TYPES_LIMIT"],
-        "FAULTS": len(faults()),
-        "EVERY": int(re.search(r"range\(1\.\.=([\d_]+)\)", command)[1]),
-    }
-
-
-# Texts that have one of these numbers: the file, and phrases with the name in place of the number. Who changes a number changes these.
-STATED = {
-    "docs/FORMATS.md": (
-        "content of more than LINE_LIMIT bytes is fault 1", "| a content of more than LINE_LIMIT bytes |", "input of more than INPUT_LIMIT bytes",
-        "after the first INPUT_LIMIT |", "1 to TYPES_LIMIT (bound: profile)", "(0 to SATELLITES_LIMIT)", "1 to DIGITS_LIMIT digits",
-        "one digit from 0 to ORDER_LIMIT", "with the order WRITTEN_ORDER;", "orders from 0 to ORDER_LIMIT",
-    ),
-    "docs/DECISIONS.md": ("an input beyond INPUT_LIMIT bytes", "`-e` is from 1 to EVERY."),
-    "docs/GUARANTEES.md": (
-        "lines of at most LINE_LIMIT bytes", "grows past LINE_LIMIT bytes", "a code from 1 to FAULTS.", "stops after INPUT_LIMIT bytes",
-        "has at most INPUT_LIMIT bytes", "a byte past INPUT_LIMIT (2)", "at most INPUT_LIMIT bytes and the date",
-    ),
-    "docs/LIBRARY.md": (
-        "if the input has at most INPUT_LIMIT bytes and memory", "the input has at most INPUT_LIMIT bytes and the date", "and the input has at most INPUT_LIMIT bytes.",
-    ),
-    "docs/USE.md": ("N is from 1 to EVERY", "at most DATE_LIMIT bytes", "lists the FAULTS codes"),
-    "packaging/man/rnxcmp.1": (
-        "at most DATE_LIMIT bytes", "Limits: LINE_LIMIT bytes a line", "INPUT_LIMIT bytes of input", "TYPES_LIMIT types of a system",
-        "SATELLITES_LIMIT satellites of an epoch", "is from 1 to EVERY.", "N from 1 to EVERY",
-    ),
-    "packaging/completions/_rnxcmp": ("N from 1 to EVERY", "at most DATE_LIMIT bytes"),
-    "include/rnxcmp.h": (
-        "more than DATE_LIMIT bytes", "of faults, of FAULTS,", "ended the run, from 1 to FAULTS;", "isn't from 1 to FAULTS.", "at most INPUT_LIMIT.",
-        "where INPUT_LIMIT bytes were taken",
-    ),
-    "python/rnxcmp/_calls.py": ("number, from 1 to FAULTS;", "bad date: at most DATE_LIMIT characters", "line, at most DATE_LIMIT printable"),
-    "crates/crx_base/src/fault.rt": ("in messages, from 1 to FAULTS.",),
-    "crates/crx_laws/src/compact_laws.rt": ("at most COMPACT_LINE bytes: TYPES_LIMIT codes",),
-    "crates/crx_laws/src/compact_reading.rt": ("at most SATELLITES_LIMIT satellites of TYPES_LIMIT types",),
-    "crates/crx_laws/src/filter_laws.rt": (
-        "at most SATELLITES_LIMIT rows", "at most TYPES_LIMIT values", "SATELLITES_LIMIT satellites of at most TYPES_LIMIT cells",
-        "at most LINES_OF_EPOCH lines, of at most LINE_LIMIT bytes each", "COMPACT_LINE bytes each in compact text", "PRINTED_LINE bytes each in RINEX",
-    ),
-    "crates/crx_laws/src/salvage.rt": ("at most LINE_LIMIT bytes",),
-    "crates/crx_filter/src/line_number.rt": ("at most INPUT_LIMIT lines",),
-    "crates/crx_command/src/command.rt": ("N from 1 to EVERY.", "at most EVERY", "at most DATE_LIMIT bytes"),
-    "crates/crx_command/src/job.rt": ("more than DATE_LIMIT bytes",),
-    "crates/crx_command/src/plan.rt": ("more than DATE_LIMIT bytes",),
-    "crates/rnxcmp_c/src/answer.rt": ("ended the run, from 1 to FAULTS;",),
-}
-
-
-def stated(file, phrases):
-    """The phrases that a file doesn't have, with the numbers for the names."""
-    text = re.sub(r"\s+(?://[/!] |\* )?", " ", (TOP / file).read_text(encoding="utf-8"))
-    found = numbers()
-    said = [re.sub("|".join(sorted(found, key=len, reverse=True)), lambda name: str(found[name[0]]), phrase) for phrase in phrases]
-    return [f"{file} doesn't say: {phrase}" for phrase in said if phrase not in text]
-
-
-def faults():
-    """The words of the faults by their numbers."""
-    source = (TOP / "crates/crx_base/src/fault.rt").read_text(encoding="utf-8")
-    words = dict(re.findall(r'Fault::(\w+) => "([^"]*)",', source))
-    return {int(number): words[name] for name, number in re.findall(r"Fault::(\w+) => (\d+),", source)}
-
-
 def faults_listed():
-    """Whether docs/FORMATS.md and the manual page list the faults as they are."""
+    """Whether docs/FORMATS.md lists the faults as they are."""
     table = dict(re.findall(r"^\| (\d+) \| `([^`]*)` \|", (TOP / "docs/FORMATS.md").read_text(encoding="utf-8").partition("| Code | Text | Where")[2], re.M))
-    manual = " ".join((TOP / "packaging/man/rnxcmp.1").read_text(encoding="utf-8").split())
-    wrong = [] if table == {str(number): words for number, words in faults().items()} else ["docs/FORMATS.md has another table"]
-    listed = "Codes: " + ", ".join(f"{number} {words}" for number, words in faults().items()) + "."
-    return wrong + ([] if listed in manual else ["the manual page has another list"])
+    return [] if table == {str(number): words for number, words in faults().items()} else ["docs/FORMATS.md has another table"]
 
 
 def options(program):
@@ -270,14 +194,6 @@ def options(program):
     return wrong
 
 
-def definitions():
-    """Whether README.md says how many definitions one has to believe, and how many for its first promise."""
-    trusted, first = book().trusted(), [item for item in book().contents[0].items if is_definition(item)]
-    said = (f"{len(trusted)}, in {lines_of(trusted)} lines", f"on {len(first)} definitions")
-    text = (TOP / "README.md").read_text(encoding="utf-8")
-    return [f"README.md doesn't say {it}" for it in said if it not in text]
-
-
 def modules():
     """The names that two modules of tests and pages have, but for `check`, `checks` and `run`: all kinds of tests are read into one process, where
     the module that is read first would stand for both."""
@@ -297,11 +213,10 @@ def checks(program):
     yield "docs/pictures", pictures
     yield "docs/pictures/epoch.txt", lambda: example(program)
     yield "docs/pictures/speed.txt", figures
-    yield "README.md: definitions", definitions
     yield "faults", faults_listed
     yield "options", lambda: options(program)
-    for file, phrases in STATED.items():
-        yield f"{file}: numbers", lambda file=file, phrases=phrases: stated(file, phrases)
+    for file in STATED:
+        yield f"{file}: numbers", lambda file=file: wrong_in(file)
     known = contracts()
     for page in PAGES:
         if not (TOP / page).exists():
