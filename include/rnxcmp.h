@@ -63,7 +63,7 @@ enum {
     /* Units were skipped, and the messages say which. For a check: the file is accepted, but isn't standard. */
     RNXCMP_WARNINGS = 2,
     /*
-     * The output has more bytes than its room: it stands there as far as it fits, and `output_length` says how long a room it needs. This
+     * The output has more bytes than its room: it is there as far as it fits, and `output_length` says how long a room it needs. This
      * hides which of the three above the status is: a fault ended the run where `code` isn't 0, and `code` and `line` are that fault's.
      */
     RNXCMP_NO_ROOM = 3,
@@ -94,7 +94,7 @@ typedef struct rnxcmp_options {
      * those beyond this version's are 0; any other size is RNXCMP_MISUSED.
      */
     size_t size;
-    /* At every so many epochs, counted from 0, one stands in full; 0: only where one must, at first and after events and warnings. */
+    /* At every so many epochs, counted from 0, one is in full; 0: only where one must, at first and after events and warnings. */
     uint32_t every;
     /* Not 0: an epoch with a fault is skipped with a warning, and the run goes on. */
     uint32_t skip;
@@ -114,7 +114,7 @@ typedef struct rnxcmp_answer {
     /* How many bytes the whole output has, whatever its room is. Of a handle: how many bytes of it are ready, and not taken. */
     size_t output_length;
     /*
-     * How many bytes all messages have, whatever their room is. They stand there as far as they fit; the status is the same. Of a handle:
+     * How many bytes all messages have, whatever their room is. They are there as far as they fit; the status is the same. Of a handle:
      * how many bytes of them are ready, and not taken.
      */
     size_t messages_length;

@@ -83,7 +83,7 @@ def bytes_of(data: BytesLike) -> bytes:
 
 
 def _view_of(data: BytesLike) -> memoryview:
-    """The bytes of an input one by one, without a copy where they stand side by side."""
+    """The bytes of an input one by one, without a copy where they are side by side."""
     if isinstance(data, memoryview) and not (data.format == "B" and data.ndim == 1 and data.c_contiguous):
         return memoryview(bytes(data))
     return memoryview(data if isinstance(data, (bytearray, memoryview)) else bytes_of(data))
@@ -105,7 +105,7 @@ class _Rooms:
         return [*places, ctypes.byref(self.answer)]
 
     def fit(self) -> bool:
-        """Whether both texts stand there whole."""
+        """Whether both texts are there whole."""
         return bool(self.answer.output_length <= len(self.output) and self.answer.messages_length <= len(self.messages))
 
     def texts(self, output: int, messages: int) -> Tuple[bytes, bytes]:
@@ -170,7 +170,7 @@ def _output_of(rooms: _Rooms) -> bytes:
 
 
 def _date_of(moment: datetime) -> str:
-    """A moment in UTC as it stands in compact text, whatever the locale."""
+    """A moment in UTC as compact text has it, whatever the locale."""
     return f"{moment.day:02}-{_MONTHS[moment.month - 1]}-{moment.year % 100:02} {moment.hour:02}:{moment.minute:02}"
 
 

@@ -45,7 +45,7 @@ def _unpacked(data: bytes, max_length: Optional[int] = None) -> bytes:
 
 
 def _label(data: bytes) -> bytes:
-    """What stands from column 61 on in the first line."""
+    """What the first line has from column 61 on."""
     return data[:82].split(b"\n")[0][60:80].rstrip()
 
 

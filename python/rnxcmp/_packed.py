@@ -28,7 +28,7 @@ def other_packing(start: bytes) -> str:
 
 
 def pieces_of(descriptor: int) -> Iterator[bytes]:
-    """The bytes of an open file, from where it stands."""
+    """The bytes of an open file, from where it is."""
     while True:
         piece = os.read(descriptor, _PIECE)
         if not piece:
@@ -87,7 +87,7 @@ def _out_of_compress(descriptor: int) -> Iterator[bytes]:
 
 
 def text_of(descriptor: int) -> Iterator[bytes]:
-    """The text of an open file, unpacked by what it begins with. The file stands at its beginning."""
+    """The text of an open file, unpacked by what it begins with. The file is at its beginning."""
     start = b""
     while len(start) < _SIGN:
         piece = os.read(descriptor, _PIECE)

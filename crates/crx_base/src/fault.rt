@@ -42,7 +42,7 @@ pub enum Fault {
     NoArc,
     /// A number that does not fit its columns.
     OutOfRange,
-    /// An indicator that is no printable character, or a mark where none may stand.
+    /// An indicator that is no printable character, or a mark where none may be.
     BadFlags,
     /// The input ends, or another epoch begins, where lines are still expected.
     Truncated,

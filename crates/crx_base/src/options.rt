@@ -13,7 +13,7 @@ use thiserror::Error;
 #[error("bad date")]
 pub struct BadDate;
 
-/// Where epochs stand in full, whether faults are skipped, and the date of the second line of
+/// Where epochs are in full, whether faults are skipped, and the date of the second line of
 /// Compact RINEX 3.0. It takes no memory elsewhere.
 #[derive(Clone, Copy)]
 pub struct Options {
@@ -77,7 +77,7 @@ fn kept_every(every: Option<u32>) -> Option<u32>
 impl Options {
     /// The choices: an epoch in full at each that `every` divides (0 is the same as `None`),
     /// counted from 0; whether an epoch with a fault is skipped with a warning; and the date, as it
-    /// is to stand in columns 41 to 60 of the second line.
+    /// is to be in columns 41 to 60 of the second line.
     ///
     /// `BadDate` comes where the date has more than [`DATE_LIMIT`] bytes or a byte outside 32 to
     /// 126, and only there.
@@ -97,7 +97,7 @@ impl Options {
         })
     }
 
-    /// At every how many epochs one stands in full; `None` where only those do that must: the first, and the first after each
+    /// At every how many epochs one is in full; `None` where only those are that must be: the first, and the first after each
     /// event or warning.
     pub fn every(&self) -> Option<u32>
         ensures value { result ≡ self.now.every }

@@ -30,7 +30,7 @@ pub struct Job {
     pub target: Option<Word>,
     /// Whether a file that exists is overwritten.
     pub force: bool,
-    /// At every how many epochs one stands in full; `None` where only those do that must.
+    /// At every how many epochs one is in full; `None` where only those are that must be.
     pub every: Option<u32>,
     /// Whether an epoch with a fault is skipped with a warning.
     pub skip: bool,
@@ -54,7 +54,7 @@ pub enum UsageFault {
     /// The arguments aren't those of the program, or an option's value isn't one that it takes. It holds
     /// the text for the user.
     Parse(Word),
-    /// `-` stands twice.
+    /// `-` is there twice.
     DashTwice,
     /// There is more than one file name.
     TwoFiles,
@@ -81,7 +81,7 @@ impl UsageFault {
         }
     }
 
-    /// The text or the name that it holds, which stands after what is wrong; empty where it holds none.
+    /// The text or the name that it holds, which is after what is wrong; empty where it holds none.
     pub fn subject(&self) -> &str
         ensures value { result.now ≡ subject_of_usage self.now }
     {

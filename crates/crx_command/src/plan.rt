@@ -16,12 +16,12 @@ use clap::{ArgMatches, Error};
 use crx_base::Options;
 use std::alloc::{AllocError, Global};
 
-/// What stands after a subcommand.
+/// What is after a subcommand.
 #[derive(Clone, Copy)]
 struct Arguments<'a> {
-    /// How often `-` stands there.
+    /// How often `-` is there.
     dashes: usize,
-    /// How many names of files stand there, and the first of them.
+    /// How many names of files are there, and the first of them.
     files: usize,
     file: Option<&'a str>,
     every: Option<u32>,
@@ -56,7 +56,7 @@ fn file_among<'a>(names: &[&'a str]) -> Option<&'a str>
     None
 }
 
-/// How often `-` stands after a subcommand.
+/// How often `-` is after a subcommand.
 fn dash_count(found: &ArgMatches<'_>) -> usize
     ensures { result ≡ count_by is_dash (file_names_in (rows_of (found_of found.now))) }
 {
@@ -66,7 +66,7 @@ fn dash_count(found: &ArgMatches<'_>) -> usize
     }
 }
 
-/// How many names of files stand after a subcommand.
+/// How many names of files are after a subcommand.
 fn file_count(found: &ArgMatches<'_>) -> usize
     ensures { result ≡ count_by is_file (file_names_in (rows_of (found_of found.now))) }
 {
@@ -105,7 +105,7 @@ fn is_set(found: &ArgMatches<'_>, flag: &str) -> bool
     }
 }
 
-/// What stands after a subcommand.
+/// What is after a subcommand.
 fn arguments_of<'a>(found: &ArgMatches<'a>) -> Arguments<'a>
     ensures { given_of result ≡ given_in (rows_of (found_of found.now)) }
 {
@@ -246,7 +246,7 @@ fn not_run(alloc: Global, error: &Error) -> Result<Decision, UsageFault>
 /// What the arguments ask for; they come without the program's name.
 ///
 /// `Help` holds the help that `-h` or `--help` asks for. Arguments that aren't those of the command
-/// line are `Parse`, with the text for the user. Then come, in this order: `DashTwice` where `-` stands
+/// line are `Parse`, with the text for the user. Then come, in this order: `DashTwice` where `-` is
 /// more than once, `TwoFiles` where there is more than one file name, `BadDate` where the date has
 /// more than 20 bytes or a byte outside 32 to 126, and `NoName` where the output would go to a file
 /// but the input's name has no ending that can be changed (see [`output_name`]). `Memory` comes where

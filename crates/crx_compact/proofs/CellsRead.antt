@@ -119,7 +119,7 @@ pub record ReadSoFar (before : List (Option ArcTail))
   pub left : arcs ≡ arcs_of_codes before (map (λ (c : ReadCell). c.code) cells)
   pub shown : map shown_value arcs ≡ map (λ (c : ReadCell). c.value) cells
 
--- what stands at a place: the text of its cell, and the rest
+-- what is at a place: the text of its cell, and the rest
 at-next : (before : List (Option ArcTail)) (count : ℕ) (line : List ℕ)
     (k at : ℕ) (arcs : List (Option ArcTail)) (s : ReadSoFar before count line k at arcs)
     → k < count → (code : Option Code) → code_of (first_cell (drop at line)) ≡ code

@@ -28,7 +28,7 @@ use Rattle.crx_text.proofs.EachPlace.{length-each_place}
 use Rattle.crx_text.specs.Texts.{patched}
 use Rattle.crx_base.specs.declared.limits.TheConstants.{HEAD_WIDTH, NAME_WIDTH}
 
--- whether no identifier stands twice
+-- whether no identifier is there twice
 abbrev pub differ : List (List ℕ) → Bool
 differ names = are_apart (λ (n : List ℕ). n) names
 

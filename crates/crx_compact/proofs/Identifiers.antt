@@ -1,4 +1,4 @@
--- Things of different identifiers: each is found by its own, and none stands among earlier ones.
+-- Things of different identifiers: each is found by its own, and none is among earlier ones.
 use Rattle.std.proofs.Common.{◌≡◌, ℕ, true, false, not, ◌||◌, List, [], ◌∷◌, Some, refl, ap, ◌∙◌}
 use Rattle.std.specs.List.{list_any, AllByRecursion}
 use Rattle.std.specs.Str.{bytes_eq}

@@ -1,4 +1,4 @@
--- Lists whose items all have a property, and what stands at a place of a list.
+-- Lists whose items all have a property, and what is at a place of a list.
 use Rattle.std.specs.Prelude.{◌≡◌, ◌<◌, refl, ℕ, zero, suc, List, [], ◌∷◌, get_or, length, map, slice_get, take, Some}
 use Rattle.std.proofs.Common.{arith}
 use Rattle.std.specs.List.{AllByRecursion}
@@ -15,7 +15,7 @@ pub all-from : {X : Type 0} {P : X → Type 0} (Q : X → Type 0)
 all-from Q next [] h = tt
 all-from Q next (x ∷ xs) h = (next x h.0, all-from Q next xs h.1)
 
--- what stands at a place of the first so many
+-- what is at a place of the first so many
 pub get_or-take : {X : Type 0} (xs : List X) (n k : ℕ) (d : X) → k < n
     → get_or (take n xs) k d ≡ get_or xs k d
 get_or-take xs zero k d h = absurd (omega (arith, h))
@@ -23,7 +23,7 @@ get_or-take [] (suc n) k d h = refl
 get_or-take (x ∷ xs) (suc n) zero d h = refl
 get_or-take (x ∷ xs) (suc n) (suc k) d h = get_or-take xs n k d (omega (arith, h))
 
--- what stands at a place that is within the list
+-- what is at a place that is within the list
 pub record HasAt {X : Type 0} (xs : List X) (k : ℕ) : Type 0 where
   pub it : X
   pub there : slice_get xs k ≡ Some it

@@ -23,7 +23,7 @@ taken_more xs i x h = ap (λ n. take n xs) (add-one i) ∙ taken_next xs i x h
     taken_next (y ∷ ys) zero x h = ap (λ z. z ∷ []) (same_Some y x h)
     taken_next (y ∷ ys) (suc i) x h = ap (λ zs. y ∷ zs) (taken_next ys i x h)
 
--- nothing is past a place where nothing stands
+-- nothing is past a place where nothing is
 pub taken_all : {X : Type 0} (xs : List X) (i : ℕ) → slice_get xs i ≡ None → take i xs ≡ xs
 taken_all [] zero h = refl
 taken_all [] (suc i) h = refl

@@ -10,7 +10,7 @@ use Rattle.crx_compact.specs.meaning.ArcValues.{in_range}
 use Rattle.crx_compact.specs.ArcTails.{ArcTail}
 use Rattle.std.specs.Option.{option_map}
 
--- the value that a tail stands at
+-- the value that a tail is at
 abbrev pub value_of_tail : ArcTail → ℤ
 value_of_tail arc = newest arc.differences
 

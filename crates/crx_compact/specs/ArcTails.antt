@@ -26,7 +26,7 @@ abbrev pub started_tail : Option Started → Option ArcTail
 started_tail None = None
 started_tail (Some arc) = arc_tail arc.order (values_of arc.order arc.numbers)
 
--- an arc's tail within a limit of orders: an order that may stand there, and at most one difference more
+-- an arc's tail within a limit of orders: an order that may be there, and at most one difference more
 pub record IsBoundedArc (limit : ℕ) (arc : ArcTail) : Type 0 where
   pub order : arc.order ≤ limit
   pub few : length arc.differences ≤ arc.order + 1

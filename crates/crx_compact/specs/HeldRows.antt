@@ -19,7 +19,7 @@ use Rattle.crx_compact.specs.Cells.{arcs_of_codes, value_at_place}
 use Rattle.crx_rinex.specs.meaning.Observations.{Row}
 use Rattle.crx_compact.specs.ArcSteps.{value_of_code}
 
--- indicators that a history may have: no more than a line has, of the characters that may stand there
+-- indicators that a history may have: no more than a line has, of the characters that may be there
 pub record AreHeldFlags (flags : List ℕ) : Type 0 where
   pub within : length flags ≤ LINE_LIMIT
   pub kept : list_all is_kept flags ≡ true

@@ -1,4 +1,4 @@
--- All that columns and what stands in them hold between two lines of an input, part by part. By the law
+-- All that columns and what is in them hold between two lines of an input, part by part. By the law
 -- `columns_hold` one that takes over these parts of another is that other; so there is no part beside them, in which
 -- a record of the past lines could grow.
 use Rattle.crx_compact.specs.declared.satellite.SatelliteHistory.TheInside.{Inside as SatelliteHistoryInside}

@@ -41,7 +41,7 @@ AreShort =
     (types : List Count) (m : Marked) (older : List Marked) → AreWhole types (since_full (m ∷ older))
     → AllByRecursion (λ (line : List ℕ). length line ≤ 18 * TYPES_LIMIT) (compact_epoch (m ∷ older))
 
--- what the next epoch starts from: nothing where it stands in full, else the tail of those before it
+-- what the next epoch starts from: nothing where it is in full, else the tail of those before it
 abbrev pub tail_before : Marked → List Marked → Tail
 tail_before m older = if m.in_full then no_tail else tail_of older
 
@@ -70,8 +70,8 @@ abbrev pub has_no_epochs : List Marked → Bool
 has_no_epochs [] = true
 has_no_epochs (m ∷ older) = false
 
--- the compact lines of an epoch can stand in a file: their characters are 32 to 126; none is an event's first line; and
--- the first one begins with > where the epoch stands in full, or first, and no other line does
+-- the compact lines of an epoch can be in a file: their characters are 32 to 126; none is an event's first line; and
+-- the first one begins with > where the epoch is in full, or first, and no other line does
 pub record LinesCanStand (m : Marked) (older : List Marked) : Type 0 where
   pub printable : AllByRecursion (λ (line : List ℕ). list_all is_printable line ≡ true) (compact_epoch (m ∷ older))
   pub no_event : AllByRecursion (λ (line : List ℕ). is_event_line line ≡ false) (compact_epoch (m ∷ older))

@@ -179,7 +179,7 @@ next_step begun (Content line) = line_step begun begun.clock line
 
 -- ---- all lines so far
 
--- another thing in place of the one that stands there
+-- another thing in place of the one that is there
 abbrev pub placed_as : {X Y : Type 0} → (X → Y) → Place X → Place Y
 placed_as f (Here x count) = Here (f x) count
 placed_as f (Wrong offset fault) = Wrong offset fault
@@ -190,13 +190,13 @@ abbrev pub held_after : Option Tail → ReadEpoch → HeldEpoch
 held_after tail read =
     record { epoch = read.epoch; tail = raw_tail_after (unwrap_or (tail_for_line tail read.raw.line) no_tail) read.raw }
 
--- what stands at some lines by the step that the last of them makes, so many standing before that one
+-- what is at some lines by the step that the last of them makes, so many being before that one
 abbrev pub place_of_step : ℕ → RawStep → Place HeldEpoch
 place_of_step count (Going begun) = Wanted
 place_of_step count (Whole held) = Here held (suc count)
 place_of_step count (Faulty fault) = Wrong count fault
 
--- what stands at some lines, step by step, the count of those before them being given
+-- what is at some lines, step by step, the count of those before them being given
 abbrev pub place_of_steps : ℕ → RawStep → List ReadLine → Place HeldEpoch
 place_of_steps count (Going begun) [] = Wanted
 place_of_steps count (Going begun) (line ∷ lines) = place_of_steps (suc count) (next_step begun line) lines

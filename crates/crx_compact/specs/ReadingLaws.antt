@@ -135,7 +135,7 @@ ReadsSoundly =
 abbrev pub HasPrintableMarks : RawEpoch → Type 0
 HasPrintableMarks raw = AllByRecursion (λ (r : RawRow). list_all is_printable r.marks ≡ true) raw.rows
 
--- an epoch that was read is whole, by the counts of types that it was read with, and its lines can stand before others
+-- an epoch that was read is whole, by the counts of types that it was read with, and its lines can be before others
 pub record IsGood (types : List Count) (read : ReadEpoch) : Type 0 where
   pub whole : IsWholeEpoch types read.epoch
   pub marks : HasPrintableMarks read.raw
@@ -165,14 +165,14 @@ ReadsWholeLists =
 abbrev pub RawByTail : RawEpoch → List RawEpoch → Type 0
 RawByTail raw block = tail_of_block (raw ∷ block) ≡ raw_tail_after (tail_of_block block) raw
 
--- the tail of the raw epochs before decides what stands at the next lines, faults too, and the tail after an epoch that was
+-- the tail of the raw epochs before decides what is at the next lines, faults too, and the tail after an epoch that was
 -- read there
 pub record TailDecides (types : List Count) (older : List RawEpoch) (lines : List ReadLine) : Type 0 where
   pub place : epoch_at types older lines ≡ epoch_after types (tail_left older) lines
   pub next : (read : ReadEpoch) (count : ℕ) → epoch_at types older lines ≡ Here read count
       → tail_left (read.raw ∷ older) ≡ Some (held_after (tail_left older) read).tail
 
--- a line that begins with > forgets: what stands there doesn't depend on older raw epochs, and its epoch is a block's
+-- a line that begins with > forgets: what is there doesn't depend on older raw epochs, and its epoch is a block's
 -- first
 pub record Forgets (types : List Count) (older : List RawEpoch) (line : List ℕ) (lines : List ReadLine) : Type 0 where
   pub place : epoch_at types older (Content line ∷ lines) ≡ epoch_at types [] (Content line ∷ lines)
@@ -197,7 +197,7 @@ abbrev pub has_no_lines : List ReadLine → Bool
 has_no_lines [] = true
 has_no_lines (line ∷ lines) = false
 
--- what stands at some lines, and what an epoch there leaves, is what the steps make of them line by line
+-- what is at some lines, and what an epoch there leaves, is what the steps make of them line by line
 abbrev pub StepsAgree : List Count → Option Tail → List ReadLine → Type 0
 StepsAgree types tail lines = placed_as (held_after tail) (epoch_after types tail lines)
     ≡ place_by_steps types tail lines
@@ -220,7 +220,7 @@ StepsFromOpen =
     → open_raw_with types tail lines ≡ Some begun → StepFromOpen types tail lines line begun
 
 -- the lines of an epoch that was written, read one by one after the tail before it, give the epoch with the last
--- of them, and the tail that the writer has; where the epoch stands in full, after any tail
+-- of them, and the tail that the writer has; where the epoch is in full, after any tail
 abbrev pub StepsReadBack : Type 0
 StepsReadBack =
     (types : List Count) (m : Marked) (older : List Marked) (tail : Option Tail)

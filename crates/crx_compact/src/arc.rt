@@ -126,7 +126,7 @@ fn put_four(differences: &mut [i64], value: i64, first: i64, second: i64, third:
     differences[3] = third;
 }
 
-/// The value after the one that some differences of order 0, 1, .. stand at, by the difference of the next order.
+/// The value after the one that some differences of order 0, 1, .. are at, by the difference of the next order.
 fn value_after(differences: &[i64], number: i64) -> i64
     requires few { length differences.now ≤ ORDER_LIMIT }
     requires below { AreBelow value_bound differences.now }

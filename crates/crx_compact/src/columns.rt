@@ -267,7 +267,7 @@ impl Columns {
             × (makes_epoch (step_in self.old.state (Content line.now)) ≡ true)) }
         ensures emptied { OnErr result (self.new.state ≡ Idle None) }
         // After the raw epochs accepted since everything was last forgotten, and the lines of the epoch so far, the line makes
-        // what it makes by them: the epoch that is given is the one that stands at these lines.
+        // what it makes by them: the epoch that is given is the one that is at these lines.
         ensures block { (types : List Count) (older : List RawEpoch) (lines : List ReadLine)
             → IsReading types older lines self.old.state
             → IfOk result (λ given. HasReadTo types older (lines ++ Content line.now ∷ []) self.new.state given) }

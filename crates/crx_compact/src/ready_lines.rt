@@ -211,7 +211,7 @@ impl ReadyLines {
         }
     }
 
-    /// Borrows all lines as one text, each followed by LF, after which none is pending. `None` comes where the next one stands in other
+    /// Borrows all lines as one text, each followed by LF, after which none is pending. `None` comes where the next one is in other
     /// memory, and then all stay as they are.
     pub(crate) fn take_text(&mut self) -> Option<&[u8]>
         ensures value { IfSome result (λ text. text.now ≡ lines_text (pending_lines self.old)) }

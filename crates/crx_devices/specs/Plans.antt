@@ -19,7 +19,7 @@ holds_still w = not (w.plan.once && w.struck)
 abbrev pub fails : Watch → ℕ → Bool
 fails w moved = holds_still w && is_reached w.plan.when w.calls moved
 
--- how many of the wanted bytes stand before the point where a later call fails
+-- how many of the wanted bytes are before the point where a later call fails
 abbrev pub before_point : When → ℕ → ℕ → ℕ
 before_point Never moved wanted = wanted
 before_point (AfterCalls _) moved wanted = wanted

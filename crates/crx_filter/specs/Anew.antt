@@ -1,4 +1,4 @@
--- Where the reading of compact text starts anew: what stands from there on depends on the observation types in force,
+-- Where the reading of compact text starts anew: what is from there on depends on the observation types in force,
 -- and on the lines from there on alone. Lists of items have the newest first.
 use Rattle.std.specs.Prelude.{◌≡◌, ℕ, zero, suc, Bool, true, false, ◌&&◌, List, [], ◌∷◌, ◌++◌, if◌then◌else◌}
 use Rattle.crx_base.specs.meaning.Seen.{ReadLine, Content, Overlong}

@@ -21,7 +21,7 @@ use Rattle.crx_header.specs.meaning.CompactHeader.{lines_before_header}
 use Rattle.crx_filter.specs.meaning.Directions.{rinex_reading}
 
 -- the state of the epochs: the next one's index, from 0; and the tail of those before it, or none where the next
--- one is the first or an event or a warning stands before it
+-- one is the first or an event or a warning is before it
 pub record Written : Type 0 where
   pub index : ℕ
   pub tail : Option Tail

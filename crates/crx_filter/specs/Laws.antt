@@ -44,7 +44,7 @@ continued_reading place skip so_far more =
       | Looking number ↦ looked_for (reading_from place skip so_far.items) so_far.items number more
     ]
 
--- what stands at a place is certain as soon as its last line has come, and where there is no line yet, one is wanted
+-- what is at a place is certain as soon as its last line has come, and where there is no line yet, one is wanted
 pub record IsReadForward {E : Type 0} (place : List (Item E) → List ReadLine → Place (FileUnit E)) : Type 0 where
   pub steady : (items : List (Item E)) → IsSteady (place items)
   pub wants : (items : List (Item E)) → place items [] ≡ Wanted
@@ -58,7 +58,7 @@ IsResumed {E = E} place =
 
 -- ---- prefixes
 
--- what is written for some lines stands at the beginning of what is written for these lines and more, and of the whole
+-- what is written for some lines is at the beginning of what is written for these lines and more, and of the whole
 -- output for every input that has these lines first
 pub record IsWrittenFirst (so_far : List ReadLine
     → Choices → List ℕ) (output : List ℕ → Choices → List ℕ) (choices : Choices) (lines : List ReadLine) : Type 0 where

@@ -1,5 +1,5 @@
 -- A run line by line: the state between two lines, and what one line more makes of it. Both directions go this way;
--- what differs between them stands in a `Direction`. O is the state of an epoch whose lines have come in part, K
+-- what differs between them is in a `Direction`. O is the state of an epoch whose lines have come in part, K
 -- that of the epochs before, and U what a whole epoch gives.
 use Rattle.std.specs.Prelude.{ℕ, zero, suc, Bool, true, false, not, ◌&&◌, ◌+◌, ◌-◌, List, [], Option, Some, None}
 use Rattle.std.specs.Prelude.{Result, Ok, Err, if◌then◌else◌}
@@ -186,7 +186,7 @@ after_warning direction seen again = record seen {
   kept = direction.emptied seen.kept;
 }
 
--- a fault of a line: reading goes on at this very line where it stands in an epoch and begins with >
+-- a fault of a line: reading goes on at this very line where it is in an epoch and begins with >
 abbrev pub failed_step : {U O K : Type 0} → Direction U O K → Seen O K → ReadLine → Fault → Step O K
 failed_step direction seen line fault =
     let at : At = record { line = seen.number + 1; fault = fault } in

@@ -54,7 +54,7 @@ impl Model for Compaction {
     }) };
 }
 
-/// Whether an epoch of this index, from 0, stands in full because the user wants one at every so many.
+/// Whether an epoch of this index, from 0, is in full because the user wants one at every so many.
 fn is_at_every(every: Option<u32>, index: u64) -> bool
     ensures { result ≡ is_at_every every index }
 {

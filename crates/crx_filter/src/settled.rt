@@ -28,7 +28,7 @@ pub(crate) struct Settled {
 }
 
 /// A fault of the next line. It ends the run, or is skipped: then a line that begins with `>` is looked for, from the line of the
-/// fault on where it stands in an epoch and begins so.
+/// fault on where it is in an epoch and begins so.
 pub(crate) fn after_fault(
     stage: Stage,
     number: u64,

@@ -234,7 +234,7 @@ present_by_letter table es letter h few some =
 
 -- ---- few systems
 
--- how often a letter stands among some counts
+-- how often a letter is among some counts
 abbrev times : ℕ → List Count → ℕ
 times letter [] = 0
 times letter (c ∷ cs) = cond (eqb c.0 letter) (suc (times letter cs)) (times letter cs)
@@ -259,7 +259,7 @@ once letter (c ∷ cs) h =
       | inr f ↦ rw f (once letter cs parts.1)
     ]
 
--- how often the letters of a list stand among some counts, all together
+-- how often the letters of a list are among some counts, all together
 abbrev times_of_any : List ℕ → List Count → ℕ
 times_of_any [] cs = 0
 times_of_any (l ∷ ls) cs = times l cs + times_of_any ls cs

@@ -20,7 +20,7 @@ with_line counts line = after_count counts (count_of_types_line line)
 abbrev pub IsCount : Count → Type 0
 IsCount c = (is_system c.0 ≡ true) × IsAllowedCount c.1
 
--- whether no letter stands twice
+-- whether no letter is there twice
 abbrev pub letters_differ : List Count → Bool
 letters_differ [] = true
 letters_differ (c ∷ cs) = is_none (count_of cs c.0) && letters_differ cs

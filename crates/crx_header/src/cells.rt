@@ -1,4 +1,4 @@
-//! Where the cells of a satellite line stand, and their indicators. RINEX 3.05, table A3, m(F14.3,I1,I1).
+//! Where the cells of a satellite line are, and their indicators. RINEX 3.05, table A3, m(F14.3,I1,I1).
 
 ghost use Rattle.std.specs.Prelude.{ℕ, ◌≡◌, ◌≤◌, ◌<◌, ◌+◌, ◌-◌, ◌*◌, ◌++◌, replicate, slice_set, length};
 ghost use Rattle.crx_text.specs.meaning.Columns.{character_at};
@@ -8,7 +8,7 @@ use crx_base::limits::{CELL_WIDTH, NAME_WIDTH, OBSERVATION_WIDTH};
 use crx_text::columns::character;
 use crx_text::copies::{copy_text, put_blanks};
 
-/// How many of so many cells stand within a line.
+/// How many of so many cells are within a line.
 #[inline(always)]
 pub fn cells_within(line: &[u8], m: usize) -> usize
     ensures few { result ≤ m }
@@ -17,7 +17,7 @@ pub fn cells_within(line: &[u8], m: usize) -> usize
     m.min(line.len().saturating_sub(NAME_WIDTH) / CELL_WIDTH)
 }
 
-/// Puts the two indicators of type k, from 0, in their places, where its cell stands within the line: both become one load and one
+/// Puts the two indicators of type k, from 0, in their places, where its cell is within the line: both become one load and one
 /// store.
 #[inline(always)]
 pub fn put_indicators_within(line: &[u8], k: usize, flags: &mut [u8])

@@ -16,12 +16,12 @@ pub record IsReadable (line : List ℕ) : Type 0 where
 abbrev pub AreReadable : List (List ℕ) → Type 0
 AreReadable lines = AllByRecursion IsReadable lines
 
--- what was made of lines, by what stands there: the epoch, or none where more lines are wanted
+-- what was made of lines, by what is there: the epoch, or none where more lines are wanted
 abbrev pub HasGiven : Place HeldEpoch → ColumnsState → Option Epoch → Type 0
 HasGiven place after None = place ≡ Wanted
 HasGiven place after (Some epoch) = (held : HeldEpoch)
     × (count : ℕ) × (place ≡ Here held count) × (epoch ≡ held.epoch) × (after ≡ Idle (Some held.tail))
 
--- a fault that stands there
+-- a fault that is there
 abbrev pub IsFaultAt : Place HeldEpoch → Fault → Type 0
 IsFaultAt place fault = (offset : ℕ) × (place ≡ Wrong offset fault)

@@ -71,7 +71,7 @@ pub fn values_of_codes()
     ensures law { (width : ℕ) (code : Code) (older : List Code) → ValuesOfCodes width code older }
 {}
 
-/// The compact lines of an epoch can stand in a file: characters 32 to 126, none an event's first line, and `>` at the
+/// The compact lines of an epoch can be in a file: characters 32 to 126, none an event's first line, and `>` at the
 /// beginning of a full epoch's first line alone.
 pub fn lines_can_stand()
     ensures law { AllLinesCanStand }

@@ -31,14 +31,14 @@ pub fn next_raw_epoch()
     ensures law { (raw : RawEpoch) (block : List RawEpoch) → HasSingleLines raw → RawByTail raw block }
 {}
 
-/// What is left of the epochs before, or nothing, decides what stands at the next lines, each fault too, and what is left
+/// What is left of the epochs before, or nothing, decides what is at the next lines, each fault too, and what is left
 /// of an epoch that is read there.
 pub fn tail_decides()
     ensures law { (types : List Count) (older : List RawEpoch) (lines : List ReadLine)
         → TailDecides types older lines }
 {}
 
-/// What stands at some lines, and what is left of an epoch there, is what the steps make of them line by line.
+/// What is at some lines, and what is left of an epoch there, is what the steps make of them line by line.
 pub fn steps_agree()
     ensures law { (types : List Count) (tail : Option Tail) (lines : List ReadLine)
         → StepsAgree types tail lines }
@@ -55,7 +55,7 @@ pub fn steps_from_open()
     ensures law { StepsFromOpen }
 {}
 
-/// What stands at some lines is certain as soon as its last line has come, by raw epochs and by the tail.
+/// What is at some lines is certain as soon as its last line has come, by raw epochs and by the tail.
 pub fn steady_epochs()
     ensures raw { (types : List Count) (older : List RawEpoch) → IsSteady (epoch_at types older) }
     ensures tail { (types : List Count) (tail : Option Tail) → IsSteady (epoch_after types tail) }

@@ -15,7 +15,7 @@ pub fn header_alone()
     ensures compaction { compaction_of plain_choices (header) ≡ good (first_two ++ header) }
 {}
 
-/// Types that change in an event: the next epoch stands in full, with the new count; and the way back.
+/// Types that change in an event: the next epoch is in full, with the new count; and the way back.
 pub fn types_that_change()
     ensures compaction { compaction_of plain_choices (header ++ epoch_line_at 0 1 ∷ observed (codes "1.000")
         ∷ line_at 1 4 1 ∷ two_types ∷ epoch_line_at 2 1 ∷ observed (codes "3.000          12.500") ∷ [])
@@ -27,7 +27,7 @@ pub fn types_that_change()
         ∷ line_at 1 4 1 ∷ two_types ∷ epoch_line_at 2 1 ∷ observed (codes "3.000          12.500") ∷ []) }
 {}
 
-/// An identifier that stands twice in an epoch ends the run, and nothing of the epoch is written; where faults are skipped, it is a
+/// An identifier that is there twice in an epoch ends the run, and nothing of the epoch is written; where faults are skipped, it is a
 /// warning.
 pub fn repeated_satellite()
     ensures ends { compaction_of plain_choices (header ++ epoch_line_at 0 2 ∷ observed (codes "1.000")
@@ -107,7 +107,7 @@ pub fn no_end_of_header()
     ensures second { expansion_of with_skip (take 1 first_two) ≡ failed [] 2 BadProgLine }
 {}
 
-/// Compact text of another writer: differences of order 1, and & where nothing stands.
+/// Compact text of another writer: differences of order 1, and & where nothing is.
 pub fn first_differences()
     ensures expansion { expansion_of plain_choices (first_two ++ header ++ full_line_at 0 1 (codes "G01") ∷ []
         ∷ codes "1&1000" ∷ (second_changed 1 ++ blanks 30 ++ codes "&&&") ∷ [] ∷ codes "500" ∷ second_changed
@@ -115,7 +115,7 @@ pub fn first_differences()
         ∷ epoch_line_at 1 1 ∷ observed (codes "1.500") ∷ epoch_line_at 2 1 ∷ observed (codes "2.000") ∷ []) }
 {}
 
-/// A bad indicator ends the run; where faults are skipped, the next epoch stands in full.
+/// A bad indicator ends the run; where faults are skipped, the next epoch is in full.
 pub fn bad_indicator()
     ensures ends { compaction_of plain_choices (header ++ epoch_line_at 0 1 ∷ codes "G01  20000000.000"
         ∷ epoch_line_at 1 1 ∷ codes "G01  20000100.500&" ∷ epoch_line_at 2 1 ∷ codes "G01  20000202.000"

@@ -23,21 +23,21 @@ ghost use Rattle.crx_base.specs.meaning.Lines.{lines_text};
 ghost use Rattle.crx_filter.specs.Laws.{IsReadForward, IsResumed, IsWrittenFirst, IsCompactedOn, IsExpandedOn, IsCompactionEnded, IsExpansionEnded, StaysEnded, ItemsAreRead, AreInPlace, IsReadyWhereHandedOut};
 ghost use Rattle.crx_filter.specs.meaning.Reading.{fault_of_stop};
 
-/// What stands at a line of a RINEX file is certain as soon as its last line has come; so the reading of some lines and more goes on
+/// What is at a line of a RINEX file is certain as soon as its last line has come; so the reading of some lines and more goes on
 /// from where the reading of the first lines stopped.
 pub fn resumed_rinex()
     ensures forward { IsReadForward rinex_place }
     ensures resumed { IsResumed rinex_place }
 {}
 
-/// What stands at a line of compact text, from the third line on, is certain as soon as its last line has come; so the reading of some
+/// What is at a line of compact text, from the third line on, is certain as soon as its last line has come; so the reading of some
 /// lines and more goes on from where the reading of the first lines stopped.
 pub fn resumed_compact()
     ensures forward { IsReadForward compact_place }
     ensures resumed { IsResumed compact_place }
 {}
 
-/// What a compaction has written for some lines stands at the beginning of its output for every input that has these lines first.
+/// What a compaction has written for some lines is at the beginning of its output for every input that has these lines first.
 pub fn compaction_goes_on()
     ensures law { (choices : Choices) (lines : List ReadLine)
         → IsWrittenFirst compacted_so_far (λ input (c : Choices). (compacted input c).output) choices lines }
@@ -50,7 +50,7 @@ pub fn compaction_by_line()
         → IsCompactedOn choices lines line }
 {}
 
-/// What an expansion has written for some lines stands at the beginning of its output for every input that has these lines first.
+/// What an expansion has written for some lines is at the beginning of its output for every input that has these lines first.
 pub fn expansion_goes_on()
     ensures law { (choices : Choices) (lines : List ReadLine)
         → IsWrittenFirst expanded_so_far (λ input (c : Choices). (expanded input c).output) choices lines }
@@ -120,7 +120,7 @@ pub fn bounded_lines()
 {}
 
 /// The reading of compact text starts anew between two units, where the next line begins with `>` and so does the one after the events
-/// that stand there, if any: whatever was read before, the units from there on depend on the observation types in force and on those
+/// that are there, if any: whatever was read before, the units from there on depend on the observation types in force and on those
 /// lines alone.
 pub fn reading_starts_anew()
     ensures law { DependsOnTypes }

@@ -8,7 +8,7 @@ ghost use Rattle.crx_base.specs.meaning.Choices.{is_date};
 ghost use Rattle.crx_filter.specs.meaning.Standard.{checked};
 
 /// A file that a check passes, with status 0, comes back byte for byte from its compact text, with no message and status 0, whatever is
-/// chosen on either way: how often epochs stand in full, whether faults are skipped, and the date.
+/// chosen on either way: how often epochs are in full, whether faults are skipped, and the date.
 pub fn what_passes_comes_back()
     ensures law { WhatPassesComesBack }
 {}

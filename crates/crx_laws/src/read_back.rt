@@ -59,7 +59,7 @@ fn read_coded(
 
 /// Reads the compact lines of an epoch that was coded, by the counts of types that its rows have: gives the epoch back.
 ///
-/// Where the columns have the history of the epochs before, or the epoch stands in full, only `OutOfMemory` can refuse it. Otherwise
+/// Where the columns have the history of the epochs before, or the epoch is in full, only `OutOfMemory` can refuse it. Otherwise
 /// the faults are those of [`Columns::begin`] and [`Columns::feed`]. `NotAnEpoch` comes also at an event's line and at
 /// one that is longer than a line may be; where that isn't the first line, the columns stay in the midst of an epoch.
 pub fn read_back(

@@ -1,4 +1,4 @@
-//! Laws of reading RINEX: what stands at some lines, and what an open epoch decides.
+//! Laws of reading RINEX: what is at some lines, and what an open epoch decides.
 
 ghost use Rattle.std.specs.Prelude.{◌≡◌, ◌≤◌, ◌+◌, ◌∷◌, [], ℕ, List, Some, length};
 ghost use Rattle.std.specs.Prelude.{Result};
@@ -17,7 +17,7 @@ ghost use Rattle.crx_rinex.specs.meaning.EpochPlaces.{OpenEpoch, epoch_place, ro
 ghost use Rattle.crx_rinex.specs.EpochPlaces.{open_with};
 ghost use Rattle.crx_rinex.specs.Laws.{IsWantedWhereOpen, IsDecidedByOpen};
 
-/// What stands in the first line alone is certain as soon as it has come.
+/// What is in the first line alone is certain as soon as it has come.
 pub fn steady_first_line<X>()
     ensures law { (read : List ℕ → Result X Fault) → IsSteady (λ lines. first_line lines read) }
 {}
@@ -29,7 +29,7 @@ pub fn steady_in_turn<X, Y>()
         → IsSteady (λ lines. then_place (first lines) lines next) }
 {}
 
-/// What stands where an epoch or an event may begin is certain as soon as its last line has come.
+/// What is where an epoch or an event may begin is certain as soon as its last line has come.
 pub fn steady_epochs()
     ensures law { (types : List Count) → IsSteady (epoch_place types) }
 {}
@@ -51,7 +51,7 @@ pub fn next_line_by_open()
         → open_with types lines ≡ Some so_far → IsDecidedByOpen types lines line so_far }
 {}
 
-/// An epoch that is read is whole: its line, its rows and their counts of types are sound, no satellite stands twice, and
+/// An epoch that is read is whole: its line, its rows and their counts of types are sound, no satellite is there twice, and
 /// it took its epoch line and one line for each satellite.
 pub fn epochs_are_whole()
     ensures law { (types : List Count) → AreCounts types → (lines : List ReadLine) (epoch : Epoch) (count : ℕ)

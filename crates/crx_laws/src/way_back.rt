@@ -14,7 +14,7 @@ ghost use Rattle.crx_filter.specs.meaning.WayBack.{HaveNoReturns};
 
 /// Whatever was compacted comes back: where the compaction isn't ended by a fault, the expansion of its compact text writes each
 /// accepted unit as RINEX prints it, reports nothing, and ends with status 0. Faults may be skipped or not, on both ways, and epochs
-/// may stand in full as often as is chosen. No header line, event line or record may have a content that ends in CR.
+/// may be in full as often as is chosen. No header line, event line or record may have a content that ends in CR.
 pub fn what_was_compacted_comes_back()
     ensures law { (input : List ℕ) (compacting expanding : Choices) → ComesBack input compacting expanding }
 {}
@@ -25,7 +25,7 @@ pub fn the_normal_form_comes_back()
         → NormalFormComesBack input compacting expanding }
 {}
 
-/// A standard file comes back byte for byte, whatever is chosen on either way: how often epochs stand in full, whether faults are
+/// A standard file comes back byte for byte, whatever is chosen on either way: how often epochs are in full, whether faults are
 /// skipped, and the date.
 pub fn a_standard_file_comes_back()
     ensures law { (input : List ℕ) (compacting expanding : Choices)

@@ -100,7 +100,7 @@ module _ (gave : List ℕ → Type 0) (old held : List ℕ)
         phase = phase;
       }
 
-  -- where nothing was discarded, the line stands in what is held
+  -- where nothing was discarded, the line is in what is held
   pub whole-piece : passed ≡ 0 → s.front ++ take len held ≡ take len held
   whole-piece none = ap (λ l. l ++ take len held) (nil_from_length s.front (s.passed_is ∙ none))
 
@@ -166,7 +166,7 @@ read-fault gave old held room taken passed at_end tally then s before after at f
     omega (arith, length-append before.rest s.given, ap length rest, s.taken_is, s.within, limit) in
     subst (λ f. AnswersFault before s.given at_end tally then at f after) (sym is) (within, none, stops, bad)
 
--- the first line is the one whose content stands in a part of the window
+-- the first line is the one whose content is in a part of the window
 pub shown-line : (front part content : List ℕ) (is_ended has_return is_plain : Bool) → front ++ part ≡ part
     → content ≡ without_return part → has_return ≡ ends_with_return part → is_plain ≡ (is_ended && not has_return)
     → ◌≡◌ {A = InputLine} (record { content = content; is_plain = is_plain })

@@ -252,7 +252,7 @@ ended_lines-come_first given =
           ∙ map-append line_of (ended_pieces (pieces_of given)) (pieces_of (s.0 ++ more)),
     )
 
--- what stands at the end, and at a fault
+-- what is at the end, and at a fault
 module _ (gave : List ℕ → Type 0) (at_end : Type 0) (start counted : Tally)
     (now : ReaderState) (lines : List InputLine) (h : HasRead gave at_end start counted now lines) where
   pub HasRead-ended : now.phase ≡ Ended → IsOver at_end start counted h.given lines

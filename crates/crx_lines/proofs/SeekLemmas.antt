@@ -51,7 +51,7 @@ Seeking-found gave old held shown room taken passed searched n s same within non
     Seeking-searched gave old held room taken passed searched n s (omega (arith, within, ap length same))
     (subst (λ l. (k : ℕ) → searched ≤ k → k < n → slice_index l k ≢ 10) same none)
 
--- where all that is held was searched, no LF stands in what was discarded and held
+-- where all that is held was searched, no LF is in what was discarded and held
 pub Seeking-none : (gave : List ℕ → Type 0) (old held : List ℕ) (room taken passed : ℕ)
     → (s : Seeking gave old held room taken passed (length held)) → HasNoFeed (s.front ++ held)
 Seeking-none gave old held room taken passed s =

@@ -10,6 +10,6 @@ use Rattle.crx_lines.specs.declared.line.Part.{Part}
 abbrev pub reading : LineReader → ReaderState
 reading r = record { rest = kept r.window.value; passed = r.passed; number = r.number; phase = r.phase }
 
--- the line whose content stands at a place among some bytes
+-- the line whose content is at a place among some bytes
 abbrev pub part_shown : List ℕ → Part → InputLine
 part_shown bytes p = record { content = slice_range bytes p.from p.to; is_plain = p.is_plain }

@@ -12,7 +12,7 @@ use Rattle.crx_lines.specs.declared.line.Line.{Line}
 use Rattle.crx_lines.specs.declared.phase.Phase.{Phase}
 use Rattle.crx_lines.specs.declared.phase.Phase.TheVariants.{Open, Ended, Stopped}
 
--- no LF stands among some bytes
+-- no LF is among some bytes
 abbrev pub HasNoFeed : List ℕ → Type 0
 HasNoFeed bytes = All (λ b. b ≢ 10) bytes
 

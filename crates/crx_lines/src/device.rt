@@ -37,7 +37,7 @@ pub trait Source {
     ghost ends: { Self → ℕ };
 
     /// Gives the next bytes, as many as it likes, into the front of `buffer`, and answers how
-    /// many. None into a buffer that isn't empty reports the end. What stands in the buffer after
+    /// many. None into a buffer that isn't empty reports the end. What is in the buffer after
     /// them, or after a failure, is left open.
     fn read(&mut self, buffer: &mut [u8]) -> Result<usize, ReadFailed>
         ensures bound { IfOk result (λ n. n ≤ length buffer.new) }

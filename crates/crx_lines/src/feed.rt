@@ -5,7 +5,7 @@ ghost use Rattle.std.specs.Simd.Lanes.{chunk};
 
 use std::simd::prelude::*;
 
-/// How many of the 32 bytes from a place on stand before the first LF; None where none is LF.
+/// How many of the 32 bytes from a place on are before the first LF; None where none is LF.
 #[inline(always)]
 fn before_feed(bytes: &[u8], at: usize) -> Option<usize>
     requires { at + 32 ≤ length bytes.now }

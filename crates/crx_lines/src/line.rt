@@ -63,7 +63,7 @@ impl<'a> Line<'a> {
     }
 }
 
-/// Where a line's content stands in the window, and whether LF alone ends the line.
+/// Where a line's content is in the window, and whether LF alone ends the line.
 #[derive(Clone, Copy)]
 struct Part {
     from: usize,

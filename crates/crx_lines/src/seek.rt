@@ -11,12 +11,12 @@ use crate::window::{SIZE, Window};
 use crx_base::Fault;
 use crx_base::limits::LINE_LIMIT;
 
-/// The first line of an input: what was discarded of it, and what stands in the window.
+/// The first line of an input: what was discarded of it, and what is in the window.
 #[derive(Clone, Copy)]
 pub(crate) struct Sought {
     /// How many of its bytes were discarded: none, or more than a line may have.
     pub(crate) passed: u64,
-    /// How many of its bytes stand at the front of the window.
+    /// How many of its bytes are at the front of the window.
     pub(crate) len: usize,
     /// Whether an LF follows them, or the end.
     pub(crate) is_ended: bool,

@@ -15,7 +15,7 @@ pub(crate) const SIZE: usize = 65536;
 /// The room that a read finds at least, where something is held: a line's content, CR and LF.
 const LEAST_ROOM: usize = LINE_LIMIT + 2;
 
-/// Where a line's content stands in the window, and whether one CR follows it.
+/// Where a line's content is in the window, and whether one CR follows it.
 #[derive(Clone, Copy)]
 pub(crate) struct Place {
     pub(crate) from: usize,
@@ -66,7 +66,7 @@ impl Window {
         &self.bytes[from..to]
     }
 
-    /// Where the first bytes stand, one CR at their end left out.
+    /// Where the first bytes are, one CR at their end left out.
     pub(crate) fn content(&self, len: usize) -> Place
         requires { len ≤ length (kept self.now) }
         ensures ordered { result.from ≤ result.to }

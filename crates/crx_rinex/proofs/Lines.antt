@@ -20,7 +20,7 @@ no_next (x ∷ xs) h = absurd (none-some x (sym h))
 some-left : {A : Type 0} (x : A) (xs : List A) → x ∷ xs ≡ [] → ⊥
 some-left x xs e = true≢false (ap (λ l. elim l [ [] ↦ false | y ∷ ys ↦ true ]) e)
 
--- no element stands at a place exactly where nothing is left from there on
+-- no element is at a place exactly where nothing is left from there on
 none-left : {A B : Type 0} (f : A → B) (xs : List A) (k : ℕ)
     → IsTrue (is_none (slice_get xs k)) ↔ (drop k (map f xs) ≡ [])
 none-left f [] zero = ((λ t. refl), (λ e. refl))
@@ -28,7 +28,7 @@ none-left f [] (suc k) = ((λ t. refl), (λ e. refl))
 none-left f (x ∷ xs) zero = ((λ t. absurd (true≢false (sym t))), (λ e. absurd (some-left (f x) (map f xs) e)))
 none-left f (x ∷ xs) (suc k) = none-left f xs k
 
--- whether something stands at a place, as `is_some` says it of a reference
+-- whether something is at a place, as `is_some` says it of a reference
 none-copied : {A : Type 0} (b : Bool) (o : Option (Bor A))
     → is_some o ≡ not b → IsTrue b ↔ IsTrue (is_none (option_copied o))
 none-copied true None is = ((λ t. refl), (λ t. refl))
@@ -36,7 +36,7 @@ none-copied false None is = absurd (true≢false (sym is))
 none-copied true (Some x) is = absurd (true≢false is)
 none-copied false (Some x) is = ((λ t. absurd (true≢false (sym t))), (λ t. absurd (true≢false (sym t))))
 
--- lines that are a first one and others are all borrowed where no other stands at the last place
+-- lines that are a first one and others are all borrowed where no other is at the last place
 pub all-handed_out : {A B : Type 0} (f : A → B) (first : B) (xs : List A) (n : ℕ) (b : Bool) (o : Option (Bor A))
     → 0 < n → is_some o ≡ not b → option_copied o ≡ slice_get xs (n - 1)
     → IsTrue b ↔ (drop n (first ∷ map f xs) ≡ [])

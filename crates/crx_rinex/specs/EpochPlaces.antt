@@ -61,7 +61,7 @@ abbrev pub open_with : List Count → List ReadLine → Option OpenEpoch
 open_with types [] = None
 open_with types (line ∷ lines) = open_after (opened_at types line) lines
 
--- what stands where an epoch began, so many lines before the one that this step took
+-- what is where an epoch began, so many lines before the one that this step took
 abbrev pub place_after : ℕ → EpochStep → Place (Unit Epoch)
 place_after before (Going so_far) = Wanted
 place_after before (Whole epoch) = Here (Observation epoch) (suc before)

@@ -16,7 +16,7 @@ with_value row k value = record row { values = slice_set row.values k value }
 abbrev pub with_flags : Row → List ℕ → Row
 with_flags row flags = record row { flags = flags ++ replicate (2 * length row.values - length flags) 32 }
 
--- the first so many cells of a line are read: their values, which fit their columns, and their indicators stand at their
+-- the first so many cells of a line are read: their values, which fit their columns, and their indicators are at their
 -- places
 abbrev pub AreCellsRead : ℕ → List ℕ → List (Option ℤ) → List ℕ → Type 0
 AreCellsRead count line values flags = (count ≤ length values) × (values_in count line ≡ Some (take count values))

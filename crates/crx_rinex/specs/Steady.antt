@@ -1,4 +1,4 @@
--- When what stands at a place is certain: lines come one after another, and those to come must not change what was
+-- When what is at a place is certain: lines come one after another, and those to come must not change what was
 -- found.
 use Rattle.std.specs.Prelude.{◌≡◌, ◌≤◌, ◌<◌, ⊤, ℕ, List, ◌++◌, length}
 use Rattle.crx_base.specs.meaning.Seen.{ReadLine}
@@ -10,7 +10,7 @@ IsDecidedAfter count (Here x lines) = count < lines
 IsDecidedAfter count (Wrong offset fault) = count ≤ offset
 IsDecidedAfter count Wanted = ⊤
 
--- what so many lines make, and what they make with more lines after them: a thing and a fault stand within these lines
+-- what so many lines make, and what they make with more lines after them: a thing and a fault are within these lines
 -- and stay, and what wants more lines is decided by more of them
 abbrev pub Remains : {X : Type 0} → ℕ → Place X → Place X → Type 0
 Remains count (Here x lines) later = (lines ≤ count) × (later ≡ Here x lines)

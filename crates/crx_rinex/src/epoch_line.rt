@@ -83,7 +83,7 @@ impl EpochLine {
     }
 }
 
-/// What stands in a line where an epoch may begin.
+/// What is in a line where an epoch may begin.
 #[derive(Drop)]
 pub enum Head {
     /// An event: its flag, from 2 to 6, and how many records follow it.
@@ -102,7 +102,7 @@ impl Head {
     ///
     /// `NotAnEpoch` comes where column 1 isn't `>`; then `BadEpoch` where the flag in column 32 is none of 0 to
     /// 6, the count in columns 33 to 35 is none, or, in an observation epoch, columns 1 to 41 hold a character
-    /// that may not stand there or something stands after column 56; then `BadClock` where columns 42 to 56
+    /// that may not be there or something is after column 56; then `BadClock` where columns 42 to 56
     /// hold neither blanks nor a number of format F15.12.
     pub fn read(line: &[u8]) -> Result<Head, Fault>
         ensures value { MatchResult result

@@ -54,7 +54,7 @@ impl RowBuffer {
     /// Reads a satellite line, with the counts of types that the header declared, in place of the row before.
     ///
     /// `BadSatellite` comes where columns 1 to 3 hold no identifier of a system that has types; then `BadField` where a field is neither blank
-    /// nor a number of format F14.3, or something stands after the last cell; then `BadFlags` where an indicator is outside the characters 32
+    /// nor a number of format F14.3, or something is after the last cell; then `BadFlags` where an indicator is outside the characters 32
     /// to 126, or is `&`. The row after a fault means nothing.
     #[inline(always)]
     pub fn read(&mut self, types: &Types, line: &[u8]) -> Result<(), Fault>

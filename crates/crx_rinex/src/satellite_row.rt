@@ -53,7 +53,7 @@ impl SatRow {
     ///
     /// `BadSatellite` comes where columns 1 to 3 hold no identifier (a letter that has types, a digit or a blank,
     /// a digit); then `OutOfMemory`; then `BadField` where a field is neither blank nor a number of format F14.3,
-    /// or something stands after the last cell; then `BadFlags` where an indicator is outside the characters 32
+    /// or something is after the last cell; then `BadFlags` where an indicator is outside the characters 32
     /// to 126, or is `&`.
     pub fn read(alloc: Global, types: &Types, line: &[u8]) -> Result<SatRow, Fault>
         ensures ok { IfOk result (λ row. row_of types.now line.now ≡ Ok row) }
@@ -190,8 +190,8 @@ pub(crate) fn print_row(
     text.trim_end_blanks();
 }
 
-/// Reads the cells of a satellite line, and looks at what stands after the last. `BadField` comes where a field is neither
-/// blank nor a number, or something stands after the last cell; then `BadFlags` where an indicator may not stand there.
+/// Reads the cells of a satellite line, and looks at what is after the last. `BadField` comes where a field is neither
+/// blank nor a number, or something is after the last cell; then `BadFlags` where an indicator may not be there.
 pub(crate) fn read_cells(
     line: &[u8],
     values: &mut [Option<i64>],
@@ -217,7 +217,7 @@ pub(crate) fn read_cells(
     Ok(())
 }
 
-/// Reads the cells from one on as [`read_cells`] does, where those before it have been read, and looks at what stands after the last.
+/// Reads the cells from one on as [`read_cells`] does, where those before it have been read, and looks at what is after the last.
 #[inline(never)]
 fn read_other_cells(
     line: &[u8],

@@ -1,4 +1,4 @@
--- What stands after a run, by how its work ended and how it was finished.
+-- What is after a run, by how its work ended and how it was finished.
 use Rattle.std.proofs.Common.{◌≡◌, ◌⊎◌, inl, inr, ℕ, ◌+◌, Bool, true, List, [], ◌++◌, length, take, Option, Some, None}
 use Rattle.std.proofs.Common.{refl, sym, ap, subst, ◌∙◌, append-nil}
 use Rattle.crx_lines.specs.meaning.Devices.{with_failed_flush, with_failed_write, with_flush}

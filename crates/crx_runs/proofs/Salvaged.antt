@@ -1,4 +1,4 @@
--- What stands after a run, by how it ended.
+-- What is after a run, by how it ended.
 use Rattle.std.proofs.Common.{◌≡◌, ◌⊎◌, inl, inr, ℕ, ◌≤◌, List, [], ◌∷◌, ◌++◌, length, take, drop, refl, sym, ap, subst}
 use Rattle.std.proofs.Common.{◌∙◌, append-nil, append_assoc}
 use Rattle.std.proofs.lemmas.List.{take_all, take-append-drop}
@@ -102,7 +102,7 @@ begins-itself text = record { rest = []; same = sym (append-nil text) }
 pub begins-taken : (n : ℕ) (text : List ℕ) → Begins text (take n text)
 begins-taken n text = record { rest = drop n text; same = sym (take-append-drop n text) }
 
--- the output of lines that were taken stands first
+-- the output of lines that were taken is first
 module _ (filter : Filter) (lawful : IsLawful filter) (input : Input) (given : List ℕ) where
   abbrev IsFirst : List ℕ → Type 0
   IsFirst written = Begins (filter.so_far (complete_lines given)).output written
@@ -131,7 +131,7 @@ module _ (filter : Filter) (lawful : IsLawful filter) (input : Input) (given : L
       first-taken (with_next lines line) written t
       (begins-more _ (filter.so_far lines).output written (lawful.grows lines (line ∷ [])) begins)
 
-  -- the output after a turn stands first, and so does that before it
+  -- the output after a turn is first, and so does that before it
   pub first-after-turn : (before after : Course) (last : ℕ) (written : List ℕ)
       → IsTurn filter input given before after last → Begins after.output written → IsFirst written
   first-after-turn before after last written (inl t) begins =

@@ -16,7 +16,7 @@ is_of_lines OutOfMemory = false
 is_of_lines fault = true
 
 -- before the first line the output is empty; a fault of the lines so far is the fault of all lines, whatever follows:
--- nothing more is written or reported; what is written for some lines stands first in what is written for these and
+-- nothing more is written or reported; what is written for some lines is first in what is written for these and
 -- more, and in the whole output; and the faults that a filter finds are those of lines
 pub record IsLawful (filter : Filter) : Type 0 where
   pub nothing : filter.so_far [] ≡ record { output = []; warnings = []; fault = None }

@@ -54,7 +54,7 @@ fn report_unwritten<M: Sink>(messages: &mut M, last: u64) -> Outcome
 }
 
 /// Finishes a run whose work has ended. A writer that failed isn't flushed; a flush that fails is `WriteFailed` at the
-/// last line that was read, unless a fault stands. Then the fault is reported, but for a warning that couldn't be.
+/// last line that was read, unless there is a fault. Then the fault is reported, but for a warning that couldn't be.
 pub(crate) fn finish<W: Sink, M: Sink>(writer: &mut W, messages: &mut M, work: Work) -> Outcome
     ensures { Finishes
         (span W.Sink writer.old writer.new)

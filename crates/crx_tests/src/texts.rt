@@ -1,4 +1,4 @@
-//! Texts of whole files, line by line, and the lines that several tests are about: each stands here once, under a name.
+//! Texts of whole files, line by line, and the lines that several tests are about: each is here once, under a name.
 
 use std::alloc::{AllocError, Global};
 

@@ -1,4 +1,4 @@
--- Texts by their characters, blanks standing after them: what is read by columns doesn't ask for the blanks at a text's
+-- Texts by their characters, blanks being after them: what is read by columns doesn't ask for the blanks at a text's
 -- end.
 use Rattle.std.specs.Prelude.{◌≡◌, refl, ℕ, zero, suc, ◌+◌, ◌-◌, ◌<◌, ◌≤◌, Bool, true, ◌&&◌, List, [], ◌∷◌, ◌++◌}
 use Rattle.std.specs.Prelude.{length, take, drop, replicate, slice_index_or}
@@ -40,7 +40,7 @@ at-append_past (x ∷ xs) ys n p e =
     let next : n + p ≡ suc (length xs + p) = omega (arith, e) in
     ap (at (x ∷ (xs ++ ys))) next ∙ at-append_past xs ys (length xs) p refl
 
--- a text that blanks stand after, cut at a width
+-- a text that blanks are after, cut at a width
 take-padded : (n k : ℕ) (text want : List ℕ)
     → n ≤ k → length want ≡ n → ((p : ℕ) → p < n → at text p ≡ at want p) → take n (text ++ replicate k 32) ≡ want
 take-padded zero k text [] le e h = refl

@@ -59,7 +59,7 @@ four_small n (suc (suc zero)) small = omega arith
 four_small n (suc (suc (suc zero))) small = omega arith
 four_small n (suc (suc (suc (suc i)))) small = omega arith
 
--- how many zeros stand before a number's digits in four columns
+-- how many zeros are before a number's digits in four columns
 abbrev pub zeros_of : ℕ → ℕ
 zeros_of n = bool_byte (ltb n 10) + bool_byte (ltb n 100) + bool_byte (ltb n 1000)
 
@@ -70,7 +70,7 @@ few_zeros n = omega (arith, one (ltb n 10), one (ltb n 100), one (ltb n 1000))
     one true = omega arith
     one false = omega arith
 
--- a number's own digits stand after those zeros
+-- a number's own digits are after those zeros
 own_digits : (n : ℕ) → n < 10000 → drop (zeros_of n) (four n) ≡ decimal n
 own_digits n small =
     elim (cases_lt n 10) [

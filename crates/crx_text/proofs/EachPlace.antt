@@ -9,7 +9,7 @@ pub length-each_place : {X : Type 0} (n : ℕ) (f : ℕ → X) → length (each_
 length-each_place zero f = refl
 length-each_place (suc n) f = ap suc (length-each_place n (λ i. f (suc i)))
 
--- what stands at a place of a list of so many
+-- what is at a place of a list of so many
 pub index-each_place : {X : Type 0} (n j : ℕ) (f : ℕ → X) (d : X)
     → (n ≤ j → f j ≡ d) → slice_index_or (each_place n f) j d ≡ f j
 index-each_place zero j f d h = sym (h (omega arith))
@@ -49,7 +49,7 @@ take-each_place (suc k) (suc m) f =
     let more : min (suc k) (suc m) ≡ suc (min k m) = omega arith in
     ap (λ r. f zero ∷ r) (take-each_place k m (λ i. f (suc i))) ∙ sym (ap (λ n. each_place n f) more)
 
--- what stands from a place on
+-- what is from a place on
 pub drop-each_place : {X : Type 0} (n k : ℕ) (f : ℕ → X)
     → k < n → drop k (each_place n f) ≡ f k ∷ drop (k + 1) (each_place n f)
 drop-each_place n k f h = next n k f h ∙ ap (λ m. f k ∷ drop m (each_place n f)) (sym (add-one k))

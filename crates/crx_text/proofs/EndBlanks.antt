@@ -21,7 +21,7 @@ before_none : (x : ℕ) (zs : List ℕ) → before_end_blanks x zs ≡ [] → zs
 before_none x [] none = refl
 before_none x (z ∷ zs) none = let long = ap length none in absurd (omega (arith, long))
 
--- what stands after a part decides which blanks are dropped
+-- what is after a part decides which blanks are dropped
 kept_append : (xs ys : List ℕ)
     → 0 < length (without_end_blanks ys) → without_end_blanks (xs ++ ys) ≡ xs ++ without_end_blanks ys
 kept_append [] ys some = refl
@@ -127,7 +127,7 @@ module _ (text : List ℕ) (end : ℕ) (within : end ≤ length text)
       (drop (start + size) text) (ap (λ (k : ℕ). without_end_blanks (drop k text)) sum ∙ none)
       ∙ nothing (without_end_blanks (chunk start size text)) long)
 
-  -- the first piece decides where only blanks stand after it
+  -- the first piece decides where only blanks are after it
   pub kept_in_first : (count : ℕ) → end < 16
       → count ≡ length (without_end_blanks (chunk 0 16 text)) → take count text ≡ without_end_blanks text
   kept_in_first count few kept =

@@ -109,7 +109,7 @@ chosen : (p : ℕ → Bool) (f g : ℕ → ℕ) (v : List ℕ)
 chosen p f g [] = refl
 chosen p f g (x ∷ xs) = ap (λ t. cond (p x) (f x) (g x) ∷ t) (chosen p f g xs)
 
--- how far a character stands above 126, counted from 32 on
+-- how far a character is above 126, counted from 32 on
 abbrev from_blank : ℕ → ℕ
 from_blank x = (x + (256 - 32)) % 256
 

@@ -15,7 +15,7 @@ lane_fits [] i h = omega arith
 lane_fits (x ∷ xs) zero h = h.0.fits
 lane_fits (x ∷ xs) (suc i) h = lane_fits xs i h.1
 
--- how far a byte stands above so many from a first one on
+-- how far a byte is above so many from a first one on
 abbrev far : ℕ → ℕ → ℕ → ℕ
 far start most c =
     let up : ℕ = (c + (256 - start)) % 256 in

@@ -78,7 +78,7 @@ more_digits_fit size a b n small few =
     let power : 10 ^ (a + b) ≤ 10 ^ n = pow-le-pow_right {n = 10} (omega arith) few in
     omega (arith, grows, joined, power)
 
--- a number of so many digits, where more may stand
+-- a number of so many digits, where more may be
 pub small_number : (size count limit : ℕ) → count ≤ limit → size < 10 ^ count → size < 10 ^ limit
 small_number size count limit few small =
     let power : 10 ^ count ≤ 10 ^ limit = pow-le-pow_right {n = 10} (omega arith) few in

@@ -1,7 +1,7 @@
 -- Digits in a row of lanes.
 use Rattle.std.specs.Prelude.{ℕ, ◌+◌, ◌*◌, ◌%◌, List, [], ◌∷◌}
 
--- how far a byte stands above the character 0; bytes before that one are far above all digits
+-- how far a byte is above the character 0; bytes before that one are far above all digits
 abbrev pub above_zero : ℕ → ℕ
 above_zero c = (c + 208) % 256
 

@@ -23,7 +23,7 @@ pub(crate) fn is_blank(field: &[u8]) -> bool
     columns(field).simd_eq(u8x16::splat(b' ')).to_bitmask() == 0xffff
 }
 
-/// The columns of a field; the last one stands in the last two lanes.
+/// The columns of a field; the last one is in the last two lanes.
 #[inline(always)]
 fn columns(field: &[u8]) -> u8x16
     requires { length field.now ≡ CLOCK_WIDTH }
@@ -50,7 +50,7 @@ pub(crate) fn value(field: &[u8]) -> Option<i64>
     Some(signed(is_below, digit * 1_000_000_000_000 + fraction))
 }
 
-/// Whether a minus stands in the two columns before the point, and the digit there, or 0.
+/// Whether a minus is in the two columns before the point, and the digit there, or 0.
 #[inline(always)]
 fn whole(first: u8, second: u8) -> Option<(bool, u64)>
     ensures plain { IfSome result (λ part. is_plain_after 32 (first ∷ second ∷ []) ≡ true) }

@@ -37,7 +37,7 @@ ghost use Rattle.crx_base.specs.declared.limits.TheConstants.{LINE_LIMIT};
 /// are written four at a time.
 const CODE_WIDTH: usize = DIGITS_LIMIT + 6;
 
-/// Appends a code's printed text: an order is one digit, and `&` stands after it. It asks for an
+/// Appends a code's printed text: an order is one digit, and `&` is after it. It asks for an
 /// order and numbers within the limits. `TextFull` comes only where the text would pass
 /// [`LINE_LIMIT`] bytes, and then it stays as it was.
 #[inline]
@@ -70,7 +70,7 @@ fn code_print_at_end(code: Code, text: &mut Text) -> Result<(), TextFull>
     text.extend(&printed[..end])
 }
 
-/// Writes a code's printed text and a blank from an index on, and answers the index after them. What stands before them stays; up
+/// Writes a code's printed text and a blank from an index on, and answers the index after them. What is before them stays; up
 /// to two bytes after them may be overwritten.
 /// It asks for an order and numbers within the limits, and for room.
 #[inline(always)]

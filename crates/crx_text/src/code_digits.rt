@@ -37,7 +37,7 @@ pub(crate) fn digits_before_blank(text: &[u8]) -> Option<(u64, usize)>
     ended_digits(text, size, count)
 }
 
-// What `digits_before_blank` gives, where at most six digits stand before a blank, or before the text's end; else None, whatever there
+// What `digits_before_blank` gives, where at most six digits are before a blank, or before the text's end; else None, whatever there
 // is. Six digits are two groups of three, which one product joins, and most codes have no more: `step_before_blank` takes 52 instructions
 // for one, and digit by digit it would take 60 to 115. Where fewer characters than a row has are left of a line, they are copied into a
 // row: a line's last code takes some 60 instructions so, and 50 to 100 digit by digit (bench/README.md).
@@ -60,7 +60,7 @@ pub(crate) fn few_digits_before_blank(text: &[u8]) -> Option<(u64, usize)>
     ended_digits(text, row_size(digits, count), count)
 }
 
-// The number of so many first digits, and the index after its blank or of the text's end; None where something else stands
+// The number of so many first digits, and the index after its blank or of the text's end; None where something else is
 // after them.
 #[inline(always)]
 fn ended_digits(text: &[u8], size: u64, count: usize) -> Option<(u64, usize)>
@@ -114,7 +114,7 @@ fn first_digits(text: &[u8]) -> (u64, usize)
     (size, count)
 }
 
-// How many characters stand in a row of lanes.
+// How many characters are in a row of lanes.
 pub(crate) const ROW: usize = 8;
 
 // How many digits of a row are read at once.
@@ -242,7 +242,7 @@ fn write_decimal(buffer: &mut [u8], at: usize, size: u64) -> usize
     middle + 4
 }
 
-// Writes what stands before a number's last four digits. Of up to eight digits it is written here, without a call.
+// Writes what is before a number's last four digits. Of up to eight digits it is written here, without a call.
 #[inline(always)]
 fn write_front(buffer: &mut [u8], at: usize, size: u64) -> usize
     requires { at + length (decimal size) + 3 ≤ length buffer.old }
@@ -287,8 +287,8 @@ fn write_short(buffer: &mut [u8], at: usize, size: u32) -> usize
     at + 4 - zeros
 }
 
-// The four digits of a number, as `four_digits` gives them, and how many zeros stand before the number; 0 has a digit of its own. The
-// lowest bit that is set among the digits says where the first one stands that isn't 0; a bit above the last one ends the search.
+// The four digits of a number, as `four_digits` gives them, and how many zeros are before the number; 0 has a digit of its own. The
+// lowest bit that is set among the digits says where the first one is that isn't 0; a bit above the last one ends the search.
 #[inline(always)]
 fn columns_of(size: u32) -> (u32, usize)
     requires small { size < 10000 }

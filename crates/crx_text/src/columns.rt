@@ -1,4 +1,4 @@
-//! Columns of a line: they count from 1, and blanks stand without end after a line's end.
+//! Columns of a line: they count from 1, and blanks are without end after a line's end.
 //! RINEX 3.05, appendix A (its tables A1 to A3 count columns so).
 ghost use Rattle.std.specs.Prelude.{◌≡◌, ◌≤◌, ◌-◌, take, drop, length};
 ghost use Rattle.std.specs.List.{list_all};
@@ -14,7 +14,7 @@ pub fn character(line: &[u8], column: usize) -> u8
     line.get(column - 1).copied().unwrap_or(b' ')
 }
 
-/// The part of so many columns, from a first one on, that stands inside the line.
+/// The part of so many columns, from a first one on, that is inside the line.
 fn part(line: &[u8], first: usize, width: usize) -> &[u8]
     requires from_one { 1 ≤ first }
     ensures value { result.now ≡ take width (drop (first - 1) line.now) }

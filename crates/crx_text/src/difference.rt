@@ -14,7 +14,7 @@ use crx_base::limits::LINE_LIMIT;
 use std::simd::prelude::*;
 use thiserror::Error;
 
-/// A text holds a character that may not stand there.
+/// A text holds a character that may not be there.
 #[derive(Clone, Copy, Debug, PartialEq, Eq, Error)]
 #[error("bad character")]
 pub struct BadCharacter;
@@ -104,7 +104,7 @@ pub fn all_printable(text: &[u8]) -> bool
     all_of::<Printable>(text)
 }
 
-// The characters that may stand in a text which marks are made of.
+// The characters that may be in a text which marks are made of.
 struct Kept;
 
 impl Kind for Kept {
@@ -123,7 +123,7 @@ impl Kind for Kept {
     }
 }
 
-// The characters that may stand in marks.
+// The characters that may be in marks.
 struct Printable;
 
 impl Kind for Printable {
@@ -187,7 +187,7 @@ impl Rule for Characters {
 
 pub(crate) static BLANKS: [u8; LINE_LIMIT] = [b' '; LINE_LIMIT];
 
-// Writes what the rule makes of two texts, blanks standing after the shorter one, and answers how
+// Writes what the rule makes of two texts, blanks being after the shorter one, and answers how
 // many characters that makes.
 fn write_by_position<R: Rule>(old: &[u8], other: &[u8], out: &mut [u8]) -> usize
     requires fits { (length old.now ≤ length out.old) × (length other.now ≤ length out.old) }

@@ -12,7 +12,7 @@ ghost use Rattle.crx_text.specs.meaning.Numbers.{signed_number};
 use crate::digits::signed;
 use std::simd::prelude::*;
 
-/// The columns of a field; the last one stands in the last three lanes.
+/// The columns of a field; the last one is in the last three lanes.
 #[inline(always)]
 pub(crate) fn columns(field: &[u8]) -> u8x16
     requires { length field.now ≡ OBSERVATION_WIDTH }
@@ -53,7 +53,7 @@ fn has_minus(columns: u8x16) -> bool
     columns.simd_eq(u8x16::splat(b'-')).to_bitmask() & FIELD != 0
 }
 
-// The lanes of a field's columns among 16; what stands in the others doesn't count.
+// The lanes of a field's columns among 16; what is in the others doesn't count.
 const FIELD: u64 = 0x3fff;
 
 // The first byte of what a column may have beside blanks and a minus: a digit, or the point.
@@ -92,7 +92,7 @@ fn size(columns: u8x16) -> u64
     of_groups(digits.dot4(u8x16::from_array(WEIGHTS)))
 }
 
-/// The number whose digits stand in four groups of three, the first ones first. The groups are joined two at a time, in lanes of 64 bits,
+/// The number whose digits are in four groups of three, the first ones first. The groups are joined two at a time, in lanes of 64 bits,
 /// whose products are the fastest ones.
 #[inline(always)]
 #[tactic(auto, using(crate::proofs::PlainSizes::pairs_are))]

@@ -77,7 +77,7 @@ fn ends_of_eight(text: &[u8]) -> u8x16
     u8x8::from_slice(text).shuffle(last, [0, 1, 2, 3, 4, 5, 6, 7, 8, 9, 10, 11, 12, 13, 14, 15])
 }
 
-/// A rule that makes one character of two which stand at the same position of two texts.
+/// A rule that makes one character of two which are at the same position of two texts.
 pub(crate) trait Rule {
     ghost rule: { ℕ → ℕ → ℕ };
 

@@ -27,7 +27,7 @@ use thiserror::Error;
 pub struct BadField;
 
 /// Reads an observation of 14 columns, in thousandths; a blank field is `None`, a missing
-/// observation. Blanks may stand before the number, zeros at its beginning and a minus before 0,
+/// observation. Blanks may be before the number, zeros at its beginning and a minus before 0,
 /// and there may be no digit before the point. `BadField` comes for every other text.
 #[inline(always)]
 pub fn obs_read(field: &[u8]) -> Result<Option<i64>, BadField>
@@ -93,7 +93,7 @@ pub fn obs_print_cell(value: Option<i64>, lock: u8, strength: u8, text: &mut Tex
 }
 
 /// Prints an observation's cell as [`obs_print_cell`] does in place of the bytes from an index on, with the two of some indicators that
-/// stand at an index and after it: they become one load and one store.
+/// are at an index and after it: they become one load and one store.
 #[inline(always)]
 pub fn obs_print_cell_into(
     value: Option<i64>,

@@ -129,7 +129,7 @@ fn end_blanks(text: &[u8]) -> usize
         if text[end - 1] != b' ' {
             return end;
         }
-        // One blank stands after the last code of most compact lines, two where the last cell of a row has no indicators.
+        // One blank is after the last code of most compact lines, two where the last cell of a row has no indicators.
         if text[end - 2] != b' ' {
             return end - 1;
         }
@@ -151,7 +151,7 @@ fn end_blanks(text: &[u8]) -> usize
     kept_in(u8x16::from_slice(text))
 }
 
-// How many of 16 characters stand before the blanks at their end.
+// How many of 16 characters are before the blanks at their end.
 #[inline(always)]
 fn kept_in(characters: u8x16) -> usize
     ensures kept { result ≡ length (without_end_blanks characters) }
@@ -164,7 +164,7 @@ fn kept_in(characters: u8x16) -> usize
 // Half as many characters as there are lanes: the indicators of four types are as many, and one by one they take 6 instructions each.
 const EIGHT: usize = 8;
 
-// How many of 8 characters stand before the blanks at their end.
+// How many of 8 characters are before the blanks at their end.
 #[inline(always)]
 fn kept_in_eight(characters: u8x8) -> usize
     ensures kept { result ≡ length (without_end_blanks characters) }

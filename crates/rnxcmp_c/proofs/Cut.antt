@@ -18,7 +18,7 @@ use Rattle.rnxcmp_c.proofs.GoingLemmas.{notices-both}
 none-not-some : {notices : List At} → ◌≡◌ {A = Option (List At)} None (Some notices) → ⊥
 none-not-some e = cc
 
--- the first warnings by which a course goes on stand first in its messages
+-- the first warnings by which a course goes on are first in its messages
 pub begins-next : (before after : Course) (here : List At) → AreNext before after here
     → Begins (notices_text after.warnings) (notices_text before.warnings ++ notices_text here)
 begins-next before after here next = record {

@@ -593,13 +593,13 @@ module _ (filter : Filter) (shows : List InputLine → List Awaited → Type 0)
       ap lines_of (sym (append-nil past.fed)) ∙ is.cut []
       ∙ ap (λ t. ended_lines_of past.fed ++ lines_of t) (append-nil is.tail)
 
-  -- nothing stands after the last LF
+  -- nothing is after the last LF
   pub all-ended : held.tail.bytes.items ≡ [] → lines_of past.fed ≡ ended_lines_of past.fed
   all-ended none =
       all-cut ∙ ap (λ t. ended_lines_of past.fed ++ lines_of t) (none-where_none is.tail (sym is.kept ∙ none))
       ∙ append-nil (ended_lines_of past.fed)
 
-  -- a line without LF stands there
+  -- a line without LF is there
   pub all-but_last : 0 < length held.tail.bytes.items
       → lines_of past.fed ≡ with_next (ended_lines_of past.fed) (piece_line is.tail false)
   all-but_last some =

@@ -68,7 +68,7 @@ items-warned items all more = record {
       ∙ notices-both (reverse (warnings_in items)) (reverse (warnings_in more.news));
 }
 
--- the warnings of the first lines stand first in those of all
+-- the warnings of the first lines are first in those of all
 pub warned-first : (task : Task) (lines more : List InputLine)
     → Begins (notices_text ((filter_for task).whole (lines ++ more)).warnings)
     (notices_text ((filter_for task).so_far lines).warnings)
@@ -91,7 +91,7 @@ messages-for (Compact choices limit) input = record { rest = _; same = refl }
 messages-for (Expand choices limit) input = record { rest = _; same = refl }
 messages-for Check input = record { rest = _; same = refl }
 
--- what some of the first lines make stands first in both texts of the result
+-- what some of the first lines make is first in both texts of the result
 module _ (task : Task) (input : List ℕ) (lines others : List InputLine) (first : lines_of input ≡ lines ++ others) where
   pub output-first : Begins (result_for task input).output ((filter_for task).so_far lines).output
   output-first =

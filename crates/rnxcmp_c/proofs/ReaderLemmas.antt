@@ -287,7 +287,7 @@ module _ (task : Task) (engine : AnyEngine) (is : IsOf task engine)
 length-begins : (text first : List ℕ) → Begins text first → length first ≤ length text
 length-begins text first begins = omega (arith, ap length begins.same, length-append first begins.rest)
 
--- what some lines make with one more of those that follow, or with the end, stands first in what all of them make
+-- what some lines make with one more of those that follow, or with the end, is first in what all of them make
 pub one_more-first : (filter : Filter) → IsLawful filter → (lines others : List InputLine)
     → Begins (filter.whole (lines ++ others)).output (with_one_more filter lines others).output
 one_more-first filter lawful lines [] = record {

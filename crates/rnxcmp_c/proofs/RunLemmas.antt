@@ -75,7 +75,7 @@ module _ (result_of : List ℕ → FilterResult) (filter : Filter) (lawful : IsL
         fault = ap (λ (o : Outcome). o.fault) is.outcome_is ∙ made.fault_is;
       }
 
-  -- what was written by then stands first in the whole output
+  -- what was written by then is first in the whole output
   first-written : IsFrontPart filter input given writer
       → (written : List ℕ) × Took output_before written output_after × Begins (result_of text).output written
   first-written front =

@@ -75,7 +75,7 @@ pub record LacksMemory (memory : Option (List At)) (before after : Course)
   pub wrote : waiting then_output ≡ waiting output
   pub reported : waiting then_messages ≡ waiting messages ++ notices_text notices
 
--- a text was to become longer by what stands between two others, and it failed to take all of that
+-- a text was to become longer by what is between two others, and it failed to take all of that
 pub record FailsToTake (before after : List ℕ) (old new : Pending) : Type 0 where
   pub failed : new.failures ≡ one_more old.failures
   pub longer : length before < length after

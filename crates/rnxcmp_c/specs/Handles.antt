@@ -76,7 +76,7 @@ IsOf (Expand choices limit) (Expanding e) = expansion_filter e.options ≡ expan
 IsOf Check (Checking c) = ⊤
 IsOf task engine = ⊥
 
--- the status after the end of the input where no fault stands
+-- the status after the end of the input where there is no fault
 abbrev pub status_at_end : AnyEngine → Bool → ℕ
 status_at_end (Compacting c) warned = good_status warned
 status_at_end (Expanding e) warned = good_status warned

@@ -82,7 +82,7 @@ pub(crate) fn end_any(engine: &mut AnyEngine, held: &mut Held) -> Result<(), Sto
     }
 }
 
-/// The status after the end of an input where no fault stands.
+/// The status after the end of an input where there is no fault.
 pub(crate) fn status_at_end(engine: &AnyEngine, warned: bool) -> u8
     ensures { result ≡ status_at_end engine.now warned }
 {

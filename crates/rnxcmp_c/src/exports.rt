@@ -1,7 +1,7 @@
 //! What a C program calls. A slice is a pointer and then its length, which may be 0; `alloc` takes no argument in C.
 //!
 //! Where memory didn't run out, the input has at most [`INPUT_LIMIT`] bytes and the date isn't refused, output, messages, status, fault
-//! and lengths are those of the defined result of the input, for every choice of options. A text that doesn't fit stands in its room as
+//! and lengths are those of the defined result of the input, for every choice of options. A text that doesn't fit is in its room as
 //! far as it does. Else, and where the output is longer than it may be, nothing in the caller's rooms is changed.
 
 ghost use Rattle.std.specs.Prelude.{◌≡◌, ◌<◌, ◌≤◌, length, Some, true, false};

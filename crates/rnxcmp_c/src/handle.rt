@@ -270,7 +270,7 @@ pub extern "C" fn rnxcmp_c_end(alloc: Global, handle: &mut Handle) -> Answer
     answer
 }
 
-/// Moves what is kept of the output and of the messages into two rooms, as far as it fits, and answers how the run stands and how much
+/// Moves what is kept of the output and of the messages into two rooms, as far as it fits, and answers the run's state and how much
 /// is left.
 #[unsafe(no_mangle)]
 pub extern "C" fn rnxcmp_c_take(

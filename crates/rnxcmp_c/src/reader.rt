@@ -131,7 +131,7 @@ impl Reader {
         self.outcome = Some(put_down(&mut self.held, at));
     }
 
-    /// How it stands.
+    /// Its state.
     pub(crate) fn answer(&self) -> Answer
         ensures { result ≡ answer_now self.now }
     {

@@ -3,7 +3,7 @@ use Rattle.std.specs.Prelude.{ℕ, Bool, true, false, not, List, [], ◌∷◌, 
 use Rattle.std.specs.List.{flat_map}
 use Rattle.crx_base.specs.declared.limits.TheConstants.{LINE_LIMIT}
 
--- what stands between two line ends: its bytes, and whether an LF follows them
+-- what is between two line ends: its bytes, and whether an LF follows them
 pub record Piece : Type 0 where
   pub bytes : List ℕ
   pub is_ended : Bool

@@ -32,7 +32,7 @@ pub data Plan : Type 0 where
   Run : Job → Plan
   Refused : Refusal → Plan
 
--- what stands after a subcommand
+-- what is after a subcommand
 pub record Given : Type 0 where
   pub dashes : ℕ
   pub files : ℕ

@@ -1,4 +1,4 @@
--- The steps of a reader, line by line, agree with what stands at all lines so far.
+-- The steps of a reader, line by line, agree with what is at all lines so far.
 use Rattle.std.specs.Prelude.{◌≡◌, refl, ℕ, suc, ◌+◌, List, [], ◌∷◌, ◌++◌, map, length, Option, Some, None, Result}
 use Rattle.std.specs.Prelude.{Ok, Err, slice_get, unwrap_or, ℤ}
 use Rattle.std.specs.Option.{option_map, is_some}

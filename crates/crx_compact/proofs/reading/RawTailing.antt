@@ -145,7 +145,7 @@ line-left older line = step (begins_epoch line)
     step true = ap {B = Option Past} Some (past-left [])
     step false = epochs-left older
 
--- the tail decides what stands at the next lines
+-- the tail decides what is at the next lines
 pub place-by_tail : (types : List Count) (older : List RawEpoch) (lines : List ReadLine)
     → epoch_at types older lines ≡ epoch_after types (tail_left older) lines
 place-by_tail types older lines = ap (λ f. epoch_against types f lines) (fun_ext (λ line. line-left older line))

@@ -1,4 +1,4 @@
--- What stands at compact lines is certain as soon as its last line has come.
+-- What is at compact lines is certain as soon as its last line has come.
 use Rattle.std.specs.Prelude.{ℕ, List, [], ◌∷◌, Option}
 use Rattle.crx_header.specs.meaning.ObservationTypes.{Count}
 use Rattle.crx_rinex.specs.meaning.Places.{Here, then_place, first_line}

@@ -1,4 +1,4 @@
--- An epoch that was read is whole, and its marks can stand before others.
+-- An epoch that was read is whole, and its marks can be before others.
 use Rattle.std.specs.Prelude.{◌≡◌, refl, ℕ, zero, suc, ◌+◌, ◌-◌, ◌*◌, ℤ, Bool, true, false, ◌&&◌, nat_eq, List, [], ◌∷◌}
 use Rattle.std.specs.Prelude.{◌++◌, map, length, take, drop, replicate, Option, Some, None, Result, Ok, IfSome}
 use Rattle.std.specs.Prelude.{OnSome, if◌then◌else◌, unwrap_or}

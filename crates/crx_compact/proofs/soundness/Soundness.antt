@@ -47,7 +47,7 @@ count_here (Here x n) = n
 count_here (Wrong n f) = 0
 count_here Wanted = 0
 
--- what stands after something else
+-- what is after something else
 pub record Comes {X Y : Type 0} (p : Place X) (lines : List ReadLine) (next : X
     → List ReadLine → Place Y) (y : Y) (n : ℕ) : Type 0 where
   pub from : X

@@ -43,7 +43,7 @@ trimmed-within n text few = same_characters (take n (without_end_blanks text)) t
 
 -- ---- columns
 
--- the first columns of marks don't ask for what stands past them
+-- the first columns of marks don't ask for what is past them
 pub columns-cut : (n : ℕ) (marks : List (List ℕ))
     → columns (overlaid (map (take n) marks)) 1 n ≡ columns (overlaid marks) 1 n
 columns-cut n marks =

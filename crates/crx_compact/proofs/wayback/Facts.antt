@@ -117,7 +117,7 @@ trimmed-again text = same_characters (without_end_blanks text) text (λ p. at-wi
 
 -- ---- identifiers
 
--- the identifiers that stand from an offset on
+-- the identifiers that are from an offset on
 pub names-read : (types : List Count) (text : List ℕ) (offset : ℕ) (rows : List Row)
     → AllByRecursion (IsTypedRow types) rows
     → ((p : ℕ) → at text (offset + p) ≡ at (flat_map (λ (r : Row). r.name) rows) p)

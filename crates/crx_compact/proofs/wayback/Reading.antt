@@ -62,7 +62,7 @@ pub epochs-unmarked : (types : List Count) (epochs : List Epoch)
 epochs-unmarked types epochs h = all-from (λ (e : Epoch). (p : ℕ) → at (epoch_text e) p ≢ 38)
     (λ e whole. unmarked (epoch_text e) (text-kept types e whole)) epochs h
 
--- ---- what stands before the line in its block
+-- ---- what is before the line in its block
 
 abbrev before : Bool → List Marked → List RawEpoch
 before full older = if full then [] else raw_block older

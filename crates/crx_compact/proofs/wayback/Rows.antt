@@ -188,7 +188,7 @@ line-begins (c ∷ cs) marks less h =
 
 -- ---- the marks of a line
 
--- nothing but blanks stands past the longer of two texts
+-- nothing but blanks is past the longer of two texts
 difference-past : (n : ℕ) (old new : List ℕ)
     → length old ≤ n → length new ≤ n → list_all is_blank (drop n (text_difference old new)) ≡ true
 difference-past n old new h k =

@@ -221,7 +221,7 @@ pub record HasFlags (row : Row) : Type 0 where
   pub unmarked : IsUnmarked row.flags
   pub counted : length row.flags ≡ 2 * length row.values
 
--- nothing of them stands past the types of the row's line
+-- nothing of them is past the types of the row's line
 marks-cut : (r : Row) (rs : List Row) → HasFlags r → overlaid
     (text_difference (indicators_before (r ∷ rs)) r.flags ∷ marks_of (raw_run rs)) ≡ without_end_blanks r.flags
     → overlaid (marks_of (raw_run (r ∷ rs))) ≡ without_end_blanks r.flags

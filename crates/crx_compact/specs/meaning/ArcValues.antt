@@ -1,4 +1,4 @@
--- The values that the codes of an arc stand for: Hatanaka's Compact RINEX 3.0, data arcs. Codes stand newest first.
+-- The values that the codes of an arc stand for: Hatanaka's Compact RINEX 3.0, data arcs. Codes are newest first.
 use Rattle.std.specs.Prelude.{ℕ, ◌-◌, ◌^◌, ◌&&◌, Bool, ℤ, pos, neg_ℤ, int_lt, List, [], ◌∷◌, Option, Some, None, Result}
 use Rattle.std.specs.Prelude.{Ok, Err, if◌then◌else◌}
 use Rattle.std.specs.Option.{option_map}

@@ -24,7 +24,7 @@ abbrev pub cells_of : ℕ → List ℕ → List (List ℕ)
 cells_of zero line = []
 cells_of (suc count) line = first_cell line ∷ cells_of count (after_cell line)
 
--- what stands after so many of them
+-- what is after so many of them
 abbrev pub after_cells : ℕ → List ℕ → List ℕ
 after_cells zero line = line
 after_cells (suc count) line = after_cells count (after_cell line)

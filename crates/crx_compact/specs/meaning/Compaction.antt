@@ -1,5 +1,5 @@
 -- The compact text of epochs: Hatanaka's Compact RINEX 3.0, epoch line, clock line and satellite lines.
--- Lists of epochs stand newest first: the first one is the epoch that is written.
+-- Lists of epochs are newest first: the first one is the epoch that is written.
 use Rattle.std.specs.Prelude.{ℕ, ℤ, Bool, List, [], ◌∷◌, ◌++◌, map, length, Option, if◌then◌else◌, flat_map}
 use Rattle.crx_text.specs.meaning.Columns.{without_end_blanks}
 use Rattle.crx_text.specs.meaning.Texts.{text_difference}
@@ -12,7 +12,7 @@ use Rattle.crx_compact.specs.meaning.Sequences.{back_to, named, stretch}
 use Rattle.crx_compact.specs.meaning.Differences.{code_at}
 use Rattle.crx_compact.specs.meaning.Cells.{cell_text}
 
--- an epoch, and whether it stands in full: its line begins with >, and everything starts anew
+-- an epoch, and whether it is in full: its line begins with >, and everything starts anew
 pub record Marked : Type 0 where
   pub in_full : Bool
   pub epoch : Epoch
@@ -25,12 +25,12 @@ epoch_text epoch = epoch.head ++ flat_map (λ (r : Row). r.name) epoch.rows
 abbrev pub row_named : List ℕ → List Row → Option Row
 row_named name rows = named (λ (r : Row). r.name) name rows
 
--- the epochs from the newest back to the latest that stands in full, it too
+-- the epochs from the newest back to the latest that is in full, it too
 abbrev pub since_full : List Marked → List Epoch
 since_full epochs = map (λ (m : Marked). m.epoch) (back_to (λ (m : Marked). m.in_full) epochs)
 
 -- a satellite's rows over the longest list of consecutive epochs ending with the newest that all hold it and of which
--- none but the oldest stands in full
+-- none but the oldest is in full
 abbrev pub run_of : List ℕ → List Marked → List Row
 run_of name epochs = stretch (map (λ (e : Epoch). row_named name e.rows) (since_full epochs))
 
@@ -66,7 +66,7 @@ line_of_codes codes before now = without_end_blanks (flat_map cell_text codes ++
 abbrev pub satellite_line : List Row → Row → List ℕ
 satellite_line run row = line_of_codes (codes_of (length row.values) run) (indicators_before run) row.flags
 
--- an epoch line: the change of the epoch text, from the empty text where the epoch stands in full
+-- an epoch line: the change of the epoch text, from the empty text where the epoch is in full
 abbrev pub epoch_line : Marked → List Marked → List ℕ
 epoch_line m older = text_difference (if m.in_full then [] else newest_text older) (epoch_text m.epoch)
 

@@ -1,5 +1,5 @@
 -- Differences of an arc's values, and the values back from them: Hatanaka's Compact RINEX 3.0, data arcs.
--- An arc's values a_0 .. a_u and its codes c_0 .. c_u stand newest first: the newest is at place 0, a_(u-i) at place i.
+-- An arc's values a_0 .. a_u and its codes c_0 .. c_u are newest first: the newest is at place 0, a_(u-i) at place i.
 use Rattle.std.specs.Prelude.{ℕ, zero, suc, ◌+◌, ◌-◌, min, ℤ, pos, neg_ℤ, ◌+ℤ◌, ◌*ℤ◌, List, [], ◌∷◌, length, take}
 use Rattle.std.specs.Prelude.{reverse}
 use Rattle.crx_text.specs.declared.code.Code.{Code}

@@ -1,5 +1,5 @@
 -- What compact text stands for: Hatanaka's Compact RINEX 3.0, epoch line, clock line and satellite lines.
--- Lists of raw epochs stand newest first, and hold the accepted ones since the reader's state was last emptied.
+-- Lists of raw epochs are newest first, and hold the accepted ones since the reader's state was last emptied.
 use Rattle.std.specs.Prelude.{ℕ, ◌*◌, ◌==◌, max, List, [], ◌∷◌, map, length, slice_index_or, take, Option}
 use Rattle.std.specs.Prelude.{if◌then◌else◌}
 use Rattle.crx_text.specs.meaning.Columns.{is_blank, without_end_blanks}

@@ -1,4 +1,4 @@
--- What the lines read so far give to the lines of the next epoch: Hatanaka's Compact RINEX 3.0. An epoch's lines stand
+-- What the lines read so far give to the lines of the next epoch: Hatanaka's Compact RINEX 3.0. An epoch's lines are
 -- for changes of those before them, but for those of an epoch in full, those of a satellite that the epoch before
 -- doesn't hold, and values that begin an arc. Header lines and events are copied.
 use Rattle.std.specs.Prelude.{ℕ, ℤ, List, [], ◌∷◌, map, Option, Some, None, Result, if◌then◌else◌}

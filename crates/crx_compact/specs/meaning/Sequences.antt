@@ -1,4 +1,4 @@
--- Words on sequences. Lists of epochs, and the values and codes of an arc, stand newest first.
+-- Words on sequences. Lists of epochs, and the values and codes of an arc, are newest first.
 use Rattle.std.specs.Prelude.{ℕ, Bool, List, [], ◌∷◌, Option, Some, None, Result, Ok, Err, if◌then◌else◌, find}
 use Rattle.std.specs.Str.{bytes_eq}
 

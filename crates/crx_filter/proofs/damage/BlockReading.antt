@@ -44,7 +44,7 @@ block-drop (suc count) [] some h = tt
 block-drop (suc count) (Overlong ∷ lines) some h = absurd h
 block-drop (suc count) (Content line ∷ lines) some h = all-drop IsInside count lines h.1
 
--- ---- what stands at such lines
+-- ---- what is at such lines
 
 pub place-between : (items : List (Item ReadEpoch)) (lines : List ReadLine) → IsBetweenUnits items
     → compact_place items lines ≡ compact_epoch_place (types_in_force items) (raws_kept items) lines

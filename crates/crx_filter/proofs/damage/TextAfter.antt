@@ -90,7 +90,7 @@ interrupted-full : (every : Option ℕ) (items : List (Item Epoch))
     → is_interrupted items ≡ true → is_in_full every items ≡ true
 interrupted-full every items e = ap (λ b. b || is_at_every every (epochs_accepted items)) e
 
--- the first epoch after a block stands in full
+-- the first epoch after a block is in full
 first-full : (choices : Choices) (block : List (Item Epoch)) (epoch : Epoch) (items : List (Item Epoch))
     → BeginsAnew choices block (Accepted (Observation epoch) ∷ items) → has_observation items ≡ false
     → is_in_full choices.every (items ++ block) ≡ true

@@ -10,7 +10,7 @@ use Rattle.crx_filter.proofs.following.Rinex.{AreSame, either-same, agree-begins
 use Rattle.crx_filter.proofs.reading.Stopping.{reading-stopped}
 use Rattle.crx_filter.proofs.reading.Ending.{next-end}
 
--- the lines of a unit, whatever stands before it
+-- the lines of a unit, whatever is before it
 abbrev pub printed_after : List (Item Epoch) → FileUnit Epoch → List (List ℕ)
 printed_after before = printed_unit
 

@@ -17,7 +17,7 @@ use Rattle.crx_filter.proofs.following.Expansion.{expansion-carried_out}
 
 -- ---- the reading by where the first two lines are
 
--- the reading of compact text by what stands at its first two lines
+-- the reading of compact text by what is at its first two lines
 abbrev pub reading_by : Bool → List ReadLine → Place (List (List ℕ)) → Reading ReadEpoch
 reading_by skip lines p =
     elim p [
@@ -37,7 +37,7 @@ seen_by choices lines p =
     seen_of expansion compact_open tail_of_items choices (length lines) (reading_by choices.skip lines p) in
     record seen { phase = phase_by lines p seen.phase }
 
--- one line more, by what stands at the first two lines before and then, and by what it is fed as
+-- one line more, by what is at the first two lines before and then, and by what it is fed as
 abbrev FollowsAs : Choices → List ReadLine → ReadLine → Place (List (List ℕ)) → Place (List (List ℕ))
     → Fed OpenRawEpoch (Option Tail) → Type 0
 FollowsAs choices lines line before after line_fed =

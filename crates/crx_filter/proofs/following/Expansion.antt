@@ -25,7 +25,7 @@ abbrev pub Agrees : Choices → List (Item ReadEpoch) → List ReadLine → Made
 Agrees choices items lines made =
     AgreeOn compact_beginning expansion compact_open tail_of_items expanded_unit choices items lines made
 
--- ---- what stands at a place, by what it leaves
+-- ---- what is at a place, by what it leaves
 
 -- an epoch that was read is held as the steps hold it
 record IsHeldAs (tail : Option Tail) (p : Place ReadEpoch) (held : HeldEpoch) (count : ℕ) : Type 0 where

@@ -47,7 +47,7 @@ module _ {E U O K : Type 0} (beginning : List (Item E) → List ReadLine → Pla
     (direction : Direction U O K)
     (open_with : List (Item E) → List ReadLine → Option O) (kept_of : List (Item E) → K)
     (unit_lines : List (Item E) → FileUnit E → List (List ℕ)) (choices : Choices) where
-  -- what stands at some lines where an epoch or an event may begin, and what the last of them makes
+  -- what is at some lines where an epoch or an event may begin, and what the last of them makes
   abbrev pub AgreeOn : List (Item E) → List ReadLine → Made U O → Type 0
   AgreeOn items lines (Completes (EventLine line)) = (count : ℕ)
       × (beginning items lines ≡ Here (EventLine line) count) × (length lines ≡ 1)
@@ -294,7 +294,7 @@ module _ {E U O K : Type 0} {beginning : List (Item E) → List ReadLine → Pla
   abbrev pub reads : ℕ → List (Item E) → ℕ → List ReadLine → Reading E
   reads = reading_within place choices.skip
 
-  -- what the last of some lines makes is what stands at them
+  -- what the last of some lines makes is what is at them
   abbrev pub Agrees : List (Item E) → List ReadLine → Made U O → Type 0
   Agrees = AgreeOn beginning direction open_with kept_of unit_lines choices
 

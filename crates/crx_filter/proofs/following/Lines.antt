@@ -83,7 +83,7 @@ record-place beginning items left lines ended some = let more : nat_lt 0 (suc le
 
 -- ---- where a reading has stopped
 
--- one line decides what stands there
+-- one line decides what is there
 pub one_line-decided : {X : Type 0} (r : Result X Fault) → one_line r ≡ Wanted → ⊥
 one_line-decided (Ok x) e = absurd (cc)
 one_line-decided (Err fault) e = absurd (cc)

@@ -1,4 +1,4 @@
--- Where memory may run out at a line by what is seen before it, it may by what stands there.
+-- Where memory may run out at a line by what is seen before it, it may by what is there.
 use Rattle.crx_filter.proofs.Words.{ℕ, zero, suc, ◌≡◌, ◌+◌, Bool, true, false, not, cond, List, [], ◌∷◌, ◌++◌}
 use Rattle.crx_filter.proofs.Words.{length, Option, Some, None, refl, ap, sym, subst, ◌∙◌, arith, ◌&&◌}
 use Rattle.crx_filter.proofs.Words.{nat_lt, is_some, ReadLine, Content, Overlong, Fault, At, begins_epoch}
@@ -63,9 +63,9 @@ record-takes {E = E} takes items line h =
     (one_line (unless_wrong (EventRecord line) o))) (ap (λ b. cond b (types_fault line) None) each.0 ∙ well.1)
     ∙ ap (λ b. b && is_types_line line) each.0 ∙ well.0
 
--- ---- a direction that takes memory as its lines stand
+-- ---- a direction that takes memory as its lines are
 
--- where a line may take memory by what is kept, it does by what stands at the lines: where an epoch or an event may begin, and in
+-- where a line may take memory by what is kept, it does by what is at the lines: where an epoch or an event may begin, and in
 -- an epoch
 pub record TakesAsItStands {E U O K : Type 0} (beginning : List (Item E) → List ReadLine → Place (FileUnit E))
     (direction : Direction U O K) (open_with : List (Item E) → List ReadLine → Option O)

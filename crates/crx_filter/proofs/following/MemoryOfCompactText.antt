@@ -1,4 +1,4 @@
--- The memory that an expansion takes, as its lines stand.
+-- The memory that an expansion takes, as its lines are.
 use Rattle.crx_filter.proofs.Words.{ℕ, ◌≡◌, Bool, true, false, List, [], ◌∷◌, ◌++◌, length, Option, Some}
 use Rattle.crx_filter.proofs.Words.{None, Result, Ok, Err, refl, ap, sym, ◌∙◌, none-some, ReadLine, Content}
 use Rattle.crx_filter.proofs.Words.{Overlong, Fault, Count, ReadEpoch, satellites_of_line, Satellite}
@@ -67,7 +67,7 @@ first-clock : (types : List Count) (tail : Option Tail) (line : ReadLine)
 first-clock types tail Overlong = refl
 first-clock types tail (Content line) = by-tail types line (tail_for_line tail line)
 
--- where the clock line has come, two lines stand before the next one
+-- where the clock line has come, two lines are before the next one
 takes-next : (items : List (Item ReadEpoch)) (lines : List ReadLine) (so_far : OpenRawEpoch)
     → compact_open items lines ≡ Some so_far → has_come so_far.clock ≡ true
     → expansion_takes (length lines) true ≡ true
@@ -118,7 +118,7 @@ expansion-takes choices = record {
 
 -- ---- where memory may run out
 
--- the same by what stands at the first two lines
+-- the same by what is at the first two lines
 abbrev memory_by : Choices → List ReadLine → ReadLine → Place (List (List ℕ)) → Place (List (List ℕ))
     → Option (List At)
 memory_by choices lines line p read =

@@ -1,4 +1,4 @@
--- The memory that a compaction and a check take, as their lines stand.
+-- The memory that a compaction and a check take, as their lines are.
 use Rattle.crx_filter.proofs.Words.{ℕ, zero, suc, ◌≡◌, Bool, true, false, List, [], ◌∷◌, ◌++◌, length, Some}
 use Rattle.crx_filter.proofs.Words.{Result, Ok, Err, refl, ap, ◌∙◌, ◌+◌, arith, At, none-some, ReadLine}
 use Rattle.crx_filter.proofs.Words.{Content, Fault, OpenEpoch, next_row, rows_wanted, with_next_row, Epoch}
@@ -52,7 +52,7 @@ module _ {K : Type 0} (direction : Direction Epoch OpenEpoch K) (kept_of : List 
   step-takes count sure (Whole epoch) e a = ap (place_takes takes items count) a.2 ∙ sure true
   step-takes count sure (Faulty fault) e a = false-true e
 
--- an epoch's line stands before it
+-- an epoch's line is before it
 after-first : (takes : ℕ → Bool → Bool) → ((count : ℕ) (is_whole : Bool) → takes (suc count) is_whole ≡ true)
     → (items : List (Item Epoch)) (lines : List ReadLine) (so_far : OpenEpoch) → rinex_open items lines
     ≡ Some so_far → (is_whole : Bool) → takes (length lines) is_whole ≡ true

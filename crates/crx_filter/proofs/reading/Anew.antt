@@ -46,7 +46,7 @@ pub record AreSame (a b : List (Item ReadEpoch)) : Type 0 where
   pub alike : AreAlike a b
   pub block : block_of (raws_kept a) ≡ block_of (raws_kept b)
 
--- the units that can stand after some items
+-- the units that can be after some items
 abbrev pub MayFollow : List (Item ReadEpoch) → FileUnit ReadEpoch → Type 0
 MayFollow items (HeaderLine line) = ⊥
 MayFollow items (EventRecord line) = 0 < records_left items
@@ -84,7 +84,7 @@ same-warned a b at h = record {
   block = refl;
 }
 
--- ---- the same stands at the same lines
+-- ---- the same is at the same lines
 
 -- what the lines of a block give depends on the block alone
 abbrev past-of : (block : List RawEpoch) → Option Past
@@ -123,7 +123,7 @@ place-same a b lines h zero none = body-place compact_beginning a lines h.alike.
     ∙ sym (body-place compact_beginning b lines h.alike.two (sym h.alike.left ∙ none))
 place-same a b lines h (suc left) some = event-same a b left lines h.alike some
 
--- ---- which units can stand there
+-- ---- which units can be there
 
 epoch-follows : (items : List (Item ReadEpoch)) (p : Place ReadEpoch)
     → OfHere (MayFollow items) (as_observation p)
@@ -179,7 +179,7 @@ abbrev ReadAlike : Bool → ℕ → List (Item ReadEpoch) → List (Item ReadEpo
 ReadAlike skip units a b number lines = GoOnAlike a b (reading_within compact_place skip units a number lines)
     (reading_within compact_place skip units b number lines)
 
--- one step: what stands there is the same, and what is read after it goes on alike
+-- one step: what is there is the same, and what is read after it goes on alike
 one-step : (skip : Bool) (units : ℕ) (a b : List (Item ReadEpoch)) (number : ℕ) (lines : List ReadLine)
     → AreAlike a b → compact_place a lines ≡ compact_place b lines
     → ((unit : FileUnit ReadEpoch) (count : ℕ) → compact_place a lines ≡ Here unit count

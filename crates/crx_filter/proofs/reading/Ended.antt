@@ -26,7 +26,7 @@ compaction-ended choices lines =
     next-end _ compaction rinex_open (written_of choices.every)
     (compact_unit choices) choices (compaction-carried_out choices) r.items r.stop (length lines) stopped
 
--- the whole reading of compact text by what stands at its first two lines
+-- the whole reading of compact text by what is at its first two lines
 abbrev whole_by : Bool → List ReadLine → Place (List (List ℕ)) → WholeReading ReadEpoch
 whole_by skip lines p =
     elim p [

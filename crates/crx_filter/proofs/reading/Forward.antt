@@ -1,4 +1,4 @@
--- What stands at a line is certain as soon as its last line has come, in both directions.
+-- What is at a line is certain as soon as its last line has come, in both directions.
 use Rattle.crx_filter.proofs.Words.{◌≡◌, Bool, true, false, not, cond, List, [], refl, ReadLine, Place}
 use Rattle.crx_filter.proofs.Words.{Wanted, first_line, IsSteady, FileUnit, Epoch, epoch_place, Item}
 use Rattle.crx_filter.proofs.Words.{is_at_start, header_has_ended, records_left, records_count_types}

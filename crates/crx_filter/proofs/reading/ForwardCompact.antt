@@ -1,4 +1,4 @@
--- What stands at a line of compact text is certain as soon as its last line has come.
+-- What is at a line of compact text is certain as soon as its last line has come.
 use Rattle.crx_filter.proofs.Words.{ℕ, suc, ◌<◌, List, [], ◌∷◌, ◌++◌, length, Result, Ok, Err, refl, ap}
 use Rattle.crx_filter.proofs.Words.{arith, ReadLine, Content, Overlong, FileUnit, Fault, Place, Here, Wanted}
 use Rattle.crx_filter.proofs.Words.{then_place, one_line, first_line, IsSteady, Remains, IsDecidedAfter}

@@ -84,7 +84,7 @@ place-begun types (Overlong ∷ lines) = tt
 place-begun types (Content line ∷ lines) = unit-begun types (beginning_of line) (Content line ∷ lines)
     (line-begun line)
 
--- ---- a unit, wherever it stands
+-- ---- a unit, wherever it is
 
 begun-in_place : (before : List (Item Epoch)) (unit : FileUnit Epoch) (lines : List ReadLine) (count : ℕ)
     → header_has_ended before ≡ true → records_left before ≡ 0

@@ -1,4 +1,4 @@
--- What is written for some lines stands at the beginning of what is written for more lines.
+-- What is written for some lines is at the beginning of what is written for more lines.
 use Rattle.crx_filter.proofs.Words.{ℕ, ◌≡◌, ◌+◌, Bool, List, [], ◌∷◌, ◌++◌, length, Option, Some, None, refl}
 use Rattle.crx_filter.proofs.Words.{ap, sym, subst, ◌∙◌, append_assoc, append-nil, flat_map-append, ReadLine}
 use Rattle.crx_filter.proofs.Words.{Fault, Place, FileUnit, Item, Accepted, Warned, Reading, Stop, AtFault}

@@ -8,7 +8,7 @@ use Rattle.crx_filter.proofs.Words.{reading_from, continued_reading, IsReadForwa
 use Rattle.crx_filter.specs.Laws.{IsResumed}
 use Rattle.crx_filter.proofs.Choosing.{by_bool}
 
--- ---- what stands at a place
+-- ---- what is at a place
 
 module _ {E : Type 0} (place : List (Item E) → List ReadLine → Place (FileUnit E)) (h : IsReadForward place)
     (items : List (Item E)) (lines : List ReadLine) where

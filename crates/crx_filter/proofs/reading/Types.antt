@@ -1,4 +1,4 @@
--- The counts of types in force are allowed, and no letter stands twice among them.
+-- The counts of types in force are allowed, and no letter is there twice among them.
 use Rattle.crx_filter.proofs.Words.{ℕ, ◌≡◌, List, [], ◌∷◌, ◌++◌, Option, Some, None, refl, sym, subst}
 use Rattle.crx_filter.proofs.Words.{All-nil, HeaderLine, EventRecord, Count, types_of, is_types_line}
 use Rattle.crx_filter.proofs.Words.{count_in, with_line, Item, Accepted, Warned, records_count_types}

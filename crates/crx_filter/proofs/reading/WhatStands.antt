@@ -1,4 +1,4 @@
--- What holds of each thing that can stand at some lines holds of the one that stands there.
+-- What holds of each thing that can be at some lines holds of the one that is there.
 use Rattle.crx_filter.proofs.Words.{ℕ, ◌≡◌, Bool, true, false, cond, List, [], ◌∷◌, Option, Some, None}
 use Rattle.crx_filter.proofs.Words.{Result, Ok, Err, refl, ⊤, not, nat_lt, ReadLine, Content, Overlong, Fault}
 use Rattle.crx_filter.proofs.Words.{BadEpoch, is_event_line, records_in, Count, Place, Here, Wrong, Wanted}
@@ -8,7 +8,7 @@ use Rattle.crx_filter.proofs.Words.{unless_wrong, header_line, event_record, uni
 use Rattle.crx_filter.proofs.Words.{as_observation, compact_epoch_place}
 use Rattle.crx_filter.proofs.Choosing.{by_bool}
 
--- what holds of a thing that stands somewhere
+-- what holds of a thing that is somewhere
 abbrev pub OfHere : {X : Type 0} → (X → Type 0) → Place X → Type 0
 OfHere P (Here x count) = P x
 OfHere P p = ⊤
@@ -37,7 +37,7 @@ pub unless-wrong : {E : Type 0} (P : FileUnit E → Type 0) (unit : FileUnit E) 
 unless-wrong P unit None h = h refl
 unless-wrong P unit (Some fault) h = tt
 
--- wherever a unit may stand
+-- wherever a unit may be
 pub of-unit : {E : Type 0} (P : Place (FileUnit E) → Type 0)
     (beginning : List (Item E) → List ReadLine → Place (FileUnit E))
     (items : List (Item E)) (lines : List ReadLine) → P (first_line lines (header_line (is_at_start items)))

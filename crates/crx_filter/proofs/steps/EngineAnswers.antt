@@ -57,7 +57,7 @@ pub record GoesLineByLine {U O K : Type 0} (direction : Direction U O K) (seen_a
 
 -- ---- a line that comes again
 
--- where a line is to come again, it stands in an epoch whose fault is skipped, and one is looked for then
+-- where a line is to come again, it is in an epoch whose fault is skipped, and one is looked for then
 pub record ComesAgain {O K : Type 0} (before next : Seen O K) (line : ReadLine) : Type 0 where
   pub skips : before.choices.skip ≡ true
   pub epoch : is_in_epoch before.phase ≡ true

@@ -76,7 +76,7 @@ onto item items r one h = record {
       (item ∷ []) items)) h.stops;
 }
 
--- ---- what stands at such lines
+-- ---- what is at such lines
 
 no-records : (count : Option ℕ) → is_some count ≡ false → count ≡ None
 no-records None e = refl

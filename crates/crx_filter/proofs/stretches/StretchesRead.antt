@@ -20,7 +20,7 @@ use Rattle.crx_filter.proofs.stretches.KeptReading.{back_on, back-printed, anew-
 use Rattle.crx_filter.proofs.stretches.KeptReading.{CanBeKept, kept-more}
 use Rattle.crx_filter.proofs.reading.Each.{all-append, header-append}
 
--- ---- where a reading stands
+-- ---- where a reading is
 
 -- these lines were read as these items, which leave the same state as these units
 pub record HasCome (so_far : List ReadLine) (items : List (Item ReadEpoch)) (before : List

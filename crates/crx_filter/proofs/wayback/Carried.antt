@@ -119,7 +119,7 @@ pub at-line : {E : Type 0} (items : List (Item E)) (m n : ℕ) → m ≡ n → �
     (record { items = items; stop = AtLines m [] }) (record { items = items; stop = AtLines n [] })
 at-line items m n e = ap (λ k. record { items = items; stop = AtLines k [] }) e
 
--- each unit that is in place stands at its lines, after those before it
+-- each unit that is in place is at its lines, after those before it
 abbrev pub StandsAgain : {E : Type 0} → (List (Item E) → List ReadLine → Place (FileUnit E))
     → (List (Item Epoch) → Epoch → E) → (List (Item Epoch) → FileUnit Epoch → List (List ℕ)) → Type 0
 StandsAgain place known lines_of_unit = (before : List (Item Epoch)) (unit : FileUnit Epoch)

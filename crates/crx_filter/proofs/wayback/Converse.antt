@@ -1,4 +1,4 @@
--- A file comes back only where it is standard: the lines that are written are plain, and printed as they stand.
+-- A file comes back only where it is standard: the lines that are written are plain, and printed as they are.
 use Rattle.crx_filter.proofs.Words.{ℕ, ℤ, zero, suc, ◌≡◌, ◌+◌, ◌-◌, ◌<◌, ◌≤◌, true, false, List, [], ◌∷◌}
 use Rattle.crx_filter.proofs.Words.{◌++◌, map, length, take, drop, replicate, Option, Some, None, refl, ap}
 use Rattle.crx_filter.proofs.Words.{sym, ◌∙◌, arith, not, All, AllByRecursion, list_all, All-head, All-tail}

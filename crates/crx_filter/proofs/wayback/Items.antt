@@ -53,7 +53,7 @@ not-interrupted : (every : Option ℕ) (before : List (Item Epoch))
 not-interrupted every before e = either-false (is_interrupted before)
     (is_at_every every (epochs_accepted before)) e
 
--- they are whole by the types in force: types change only at an event, and the next epoch after it stands in full
+-- they are whole by the types in force: types change only at an event, and the next epoch after it is in full
 whole-since : (every : Option ℕ) (items : List (Item Epoch)) → AreInPlace items
     → is_interrupted items ≡ false → AreWhole (types_in_force items) (since_full (marked_epochs every items))
 whole-since every (Accepted (Observation epoch) ∷ before) h e = (
@@ -95,7 +95,7 @@ epoch-stands every before epoch h =
     let older : List Marked = marked_epochs every before in
     lines-stand (types_in_force before) m.in_full m.epoch older (whole-next every before epoch h)
 
--- ---- what stands at a unit's lines
+-- ---- what is at a unit's lines
 
 event-here : (line : List ℕ) (o : Option ℕ)
     → records_in line ≡ o → is_some o ≡ true → event_line {E = ReadEpoch} line ≡ Ok (EventLine line)

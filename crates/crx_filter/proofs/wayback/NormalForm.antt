@@ -27,7 +27,7 @@ use Rattle.crx_filter.proofs.wayback.Converse.{contents-plain}
 use Rattle.crx_text.proofs.EndBlanks.{few_kept}
 use Rattle.crx_filter.proofs.reading.Each.{all-append, contents}
 
--- ---- what stands at a unit's printed lines
+-- ---- what is at a unit's printed lines
 
 abbrev same_epoch : List (Item Epoch) → Epoch → Epoch
 same_epoch before epoch = epoch

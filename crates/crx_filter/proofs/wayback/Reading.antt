@@ -22,7 +22,7 @@ lines_back every items = written_lines (body_unit every) items
 
 -- ---- lines that are copied are lines of the input
 
--- what holds of each line's content holds of what the first line gives, and of a unit wherever it stands
+-- what holds of each line's content holds of what the first line gives, and of a unit wherever it is
 first-copied : {X : Type 0} (Q : X → Type 0) (P : List ℕ → Type 0) (read : List ℕ → Result X Fault)
     (lines : List ReadLine) → ((line : List ℕ) → P line → OfOk Q (read line))
     → AllByRecursion (OfContent P) lines → OfHere Q (first_line lines read)

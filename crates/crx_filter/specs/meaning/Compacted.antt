@@ -17,11 +17,11 @@ use Rattle.crx_filter.specs.meaning.Reading.{WholeReading, whole_reading}
 use Rattle.crx_runs.specs.meaning.Results.{FilterResult}
 use Rattle.crx_filter.specs.meaning.Written.{written_lines, result_of}
 
--- what stands at a line of a RINEX file, after these items
+-- what is at a line of a RINEX file, after these items
 abbrev pub rinex_place : List (Item Epoch) → List ReadLine → Place (Unit Epoch)
 rinex_place before lines = unit_place (λ (items : List (Item Epoch)). epoch_place (types_in_force items)) before lines
 
--- ---- which epochs stand in full
+-- ---- which epochs are in full
 
 -- how many observation epochs were accepted
 abbrev pub epochs_accepted : {E : Type 0} → List (Item E) → ℕ
@@ -32,7 +32,7 @@ epochs_accepted (Accepted (EventRecord line) ∷ before) = epochs_accepted befor
 epochs_accepted (Accepted (Observation epoch) ∷ before) = epochs_accepted before + 1
 epochs_accepted (Warned at ∷ before) = epochs_accepted before
 
--- whether the next epoch is the first, or an event or a warning stands between it and the epoch before it
+-- whether the next epoch is the first, or an event or a warning is between it and the epoch before it
 abbrev pub is_interrupted : {E : Type 0} → List (Item E) → Bool
 is_interrupted [] = true
 is_interrupted (Accepted (HeaderLine line) ∷ before) = true
@@ -46,7 +46,7 @@ abbrev pub is_at_every : Option ℕ → ℕ → Bool
 is_at_every None index = false
 is_at_every (Some n) index = nat_lt 0 n && (index % n == 0)
 
--- whether the epoch after these items stands in full
+-- whether the epoch after these items is in full
 abbrev pub is_in_full : Option ℕ → List (Item Epoch) → Bool
 is_in_full every before = is_interrupted before || is_at_every every (epochs_accepted before)
 

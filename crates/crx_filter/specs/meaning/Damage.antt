@@ -18,7 +18,7 @@ use Rattle.crx_runs.specs.meaning.Results.{FilterResult, status_after}
 use Rattle.crx_filter.specs.meaning.Compacted.{is_in_full, compact_unit, compact_lines}
 use Rattle.crx_filter.specs.meaning.Standard.{IsStandard, whole_of, printed_items}
 
--- the lines of some epochs that stand after these items, the oldest first
+-- the lines of some epochs that are after these items, the oldest first
 abbrev pub lines_of_epochs : Choices → List (Item Epoch) → List Epoch → List (List ℕ)
 lines_of_epochs choices before [] = []
 lines_of_epochs choices before (epoch ∷ later) = compact_unit choices before (Observation epoch)
@@ -29,13 +29,13 @@ abbrev pub with_epochs : List (Item Epoch) → List Epoch → List (Item Epoch)
 with_epochs before [] = before
 with_epochs before (epoch ∷ later) = with_epochs (Accepted (Observation epoch) ∷ before) later
 
--- none of some epochs after these items stands in full
+-- none of some epochs after these items is in full
 abbrev pub AreContinued : Choices → List (Item Epoch) → List Epoch → Type 0
 AreContinued choices before [] = ⊤
 AreContinued choices before (epoch ∷ later) = (is_in_full choices.every before ≡ false)
     × AreContinued choices (Accepted (Observation epoch) ∷ before) later
 
--- a line that may stand in the place of others: not too long, and it doesn't begin with >
+-- a line that may be in the place of others: not too long, and it doesn't begin with >
 abbrev pub may_replace : InputLine → Bool
 may_replace line = not (is_long line) && not (begins_epoch line.content)
 
@@ -54,7 +54,7 @@ BeginsAnew choices block (Accepted (Observation epoch) ∷ []) = is_in_full choi
 BeginsAnew choices block (newest ∷ item ∷ items) = BeginsAnew choices block (item ∷ items)
 
 -- the compact text of a standard file, one block of it damaged: the units before the block, its first epoch, which
--- stands in full, the others, none of which does, the units after it, and the bytes in place of the block's lines but
+-- is in full, the others, none of which is, the units after it, and the bytes in place of the block's lines but
 -- the first. Their lines may end with CR and LF, and where nothing comes after the block the last one need not end with
 -- LF
 pub record IsDamaged (input : List ℕ) (choices : Choices) (damaged : List ℕ) : Type 0 where

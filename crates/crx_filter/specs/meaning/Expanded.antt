@@ -53,7 +53,7 @@ as_observation (Here epoch count) = Here (Observation epoch) count
 as_observation (Wrong offset fault) = Wrong offset fault
 as_observation Wanted = Wanted
 
--- what stands where an epoch or an event may begin: whether a line is an event's first one shows on its own bytes
+-- what is where an epoch or an event may begin: whether a line is an event's first one shows on its own bytes
 abbrev pub compact_epoch_place : List Count → List RawEpoch → List ReadLine → Place (Unit ReadEpoch)
 compact_epoch_place types older [] = Wanted
 compact_epoch_place types older (Overlong ∷ lines) = as_observation (epoch_at types older (Overlong ∷ lines))
@@ -61,7 +61,7 @@ compact_epoch_place types older (Content line ∷ lines) =
     if is_event_line line then one_line (event_line line)
     else as_observation (epoch_at types older (Content line ∷ lines))
 
--- what stands at a line of compact text from its third line on, after these items
+-- what is at a line of compact text from its third line on, after these items
 abbrev pub compact_place : List (Item ReadEpoch) → List ReadLine → Place (Unit ReadEpoch)
 compact_place before lines = unit_place
     (λ (items : List (Item ReadEpoch)). compact_epoch_place (types_in_force items) (raws_kept items)) before lines

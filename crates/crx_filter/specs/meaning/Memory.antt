@@ -1,6 +1,6 @@
--- At which lines memory may run out: only where what stands at a line has no fault, and where the line takes memory.
+-- At which lines memory may run out: only where what is at a line has no fault, and where the line takes memory.
 -- Which lines of an epoch take memory differs between compaction, expansion and check: the function `takes` says it, by
--- how many of the epoch's lines stand before the line, and whether the epoch is whole with it.
+-- how many of the epoch's lines are before the line, and whether the epoch is whole with it.
 -- Lists of items have the newest first.
 use Rattle.std.specs.Prelude.{ℕ, zero, suc, Bool, true, false, ◌&&◌, ◌+◌, List, [], ◌∷◌, ◌++◌, length, Option, Some, None}
 use Rattle.std.specs.Prelude.{if◌then◌else◌, nat_lt}
@@ -12,7 +12,7 @@ use Rattle.crx_rinex.specs.meaning.Units.{Unit, HeaderLine, EventLine, EventReco
 use Rattle.crx_filter.specs.meaning.Items.{Item, Warned, records_count_types}
 use Rattle.crx_filter.specs.meaning.Reading.{Reading, AtFault, AtLines, Looking, is_skipped, can_go_on}
 
--- whether a line takes memory that completes a unit after some items, so many lines of the unit standing before it: a
+-- whether a line takes memory that completes a unit after some items, so many lines of the unit being before it: a
 -- types line that counts does, other header lines and records and an event's line don't, and an epoch's last line as
 -- `takes` says
 abbrev pub unit_takes : {E : Type 0} → (ℕ → Bool → Bool) → List (Item E) → ℕ → Unit E → Bool
@@ -21,7 +21,7 @@ unit_takes takes items count (EventLine line) = false
 unit_takes takes items count (EventRecord line) = records_count_types items && is_types_line line
 unit_takes takes items count (Observation epoch) = takes count true
 
--- whether a line takes memory, by what stands at the lines up to it: none that has a fault does, and an epoch's other
+-- whether a line takes memory, by what is at the lines up to it: none that has a fault does, and an epoch's other
 -- lines do as `takes` says
 abbrev pub place_takes : {E : Type 0} → (ℕ → Bool → Bool) → List (Item E) → ℕ → Place (Unit E) → Bool
 place_takes takes items count (Here unit lines) = unit_takes takes items count unit

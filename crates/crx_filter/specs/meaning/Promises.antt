@@ -28,7 +28,7 @@ pub record IsPromiseKept (promise : List ℕ
       → NoneFailed writer.before.failures writer.after.failures
       → NoneFailed messages.before.failures messages.after.failures → (FaultIs OutOfMemory fault → ⊥)
       → (rest : List ℕ) → (input.at_end → rest ≡ []) → length (given ++ rest) ≤ INPUT_LIMIT → promise (given ++ rest)
-  -- where no fault stands: for these bytes
+  -- where there is no fault: for these bytes
   pub good : fault ≡ None → promise given
 
 -- the reader gave some bytes, and with these the run keeps a promise about whole inputs

@@ -1,5 +1,5 @@
 -- The reading of a file: its units one after another, with warnings between them where faults are skipped.
--- What stands at a line is an argument, so that both directions read in this one way.
+-- What is at a line is an argument, so that both directions read in this one way.
 use Rattle.std.specs.Prelude.{ℕ, Bool, true, false, ◌&&◌, ◌+◌, max, List, [], ◌∷◌, ◌==◌, Option, Some, None}
 use Rattle.std.specs.Prelude.{if◌then◌else◌, nat_lt, not, suc, zero, length, drop}
 use Rattle.crx_base.specs.meaning.Seen.{ReadLine, Content, Overlong}

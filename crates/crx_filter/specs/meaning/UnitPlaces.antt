@@ -1,4 +1,4 @@
--- What stands at a line of an observation file, the header and an event's records being read alike in RINEX and in
+-- What is at a line of an observation file, the header and an event's records being read alike in RINEX and in
 -- compact text: RINEX 3.05, tables A2 and A3, with this project's profile.
 use Rattle.std.specs.Prelude.{ℕ, Bool, List, Option, Some, None, Result, Ok, Err, if◌then◌else◌, nat_lt, not}
 use Rattle.crx_base.specs.meaning.Seen.{ReadLine}
@@ -36,7 +36,7 @@ header_line is_first line = unless_wrong (HeaderLine line) (header_line_fault is
 abbrev pub event_record : {E : Type 0} → Bool → List ℕ → Result (Unit E) Fault
 event_record counts_types line = unless_wrong (EventRecord line) (if counts_types then types_fault line else None)
 
--- what stands at some lines after these items: a header line, an event's record, or what may begin there
+-- what is at some lines after these items: a header line, an event's record, or what may begin there
 abbrev pub unit_place : {E : Type 0}
     → (List (Item E) → List ReadLine → Place (Unit E)) → List (Item E) → List ReadLine → Place (Unit E)
 unit_place beginning before lines =

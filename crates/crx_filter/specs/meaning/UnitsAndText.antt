@@ -23,8 +23,8 @@ use Rattle.crx_runs.specs.meaning.Spans.{Device}
 
 -- ---- a file in order
 
--- what is true of a unit that was accepted after some items: a header line stands in the header and is good; an
--- event's first line is one, and stands between units; a record is one of those that its event announces, and no bad
+-- what is true of a unit that was accepted after some items: a header line is in the header and is good; an
+-- event's first line is one, and is between units; a record is one of those that its event announces, and no bad
 -- types line where these count; and an epoch is whole, with the types in force
 abbrev pub IsInPlace : List (Item Epoch) → FileUnit Epoch → Type 0
 IsInPlace before (HeaderLine line) = (header_has_ended before ≡ false)

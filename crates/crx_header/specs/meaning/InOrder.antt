@@ -1,4 +1,4 @@
--- Tests in order: the first that fails says what comes out; where none fails it is what stands after the last.
+-- Tests in order: the first that fails says what comes out; where none fails it is what is after the last.
 use Rattle.std.specs.Prelude.{Bool, Option, Some, None, if◌then◌else◌, not}
 
 infixr 1 ◌otherwise◌next◌

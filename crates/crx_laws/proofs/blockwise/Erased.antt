@@ -1,4 +1,4 @@
--- The numbers of lines stand in warnings and faults alone: without them, the same lines are read alike
+-- The numbers of lines are in warnings and faults alone: without them, the same lines are read alike
 -- whatever their numbers are.
 use Rattle.crx_filter.proofs.Words.{ℕ, zero, suc, ◌≡◌, ◌+◌, ◌-◌, max, Bool, cond, List, [], ◌∷◌, ◌++◌, length}
 use Rattle.crx_filter.proofs.Words.{drop, Option, Some, None, refl, ap, sym, ◌∙◌, ◌||◌, ReadLine, At, Fault}

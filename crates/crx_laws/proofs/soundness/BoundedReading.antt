@@ -332,7 +332,7 @@ open-bounded (line ∷ lines) (Going begun) h = open-bounded lines (next_step be
     (next-bounded begun line h)
 open-bounded lines step h = tt
 
--- what an epoch leaves, where one stands at some lines
+-- what an epoch leaves, where one is at some lines
 abbrev pub OfHeld : Place HeldEpoch → Type 0
 OfHeld (Here held count) = IsBoundedTail ORDER_LIMIT held.tail
 OfHeld p = ⊤

@@ -5,7 +5,7 @@ use Rattle.crx_compact.specs.ReadingLaws.{epochs_at, HasPrintableMarks, AreGood,
 use Rattle.crx_compact.proofs.soundness.Soundness.{thing_here, then-comes}
 use Rattle.crx_compact.proofs.soundness.Goodness.{reads-whole}
 
--- the marks of good epochs can stand before others
+-- the marks of good epochs can be before others
 good-marks : (counts : List (List Count)) (epochs : List ReadEpoch)
     → AreGood counts epochs → AllByRecursion HasPrintableMarks (map (λ (r : ReadEpoch). r.raw) epochs)
 good-marks [] [] h = tt

@@ -30,7 +30,7 @@ epoch_head line satellites =
     clock_of (columns line (HEAD_WIDTH + 1) CLOCK_WIDTH) or_else Err BadClock with λ clock.
     Ok (EpochHead (columns line 1 HEAD_WIDTH) count clock)
 
--- what stands in a line where an epoch may begin, or its first fault: no >, then the flag, the count and the columns,
+-- what is in a line where an epoch may begin, or its first fault: no >, then the flag, the count and the columns,
 -- then the clock
 abbrev pub head_of : List ℕ → Result HeadLine Fault
 head_of line =

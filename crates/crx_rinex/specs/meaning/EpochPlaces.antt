@@ -79,6 +79,6 @@ unit_begun types (EventBegins line) lines = Here (EventLine line) 0
 unit_begun types (EpochBegins head) lines =
     then_place (rest_at (opened types head) lines) lines (λ epoch rest. Here (Observation epoch) 0)
 
--- what stands where an epoch or an event may begin
+-- what is where an epoch or an event may begin
 abbrev pub epoch_place : List Count → List ReadLine → Place (Unit Epoch)
 epoch_place types lines = then_place (first_line lines beginning_of) lines (unit_begun types)

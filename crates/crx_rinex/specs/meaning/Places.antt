@@ -1,24 +1,24 @@
--- What stands at a place among the lines of a file: RINEX 3.05, sections 5 and 6; files are read from the first line
+-- What is at a place among the lines of a file: RINEX 3.05, sections 5 and 6; files are read from the first line
 -- on.
 use Rattle.std.specs.Prelude.{ℕ, ◌+◌, List, [], ◌∷◌, drop, Result, Ok, Err}
 use Rattle.crx_base.specs.meaning.Seen.{ReadLine, Content, Overlong}
 use Rattle.crx_base.specs.declared.fault.Fault.{Fault}
 use Rattle.crx_base.specs.declared.fault.Fault.TheVariants.{LineTooLong}
 
--- a thing and the count of its lines; a fault, and how many lines after the first one it stands; or neither yet, since
+-- a thing and the count of its lines; a fault, and how many lines after the first one it is; or neither yet, since
 -- more lines could make the thing
 pub data Place (X : Type 0) : Type 0 where
   Here : X → ℕ → Place X
   Wrong : ℕ → Fault → Place X
   Wanted : Place X
 
--- what stands there when so many lines before it are counted too
+-- what is there when so many lines before it are counted too
 abbrev pub after_lines : {X : Type 0} → ℕ → Place X → Place X
 after_lines count (Here x more) = Here x (count + more)
 after_lines count (Wrong offset fault) = Wrong (count + offset) fault
 after_lines count Wanted = Wanted
 
--- what stands at some lines, and then what it makes of the lines after its own
+-- what is at some lines, and then what it makes of the lines after its own
 abbrev pub then_place : {X Y : Type 0} → Place X → List ReadLine → (X → List ReadLine → Place Y) → Place Y
 then_place (Here x count) lines next = after_lines count (next x (drop count lines))
 then_place (Wrong offset fault) lines next = Wrong offset fault

@@ -56,7 +56,7 @@ abbrev pub row_of : List Count → List ℕ → Result Row Fault
 row_of types line = row_of_types line (types_of_satellite types line)
 
 -- what is true of every row: its identifier has the form of one; it has as many values as a system may have types, each
--- within its columns; and two indicators for each, of the characters that may stand there
+-- within its columns; and two indicators for each, of the characters that may be there
 pub record IsSoundRow (row : Row) : Type 0 where
   pub named : is_identifier row.name ≡ true
   pub counted : IsAllowedCount (length row.values)

@@ -1,4 +1,4 @@
--- What stands after a run that a fault, a device or memory ended, by what its reader gave.
+-- What is after a run that a fault, a device or memory ended, by what its reader gave.
 use Rattle.std.specs.Prelude.{◌≡◌, ◌⊎◌, ◌<◌, ◌≤◌, ℕ, ◌+◌, List, [], ◌++◌, length, take, Some, None}
 use Rattle.crx_lines.specs.meaning.Devices.{with_failed_flush, with_failure, with_flush}
 use Rattle.crx_base.specs.meaning.Lines.{InputLine, lines_of}
@@ -149,7 +149,7 @@ pub record FaultFound (filter : Filter)
   pub wrote : IsWritten writer after.output
   pub reported : AreReported messages after.warnings at
 
--- what stands after a run, by the fault that ended it
+-- what is after a run, by the fault that ended it
 abbrev pub Stands : Filter → Input → List ℕ → Device → Device → At → Fault → Type 0
 Stands filter input given writer messages at ReadFailed = ReaderFailed filter input given writer messages at
 Stands filter input given writer messages at InputTooLong = LimitPassed filter input given writer messages at

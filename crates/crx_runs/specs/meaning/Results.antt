@@ -5,7 +5,7 @@ use Rattle.crx_base.specs.declared.fault.At.{At}
 use Rattle.crx_runs.specs.meaning.Messages.{notices_text, error_text}
 pub use Rattle.crx_base.specs.meaning.Lines.{lines_text}
 
--- what is written and reported for some lines, and the fault that ends the run, where there is one; warnings stand
+-- what is written and reported for some lines, and the fault that ends the run, where there is one; warnings are
 -- oldest first
 pub record Course : Type 0 where
   pub output : List ℕ

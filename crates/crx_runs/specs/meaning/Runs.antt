@@ -38,14 +38,14 @@ pub record RunsAs (result_of : List ℕ → FilterResult) (filter : Filter)
       → NoneFailed messages.before.failures messages.after.failures → (FaultIs OutOfMemory fault → ⊥)
       → (rest : List ℕ) → (input.at_end → rest ≡ [])
       → length (given ++ rest) ≤ INPUT_LIMIT → IsResult (result_of (given ++ rest)) writer messages status fault
-  -- where no fault stands, the end of the input was reported, no device failed, the writer was flushed once and the
+  -- where there is no fault, the end of the input was reported, no device failed, the writer was flushed once and the
   -- messages never, and the run is that of these bytes
   pub good : fault ≡ None → input.at_end × (length given ≤ INPUT_LIMIT) × (input.counted.failures
       ≡ input.start.failures) × (writer.after ≡ with_flush writer.before) × (messages.after ≡ messages.before)
       × IsResult (result_of given) writer messages status fault
-  -- where no fault stands, all that was written was handed on: the writer was flushed last
+  -- where there is no fault, all that was written was handed on: the writer was flushed last
   pub flushed : fault ≡ None → writer.flushed
-  -- where a fault stands, the status is 1, and the fault says what ended the run and what was written and reported by
+  -- where there is a fault, the status is 1, and the fault says what ended the run and what was written and reported by
   -- then
   pub ended : (at : At) → fault ≡ Some at → (status ≡ 1) × Stands filter input given writer messages at at.fault
   -- the end of the input was reported at most once: it was never asked for again

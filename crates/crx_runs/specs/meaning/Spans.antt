@@ -6,7 +6,7 @@ use Rattle.crx_base.specs.declared.fault.At.{At}
 use Rattle.crx_runs.specs.meaning.Results.{Course}
 use Rattle.crx_lines.specs.declared.device.Sink.{Ghosts as SinkGhosts}
 
--- the reader between two moments: which bytes it may have given in between, whether it stands at its end, and its
+-- the reader between two moments: which bytes it may have given in between, whether it is at its end, and its
 -- counts
 pub record Input : Type 1 where
   pub gave : List ℕ → Type 0

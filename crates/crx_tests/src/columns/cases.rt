@@ -6,14 +6,14 @@ use crate::texts::lines_of;
 pub struct Table {
     /// What they show.
     pub shows: &'static str,
-    /// 0: none of them is asked to stand in full; 1: each one is; 2: every second one is, from the first one on.
+    /// 0: none of them is asked to be in full; 1: each one is; 2: every second one is, from the first one on.
     pub full: usize,
     /// Of each epoch the RINEX lines, `=`, and the compact lines that stand for them, or the names of such lines, with `|` between lines.
     pub epochs: &'static [&'static str],
 }
 
 impl Table {
-    /// Whether an epoch is asked to stand in full, by its place in the table.
+    /// Whether an epoch is asked to be in full, by its place in the table.
     pub fn is_full(&self, place: usize) -> bool {
         self.full != 0 && place % self.full == 0
     }

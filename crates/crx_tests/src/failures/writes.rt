@@ -111,7 +111,7 @@ fn no_byte_is_taken(rt: HostRuntime) -> Result<(), Fail> {
     Ok(())
 }
 
-/// A flush that fails: all is written, and the failure is reported at the last line, where no fault stands before.
+/// A flush that fails: all is written, and the failure is reported at the last line, where there is no fault before.
 fn flush_fails(alloc: Global, case: &Case) -> Result<bool, Fail> {
     let texts = Texts::of(alloc, case)?;
     let devices = Devices {

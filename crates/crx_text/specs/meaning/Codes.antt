@@ -14,7 +14,7 @@ use Rattle.crx_base.specs.declared.limits.TheConstants.{ORDER_LIMIT, DIGITS_LIMI
 
 -- ---- printing
 
--- a code's one printed text: no leading zeros, and no minus before 0; & stands after an order
+-- a code's one printed text: no leading zeros, and no minus before 0; & is after an order
 abbrev pub code_text : Code → List ℕ
 code_text Missing = []
 code_text (Start order value) = decimal order ++ 38 ∷ signed_decimal value
@@ -60,7 +60,7 @@ abbrev pub first_cell : List ℕ → List ℕ
 first_cell [] = []
 first_cell (c ∷ cs) = if is_blank c then [] else c ∷ first_cell cs
 
--- what stands after a line's first blank
+-- what is after a line's first blank
 abbrev pub after_cell : List ℕ → List ℕ
 after_cell [] = []
 after_cell (c ∷ cs) = if is_blank c then cs else after_cell cs

@@ -1,6 +1,6 @@
 -- Numbers in columns: RINEX 3.05, table A3, an observation in format F14.3 (it counts
 -- thousandths) and the receiver clock offset in format F15.12 (it counts units of 10^-12 s).
--- A number here is what stands in the columns without its point.
+-- A number here is what is in the columns without its point.
 use Rattle.std.specs.Prelude.{ℕ, ℤ, pos, negsuc, neg_ℤ, Bool, ◌&&◌, ◌<ℤ◌, ◌+◌, ◌-◌, ◌/◌, ◌%◌, ◌^◌, ◌==◌, nat_lt}
 use Rattle.std.specs.Prelude.{if◌then◌else◌, List, [], ◌∷◌, ◌++◌, length, take, drop, replicate, slice_index, Option}
 use Rattle.std.specs.Prelude.{Some, None, IfSome, decimal}
@@ -18,7 +18,7 @@ abbrev pub without_minus : List ℕ → List ℕ
 without_minus [] = []
 without_minus (c ∷ cs) = if c == 45 then cs else c ∷ cs
 
--- a number of this size, below zero where its minus stands; so -0 is 0
+-- a number of this size, below zero where its minus is; so -0 is 0
 abbrev pub signed_number : Bool → ℕ → ℤ
 signed_number is_below size = if is_below then neg_ℤ (pos size) else pos size
 

@@ -3,7 +3,7 @@ use Rattle.std.specs.Prelude.{ℕ, Bool, not, List, [], ◌∷◌, ◌==◌, ◌
 use Rattle.crx_base.specs.meaning.Lines.{is_printable}
 use Rattle.crx_text.specs.meaning.Columns.{is_blank, without_end_blanks}
 
--- f of the characters of two texts, position by position, blanks standing after the shorter
+-- f of the characters of two texts, position by position, blanks being after the shorter
 abbrev pub by_position : (ℕ → ℕ → ℕ) → List ℕ → List ℕ → List ℕ
 by_position f [] [] = []
 by_position f (a ∷ as') [] = f a 32 ∷ by_position f as' []
@@ -18,7 +18,7 @@ mark_of old new = if old == new then 32 else if is_blank new then 38 else new
 abbrev pub text_difference : List ℕ → List ℕ → List ℕ
 text_difference old new = without_end_blanks (by_position mark_of old new)
 
--- a character that may stand in epoch texts and indicators, which marks are made of: 32 to 126 other than &, which
+-- a character that may be in epoch texts and indicators, which marks are made of: 32 to 126 other than &, which
 -- means a blank in marks
 abbrev pub is_kept : ℕ → Bool
 is_kept c = is_printable c && not (c == 38)

@@ -33,7 +33,7 @@ some : (o : Option ℕ) (b : Bool) → is_some o ≡ not b → b ≡ false → (
 some None b e h = absurd (cc)
 some (Some n) b e h = (n, refl)
 
--- an identifier stands among those of the satellites so far
+-- an identifier is among those of the satellites so far
 stands : (text : List ℕ) (place : ℕ) (name : List ℕ) (found : List Satellite) (b : Bool)
     → names_in text place ≡ map (λ (s : Satellite). s.name) found
     → is_among (λ (n : List ℕ). n) name (names_in text place) ≡ b

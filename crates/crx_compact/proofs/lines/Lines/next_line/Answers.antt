@@ -21,7 +21,7 @@ line-there lengths bytes many filled past past_bytes reserved front count h othe
     next-line (take many lengths) bytes filled past past_bytes count h.0 h.2 (omega (arith, less, all))
     (here ∙ sym (get_or-take lengths many past count less))
 
--- what stands within bytes that are held fits
+-- what is within bytes that are held fits
 held-within : (n filled long len cap : ℕ)
     → n ≤ filled → filled ≤ long → len ≡ long → len ≤ cap → cap < 2 ^ 63 → Fits w64 n
 held-within n filled long len cap h k same kept small = omega (arith, h, k, same, kept, small)
