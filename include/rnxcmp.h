@@ -94,7 +94,7 @@ typedef struct rnxcmp_options {
      * those beyond this version's are 0; any other size is RNXCMP_MISUSED.
      */
     size_t size;
-    /* At every so many epochs, counted from 0, one is in full; 0: only where one must, at first and after events and warnings. */
+    /* At every so many epochs, counted from 0, one is in full; 0: only where one must be, at first and after events and warnings. */
     uint32_t every;
     /* Not 0: an epoch with a fault is skipped with a warning, and the run goes on. */
     uint32_t skip;

@@ -45,7 +45,7 @@ names-more : (ss : List Satellite) (s : Satellite) (earlier : List (List ℕ))
 names-more [] s earlier = refl
 names-more (q ∷ qs) s earlier = names-more qs s (q.name ∷ earlier)
 
--- ---- whether an identifier is already
+-- ---- whether an identifier is there already
 
 same-way : (b c : Bool) (xs ys : List ℕ) → bytes_eq xs ys ≡ b → bytes_eq ys xs ≡ c → b ≡ c
 same-way true true xs ys e f = refl

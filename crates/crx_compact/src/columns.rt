@@ -195,11 +195,11 @@ impl Columns {
         ensures block_fault { (older : List RawEpoch) → tail_held self.old.state ≡ tail_left older
             → IfErr result (λ fault. (epoch_at types.now older (Content line.now ∷ []) ≡ Wrong 0 fault)
             ⊎ (fault ≡ Fault.OutOfMemory)) }
-        // Where there is room for all that the epoch's lines need, none is asked for.
+        // Where there is room for all that the epoch's lines need, the answer isn't for want of memory.
         ensures known { (begun : OpenRawEpoch)
             → first_step types.now (tail_held self.old.state) (Content line.now) ≡ Going begun
             → HasRoomFor begun self.old.room → IsOk result }
-        // From then on there is, also after a refusal.
+        // After `Ok` there is. There is never less than before, after a refusal too.
         ensures room { (begun : OpenRawEpoch)
             → first_step types.now (tail_held self.old.state) (Content line.now) ≡ Going begun
             → OnOk result (HasRoomFor begun self.new.room) }
@@ -335,7 +335,7 @@ impl Columns {
         ensures memory { IfErr result (λ fault. fault ≡ Fault.OutOfMemory
             → (begins_epoch line.now ≡ false) × (awaits_row self.old.state ≡ true)
             × (makes_epoch (step_in self.old.state (Content line.now)) ≡ true)) }
-        // No line but the epoch line asks for memory.
+        // At no line but the epoch line the answer is for want of memory.
         ensures unasked { IfErr result (λ fault. fault ≡ Fault.OutOfMemory → ⊥) }
         ensures emptied { OnErr result (self.new.state ≡ Idle None) }
         ensures none { OnErr result (lines.new ≡ []) }
@@ -436,7 +436,7 @@ fn take_line(
         → IsSoundBlock stage.new count.new block history.new) }
     ensures err { IfErr result (λ fault.
         next_step (epoch_by_stage stage.old count.old history.old) (Content line.now) ≡ Faulty fault) }
-    // No line but the epoch line asks for memory.
+    // At no line but the epoch line the answer is for want of memory.
     ensures memory { IfErr result (λ fault. fault ≡ Fault.OutOfMemory → ⊥) }
     ensures rooms { KeepsRooms history.old.satellites.rooms history.new.satellites.rooms }
     ensures held_room { history.new.held_room ≡ history.old.held_room }

@@ -164,7 +164,7 @@ impl Encoder {
           pending = [];
           room = self.new.room;
         }) }
-        // Where there is room for the row, none is asked for.
+        // Where there is room for the row, the answer isn't for want of memory.
         ensures known { HasRowRoom row.now self.old.room → IsOk result }
         ensures taken { IfOk result (λ is_new. is_new ≡ true
             → HasTakenRow row.now self.old.room self.new.room) }
@@ -213,7 +213,7 @@ impl Encoder {
           pending = [];
           room = self.new.room;
         }) }
-        // Where there is room for the epoch's text, none is asked for.
+        // Where there is room for the epoch's text, the answer isn't for want of memory.
         ensures known { HEAD_WIDTH + NAME_WIDTH * head.now.count ≤ self.old.room.text → IsOk result }
         // There is never less room than before, after a refusal too.
         ensures kept { KeepsEncodingRoom self.old.room self.new.room }

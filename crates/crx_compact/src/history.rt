@@ -117,7 +117,7 @@ impl History {
             ≡ lines_after_tail (if in_full then no_tail else tail_of_history self.old) epoch.now) }
         ensures err { OnErr result (tail_of_history self.new ≡ tail_of_history self.old) }
         ensures between { IsBetween self.new }
-        // Where room was asked for before, none is now.
+        // Where room was asked for before, the answer isn't for want of memory.
         ensures known { HasRoomForEpoch epoch.now (encoding_room self.old lines.old)
             → FIRST_LINES ≡ lines.old.reserved → IsOk result }
         ensures rooms { KeepsRooms self.old.satellites.rooms self.new.satellites.rooms }
@@ -139,7 +139,7 @@ impl History {
         ensures rest { self.new.satellites.rest ≡ self.old.satellites.rest }
         ensures text { OnOk result (HEAD_WIDTH + NAME_WIDTH * length epoch.now.rows ≤ length self.new.next_text) }
         ensures room { OnOk result (HaveRoom epoch.now.rows self.new.satellites.rooms) }
-        // Where room was asked for before, none is now.
+        // Where room was asked for before, the answer isn't for want of memory.
         ensures known { HEAD_WIDTH + NAME_WIDTH * length epoch.now.rows ≤ self.old.text_room
             → HaveRoom epoch.now.rows self.old.satellites.rooms → IsOk result }
         ensures rooms { KeepsRooms self.old.satellites.rooms self.new.satellites.rooms }
@@ -188,7 +188,7 @@ impl History {
             → OnErr result (has_satellite name rows ≡ false) }
         ensures front { lines.new.front ≡ lines.old.front }
         ensures reserved { lines.new.reserved ≡ lines.old.reserved }
-        // Where room was asked for before, none is now.
+        // Where room was asked for before, the answer isn't for want of memory.
         ensures known { HasRoom name (length values.now) self.old.satellites.rooms
             → 0 < lines.old.free_lines → room_of_types (length values.now) ≤ lines.old.free_bytes → IsOk result }
         ensures rooms { KeepsRooms self.old.satellites.rooms self.new.satellites.rooms }
@@ -256,7 +256,7 @@ impl History {
             → OnOk result (lines.new.lines ≡ lines_after_tail after (epoch_by_rows head.now rows)) }
         ensures between { IsBetween self.new }
         ensures reserved { lines.new.reserved ≡ lines.old.reserved }
-        // Where room was asked for before, none is now.
+        // Where room was asked for before, the answer isn't for want of memory.
         ensures known { HEAD_WIDTH + NAME_WIDTH * head.now.count ≤ length self.old.next_text → IsOk result }
         ensures asked { HEAD_WIDTH + NAME_WIDTH * head.now.count ≤ self.old.text_room → IsOk result }
         ensures text_room { self.old.text_room ≤ self.new.text_room }
@@ -302,7 +302,7 @@ impl History {
         // Memory runs out only at a line without a fault.
         ensures memory { IfErr result (λ fault. fault ≡ Fault.OutOfMemory
             → is_ok (satellites_of_line types.now (past_of_tail (tail_of_history self.old)) line.now) ≡ true) }
-        // Where room was asked for before, none is now.
+        // Where room was asked for before, the answer isn't for want of memory.
         ensures known { (satellites : List Satellite)
             → satellites_of_line types.now (past_of_tail (tail_of_history self.old)) line.now ≡ Ok satellites
             → HaveTypesRoom satellites self.old.satellites.rooms
@@ -595,7 +595,7 @@ fn read_satellites(types: &Types, text: &[u8], satellites: &mut Satellites) -> R
         × All IsAwaitedSatellite named) }
     ensures err { IfErr result (λ fault. (satellites_of_text types.now text.now ≡ Err fault)
         ⊎ (fault ≡ Fault.OutOfMemory)) }
-    // Where room was asked for before, none is now.
+    // Where room was asked for before, the answer isn't for want of memory.
     ensures known { (named : List Satellite) → satellites_of_text types.now text.now ≡ Ok named
         → HaveTypesRoom named satellites.old.rooms → IsOk result }
     ensures room { (named : List Satellite) → satellites_of_text types.now text.now ≡ Ok named
@@ -630,7 +630,7 @@ fn read_names(
         × All IsAwaitedSatellite named) }
     ensures err { IfErr result (λ fault. (satellites_named types.now [] (names_in text.now count) ≡ Err fault)
         ⊎ (fault ≡ Fault.OutOfMemory)) }
-    // Where room was asked for before, none is now.
+    // Where room was asked for before, the answer isn't for want of memory.
     ensures known { (named : List Satellite)
         → satellites_named types.now [] (names_in text.now count) ≡ Ok named
         → HaveTypesRoom named satellites.old.rooms → IsOk result }

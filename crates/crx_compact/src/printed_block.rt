@@ -36,7 +36,7 @@ impl PrintedBlock {
         requires announced { IsAnnounced history.now }
         ensures room { OnOk result (IsBlock self.new.has_head self.new.rows self.new.lines history.now) }
         ensures none { self.new.has_head ≡ false }
-        // Where room was asked for before, none is now.
+        // Where room was asked for before, the answer isn't for want of memory.
         ensures known { length history.now.satellites.rows < self.old.lines.all_lines
             → LINE_LIMIT + 1 + sum (map printed_room history.now.satellites.rows) ≤ self.old.lines.all_bytes
             → IsOk result }

@@ -119,7 +119,7 @@ impl CompactReader {
         Ok(())
     }
 
-    /// Takes a line where an epoch or an event may begin; `true` says that it is an event's, which is in RINEX as it is.
+    /// Takes a line where an epoch or an event may begin; `true` says that it is an event's, which is copied into RINEX as it is.
     ///
     /// `BadEpoch` comes where an event's count is none; then the refusals of [`Columns::begin`].
     #[inline(never)]
@@ -203,7 +203,7 @@ impl CompactReader {
         Ok(is_copied)
     }
 
-    /// Takes a line where no epoch is open; `true` says that it is in RINEX as it is.
+    /// Takes a line where no epoch is open; `true` says that it is copied into RINEX as it is.
     #[inline(never)]
     fn read_between(&mut self, line: &[u8]) -> Result<bool, Fault>
         requires running { is_ended self.old.stage ≡ false }

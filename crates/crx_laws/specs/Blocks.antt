@@ -1,4 +1,4 @@
--- Blocks are expanded alone: what comes after one text is expanded alike after another that leaves the same types in
+-- Blocks can be expanded alone: what comes after one text is expanded alike after another that leaves the same types in
 -- force.
 use Rattle.std.specs.Prelude.{ℕ, ◌≡◌, Bool, true, List, ◌++◌, Option, None, map}
 use Rattle.std.specs.List.{list_all}

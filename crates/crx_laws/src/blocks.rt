@@ -1,4 +1,4 @@
-//! Blocks of compact text are expanded alone: each law is the contract of a function that does nothing.
+//! Blocks of compact text can be expanded alone: each law is the contract of a function that does nothing.
 
 ghost use Rattle.std.specs.Prelude.{◌≡◌, ◌++◌, [], List, ℕ, true, map};
 ghost use Rattle.crx_base.specs.meaning.Lines.{lines_of, lines_text};
@@ -13,7 +13,7 @@ ghost use Rattle.crx_filter.specs.meaning.Expanded.{expanded};
 ghost use Rattle.crx_filter.specs.meaning.Standard.{printed_items};
 ghost use Rattle.crx_filter.specs.meaning.WayBack.{written_well};
 
-/// Blocks are expanded alone. Of two compact texts, each of whole lines and expanded without a fault, both leave the same observation types in
+/// Blocks can be expanded alone. Of two compact texts, each of whole lines and expanded without a fault, both leave the same observation types in
 /// force, as a file up to some block and its header alone do where the types don't change. Then what comes after them, from a line on
 /// at which all starts anew (an epoch in full, or an event and then an epoch in full), is expanded to the same lines after both, and
 /// is ended by the same fault or by none. So a file can be cut where an epoch in full begins, and each piece be expanded alone, after the

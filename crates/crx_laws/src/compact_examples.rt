@@ -72,7 +72,7 @@ pub fn bad_values()
         "3&9999999999999" ∷ codes "                    1" ∷ [] ∷ codes "1" ∷ []) ≡ Wrong 5 OutOfRange }
 {}
 
-/// Differences of order 1; and & where nothing is is a blank.
+/// Differences of order 1; and & where there is nothing is a blank.
 pub fn order_one()
     ensures epochs { epochs_in (one_type ∷ one_type ∷ one_type ∷ []) (full_line 0 1 (codes "G01") ∷ []
         ∷ codes "1&1000" ∷ codes "                    1                              &&&" ∷ [] ∷ codes "500"

@@ -107,7 +107,7 @@ pub fn no_end_of_header()
     ensures second { expansion_of with_skip (take 1 first_two) ≡ failed [] 2 BadProgLine }
 {}
 
-/// Compact text of another writer: differences of order 1, and & where nothing is.
+/// Compact text of another writer: differences of order 1, and & where there is nothing.
 pub fn first_differences()
     ensures expansion { expansion_of plain_choices (first_two ++ header ++ full_line_at 0 1 (codes "G01") ∷ []
         ∷ codes "1&1000" ∷ (second_changed 1 ++ blanks 30 ++ codes "&&&") ∷ [] ∷ codes "500" ∷ second_changed

@@ -131,7 +131,7 @@ module _ (filter : Filter) (lawful : IsLawful filter) (input : Input) (given : L
       first-taken (with_next lines line) written t
       (begins-more _ (filter.so_far lines).output written (lawful.grows lines (line ∷ [])) begins)
 
-  -- the output after a turn is first, and so does that before it
+  -- the output after a turn is first, and so is that before it
   pub first-after-turn : (before after : Course) (last : ℕ) (written : List ℕ)
       → IsTurn filter input given before after last → Begins after.output written → IsFirst written
   first-after-turn before after last written (inl t) begins =

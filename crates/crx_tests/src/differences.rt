@@ -9,7 +9,7 @@ use std::process::Abort;
 /// The text before each of those in the tables.
 const OLD: &[u8] = b"> 21 01 01  0 30";
 
-/// New texts, whether each may be, and the marks after it.
+/// New texts, whether each is allowed, and the marks after it.
 const MARKS: &[(&[u8], bool, &[u8])] = &[
     (b"> 21 01 01  1  0  2", true, b"            1 &   2"),
     (b"> 21 01 01  0 30 ", true, b""),
@@ -35,7 +35,7 @@ fn marks_of_texts(rt: HostRuntime) {
     }
 }
 
-/// Marks, whether they may be, and the text after them.
+/// Marks, whether they are allowed, and the text after them.
 const PATCHES: &[(&[u8], bool, &[u8])] = &[
     (b"            1 &   2", true, b"> 21 01 01  1  0  2"),
     (b"             &&&&&&", true, b"> 21 01 01  0"),
@@ -95,7 +95,7 @@ fn is_marked(old: &Text, new: &[u8], place: usize, mark: u8) -> bool {
         && back.bytes() == trim_end(new)
 }
 
-/// Whether a new text may not be, and this is so of it as marks.
+/// Whether a new text isn't allowed, and this is so of it as marks.
 fn is_refused(old: &Text, new: &[u8], may_be_marks: bool) -> bool {
     let mut out = Text::new();
     new.len() <= LINE_LIMIT
@@ -103,7 +103,7 @@ fn is_refused(old: &Text, new: &[u8], may_be_marks: bool) -> bool {
         && patch_text(old, new, &mut out).is_ok() == may_be_marks
 }
 
-/// Characters in place of another one: the mark of each, and those that may not be, with whether they may be marks.
+/// Characters in place of another one: the mark of each, and those that aren't allowed, with whether they may be marks.
 const MARKED: &[(u8, u8)] = &[(b'#', b'#'), (b' ', b'&')];
 
 const REFUSED: &[(u8, bool)] = &[(b'&', true), (127, false), (31, false)];

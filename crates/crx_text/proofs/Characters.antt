@@ -40,7 +40,7 @@ at-append_past (x ∷ xs) ys n p e =
     let next : n + p ≡ suc (length xs + p) = omega (arith, e) in
     ap (at (x ∷ (xs ++ ys))) next ∙ at-append_past xs ys (length xs) p refl
 
--- a text that blanks are after, cut at a width
+-- a text that blanks follow, cut at a width
 take-padded : (n k : ℕ) (text want : List ℕ)
     → n ≤ k → length want ≡ n → ((p : ℕ) → p < n → at text p ≡ at want p) → take n (text ++ replicate k 32) ≡ want
 take-padded zero k text [] le e h = refl

@@ -1,4 +1,4 @@
-//! Columns of a line: they count from 1, and blanks are without end after a line's end.
+//! Columns of a line: they count from 1, and blanks without end follow a line's end.
 //! RINEX 3.05, appendix A (its tables A1 to A3 count columns so).
 ghost use Rattle.std.specs.Prelude.{◌≡◌, ◌≤◌, ◌-◌, take, drop, length};
 ghost use Rattle.std.specs.List.{list_all};

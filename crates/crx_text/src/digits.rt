@@ -39,7 +39,7 @@ pub(crate) fn split_minus(text: &[u8]) -> (bool, &[u8])
     }
 }
 
-// A number of this size, below zero where its minus is.
+// A number of this size, below zero where it has a minus.
 #[inline(always)]
 pub(crate) fn signed(is_below: bool, size: u64) -> i64
     requires { size < 2 ^ 63 }

@@ -64,7 +64,7 @@ line-weaker filter limit P Q input result reader outcome past weaker ran = recor
   within = ran.within;
 }
 
--- what is fed or ended is
+-- a reader that was fed or ended has a state by its past
 fed-stands : (before : List ℕ) (task : Task) (reader : Reader) (past : HandlePast) (outcome : Option Outcome)
     → HasFedBy before task reader past outcome → StandsBy task reader past outcome
 fed-stands before task reader past None fed = fed

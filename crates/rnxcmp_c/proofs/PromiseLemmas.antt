@@ -106,7 +106,7 @@ module _ (task : Task) (input : List ℕ) (lines others : List InputLine) (first
       (subst (λ ls. Begins (notices_text ((filter_for task).whole ls).warnings)
       (notices_text ((filter_for task).so_far lines).warnings)) (sym first) (warned-first task lines others))
 
--- so do the warnings of the next one, or of the end
+-- so are the warnings of the next one, or of the end
 module _ (task : Task) (input : List ℕ) (lines : List InputLine) where
   messages-next : (others : List InputLine) → lines_of input ≡ lines ++ others
       → Begins (result_for task input).messages

@@ -1,4 +1,4 @@
--- What was taken from a handle was kept before, and how its run is doesn't change by that.
+-- What was taken from a handle was kept before, and its run's state doesn't change by that.
 use Rattle.std.proofs.Common.{◌≡◌, ⊎_elim, inl, inr, ℕ, List, ◌++◌, Option, Some, None, sym, ap, ◌∙◌}
 use Rattle.std.proofs.Common.{subst, append_assoc}
 use Rattle.crx_base.specs.meaning.Seen.{ended_lines_of}

@@ -12,7 +12,7 @@ use Rattle.rnxcmp_c.specs.Waiting.{waiting}
 abbrev pub Holds : Handle → Reader → Type 0
 Holds handle reader = handle.place.held ≡ reader ∷ []
 
--- it is open, and its run is so
+-- it is open, and holds a reader that is as this past says
 pub record HandleStands (task : Task) (handle : Handle) (past : HandlePast) : Type 0 where
   pub reader : Reader
   pub is_open : handle.is_open ≡ true

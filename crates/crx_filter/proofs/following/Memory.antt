@@ -63,7 +63,7 @@ record-takes {E = E} takes items line h =
     (one_line (unless_wrong (EventRecord line) o))) (ap (λ b. cond b (types_fault line) None) each.0 ∙ well.1)
     ∙ ap (λ b. b && is_types_line line) each.0 ∙ well.0
 
--- ---- a direction that takes memory as its lines are
+-- ---- a direction that takes memory by what is at its lines
 
 -- where a line may take memory by what is kept, it does by what is at the lines: where an epoch or an event may begin, and in
 -- an epoch

@@ -1,4 +1,4 @@
--- The memory that an expansion takes, as its lines are.
+-- The memory that an expansion takes, by what is at its lines.
 use Rattle.crx_filter.proofs.Words.{ℕ, ◌≡◌, Bool, true, false, List, [], ◌∷◌, ◌++◌, length, Option, Some}
 use Rattle.crx_filter.proofs.Words.{None, Result, Ok, Err, refl, ap, sym, ◌∙◌, none-some, ReadLine, Content}
 use Rattle.crx_filter.proofs.Words.{Overlong, Fault, Count, ReadEpoch, satellites_of_line, Satellite}

@@ -1,4 +1,4 @@
--- The memory that a compaction and a check take, as their lines are.
+-- The memory that a compaction and a check take, by what is at their lines.
 use Rattle.crx_filter.proofs.Words.{ℕ, zero, suc, ◌≡◌, Bool, true, false, List, [], ◌∷◌, ◌++◌, length, Some}
 use Rattle.crx_filter.proofs.Words.{Result, Ok, Err, refl, ap, ◌∙◌, ◌+◌, arith, At, none-some, ReadLine}
 use Rattle.crx_filter.proofs.Words.{Content, Fault, OpenEpoch, next_row, rows_wanted, with_next_row, Epoch}

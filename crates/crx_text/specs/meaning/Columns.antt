@@ -1,4 +1,4 @@
--- The columns of lines: they count from 1, and blanks are without end after a line.
+-- The columns of lines: they count from 1, and blanks without end follow a line.
 -- RINEX 3.05, appendix A (its tables of line formats count columns so).
 use Rattle.std.specs.Prelude.{ℕ, Bool, List, [], ◌∷◌, ◌++◌, ◌-◌, ◌==◌, if◌then◌else◌, take, drop, replicate}
 use Rattle.std.specs.Prelude.{slice_index_or}

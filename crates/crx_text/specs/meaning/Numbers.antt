@@ -18,7 +18,7 @@ abbrev pub without_minus : List ℕ → List ℕ
 without_minus [] = []
 without_minus (c ∷ cs) = if c == 45 then cs else c ∷ cs
 
--- a number of this size, below zero where its minus is; so -0 is 0
+-- a number of this size, below zero where it has a minus; so -0 is 0
 abbrev pub signed_number : Bool → ℕ → ℤ
 signed_number is_below size = if is_below then neg_ℤ (pos size) else pos size
 

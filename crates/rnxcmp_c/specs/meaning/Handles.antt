@@ -226,8 +226,8 @@ RunHasEnded is_line task past kept answer = RunHasResult (result_for task past.f
 
 -- A call promises that its answer is how the run is, and how many bytes are kept of both texts. While the run
 -- goes on, all three numbers are 0, and what was made is all that the lines make whose line end was fed. Once
--- it has ended, it has so, where memory ran out at one of the lines; or its input was too long. The output is
--- never longer than it may be.
+-- it has ended, it has ended with its result, at the limit of the output, or where memory ran out at one of the
+-- lines; or its input was too long. The output is never longer than it may be.
 pub record HandlePromise (state : RunState) (task : Task) (past : HandlePast) (kept : BothTexts)
     (answer : Answer)
     : Type 0 where
