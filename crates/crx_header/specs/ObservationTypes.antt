@@ -35,5 +35,5 @@ abbrev pub AreByLetter : List ℕ → List Count → Type 0
 AreByLetter table counts = (letter : ℕ) → letter < LETTERS → get_or table letter 0 ≡ unwrap_or (count_of counts letter) 0
 
 -- so many counts more can be put after these with no memory asked for: once a system has types, those of all systems
-abbrev pub HasRoom : List Count → ℕ → Type 0
-HasRoom counts spare = (counts ≡ []) ⊎ (SYSTEMS ≤ length counts + spare)
+abbrev pub HasSystemRoom : List Count → ℕ → Type 0
+HasSystemRoom counts spare = (counts ≡ []) ⊎ (SYSTEMS ≤ length counts + spare)

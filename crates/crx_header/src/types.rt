@@ -2,7 +2,7 @@
 
 ghost use Rattle.std.specs.Prelude.{◌≡◌, ◌≤◌, ◌<◌, ◌+◌, ◌⊎◌, ℕ, List, [], ◌∷◌, ◌++◌, Some, true, false, is_some, OnOk, OnErr, IfOk, IfErr, IfSome, OnSome, slice_get, length};
 ghost use Rattle.crx_header.specs.meaning.ObservationTypes.{count_of, count_in, count_of_types_line, is_bad_types_line, is_system, is_types_line, types_of, IsAllowedCount};
-ghost use Rattle.crx_header.specs.ObservationTypes.{with_count, with_line, AreCounts, HasRoom, IsCount};
+ghost use Rattle.crx_header.specs.ObservationTypes.{with_count, with_line, AreCounts, HasSystemRoom, IsCount};
 ghost use Rattle.indexmap.specs.IndexMap.{spare};
 
 use crate::columns::{is_labelled, number};
@@ -32,7 +32,7 @@ pub struct Types {
 
 impl Model for Types {
     ghost use Rattle.crx_header.specs.meaning.ObservationTypes.{Count};
-    ghost use Rattle.crx_header.specs.ObservationTypes.{AreCounts, AreByLetter, HasRoom};
+    ghost use Rattle.crx_header.specs.ObservationTypes.{AreCounts, AreByLetter, HasSystemRoom};
     ghost use Rattle.indexmap.specs.IndexMap.{spare};
     ghost use Rattle.std.specs.Prelude.{List};
 
@@ -41,7 +41,7 @@ impl Model for Types {
     ghost view = { λ types. types.counts.entries };
 
     ghost invariant = { λ types. AreCounts types.counts.entries × AreByLetter types.by_letter types.counts.entries
-        × HasRoom types.counts.entries (spare types.counts) };
+        × HasSystemRoom types.counts.entries (spare types.counts) };
 }
 
 impl Types {
@@ -122,9 +122,9 @@ impl Types {
 
 /// Asks for room for all systems where none has types yet. Later no more is needed.
 fn make_room(counts: &mut IndexMap<u8, usize>) -> Result<(), AllocError>
-    requires room { HasRoom counts.old.entries (spare counts.old) }
+    requires room { HasSystemRoom counts.old.entries (spare counts.old) }
     ensures entries { counts.new.entries ≡ counts.old.entries }
-    ensures kept { HasRoom counts.new.entries (spare counts.new) }
+    ensures kept { HasSystemRoom counts.new.entries (spare counts.new) }
     ensures room { OnOk result (SYSTEMS ≤ length counts.new.entries + spare counts.new) }
     ensures asked { OnErr result (counts.old.entries ≡ []) }
 {
