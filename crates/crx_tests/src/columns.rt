@@ -17,7 +17,7 @@ mod writing;
 
 /// Columns that keep nothing.
 fn no_columns(alloc: Global) -> Owned<Columns>
-    ensures { result.value ≡ Idle None }
+    ensures { result.value.state ≡ Idle None }
 {
     Owned::of(Columns::new(alloc))
 }
