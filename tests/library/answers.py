@@ -85,7 +85,7 @@ def call_of(words, data):
 
 def answers_of(case):
     """The calls of a case with their answers; none where the program refuses its arguments, shows help or finds no file."""
-    if case.messages.startswith(b"ERROR: "):
+    if case.messages.startswith((b"ERROR: ", b"error: ")):
         return
     for line in case.arguments:
         words = shlex.split(line)
