@@ -1,6 +1,7 @@
 #!/usr/bin/env python3
-"""Puts the numbers of the sources into the texts that state them: the limits, how many faults there are, the list of the manual page, how many
-definitions one has to believe. Who changes a limit or adds a fault runs `make numbers`; no text needs a hand for it.
+"""Puts the numbers of the sources into the texts that state them: the limits, how many faults there are, how many definitions one has to
+believe; and what is listed: the faults in the manual page, the options in the completions, the cases in the page of the tests. Who changes a
+limit, or adds a fault, an option or a case, runs `make numbers`; none of these texts needs a hand for it.
 
     docs/stated.py           writes them
     docs/stated.py --check   says which text has another number, and ends with status 1 then
@@ -9,6 +10,7 @@ definitions one has to believe. Who changes a limit or adds a fault runs `make n
 import re
 import sys
 import textwrap
+from dataclasses import dataclass
 from functools import cache
 from pathlib import Path
 
@@ -16,6 +18,8 @@ from chapters import Book, is_definition, lines_of
 
 TOP = Path(__file__).resolve().parents[1]
 SOURCES = TOP / "crates/crx_base/src"
+CASES = TOP / "tests/cases"
+HELP = {"rnx2crx": "help_of_a_compaction", "crx2rnx": "help_of_an_expansion", "check": "help_of_a_check"}  # the cases that have it
 
 # Texts that have one of these numbers: the file, and phrases with the name in place of the number.
 STATED = {
@@ -119,32 +123,124 @@ def found_in(phrase, text):
     return re.subn(pattern, lambda m: "".join(group + str(numbers().get(name, "")) for group, name in zip(m.groups(), [*names, ""])), text)
 
 
-def listed(text):
+def with_codes(text):
     """The manual page with its list of codes as the table of faults has it."""
     codes = "Codes: " + ", ".join(f"{number} {words}" for number, words in faults().items()) + "."
     return re.sub(r"^Codes: .*?\.$", textwrap.fill(codes, 130, break_on_hyphens=False), text, flags=re.M | re.S)
 
 
+def with_cases(text):
+    """The page of the tests with each case below its subject: new ones come last."""
+    made = (CASES / "checks.py").read_text(encoding="utf-8")  # which names those that have no file
+
+    def subject(match):
+        there = {path.stem for path in (CASES / match[2]).glob("*.case")}
+        named = [name for name in re.findall(r"`(\w+)`", match[3]) if name in there or re.search(rf"\b{name}\b", made)]
+        names = ", ".join(f"`{name}`" for name in [*named, *sorted(there - {*named})])
+        return textwrap.fill(f"{match[1]} {names}.", 140, subsequent_indent="  ", break_on_hyphens=False)
+
+    return re.sub(r"^(- [^`]*\(`(\w+)`\):)\s+((?:`\w+`(?:,\s+)?)+)\.$", subject, text, flags=re.M)
+
+
+@dataclass
+class Option:
+    """An option of the command line: its names, each or an empty one, the name of its value where it has one, and what help says of it."""
+
+    short: str
+    long: str
+    value: str
+    help: str
+
+    def names(self):
+        return [name for name in (self.short, self.long) if name]
+
+    def about(self):
+        return re.split(r", | \[", self.help)[0]
+
+    def hint(self):
+        """What help says of the value."""
+        return ", ".join([self.value, *re.split(r" \[", self.help)[0].split(", ")[1:]])
+
+
+@cache
+def options(tool):
+    """The options of a subcommand, as its help lists them."""
+    text = (CASES / f"help/{HELP[tool]}.case").read_text(encoding="utf-8").partition("\nOptions:\n")[2].partition("\n\n")[0]
+    found = re.findall(r"^ +(-\w)?(?:, )?(--[\w-]+)?(?: <(\w+)>)? {2,}(\S.*)$", text, re.M)
+    return [Option(*names) for names in found]
+
+
+def for_bash(text):
+    """The completions of bash with the options of each subcommand, and with those after which comes a value."""
+    for tool in HELP:
+        words = " ".join(name for option in options(tool) for name in option.names())
+        text = re.sub(rf"(^ +{tool}\)\n.*?-W ')[^']*", lambda m, words=words: f"{m[1]}{words} -", text, count=1, flags=re.M)
+    valued = dict.fromkeys(name for tool in HELP for option in options(tool) if option.value for name in option.names())
+    return re.sub(r"-[-\w| ]+\) return ;;", f"{' | '.join(valued)}) return ;;", text)
+
+
+def for_zsh(text):
+    """The completions of zsh with the options of each subcommand."""
+    for tool in HELP:
+        lines = []
+        for option in options(tool):
+            about = f"[{option.about()[0].lower()}{option.about()[1:]}]" + (f":{option.hint()}:" if option.value else "")
+            names = option.names()
+            lines.append(f"'{names[0]}{about}'" if len(names) == 1 else f"'(- *)'{{{','.join(names)}}}'{about}'")
+        body = "".join(f"        {line} \\\n" for line in lines)
+        text = re.sub(rf"(_rnxcmp_{tool}\(\) {{\n    _arguments -s \\\n).*?(?= +'\*:)", lambda m, body=body: m[1] + body, text, flags=re.S)
+    return text
+
+
+def for_fish(text):
+    """The completions of fish with the options of each subcommand, below the line that says so."""
+    lines = []
+    for tool in HELP:
+        given = [
+            " ".join(f"-{'l' if name.startswith('--') else 's'} {name.lstrip('-')}" for name in option.names())
+            + (" -x" if option.value else "") + f" -d '{option.about()}'"
+            for option in options(tool) if option.long != "--help"
+        ]
+        lines += [f"complete -c rnxcmp -n '__fish_seen_subcommand_from {tool}' {words}" for words in given]
+        if given and tool != "check":
+            lines += [f"for name in {tool.upper()} {tool}", *(f"    complete -c $name {words}" for words in given), "end"]
+    body = "\n".join(lines) + "\n\n"
+    return re.sub(r"(?<=`make numbers` writes\.\n).*?(?=complete -c rnxcmp-file)", lambda m: body, text, flags=re.S)
+
+
+# What else a script writes into a text.
+LISTED = {
+    "packaging/man/rnxcmp.1": with_codes,
+    "packaging/completions/rnxcmp.bash": for_bash,
+    "packaging/completions/_rnxcmp": for_zsh,
+    "packaging/completions/rnxcmp.fish": for_fish,
+    "tests/README.md": with_cases,
+}
+
+# All texts into which a script writes.
+WRITTEN = tuple(dict.fromkeys([*STATED, *LISTED]))
+
+
 def written(file):
-    """A text with its numbers as they are now, and the phrases that it doesn't have."""
+    """A text with its numbers and lists as they are now, and the phrases that it doesn't have."""
     text, missing = (TOP / file).read_text(encoding="utf-8"), []
-    for phrase in STATED[file]:
+    for phrase in STATED.get(file, ()):
         text, count = found_in(phrase, text)
         if not count:
             missing.append(f"{file} doesn't say: {with_numbers(phrase)}")
-    return (listed(text) if file == "packaging/man/rnxcmp.1" else text), missing
+    return LISTED.get(file, str)(text), missing
 
 
 def wrong_in(file):
-    """What is wrong with the numbers of a text."""
+    """What is wrong with the numbers and lists of a text."""
     text, missing = written(file)
     same = text == (TOP / file).read_text(encoding="utf-8")
-    return missing + ([] if same else [f"{file} has other numbers: make numbers"])
+    return missing + ([] if same else [f"{file} has other numbers, or another list: make numbers"])
 
 
 def main():
     wrong = []
-    for file in STATED:
+    for file in WRITTEN:
         if "--check" in sys.argv:
             wrong += wrong_in(file)
             continue

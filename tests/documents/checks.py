@@ -14,7 +14,7 @@ TOP = Path(__file__).resolve().parents[2]
 sys.path.insert(0, str(TOP / "docs"))
 from chapters import CHAPTERS, Book, is_definition  # noqa: E402
 from sources import crates, functions_in, public_functions  # noqa: E402
-from stated import STATED, faults, wrong_in  # noqa: E402
+from stated import WRITTEN, faults, wrong_in  # noqa: E402
 
 CRATE_PAGES = tuple(f"crates/{crate}/README.md" for crate in crates())
 PAGES = ("README.md", "CONTRIBUTING.md", "tests/README.md", "bench/README.md", "samples/README.md") + CRATE_PAGES + tuple(
@@ -215,7 +215,7 @@ def checks(program):
     yield "docs/pictures/speed.txt", figures
     yield "faults", faults_listed
     yield "options", lambda: options(program)
-    for file in STATED:
+    for file in WRITTEN:
         yield f"{file}: numbers", lambda file=file: wrong_in(file)
     known = contracts()
     for page in PAGES:
