@@ -1,5 +1,5 @@
-"""Memory that runs out at each growth of the shortest run, a file that is a header alone, and of runs over random files; and memory that
-doesn't grow with the input (see tests/run.py). tests/memory/run.py refuses the growths of longer runs, in some minutes."""
+"""Memory that runs out at each growth of runs over short files, of those that refuse their words or show help, and of runs over random files; and
+memory that doesn't grow with the input (see tests/run.py). tests/memory/run.py refuses the growths of longer runs, in some minutes."""
 
 import os
 import shutil
@@ -12,7 +12,7 @@ sys.path.insert(0, str(Path(__file__).parent))
 sys.path.insert(0, str(Path(__file__).parents[1] / "process"))
 from cases import DATED, H, K, text  # noqa: E402
 from at_random import over_files  # noqa: E402
-from run import OVER, STEADY, Program, Run, steady, without_date  # noqa: E402
+from run import OVER, SHORT, STEADY, Program, Run, runs, steady, tried, without_date  # noqa: E402
 
 HEADER = Run("a header alone", DATED, text(*H))
 # What is written where memory runs out at a line of the header: at line 0, before the first one was read, nothing. (The dates of outputs
@@ -63,6 +63,12 @@ def each_refused(program):
     return [*wrong[:10], f"more than {MOST} growths"]
 
 
+def short_runs(program):
+    """What is wrong with runs over short files, and with those that refuse their words or show help, of which one growth is refused, as lines."""
+    wrong = [f"{run.name}: {line}" for run in runs(program, SHORT) for line in tried(program, run)[1]]
+    return wrong[:10]
+
+
 def at_random(program):
     """What is wrong with runs over random files of which one growth is refused, as lines."""
     if not (os.environ.get("CC") or shutil.which("rt")):
@@ -74,6 +80,7 @@ def at_random(program):
 def checks(program):
     yield "a header alone, the first growth refused", lambda: with_program(program, first_refused)
     yield "a header alone, each growth refused in turn", lambda: with_program(program, each_refused)
+    yield "short files, words and help, each growth refused in turn", lambda: with_program(program, short_runs)
     yield f"{FILES} random files, each growth refused in turn", lambda: at_random(program)
     for name in STEADY:
         for over in OVER:

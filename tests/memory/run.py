@@ -92,6 +92,7 @@ INPUTS = {
     "satellites that move": file_of(NAMES, 2, 5, turned=True),
     "100 satellites": file_of([f"G{number:02}" for number in range(1, 100)] + ["E01"], 100, 1),
 }
+SHORT = ("a header", "five epochs", "types that change", "a bad indicator")  # those over which runs take a moment
 
 
 # what is made of the lines of an epoch in full of compact text: a fault in the epoch's line, or in the first satellite's line
@@ -277,25 +278,30 @@ def steady(program, name, over):
     return wrong, f"{many.growths} growths, {late.most} bytes at most, {late.at_end} at the end"
 
 
-def runs(program):
-    """All runs: both filters, the check, help, words that are refused, files."""
-    for name, content in INPUTS.items():
+def runs(program, inputs=tuple(INPUTS)):
+    """The runs over these inputs: both filters, the check, help, words that are refused, files."""
+    for name in inputs:
+        content = INPUTS[name]
         yield Run(f"compaction, {name}", DATED, content)
         yield Run(f"compaction with -s, {name}", [*DATED, "-s"], content)
         yield Run(f"check, {name}", ["check"], content)
         made = subprocess.run([program.path, *DATED, "-s"], input=content, capture_output=True).stdout
         yield Run(f"expansion, {name}", ["crx2rnx"], made)
         yield Run(f"expansion with -s, {name}", ["crx2rnx", "-s"], made)
-    # no growth is asked for at a line with a fault: each that is refused ends the run, though faults are skipped
-    full = subprocess.run([program.path, *DATED, "-e", "1"], input=INPUTS["seven systems"], capture_output=True, check=True).stdout
-    for name, fault in FAULTS.items():
-        yield Run(f"expansion, a fault: {name}", ["crx2rnx"], with_fault(full, fault))
-        yield Run(f"expansion with -s, a fault: {name}", ["crx2rnx", "-s"], with_fault(full, fault))
+    yield from faults(program) if "seven systems" in inputs else ()
     yield Run("the date of the moment", ["rnx2crx"], INPUTS["a header"])
     yield Run("a file to a file", [*DATED, "a.rnx"], FIVE, {"a.rnx": FIVE}, "a.crx")
     for words in (["--help"], ["rnx2crx", "-h"], ["crx2rnx", "-h"], ["check", "--help"], [], ["rnx2crx", "-e", "0"], ["check", "-", "-"],
                   ["check", "a", "b"], ["rnx2crx", "a.txt"], ["rnx2crx", "--date", "\t"], ["check", "a.rnx"]):
         yield Run("words: " + " ".join(words).replace("\t", "TAB"), words, filters=False)
+
+
+def faults(program):
+    """Expansions of a file with a fault. No growth is asked for at a line with one: each that is refused ends the run, though faults are skipped."""
+    full = subprocess.run([program.path, *DATED, "-e", "1"], input=INPUTS["seven systems"], capture_output=True, check=True).stdout
+    for name, fault in FAULTS.items():
+        yield Run(f"expansion, a fault: {name}", ["crx2rnx"], with_fault(full, fault))
+        yield Run(f"expansion with -s, a fault: {name}", ["crx2rnx", "-s"], with_fault(full, fault))
 
 
 def main():
