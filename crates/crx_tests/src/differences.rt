@@ -137,6 +137,14 @@ fn expect_others(rt: &impl Abort, old: &Text, new: &mut [u8], place: usize) {
 }
 
 #[test]
+fn empty_texts(rt: HostRuntime) {
+    let old = Text::new();
+    let mut text = Text::new();
+    expect(&rt, has_marks(&old, &mut text, &(b"", true, b"")), "marks");
+    expect(&rt, gives(&old, &mut text, &(b"", true, b"")), "a text");
+}
+
+#[test]
 fn one_other_character_at_each_length(rt: HostRuntime) {
     let mut old = Text::new();
     let mut new = letters();

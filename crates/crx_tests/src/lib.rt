@@ -6,6 +6,8 @@
 #[cfg(test)]
 mod codes;
 #[cfg(test)]
+mod commands;
+#[cfg(test)]
 mod columns;
 #[cfg(test)]
 mod devices;
