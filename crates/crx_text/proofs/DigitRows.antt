@@ -28,9 +28,11 @@ use Rattle.crx_text.proofs.PlainLanes.{lane_fits}
 -- ---- the lanes of a row
 
 -- a row's characters less 48, and as many zeros after them, as the code makes them
-pub lanes_are : (text : List ℕ) → 8 ≤ length text → zip2 (λ a b. (a + (256 - b)) % 256)
+abbrev pub row_lanes : List ℕ → List ℕ
+row_lanes text = zip2 (λ a b. (a + (256 - b)) % 256)
     (pick_l 0 (take 8 text ++ replicate 8 0) (range_with_len 0 16)) (replicate 16 48)
-    ≡ map above_zero (take 8 text ++ replicate 8 0)
+
+lanes_are : (text : List ℕ) → 8 ≤ length text → row_lanes text ≡ map above_zero (take 8 text ++ replicate 8 0)
 lanes_are text long =
     let row : List ℕ = take 8 text ++ replicate 8 0 in
     let sixteen : length row ≡ 16 =
@@ -48,13 +50,6 @@ front_bytes zero text small i = omega arith
 front_bytes (suc n) [] small i = omega arith
 front_bytes (suc n) (c ∷ cs) small zero = small 0
 front_bytes (suc n) (c ∷ cs) small (suc i) = front_bytes n cs (λ (j : ℕ). small (suc j)) i
-
-pub padded_bytes : (text : List ℕ) (more : ℕ) → AreBytes text → AreBytes (text ++ replicate more 0)
-padded_bytes [] zero small i = omega arith
-padded_bytes [] (suc more) small zero = omega arith
-padded_bytes [] (suc more) small (suc i) = padded_bytes [] more small i
-padded_bytes (c ∷ cs) more small zero = small 0
-padded_bytes (c ∷ cs) more small (suc i) = padded_bytes cs more (λ (j : ℕ). small (suc j)) i
 
 -- ---- how many digits a row begins with
 
@@ -108,7 +103,7 @@ end_explicit c =
     ∙ (ap (count_trailing_zeros 64) (mask_l-mod bits 64 (omega arith)) ∙ found)
     ∙ ends (map c (range_with_len 0 7)) (replicate 8 true)
 
-pub end_is : (v : List ℕ) → length v ≡ 16
+end_is : (v : List ℕ) → length v ≡ 16
     → count_trailing_zeros 64 (mask_l (end_lanes v) % 2 ^ 64) ≡ prefix_len is_below_ten (take 7 v)
 end_is v long =
     subst (λ (w : List ℕ). count_trailing_zeros 64 (mask_l (end_lanes w) % 2 ^ 64)
@@ -240,18 +235,19 @@ prefix_digits (c ∷ cs) = go (is_ascii_digit c) refl (prefix_digits cs)
     go false e rest = refl
 
 -- what the lanes of a row say of its characters
-pub read_row : (row digits : List ℕ) (size count : ℕ) → length row ≡ 8 → AreBytes row
-    → digits ≡ map above_zero (row ++ replicate 8 0) → count ≡ prefix_len is_below_ten (take 7 digits)
-    → count ≤ 6
-    → size ≡ written 0 (take count digits)
-    → (count ≡ prefix_len is_ascii_digit row) × (size ≡ digits_value 10 (take count row))
-read_row row digits size count long small are counted few sized =
-    let front : (n : ℕ) → n ≤ 8 → take n digits ≡ take n (map above_zero row) = λ (n : ℕ) (within : n ≤ 8).
-    ap (take n) are ∙ take-map above_zero n (row ++ replicate 8 0)
-    ∙ ap (map above_zero) (take-append-le n row (replicate 8 0) (omega (arith, long, within)))
+pub read_row : (text : List ℕ) (size count : ℕ) → 8 ≤ length text → AreBytes (take 8 text)
+    → count ≡ count_trailing_zeros 64 (mask_l (end_lanes (row_lanes text)) % 2 ^ 64) → count ≤ 6
+    → size ≡ written 0 (take count (row_lanes text))
+    → (count ≡ prefix_len is_ascii_digit (take 8 text)) × (size ≡ digits_value 10 (take count (take 8 text)))
+read_row text size count some small counted few sized =
+    let row : List ℕ = take 8 text in
+    let front : (n : ℕ) → n ≤ 8 → take n (row_lanes text) ≡ take n (map above_zero row) =
+    λ (n : ℕ) (within : n ≤ 8). ap (take n) (lanes_are text some) ∙ take-map above_zero n (row ++ replicate 8 0)
+    ∙ ap (map above_zero)
+    (take-append-le n row (replicate 8 0) (omega (arith, length-take-le 8 text some, within)))
     ∙ sym (take-map above_zero n row) in
     let seven : count ≡ prefix_len is_below_ten (take 7 (map above_zero row)) =
-    counted ∙ ap (prefix_len is_below_ten) (front 7 (omega arith)) in
+    counted ∙ end_is (row_lanes text) refl ∙ ap (prefix_len is_below_ten) (front 7 (omega arith)) in
     let whole = prefix_in_front is_below_ten 7 (map above_zero row) (omega (arith, seven, few)) in
     let is : count ≡ prefix_len is_ascii_digit row = seven ∙ sym whole ∙ digits_agree row small in
     let are_digits : all_ascii_digits (take count row) ≡ true = rw is (prefix_digits row) in (

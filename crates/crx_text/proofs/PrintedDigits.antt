@@ -51,7 +51,7 @@ decimal_of_digits (suc d) (e ∷ ds) digits fits =
     let more = decimal_more (suc d) (e ∷ ds) (omega arith) parts.1 (rw same at fits) in
     rw (same, test) (more ∙ ap (λ (t : List ℕ). t ++ glyphs (e ∷ ds)) (decimal_digit (suc d) small))
 
-pub zeros_few : (ds : List ℕ) → leading_zeros ds ≤ length ds
+pub zeros_few : (ds : List ℕ) → leading_zeros ds ≤ length ds - 1
 zeros_few [] = omega arith
 zeros_few (d ∷ []) = omega arith
 zeros_few (zero ∷ e ∷ ds) = let few = zeros_few (e ∷ ds) in omega (arith, few)

@@ -10,5 +10,5 @@ pub fn append(text: &mut Text, bytes: &[u8])
     requires { length text.old + length bytes.now ≤ LINE_LIMIT }
     ensures appended { text.new ≡ text.old ++ bytes.now }
 {
-    let _ = text.extend(bytes);
+    text.extend(bytes).unwrap();
 }

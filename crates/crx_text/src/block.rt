@@ -1,11 +1,8 @@
 //! Bytes that texts are written into one after another, and that are kept for the texts after them.
 
-ghost use Rattle.std.specs.Prelude.{IsOk, drop, ℕ, ◌≡◌, ◌≤◌, ◌<◌, ◌+◌, ◌++◌, ◌∷◌, [], length, take, OnOk};
+ghost use Rattle.std.specs.Prelude.{IsOk, drop, ℕ, ◌≡◌, ◌≤◌, ◌<◌, ◌+◌, ◌++◌, ◌∷◌, [], length, take, OnOk, vec_capacity};
 
 use std::alloc::AllocError;
-
-/// What bytes grow by: they keep it for later texts.
-const GROWTH: [u8; 1024] = [b'\n'; 1024];
 
 /// Makes some bytes at least so many; those that are there stay.
 pub fn grow(bytes: &mut Vec<u8>, count: usize) -> Result<(), AllocError>
@@ -13,9 +10,11 @@ pub fn grow(bytes: &mut Vec<u8>, count: usize) -> Result<(), AllocError>
     ensures longer { length bytes.old.items ≤ length bytes.new.items }
     ensures same { (n : ℕ) → n ≤ length bytes.old.items → take n bytes.new.items ≡ take n bytes.old.items }
     ensures known { count ≤ length bytes.old.items → IsOk result }
+    ensures asked { count ≤ vec_capacity bytes.old → IsOk result }
+    ensures capacity { vec_capacity bytes.old ≤ vec_capacity bytes.new }
 {
-    while bytes.len() < count {
-        bytes.extend_from_slice(&GROWTH)?;
+    if bytes.len() < count {
+        bytes.resize(count, b'\n')?;
     }
     Ok(())
 }

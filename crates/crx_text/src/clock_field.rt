@@ -20,19 +20,12 @@ pub(crate) fn is_blank(field: &[u8]) -> bool
     requires { length field.now ≡ CLOCK_WIDTH }
     ensures { result ≡ list_all (λ c. c == 32) (field.now ++ slice_index field.now 14 ∷ []) }
 {
-    columns(field).simd_eq(u8x16::splat(b' ')).to_bitmask() == 0xffff
-}
-
-/// The columns of a field; the last one is in the last two lanes.
-#[inline(always)]
-fn columns(field: &[u8]) -> u8x16
-    requires { length field.now ≡ CLOCK_WIDTH }
-    ensures { result ≡ field.now ++ slice_index field.now 14 ∷ [] }
-{
-    u8x8::from_slice(field).shuffle(
+    // The last column is in the last two lanes.
+    let columns = u8x8::from_slice(field).shuffle(
         u8x8::from_slice(&field[7..]),
         [0, 1, 2, 3, 4, 5, 6, 7, 9, 10, 11, 12, 13, 14, 15, 15],
-    )
+    );
+    columns.simd_eq(u8x16::splat(b' ')).to_bitmask() == 0xffff
 }
 
 /// The number in the columns; None where they are not in the plain form.
@@ -46,7 +39,16 @@ pub(crate) fn value(field: &[u8]) -> Option<i64>
         return None;
     }
     let (is_below, digit) = whole(field[0], field[1])?;
-    let fraction = fraction(field)?;
+    // The twelve columns after the point, in groups of three.
+    let row = u8x8::from_slice(&field[3..]).shuffle(
+        u8x8::from_slice(&field[7..]),
+        [0, 1, 2, 0, 3, 4, 5, 0, 6, 7, 12, 0, 13, 14, 15, 0],
+    );
+    let digits = row - u8x16::splat(b'0');
+    if digits.simd_lt(u8x16::splat(10)).to_bitmask() != 0xffff {
+        return None;
+    }
+    let fraction = of_groups(digits.dot4(u8x16::from_array(WEIGHTS)));
     Some(signed(is_below, digit * 1_000_000_000_000 + fraction))
 }
 
@@ -70,22 +72,4 @@ fn whole(first: u8, second: u8) -> Option<(bool, u64)>
         (b' ', b'-') => Some((true, 0)),
         _ => None,
     }
-}
-
-/// The number that the twelve columns after the point write; None where one of them is no digit.
-#[inline(always)]
-fn fraction(field: &[u8]) -> Option<u64>
-    requires { length field.now ≡ CLOCK_WIDTH }
-    ensures digits { IfSome result (λ size. all_ascii_digits (drop 3 field.now) ≡ true) }
-    ensures value { IfSome result (λ size. size ≡ digits_value 10 (drop 3 field.now)) }
-{
-    let row = u8x8::from_slice(&field[3..]).shuffle(
-        u8x8::from_slice(&field[7..]),
-        [0, 1, 2, 0, 3, 4, 5, 0, 6, 7, 12, 0, 13, 14, 15, 0],
-    );
-    let digits = row - u8x16::splat(b'0');
-    if digits.simd_lt(u8x16::splat(10)).to_bitmask() != 0xffff {
-        return None;
-    }
-    Some(of_groups(digits.dot4(u8x16::from_array(WEIGHTS))))
 }

@@ -4,9 +4,7 @@ ghost use Rattle.std.specs.Prelude.{◌≡◌, ◌+◌, ◌<◌, ◌≤◌, [], 
 ghost use Rattle.std.specs.Option.{option_map};
 ghost use Rattle.std.specs.Result.{result_ok};
 
-use crate::code_digits::{
-    ROW, digits_before_blank, digits_in_front, few_digits_before_blank, write_signed,
-};
+use crate::code_digits::{digits_before_blank, few_digits_before_blank, write_signed};
 use crate::digits::{digits_read, signed, split_minus};
 use crate::number::BadField;
 use crate::text::{Text, TextFull};
@@ -49,25 +47,12 @@ pub fn code_print(code: Code, text: &mut Text) -> Result<(), TextFull>
     ensures err { OnErr result (text.new ≡ text.old) }
 {
     if LINE_LIMIT - text.len < CODE_WIDTH {
-        return code_print_at_end(code, text);
+        let mut printed = [b' '; CODE_WIDTH];
+        let end = write_code(&mut printed, 0, code);
+        return text.extend(&printed[..end]);
     }
     text.len = write_code(&mut text.bytes, text.len, code);
     Ok(())
-}
-
-// Does what `code_print` does, where there may be no room for every code.
-#[cold]
-#[inline(never)]
-#[tactic(auto, using(crate::proofs::CodeTexts::code_text_length))]
-fn code_print_at_end(code: Code, text: &mut Text) -> Result<(), TextFull>
-    requires { IsPrintable code }
-    ensures ok { OnOk result (text.new ≡ text.old ++ code_text code) }
-    ensures full { IsErr result ↔ (LINE_LIMIT < length text.old + length (code_text code)) }
-    ensures err { OnErr result (text.new ≡ text.old) }
-{
-    let mut printed = [b' '; CODE_WIDTH];
-    let end = write_code(&mut printed, 0, code);
-    text.extend(&printed[..end])
 }
 
 /// Writes a code's printed text and a blank from an index on, and answers the index after them. What is before them stays; up
@@ -173,10 +158,6 @@ pub fn step_before_blank(line: &[u8]) -> Option<(i64, usize)>
     ensures short { IfSome result (λ cell. IsShort cell.0) }
 {
     let (is_below, digits) = split_minus(line);
-    if line.len() > ROW {
-        let (size, next) = digits_in_front(digits)?;
-        return Some((signed(is_below, size), next + usize::from(is_below)));
-    }
     let (size, next) = few_digits_before_blank(digits)?;
     Some((signed(is_below, size), next + usize::from(is_below)))
 }

@@ -1,14 +1,17 @@
 //! The digits of codes: read up to a blank, and written one after another.
 
-ghost use Rattle.std.specs.Prelude.{◌≡◌, ◌+◌, ◌-◌, ◌*◌, ◌/◌, ◌%◌, ◌<◌, ◌≤◌, ◌^◌, Some, [], ◌∷◌, ◌++◌, length, take, drop, map, replicate, decimal, IfSome};
+ghost use Rattle.std.specs.Prelude.{◌≡◌, ◌+◌, ◌-◌, ◌*◌, ◌/◌, ◌%◌, ◌<◌, ◌≤◌, ◌^◌, Some, [], ◌∷◌, ◌++◌, length, take, drop, decimal, IfSome};
+ghost use Rattle.std.specs.Char.{is_ascii_digit};
 ghost use Rattle.std.specs.Fmt.{signed_decimal};
 ghost use Rattle.std.specs.Int.{to_le_bytes, w32};
 ghost use Rattle.std.specs.Option.{option_map};
 ghost use Rattle.std.specs.List.{prefix_len};
-ghost use Rattle.crx_text.specs.Digits.{above_zero, written};
+ghost use Rattle.std.specs.Str.Parse.{digits_value};
+ghost use Rattle.crx_text.specs.Digits.{written};
 ghost use Rattle.crx_text.specs.meaning.Codes.{after_cell, first_cell};
 ghost use Rattle.crx_text.specs.Codes.{counted_digits};
-ghost use Rattle.crx_text.specs.FirstDigits.{HasFirstDigits, is_below_ten};
+ghost use Rattle.crx_text.specs.FirstDigits.{HasFirstDigits};
+ghost use Rattle.crx_text.specs.declared.code_digits.TheConstants.{FEW, ROW};
 ghost use Rattle.crx_base.specs.declared.limits.TheConstants.{DIGITS_LIMIT};
 
 use crate::copies::copy_text;
@@ -48,16 +51,13 @@ pub(crate) fn few_digits_before_blank(text: &[u8]) -> Option<(u64, usize)>
     ensures within { IfSome result (λ cell. (cell.0 < 10 ^ DIGITS_LIMIT) × (cell.1 ≤ length text.now)) }
 {
     if text.len() >= ROW {
-        return digits_in_front(text);
+        let (size, count) = row_number(text)?;
+        return ended_digits(text, size, count);
     }
     let mut characters = [0; ROW];
     copy_text(&mut characters[..text.len()], text);
-    let digits = row_digits(&characters);
-    let count = digits_in_row(digits);
-    if count == 0 || count > FEW {
-        return None;
-    }
-    ended_digits(text, row_size(digits, count), count)
+    let (size, count) = row_number(&characters)?;
+    ended_digits(text, size, count)
 }
 
 // The number of so many first digits, and the index after its blank or of the text's end; None where something else is
@@ -74,20 +74,6 @@ fn ended_digits(text: &[u8], size: u64, count: usize) -> Option<(u64, usize)>
     if count == text.len() {
         return Some((size, count));
     }
-    before_blank(text, size, count)
-}
-
-// What `ended_digits` gives of a text that has a character after the digits.
-#[inline(always)]
-fn before_blank(text: &[u8], size: u64, count: usize) -> Option<(u64, usize)>
-    requires digits { HasFirstDigits text.now size count }
-    requires some { 0 < count }
-    requires few { count ≤ DIGITS_LIMIT }
-    requires more { count < length text.now }
-    ensures value { option_map (λ cell. cell.0) result ≡ counted_digits (first_cell text.now) }
-    ensures next { IfSome result (λ cell. drop cell.1 text.now ≡ after_cell text.now) }
-    ensures within { IfSome result (λ cell. (cell.0 < 10 ^ DIGITS_LIMIT) × (cell.1 ≤ length text.now)) }
-{
     if text[count] == b' ' {
         return Some((size, count + 1));
     }
@@ -115,54 +101,34 @@ fn first_digits(text: &[u8]) -> (u64, usize)
 }
 
 // How many characters are in a row of lanes.
-pub(crate) const ROW: usize = 8;
+const ROW: usize = 8;
 
 // How many digits of a row are read at once.
 const FEW: usize = 6;
 
-// What `few_digits_before_blank` gives of a text that has at least as many characters as a row.
-#[inline(always)]
-pub(crate) fn digits_in_front(text: &[u8]) -> Option<(u64, usize)>
-    requires { ROW ≤ length text.now }
-    ensures value { IfSome result (λ cell. counted_digits (first_cell text.now) ≡ Some cell.0) }
-    ensures next { IfSome result (λ cell. drop cell.1 text.now ≡ after_cell text.now) }
-    ensures within { IfSome result (λ cell. (cell.0 < 10 ^ DIGITS_LIMIT) × (cell.1 ≤ length text.now)) }
-{
-    let digits = row_digits(text);
-    let count = digits_in_row(digits);
-    if count == 0 || count > FEW {
-        return None;
-    }
-    before_blank(text, row_size(digits, count), count)
-}
+// The first number of a lane that ends the digits; the lane after the seventh digit ends them in any case.
+const ENDS: [u8; 16] = [10, 10, 10, 10, 10, 10, 10, 0, 0, 0, 0, 0, 0, 0, 0, 0];
 
-// How far the characters of a row are above `0`, and after them bytes 0, which are no digits.
+// The number that the digits at a row's beginning write, and how many they are; None where it begins with none, or with more than `FEW`.
+// What the lanes hold is how far a character is above `0`, and after the row bytes 0, which are no digits.
 #[inline(always)]
-#[tactic(auto, using(crate::proofs::DigitRows::lanes_are))]
-fn row_digits(text: &[u8]) -> u8x16
+fn row_number(text: &[u8]) -> Option<(u64, usize)>
     requires { ROW ≤ length text.now }
-    ensures { result ≡ map above_zero (take ROW text.now ++ replicate 8 0) }
+    ensures few { IfSome result (λ cell. (0 < cell.1) × (cell.1 ≤ FEW)) }
+    ensures count { IfSome result (λ cell. cell.1 ≡ prefix_len is_ascii_digit (take ROW text.now)) }
+    ensures size { IfSome result (λ cell. cell.0 ≡ digits_value 10 (take cell.1 (take ROW text.now))) }
 {
     let row = u8x8::from_slice(text).shuffle(
         u8x8::splat(0),
         [0, 1, 2, 3, 4, 5, 6, 7, 8, 9, 10, 11, 12, 13, 14, 15],
     );
-    row - u8x16::splat(b'0')
-}
-
-// The first number of a lane that ends the digits; the lane after the seventh digit ends them in any case.
-const ENDS: [u8; 16] = [10, 10, 10, 10, 10, 10, 10, 0, 0, 0, 0, 0, 0, 0, 0, 0];
-
-// How many of the first seven lanes come before one that is no digit.
-#[inline(always)]
-#[tactic(auto, using(crate::proofs::DigitRows::end_is))]
-fn digits_in_row(digits: u8x16) -> usize
-    ensures { result ≡ prefix_len is_below_ten (take 7 digits) }
-{
-    digits
-        .simd_ge(u8x16::from_array(ENDS))
-        .to_bitmask()
-        .trailing_zeros() as usize
+    let digits = row - u8x16::splat(b'0');
+    let ends = digits.simd_ge(u8x16::from_array(ENDS)).to_bitmask();
+    let count = ends.trailing_zeros() as usize;
+    if count == 0 || count > FEW {
+        return None;
+    }
+    Some((row_size(digits, count), count))
 }
 
 // What each digit of a row weighs in its group of three, for each count of digits.
@@ -237,22 +203,14 @@ fn write_decimal(buffer: &mut [u8], at: usize, size: u64) -> usize
         return write_short(buffer, at, size as u32);
     }
     let high = size / 10_000;
-    let middle = write_front(buffer, at, high);
+    // What is before the last four digits is written here where it is at most four, without a call.
+    let middle = if high < 10_000 {
+        write_short(buffer, at, high as u32)
+    } else {
+        write_long(buffer, at, high)
+    };
     write_word(buffer, middle, four_digits((size - high * 10_000) as u32));
     middle + 4
-}
-
-// Writes what is before a number's last four digits. Of up to eight digits it is written here, without a call.
-#[inline(always)]
-fn write_front(buffer: &mut [u8], at: usize, size: u64) -> usize
-    requires { at + length (decimal size) + 3 ≤ length buffer.old }
-    ensures written { take result buffer.new ≡ take at buffer.old ++ decimal size }
-    ensures within { result ≡ at + length (decimal size) }
-{
-    if size < 10_000 {
-        return write_short(buffer, at, size as u32);
-    }
-    write_long(buffer, at, size)
 }
 
 // Writes a number of any count of digits, four at a time, the first ones first: it calls itself for those before the last four.
@@ -282,25 +240,13 @@ fn write_short(buffer: &mut [u8], at: usize, size: u32) -> usize
     ensures written { take result buffer.new ≡ take at buffer.old ++ decimal size }
     ensures within { result ≡ at + length (decimal size) }
 {
-    let (columns, zeros) = columns_of(size);
+    let columns = four_digits(size);
+    // The lowest bit that is set among the digits says where the first one is that isn't 0; a bit above the last one ends the search, since
+    // 0 has a digit of its own.
+    let digits = columns - u32::from_le_bytes(*b"0000");
+    let zeros = ((digits | 1 << 28).trailing_zeros() / 8) as usize;
     write_word(buffer, at, columns >> (8 * zeros));
     at + 4 - zeros
-}
-
-// The four digits of a number, as `four_digits` gives them, and how many zeros are before the number; 0 has a digit of its own. The
-// lowest bit that is set among the digits says where the first one is that isn't 0; a bit above the last one ends the search.
-#[inline(always)]
-fn columns_of(size: u32) -> (u32, usize)
-    requires small { size < 10000 }
-    ensures columns { to_le_bytes w32 result.0 ≡ (48 + size / 100 / 10)
-        ∷ (48 + size / 100 % 10) ∷ (48 + size % 100 / 10) ∷ (48 + size % 100 % 10) ∷ [] }
-    ensures count { result.1 + length (decimal size) ≡ 4 }
-    ensures few { result.1 ≤ 3 }
-{
-    let columns = four_digits(size);
-    let digits = columns - u32::from_le_bytes(*b"0000");
-    let zeros = (digits | 1 << 28).trailing_zeros() / 8;
-    (columns, zeros as usize)
 }
 
 // The four digits of a number, zeros among them; the first one is the word's lowest byte.
@@ -310,7 +256,8 @@ fn four_digits(size: u32) -> u32
     ensures { to_le_bytes w32 result ≡ (48 + size / 100 / 10)
         ∷ (48 + size / 100 % 10) ∷ (48 + size % 100 / 10) ∷ (48 + size % 100 % 10) ∷ [] }
 {
-    let high = hundreds(size);
+    // By one product: the compiler's own division of a number that it knows less of takes three instructions more.
+    let high = (size * 5243) >> 19;
     let low = size - high * 100;
     let (high, low) = (high as usize, low as usize);
     u32::from_le_bytes([
@@ -319,15 +266,6 @@ fn four_digits(size: u32) -> u32
         PAIRS[low * 2],
         PAIRS[low * 2 + 1],
     ])
-}
-
-// A number's hundreds, by one product: the compiler's own division of a number that it knows less of takes three instructions more.
-#[inline(always)]
-fn hundreds(size: u32) -> u32
-    requires { size < 10000 }
-    ensures { result ≡ size / 100 }
-{
-    (size * 5243) >> 19
 }
 
 // Writes the four bytes of a word from an index on, the lowest one first.

@@ -29,17 +29,6 @@ pub fn copy_text(to: &mut [u8], from: &[u8])
         u8x4::from_slice(&from[count - 4..]).copy_to_slice(&mut to[count - 4..]);
         return;
     }
-    copy_three(to, from);
-}
-
-// Puts a text of at most three characters in place of another of the same length.
-#[inline(always)]
-fn copy_three(to: &mut [u8], from: &[u8])
-    requires same_length { length to.old ≡ length from.now }
-    requires few { length from.now < 4 }
-    ensures { to.new ≡ from.now }
-{
-    let count = from.len();
     if count == 0 {
         return;
     }

@@ -29,22 +29,10 @@ pub fn diff_text(old: &Text, new: &[u8], out: &mut Text) -> Result<(), BadCharac
     ensures ok { OnOk result (out.new ≡ text_difference old.now new.now) }
     ensures err { OnErr result (out.new ≡ out.old) }
 {
-    diff_bytes(old.bytes(), new, out)
-}
-
-/// Writes the marks that lead from an old text to a new one, as [`diff_text`] does, where the old one is a slice. It asks for at most
-/// [`LINE_LIMIT`](crx_base::limits::LINE_LIMIT) bytes in each.
-pub fn diff_bytes(old: &[u8], new: &[u8], out: &mut Text) -> Result<(), BadCharacter>
-    requires old_fits { length old.now ≤ LINE_LIMIT }
-    requires new_fits { length new.now ≤ LINE_LIMIT }
-    ensures plain { is_ok result ≡ list_all is_kept new.now }
-    ensures ok { OnOk result (out.new ≡ text_difference old.now new.now) }
-    ensures err { OnErr result (out.new ≡ out.old) }
-{
     if !all_kept(new) {
         return Err(BadCharacter);
     }
-    out.len = write_by_position::<Marks>(old, new, &mut out.bytes);
+    out.len = write_by_position::<Marks>(old.bytes(), new, &mut out.bytes);
     out.trim_end_blanks();
     Ok(())
 }
@@ -82,7 +70,7 @@ pub fn patch_bytes(old: &[u8], marks: &[u8], out: &mut Text) -> Result<(), BadCh
     ensures ok { OnOk result (out.new ≡ patched old.now marks.now) }
     ensures err { OnErr result (out.new ≡ out.old) }
 {
-    if !all_printable(marks) {
+    if !all_of::<Printable>(marks) {
         return Err(BadCharacter);
     }
     out.len = write_by_position::<Characters>(old, marks, &mut out.bytes);
@@ -95,13 +83,6 @@ pub fn all_kept(text: &[u8]) -> bool
     ensures value { result ≡ list_all is_kept text.now }
 {
     all_of::<Kept>(text)
-}
-
-/// Whether a text can be marks: all its bytes are 32 to 126.
-pub fn all_printable(text: &[u8]) -> bool
-    ensures value { result ≡ list_all is_printable text.now }
-{
-    all_of::<Printable>(text)
 }
 
 // The characters that may be in a text which marks are made of.

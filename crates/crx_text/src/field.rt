@@ -4,7 +4,7 @@
 ghost use Rattle.std.specs.Prelude.{take, ◌≡◌, ◌==◌, ◌++◌, ◌+◌, ◌*◌, ◌^◌, ◌<◌, ◌∷◌, [], length, slice_index, IsTrue};
 ghost use Rattle.std.specs.List.{list_all, list_any};
 ghost use Rattle.std.specs.Simd.Lanes.{Each1};
-ghost use Rattle.crx_base.specs.declared.limits.TheConstants.{CELL_WIDTH, OBSERVATION_WIDTH};
+ghost use Rattle.crx_base.specs.declared.limits.TheConstants.{OBSERVATION_WIDTH};
 ghost use Rattle.crx_text.specs.Fields.{IsPlain, weighed, plain_digits};
 ghost use Rattle.crx_text.specs.Numbers.{IsObservation};
 ghost use Rattle.crx_text.specs.meaning.Numbers.{signed_number};
@@ -26,15 +26,6 @@ pub(crate) fn columns(field: &[u8]) -> u8x16
     )
 }
 
-/// The columns of the field of a cell, and its two indicators in the last two lanes.
-#[inline(always)]
-pub(crate) fn columns_of_cell(cell: &[u8]) -> u8x16
-    requires { length cell.now ≡ CELL_WIDTH }
-    ensures { take OBSERVATION_WIDTH result ≡ take OBSERVATION_WIDTH cell.now }
-{
-    u8x16::from_slice(cell)
-}
-
 /// Whether every column is blank.
 #[inline(always)]
 #[tactic(auto, using(crate::proofs::LaneBits::each_of_field))]
@@ -42,15 +33,6 @@ pub(crate) fn is_blank(columns: u8x16) -> bool
     ensures { result ≡ list_all (λ c. c == 32) (take OBSERVATION_WIDTH columns) }
 {
     columns.simd_eq(u8x16::splat(b' ')).to_bitmask() & FIELD == FIELD
-}
-
-/// Whether a column has a minus.
-#[inline(always)]
-#[tactic(auto, using(crate::proofs::LaneBits::some_of_field))]
-fn has_minus(columns: u8x16) -> bool
-    ensures { result ≡ list_any (λ c. c == 45) (take OBSERVATION_WIDTH columns) }
-{
-    columns.simd_eq(u8x16::splat(b'-')).to_bitmask() & FIELD != 0
 }
 
 // The lanes of a field's columns among 16; what is in the others doesn't count.
@@ -81,17 +63,6 @@ pub(crate) fn is_plain(columns: u8x16) -> bool
 /// What three digits weigh.
 pub(crate) const WEIGHTS: [u8; 16] = [100, 10, 1, 0, 100, 10, 1, 0, 100, 10, 1, 0, 100, 10, 1, 0];
 
-/// What the digits write, without the point; a blank or a minus counts as 0.
-#[inline(always)]
-fn size(columns: u8x16) -> u64
-    ensures { result ≡ weighed 0 (plain_digits columns) }
-{
-    let digits = columns
-        .saturating_sub(u8x16::splat(b'0'))
-        .swizzle([1, 2, 3, 0, 4, 5, 6, 0, 7, 8, 9, 0, 11, 12, 13, 0]);
-    of_groups(digits.dot4(u8x16::from_array(WEIGHTS)))
-}
-
 /// The number whose digits are in four groups of three, the first ones first. The groups are joined two at a time, in lanes of 64 bits,
 /// whose products are the fastest ones.
 #[inline(always)]
@@ -109,12 +80,17 @@ pub(crate) fn of_groups(groups: u32x4) -> u64
 
 /// The number in plain columns.
 #[inline(always)]
-#[tactic(auto, using(crate::proofs::PlainSizes::plain_size_is_small))]
 pub(crate) fn value(columns: u8x16) -> i64
     requires { IsPlain columns }
     ensures value { result ≡ signed_number
         (list_any (λ c. c == 45) (take OBSERVATION_WIDTH columns)) (weighed 0 (plain_digits columns)) }
     ensures in_range { IsObservation result }
 {
-    signed(has_minus(columns), size(columns))
+    let has_minus = columns.simd_eq(u8x16::splat(b'-')).to_bitmask() & FIELD != 0;
+    // A blank or a minus counts as 0, and the point is left out.
+    let digits = columns
+        .saturating_sub(u8x16::splat(b'0'))
+        .swizzle([1, 2, 3, 0, 4, 5, 6, 0, 7, 8, 9, 0, 11, 12, 13, 0]);
+    let size = of_groups(digits.dot4(u8x16::from_array(WEIGHTS)));
+    signed(has_minus, size)
 }

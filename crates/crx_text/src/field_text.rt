@@ -17,28 +17,12 @@ pub(crate) fn groups(size: u64) -> u32x4
 {
     let high = (size / 1_000_000) as u32;
     let low = (size - u64::from(high) * 1_000_000) as u32;
-    u32x4::from_le_bytes(halves(beside(high, low)).to_le_bytes())
-}
-
-/// Two numbers beside each other. The zeros tell the compiler that each is small, so that their products are one instruction, and not
-/// four.
-#[inline(always)]
-#[tactic(auto, using(crate::proofs::GroupHalves::wide_are))]
-fn beside(first: u32, second: u32) -> u64x2
-    ensures { result ≡ first ∷ second ∷ [] }
-{
-    u64x2::from_le_bytes(u32x4::from_array([first, 0, second, 0]).to_le_bytes())
-}
-
-/// Each half's rest by 1000, and its thousands in the upper 32 bits.
-#[inline(always)]
-#[tactic(auto, using(crate::proofs::GroupHalves::halves_are))]
-fn halves(halves: u64x2) -> u64x2
-    requires { Each1 (λ half. half < 10 ^ 6) halves }
-    ensures { result ≡ map (λ half. half % 1000 + half / 1000 * 2 ^ 32) halves }
-{
+    // The zeros tell the compiler that each half is small, so that their products are one instruction, and not four.
+    let halves = u64x2::from_le_bytes(u32x4::from_array([high, 0, low, 0]).to_le_bytes());
+    // Each half's rest by 1000, and its thousands in the upper 32 bits.
     let thousands = (halves * u64x2::splat(274_877_907)) >> u64x2::splat(38);
-    halves + thousands * u64x2::splat((1 << 32) - 1000)
+    let parts = halves + thousands * u64x2::splat((1 << 32) - 1000);
+    u32x4::from_le_bytes(parts.to_le_bytes())
 }
 
 /// Each group's three digits, the last one first, and a 0: a group, its tenth and its hundredth, which one product turns into digits,
@@ -89,27 +73,6 @@ const BASES: [u8; 32] = [
     48, 48, 48, 48, 48, 48, 48, 48,
 ];
 
-/// The text of digits in their columns, blanks in those before the number begins.
-#[inline(always)]
-#[tactic(auto, using(crate::proofs::PrintedLanes::base_row))]
-fn glyphs(columns: u8x16, start: usize) -> u8x16
-    requires { start ≤ 9 }
-    ensures { result ≡ zip2 (λ digit base. (digit + base) % 256) columns
-        (replicate start 32 ++ replicate (16 - start) 48) }
-{
-    columns + u8x16::from_slice(&BASES[16 - start..])
-}
-
-/// Puts all lanes into a cell.
-#[inline(always)]
-#[tactic(auto, using(std::proofs::lemmas::Simd::put_chunk_whole))]
-fn store_cell(text: u8x16, cell: &mut [u8])
-    requires { length cell.old ≡ CELL_WIDTH }
-    ensures { cell.new ≡ text }
-{
-    text.copy_to_slice(cell);
-}
-
 /// Prints a size right justified into the first columns of a cell, with blanks before it, and answers the index where it begins. The two
 /// columns of the cell's indicators are overwritten.
 #[inline(always)]
@@ -123,6 +86,7 @@ pub(crate) fn size_print(size: u64, cell: &mut [u8]) -> usize
 {
     let columns = columns(digits(groups(size)));
     let start = first_digit(columns);
-    store_cell(glyphs(columns, start), cell);
+    let text = columns + u8x16::from_slice(&BASES[16 - start..]);
+    text.copy_to_slice(cell);
     start
 }

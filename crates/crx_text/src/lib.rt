@@ -25,8 +25,7 @@ pub use crx_lines::{
     Line, LineReader, ReadFailed, Sink, Source, Std, WriteFailed, write_all_counted,
 };
 pub use difference::{
-    BadCharacter, all_kept, all_printable, append_difference, diff_bytes, diff_text, patch_bytes,
-    patch_text,
+    BadCharacter, all_kept, append_difference, diff_text, patch_bytes, patch_text,
 };
 pub use number::{
     BadField, clock_print, clock_read, obs_print, obs_print_cell, obs_print_cell_into, obs_read,

@@ -19,6 +19,7 @@ use crx_base::limits::{
     CELL_WIDTH, CLOCK_DECIMALS, CLOCK_WIDTH, OBSERVATION_DECIMALS, OBSERVATION_WIDTH,
 };
 use itoa::write_digits;
+use std::simd::prelude::*;
 use thiserror::Error;
 
 /// A text that spells no number, or that has another number of columns.
@@ -53,7 +54,7 @@ pub fn obs_read_into(text: &[u8], value: &mut Option<i64>) -> bool
 {
     let columns = match text.len() {
         OBSERVATION_WIDTH => field::columns(text),
-        CELL_WIDTH => field::columns_of_cell(text),
+        CELL_WIDTH => u8x16::from_slice(text),
         _ => return false,
     };
     if field::is_plain(columns) {
@@ -127,7 +128,8 @@ fn obs_print_row(value: Option<i64>, cell: &mut [u8])
         return;
     };
     let size = number.unsigned_abs();
-    if !is_short(size) {
+    // No digit is in the first column. The millions, which the digits are made of, are as good a test as the size itself, and fit 32 bits.
+    if ((size / 1_000_000) as u32) >= 1_000_000 {
         number_print(value, OBSERVATION_DECIMALS, &mut cell[0..OBSERVATION_WIDTH]);
         return;
     }
@@ -135,16 +137,6 @@ fn obs_print_row(value: Option<i64>, cell: &mut [u8])
     if number < 0 {
         cell[start - 1] = b'-';
     }
-}
-
-// Whether a size has no digit in the first column of an observation. Its millions, which its digits are made of, are as good a test
-// as the size itself, and fit 32 bits.
-#[inline(always)]
-fn is_short(size: u64) -> bool
-    requires { size < 10 ^ 13 }
-    ensures { IsTrue result ↔ size < 10 ^ 12 }
-{
-    ((size / 1_000_000) as u32) < 1_000_000
 }
 
 /// Reads a receiver clock offset of 15 columns, in units of 10^-12 seconds; a blank field is
@@ -216,21 +208,11 @@ fn number_read(field: &[u8], width: usize, decimals: usize) -> Result<Option<i64
     if text.is_empty() {
         return Ok(None);
     }
-    match decimal_read(text, decimals) {
-        Some(number) => Ok(Some(number)),
+    let (is_below, rest) = split_minus(text);
+    match size_read(rest, decimals) {
+        Some(size) => Ok(Some(signed(is_below, size))),
         None => Err(BadField),
     }
-}
-
-// A number after its blanks; None where the text spells none.
-fn decimal_read(text: &[u8], decimals: usize) -> Option<i64>
-    requires { length text.now ≤ WIDEST }
-    ensures value { result ≡ decimal_number decimals text.now }
-    ensures in_range { IfSome result (IsWithin (length text.now)) }
-{
-    let (is_below, rest) = split_minus(text);
-    let size = size_read(rest, decimals)?;
-    Some(signed(is_below, size))
 }
 
 // A number without a sign, as all of its digits write it; None where the text spells none.

@@ -164,16 +164,6 @@ fn kept_in(characters: u8x16) -> usize
 // Half as many characters as there are lanes: the indicators of four types are as many, and one by one they take 6 instructions each.
 const EIGHT: usize = 8;
 
-// How many of 8 characters are before the blanks at their end.
-#[inline(always)]
-fn kept_in_eight(characters: u8x8) -> usize
-    ensures kept { result ≡ length (without_end_blanks characters) }
-    ensures within { result ≤ 8 }
-{
-    let others = characters.simd_ne(u8x8::splat(b' ')).to_bitmask();
-    64 - others.leading_zeros() as usize
-}
-
 // Where the blanks at the end of a text that is shorter than a vector begin: the last 8 characters at once, and the others one by one.
 #[tactic(auto, using(crate::proofs::EndBlanks::ended_at))]
 fn end_blanks_of_few(text: &[u8]) -> usize
@@ -183,7 +173,10 @@ fn end_blanks_of_few(text: &[u8]) -> usize
     let mut end = text.len();
     if end >= EIGHT {
         let start = end - EIGHT;
-        let count = kept_in_eight(u8x8::from_slice(&text[start..]));
+        let others = u8x8::from_slice(&text[start..])
+            .simd_ne(u8x8::splat(b' '))
+            .to_bitmask();
+        let count = 64 - others.leading_zeros() as usize;
         if count > 0 {
             return start + count;
         }

@@ -19,18 +19,10 @@ step_is text digits is_below size sign rest counted =
     coded_number-cell text digits rest ∙ ap (option_map (signed_number (starts_with_minus text))) counted in
     rw sign (code_of-number (first_cell text) (signed_number (starts_with_minus text) size) read)
 
-pub returns-then-line-gt-ROW-clause-value : goal.returns-then-line-gt-ROW-clause-value
-returns-then-line-gt-ROW-clause-value c =
+pub returns-clause-value : goal.returns-clause-value
+returns-clause-value c =
     let fits : SFits w64 c.signed.result = search rules in
     let split = c.split_minus-is_below in
     rw (to_z-of_z w64 c.signed.result fits, c.signed.ensures)
     (step_is c.args.line.now split.result.1.now split.result.0 c.in_ok-size.size split.ensures.sign
     split.ensures.rest c.in_ok-size.ensures.value)
-
-pub returns-clause-value : goal.returns-clause-value
-returns-clause-value c =
-    let fits : SFits w64 c.signed-2.result = search rules in
-    let split = c.split_minus-is_below in
-    rw (to_z-of_z w64 c.signed-2.result fits, c.signed-2.ensures)
-    (step_is c.args.line.now split.result.1.now split.result.0 c.in_ok-size-2.size split.ensures.sign
-    split.ensures.rest c.in_ok-size-2.ensures.value)

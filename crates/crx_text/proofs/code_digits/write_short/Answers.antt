@@ -1,16 +1,36 @@
-use Rattle.std.proofs.Common.{rules, ◌<◌, ◌^◌, ◌+◌, ◌++◌, ◌-◌, ◌≡◌, ℕ, List, take, drop, ap, ◌∙◌, arith}
-use Rattle.crx_text.proofs.DigitPairs.{bytes_shifted, digits_last, first_written}
+use Rattle.std.proofs.Common.{rules, ◌<◌, ◌^◌, ◌+◌, ◌/◌, ◌++◌, ◌-◌, ◌≡◌, bit_or, ℕ, List, take, drop, ap, ◌∙◌, arith}
+use lib.Count.{count_trailing_zeros}
+use Rattle.crx_text.proofs.DigitPairs.{bytes_shifted, digits_last, few_zeros, first_written, zeros_counted}
+use Rattle.crx_text.proofs.DigitPairs.{zeros_found, zeros_of}
 use Rattle.crx_text.proofs.code_digits.write_short.Goals as goal
+
+pub overflow_shr-columns : goal.overflow_shr-columns
+overflow_shr-columns c =
+    let zeros = zeros_found c.args.size c.four_digits-columns.result c.requires.small
+    c.four_digits-columns.type_inv c.four_digits-columns.ensures in
+    rw c.from_le_bytes.ensures (omega (arith, zeros, few_zeros c.args.size))
+
+pub returns-clause-within : goal.returns-clause-within
+returns-clause-within c =
+    let zeros = zeros_found c.args.size c.four_digits-columns.result c.requires.small
+    c.four_digits-columns.type_inv c.four_digits-columns.ensures in
+    rw c.from_le_bytes.ensures
+    (omega (arith, zeros, few_zeros c.args.size, zeros_counted c.args.size c.requires.small))
 
 pub returns-clause-written : goal.returns-clause-written
 returns-clause-written c =
-    let z = c.columns_of-columns.result.1 in
-    let fits : c.columns_of-columns.result.0 < 2 ^ 32 = search rules in
-    let end : c.args.at + 4 - z ≡ c.args.at + (4 - z) = omega (arith, c.columns_of-columns.ensures.few) in
+    let word = c.four_digits-columns.result in
+    let small = c.requires.small in
+    let z : ℕ = count_trailing_zeros 32 (bit_or (word - c.from_le_bytes.result) 268435456) / 8 in
+    let zeros : z ≡ zeros_of c.args.size = rw c.from_le_bytes.ensures
+    (zeros_found c.args.size word small c.four_digits-columns.type_inv c.four_digits-columns.ensures) in
+    let few = few_zeros c.args.size in
+    let fits : word < 2 ^ 32 = search rules in
+    let end : c.args.at + 4 - z ≡ c.args.at + (4 - z) = omega (arith, zeros, few) in
     rw end (
     first_written c.args.buffer.now c.write_word.new.buffer _ c.args.at 4
     (4 - z) (omega (arith, c.requires.room)) (omega arith) c.write_word.ensures
     ∙ ap (λ (t : List ℕ). take c.args.at c.args.buffer.now ++ t) (
-    bytes_shifted c.columns_of-columns.result.0 z c.columns_of-columns.ensures.few fits
-    ∙ ap (drop z) c.columns_of-columns.ensures.columns
-    ∙ digits_last c.args.size z c.requires.small c.columns_of-columns.ensures.count))
+    bytes_shifted word z (omega (arith, zeros, few)) fits
+    ∙ ap (drop z) c.four_digits-columns.ensures
+    ∙ digits_last c.args.size z small (omega (arith, zeros, zeros_counted c.args.size small))))

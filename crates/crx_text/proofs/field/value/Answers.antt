@@ -1,13 +1,28 @@
-use Rattle.std.proofs.Common.{◌^◌, ◌<◌, w64, rules}
+use Rattle.std.proofs.Common.{◌^◌, ◌<◌, w64, rules, arith, ◌∙◌}
 use Rattle.std.proofs.lemmas.Int.{to_z-of_z}
 use mir.Val.{SFits}
-use Rattle.crx_text.proofs.PlainSizes.{plain_size_is_small, signed_in_range}
+use Rattle.crx_text.specs.meaning.Numbers.{signed_number}
+use Rattle.crx_text.proofs.LaneBits.{some_of_field}
+use Rattle.crx_text.proofs.PlainSizes.{plain_size_is_small, signed_in_range, size_from_parts}
 use Rattle.crx_text.proofs.field.value.Goals as goal
+
+pub signed-requires : goal.signed-requires
+signed-requires c =
+    let size = c.of_groups-size.ensures ∙ size_from_parts c.args.columns c.fits-columns.0 c.fits-columns.1 in
+    let small = plain_size_is_small c.args.columns c.fits-columns.0 c.requires in
+    omega (arith, size, small)
+
+pub returns-clause-value : goal.returns-clause-value
+returns-clause-value c =
+    let minus = some_of_field 45 c.args.columns c.fits-columns.0 in
+    let size = c.of_groups-size.ensures ∙ size_from_parts c.args.columns c.fits-columns.0 c.fits-columns.1 in
+    let fits : SFits w64 c.signed.result = search rules in
+    rw (to_z-of_z w64 c.signed.result fits) (c.signed.ensures ∙ (λ k. signed_number (minus k) (size k)))
 
 pub returns-clause-in_range : goal.returns-clause-in_range
 returns-clause-in_range c =
-    let small : c.size.result < 10 ^ 12 =
-    rw c.size.ensures (plain_size_is_small c.args.columns c.fits-columns.0 c.requires) in
+    let size = c.of_groups-size.ensures ∙ size_from_parts c.args.columns c.fits-columns.0 c.fits-columns.1 in
+    let small : c.of_groups-size.result < 10 ^ 12 =
+    rw size (plain_size_is_small c.args.columns c.fits-columns.0 c.requires) in
     let fits : SFits w64 c.signed.result = search rules in
-    rw (to_z-of_z w64 c.signed.result fits, c.signed.ensures)
-    (signed_in_range c.has_minus.result c.size.result small)
+    rw (to_z-of_z w64 c.signed.result fits, c.signed.ensures) (signed_in_range _ c.of_groups-size.result small)

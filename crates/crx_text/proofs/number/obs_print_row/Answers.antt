@@ -13,15 +13,16 @@ put_in_front (suc n) [] i x = refl
 put_in_front (suc n) (y ∷ ys) zero x = refl
 put_in_front (suc n) (y ∷ ys) (suc i) x = ap (λ (t : List ℕ). y ∷ t) (put_in_front n ys i x)
 
-pub is_short-requires : goal.is_short-requires
-is_short-requires c =
+pub overflow_cast-size : goal.overflow_cast-size
+overflow_cast-size c =
     let number = c.in-Some.number in
     let size_is : c.unsigned_abs-size.result ≡ nat_abs number =
     c.unsigned_abs-size.ensures.value ∙ ap nat_abs (to_z-of_z w64 number (search rules)) in
-    rw size_is (abs_within 14 number (c.requires.in_range number c.in-Some.is))
+    let small = abs_within 14 number (c.requires.in_range number c.in-Some.is) in
+    omega (arith, size_is, small)
 
-pub returns-then-not-is_short : goal.returns-then-not-is_short
-returns-then-not-is_short c =
+pub returns-then-size-ge1000000 : goal.returns-then-size-ge1000000
+returns-then-size-ge1000000 c =
     let cell = c.args.cell.now in
     let field = c.number_print.new.field in
     let cut : length (take 14 cell) ≡ 14 = length-take-le 14 cell (omega (arith, c.requires.width)) in

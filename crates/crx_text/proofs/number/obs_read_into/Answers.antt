@@ -1,7 +1,7 @@
 use Rattle.std.proofs.Common.{◌≡◌, ◌≤◌, ◌++◌, ℕ, List, [], length, take, drop, w64, rules, ap, sym, subst}
 use Rattle.std.proofs.Common.{◌∙◌, append-nil, arith}
 use Rattle.std.proofs.lemmas.Int.{to_z-of_z}
-use Rattle.std.proofs.lemmas.List.{take_all, length-take-le, take-append-drop}
+use Rattle.std.proofs.lemmas.List.{take_all, take-take, length-take-le, take-append-drop}
 use Rattle.std.specs.List.{list_all}
 use lib.Dec.{eqb}
 use Rattle.crx_text.specs.Fields.{IsPlain}
@@ -19,7 +19,7 @@ returns-then-is_blank-clause-value c =
             ∙ sym (take_all 14 text (omega (arith, w.in-14.is))),
         omega (arith, w.in-14.is),
       )
-      | in-16 w ↦ (ap (take 14) w.columns-is ∙ w.columns_of_cell-columns.ensures, omega (arith, w.in-16.is))
+      | in-16 w ↦ (ap (take 14) w.columns-is ∙ take-take 14 16 text (omega arith), omega (arith, w.in-16.is))
     ] in
     blank_number 14 3 (take 14 text) [] (length-take-le 14 text front.1)
     (ap (list_all (λ c. eqb c 32)) (append-nil (take 14 text) ∙ sym front.0) ∙ sym c.is_blank.ensures
@@ -35,7 +35,7 @@ returns-then-is_plain-clause-value c =
             ∙ sym (take_all 14 text (omega (arith, w.in-14.is))),
         omega (arith, w.in-14.is),
       )
-      | in-16 w ↦ (ap (take 14) w.columns-is ∙ w.columns_of_cell-columns.ensures, omega (arith, w.in-16.is))
+      | in-16 w ↦ (ap (take 14) w.columns-is ∙ take-take 14 16 text (omega arith), omega (arith, w.in-16.is))
     ] in
     let are : lanes ≡ take 14 text ++ drop 14 lanes =
     sym (take-append-drop 14 lanes) ∙ ap (λ (t : List ℕ). t ++ drop 14 lanes) front.0 in
