@@ -1,16 +1,17 @@
 -- Reading the number in a cell, up to the first blank of a line.
 use Rattle.std.proofs.Common.{true, false, ℕ, ℤ, ◌≡◌, ◌==◌, ◌<◌, Bool, List, [], ◌∷◌, length, Option, Some}
-use Rattle.std.proofs.Common.{None, if◌then◌else◌, ◌&&◌, inl, inr, arith, refl, ap, get_or}
-use Rattle.std.proofs.lemmas.Bool.{cases_eq}
+use Rattle.std.proofs.Common.{None, if◌then◌else◌, ◌&&◌, ◌||◌, ◌-◌, inl, inr, arith, refl, ap, get_or, eqb}
+use Rattle.std.proofs.lemmas.Bool.{cases_eq, ne_eqb}
 use Rattle.std.proofs.lemmas.Bool.Decides.{nat_tests}
 use Rattle.std.specs.Char.{is_ascii_digit}
+use Rattle.std.specs.List.{list_any}
 use Rattle.std.specs.Option.{option_map}
 use Rattle.std.specs.Str.{all_ascii_digits}
 use Rattle.std.specs.Str.Parse.{digits_value, starts_with_minus}
 use Rattle.crx_text.specs.meaning.Columns.{is_blank}
-use Rattle.crx_text.specs.meaning.Codes.{code_of, coded_number, first_cell, is_count_of_digits}
+use Rattle.crx_text.specs.meaning.Codes.{code_of, coded_number, first_cell, is_count_of_digits, is_order, start_of}
 use Rattle.crx_text.specs.Codes.{counted_digits}
-use Rattle.crx_text.specs.declared.code.Code.TheVariants.{Step}
+use Rattle.crx_text.specs.declared.code.Code.TheVariants.{Start, Step}
 use Rattle.crx_text.specs.meaning.Numbers.{signed_number, without_minus}
 
 pub without_minus-cell : (text : List ℕ) → without_minus (first_cell text) ≡ first_cell (without_minus text)
@@ -117,3 +118,62 @@ code_of-number (c ∷ d ∷ cs) number e =
           let test : (d == 38) ≡ false = grind (arith, nat_tests) in
           rw test (ap (option_map Step) e)
     ]
+
+-- ---- a text that is one cell
+
+pub one_cell : (text : List ℕ) → list_any (λ c. eqb c 32) text ≡ false → first_cell text ≡ text
+one_cell [] none = refl
+one_cell (c ∷ cs) none =
+    elim (cases_eq c 32) [
+      | inl blank ↦
+          let e : c ≡ 32 = blank in
+          let some : true ≡ false = rw e at none in absurd (cc)
+      | inr other ↦
+          let test : eqb c 32 ≡ false = ne_eqb c 32 other in
+          rw test (ap (λ (t : List ℕ). c ∷ t) (one_cell cs (rw test at none)))
+    ]
+
+blank_is_no_digit : (ds : List ℕ) → list_any (λ c. eqb c 32) ds ≡ true → all_ascii_digits ds ≡ false
+blank_is_no_digit [] some = absurd (cc)
+blank_is_no_digit (c ∷ cs) some =
+    elim (cases_eq c 32) [
+      | inl blank ↦ let e : c ≡ 32 = blank in rw e refl
+      | inr other ↦
+          let test : eqb c 32 ≡ false = ne_eqb c 32 other in
+          rw (blank_is_no_digit cs (rw test at some)) (stopped (is_ascii_digit c))
+    ]
+
+no_number_with_blank : (text : List ℕ) → list_any (λ c. eqb c 32) text ≡ true → coded_number text ≡ None
+no_number_with_blank [] some = absurd (cc)
+no_number_with_blank (c ∷ cs) some =
+    elim (cases_eq c 45) [
+      | inl minus ↦
+          let e : c ≡ 45 = minus in
+          rw e (no_digits (45 ∷ cs) cs refl (blank_is_no_digit cs (rw e at some)))
+      | inr other ↦
+          let test : (c == 45) ≡ false = grind (arith, nat_tests) in
+          no_digits (c ∷ cs) (c ∷ cs) (rw test refl) (blank_is_no_digit (c ∷ cs) some)
+    ]
+
+-- a blank is in no code
+pub no_code_with_blank : (text : List ℕ) → list_any (λ c. eqb c 32) text ≡ true → code_of text ≡ None
+no_code_with_blank [] some = absurd (cc)
+no_code_with_blank (c ∷ []) some = ap (option_map Step) (no_number_with_blank (c ∷ []) some)
+no_code_with_blank (c ∷ d ∷ cs) some =
+    elim (cases_eq d 38) [
+      | inl and ↦ let is : d ≡ 38 = and in rw is (after_start c cs (rw is at some))
+      | inr other ↦
+          let test : (d == 38) ≡ false = grind (arith, nat_tests) in
+          rw test (ap (option_map Step) (no_number_with_blank (c ∷ d ∷ cs) some))
+    ]
+  where
+    after_start : (c : ℕ) (cs : List ℕ) → (eqb c 32 || list_any (λ c. eqb c 32) cs) ≡ true → start_of c cs ≡ None
+    after_start c cs some =
+        elim (cases_eq c 32) [
+          | inl blank ↦ let e : c ≡ 32 = blank in rw e refl
+          | inr other ↦
+              let test : eqb c 32 ≡ false = ne_eqb c 32 other in
+              let none = no_number_with_blank cs (rw test at some) in
+              elim (is_order c) as (λ b. (if b then option_map (Start (c - 48)) (coded_number cs) else None) ≡ None)
+              [ true ↦ rw none refl | false ↦ refl ]
+        ]

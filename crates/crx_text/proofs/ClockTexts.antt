@@ -4,11 +4,10 @@ use Rattle.std.proofs.Common.{take, set, subst, refl, sym, ap, ◌∙◌, arith}
 use Rattle.std.proofs.lemmas.Fmt.{decimal_digit}
 use Rattle.std.specs.List.{range_with_len}
 use lib.Lanes.{pick_l, put_chunk}
-use Rattle.crx_text.specs.FieldTexts.{group_digits, side_by_side}
 use Rattle.crx_text.specs.meaning.Numbers.{size_text, zero_padded}
 use Rattle.crx_text.proofs.ClockColumns.{fifteen}
 use Rattle.crx_text.proofs.LaneBits.{sixteen}
-use Rattle.crx_text.proofs.PrintedTexts.{plus, twelve_padded}
+use Rattle.crx_text.proofs.PrintedTexts.{plus, nine_in, three_in, twelve_padded}
 
 -- two stores of eight lanes, of which the second begins in the first
 abbrev pub stored : List ℕ → List ℕ → List ℕ
@@ -33,17 +32,19 @@ module _ (size : ℕ) (small : size < 10 ^ 13) where
   abbrev pub fraction : ℕ
   fraction = size - size / 10 ^ 12 * 10 ^ 12
 
-  pub clock_written : (field lanes : List ℕ) → length field ≡ 15
-      → lanes ≡ plus (side_by_side (group_digits (fraction / 10 ^ 6 % 1000
-      ∷ fraction / 10 ^ 9 ∷ fraction % 1000 ∷ fraction / 1000 % 1000 ∷ []))) (replicate 16 48)
-      → set (set (set (take 3 field ++ take 12 lanes) 0 32) 1 (48 + size / 10 ^ 12)) 2 46 ≡ 32 ∷ size_text 12 size
-  clock_written field lanes wide is =
+  abbrev pub fraction_lanes : List ℕ
+  fraction_lanes = plus ((nine_in fraction ++ three_in fraction) ++ (0 ∷ 0 ∷ 0 ∷ 0 ∷ [])) (replicate 16 48)
+
+  pub clock_written : (field : List ℕ) → length field ≡ 15
+      → set (set (set (take 3 field ++ take 12 fraction_lanes) 0 32) 1 (48 + size / 10 ^ 12)) 2 46
+      ≡ 32 ∷ size_text 12 size
+  clock_written field wide =
       let rest : fraction ≡ size % 10 ^ 12 = omega arith in
       let below : fraction < 10 ^ 12 = omega arith in
-      let digits : take 12 lanes ≡ zero_padded 12 (size % 10 ^ 12) = ap (take 12) is
-      ∙ (twelve_padded fraction below ∙ ap (zero_padded 12) rest) in
+      let digits : take 12 fraction_lanes ≡ zero_padded 12 (size % 10 ^ 12) =
+      twelve_padded fraction below ∙ ap (zero_padded 12) rest in
       let whole = decimal_digit (size / 10 ^ 12) (omega arith) in
-      rw (first_three field (take 12 lanes) (48 + size / 10 ^ 12) wide, digits, whole) refl
+      rw (first_three field (take 12 fraction_lanes) (48 + size / 10 ^ 12) wide, digits, whole) refl
 
 pub text_long : (field : List ℕ) (size : ℕ)
     → field ≡ 32 ∷ size_text 12 size → length field ≡ 15 → 1 + length (size_text 12 size) ≡ 15

@@ -1,14 +1,19 @@
 -- Digits in a row, as the decimal text of the number that they write.
-use Rattle.std.proofs.Common.{◌≡◌, ℕ, zero, suc, ◌+◌, ◌-◌, ◌*◌, ◌/◌, ◌%◌, ◌^◌, ◌<◌, ◌≤◌, Bool, true, false, ltb, eqb}
+use Rattle.std.proofs.Common.{◌≡◌, ℕ, zero, suc, ◌+◌, ◌-◌, ◌*◌, ◌/◌, ◌%◌, ◌^◌, ◌<◌, ◌≤◌, Bool, true, false, ltb, eqb, if◌then◌else◌}
 use Rattle.std.proofs.Common.{List, [], ◌∷◌, ◌++◌, map, length, replicate, drop, decimal, refl, sym, ap, ◌∙◌}
 use Rattle.std.proofs.Common.{append_assoc, ltb-true, arith}
 use Rattle.std.proofs.lemmas.Bool.{and_parts, ne_eqb}
 use Rattle.std.proofs.lemmas.Fmt.{decimal_digit, decimal_step}
 use Rattle.std.proofs.lemmas.List.{length-map, length-drop, append-nil}
 use Rattle.std.specs.List.{list_all}
-use Rattle.crx_text.specs.FieldTexts.{leading_zeros}
 pub use Rattle.crx_text.specs.Digits.{written}
 use Rattle.crx_text.specs.meaning.Numbers.{zero_padded}
+
+-- the zeros before a number's first digit, its last one apart
+abbrev pub leading_zeros : List ℕ → ℕ
+leading_zeros [] = 0
+leading_zeros (d ∷ []) = 0
+leading_zeros (d ∷ e ∷ ds) = if eqb d 0 then suc (leading_zeros (e ∷ ds)) else 0
 
 abbrev pub are_digits : List ℕ → Bool
 are_digits ds = list_all (λ d. ltb d 10) ds

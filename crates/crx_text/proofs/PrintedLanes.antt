@@ -9,8 +9,9 @@ use Rattle.std.proofs.lemmas.Simd.{get_or_narrower, trailing_mask_l, mask_l-mod,
 use Rattle.std.specs.List.{range_with_len, prefix_len}
 use lib.Count.{count_trailing_zeros}
 use lib.Lanes.{Each1, chunk, mask_l, top, zip2, digits_l, number_l}
-use Rattle.crx_text.specs.FieldTexts.{group_digits, leading_zeros}
+use Rattle.crx_text.specs.FieldTexts.{group_digits}
 use Rattle.crx_text.proofs.LaneBits.{sixteen, no_bit, top_lane}
+use Rattle.crx_text.proofs.PrintedDigits.{leading_zeros}
 
 -- ---- a group's digits
 

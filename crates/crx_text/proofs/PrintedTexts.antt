@@ -7,10 +7,9 @@ use Rattle.std.proofs.lemmas.List.{length-map, length-drop, length-replicate, ta
 use Rattle.std.proofs.lemmas.List.{replicate-append-replicate}
 use Rattle.std.proofs.lemmas.List.Folds.{list_all-append}
 use lib.Lanes.{zip2}
-use Rattle.crx_text.specs.FieldTexts.{leading_zeros}
 use Rattle.crx_text.specs.meaning.Numbers.{size_text, zero_padded}
 use Rattle.crx_text.proofs.PrintedDigits.{written, are_digits, glyphs, decimal_of_digits, padded_digits}
-use Rattle.crx_text.proofs.PrintedDigits.{zeros_few}
+use Rattle.crx_text.proofs.PrintedDigits.{leading_zeros, zeros_few}
 
 -- ---- lanes added to their bases
 
@@ -194,41 +193,32 @@ module _ (size : ℕ) (small : size < 10 ^ 12) where
 
 -- ---- the text in a field
 
-module _ (size start : ℕ) (columns text field : List ℕ) (small : size < 10 ^ 12)
-    (spread_is : columns ≡ row_of (nine_in size) (three_in size))
-    (start_is : start ≡ 1 + leading_zeros (take 9 (drop 1 columns)))
-    (text_is : text ≡ plus columns (replicate start 32 ++ replicate (16 - start) 48))
-    (field_is : field ≡ take 14 text) where
-  digits_before : start ≡ 1 + leading_zeros (nine_in size)
-  digits_before = start_is ∙ ap (λ (l : List ℕ). 1 + leading_zeros (take 9 (drop 1 l))) spread_is
-
-  field_text : field ≡ replicate start 32 ++ size_text 3 size
+module _ (size start : ℕ) (cell : List ℕ) (small : size < 10 ^ 12)
+    (start_is : start ≡ 1 + leading_zeros (nine_in size)) (cell_is : cell ≡ plus (row_of (nine_in size) (three_in size))
+    (replicate start 32 ++ replicate (16 - start) 48)) where
+  field_text : take 14 cell ≡ replicate start 32 ++ size_text 3 size
   field_text =
       let nine = nine_in size in
       let three = three_in size in
-      let zeros : ℕ = 1 + leading_zeros nine in
-      let text_row : text ≡ (replicate zeros 32 ++ printed nine three) ++ (48 ∷ 48 ∷ []) =
-      text_is ∙ ap (λ (l : List ℕ). plus l (replicate {A = ℕ} start 32 ++ replicate (16 - start) 48))
-      spread_is
-      ∙ ap (λ (n : ℕ). plus (row_of nine three) (replicate {A = ℕ} n 32 ++ replicate (16 - n) 48))
-      digits_before
-      ∙ row_printed nine three refl refl (nine_are_digits size small) (three_are_digits size small) in
-      field_is ∙ ap (take 14) text_row
-      ∙ row_cut nine three refl refl (nine_are_digits size small) (three_are_digits size small)
-      ∙ ap (λ (t : List ℕ). replicate {A = ℕ} zeros 32 ++ t) (printed_is_size_text size small)
-      ∙ ap (λ (n : ℕ). replicate {A = ℕ} n 32 ++ size_text 3 size) (sym digits_before)
+      let nines = nine_are_digits size small in
+      let threes = three_are_digits size small in
+      ap (take 14) (cell_is
+      ∙ ap (λ (n : ℕ). plus (row_of nine three) (replicate {A = ℕ} n 32 ++ replicate (16 - n) 48)) start_is
+      ∙ row_printed nine three refl refl nines threes) ∙ row_cut nine three refl refl nines threes
+      ∙ ap (λ (t : List ℕ). replicate {A = ℕ} (1 + leading_zeros nine) 32 ++ t) (printed_is_size_text size small)
+      ∙ ap (λ (n : ℕ). replicate {A = ℕ} n 32 ++ size_text 3 size) (sym start_is)
 
   pub text_length : start + length (size_text 3 size) ≡ 14
   text_length =
       let long = printed_length (nine_in size) (three_in size) refl refl
       (nine_are_digits size small) (three_are_digits size small) in
       let same = ap (λ (t : List ℕ). length t) (printed_is_size_text size small) in
-      omega (arith, same, long, digits_before, zeros_few (nine_in size))
+      omega (arith, same, long, start_is, zeros_few (nine_in size))
 
-  pub text_before : take start field ≡ replicate start 32
+  pub text_before : take start (take 14 cell) ≡ replicate start 32
   text_before = ap (take start) field_text
       ∙ take_at (replicate start 32) (size_text 3 size) start (length-replicate start 32)
 
-  pub text_written : drop start field ≡ size_text 3 size
+  pub text_written : drop start (take 14 cell) ≡ size_text 3 size
   text_written = ap (drop start) field_text
       ∙ drop_at (replicate start 32) (size_text 3 size) start (length-replicate start 32)

@@ -3,7 +3,6 @@
 ghost use Rattle.std.specs.Prelude.{◌≡◌, ◌+◌, ◌%◌, ◌^◌, ◌<◌, ◌∷◌, ◌++◌, length, take, replicate};
 ghost use Rattle.std.specs.Simd.Lanes.{zip2};
 ghost use Rattle.crx_base.specs.declared.limits.TheConstants.{CLOCK_DECIMALS, CLOCK_WIDTH};
-ghost use Rattle.crx_text.specs.FieldTexts.{side_by_side};
 ghost use Rattle.crx_text.specs.meaning.Numbers.{size_text};
 
 use crate::field_text::{digits, groups};

@@ -5,7 +5,7 @@ ghost use Rattle.std.specs.Option.{option_map};
 ghost use Rattle.std.specs.Result.{result_ok};
 
 use crate::code_digits::{digits_before_blank, few_digits_before_blank, write_signed};
-use crate::digits::{digits_read, signed, split_minus};
+use crate::digits::{signed, split_minus};
 use crate::number::BadField;
 use crate::text::{Text, TextFull};
 use crx_base::limits::{DIGITS_LIMIT, LINE_LIMIT, ORDER_LIMIT};
@@ -97,25 +97,11 @@ pub fn code_read(text: &[u8]) -> Result<Code, BadField>
     ensures value { result_ok result ≡ code_of text.now }
     ensures printable { IfOk result IsPrintable }
 {
-    match text {
-        [] => Ok(Code::Missing),
-        [order, b'&', number @ ..] => {
-            if !is_order(*order) {
-                return Err(BadField);
-            }
-            match coded_number_read(number) {
-                Some(value) => Ok(Code::Start {
-                    order: *order - b'0',
-                    value,
-                }),
-                None => Err(BadField),
-            }
-        }
-        _ => match coded_number_read(text) {
-            Some(difference) => Ok(Code::Step(difference)),
-            None => Err(BadField),
-        },
+    if text.contains(&b' ') {
+        return Err(BadField);
     }
+    let (code, _) = code_before_blank(text)?;
+    Ok(code)
 }
 
 /// Reads the code up to a line's first blank, or up to its end, and answers it with the index after
@@ -131,7 +117,7 @@ pub fn code_before_blank(line: &[u8]) -> Result<(Code, usize), BadField>
         [] => Ok((Code::Missing, 0)),
         [b' ', ..] => Ok((Code::Missing, 1)),
         [order, b'&', rest @ ..] => {
-            if !is_order(*order) {
+            if !order.is_ascii_digit() || *order - b'0' > ORDER_LIMIT {
                 return Err(BadField);
             }
             let order = *order - b'0';
@@ -167,26 +153,6 @@ pub fn code_is_read_back(code: Code)
     requires { IsPrintable code }
     ensures reads_back { code_of (code_text code) ≡ Some code }
 {}
-
-// Whether the character is an order that may be read.
-fn is_order(character: u8) -> bool
-    ensures { result ≡ is_order character }
-{
-    character.is_ascii_digit() && character - b'0' <= ORDER_LIMIT
-}
-
-// The number in a code; None where the text is none.
-fn coded_number_read(text: &[u8]) -> Option<i64>
-    ensures value { result ≡ coded_number text.now }
-    ensures short { IfSome result IsShort }
-{
-    let (is_below, digits) = split_minus(text);
-    if digits.is_empty() || DIGITS_LIMIT < digits.len() {
-        return None;
-    }
-    let size = digits_read(0, digits)?;
-    Some(signed(is_below, size))
-}
 
 // The number up to a text's first blank, and the index after that blank; None where it is none.
 #[inline(always)]

@@ -4,7 +4,7 @@
 ghost use Rattle.std.specs.Prelude.{◌≡◌, ◌+◌, ◌-◌, ◌/◌, ◌%◌, ◌^◌, ◌<◌, ◌≤◌, ◌∷◌, ◌++◌, [], ◌*◌, length, map, slice_index, take, drop, replicate};
 ghost use Rattle.std.specs.Simd.Lanes.{Each1, zip2};
 ghost use Rattle.crx_base.specs.declared.limits.TheConstants.{CELL_WIDTH, OBSERVATION_WIDTH, OBSERVATION_DECIMALS};
-ghost use Rattle.crx_text.specs.FieldTexts.{group_digits, spread, leading_zeros};
+ghost use Rattle.crx_text.specs.FieldTexts.{group_digits};
 ghost use Rattle.crx_text.specs.meaning.Numbers.{size_text};
 
 use std::simd::prelude::*;
@@ -40,32 +40,8 @@ pub(crate) fn digits(groups: u32x4) -> u8x16
     (groups + parts * u32x4::splat(256 - 10)).to_le_bytes()
 }
 
-/// The digits in their columns, with what becomes the point once 48 is added.
-#[inline(always)]
-fn columns(digits: u8x16) -> u8x16
-    ensures { result ≡ spread digits }
-{
-    digits.shuffle(
-        u8x16::splat(254),
-        [3, 6, 5, 4, 2, 1, 0, 14, 13, 12, 16, 10, 9, 8, 3, 3],
-    )
-}
-
 // The least byte at which a column begins the number: the one before the point does at any digit.
 const LEAST: [u8; 16] = [1, 1, 1, 1, 1, 1, 1, 1, 1, 0, 1, 1, 1, 1, 1, 1];
-
-/// The index of the column where the number begins.
-#[inline(always)]
-#[tactic(auto, using(crate::proofs::PrintedLanes::begin_is))]
-fn first_digit(columns: u8x16) -> usize
-    requires { slice_index columns 0 ≡ 0 }
-    ensures { result ≡ 1 + leading_zeros (take 9 (drop 1 columns)) }
-{
-    columns
-        .simd_ge(u8x16::from_array(LEAST))
-        .to_bitmask()
-        .trailing_zeros() as usize
-}
 
 // Blanks, and what makes a digit of a number below 10.
 const BASES: [u8; 32] = [
@@ -84,8 +60,13 @@ pub(crate) fn size_print(size: u64, cell: &mut [u8]) -> usize
     ensures written { drop result (take OBSERVATION_WIDTH cell.new) ≡ size_text OBSERVATION_DECIMALS size }
     ensures before { take result (take OBSERVATION_WIDTH cell.new) ≡ replicate result 32 }
 {
-    let columns = columns(digits(groups(size)));
-    let start = first_digit(columns);
+    // The digits in their columns, with what becomes the point once 48 is added.
+    let columns = digits(groups(size)).shuffle(
+        u8x16::splat(254),
+        [3, 6, 5, 4, 2, 1, 0, 14, 13, 12, 16, 10, 9, 8, 3, 3],
+    );
+    let begins = columns.simd_ge(u8x16::from_array(LEAST)).to_bitmask();
+    let start = begins.trailing_zeros() as usize;
     let text = columns + u8x16::from_slice(&BASES[16 - start..]);
     text.copy_to_slice(cell);
     start

@@ -1,7 +1,7 @@
-use Rattle.std.proofs.Common.{ℕ, List, [], ◌∷◌, ◌++◌, ◌+◌, ◌-◌, ◌*◌, ◌/◌, ◌%◌, ◌^◌, set, ap, refl, ◌∙◌, replicate}
+use Rattle.std.proofs.Common.{ℕ, List, [], ◌∷◌, ◌++◌, ◌+◌, ◌/◌, ◌^◌, set, ap, refl, ◌∙◌, replicate}
 use lib.Lanes.{pick_l}
-use Rattle.crx_text.specs.FieldTexts.{side_by_side, group_digits}
-use Rattle.crx_text.proofs.ClockTexts.{clock_written, stored, stored_fraction}
+use Rattle.crx_text.specs.FieldTexts.{group_digits}
+use Rattle.crx_text.proofs.ClockTexts.{clock_written, fraction_lanes, stored, stored_fraction}
 use Rattle.crx_text.proofs.PrintedTexts.{plus}
 use Rattle.crx_text.proofs.clock_text.size_print.Goals as goal
 
@@ -12,10 +12,8 @@ returns c =
     let before = λ (f : List ℕ). set (set (set f 0 32) 1 (48 + size / 10 ^ 12)) 2 46 in
     let text = λ (d : List ℕ). plus (pick_l 0 (d ++ d)
     (6 ∷ 5 ∷ 4 ∷ 2 ∷ 1 ∷ 0 ∷ 14 ∷ 13 ∷ 12 ∷ 10 ∷ 9 ∷ 8 ∷ 3 ∷ 3 ∷ 3 ∷ 3 ∷ [])) (replicate 16 48) in
-    let rest : ℕ = size - size / 10 ^ 12 * 10 ^ 12 in
-    let lanes : List ℕ = plus (side_by_side (group_digits
-    (rest / 10 ^ 6 % 1000 ∷ rest / 10 ^ 9 ∷ rest % 1000 ∷ rest / 1000 % 1000 ∷ []))) (replicate 16 48) in
+    let lanes : List ℕ = fraction_lanes size c.requires.small in
     ap (λ (d : List ℕ). before (stored (text d) field))
     (c.digits-digits.ensures ∙ ap group_digits c.groups.ensures)
     ∙ ap before (stored_fraction lanes field refl c.requires.width)
-    ∙ clock_written size c.requires.small field lanes c.requires.width refl
+    ∙ clock_written size c.requires.small field c.requires.width

@@ -1,42 +1,65 @@
-use Rattle.std.proofs.Common.{◌≡◌, ◌≤◌, ◌-◌, ℕ, List, length, replicate, take, drop, ap, sym, ◌∙◌, arith}
-use Rattle.std.proofs.lemmas.List.{length-append, length-replicate, length-take}
-use Rattle.std.proofs.lemmas.Simd.{length-zip2, put_chunk_whole}
-use lib.Lanes.{chunk}
-use Rattle.crx_text.specs.FieldTexts.{spread, group_digits}
+use Rattle.std.proofs.Common.{◌≡◌, ◌+◌, ◌-◌, ◌/◌, ◌%◌, ◌^◌, ◌≤◌, ◌++◌, ◌∷◌, [], ℕ, List, length, replicate, take, drop}
+use Rattle.std.proofs.Common.{ap, refl, sym, ◌∙◌, arith}
+use Rattle.std.proofs.lemmas.List.{length-drop, length-take}
+use Rattle.std.proofs.lemmas.Simd.{length-chunk, length-zip2, put_chunk_whole}
+use lib.Count.{count_trailing_zeros}
+use lib.Lanes.{chunk, mask_l, pick_l}
+use Rattle.crx_text.specs.FieldTexts.{group_digits}
 use Rattle.crx_text.specs.declared.field_text.TheConstants.{BASES}
-use Rattle.crx_text.proofs.PrintedDigits.{zeros_few}
-use Rattle.crx_text.proofs.PrintedLanes.{base_row}
-use Rattle.crx_text.proofs.PrintedTexts.{plus, text_length, text_before, text_written}
+use Rattle.crx_text.proofs.PrintedDigits.{leading_zeros, zeros_few}
+use Rattle.crx_text.proofs.PrintedLanes.{base_row, begin_is, begin_lanes}
+use Rattle.crx_text.proofs.PrintedTexts.{nine_in, plus, row_of, three_in, text_length, text_before, text_written}
 use Rattle.crx_text.proofs.field_text.size_print.Goals as goal
+
+-- the columns of digits, where the number begins in them, and what is added to them
+abbrev in_columns : List ℕ → List ℕ
+in_columns digits = pick_l 0 (digits ++ replicate 16 254)
+    (3 ∷ 6 ∷ 5 ∷ 4 ∷ 2 ∷ 1 ∷ 0 ∷ 14 ∷ 13 ∷ 12 ∷ 16 ∷ 10 ∷ 9 ∷ 8 ∷ 3 ∷ 3 ∷ [])
+
+abbrev start_of : List ℕ → ℕ
+start_of columns = count_trailing_zeros 64 (mask_l (begin_lanes columns) % 2 ^ 64)
+
+abbrev bases_at : ℕ → List ℕ
+bases_at start = chunk 0 16 (take (32 - (16 - start)) (drop (16 - start) BASES))
+
+module _ (size : ℕ) (digits : List ℕ) (is : digits ≡ group_digits (size / 10 ^ 6 % 1000 ∷ size / 10 ^ 9
+    ∷ size % 1000 ∷ size / 1000 % 1000 ∷ [])) where
+  columns_are : in_columns digits ≡ row_of (nine_in size) (three_in size)
+  columns_are = ap in_columns is
+
+  start_is : start_of (in_columns digits) ≡ 1 + leading_zeros (nine_in size)
+  start_is = ap start_of columns_are ∙ begin_is (row_of (nine_in size) (three_in size)) refl refl
+
+  start_few : start_of (in_columns digits) ≤ 9
+  start_few = omega (arith, start_is, zeros_few (nine_in size))
+
+pub overflow_sub-text : goal.overflow_sub-text
+overflow_sub-text c =
+    let few = start_few c.args.size c.digits.result (c.digits.ensures ∙ ap group_digits c.groups.ensures) in
+    omega (arith, few)
 
 pub returns : goal.returns
 returns c =
     let size = c.args.size in
-    let start = c.first_digit-start.result in
-    let columns = c.columns-columns.result in
     let small = c.requires.short in
-    let are = c.columns-columns.ensures ∙ ap spread (c.digits.ensures ∙ ap group_digits c.groups.ensures) in
-    let at = c.first_digit-start.ensures in
-    let base : List ℕ = chunk 0 16 (take (32 - (16 - start)) (drop (16 - start) BASES)) in
-    let text : List ℕ = plus columns base in
-    let nine = take 9 (drop 1 columns) in
-    let few : start ≤ 9 = omega (arith, at, zeros_few nine, length-take 9 (drop 1 columns)) in
-    let bases = base_row start few in
-    let sixteen : length columns ≡ 16 = ap length are in
-    let beside : length columns ≡ length base = omega (
+    let is = c.digits.ensures ∙ ap group_digits c.groups.ensures in
+    let columns : List ℕ = in_columns c.digits.result in
+    let start : ℕ = start_of columns in
+    let at = start_is size c.digits.result is in
+    let few = start_few size c.digits.result is in
+    let base : List ℕ = bases_at start in
+    let sixteen : length base ≡ 16 = length-chunk 0 16 (take (32 - (16 - start)) (drop (16 - start) BASES)) (omega (
       arith,
-      sixteen,
-      ap length bases,
-      length-append {A = ℕ} (replicate start 32) (replicate (16 - start) 48),
-      length-replicate {A = ℕ} start 32,
-      length-replicate {A = ℕ} (16 - start) 48,
+      length-take (32 - (16 - start)) (drop (16 - start) BASES),
+      length-drop (16 - start) BASES,
       few,
-    ) in
-    let long : length text ≡ 16 = length-zip2 _ columns base beside ∙ sixteen in
-    let cell = ap (take 14) (put_chunk_whole c.args.cell.now text (c.requires.width ∙ sym long)) in
+    )) in
+    let long : length (plus columns base) ≡ 16 = length-zip2 (λ a b. (a + b) % 256) columns base (sym sixteen) in
+    let cell = put_chunk_whole c.args.cell.now (plus columns base) (c.requires.width ∙ sym long)
+    ∙ (λ k. plus (columns_are size c.digits.result is k) (base_row start few k)) in
     record {
-      start = text_length size start columns text _ small are at (ap (plus columns) bases) cell;
+      start = text_length size start _ small at cell;
       room = omega (arith, at);
-      written = text_written size start columns text _ small are at (ap (plus columns) bases) cell;
-      before = text_before size start columns text _ small are at (ap (plus columns) bases) cell;
+      written = text_written size start _ small at cell;
+      before = text_before size start _ small at cell;
     }
