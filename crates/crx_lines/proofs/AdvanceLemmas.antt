@@ -72,6 +72,13 @@ module _ (gave : List ℕ → Type 0) (old held : List ℕ)
       → EndIs held len is_ended at_end → n ≡ len + cond is_ended 1 0 → n ≤ length held
   held-within is_ended n end e = omega (arith, ends-within is_ended end, e)
 
+  -- what was passed with the line, and what is held after it, is within the limit
+  pub passed-within : (is_ended : Bool) (n : ℕ) → EndIs held len is_ended at_end → n ≡ len + cond is_ended 1 0
+      → (before : ℕ) → before + (length old + room) ≤ INPUT_LIMIT
+      → (before + (passed + n)) + (length held - n) ≤ INPUT_LIMIT
+  passed-within is_ended n end e before limit =
+      omega (arith, Seeking-sum gave old held room taken passed len s, held-within is_ended n end e, s.within, limit)
+
   -- a line has a byte
   pub some-byte : (is_ended : Bool) (n : ℕ)
       → (0 < passed + len) ⊎ (is_ended ≡ true) → n ≡ len + cond is_ended 1 0 → 0 < passed + n

@@ -1,14 +1,41 @@
--- Where a mask of lanes has a bit that is set, fewer lanes than all come before the first one of a kind.
-use Rattle.std.proofs.Common.{ℕ, suc, ◌+◌, ◌*◌, ◌<◌, Bool, true, false, cond, not, List, [], ◌∷◌, map, length, arith}
+-- The lanes before the first one that is LF, by a mask's lowest bit.
+use Rattle.std.proofs.Common.{◌≡◌, ℕ, suc, ◌+◌, ◌*◌, ◌%◌, ◌^◌, ◌<◌, ◌≤◌, Bool, true, false, cond, eqb, not, List, [], ◌∷◌}
+use Rattle.std.proofs.Common.{map, length, replicate, w8, arith, ap, sym, ◌∙◌}
+use Rattle.std.proofs.lemmas.Simd.{bitmask_splat, leading_from_mask_l, length-chunk, trailing_mask_l}
 use Rattle.std.specs.List.{prefix_len}
-use lib.Lanes.{mask_l}
+use lib.Count.{count_trailing_zeros}
+use lib.Lanes.{chunk, mask_l, top, zip2}
 
 stops : (b : Bool) (n m l : ℕ) → 0 < cond b 1 0 + 2 * n → (0 < n → m < l) → cond (not b) (1 + m) 0 < suc l
 stops true n m l some f = omega arith
 stops false n m l some f = omega (arith, f (omega (arith, some)))
 
-pub first_within : {X : Type 0} (p : X → Bool) (xs : List X) → 0 < mask_l (map p xs)
+first_within : {X : Type 0} (p : X → Bool) (xs : List X) → 0 < mask_l (map p xs)
     → prefix_len (λ x. not (p x)) xs < length xs
 first_within p [] some = absurd (omega (arith, some))
 first_within p (x ∷ xs) some =
     stops (p x) (mask_l (map p xs)) (prefix_len (λ y. not (p y)) xs) (length xs) some (first_within p xs)
+
+-- the mask of 32 bytes from an index on
+abbrev pub feeds_at : ℕ → List ℕ → ℕ
+feeds_at at bytes = mask_l (map (top 7) (zip2 (λ a b. cond (eqb a b) 255 0) (chunk at 32 bytes) (replicate 32 10))) % 2 ^ 64
+
+module _ (bytes : List ℕ) (at : ℕ) (room : at + 32 ≤ length bytes) where
+  pub none_of_all : feeds_at at bytes ≡ 0 → 32 ≡ prefix_len (λ b. not (eqb b 10)) (chunk at 32 bytes)
+  none_of_all none =
+      let v = chunk at 32 bytes in
+      let long = length-chunk at 32 bytes room in
+      let hits = bitmask_splat w8 eqb v 32 10 long (omega arith) in
+      sym (leading_from_mask_l (λ x. eqb x 10) v (sym hits ∙ none) ∙ long)
+
+  pub before_first : 0 < feeds_at at bytes
+      → (count_trailing_zeros 64 (feeds_at at bytes) < 32)
+      × (count_trailing_zeros 64 (feeds_at at bytes) ≡ prefix_len (λ b. not (eqb b 10)) (chunk at 32 bytes))
+  before_first some =
+      let v = chunk at 32 bytes in
+      let long = length-chunk at 32 bytes room in
+      let hits = bitmask_splat w8 eqb v 32 10 long (omega arith) in
+      let is = ap (count_trailing_zeros 64) hits
+      ∙ trailing_mask_l (λ x. eqb x 10) 64 v (omega arith) (omega (arith, hits, some)) in
+      let within = first_within (λ x. eqb x 10) v (omega (arith, hits, some)) in
+      (omega (arith, is, within, long), is)

@@ -113,17 +113,6 @@ impl Window {
         self.end = 0;
     }
 
-    fn move_to_front(&mut self)
-        ensures kept { kept self.new ≡ kept self.old }
-        ensures start { self.new.start ≡ 0 }
-        ensures end { self.new.end ≡ self.old.end - self.old.start }
-    {
-        let (start, end) = (self.start, self.end);
-        self.bytes.copy_within(start..end, 0);
-        self.start = 0;
-        self.end = end - start;
-    }
-
     /// Makes room after the bytes that are held. They move only where too little is left.
     fn make_room(&mut self)
         requires { length (kept self.old) ≤ LINE_LIMIT + 1 }
@@ -136,7 +125,10 @@ impl Window {
             return;
         }
         if SIZE - self.end < LEAST_ROOM {
-            self.move_to_front();
+            let (start, end) = (self.start, self.end);
+            self.bytes.copy_within(start..end, 0);
+            self.start = 0;
+            self.end = end - start;
         }
     }
 

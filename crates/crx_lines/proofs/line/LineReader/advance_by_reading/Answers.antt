@@ -12,7 +12,7 @@ use Rattle.crx_base.specs.declared.fault.Fault.TheVariants.{InputTooLong, ReadFa
 use Rattle.crx_lines.proofs.DeviceLemmas.{tally-same, tally-line}
 use Rattle.crx_lines.proofs.SeekLemmas.{Seeking-sum}
 use Rattle.crx_lines.proofs.WindowLemmas.{length-kept}
-use Rattle.crx_lines.proofs.AdvanceLemmas.{EndIs, piece_at, takes, held-within, some-byte, whole-piece, content-long}
+use Rattle.crx_lines.proofs.AdvanceLemmas.{EndIs, piece_at, passed-within, takes, held-within, some-byte, whole-piece, content-long}
 use Rattle.crx_lines.proofs.AdvanceLemmas.{nothing, over-fault, read-fault, shown-line}
 use Rattle.crx_lines.proofs.line.LineReader.advance_by_reading.Goals as goal
 
@@ -113,48 +113,32 @@ overflow_add-self g c =
     let old = c.args.self.now in
     let same = ap kept c.deref_mut.ensures.value in
     let shown = c.as_slice.ensures.value ∙ ap kept c.deref.ensures in
-    let limit : old.passed + (length (kept c.deref_mut.result.now) + (INPUT_LIMIT - old.passed
-    - length c.as_slice.result.now)) ≡ INPUT_LIMIT = omega (arith, ap length same, ap length shown, old.limit) in
-    let gave = λ (given : List ℕ). g.R.Source.gave c.args.reader.now given c.seek.new.reader in
-    let start = kept c.deref_mut.result.now in
-    let held = kept c.seek.new.window in
-    let at_end = g.R.Source.at_end c.seek.new.reader in
     let found = c.in-Ok.found in
-    let taken = c.in-Ok.ensures.ok.0 in
-    let s = c.in-Ok.ensures.ok.1 in
-    let some = c.if-is_nothing.ensures.something refl in
-    let within = held-within gave start held _ taken
-    found.passed found.len at_end s found.is_ended c.held-held.result c.in-Ok.ensures.end c.held-held.ensures in
-    let sum = Seeking-sum gave start held _ taken found.passed found.len s in
-    omega (arith, sum, within, s.within, ap length same, old.limit)
+    let bound = passed-within (λ (given : List ℕ). g.R.Source.gave c.args.reader.now given c.seek.new.reader)
+    (kept c.deref_mut.result.now) (kept c.seek.new.window) _ c.in-Ok.ensures.ok.0 found.passed found.len
+    (g.R.Source.at_end c.seek.new.reader) c.in-Ok.ensures.ok.1 found.is_ended c.held-held.result
+    c.in-Ok.ensures.end c.held-held.ensures old.passed
+    (omega (arith, ap length same, ap length shown, old.limit)) in
+    omega (arith, bound)
 
 pub overflow_add-self-2 : goal.overflow_add-self-2
 overflow_add-self-2 g c =
     let old = c.args.self.now in
     let same = ap kept c.deref_mut.ensures.value in
     let shown = c.as_slice.ensures.value ∙ ap kept c.deref.ensures in
-    let limit : old.passed + (length (kept c.deref_mut.result.now) + (INPUT_LIMIT - old.passed
-    - length c.as_slice.result.now)) ≡ INPUT_LIMIT = omega (arith, ap length same, ap length shown, old.limit) in
-    let gave = λ (given : List ℕ). g.R.Source.gave c.args.reader.now given c.seek.new.reader in
-    let start = kept c.deref_mut.result.now in
-    let held = kept c.seek.new.window in
-    let at_end = g.R.Source.at_end c.seek.new.reader in
     let found = c.in-Ok.found in
-    let taken = c.in-Ok.ensures.ok.0 in
-    let s = c.in-Ok.ensures.ok.1 in
-    let some = c.if-is_nothing.ensures.something refl in
-    let within = held-within gave start held _ taken
-    found.passed found.len at_end s found.is_ended c.held-held.result c.in-Ok.ensures.end c.held-held.ensures in
-    let sum = Seeking-sum gave start held _ taken found.passed found.len s in
-    omega (arith, sum, within, s.within, limit)
+    let bound = passed-within (λ (given : List ℕ). g.R.Source.gave c.args.reader.now given c.seek.new.reader)
+    (kept c.deref_mut.result.now) (kept c.seek.new.window) _ c.in-Ok.ensures.ok.0 found.passed found.len
+    (g.R.Source.at_end c.seek.new.reader) c.in-Ok.ensures.ok.1 found.is_ended c.held-held.result
+    c.in-Ok.ensures.end c.held-held.ensures old.passed
+    (omega (arith, ap length same, ap length shown, old.limit)) in
+    omega (arith, bound)
 
 pub invariant_of-self-2 : goal.invariant_of-self-2
 invariant_of-self-2 g c =
     let old = c.args.self.now in
     let same = ap kept c.deref_mut.ensures.value in
     let shown = c.as_slice.ensures.value ∙ ap kept c.deref.ensures in
-    let limit : old.passed + (length (kept c.deref_mut.result.now) + (INPUT_LIMIT - old.passed
-    - length c.as_slice.result.now)) ≡ INPUT_LIMIT = omega (arith, ap length same, ap length shown, old.limit) in
     let gave = λ (given : List ℕ). g.R.Source.gave c.args.reader.now given c.seek.new.reader in
     let start = kept c.deref_mut.result.now in
     let held = kept c.seek.new.window in
@@ -162,16 +146,16 @@ invariant_of-self-2 g c =
     let found = c.in-Ok.found in
     let taken = c.in-Ok.ensures.ok.0 in
     let s = c.in-Ok.ensures.ok.1 in
-    let some = c.if-is_nothing.ensures.something refl in
-    let within = held-within gave start held _ taken
-    found.passed found.len at_end s found.is_ended c.held-held.result c.in-Ok.ensures.end c.held-held.ensures in
-    let sum = Seeking-sum gave start held _ taken found.passed found.len s in
-    let byte = some-byte gave start
-    held _ taken found.passed found.len at_end s found.is_ended c.held-held.result some c.held-held.ensures in
+    let byte = some-byte gave start held _ taken found.passed found.len at_end s found.is_ended c.held-held.result
+    (c.if-is_nothing.ensures.something refl) c.held-held.ensures in
+    let bound = passed-within gave start held _ taken found.passed found.len at_end s found.is_ended
+    c.held-held.result c.in-Ok.ensures.end c.held-held.ensures old.passed
+    (omega (arith, ap length same, ap length shown, old.limit)) in
     let now = c.pass.ensures.kept ∙ ap (λ w. drop c.held-held.result (kept w)) c.deref_mut-2.ensures.value in
-    let bound : (old.passed + (found.passed + c.held-held.result)) + length (kept c.pass.new.self) ≤ INPUT_LIMIT =
-    omega (arith, sum, within, s.within, limit, ap length now, length-drop c.held-held.result held) in
-    record { counted = omega (arith, byte, old.counted); limit = bound }
+    record {
+      counted = omega (arith, byte, old.counted);
+      limit = omega (arith, bound, ap length now, length-drop c.held-held.result held);
+    }
 
 pub returns-then-is_over-clause-answers : goal.returns-then-is_over-clause-answers
 returns-then-is_over-clause-answers g c =
@@ -188,9 +172,6 @@ returns-then-is_over-clause-answers g c =
     let taken = c.in-Ok.ensures.ok.0 in
     let s = c.in-Ok.ensures.ok.1 in
     let some = c.if-is_nothing.ensures.something refl in
-    let within = held-within gave start held _ taken
-    found.passed found.len at_end s found.is_ended c.held-held.result c.in-Ok.ensures.end c.held-held.ensures in
-    let sum = Seeking-sum gave start held _ taken found.passed found.len s in
     let now = c.pass.ensures.kept ∙ ap (λ w. drop c.held-held.result (kept w)) c.deref_mut-2.ensures.value in
     let place = c.content-place.result in
     let content = slice_range c.deref-2.result.now.bytes.items place.from place.to in
@@ -229,9 +210,6 @@ returns-clause-answers g c =
     let taken = c.in-Ok.ensures.ok.0 in
     let s = c.in-Ok.ensures.ok.1 in
     let some = c.if-is_nothing.ensures.something refl in
-    let within = held-within gave start held _ taken
-    found.passed found.len at_end s found.is_ended c.held-held.result c.in-Ok.ensures.end c.held-held.ensures in
-    let sum = Seeking-sum gave start held _ taken found.passed found.len s in
     let now = c.pass.ensures.kept ∙ ap (λ w. drop c.held-held.result (kept w)) c.deref_mut-2.ensures.value in
     let place = c.content-place.result in
     let none = (c.if-is_over.ensures.within refl).0 in
