@@ -1,10 +1,9 @@
 -- Reading the numbers of codes.
-use Rattle.std.proofs.Common.{true, false, ℕ, suc, zero, ◌≡◌, ◌<◌, ◌≤◌, Bool, List, length}
+use Rattle.std.proofs.Common.{true, ℕ, ◌≡◌, ◌<◌, ◌≤◌, List, length}
 use Rattle.std.proofs.Common.{Some, None, if◌then◌else◌, arith, refl}
 use Rattle.std.proofs.lemmas.Bool.Decides.{nat_tests}
 use Rattle.std.specs.Str.{all_ascii_digits}
 use Rattle.std.specs.Str.Parse.{digits_value_after, starts_with_minus}
-use lib.IntN.{nat_abs}
 use Rattle.crx_text.specs.meaning.Codes.{coded_number, is_count_of_digits}
 use Rattle.crx_text.specs.meaning.Numbers.{signed_number, without_minus}
 use Rattle.crx_base.specs.declared.limits.TheConstants.{DIGITS_LIMIT}
@@ -18,10 +17,3 @@ unfolding coded_number
 coded_number_fitting text digits is some few =
     let test : is_count_of_digits (length digits) ≡ true = grind (arith, nat_tests) in
     rw (← is, test) refl
-
--- ---- how large it is
-
-pub nat_abs-signed_number : (is_below : Bool) (size : ℕ) → nat_abs (signed_number is_below size) ≡ size
-nat_abs-signed_number true zero = refl
-nat_abs-signed_number true (suc n) = refl
-nat_abs-signed_number false size = refl

@@ -160,7 +160,8 @@ weights_small count few =
     (subst T (sym parts.0) tt, subst T (sym parts.1) tt)
 
 -- what the groups of three make of the first six lanes, which are weighed by hundreds, tens and ones
-module _ (e : ℕ → ℕ) (small : (i : ℕ) → e i < 256) where
+module _ (e : ℕ → ℕ) (zeroth : e 0 < 256) (first : e 1 < 256) (second : e 2 < 256) (third : e 3 < 256)
+    (fourth : e 4 < 256) (fifth : e 5 < 256) where
   of_groups : (count a b : ℕ)
       → dots (grouped (map e (range_with_len 0 16))) (weights_of count) ≡ a ∷ b ∷ 0 ∷ 0 ∷ []
       → a < 2 ^ 32 → b < 2 ^ 32
@@ -172,41 +173,21 @@ module _ (e : ℕ → ℕ) (small : (i : ℕ) → e i < 256) where
 
   total_explicit : (count : ℕ) → count ≤ 6
       → total_of (map e (range_with_len 0 16)) count ≡ written 0 (take count (map e (range_with_len 0 16)))
-  total_explicit zero few =
-      of_groups 0 _ _ refl
-      (omega (arith, small 0, small 1, small 2)) (omega (arith, small 3, small 4, small 5))
-      ∙ omega (arith, small 0, small 1, small 2, small 3, small 4, small 5)
-  total_explicit (suc zero) few =
-      of_groups 1 _ _ refl
-      (omega (arith, small 0, small 1, small 2)) (omega (arith, small 3, small 4, small 5))
-      ∙ omega (arith, small 0, small 1, small 2, small 3, small 4, small 5)
-  total_explicit (suc (suc zero)) few =
-      of_groups 2 _ _ refl
-      (omega (arith, small 0, small 1, small 2)) (omega (arith, small 3, small 4, small 5))
-      ∙ omega (arith, small 0, small 1, small 2, small 3, small 4, small 5)
-  total_explicit (suc (suc (suc zero))) few =
-      of_groups 3 _ _ refl
-      (omega (arith, small 0, small 1, small 2)) (omega (arith, small 3, small 4, small 5))
-      ∙ omega (arith, small 0, small 1, small 2, small 3, small 4, small 5)
-  total_explicit (suc (suc (suc (suc zero)))) few =
-      of_groups 4 _ _ refl
-      (omega (arith, small 0, small 1, small 2)) (omega (arith, small 3, small 4, small 5))
-      ∙ omega (arith, small 0, small 1, small 2, small 3, small 4, small 5)
-  total_explicit (suc (suc (suc (suc (suc zero))))) few =
-      of_groups 5 _ _ refl
-      (omega (arith, small 0, small 1, small 2)) (omega (arith, small 3, small 4, small 5))
-      ∙ omega (arith, small 0, small 1, small 2, small 3, small 4, small 5)
-  total_explicit (suc (suc (suc (suc (suc (suc zero)))))) few =
-      of_groups 6 _ _ refl
-      (omega (arith, small 0, small 1, small 2)) (omega (arith, small 3, small 4, small 5))
-      ∙ omega (arith, small 0, small 1, small 2, small 3, small 4, small 5)
+  total_explicit zero few = of_groups 0 _ _ refl (omega arith) (omega arith) ∙ omega arith
+  total_explicit (suc zero) few = of_groups 1 _ _ refl (omega arith) (omega arith) ∙ omega arith
+  total_explicit (suc (suc zero)) few = of_groups 2 _ _ refl (omega arith) (omega arith) ∙ omega arith
+  total_explicit (suc (suc (suc zero))) few = of_groups 3 _ _ refl (omega arith) (omega arith) ∙ omega arith
+  total_explicit (suc (suc (suc (suc zero)))) few = of_groups 4 _ _ refl (omega arith) (omega arith) ∙ omega arith
+  total_explicit (suc (suc (suc (suc (suc zero))))) few = of_groups 5 _ _ refl (omega arith) (omega arith) ∙ omega arith
+  total_explicit (suc (suc (suc (suc (suc (suc zero)))))) few = of_groups 6 _ _ refl (omega arith) (omega arith) ∙ omega arith
   total_explicit (suc (suc (suc (suc (suc (suc (suc count))))))) few = absurd (omega arith)
 
 pub total_is : (v : List ℕ) (count : ℕ) → length v ≡ 16 → Each1 (Fits w8) v → count ≤ 6
     → total_of v count ≡ written 0 (take count v)
 total_is v count long fits few =
     subst (λ (w : List ℕ). total_of w count ≡ written 0 (take count w)) (sym (sixteen v long))
-    (total_explicit (λ (i : ℕ). get_or v i 0) (λ (i : ℕ). lane_fits v i fits) count few)
+    (total_explicit (λ (i : ℕ). get_or v i 0) (lane_fits v 0 fits) (lane_fits v 1 fits) (lane_fits v 2 fits)
+    (lane_fits v 3 fits) (lane_fits v 4 fits) (lane_fits v 5 fits) count few)
 
 -- the digits less 48 write what the digits write
 written_digits : (size count : ℕ) (row : List ℕ) → all_ascii_digits (take count row) ≡ true

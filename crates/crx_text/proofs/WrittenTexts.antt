@@ -7,12 +7,6 @@ use Rattle.std.proofs.Math.Seq.{take-append-add}
 use Rattle.crx_text.specs.meaning.Columns.{without_end_blanks}
 use Rattle.crx_text.proofs.EndBlanks.{few_kept, take_kept}
 
--- ---- bytes that are made more
-
-pub record Grown (old new : List ℕ) : Type 0 where
-  pub longer : length old ≤ length new
-  pub same : (n : ℕ) → n ≤ length old → take n new ≡ take n old
-
 -- ---- a line of cells and marks
 
 -- what was written from an index on, and the line that it makes

@@ -12,24 +12,6 @@ dot4 c =
     let bytes : Each1 (Fits w8) (digit_row c.args.field.now) = search rules in
     (pairs_small (digit_row c.args.field.now) WEIGHTS bytes tt, tt)
 
-pub overflow_add-digit : goal.overflow_add-digit
-overflow_add-digit c =
-    let field = c.args.field.now in
-    let small : (i : ℕ) → get_or field i 0 < 256 = λ i. (c.type_inv.field i).fits in
-    let few = fraction_small field c.of_groups-fraction.result c.requires
-    (fraction_digits field c.requires small c.if-digits-ne65535.false)
-    (c.of_groups-fraction.ensures ∙ fraction_value field c.requires small c.if-digits-ne65535.false) in
-    omega (arith, few, c.in_ok-is_below.ensures.small)
-
-pub signed-requires : goal.signed-requires
-signed-requires c =
-    let field = c.args.field.now in
-    let small : (i : ℕ) → get_or field i 0 < 256 = λ i. (c.type_inv.field i).fits in
-    let few = fraction_small field c.of_groups-fraction.result c.requires
-    (fraction_digits field c.requires small c.if-digits-ne65535.false)
-    (c.of_groups-fraction.ensures ∙ fraction_value field c.requires small c.if-digits-ne65535.false) in
-    omega (arith, few, c.in_ok-is_below.ensures.small)
-
 pub returns-clause-value : goal.returns-clause-value
 returns-clause-value c =
     let field = c.args.field.now in

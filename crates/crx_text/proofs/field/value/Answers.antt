@@ -1,16 +1,10 @@
-use Rattle.std.proofs.Common.{◌^◌, ◌<◌, w64, rules, arith, ◌∙◌}
+use Rattle.std.proofs.Common.{◌^◌, ◌<◌, w64, rules, ◌∙◌}
 use Rattle.std.proofs.lemmas.Int.{to_z-of_z}
 use mir.Val.{SFits}
 use Rattle.crx_text.specs.meaning.Numbers.{signed_number}
 use Rattle.crx_text.proofs.LaneBits.{some_of_field}
 use Rattle.crx_text.proofs.PlainSizes.{plain_size_is_small, signed_in_range, size_from_parts}
 use Rattle.crx_text.proofs.field.value.Goals as goal
-
-pub signed-requires : goal.signed-requires
-signed-requires c =
-    let size = c.of_groups-size.ensures ∙ size_from_parts c.args.columns c.fits-columns.0 c.fits-columns.1 in
-    let small = plain_size_is_small c.args.columns c.fits-columns.0 c.requires in
-    omega (arith, size, small)
 
 pub returns-clause-value : goal.returns-clause-value
 returns-clause-value c =
