@@ -1,16 +1,16 @@
 -- What the search for a line's end found, as the first line of the input.
-use Rattle.std.proofs.Common.{◌≡◌, ◌≢◌, ℕ, ◌+◌, ◌-◌, ◌<◌, ◌≤◌, Bool, true, false, not, ◌&&◌, cond, List, [], ◌∷◌, ◌++◌}
-use Rattle.std.proofs.Common.{◌⊎◌, length, take, drop, slice_index, IsTrue, MatchBool, sym, ap, ◌∙◌, subst, arith}
-use Rattle.std.proofs.Common.{⊎_elim, append-nil, append_assoc, length-append, length-take, length-drop}
-use Rattle.std.proofs.Common.{take-append-drop, Option, Some, Ok}
+use Rattle.std.proofs.Common.{◌≡◌, ◌≢◌, ℕ, ◌+◌, ◌-◌, ◌<◌, ◌≤◌, Bool, true, false, not, ◌&&◌, cond, List, []}
+use Rattle.std.proofs.Common.{◌∷◌, ◌++◌, ◌⊎◌, length, take, drop, slice_index, IsTrue, MatchBool, sym, ap}
+use Rattle.std.proofs.Common.{◌∙◌, subst, arith, ⊎_elim, append-nil, append_assoc, length-append, length-take}
+use Rattle.std.proofs.Common.{length-drop, take-append-drop, Option, Some, Ok}
 use Rattle.std.proofs.lemmas.List.{drop_more, get_or-take, take_all, drop_all, take_at, nil_from_length}
 use Rattle.std.proofs.lemmas.List.Elements.{All-append, All-from_get_or}
 use Rattle.std.proofs.lemmas.Bool.{true≢false, lt-ltb}
 use Rattle.crx_lines.specs.meaning.Devices.{Tally, with_failure}
 use Rattle.crx_base.specs.meaning.Lines.{Piece, InputLine, line_of, is_long, without_return, ends_with_return}
 use Rattle.crx_lines.specs.Readers.{part_shown}
-use Rattle.crx_lines.specs.Reading.{HasNoFeed, ReaderState, BeginsWith, TakesPiece, Stops, AnswersFault, AnswersAs}
-use Rattle.crx_lines.specs.Reading.{ReaderAnswers, line_shown, line_number}
+use Rattle.crx_lines.specs.Reading.{HasNoFeed, ReaderState, BeginsWith, TakesPiece, Stops, AnswersFault}
+use Rattle.crx_lines.specs.Reading.{AnswersAs, ReaderAnswers, line_shown, line_number}
 use Rattle.crx_base.specs.declared.fault.At.{At}
 use Rattle.crx_base.specs.declared.fault.Fault.{Fault}
 use Rattle.crx_base.specs.declared.fault.Fault.TheVariants.{InputTooLong, ReadFailed}
@@ -27,7 +27,8 @@ searched-no_feed : (held : List ℕ) (n : ℕ)
     → n ≤ length held → ((k : ℕ) → k < n → slice_index held k ≢ 10) → HasNoFeed (take n held)
 searched-no_feed held n within none =
     All-from_get_or (λ b. b ≢ 10) (take n held) 0
-    (λ k h. let inside : k < n = omega (arith, h, length-take n held) in rw (get_or-take n held k 0) (none k inside))
+    (λ k h. let inside : k < n = omega (arith, h, length-take n held) in rw (get_or-take n held k 0)
+    (none k inside))
 
 -- the line's bytes, discarded or held
 abbrev pub piece_at : List ℕ → List ℕ → ℕ → Bool → Piece
@@ -41,7 +42,8 @@ EndIs held len is_ended at_end =
 module _ (gave : List ℕ → Type 0) (old held : List ℕ)
     (room taken passed len : ℕ) (at_end : Type 0) (s : Seeking gave old held room taken passed len) where
   pub begins : (is_ended : Bool) → EndIs held len is_ended at_end → (0 < passed + len) ⊎ (is_ended ≡ true)
-      → BeginsWith (old ++ s.given) at_end (piece_at s.front held len is_ended) (drop (len + cond is_ended 1 0) held)
+      → BeginsWith (old ++ s.given) at_end (piece_at s.front held len is_ended)
+      (drop (len + cond is_ended 1 0) held)
   begins true end some = record {
     cut = s.input ∙ ap (λ l. s.front ++ l) (sym (take-append-drop len held)
         ∙ ap (λ l. take len held ++ l) (drop_more held len 0 end.0 ∙ ap (λ b. b ∷ drop (len + 1) held) end.1))
@@ -77,13 +79,15 @@ module _ (gave : List ℕ → Type 0) (old held : List ℕ)
       → (before : ℕ) → before + (length old + room) ≤ INPUT_LIMIT
       → (before + (passed + n)) + (length held - n) ≤ INPUT_LIMIT
   passed-within is_ended n end e before limit =
-      omega (arith, Seeking-sum gave old held room taken passed len s, held-within is_ended n end e, s.within, limit)
+      let sum = Seeking-sum gave old held room taken passed len s in
+      omega (arith, sum, held-within is_ended n end e, s.within, limit)
 
   -- a line has a byte
   pub some-byte : (is_ended : Bool) (n : ℕ)
       → (0 < passed + len) ⊎ (is_ended ≡ true) → n ≡ len + cond is_ended 1 0 → 0 < passed + n
   some-byte true n some e = omega (arith, e)
-  some-byte false n some e = let long : 0 < passed + len = ⊎_elim (λ h. h) (λ e. absurd (true≢false (sym e))) some in
+  some-byte false n some e = let long : 0 < passed + len =
+      ⊎_elim (λ h. h) (λ e. absurd (true≢false (sym e))) some in
       omega (arith, e, long)
 
   pub takes : (is_ended : Bool) → EndIs held len is_ended at_end → (0 < passed + len) ⊎ (is_ended ≡ true)
@@ -98,7 +102,8 @@ module _ (gave : List ℕ → Type 0) (old held : List ℕ)
       let sum : after.passed + length after.rest ≡ before.passed + (length old + taken) =
       omega (arith, passes, ap length left, length-drop n held, whole, within) in
       record {
-        first = subst (λ l. BeginsWith (l ++ s.given) at_end (piece_at s.front held len is_ended) after.rest) (sym rest)
+        first = subst (λ l. BeginsWith (l ++ s.given) at_end (piece_at s.front held len is_ended) after.rest)
+            (sym rest)
             (subst (λ l. BeginsWith (old ++ s.given) at_end (piece_at s.front held len is_ended) l)
             (sym (left ∙ ap (λ k. drop k held) count)) (begins is_ended end some));
         passed = omega (arith, sum, ap length rest, length-append before.rest s.given, s.taken_is);
@@ -112,7 +117,8 @@ module _ (gave : List ℕ → Type 0) (old held : List ℕ)
   whole-piece none = ap (λ l. l ++ take len held) (nil_from_length s.front (s.passed_is ∙ none))
 
   pub content-long : (is_ended : Bool) (content : List ℕ) → content ≡ without_return (take len held)
-      → (0 < passed) ⊎ (LINE_LIMIT < length content) → IsTrue (is_long (line_of (piece_at s.front held len is_ended)))
+      → (0 < passed) ⊎ (LINE_LIMIT < length content)
+      → IsTrue (is_long (line_of (piece_at s.front held len is_ended)))
   content-long is_ended content same over =
       let all = s.front ++ take len held in
       let size = length-append s.front (take len held) in
@@ -128,8 +134,11 @@ module _ (gave : List ℕ → Type 0) (old held : List ℕ)
 
   pub nothing : passed ≡ 0 → len ≡ 0 → len ≡ length held → (held ≡ []) × (old ++ s.given ≡ [])
   nothing none empty all =
-      let bare = nil_from_length held (omega (arith, empty, all)) in
-      (bare, s.input ∙ ap (λ l. s.front ++ l) bare ∙ append-nil s.front ∙ nil_from_length s.front (s.passed_is ∙ none))
+      let bare = nil_from_length held (omega (arith, empty, all)) in (
+        bare,
+        s.input ∙ ap (λ l. s.front ++ l) bare ∙ append-nil s.front
+            ∙ nil_from_length s.front (s.passed_is ∙ none),
+      )
 
 -- no LF came within the limit, and a byte past it
 pub over-limit : (gave : List ℕ → Type 0) (old held : List ℕ) (room passed b so_far : ℕ)
@@ -138,7 +147,8 @@ pub over-limit : (gave : List ℕ → Type 0) (old held : List ℕ) (room passed
     × HasNoFeed (take (INPUT_LIMIT - so_far) (old ++ (s.given ++ b ∷ [])))
 over-limit gave old held room passed b so_far s limit =
     let front = old ++ s.given in
-    let whole : length front ≡ INPUT_LIMIT - so_far = omega (arith, length-append old s.given, s.taken_is, limit) in
+    let whole : length front
+    ≡ INPUT_LIMIT - so_far = omega (arith, length-append old s.given, s.taken_is, limit) in
     let cut : take (INPUT_LIMIT - so_far) (old ++ (s.given ++ b ∷ [])) ≡ s.front ++ held =
     ap (take (INPUT_LIMIT - so_far)) (sym (append_assoc old s.given (b ∷ [])))
     ∙ take_at front (b ∷ []) (INPUT_LIMIT - so_far) whole ∙ s.input in (
@@ -147,8 +157,10 @@ over-limit gave old held room passed b so_far s limit =
     )
 
 -- the faults that end the reading, out of what the search found
-pub over-fault : (gave : List ℕ → Type 0) (old held : List ℕ) (room passed b : ℕ) (at_end : Type 0) (tally then : Tally)
-    → (s : Seeking gave old held room room passed (length held)) (before after : ReaderState) (at : At) (fault : Fault)
+pub over-fault : (gave : List ℕ → Type 0) (old held : List ℕ) (room passed b : ℕ) (at_end : Type 0)
+    (tally then : Tally)
+    → (s : Seeking gave old held room room passed (length held)) (before after : ReaderState) (at : At)
+    (fault : Fault)
     → fault ≡ InputTooLong → before.rest ≡ old
     → before.passed + (length old + room) ≡ INPUT_LIMIT → Stops before at after → then ≡ tally
     → AnswersFault before (s.given ++ b ∷ []) at_end tally then at fault after
@@ -162,7 +174,8 @@ over-fault gave old held room passed b at_end tally then s before after at fault
 
 pub read-fault : (gave : List ℕ
     → Type 0) (old held : List ℕ) (room taken passed : ℕ) (at_end : Type 0) (tally then : Tally)
-    → (s : Seeking gave old held room taken passed (length held)) (before after : ReaderState) (at : At) (fault : Fault)
+    → (s : Seeking gave old held room taken passed (length held)) (before after : ReaderState) (at : At)
+    (fault : Fault)
     → fault ≡ ReadFailed → before.rest ≡ old
     → before.passed + (length old + room) ≡ INPUT_LIMIT → Stops before at after → then ≡ with_failure tally
     → AnswersFault before s.given at_end tally then at fault after
@@ -175,7 +188,8 @@ read-fault gave old held room taken passed at_end tally then s before after at f
 
 -- the first line is the one whose content is in a part of the window
 pub shown-line : (front part content : List ℕ) (is_ended has_return is_plain : Bool) → front ++ part ≡ part
-    → content ≡ without_return part → has_return ≡ ends_with_return part → is_plain ≡ (is_ended && not has_return)
+    → content ≡ without_return part → has_return ≡ ends_with_return part → is_plain
+    ≡ (is_ended && not has_return)
     → ◌≡◌ {A = InputLine} (record { content = content; is_plain = is_plain })
     (line_of (record { bytes = front ++ part; is_ended = is_ended }))
 shown-line front part content is_ended has_return is_plain same is returns plain =
@@ -185,7 +199,8 @@ shown-line front part content is_ended has_return is_plain same is returns plain
     ∙ ap (λ r. is_ended && not r) (returns ∙ ap ends_with_return (sym same)))
 
 -- a line that is borrowed is answered as its place in the window was
-pub answers-line : (gave : List ℕ → Type 0) (at_end : Type 0) (bytes : List ℕ) (o : Option Part) (p : Part) (l : Line)
+pub answers-line : (gave : List ℕ → Type 0) (at_end : Type 0) (bytes : List ℕ) (o : Option Part) (p : Part)
+    (l : Line)
     (old new : ReaderState) (before after : Tally)
     → o ≡ Some p → line_shown l ≡ part_shown bytes p → line_number l ≡ new.number
     → (given : List ℕ) × gave given

@@ -1,6 +1,6 @@
 -- The lanes before the first one that is LF, by a mask's lowest bit.
-use Rattle.std.proofs.Common.{◌≡◌, ℕ, suc, ◌+◌, ◌*◌, ◌%◌, ◌^◌, ◌<◌, ◌≤◌, Bool, true, false, cond, eqb, not, List, [], ◌∷◌}
-use Rattle.std.proofs.Common.{map, length, replicate, w8, arith, ap, sym, ◌∙◌}
+use Rattle.std.proofs.Common.{◌≡◌, ℕ, suc, ◌+◌, ◌*◌, ◌%◌, ◌^◌, ◌<◌, ◌≤◌, Bool, true, false, cond, eqb, not}
+use Rattle.std.proofs.Common.{List, [], ◌∷◌, map, length, replicate, w8, arith, ap, sym, ◌∙◌}
 use Rattle.std.proofs.lemmas.Simd.{bitmask_splat, leading_from_mask_l, length-chunk, trailing_mask_l}
 use Rattle.std.specs.List.{prefix_len}
 use lib.Count.{count_trailing_zeros}
@@ -18,24 +18,25 @@ first_within p (x ∷ xs) some =
 
 -- the mask of 32 bytes from an index on
 abbrev pub feeds_at : ℕ → List ℕ → ℕ
-feeds_at at bytes = mask_l (map (top 7) (zip2 (λ a b. cond (eqb a b) 255 0) (chunk at 32 bytes) (replicate 32 10))) % 2 ^ 64
+feeds_at at bytes = mask_l
+    (map (top 7) (zip2 (λ a b. cond (eqb a b) 255 0) (chunk at 32 bytes) (replicate 32 10))) % 2 ^ 64
 
 module _ (bytes : List ℕ) (at : ℕ) (room : at + 32 ≤ length bytes) where
+  long : length (chunk at 32 bytes) ≡ 32
+  long = length-chunk at 32 bytes room
+
+  hits : feeds_at at bytes ≡ mask_l (map (λ b. eqb b 10) (chunk at 32 bytes))
+  hits = bitmask_splat w8 eqb (chunk at 32 bytes) 32 10 long (omega arith)
+
   pub none_of_all : feeds_at at bytes ≡ 0 → 32 ≡ prefix_len (λ b. not (eqb b 10)) (chunk at 32 bytes)
-  none_of_all none =
-      let v = chunk at 32 bytes in
-      let long = length-chunk at 32 bytes room in
-      let hits = bitmask_splat w8 eqb v 32 10 long (omega arith) in
-      sym (leading_from_mask_l (λ x. eqb x 10) v (sym hits ∙ none) ∙ long)
+  none_of_all none = sym (leading_from_mask_l (λ b. eqb b 10) (chunk at 32 bytes) (sym hits ∙ none) ∙ long)
 
   pub before_first : 0 < feeds_at at bytes
       → (count_trailing_zeros 64 (feeds_at at bytes) < 32)
       × (count_trailing_zeros 64 (feeds_at at bytes) ≡ prefix_len (λ b. not (eqb b 10)) (chunk at 32 bytes))
   before_first some =
       let v = chunk at 32 bytes in
-      let long = length-chunk at 32 bytes room in
-      let hits = bitmask_splat w8 eqb v 32 10 long (omega arith) in
       let is = ap (count_trailing_zeros 64) hits
-      ∙ trailing_mask_l (λ x. eqb x 10) 64 v (omega arith) (omega (arith, hits, some)) in
-      let within = first_within (λ x. eqb x 10) v (omega (arith, hits, some)) in
+      ∙ trailing_mask_l (λ b. eqb b 10) 64 v (omega (arith, long)) (omega (arith, hits, some)) in
+      let within = first_within (λ b. eqb b 10) v (omega (arith, hits, some)) in
       (omega (arith, is, within, long), is)

@@ -9,7 +9,8 @@ use Rattle.std.specs.Option.{option_map}
 use Rattle.std.specs.Str.{all_ascii_digits}
 use Rattle.std.specs.Str.Parse.{digits_value, starts_with_minus}
 use Rattle.crx_text.specs.meaning.Columns.{is_blank}
-use Rattle.crx_text.specs.meaning.Codes.{code_of, coded_number, first_cell, is_count_of_digits, is_order, start_of}
+use Rattle.crx_text.specs.meaning.Codes.{code_of, coded_number, first_cell, is_count_of_digits, is_order}
+use Rattle.crx_text.specs.meaning.Codes.{start_of}
 use Rattle.crx_text.specs.Codes.{counted_digits}
 use Rattle.crx_text.specs.declared.code.Code.TheVariants.{Start, Step}
 use Rattle.crx_text.specs.meaning.Numbers.{signed_number, without_minus}
@@ -167,13 +168,15 @@ no_code_with_blank (c ∷ d ∷ cs) some =
           rw test (ap (option_map Step) (no_number_with_blank (c ∷ d ∷ cs) some))
     ]
   where
-    after_start : (c : ℕ) (cs : List ℕ) → (eqb c 32 || list_any (λ c. eqb c 32) cs) ≡ true → start_of c cs ≡ None
+    after_start : (c : ℕ) (cs : List ℕ) → (eqb c 32 || list_any (λ c. eqb c 32) cs) ≡ true → start_of c cs
+        ≡ None
     after_start c cs some =
         elim (cases_eq c 32) [
           | inl blank ↦ let e : c ≡ 32 = blank in rw e refl
           | inr other ↦
               let test : eqb c 32 ≡ false = ne_eqb c 32 other in
               let none = no_number_with_blank cs (rw test at some) in
-              elim (is_order c) as (λ b. (if b then option_map (Start (c - 48)) (coded_number cs) else None) ≡ None)
+              elim (is_order c) as (λ b. (if b then option_map (Start (c - 48)) (coded_number cs) else None)
+              ≡ None)
               [ true ↦ rw none refl | false ↦ refl ]
         ]

@@ -1,7 +1,7 @@
--- Texts by their characters, blanks being after them: what is read by columns doesn't ask for the blanks at a text's
--- end.
-use Rattle.std.specs.Prelude.{◌≡◌, refl, ℕ, zero, suc, ◌+◌, ◌-◌, ◌<◌, ◌≤◌, Bool, true, ◌&&◌, List, [], ◌∷◌, ◌++◌}
-use Rattle.std.specs.Prelude.{length, take, drop, replicate, slice_index_or}
+-- Texts by their characters, blanks being after them: what is read by columns doesn't ask for the blanks at a
+-- text's end.
+use Rattle.std.specs.Prelude.{◌≡◌, refl, ℕ, zero, suc, ◌+◌, ◌-◌, ◌<◌, ◌≤◌, Bool, true, ◌&&◌, List, [], ◌∷◌}
+use Rattle.std.specs.Prelude.{◌++◌, length, take, drop, replicate, slice_index_or}
 use Rattle.std.specs.List.{list_all}
 use Rattle.std.proofs.Common.{sym, ◌∙◌, ap, arith, not-suc-le-zero}
 use Rattle.std.proofs.lemmas.List.{length-append, length-take, length-replicate}
@@ -42,7 +42,8 @@ at-append_past (x ∷ xs) ys n p e =
 
 -- a text that blanks follow, cut at a width
 take-padded : (n k : ℕ) (text want : List ℕ)
-    → n ≤ k → length want ≡ n → ((p : ℕ) → p < n → at text p ≡ at want p) → take n (text ++ replicate k 32) ≡ want
+    → n ≤ k → length want ≡ n → ((p : ℕ) → p < n → at text p ≡ at want p) → take n (text ++ replicate k 32)
+    ≡ want
 take-padded zero k text [] le e h = refl
 take-padded zero k text (w ∷ ws) le e h = absurd (omega (arith, e))
 take-padded (suc n) k text [] le e h = absurd (omega (arith, e))
@@ -77,6 +78,7 @@ columns-are text first width want e h =
     take-padded width width (drop (first - 1) text) want
     (omega arith) e (λ p less. at-drop (first - 1) text p ∙ h p less)
 
-pub list_all-from_at : (p : ℕ → Bool) (text : List ℕ) → ((k : ℕ) → p (at text k) ≡ true) → list_all p text ≡ true
+pub list_all-from_at : (p : ℕ → Bool) (text : List ℕ) → ((k : ℕ) → p (at text k) ≡ true) → list_all p text
+    ≡ true
 list_all-from_at p [] h = refl
 list_all-from_at p (c ∷ cs) h = ap (λ b. b && list_all p cs) (h 0) ∙ list_all-from_at p cs (λ k. h (suc k))

@@ -1,7 +1,7 @@
 -- The columns of a receiver clock offset in lanes.
-use Rattle.std.proofs.Common.{◌≡◌, ℕ, ◌+◌, ◌-◌, ◌*◌, ◌%◌, ◌^◌, ◌<◌, Bool, true, false, cond, nat_eq, ltb, eqb, Some}
-use Rattle.std.proofs.Common.{List, [], ◌∷◌, ◌++◌, map, length, replicate, take, drop, get_or, subst, refl, sym, ap}
-use Rattle.std.proofs.Common.{◌∙◌, arith}
+use Rattle.std.proofs.Common.{◌≡◌, ℕ, ◌+◌, ◌-◌, ◌*◌, ◌%◌, ◌^◌, ◌<◌, Bool, true, false, cond, nat_eq, ltb, eqb}
+use Rattle.std.proofs.Common.{Some, List, [], ◌∷◌, ◌++◌, map, length, replicate, take, drop, get_or, subst}
+use Rattle.std.proofs.Common.{refl, sym, ap, ◌∙◌, arith}
 use Rattle.std.proofs.lemmas.Bool.{agree_below_at, and_from}
 use Rattle.std.proofs.lemmas.List.{length-drop}
 use Rattle.std.proofs.lemmas.Simd.{mask_l-mod, pick_l_whole}
@@ -34,7 +34,8 @@ digit_row field =
     zip2 (λ a b. (a + (256 - b)) % 256) row (replicate 16 48)
 
 abbrev pub digit_bits : List ℕ → ℕ
-digit_bits field = mask_l (map (top 7) (zip2 (λ a b. cond (ltb a b) 255 0) (digit_row field) (replicate 16 10)))
+digit_bits field = mask_l
+    (map (top 7) (zip2 (λ a b. cond (ltb a b) 255 0) (digit_row field) (replicate 16 10)))
 
 abbrev pub groups_of : List ℕ → List ℕ
 groups_of field =
@@ -68,10 +69,13 @@ module _ (c : ℕ → ℕ) (small : (i : ℕ)
   digits_explicit : all_ascii_digits (drop 3 (map c (range_with_len 0 15))) ≡ true
   digits_explicit =
       and_from _ _ (digit_at 3 (all_at (bits_of c) 0 all))
-      (and_from _ _ (digit_at 4 (all_at (bits_of c) 1 all)) (and_from _ _ (digit_at 5 (all_at (bits_of c) 2 all))
-      (and_from _ _ (digit_at 6 (all_at (bits_of c) 4 all)) (and_from _ _ (digit_at 7 (all_at (bits_of c) 5 all))
+      (and_from _ _ (digit_at 4 (all_at (bits_of c) 1 all))
+      (and_from _ _ (digit_at 5 (all_at (bits_of c) 2 all))
+      (and_from _ _ (digit_at 6 (all_at (bits_of c) 4 all))
+      (and_from _ _ (digit_at 7 (all_at (bits_of c) 5 all))
       (and_from _ _ (digit_at 8 (all_at (bits_of c) 6 all)) (and_from _ _ (digit_at 9 (all_at
-      (bits_of c) 8 all)) (and_from _ _ (digit_at 10 (all_at (bits_of c) 9 all)) (and_from _ _ (digit_at 11 (all_at
+      (bits_of c) 8 all)) (and_from _ _ (digit_at 10 (all_at (bits_of c) 9 all))
+      (and_from _ _ (digit_at 11 (all_at
       (bits_of c) 10 all)) (and_from _ _ (digit_at 12 (all_at (bits_of c) 12 all)) (and_from _ _ (digit_at 13
       (all_at (bits_of c) 13 all)) (and_from _ _ (digit_at 14 (all_at (bits_of c) 14 all)) (refl))))))))))))
 
@@ -96,7 +100,8 @@ module _ (c : ℕ → ℕ) (small : (i : ℕ)
       ∙ ((rw (s3, s4, s5, s6, s7, s8, s9, s10, s11, s12, s13, s14) refl) ∙ whole)
 
 pub fraction_digits : (field : List ℕ) → length field ≡ 15
-    → ((i : ℕ) → get_or field i 0 < 256) → digit_bits field % 2 ^ 64 ≡ 65535 → all_ascii_digits (drop 3 field) ≡ true
+    → ((i : ℕ) → get_or field i 0 < 256) → digit_bits field % 2 ^ 64 ≡ 65535 → all_ascii_digits (drop 3 field)
+    ≡ true
 fraction_digits field long small =
     subst (λ (f : List ℕ). digit_bits f % 2 ^ 64 ≡ 65535 → all_ascii_digits (drop 3 f) ≡ true)
     (sym (fifteen field long)) (digits_explicit (λ (i : ℕ). get_or field i 0) small)
@@ -104,16 +109,19 @@ fraction_digits field long small =
 pub fraction_value : (field : List ℕ) → length field ≡ 15 → ((i : ℕ) → get_or field i 0 < 256)
     → digit_bits field % 2 ^ 64 ≡ 65535 → joined_of (groups_of field) ≡ digits_value 10 (drop 3 field)
 fraction_value field long small =
-    subst (λ (f : List ℕ). digit_bits f % 2 ^ 64 ≡ 65535 → joined_of (groups_of f) ≡ digits_value 10 (drop 3 f))
+    subst (λ (f : List ℕ). digit_bits f % 2 ^ 64 ≡ 65535 → joined_of (groups_of f)
+    ≡ digits_value 10 (drop 3 f))
     (sym (fifteen field long)) (value_explicit (λ (i : ℕ). get_or field i 0) small)
 
 -- ---- what the columns spell
 
-decimal_explicit : (c : ℕ → ℕ) (digit fraction : ℕ) (is_below : Bool) → is_plain_after 32 (c 0 ∷ c 1 ∷ []) ≡ true
+decimal_explicit : (c : ℕ → ℕ) (digit fraction : ℕ) (is_below : Bool) → is_plain_after 32 (c 0 ∷ c 1 ∷ [])
+    ≡ true
     → is_below ≡ list_any (λ x. eqb x 45) (c 0 ∷ c 1 ∷ []) → digit ≡ weighed 0 (c 0 ∷ c 1 ∷ []) → c 2 ≡ 46 →
     all_ascii_digits (drop 3 (map c (range_with_len 0 15))) ≡ true
     → fraction ≡ digits_value 10 (drop 3 (map c (range_with_len 0 15))) →
-    number_of 15 12 (map c (range_with_len 0 15)) ≡ Some (Some (signed_number is_below (digit * 10 ^ 12 + fraction)))
+    number_of 15 12 (map c (range_with_len 0 15))
+    ≡ Some (Some (signed_number is_below (digit * 10 ^ 12 + fraction)))
 decimal_explicit c digit fraction is_below plain sign digit_is point digits fraction_is =
     let rest = drop 3 (map c (range_with_len 0 15)) in
     let reads = decimal_whole 12 rest (c 0 ∷ c 1 ∷ []) digits refl plain in
@@ -132,7 +140,8 @@ pub decimal_columns : (field : List ℕ) (digit fraction : ℕ) (is_below : Bool
     all_ascii_digits (drop 3 field) ≡ true → fraction ≡ digits_value 10 (drop 3 field)
     → number_of 15 12 field ≡ Some (Some (signed_number is_below (digit * 10 ^ 12 + fraction)))
 decimal_columns field digit fraction is_below long plain sign digit_is point =
-    subst (λ (f : List ℕ). all_ascii_digits (drop 3 f) ≡ true → fraction ≡ digits_value 10 (drop 3 f) → number_of
+    subst (λ (f : List ℕ). all_ascii_digits (drop 3 f) ≡ true → fraction ≡ digits_value 10 (drop 3 f)
+    → number_of
     15 12 f ≡ Some (Some (signed_number is_below (digit * 10 ^ 12 + fraction)))) (sym (fifteen field long))
     (decimal_explicit (λ (i : ℕ). get_or field i 0) digit fraction is_below plain sign digit_is point)
 

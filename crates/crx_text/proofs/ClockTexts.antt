@@ -1,6 +1,6 @@
 -- The text of a receiver clock offset with one digit before the point.
-use Rattle.std.proofs.Common.{◌≡◌, ℕ, suc, ◌+◌, ◌-◌, ◌*◌, ◌/◌, ◌%◌, ◌^◌, ◌<◌, List, [], ◌∷◌, ◌++◌, length, replicate}
-use Rattle.std.proofs.Common.{take, set, subst, refl, sym, ap, ◌∙◌, arith}
+use Rattle.std.proofs.Common.{◌≡◌, ℕ, suc, ◌+◌, ◌-◌, ◌*◌, ◌/◌, ◌%◌, ◌^◌, ◌<◌, List, [], ◌∷◌, ◌++◌, length}
+use Rattle.std.proofs.Common.{replicate, take, set, subst, refl, sym, ap, ◌∙◌, arith}
 use Rattle.std.proofs.lemmas.Fmt.{decimal_digit}
 use Rattle.std.specs.List.{range_with_len}
 use lib.Lanes.{pick_l, put_chunk}
@@ -12,7 +12,8 @@ use Rattle.crx_text.proofs.PrintedTexts.{plus, nine_in, three_in, twelve_padded}
 -- two stores of eight lanes, of which the second begins in the first
 abbrev pub stored : List ℕ → List ℕ → List ℕ
 stored text field = put_chunk 7
-    (put_chunk 3 field (pick_l 0 (text ++ text) (range_with_len 0 8))) (pick_l 0 (text ++ text) (range_with_len 4 8))
+    (put_chunk 3 field (pick_l 0 (text ++ text) (range_with_len 0 8)))
+    (pick_l 0 (text ++ text) (range_with_len 4 8))
 
 pub stored_fraction : (text field : List ℕ)
     → length text ≡ 16 → length field ≡ 15 → stored text field ≡ take 3 field ++ take 12 text

@@ -1,6 +1,5 @@
 -- Reading the numbers of codes.
-use Rattle.std.proofs.Common.{true, ℕ, ◌≡◌, ◌<◌, ◌≤◌, List, length}
-use Rattle.std.proofs.Common.{Some, None, if◌then◌else◌, arith, refl}
+use Rattle.std.proofs.Common.{true, ℕ, ◌≡◌, ◌<◌, ◌≤◌, List, length, Some, None, if◌then◌else◌, arith, refl}
 use Rattle.std.proofs.lemmas.Bool.Decides.{nat_tests}
 use Rattle.std.specs.Str.{all_ascii_digits}
 use Rattle.std.specs.Str.Parse.{digits_value_after, starts_with_minus}

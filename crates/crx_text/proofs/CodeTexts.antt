@@ -1,7 +1,7 @@
 -- Printed codes.
-use Rattle.std.proofs.Common.{true, false, ◌≡◌, ◌≢◌, ◌==◌, ℕ, ℤ, pos, negsuc, neg_ℤ, suc, ◌+◌, ◌-◌, ◌≤◌, ◌<◌, ◌^◌, List}
-use Rattle.std.proofs.Common.{[], ◌∷◌, ◌++◌, length, get_or, take, slice_set, decimal, Some, inl, inr, arith, ap, sym}
-use Rattle.std.proofs.Common.{◌∙◌, refl}
+use Rattle.std.proofs.Common.{true, false, ◌≡◌, ◌≢◌, ◌==◌, ℕ, ℤ, pos, negsuc, neg_ℤ, suc, ◌+◌, ◌-◌, ◌≤◌, ◌<◌}
+use Rattle.std.proofs.Common.{◌^◌, List, [], ◌∷◌, ◌++◌, length, get_or, take, slice_set, decimal, Some, inl}
+use Rattle.std.proofs.Common.{inr, arith, ap, sym, ◌∙◌, refl}
 use Rattle.std.proofs.lemmas.Bool.{cases_lt}
 use Rattle.std.proofs.lemmas.Bool.Decides.{nat_tests}
 use Rattle.std.proofs.lemmas.Fmt.{decimal_digit, decimal_nonempty, length-decimal-le}
@@ -24,10 +24,12 @@ use Rattle.crx_text.proofs.ReadBack.{decimal_first, decimal_is_digits, decimal_w
 -- an order is one digit
 pub code_text_start : (order : ℕ) (value : ℤ)
     → order < 10 → code_text (Start order value) ≡ (48 + order) ∷ 38 ∷ signed_decimal value
-code_text_start order value small = ap (λ (ds : List ℕ). ds ++ 38 ∷ signed_decimal value) (decimal_digit order small)
+code_text_start order value small = ap (λ (ds : List ℕ). ds ++ 38 ∷ signed_decimal value)
+    (decimal_digit order small)
 
 signed_decimal_length : (z : ℤ) → IsShort z → length (signed_decimal z) ≤ DIGITS_LIMIT + 1
-signed_decimal_length (pos n) short = let few = length-decimal-le DIGITS_LIMIT n (omega arith) short (omega arith) in
+signed_decimal_length (pos n) short = let few = length-decimal-le DIGITS_LIMIT n (omega arith) short
+    (omega arith) in
     omega (arith, few)
 signed_decimal_length (negsuc n) short = let few =
     length-decimal-le DIGITS_LIMIT (suc n) (omega arith) short (omega arith) in omega (arith, few)
@@ -44,7 +46,8 @@ code_text_length (Step difference) printable = let number = signed_decimal_lengt
 
 -- an order, & and a number, written one after another
 pub start_written : (bytes number : List ℕ) (at order : ℕ) → at + 2 ≤ length bytes → take (at + 2)
-    (slice_set (slice_set bytes at (48 + order)) (at + 1) 38) ++ number ≡ take at bytes ++ (48 + order) ∷ 38 ∷ number
+    (slice_set (slice_set bytes at (48 + order)) (at + 1) 38) ++ number
+    ≡ take at bytes ++ (48 + order) ∷ 38 ∷ number
 start_written bytes number at order room =
     ap (λ (t : List ℕ). t ++ number) (two_written bytes at (48 + order) 38 room)
     ∙ append_assoc (take at bytes) ((48 + order) ∷ 38 ∷ []) number
@@ -76,7 +79,8 @@ coded_number-decimal n small =
     (decimal_nonempty n tiny) (length-decimal-le DIGITS_LIMIT n (omega arith) small tiny)
     ∙ (rw (decimal_is_digits n tiny, starts_with_minus-digits (decimal n) other, decimal_weighs n tiny) refl)
 
-pub coded_number-minus : (n : ℕ) → n < 10 ^ DIGITS_LIMIT → coded_number (45 ∷ decimal n) ≡ Some (neg_ℤ (pos n))
+pub coded_number-minus : (n : ℕ) → n < 10 ^ DIGITS_LIMIT → coded_number (45 ∷ decimal n)
+    ≡ Some (neg_ℤ (pos n))
 coded_number-minus n small =
     let tiny : n < 2 ^ 64 = omega arith in
     coded_number_fitting (45 ∷ decimal n)
@@ -97,7 +101,8 @@ code_of_step (c ∷ d ∷ cs) some other =
 pub code_of-signed_decimal : (z : ℤ) → IsShort z → code_of (signed_decimal z) ≡ step_of (signed_decimal z)
 code_of-signed_decimal (pos n) short =
     let tiny : n < 2 ^ 64 = omega arith in
-    code_of_step (decimal n) (decimal_nonempty n tiny) (no_mark_in_digits (decimal n) 1 (decimal_is_digits n tiny))
+    code_of_step (decimal n) (decimal_nonempty n tiny)
+    (no_mark_in_digits (decimal n) 1 (decimal_is_digits n tiny))
 code_of-signed_decimal (negsuc n) short =
     let tiny : suc n < 2 ^ 64 = omega arith in
     code_of_step (45 ∷ decimal (suc n))

@@ -177,9 +177,12 @@ module _ (e : ℕ → ℕ) (zeroth : e 0 < 256) (first : e 1 < 256) (second : e 
   total_explicit (suc zero) few = of_groups 1 _ _ refl (omega arith) (omega arith) ∙ omega arith
   total_explicit (suc (suc zero)) few = of_groups 2 _ _ refl (omega arith) (omega arith) ∙ omega arith
   total_explicit (suc (suc (suc zero))) few = of_groups 3 _ _ refl (omega arith) (omega arith) ∙ omega arith
-  total_explicit (suc (suc (suc (suc zero)))) few = of_groups 4 _ _ refl (omega arith) (omega arith) ∙ omega arith
-  total_explicit (suc (suc (suc (suc (suc zero))))) few = of_groups 5 _ _ refl (omega arith) (omega arith) ∙ omega arith
-  total_explicit (suc (suc (suc (suc (suc (suc zero)))))) few = of_groups 6 _ _ refl (omega arith) (omega arith) ∙ omega arith
+  total_explicit (suc (suc (suc (suc zero)))) few = of_groups 4 _ _ refl (omega arith) (omega arith)
+      ∙ omega arith
+  total_explicit (suc (suc (suc (suc (suc zero))))) few = of_groups 5 _ _ refl (omega arith) (omega arith)
+      ∙ omega arith
+  total_explicit (suc (suc (suc (suc (suc (suc zero)))))) few = of_groups 6 _ _ refl (omega arith)
+      (omega arith) ∙ omega arith
   total_explicit (suc (suc (suc (suc (suc (suc (suc count))))))) few = absurd (omega arith)
 
 pub total_is : (v : List ℕ) (count : ℕ) → length v ≡ 16 → Each1 (Fits w8) v → count ≤ 6
@@ -223,7 +226,8 @@ pub read_row : (text : List ℕ) (size count : ℕ) → 8 ≤ length text → Ar
 read_row text size count some small counted few sized =
     let row : List ℕ = take 8 text in
     let front : (n : ℕ) → n ≤ 8 → take n (row_lanes text) ≡ take n (map above_zero row) =
-    λ (n : ℕ) (within : n ≤ 8). ap (take n) (lanes_are text some) ∙ take-map above_zero n (row ++ replicate 8 0)
+    λ (n : ℕ) (within : n ≤ 8). ap (take n) (lanes_are text some)
+    ∙ take-map above_zero n (row ++ replicate 8 0)
     ∙ ap (map above_zero)
     (take-append-le n row (replicate 8 0) (omega (arith, length-take-le 8 text some, within)))
     ∙ sym (take-map above_zero n row) in

@@ -1,6 +1,6 @@
 -- Lists of what a function gives at one place after another.
-use Rattle.std.specs.Prelude.{◌≡◌, refl, ℕ, zero, suc, ◌+◌, ◌<◌, ◌≤◌, min, [], ◌∷◌, ◌++◌, length, map, take, drop}
-use Rattle.std.specs.Prelude.{slice_index_or}
+use Rattle.std.specs.Prelude.{◌≡◌, refl, ℕ, zero, suc, ◌+◌, ◌<◌, ◌≤◌, min, [], ◌∷◌, ◌++◌, length, map, take}
+use Rattle.std.specs.Prelude.{drop, slice_index_or}
 use Rattle.std.specs.List.{AllByRecursion}
 use Rattle.std.proofs.Common.{sym, ◌∙◌, ap, arith, add-one}
 use Rattle.crx_text.specs.meaning.EachPlace.{each_place}
@@ -16,7 +16,8 @@ index-each_place zero j f d h = sym (h (omega arith))
 index-each_place (suc n) zero f d h = refl
 index-each_place (suc n) (suc j) f d h = index-each_place n j (λ i. f (suc i)) d (λ le. h (omega (arith, le)))
 
-pub each_place-same : {X : Type 0} (n : ℕ) (f g : ℕ → X) → ((k : ℕ) → f k ≡ g k) → each_place n f ≡ each_place n g
+pub each_place-same : {X : Type 0} (n : ℕ) (f g : ℕ → X) → ((k : ℕ) → f k ≡ g k) → each_place n f
+    ≡ each_place n g
 each_place-same zero f g h = refl
 each_place-same (suc n) f g h = ap (λ x. x ∷ each_place n (λ i. f (suc i))) (h 0)
     ∙ ap (λ r. g 0 ∷ r) (each_place-same n (λ i. f (suc i)) (λ i. g (suc i)) (λ k. h (suc k)))
@@ -54,7 +55,8 @@ pub drop-each_place : {X : Type 0} (n k : ℕ) (f : ℕ → X)
     → k < n → drop k (each_place n f) ≡ f k ∷ drop (k + 1) (each_place n f)
 drop-each_place n k f h = next n k f h ∙ ap (λ m. f k ∷ drop m (each_place n f)) (sym (add-one k))
   where
-    next : {X : Type 0} (n k : ℕ) (f : ℕ → X) → k < n → drop k (each_place n f) ≡ f k ∷ drop (suc k) (each_place n f)
+    next : {X : Type 0} (n k : ℕ) (f : ℕ → X) → k < n → drop k (each_place n f)
+        ≡ f k ∷ drop (suc k) (each_place n f)
     next zero k f h = absurd (omega arith)
     next (suc n) zero f h = refl
     next (suc n) (suc k) f h = next n k (λ i. f (suc i)) (omega arith)

@@ -48,7 +48,8 @@ next_lane n r y small =
 abbrev pub lanes_of : List ℕ → List ℕ
 lanes_of v = digits_l (2 ^ 32) 4 (number_l 256 (digits_l 256 16 (number_l (2 ^ 64) v)))
 
-module _ (a b c d : ℕ) (as_small : a < 1000) (bs_small : b < 1000) (cs_small : c < 1000) (ds_small : d < 1000) where
+module _ (a b c d : ℕ) (as_small : a < 1000) (bs_small : b < 1000) (cs_small : c < 1000)
+    (ds_small : d < 1000) where
   number_is : number_l (2 ^ 64) ((a + b * 2 ^ 32) ∷ (c + d * 2 ^ 32) ∷ [])
       ≡ a + 2 ^ 32 * (b + 2 ^ 32 * (c + 2 ^ 32 * (d + 2 ^ 32 * 0)))
   number_is = omega arith
@@ -90,10 +91,12 @@ wide_are_four a b c d as_small bs_small cs_small ds_small =
     let one : ((a + 2 ^ 32 * b) + 2 ^ 64 * (c + 2 ^ 32 * d)) % 2 ^ 64 ≡ a + 2 ^ 32 * b = omega (arith, low) in
     let two : ((a + 2 ^ 32 * b) + 2 ^ 64 * (c + 2 ^ 32 * d)) / 2 ^ 64 % 2 ^ 64 ≡ c + 2 ^ 32 * d =
     omega (arith, low, high) in
-    ap (digits_l (2 ^ 64) 2) (bytes_back 16 number (omega (arith, as_small, bs_small, cs_small, ds_small)) ∙ number_is)
+    ap (digits_l (2 ^ 64) 2)
+    (bytes_back 16 number (omega (arith, as_small, bs_small, cs_small, ds_small)) ∙ number_is)
     ∙ (rw (one, two) refl)
 
-pub wide_are : (high low : ℕ) → high < 2 ^ 32 → low < 2 ^ 32 → wide_of (high ∷ 0 ∷ low ∷ 0 ∷ []) ≡ high ∷ low ∷ []
+pub wide_are : (high low : ℕ) → high < 2 ^ 32 → low < 2 ^ 32 → wide_of (high ∷ 0 ∷ low ∷ 0 ∷ [])
+    ≡ high ∷ low ∷ []
 wide_are high low first second =
     let one : high + 2 ^ 32 * 0 ≡ high = omega arith in
     let two : low + 2 ^ 32 * 0 ≡ low = omega arith in

@@ -1,8 +1,7 @@
 -- Rows of lanes: from a list of known length to its elements, and from a mask to each lane.
-use Rattle.std.proofs.Common.{take, zero, ◌/◌, ◌<◌, ◌≡◌, ℕ, suc, ◌+◌, ◌-◌, ◌*◌, ◌%◌, ◌^◌, ◌≤◌, Bool, true, false}
-use Rattle.std.proofs.Common.{not, cond, ◌&&◌, ◌||◌}
-use Rattle.std.proofs.Common.{nat_eq, eqb, bit_and, bit_or, List, [], ◌∷◌, map, length, replicate, w8, refl, sym, ap}
-use Rattle.std.proofs.Common.{◌∙◌, arith}
+use Rattle.std.proofs.Common.{take, zero, ◌/◌, ◌<◌, ◌≡◌, ℕ, suc, ◌+◌, ◌-◌, ◌*◌, ◌%◌, ◌^◌, ◌≤◌, Bool, true}
+use Rattle.std.proofs.Common.{false, not, cond, ◌&&◌, ◌||◌, nat_eq, eqb, bit_and, bit_or, List, [], ◌∷◌, map}
+use Rattle.std.proofs.Common.{length, replicate, w8, refl, sym, ap, ◌∙◌, arith}
 use Rattle.std.proofs.Math.Nat.{pow-suc, one-le-pow, mod-one, zero-mod}
 use Rattle.std.proofs.lemmas.Nat.{and_mask}
 use Rattle.std.proofs.lemmas.List.{take-map, length-take-le}
@@ -45,7 +44,8 @@ all_bits p [] = refl
 all_bits p (x ∷ xs) =
     let power : 2 ^ suc (length xs) ≡ 2 * 2 ^ length xs = omega (arith, pow-suc 2 (length xs)) in
     let some : 1 ≤ 2 ^ length xs = one-le-pow (length xs) 2 (omega arith) in
-    rw power (all_bits_next (p x) (mask_l (map p xs)) (2 ^ length xs) some ∙ ap (λ t. p x && t) (all_bits p xs))
+    rw power (all_bits_next (p x) (mask_l (map p xs)) (2 ^ length xs) some
+    ∙ ap (λ t. p x && t) (all_bits p xs))
 
 -- a comparison of 16 lanes with one byte: each lane
 pub each_is_byte : (byte : ℕ) (xs : List ℕ) → length xs ≡ 16
@@ -84,7 +84,8 @@ first_bits (suc n) (m ∷ ms) =
 
 -- a comparison of 16 lanes with one byte, of which the first 14 count
 fourteen_bits : (byte : ℕ) (xs : List ℕ) → length xs ≡ 16
-    → bit_and (mask_l (map (top 7) (zip2 (λ a b. cond (eqb a b) 255 0) xs (replicate 16 byte))) % 2 ^ 64) 16383
+    → bit_and (mask_l (map (top 7) (zip2 (λ a b. cond (eqb a b) 255 0) xs (replicate 16 byte))) % 2 ^ 64)
+    16383
     ≡ mask_l (map (λ c. eqb c byte) (take 14 xs))
 fourteen_bits byte xs long =
     let is : ℕ → Bool = λ (c : ℕ). eqb c byte in
@@ -92,7 +93,8 @@ fourteen_bits byte xs long =
     ∙ and_mask (mask_l (map is xs)) 14 ∙ first_bits 14 (map is xs) ∙ ap mask_l (take-map is 14 xs)
 
 pub some_of_field : (byte : ℕ) (xs : List ℕ) → length xs ≡ 16
-    → not (nat_eq (bit_and (mask_l (map (top 7) (zip2 (λ a b. cond (eqb a b) 255 0) xs (replicate 16 byte))) % 2 ^ 64)
+    → not (nat_eq (bit_and
+    (mask_l (map (top 7) (zip2 (λ a b. cond (eqb a b) 255 0) xs (replicate 16 byte))) % 2 ^ 64)
     16383) 0) ≡ list_any (λ c. eqb c byte) (take 14 xs)
 some_of_field byte xs long =
     ap (λ (m : ℕ). not (nat_eq m 0)) (fourteen_bits byte xs long)
@@ -103,13 +105,15 @@ some_of_field byte xs long =
     twice false = refl
 
 pub each_of_field : (byte : ℕ) (xs : List ℕ) → length xs ≡ 16
-    → nat_eq (bit_and (mask_l (map (top 7) (zip2 (λ a b. cond (eqb a b) 255 0) xs (replicate 16 byte))) % 2 ^ 64)
+    → nat_eq (bit_and (mask_l (map (top 7) (zip2 (λ a b. cond (eqb a b) 255 0) xs (replicate 16 byte))) % 2 ^
+    64)
     16383) 16383 ≡ list_all (λ c. eqb c byte) (take 14 xs)
 each_of_field byte xs long =
     let fourteen : length (take 14 xs) ≡ 14 = length-take-le 14 xs (omega (arith, long)) in
     let power : 16383 ≡ 2 ^ length (take 14 xs) - 1 = ap (λ (n : ℕ). 2 ^ n - 1) (sym fourteen) in
     ap (λ (m : ℕ). nat_eq m 16383) (fourteen_bits byte xs long)
-    ∙ ap (nat_eq (mask_l (map (λ c. eqb c byte) (take 14 xs)))) power ∙ all_bits (λ c. eqb c byte) (take 14 xs)
+    ∙ ap (nat_eq (mask_l (map (λ c. eqb c byte) (take 14 xs)))) power
+    ∙ all_bits (λ c. eqb c byte) (take 14 xs)
 
 -- ---- the lanes of masks, which are 255 or 0
 

@@ -1,6 +1,7 @@
 -- What operations on vectors of characters say of each character.
-use Rattle.std.proofs.Common.{true, false, ℕ, suc, zero, ◌≡◌, ◌+◌, ◌-◌, ◌%◌, ◌^◌, ◌&&◌, cond, eqb, ltb, bit_or, Bool}
-use Rattle.std.proofs.Common.{List, [], ◌∷◌, length, map, replicate, Fits, w8, arith, refl, ap, sym, ◌∙◌}
+use Rattle.std.proofs.Common.{true, false, ℕ, suc, zero, ◌≡◌, ◌+◌, ◌-◌, ◌%◌, ◌^◌, ◌&&◌, cond, eqb, ltb}
+use Rattle.std.proofs.Common.{bit_or, Bool, List, [], ◌∷◌, length, map, replicate, Fits, w8, arith, refl, ap}
+use Rattle.std.proofs.Common.{sym, ◌∙◌}
 use Rattle.std.proofs.lemmas.Bool.{agree_below, agree_below_at, ne_eqb}
 use Rattle.std.proofs.lemmas.Nat.{le_or_l, le_or_r}
 use Rattle.std.proofs.lemmas.Simd.{map-map, splat_is_map, tops_compared, zip2_of_maps, zip2_splat}
@@ -25,7 +26,8 @@ lanes-mark_of (suc n) (a ∷ as') (b ∷ bs) first second =
     ap (λ t. mark_of a b ∷ t) (lanes-mark_of n as' bs (omega arith) (omega arith))
 
 lanes-character_of : (n : ℕ) (olds marks : List ℕ) → length olds ≡ n → length marks ≡ n →
-    sel_l (zip2 eqb marks (replicate n 32)) olds (sel_l (zip2 eqb marks (replicate n 38)) (replicate n 32) marks)
+    sel_l (zip2 eqb marks (replicate n 32)) olds
+    (sel_l (zip2 eqb marks (replicate n 38)) (replicate n 32) marks)
     ≡ zip2 character_of olds marks
 lanes-character_of zero [] [] first second = refl
 lanes-character_of zero (a ∷ as') bs first second = absurd (omega arith)
@@ -50,7 +52,8 @@ mark_lanes olds news first second =
     ∙ lanes-mark_of 16 olds news first second
 
 pub character_lanes : (olds marks : List ℕ) → length olds ≡ 16 → length marks ≡ 16 →
-    sel_l (equals marks (replicate 16 32)) olds (sel_l (equals marks (replicate 16 38)) (replicate 16 32) marks)
+    sel_l (equals marks (replicate 16 32)) olds
+    (sel_l (equals marks (replicate 16 38)) (replicate 16 32) marks)
     ≡ zip2 character_of olds marks
 character_lanes olds marks first second =
     ap (λ ms. sel_l ms olds (sel_l (equals marks (replicate 16 38)) (replicate 16 32) marks))
@@ -66,7 +69,8 @@ or_none zero zero = refl
 or_none (suc a) b = let more = le_or_l (suc a) b in ne_eqb (bit_or (suc a) b) 0 (λ e. omega (arith, e, more))
     ∙ ap (λ t. t && eqb b 0) (sym (ne_eqb (suc a) 0 (λ e. omega (arith, e))))
 or_none zero (suc b) = let more = le_or_r zero (suc b) in
-    ne_eqb (bit_or zero (suc b)) 0 (λ e. omega (arith, e, more)) ∙ sym (ne_eqb (suc b) 0 (λ e. omega (arith, e)))
+    ne_eqb (bit_or zero (suc b)) 0 (λ e. omega (arith, e, more))
+    ∙ sym (ne_eqb (suc b) 0 (λ e. omega (arith, e)))
 
 abbrev unset : ℕ → Bool
 unset lane = eqb lane 0
@@ -93,7 +97,8 @@ crossed true true c d = refl
 
 -- no lane is set exactly where none was, and each character passes
 none_more : (q : ℕ → Bool) (f : ℕ → ℕ)
-    → agree_below (λ x. unset (f x)) q 256 ≡ true → (others v : List ℕ) → length others ≡ length v → Each1 (Fits w8) v
+    → agree_below (λ x. unset (f x)) q 256 ≡ true → (others v : List ℕ) → length others ≡ length v
+    → Each1 (Fits w8) v
     → list_all unset (zip2 bit_or others (map f v)) ≡ (list_all unset others && list_all q v)
 none_more q f agree [] [] same fits = refl
 none_more q f agree [] (x ∷ xs) same fits = absurd (omega (arith, same))
@@ -121,12 +126,14 @@ abbrev unprintable : List ℕ → List ℕ
 unprintable v =
     let r = zip2 (λ a b. (a + (256 - b)) % 256) v (replicate 16 32) in
     zip2 (λ a b. (a + (256 - b)) % 256) (sel_l
-    (map (top 7) (zip2 (λ a b. cond (ltb a b) 255 0) r (replicate 16 94))) (replicate 16 94) r) (replicate 16 94)
+    (map (top 7) (zip2 (λ a b. cond (ltb a b) 255 0) r (replicate 16 94))) (replicate 16 94) r)
+    (replicate 16 94)
 
 module _ (v : List ℕ) (long : length v ≡ 16) (others : List ℕ) (same : length others ≡ 16) where
   -- which lanes are below a splat
   lanes_below : (f : ℕ → ℕ) (r : List ℕ) (k : ℕ) → r ≡ map f v → map
-      (top 7) (zip2 (λ a b. cond (ltb a b) 255 0) r (replicate 16 k)) ≡ map (λ x. top 7 (cond (ltb (f x) k) 255 0)) v
+      (top 7) (zip2 (λ a b. cond (ltb a b) 255 0) r (replicate 16 k))
+      ≡ map (λ x. top 7 (cond (ltb (f x) k) 255 0)) v
   lanes_below f r k is = ap (map (top 7)) (zip2_of_maps (λ a b. cond (ltb a b) 255 0) f
       (λ _. k) v is (splat_is_map v 16 k long)) ∙ map-map (top 7) (λ x. cond (ltb (f x) k) 255 0) v
 
@@ -135,7 +142,8 @@ module _ (v : List ℕ) (long : length v ≡ 16) (others : List ℕ) (same : len
       let r : List ℕ = zip2 (λ a b. (a + (256 - b)) % 256) v (replicate 16 32) in
       let r_is : r ≡ map from_blank v = zip2_splat (λ a b. (a + (256 - b)) % 256) v 16 32 long in
       let limit : replicate 16 94 ≡ map (λ _. 94) v = splat_is_map v 16 94 long in
-      let selected : sel_l (map (top 7) (zip2 (λ a b. cond (ltb a b) 255 0) r (replicate 16 94))) (replicate 16 94) r
+      let selected : sel_l (map (top 7) (zip2 (λ a b. cond (ltb a b) 255 0) r (replicate 16 94)))
+      (replicate 16 94) r
       ≡ map (λ x. cond (top 7 (cond (ltb (from_blank x) 94) 255 0)) 94 (from_blank x)) v =
       (λ i. sel_l (lanes_below from_blank r 94 r_is i) (limit i) (r_is i))
       ∙ chosen (λ x. top 7 (cond (ltb (from_blank x) 94) 255 0)) (λ _. 94) from_blank v in
@@ -143,7 +151,8 @@ module _ (v : List ℕ) (long : length v ≡ 16) (others : List ℕ) (same : len
       (λ x. cond (top 7 (cond (ltb (from_blank x) 94) 255 0)) 94 (from_blank x)) (λ _. 94) v selected limit
 
   pub printable_lanes : Each1 (Fits w8) v
-      → list_all unset (zip2 bit_or others (unprintable v)) ≡ (list_all unset others && list_all is_printable v)
+      → list_all unset (zip2 bit_or others (unprintable v))
+      ≡ (list_all unset others && list_all is_printable v)
   printable_lanes fits = ap (λ t. list_all unset (zip2 bit_or others t)) unprintable_each
       ∙ none_more is_printable too_far refl others v (same ∙ sym long) fits
 
@@ -156,9 +165,11 @@ module _ (v : List ℕ) (long : length v ≡ 16) (others : List ℕ) (same : len
       ∙ chosen (λ x. eqb x 38) (λ _. 255) (λ _. 0) v
 
   pub kept_lanes : Each1 (Fits w8) v
-      → list_all unset (zip2 bit_or others (zip2 bit_or (unprintable v) (sel_l {A = ℕ} (equals v (replicate 16 38))
+      → list_all unset (zip2 bit_or others
+      (zip2 bit_or (unprintable v) (sel_l {A = ℕ} (equals v (replicate 16 38))
       (replicate 16 255) (replicate 16 0)))) ≡ (list_all unset others && list_all is_kept v)
   kept_lanes fits =
       ap (λ t. list_all unset (zip2 bit_or others t))
       (zip2_of_maps bit_or too_far (λ x. cond (eqb x 38) 255 0) v unprintable_each ampersands_each)
-      ∙ none_more is_kept (λ x. bit_or (too_far x) (cond (eqb x 38) 255 0)) refl others v (same ∙ sym long) fits
+      ∙ none_more is_kept (λ x. bit_or (too_far x) (cond (eqb x 38) 255 0)) refl others v
+      (same ∙ sym long) fits

@@ -1,7 +1,7 @@
 -- The test of a field's columns by lanes: what each lane's bit says, and all of them together.
-use Rattle.std.proofs.Common.{◌≡◌, ℕ, zero, suc, ◌+◌, ◌-◌, ◌%◌, ◌<◌, Bool, true, false, cond, ◌&&◌, ◌||◌}
-use Rattle.std.proofs.Common.{ltb, eqb, bit_and, bit_or, List, [], ◌∷◌, ◌++◌, map, length, replicate, get_or, subst}
-use Rattle.std.proofs.Common.{Fits, w8, refl, sym, ap, ◌∙◌, eqb-true, arith}
+use Rattle.std.proofs.Common.{◌≡◌, ℕ, zero, suc, ◌+◌, ◌-◌, ◌%◌, ◌<◌, Bool, true, false, cond, ◌&&◌, ◌||◌, ltb}
+use Rattle.std.proofs.Common.{eqb, bit_and, bit_or, List, [], ◌∷◌, ◌++◌, map, length, replicate, get_or}
+use Rattle.std.proofs.Common.{subst, Fits, w8, refl, sym, ap, ◌∙◌, eqb-true, arith}
 use Rattle.std.proofs.lemmas.Bool.{agree_below_at, and_from, or_right}
 use Rattle.std.specs.Char.{is_ascii_digit}
 use Rattle.std.specs.List.{list_all, range_with_len}
@@ -47,7 +47,8 @@ lane_is start most before c =
     let after : Bool = eqb before 32 in
     let either : Bool = eqb c 32 || eqb c 45 in
     let above : ℕ = far start most c in
-    ap (λ (x : ℕ). eqb (cond (top 7 (bit_and (cond after 255 0) x)) 0 above) 0) (or_lane (eqb c 32) (eqb c 45))
+    ap (λ (x : ℕ). eqb (cond (top 7 (bit_and (cond after 255 0) x)) 0 above) 0)
+    (or_lane (eqb c 32) (eqb c 45))
     ∙ ap (λ (x : ℕ). eqb (cond (top 7 x) 0 above) 0) (and_lane after either)
     ∙ ap (λ (t : Bool). eqb (cond t 0 above) 0) (top_lane (after && either))
     ∙ chosen (after && either) above
@@ -100,15 +101,19 @@ module _ (c : ℕ → ℕ) (small : (i : ℕ) → c i < 256) (all : list_all (λ
     first = first;
     whole =
         and_from _ _ (first_allowed (c 0) first)
-        (and_from _ _ (whole_at 0 (all_at (lanes c) 1 all)) (and_from _ _ (whole_at 1 (all_at (lanes c) 2 all))
+        (and_from _ _ (whole_at 0 (all_at (lanes c) 1 all))
+        (and_from _ _ (whole_at 1 (all_at (lanes c) 2 all))
         (and_from _ _ (whole_at 2 (all_at (lanes c) 3 all))
-        (and_from _ _ (whole_at 3 (all_at (lanes c) 4 all)) (and_from _ _ (whole_at 4 (all_at (lanes c) 5 all))
+        (and_from _ _ (whole_at 3 (all_at (lanes c) 4 all))
+        (and_from _ _ (whole_at 4 (all_at (lanes c) 5 all))
         (and_from _ _ (whole_at 5 (all_at (lanes c) 6 all))
-        (and_from _ _ (whole_at 6 (all_at (lanes c) 7 all)) (and_from _ _ (whole_at 7 (all_at (lanes c) 8 all))
+        (and_from _ _ (whole_at 6 (all_at (lanes c) 7 all))
+        (and_from _ _ (whole_at 7 (all_at (lanes c) 8 all))
         (and_from _ _ (whole_at 8 (all_at (lanes c) 9 all)) refl)))))))));
     point = eqb-true _ _ (sym (point_lane (c 10) (small 10)) ∙ all_at (lanes c) 10 all);
     fraction = and_from _ _ (fraction_at 11 (all_at (lanes c) 11 all)) (and_from
-        _ _ (fraction_at 12 (all_at (lanes c) 12 all)) (and_from _ _ (fraction_at 13 (all_at (lanes c) 13 all)) refl));
+        _ _ (fraction_at 12 (all_at (lanes c) 12 all))
+        (and_from _ _ (fraction_at 13 (all_at (lanes c) 13 all)) refl));
   }
 
 -- what isn't allowed in a row, as the code makes it
@@ -126,8 +131,10 @@ refused v =
     sel_l (map (top 7) (zip2 bit_and blanks prefix)) (replicate 16 0) above
 
 explicit : (c : ℕ → ℕ) → ((i : ℕ) → c i < 256)
-    → eqb (fold_l bit_or 0 (refused (map c (range_with_len 0 16)))) 0 ≡ true → IsPlain (map c (range_with_len 0 16))
-explicit c small none = plain_lanes c small (sym (none_in_fold (refused (map c (range_with_len 0 16))) 0) ∙ none)
+    → eqb (fold_l bit_or 0 (refused (map c (range_with_len 0 16)))) 0 ≡ true
+    → IsPlain (map c (range_with_len 0 16))
+explicit c small none = plain_lanes c small
+    (sym (none_in_fold (refused (map c (range_with_len 0 16))) 0) ∙ none)
 
 pub plain_from_fold : (v : List ℕ)
     → length v ≡ 16 → Each1 (Fits w8) v → eqb (fold_l bit_or 0 (refused v)) 0 ≡ true → IsPlain v

@@ -1,7 +1,8 @@
 -- The number that a row of lanes weighs, three digits at a time.
-use Rattle.std.proofs.Common.{◌≡◌, ℕ, suc, ◌+◌, ◌-◌, ◌*◌, ◌%◌, ◌^◌, ◌<◌, ◌≤◌, Bool, true, false, cond, ◌&&◌, ◌||◌, ltb}
-use Rattle.std.proofs.Common.{bit_and, ◌/◌, ap, leb, eqb, List, [], ◌∷◌, ◌++◌, map, length, replicate, get_or, subst, Fits, w8, refl, sym}
-use Rattle.std.proofs.Common.{◌∙◌, ltb-true, ltb-false, eqb-true, inl, inr, arith}
+use Rattle.std.proofs.Common.{◌≡◌, ℕ, suc, ◌+◌, ◌-◌, ◌*◌, ◌%◌, ◌^◌, ◌<◌, ◌≤◌, Bool, true, false, cond, ◌&&◌}
+use Rattle.std.proofs.Common.{◌||◌, ltb, bit_and, ◌/◌, ap, leb, eqb, List, [], ◌∷◌, ◌++◌, map, length}
+use Rattle.std.proofs.Common.{replicate, get_or, subst, Fits, w8, refl, sym, ◌∙◌, ltb-true, ltb-false}
+use Rattle.std.proofs.Common.{eqb-true, inl, inr, arith}
 use Rattle.std.proofs.Math.Nat.{pow-suc, mul-le-mul_right}
 use Rattle.std.proofs.lemmas.Nat.{and_mask}
 use Rattle.std.proofs.lemmas.Bool.{and_parts, or_cases, leb-true, le-leb}
@@ -51,9 +52,11 @@ joined_pairs groups =
     (zip2 (λ a b. a / 2 ^ b) pairs (replicate 2 32))
 
 pair_is : (a b : ℕ) → a < 2 ^ 16 → b < 2 ^ 16
-    → (bit_and (a + 2 ^ 32 * b) 4294967295 * 1000 % 2 ^ 64 + (a + 2 ^ 32 * b) / 2 ^ 32) % 2 ^ 64 ≡ a * 1000 + b
+    → (bit_and (a + 2 ^ 32 * b) 4294967295 * 1000 % 2 ^ 64 + (a + 2 ^ 32 * b) / 2 ^ 32) % 2 ^ 64
+    ≡ a * 1000 + b
 pair_is a b as_small bs_small =
-    let low : bit_and (a + 2 ^ 32 * b) 4294967295 ≡ a = and_mask (a + 2 ^ 32 * b) 32 ∙ omega (arith, as_small) in
+    let low : bit_and (a + 2 ^ 32 * b) 4294967295 ≡ a = and_mask (a + 2 ^ 32 * b) 32
+    ∙ omega (arith, as_small) in
     rw low (omega (arith, as_small, bs_small))
 
 pub pairs_are : (groups : List ℕ) → length groups ≡ 4 → Each1 (λ group. group < 2 ^ 16) groups
@@ -83,12 +86,14 @@ pub twelve : (a b c d e f g h i j k l x : ℕ) →
 twelve a b c d e f g h i j k l x = omega arith
 
 size_of_lanes : (c : ℕ → ℕ) → ((i : ℕ) → c i < 256)
-    → joined_of (size_parts (map c (range_with_len 0 16))) ≡ weighed 0 (plain_digits (map c (range_with_len 0 16)))
+    → joined_of (size_parts (map c (range_with_len 0 16)))
+    ≡ weighed 0 (plain_digits (map c (range_with_len 0 16)))
 size_of_lanes c small =
     let same = λ (i : ℕ). digit_lane_is (c i) (small i) in
     let d = λ (i : ℕ). digit_lane (c i) in
     twelve (d 1) (d 2) (d 3) (d 4) (d 5) (d 6) (d 7) (d 8) (d 9) (d 11) (d 12) (d 13) (d 0)
-    ∙ (rw (same 1, same 2, same 3, same 4, same 5, same 6, same 7, same 8, same 9, same 11, same 12, same 13) refl)
+    ∙ (rw (same 1, same 2, same 3, same 4, same 5, same 6, same 7, same 8, same 9, same 11, same 12, same 13)
+    refl)
 
 pub size_from_parts : (v : List ℕ)
     → length v ≡ 16 → Each1 (Fits w8) v → joined_of (size_parts v) ≡ weighed 0 (plain_digits v)
@@ -98,7 +103,8 @@ size_from_parts v long fits =
 
 -- ---- the range
 
-weighed_is_small : (n : ℕ) (cs : List ℕ) → list_all (λ c. leb c 57) cs ≡ true → weighed n cs < (n + 1) * 10 ^ length cs
+weighed_is_small : (n : ℕ) (cs : List ℕ) → list_all (λ c. leb c 57) cs ≡ true
+    → weighed n cs < (n + 1) * 10 ^ length cs
 weighed_is_small n [] small = omega arith
 weighed_is_small n (c ∷ cs) small =
     let parts = and_parts (leb c 57) (list_all (λ c. leb c 57) cs) small in
@@ -117,17 +123,20 @@ digits_are_small (c ∷ cs) digits =
     let small : leb c 57 ≡ true = le-leb c 57 (omega (arith, range)) in
     rw small (digits_are_small cs parts.1)
 
-plain_is_small : (before : ℕ) (cs : List ℕ) → is_plain_after before cs ≡ true → list_all (λ c. leb c 57) cs ≡ true
+plain_is_small : (before : ℕ) (cs : List ℕ) → is_plain_after before cs ≡ true → list_all (λ c. leb c 57) cs
+    ≡ true
 plain_is_small before [] plain = refl
 plain_is_small before (c ∷ cs) plain =
-    let parts = and_parts (is_ascii_digit c || (eqb before 32 && (eqb c 32 || eqb c 45))) (is_plain_after c cs) plain in
+    let parts = and_parts (is_ascii_digit c || (eqb before 32 && (eqb c 32 || eqb c 45)))
+    (is_plain_after c cs) plain in
     let small : leb c 57 ≡ true = le-leb c 57
     (elim (or_cases (is_ascii_digit c) (eqb before 32 && (eqb c 32 || eqb c 45)) parts.0) [
       | inl digit ↦ let range = digit_range c digit in omega (arith, range)
-      | inr sign ↦ elim (or_cases (eqb c 32) (eqb c 45) (and_parts (eqb before 32) (eqb c 32 || eqb c 45) sign).1) [
-        | inl blank ↦ omega (arith, eqb-true _ _ blank)
-        | inr minus ↦ omega (arith, eqb-true _ _ minus)
-      ]
+      | inr sign ↦ elim (or_cases (eqb c 32) (eqb c 45)
+          (and_parts (eqb before 32) (eqb c 32 || eqb c 45) sign).1) [
+            | inl blank ↦ omega (arith, eqb-true _ _ blank)
+            | inr minus ↦ omega (arith, eqb-true _ _ minus)
+          ]
     ]) in
     rw small (plain_is_small c cs parts.1)
 
@@ -143,7 +152,8 @@ small_explicit : (c : ℕ → ℕ) → IsPlain (map c (range_with_len 0 16))
 small_explicit c plain =
     let whole : list_all (λ b. leb b 57) (map c (range_with_len 0 10)) ≡ true =
     plain_is_small 32 (map c (range_with_len 0 10)) plain.whole in
-    let digits : list_all (λ b. leb b 57) (map c (range_with_len 1 9)) ≡ true = (and_parts (leb (c 0) 57) _ whole).1 in
+    let digits : list_all (λ b. leb b 57) (map c (range_with_len 1 9))
+    ≡ true = (and_parts (leb (c 0) 57) _ whole).1 in
     let fraction : list_all (λ b. leb b 57) (map c (range_with_len 11 3)) ≡ true =
     digits_are_small (map c (range_with_len 11 3)) plain.fraction in
     weighed_is_small 0 (plain_digits (map c (range_with_len 0 16)))
@@ -154,6 +164,7 @@ plain_size_is_small v long =
     subst (λ (w : List ℕ). IsPlain w → weighed 0 (plain_digits w) < 10 ^ 12)
     (sym (sixteen v long)) (small_explicit (λ (i : ℕ). get_or v i 0))
 
-pub signed_in_range : (is_below : Bool) (size : ℕ) → size < 10 ^ 12 → IsWithin 14 (signed_number is_below size)
+pub signed_in_range : (is_below : Bool) (size : ℕ) → size < 10 ^ 12
+    → IsWithin 14 (signed_number is_below size)
 signed_in_range true size small = neg_is_within size 14 small
 signed_in_range false size small = pos_is_within size 14 (omega (arith, small))

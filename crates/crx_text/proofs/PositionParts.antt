@@ -1,8 +1,9 @@
 -- What two parts of a buffer hold: a rule on two texts as far as both go, and on the rest of the longer one.
-use Rattle.std.proofs.Common.{ℕ, ◌≡◌, ◌+◌, ◌-◌, ◌≤◌, List, [], ◌++◌, length, drop, take, replicate, arith, refl, ap}
-use Rattle.std.proofs.Common.{sym, ◌∙◌}
-use Rattle.std.proofs.lemmas.List.{append_assoc, append-nil, drop_all, length-append, length-drop, length-replicate}
-use Rattle.std.proofs.lemmas.List.{length-take-le, take_all, take_at, take-replicate, drop-replicate}
+use Rattle.std.proofs.Common.{ℕ, ◌≡◌, ◌+◌, ◌-◌, ◌≤◌, List, [], ◌++◌, length, drop, take, replicate, arith}
+use Rattle.std.proofs.Common.{refl, ap, sym, ◌∙◌}
+use Rattle.std.proofs.lemmas.List.{append_assoc, append-nil, drop_all, length-append, length-drop}
+use Rattle.std.proofs.lemmas.List.{length-replicate, length-take-le, take_all, take_at, take-replicate}
+use Rattle.std.proofs.lemmas.List.{drop-replicate}
 use Rattle.std.proofs.lemmas.Simd.{length-zip2}
 use Rattle.std.specs.Simd.Lanes.{zip2}
 use Rattle.crx_text.specs.meaning.Texts.{by_position}
@@ -13,20 +14,23 @@ use Rattle.crx_text.proofs.Positions.{by_position-split, by_position-old, by_pos
 blanks_are : BLANKS ≡ replicate LINE_LIMIT 32
 blanks_are = refl
 
-pub some_blanks : (k end : ℕ) → k ≤ end → end ≤ LINE_LIMIT → take (end - k) (drop k BLANKS) ≡ replicate (end - k) 32
+pub some_blanks : (k end : ℕ) → k ≤ end → end ≤ LINE_LIMIT → take (end - k) (drop k BLANKS)
+    ≡ replicate (end - k) 32
 some_blanks k end ordered within =
     ap (λ t. take (end - k) (drop k t)) blanks_are ∙ ap (take (end - k)) (drop-replicate k LINE_LIMIT 32)
     ∙ take-replicate (end - k) (LINE_LIMIT - k) 32 (omega arith)
 
 module _ (f : ℕ → ℕ → ℕ) (old other front rest more others : List ℕ) (k : ℕ)
-    (first : k ≤ length old) (second : k ≤ length other) (front_is : front ≡ zip2 f (take k old) (take k other)) where
+    (first : k ≤ length old) (second : k ≤ length other)
+    (front_is : front ≡ zip2 f (take k old) (take k other)) where
   front_long : length front ≡ k
   front_long =
       let olds = length-take-le k old first in
       let news = length-take-le k other second in
       ap length front_is ∙ length-zip2 f (take k old) (take k other) (olds ∙ sym news) ∙ olds
 
-  two_parts : (end : ℕ) → k + length rest ≡ end → take end (take k (front ++ more) ++ (rest ++ others)) ≡ front ++ rest
+  two_parts : (end : ℕ) → k + length rest ≡ end → take end (take k (front ++ more) ++ (rest ++ others))
+      ≡ front ++ rest
   two_parts end sum =
       let joined : length (front ++ rest) ≡ end = omega (arith, length-append front rest, front_long, sum) in
       rw (take_at front more k front_long, ← append_assoc) (take_at (front ++ rest) others end joined)
@@ -55,7 +59,8 @@ module _ (f : ℕ → ℕ → ℕ) (old other front rest more others : List ℕ)
       (sym (by_position-old f (drop k old)))) in
       let long : length rest ≡ length old - k =
       ap length rest_is ∙ (rw (text, some_blanks k (length old) first within) (length-zip2 f
-      (drop k old) (replicate (length old - k) 32) (left ∙ sym (length-replicate (length old - k) 32)))) ∙ left in
+      (drop k old) (replicate (length old - k) 32) (left ∙ sym (length-replicate (length old - k) 32))))
+      ∙ left in
       two_parts (length old) (omega arith) ∙ ap (λ t. front ++ t) whole ∙ sym by_parts
 
   pub other_is_longer : length old ≡ k → length other ≤ LINE_LIMIT
@@ -63,7 +68,8 @@ module _ (f : ℕ → ℕ → ℕ) (old other front rest more others : List ℕ)
       take (length other) (take k (front ++ more) ++ (rest ++ others)) ≡ by_position f old other
   other_is_longer ends within rest_is =
       let left : length (drop k other) ≡ length other - k = length-drop k other in
-      let text : take (length other - k) (drop k other) ≡ drop k other = take_all _ (drop k other) (omega arith) in
+      let text : take (length other - k) (drop k other)
+      ≡ drop k other = take_all _ (drop k other) (omega arith) in
       let blanks : List ℕ = replicate (length other - k) 32 in
       let count : length blanks ≡ length other - k = length-replicate (length other - k) 32 in
       let none : drop k old ≡ [] = drop_all k old (omega arith) in

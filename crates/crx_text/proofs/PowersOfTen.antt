@@ -1,6 +1,6 @@
 -- Numbers that grow digit by digit, and the powers of ten that bound them.
-use Rattle.std.proofs.Common.{pow-add, true, List, [], ◌∷◌, ◌++◌, length, drop, get_or, ◌≡◌, ℕ, suc, ◌+◌, ◌-◌, ◌*◌, ◌<◌}
-use Rattle.std.proofs.Common.{◌≤◌, ◌^◌, arith, refl, ap, sym, ◌∙◌}
+use Rattle.std.proofs.Common.{pow-add, true, List, [], ◌∷◌, ◌++◌, length, drop, get_or, ◌≡◌, ℕ, suc, ◌+◌, ◌-◌}
+use Rattle.std.proofs.Common.{◌*◌, ◌<◌, ◌≤◌, ◌^◌, arith, refl, ap, sym, ◌∙◌}
 use Rattle.std.proofs.Math.Nat.{pow-suc, one-le-pow, mul-le-mul_left, mul-le-mul_right, pow-le-pow_right}
 use Rattle.std.proofs.lemmas.Bool.{and_parts}
 use Rattle.std.proofs.lemmas.List.{drop_more}
@@ -18,7 +18,8 @@ ten_pow_pos k = one-le-pow k 10 (omega arith)
 pub one_more_digit : (size digit power all : ℕ)
     → digit ≤ 9 → (size + 1) * (power * 10) ≤ all → (size * 10 + digit + 1) * power ≤ all
 one_more_digit size digit power all small bound =
-    let grows : (size * 10 + digit + 1) * power ≤ ((size + 1) * 10) * power = mul-le-mul_right power (omega arith) in
+    let grows : (size * 10 + digit + 1) * power ≤ ((size + 1) * 10) * power = mul-le-mul_right power
+    (omega arith) in
     omega (arith, grows, bound)
 
 -- a bound on all digits bounds the next number
@@ -29,7 +30,8 @@ next_is_small size power all one bound =
 
 -- at an index, the power of the digits that are left
 pub pow_left : (n i : ℕ) → i < n → 10 ^ (n - i) ≡ 10 ^ (n - (i + 1)) * 10
-pow_left n i h = let e : n - i ≡ suc (n - (i + 1)) = omega arith in ap (λ (k : ℕ). 10 ^ k) e ∙ pow-suc 10 (n - (i + 1))
+pow_left n i h = let e : n - i ≡ suc (n - (i + 1)) = omega arith in ap (λ (k : ℕ). 10 ^ k) e
+    ∙ pow-suc 10 (n - (i + 1))
 
 pub digit_range : (c : ℕ) → is_ascii_digit c ≡ true → IsInRange 48 57 c
 digit_range c h = grind (arith, nat_tests)
@@ -39,11 +41,13 @@ digit_value_is c h = let e : digit_value c + 48 ≡ c = digit_value_digit c (dig
 
 -- the digit at an index is passed over
 pub all_digits_next : (ds : List ℕ) (i : ℕ) → i < length ds
-    → is_ascii_digit (get_or ds i 0) ≡ true → all_ascii_digits (drop (i + 1) ds) ≡ all_ascii_digits (drop i ds)
+    → is_ascii_digit (get_or ds i 0) ≡ true → all_ascii_digits (drop (i + 1) ds)
+    ≡ all_ascii_digits (drop i ds)
 all_digits_next ds i within is_digit = rw (drop_more ds i 0 within, is_digit) refl
 
 pub digits_value_next : (ds : List ℕ) (i size : ℕ) → i < length ds
-    → is_ascii_digit (get_or ds i 0) ≡ true → digits_value_after 10 (size * 10 + (get_or ds i 0 - 48)) (drop (i + 1) ds)
+    → is_ascii_digit (get_or ds i 0) ≡ true
+    → digits_value_after 10 (size * 10 + (get_or ds i 0 - 48)) (drop (i + 1) ds)
     ≡ digits_value_after 10 size (drop i ds)
 digits_value_next ds i size within is_digit =
     rw (drop_more ds i 0 within) (ap (λ (d : ℕ). digits_value_after 10 (size * 10 + d) (drop (i + 1) ds))

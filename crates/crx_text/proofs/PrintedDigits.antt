@@ -1,7 +1,7 @@
 -- Digits in a row, as the decimal text of the number that they write.
-use Rattle.std.proofs.Common.{◌≡◌, ℕ, zero, suc, ◌+◌, ◌-◌, ◌*◌, ◌/◌, ◌%◌, ◌^◌, ◌<◌, ◌≤◌, Bool, true, false, ltb, eqb, if◌then◌else◌}
-use Rattle.std.proofs.Common.{List, [], ◌∷◌, ◌++◌, map, length, replicate, drop, decimal, refl, sym, ap, ◌∙◌}
-use Rattle.std.proofs.Common.{append_assoc, ltb-true, arith}
+use Rattle.std.proofs.Common.{◌≡◌, ℕ, zero, suc, ◌+◌, ◌-◌, ◌*◌, ◌/◌, ◌%◌, ◌^◌, ◌<◌, ◌≤◌, Bool, true, false}
+use Rattle.std.proofs.Common.{ltb, eqb, if◌then◌else◌, List, [], ◌∷◌, ◌++◌, map, length, replicate, drop}
+use Rattle.std.proofs.Common.{decimal, refl, sym, ap, ◌∙◌, append_assoc, ltb-true, arith}
 use Rattle.std.proofs.lemmas.Bool.{and_parts, ne_eqb}
 use Rattle.std.proofs.lemmas.Fmt.{decimal_digit, decimal_step}
 use Rattle.std.proofs.lemmas.List.{length-map, length-drop, append-nil}
@@ -27,7 +27,8 @@ written_grows size (d ∷ ds) = let more = written_grows (size * 10 + d) ds in o
 
 -- digits after a number that isn't 0
 decimal_more : (size : ℕ) (ds : List ℕ)
-    → 0 < size → are_digits ds ≡ true → written size ds < 2 ^ 64 → decimal (written size ds) ≡ decimal size ++ glyphs ds
+    → 0 < size → are_digits ds ≡ true → written size ds < 2 ^ 64 → decimal (written size ds)
+    ≡ decimal size ++ glyphs ds
 decimal_more size [] some digits fits = sym (append-nil (decimal size))
 decimal_more size (d ∷ ds) some digits fits =
     let parts = and_parts (ltb d 10) (are_digits ds) digits in
@@ -41,7 +42,8 @@ decimal_more size (d ∷ ds) some digits fits =
 
 -- the decimal text is the digits without the zeros before them
 pub decimal_of_digits : (d : ℕ) (ds : List ℕ) → are_digits (d ∷ ds) ≡ true
-    → written 0 (d ∷ ds) < 2 ^ 64 → decimal (written 0 (d ∷ ds)) ≡ glyphs (drop (leading_zeros (d ∷ ds)) (d ∷ ds))
+    → written 0 (d ∷ ds) < 2 ^ 64 → decimal (written 0 (d ∷ ds))
+    ≡ glyphs (drop (leading_zeros (d ∷ ds)) (d ∷ ds))
 decimal_of_digits d [] digits fits =
     let parts = and_parts (ltb d 10) true digits in
     let small : d < 10 = ltb-true _ _ parts.0 in
@@ -67,7 +69,8 @@ pub zeros_first : (ds : List ℕ) → ds ≡ replicate (leading_zeros ds) 0 ++ d
 zeros_first [] = refl
 zeros_first (d ∷ []) = refl
 zeros_first (zero ∷ e ∷ ds) = ap (λ (r : List ℕ). 0 ∷ r) (zeros_first (e ∷ ds))
-zeros_first (suc d ∷ e ∷ ds) = let test : eqb (suc d) 0 ≡ false = ne_eqb (suc d) 0 (λ z. omega arith) in rw test refl
+zeros_first (suc d ∷ e ∷ ds) = let test : eqb (suc d) 0
+    ≡ false = ne_eqb (suc d) 0 (λ z. omega arith) in rw test refl
 
 glyphs_of_zeros : (k : ℕ) (ds : List ℕ) → glyphs (replicate k 0 ++ ds) ≡ replicate k 48 ++ glyphs ds
 glyphs_of_zeros zero ds = refl

@@ -194,7 +194,8 @@ module _ (size : ℕ) (small : size < 10 ^ 12) where
 -- ---- the text in a field
 
 module _ (size start : ℕ) (cell : List ℕ) (small : size < 10 ^ 12)
-    (start_is : start ≡ 1 + leading_zeros (nine_in size)) (cell_is : cell ≡ plus (row_of (nine_in size) (three_in size))
+    (start_is : start ≡ 1 + leading_zeros (nine_in size))
+    (cell_is : cell ≡ plus (row_of (nine_in size) (three_in size))
     (replicate start 32 ++ replicate (16 - start) 48)) where
   field_text : take 14 cell ≡ replicate start 32 ++ size_text 3 size
   field_text =
@@ -205,7 +206,8 @@ module _ (size start : ℕ) (cell : List ℕ) (small : size < 10 ^ 12)
       ap (take 14) (cell_is
       ∙ ap (λ (n : ℕ). plus (row_of nine three) (replicate {A = ℕ} n 32 ++ replicate (16 - n) 48)) start_is
       ∙ row_printed nine three refl refl nines threes) ∙ row_cut nine three refl refl nines threes
-      ∙ ap (λ (t : List ℕ). replicate {A = ℕ} (1 + leading_zeros nine) 32 ++ t) (printed_is_size_text size small)
+      ∙ ap (λ (t : List ℕ). replicate {A = ℕ} (1 + leading_zeros nine) 32 ++ t)
+      (printed_is_size_text size small)
       ∙ ap (λ (n : ℕ). replicate {A = ℕ} n 32 ++ size_text 3 size) (sym start_is)
 
   pub text_length : start + length (size_text 3 size) ≡ 14

@@ -1,11 +1,12 @@
 -- What is printed is read back.
-use Rattle.std.proofs.Common.{true, false, ℕ, ℤ, pos, negsuc, neg_ℤ, suc, zero, ◌≡◌, ◌≢◌, ◌+◌, ◌-◌, ◌*◌, ◌/◌, ◌%◌, ◌<◌}
-use Rattle.std.proofs.Common.{◌≤◌, ◌^◌, List, [], ◌∷◌, ◌++◌, length, drop, take, get_or, replicate, decimal, Option}
-use Rattle.std.proofs.Common.{Some, None, ◌==◌, arith, refl, ap, sym, ◌∙◌}
+use Rattle.std.proofs.Common.{true, false, ℕ, ℤ, pos, negsuc, neg_ℤ, suc, zero, ◌≡◌, ◌≢◌, ◌+◌, ◌-◌, ◌*◌, ◌/◌}
+use Rattle.std.proofs.Common.{◌%◌, ◌<◌, ◌≤◌, ◌^◌, List, [], ◌∷◌, ◌++◌, length, drop, take, get_or, replicate}
+use Rattle.std.proofs.Common.{decimal, Option, Some, None, ◌==◌, arith, refl, ap, sym, ◌∙◌}
 use Rattle.std.proofs.Math.Nat.{pow-suc, mod-lt, div-le_self}
 use Rattle.std.proofs.lemmas.Nat.{div-add-mod'}
 use Rattle.std.proofs.lemmas.Bool.Decides.{nat_tests}
-use Rattle.std.proofs.lemmas.Fmt.{decimal_is_IsNumeral, digits_decimal, first_decimal, decimal_nonempty, decimal_digit}
+use Rattle.std.proofs.lemmas.Fmt.{decimal_is_IsNumeral, digits_decimal, first_decimal, decimal_nonempty}
+use Rattle.std.proofs.lemmas.Fmt.{decimal_digit}
 use Rattle.std.proofs.lemmas.List.{length-append, length-replicate, append_assoc, take_at, drop_at, get_or_at}
 use Rattle.std.proofs.lemmas.List.{get_or_append_left, append-nil}
 use Rattle.std.proofs.lemmas.Str.Parse.{IsNumeralModel, numerals_by_value, tells_all_ascii_digits}
@@ -18,13 +19,14 @@ use Rattle.crx_text.specs.meaning.Columns.{without_first_blanks}
 use Rattle.crx_text.specs.meaning.Numbers.{IsWithin, number_of, number_text, size_of, size_text, zero_padded}
 use Rattle.crx_text.specs.meaning.Numbers.{right_justified, decimal_number, missing_or_number}
 use Rattle.crx_text.proofs.PowersOfTen.{ten_pow_pos}
-use Rattle.crx_text.proofs.Sizes.{size_of_parts, decimal_number_plain, decimal_number_minus, missing_or_number_text}
-use Rattle.crx_text.proofs.Sizes.{number_of_width}
+use Rattle.crx_text.proofs.Sizes.{size_of_parts, decimal_number_plain, decimal_number_minus}
+use Rattle.crx_text.proofs.Sizes.{missing_or_number_text, number_of_width}
 use Rattle.crx_text.proofs.Spellings.{fraction_short, length-zero_padded, length-size_text, size_text_fits}
 use Rattle.crx_text.proofs.Spellings.{ten_pow_small, abs_within, abs_within_below}
 
 -- the digits that are after a number
-pub digits_behind : (n : ℕ) (ds : List ℕ) → digits_value_after 10 n ds ≡ n * 10 ^ length ds + digits_value_after 10 0 ds
+pub digits_behind : (n : ℕ) (ds : List ℕ) → digits_value_after 10 n ds
+    ≡ n * 10 ^ length ds + digits_value_after 10 0 ds
 digits_behind n [] = omega arith
 digits_behind n (c ∷ cs) =
     let left = digits_behind (n * 10 + digit_value c) cs in
@@ -54,10 +56,12 @@ decimal_weighs n small = (decimal_is_IsNumeral n small).1
 -- whole digits, a point and digits after it
 pub size_of_pieces : (decimals w f : ℕ) (whole fraction : List ℕ) → length fraction ≡ decimals
     → all_ascii_digits whole ≡ true → all_ascii_digits fraction ≡ true → digits_value_after 10 0 whole ≡ w
-    → digits_value_after 10 0 fraction ≡ f → size_of decimals (whole ++ 46 ∷ fraction) ≡ Some (w * 10 ^ decimals + f)
+    → digits_value_after 10 0 fraction ≡ f → size_of decimals (whole ++ 46 ∷ fraction)
+    ≡ Some (w * 10 ^ decimals + f)
 size_of_pieces decimals w f whole fraction count whole_digits fraction_digits whole_is fraction_is =
     let text = whole ++ 46 ∷ fraction in
-    let long : length text ≡ length whole + suc decimals = omega (arith, length-append whole (46 ∷ fraction), count) in
+    let long : length text
+    ≡ length whole + suc decimals = omega (arith, length-append whole (46 ∷ fraction), count) in
     let dot : get_or text (length whole) 0 ≡ 46 = get_or_at whole 46 fraction 0 (length whole) refl in
     let front : take (length whole) text ≡ whole = take_at whole (46 ∷ fraction) (length whole) refl in
     let split : text ≡ (whole ++ 46 ∷ []) ++ fraction = sym (append_assoc whole (46 ∷ []) fraction) in
@@ -116,15 +120,18 @@ size_text_first decimals size small =
     div-le_self size (10 ^ decimals) in omega (arith, less, small) in
     let some = decimal_nonempty (size / 10 ^ decimals) whole_small in
     let same : get_or (size_text decimals size) 0 0 ≡ get_or (decimal (size / 10 ^ decimals)) 0 0 =
-    get_or_append_left (decimal (size / 10 ^ decimals)) (46 ∷ zero_padded decimals (size % 10 ^ decimals)) 0 0 some in
+    get_or_append_left (decimal (size / 10 ^ decimals))
+    (46 ∷ zero_padded decimals (size % 10 ^ decimals)) 0 0 some in
     rw same (decimal_first (size / 10 ^ decimals) whole_small)
 
 -- a text after its blanks, in a field that it fills
 pub number_of-right_justified : (width decimals : ℕ) (text : List ℕ) (number : ℤ)
-    → length text ≤ width → 0 < length text → get_or text 0 0 ≢ 32 → decimal_number decimals text ≡ Some number
+    → length text ≤ width → 0 < length text → get_or text 0 0 ≢ 32 → decimal_number decimals text
+    ≡ Some number
     → number_of width decimals (right_justified width text) ≡ Some (Some number)
 number_of-right_justified width decimals text number fits some other reads =
-    let filled : length (right_justified width text) ≡ width = simp (length-append, length-replicate) (omega arith) in
+    let filled : length (right_justified width text)
+    ≡ width = simp (length-append, length-replicate) (omega arith) in
     number_of_width width decimals (right_justified width text) filled
     ∙ (ap (missing_or_number decimals) (without_first_blanks-blanks (width - length text) text other)
     ∙ (missing_or_number_text decimals text some ∙ ap (option_map Some) reads))
@@ -152,7 +159,8 @@ unfolding number_text
 number_of-number_text_minus width decimals less some room few small =
     let bound = ten_pow_small (width - 1 - 1) (omega arith) in
     let tiny : less + 1 < 2 ^ 64 = omega (arith, small, bound) in
-    let fits = size_text_fits decimals (less + 1) (width - 1) some (omega (arith, room)) (omega (arith, few)) small in
+    let fits = size_text_fits decimals (less + 1) (width - 1) some (omega (arith, room))
+    (omega (arith, few)) small in
     let text = 45 ∷ size_text decimals (less + 1) in
     let negated : neg_ℤ (pos (less + 1)) ≡ negsuc less = omega (arith, ints) in
     let reads : decimal_number decimals text ≡ Some (negsuc less) =
@@ -171,11 +179,14 @@ number_of-number_text_blank width decimals =
     ∙ ap (missing_or_number decimals) blank
 
 -- what is printed is read back, at any width
-pub number_of-number_text : (width decimals : ℕ) (value : Option ℤ) → 0 < decimals → decimals + 3 ≤ width → width ≤ 19
-    → ForSome value (IsWithin width) → number_of width decimals (number_text width decimals value) ≡ Some value
+pub number_of-number_text : (width decimals : ℕ) (value : Option ℤ) → 0 < decimals → decimals + 3 ≤ width
+    → width ≤ 19
+    → ForSome value (IsWithin width) → number_of width decimals (number_text width decimals value)
+    ≡ Some value
 number_of-number_text width decimals None some room few within = number_of-number_text_blank width decimals
 number_of-number_text width decimals (Some (pos n)) some room few within =
-    number_of-number_text_plain width decimals n some room few (abs_within width (pos n) (within (pos n) refl))
+    number_of-number_text_plain width decimals n some room few
+    (abs_within width (pos n) (within (pos n) refl))
 number_of-number_text width decimals (Some (negsuc n)) some room few within =
     number_of-number_text_minus width decimals n some room few
     (let small = abs_within_below width (negsuc n) refl (within (negsuc n) refl) in omega (arith, small))

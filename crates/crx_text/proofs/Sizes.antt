@@ -1,15 +1,15 @@
 -- The spellings of a number without its sign: what reading them asks for.
 use Rattle.std.proofs.Common.{ℤ, pos, neg_ℤ, ◌≡◌, ℕ, ◌+◌, ◌-◌, ◌<◌, ◌≤◌, ◌^◌, Bool, true, false, ◌&&◌, ◌≢◌}
-use Rattle.std.proofs.Common.{if◌then◌else◌, nat_lt, ◌==◌, Option, Some, None, List, [], ◌∷◌, ◌++◌, length, drop, take}
-use Rattle.std.proofs.Common.{get_or, arith, refl, sym}
+use Rattle.std.proofs.Common.{if◌then◌else◌, nat_lt, ◌==◌, Option, Some, None, List, [], ◌∷◌, ◌++◌, length}
+use Rattle.std.proofs.Common.{drop, take, get_or, arith, refl, sym}
 use Rattle.std.proofs.lemmas.Bool.Decides.{nat_tests}
 use Rattle.std.proofs.lemmas.Int.{ints}
 use Rattle.std.proofs.Math.Nat.{pow-le-pow_right}
 use Rattle.std.specs.Option.{option_map}
 use Rattle.std.specs.Str.{all_ascii_digits}
 use Rattle.std.specs.Str.Parse.{digits_value, digits_value_after}
-use Rattle.crx_text.specs.meaning.Numbers.{size_of, decimal_number, missing_or_number, number_of, signed_number}
-use Rattle.crx_text.specs.meaning.Numbers.{IsWithin}
+use Rattle.crx_text.specs.meaning.Numbers.{size_of, decimal_number, missing_or_number, number_of}
+use Rattle.crx_text.specs.meaning.Numbers.{signed_number, IsWithin}
 use Rattle.crx_text.specs.meaning.Columns.{without_first_blanks}
 use Rattle.crx_text.proofs.PowersOfTen.{ten_pow_pos, digits_value_after-append}
 
@@ -42,12 +42,14 @@ size_of_parts decimals point text at long dot =
 
 -- a choice of two tests after the first one
 pub neither : (a b : Bool) (x y : ℕ)
-    → ◌≡◌ {A = Option ℕ} None (if a then Some x else None) → ◌≡◌ {A = Option ℕ} (if a && b then Some y else None) None
+    → ◌≡◌ {A = Option ℕ} None (if a then Some x else None)
+    → ◌≡◌ {A = Option ℕ} (if a && b then Some y else None) None
 neither true b x y e = absurd (cc)
 neither false b x y e = refl
 
 pub first_passed : (a b : Bool) (x w : ℕ) (f : ℕ → ℕ)
-    → Some w ≡ (if a then Some x else None) → (if a && b then Some (f x) else None) ≡ (if b then Some (f w) else None)
+    → Some w ≡ (if a then Some x else None) → (if a && b then Some (f x) else None)
+    ≡ (if b then Some (f w) else None)
 first_passed true b x w f e = let same : w ≡ x = cc in rw same refl
 first_passed false b x w f e = absurd (cc)
 
@@ -102,12 +104,15 @@ signed_is_within false size columns all sum small =
     pos_is_within size all (rw (sym same) small)
 
 -- a number within some columns is within more of them
-pub IsWithin_more : (columns width : ℕ) (number : ℤ) → columns ≤ width → IsWithin columns number → IsWithin width number
+pub IsWithin_more : (columns width : ℕ) (number : ℤ) → columns ≤ width → IsWithin columns number
+    → IsWithin width number
 IsWithin_more columns width number fewer within =
     let low_columns : columns - 2 ≤ width - 2 = omega arith in
     let high_columns : columns - 1 ≤ width - 1 = omega arith in
-    let low_power : 10 ^ (columns - 2) ≤ 10 ^ (width - 2) = pow-le-pow_right {n = 10} (omega arith) low_columns in
-    let high_power : 10 ^ (columns - 1) ≤ 10 ^ (width - 1) = pow-le-pow_right {n = 10} (omega arith) high_columns in
+    let low_power : 10 ^ (columns - 2) ≤ 10 ^ (width - 2) = pow-le-pow_right {n = 10}
+    (omega arith) low_columns in
+    let high_power : 10 ^ (columns - 1) ≤ 10 ^ (width - 1) = pow-le-pow_right {n = 10}
+    (omega arith) high_columns in
     record {
       low = omega (arith, ints, low_power, within.low);
       high = omega (arith, ints, high_power, within.high);
@@ -123,7 +128,8 @@ number_of_other_width width decimals text other =
     rw test refl
 
 pub number_of_width : (width decimals : ℕ) (text : List ℕ)
-    → length text ≡ width → number_of width decimals text ≡ missing_or_number decimals (without_first_blanks text)
+    → length text ≡ width → number_of width decimals text
+    ≡ missing_or_number decimals (without_first_blanks text)
 unfolding number_of
 number_of_width width decimals text same =
     let test : (length text == width) ≡ true = grind (arith, nat_tests) in

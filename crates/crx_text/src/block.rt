@@ -40,7 +40,8 @@ pub fn put_line(bytes: &mut [u8], start: usize, line: &[u8])
     requires { start + length line.now < length bytes.old }
     ensures put { take (start + length line.now + 1) bytes.new
         ≡ take start bytes.old ++ (line.now ++ 10 ∷ []) }
-    ensures rest { drop (start + length line.now + 1) bytes.new ≡ drop (start + length line.now + 1) bytes.old }
+    ensures rest { drop (start + length line.now + 1) bytes.new
+        ≡ drop (start + length line.now + 1) bytes.old }
 {
     let end = put_text(bytes, start, line);
     bytes[end] = b'\n';

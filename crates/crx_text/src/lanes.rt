@@ -113,7 +113,8 @@ pub(crate) fn write_by_rule<R: Rule>(old: &[u8], other: &[u8], out: &mut [u8])
 fn write_lanes<R: Rule>(old: &[u8], other: &[u8], out: &mut [u8], at: usize)
     requires room { at + 16 ≤ length old.now }
     requires same_length { (length other.now ≡ length old.now) × (length out.old ≡ length old.now) }
-    ensures written { take (at + 16) out.new ≡ take at out.old ++ chunk at 16 (zip2 R.rule old.now other.now) }
+    ensures written { take (at + 16) out.new
+        ≡ take at out.old ++ chunk at 16 (zip2 R.rule old.now other.now) }
     ensures long { length out.new ≡ length out.old }
 {
     let olds = u8x16::from_slice(&old[at..]);

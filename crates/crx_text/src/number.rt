@@ -128,7 +128,8 @@ fn obs_print_row(value: Option<i64>, cell: &mut [u8])
         return;
     };
     let size = number.unsigned_abs();
-    // No digit is in the first column. The millions, which the digits are made of, are as good a test as the size itself, and fit 32 bits.
+    // A digit in the first column is printed digit by digit. The millions, which the lanes' digits are made of, are as good a test as the
+    // size itself, and fit 32 bits.
     if ((size / 1_000_000) as u32) >= 1_000_000 {
         number_print(value, OBSERVATION_DECIMALS, &mut cell[0..OBSERVATION_WIDTH]);
         return;

@@ -14,7 +14,8 @@ returns-in_err-size-clause-value c =
     let digits = c.split_minus-is_below.result.1.now in
     let none = no_cell c.digits_before_blank.result (counted_digits (first_cell digits))
     (signed_number (starts_with_minus text)) c.in_err-size.was c.digits_before_blank.ensures.value in
-    rw c.from_residual.ensures (sym (coded_number-cell text digits c.split_minus-is_below.ensures.rest ∙ none))
+    rw c.from_residual.ensures
+    (sym (coded_number-cell text digits c.split_minus-is_below.ensures.rest ∙ none))
 
 pub returns-clause-value : goal.returns-clause-value
 returns-clause-value c =

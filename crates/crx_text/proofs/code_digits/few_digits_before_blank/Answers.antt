@@ -1,4 +1,5 @@
-use Rattle.std.proofs.Common.{◌≡◌, ◌-◌, ◌++◌, ℕ, List, length, length-append, take, drop, replicate, ap, ◌∙◌, arith}
+use Rattle.std.proofs.Common.{◌≡◌, ◌-◌, ◌++◌, ℕ, List, length, length-append, take, drop, replicate, ap, ◌∙◌}
+use Rattle.std.proofs.Common.{arith}
 use Rattle.std.proofs.lemmas.List.{drop-replicate, length-replicate, take_all}
 use Rattle.std.specs.Char.{is_ascii_digit}
 use Rattle.std.specs.List.{prefix_len}
@@ -9,7 +10,8 @@ use Rattle.crx_text.proofs.code_digits.few_digits_before_blank.Goals as goal
 pub ended_digits-requires-clause-digits : goal.ended_digits-requires-clause-digits
 ended_digits-requires-clause-digits c =
     let read = c.in_ok-size in
-    first_digits_of c.args.text.now read.size read.count (omega (arith, read.ensures.few)) c.if-text-ge-ROW.true
+    first_digits_of c.args.text.now read.size read.count
+    (omega (arith, read.ensures.few)) c.if-text-ge-ROW.true
     read.ensures.count read.ensures.size
 
 pub ended_digits-requires-2-clause-digits : goal.ended_digits-requires-2-clause-digits

@@ -12,7 +12,8 @@ invariant-loop-count l = record {
   within : l.count ≤ length l.text;
   small : l.size < 10 ^ l.count;
   digits : all_ascii_digits (first_cell (drop l.count l.text)) ≡ all_ascii_digits (first_cell l.text);
-  value : digits_value_after 10 l.size (first_cell (drop l.count l.text)) ≡ digits_value_after 10 0 (first_cell l.text);
+  value : digits_value_after 10 l.size (first_cell (drop l.count l.text))
+      ≡ digits_value_after 10 0 (first_cell l.text);
   long : length (first_cell l.text) ≡ l.count + length (first_cell (drop l.count l.text));
   after : after_cell (drop l.count l.text) ≡ after_cell l.text;
 }

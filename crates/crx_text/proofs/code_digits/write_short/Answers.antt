@@ -1,4 +1,5 @@
-use Rattle.std.proofs.Common.{rules, ◌<◌, ◌^◌, ◌+◌, ◌/◌, ◌++◌, ◌-◌, ◌≡◌, bit_or, ℕ, List, take, drop, ap, ◌∙◌, arith}
+use Rattle.std.proofs.Common.{rules, ◌<◌, ◌^◌, ◌+◌, ◌/◌, ◌++◌, ◌-◌, ◌≡◌, bit_or, ℕ, List, take, drop, ap, ◌∙◌}
+use Rattle.std.proofs.Common.{arith}
 use lib.Count.{count_trailing_zeros}
 use Rattle.crx_text.proofs.DigitPairs.{bytes_shifted, digits_last, few_zeros, first_written, zeros_counted}
 use Rattle.crx_text.proofs.DigitPairs.{zeros_found, zeros_of}

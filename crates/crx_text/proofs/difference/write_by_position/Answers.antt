@@ -9,7 +9,8 @@ returns-then-old-other-clause-written g c =
     let k : ℕ = c.min-common.result in
     let least : k ≡ min (length old) (length other) = c.min-common.ensures in
     both_end g.R.Rule.rule old other c.write_by_rule.new.out [] _ [] k (omega arith)
-    (omega arith) c.write_by_rule.ensures (omega (arith, c.if-old-other.true)) (omega (arith, c.if-old-other.true))
+    (omega arith) c.write_by_rule.ensures (omega (arith, c.if-old-other.true))
+    (omega (arith, c.if-old-other.true))
 
 pub returns-then-common-old-clause-written : goal.returns-then-common-old-clause-written
 returns-then-common-old-clause-written g c =
@@ -17,7 +18,8 @@ returns-then-common-old-clause-written g c =
     let other = c.args.other.now in
     let k : ℕ = c.min-common.result in
     let least : k ≡ min (length old) (length other) = c.min-common.ensures in
-    old_is_longer g.R.Rule.rule old other c.write_by_rule.new.out c.write_by_rule-then-common-old.new.out _ _ k
+    old_is_longer g.R.Rule.rule old other c.write_by_rule.new.out c.write_by_rule-then-common-old.new.out _ _
+    k
     (omega arith) (omega arith)
     c.write_by_rule.ensures (omega (arith, c.if-common-old.true))
     (omega (arith, c.requires.fits.0, c.requires.within)) c.write_by_rule-then-common-old.ensures

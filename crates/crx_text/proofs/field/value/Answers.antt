@@ -19,4 +19,5 @@ returns-clause-in_range c =
     let small : c.of_groups-size.result < 10 ^ 12 =
     rw size (plain_size_is_small c.args.columns c.fits-columns.0 c.requires) in
     let fits : SFits w64 c.signed.result = search rules in
-    rw (to_z-of_z w64 c.signed.result fits, c.signed.ensures) (signed_in_range _ c.of_groups-size.result small)
+    rw (to_z-of_z w64 c.signed.result fits, c.signed.ensures)
+    (signed_in_range _ c.of_groups-size.result small)

@@ -1,5 +1,5 @@
-use Rattle.std.proofs.Common.{◌≡◌, ◌+◌, ◌-◌, ◌/◌, ◌%◌, ◌^◌, ◌≤◌, ◌++◌, ◌∷◌, [], ℕ, List, length, replicate, take, drop}
-use Rattle.std.proofs.Common.{ap, refl, sym, ◌∙◌, arith}
+use Rattle.std.proofs.Common.{◌≡◌, ◌+◌, ◌-◌, ◌/◌, ◌%◌, ◌^◌, ◌≤◌, ◌++◌, ◌∷◌, [], ℕ, List, length, replicate}
+use Rattle.std.proofs.Common.{take, drop, ap, refl, sym, ◌∙◌, arith}
 use Rattle.std.proofs.lemmas.List.{length-drop, length-take}
 use Rattle.std.proofs.lemmas.Simd.{length-chunk, length-zip2, put_chunk_whole}
 use lib.Count.{count_trailing_zeros}
@@ -8,7 +8,8 @@ use Rattle.crx_text.specs.FieldTexts.{group_digits}
 use Rattle.crx_text.specs.declared.field_text.TheConstants.{BASES}
 use Rattle.crx_text.proofs.PrintedDigits.{leading_zeros, zeros_few}
 use Rattle.crx_text.proofs.PrintedLanes.{base_row, begin_is, begin_lanes}
-use Rattle.crx_text.proofs.PrintedTexts.{nine_in, plus, row_of, three_in, text_length, text_before, text_written}
+use Rattle.crx_text.proofs.PrintedTexts.{nine_in, plus, row_of, three_in, text_length, text_before}
+use Rattle.crx_text.proofs.PrintedTexts.{text_written}
 use Rattle.crx_text.proofs.field_text.size_print.Goals as goal
 
 -- the columns of digits, where the number begins in them, and what is added to them
@@ -48,13 +49,15 @@ returns c =
     let at = start_is size c.digits.result is in
     let few = start_few size c.digits.result is in
     let base : List ℕ = bases_at start in
-    let sixteen : length base ≡ 16 = length-chunk 0 16 (take (32 - (16 - start)) (drop (16 - start) BASES)) (omega (
+    let sixteen : length base ≡ 16 = length-chunk 0 16 (take (32 - (16 - start)) (drop (16 - start) BASES))
+    (omega (
       arith,
       length-take (32 - (16 - start)) (drop (16 - start) BASES),
       length-drop (16 - start) BASES,
       few,
     )) in
-    let long : length (plus columns base) ≡ 16 = length-zip2 (λ a b. (a + b) % 256) columns base (sym sixteen) in
+    let long : length (plus columns base)
+    ≡ 16 = length-zip2 (λ a b. (a + b) % 256) columns base (sym sixteen) in
     let cell = put_chunk_whole c.args.cell.now (plus columns base) (c.requires.width ∙ sym long)
     ∙ (λ k. plus (columns_are size c.digits.result is k) (base_row start few k)) in
     record {

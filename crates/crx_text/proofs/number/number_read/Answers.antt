@@ -33,13 +33,15 @@ returns-in-Some-clause-value c =
     let text = c.trim_start-text.result.now in
     let some : 0 < length text = grind (arith, nat_tests) in
     let split = c.split_minus-is_below.ensures in
-    let size : size_of decimals c.split_minus-is_below.result.1.now ≡ Some c.in-Some.size = sym c.in-Some.ensures.value in
+    let size : size_of decimals c.split_minus-is_below.result.1.now
+    ≡ Some c.in-Some.size = sym c.in-Some.ensures.value in
     let fits : SFits w64 c.signed.result = search rules in
     rw (to_z-of_z w64 c.signed.result fits)
     (sym (number_of_width c.args.width decimals c.args.field.now c.if-field-width.false
     ∙ ap (missing_or_number decimals) (sym c.trim_start-text.ensures.value)
     ∙ missing_or_number_text decimals text some
-    ∙ (λ k. option_map Some (option_map (signed_number (sym split.sign k)) (size_of decimals (sym split.rest k))))
+    ∙ (λ k. option_map Some
+    (option_map (signed_number (sym split.sign k)) (size_of decimals (sym split.rest k))))
     ∙ ap (λ r. option_map Some (option_map (signed_number c.split_minus-is_below.result.0) r)) size
     ∙ ap (λ z. Some (Some z)) (sym c.signed.ensures)))
 
@@ -48,10 +50,12 @@ returns-in-Some-clause-in_range c =
     let fits : SFits w64 c.signed.result = search rules in
     let split = c.split_minus-is_below in
     let text = c.trim_start-text.result.now in
-    let shorter : length text ≤ c.args.width = omega (arith, c.trim_start-text.ensures.shorter, c.if-field-width.false) in
+    let shorter : length text ≤ c.args.width =
+    omega (arith, c.trim_start-text.ensures.shorter, c.if-field-width.false) in
     rw (to_z-of_z w64 c.signed.result fits, c.signed.ensures)
     (IsWithin_more (length text) c.args.width _ shorter
-    (signed_is_within split.result.0 c.in-Some.size (length split.result.1.now) (length text) split.ensures.shorter
+    (signed_is_within split.result.0 c.in-Some.size (length split.result.1.now)
+    (length text) split.ensures.shorter
     c.in-Some.ensures.fits))
 
 pub returns-in-None-clause-value : goal.returns-in-None-clause-value
@@ -64,5 +68,6 @@ returns-in-None-clause-value c =
     sym (number_of_width c.args.width decimals c.args.field.now c.if-field-width.false
     ∙ ap (missing_or_number decimals) (sym c.trim_start-text.ensures.value)
     ∙ missing_or_number_text decimals text some
-    ∙ (λ k. option_map Some (option_map (signed_number (sym split.sign k)) (size_of decimals (sym split.rest k))))
+    ∙ (λ k. option_map Some
+    (option_map (signed_number (sym split.sign k)) (size_of decimals (sym split.rest k))))
     ∙ ap (λ r. option_map Some (option_map (signed_number c.split_minus-is_below.result.0) r)) size)

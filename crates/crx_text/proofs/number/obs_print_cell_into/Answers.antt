@@ -1,5 +1,5 @@
-use Rattle.std.proofs.Common.{◌≡◌, ◌≤◌, ℕ, ◌+◌, ◌-◌, List, [], ◌∷◌, ◌++◌, length, take, drop, set, refl, sym, ap, ◌∙◌}
-use Rattle.std.proofs.Common.{get_or, append_assoc, arith}
+use Rattle.std.proofs.Common.{◌≡◌, ◌≤◌, ℕ, ◌+◌, ◌-◌, List, [], ◌∷◌, ◌++◌, length, take, drop, set, refl, sym}
+use Rattle.std.proofs.Common.{ap, ◌∙◌, get_or, append_assoc, arith}
 use Rattle.std.proofs.lemmas.Grind.{take-set_at}
 use Rattle.std.proofs.lemmas.List.{length-set, length-take-le, length-drop, take-take}
 use lib.Seq.{take-append-add}
@@ -30,7 +30,8 @@ cell_written bytes part at k one two long sixteen room =
     let same : length made ≡ length bytes = same_len_mid at k bytes part (long ∙ sym sixteen ∙ sym cut) in
     let first = take-set_at made (at + 14) (at + 14 + 1) one refl (omega (arith, same, room)) in
     let second = take-set_at (set made (at + 14) one)
-    (at + 14 + 1) (at + 14 + 2) two (omega arith) (omega (arith, same, room, length-set made (at + 14) one)) in
+    (at + 14 + 1) (at + 14 + 2) two (omega arith)
+    (omega (arith, same, room, length-set made (at + 14) one)) in
     second
     ∙ ap (λ (t : List ℕ). t ++ two ∷ []) (first ∙ ap (λ (t : List ℕ). t ++ one ∷ [])
     (field_written bytes part at k long sixteen room))

@@ -4,8 +4,7 @@ use Rattle.std.specs.Simd.Lanes.{chunk}
 use Rattle.crx_text.specs.meaning.Columns.{without_end_blanks}
 use Rattle.crx_text.proofs.EndBlanks.{few_kept, kept_in_piece, lanes_kept, none_in_piece, nothing_after}
 use Rattle.crx_text.proofs.text.end_blanks_of_few.Goals as goal
-use Rattle.crx_text.proofs.text.end_blanks_of_few.Goals.{then-end-ge-EIGHT+else-count-gt0}
-use Rattle.crx_text.proofs.text.end_blanks_of_few.Goals.{else-end-ge-EIGHT}
+use Rattle.crx_text.proofs.text.end_blanks_of_few.Goals.{then-end-ge-EIGHT+else-count-gt0, else-end-ge-EIGHT}
 
 pub returns-then-count-gt0-clause-kept : goal.returns-then-count-gt0-clause-kept
 returns-then-count-gt0-clause-kept c =

@@ -1,5 +1,5 @@
-use Rattle.std.proofs.Common.{◌≡◌, ℕ, true, not, ◌+◌, ◌-◌, ◌<◌, List, inr, length, take, drop, slice_index, slice_range}
-use Rattle.std.proofs.Common.{subst, sym, ap, ◌∙◌, refl, arith, length-drop}
+use Rattle.std.proofs.Common.{◌≡◌, ℕ, true, not, ◌+◌, ◌-◌, ◌<◌, List, inr, length, take, drop, slice_range}
+use Rattle.std.proofs.Common.{sym, ap, ◌∙◌, refl, arith, length-drop}
 use Rattle.crx_base.specs.meaning.Lines.{without_return, ends_with_return}
 use Rattle.crx_lines.specs.Reading.{ReaderState}
 use Rattle.crx_lines.specs.Readers.{reading}
@@ -18,12 +18,10 @@ returns-then-place-gt-LINE_LIMIT-clause-answers g c =
     let shown : c.as_slice.result.now ≡ held = c.as_slice.ensures.value ∙ ap kept c.deref.ensures in
     let gave = λ (given : List ℕ). g.R.Source.gave c.args.reader.now given c.args.reader.now in
     let at_end = g.R.Source.at_end c.args.reader.now in
-    let inside : len < length held = subst (λ (l : List ℕ). len < length l) shown c.in-Some.ensures.within.1 in
-    let feed : slice_index held len ≡ 10 =
-    subst (λ (l : List ℕ). slice_index l len ≡ 10) shown c.in-Some.ensures.found in
+    let feed = rw shown at c.in-Some.ensures in
     let s = Seeking-searched gave held held 0 0 0 0 len
-    (Seeking-start gave held 0 (g.met.R.Source.gave_none c.args.reader.now)) (omega (arith, inside))
-    (λ k low high. subst (λ (l : List ℕ). slice_index l k ≡ 10 → ⊥) shown (c.in-Some.ensures.first k low high)) in
+    (Seeking-start gave held 0 (g.met.R.Source.gave_none c.args.reader.now)) (omega (arith, feed.within))
+    feed.first in
     let after : ReaderState = record {
       rest = kept c.pass.new.self;
       passed = old.passed + (len + 1);
@@ -39,7 +37,7 @@ returns-then-place-gt-LINE_LIMIT-clause-answers g c =
       (
         piece_at s.front held len true,
         takes gave held held 0 0 0 len at_end s true
-            (inside, feed) (inr refl) (reading old) after (len + 1) refl refl now (omega arith)
+            (feed.within.1, feed.found) (inr refl) (reading old) after (len + 1) refl refl now (omega arith)
             (let limit = old.limit in
             omega (arith, limit)) refl c.requires,
         content-long gave held held 0 0 0 len at_end s true content
@@ -59,12 +57,10 @@ returns-clause-answers g c =
     let shown : c.as_slice.result.now ≡ held = c.as_slice.ensures.value ∙ ap kept c.deref.ensures in
     let gave = λ (given : List ℕ). g.R.Source.gave c.args.reader.now given c.args.reader.now in
     let at_end = g.R.Source.at_end c.args.reader.now in
-    let inside : len < length held = subst (λ (l : List ℕ). len < length l) shown c.in-Some.ensures.within.1 in
-    let feed : slice_index held len ≡ 10 =
-    subst (λ (l : List ℕ). slice_index l len ≡ 10) shown c.in-Some.ensures.found in
+    let feed = rw shown at c.in-Some.ensures in
     let s = Seeking-searched gave held held 0 0 0 0 len
-    (Seeking-start gave held 0 (g.met.R.Source.gave_none c.args.reader.now)) (omega (arith, inside))
-    (λ k low high. subst (λ (l : List ℕ). slice_index l k ≡ 10 → ⊥) shown (c.in-Some.ensures.first k low high)) in
+    (Seeking-start gave held 0 (g.met.R.Source.gave_none c.args.reader.now)) (omega (arith, feed.within))
+    feed.first in
     let after : ReaderState = record {
       rest = kept c.pass.new.self;
       passed = old.passed + (len + 1);
@@ -83,7 +79,7 @@ returns-clause-answers g c =
       (
         piece_at s.front held len true,
         takes gave held held 0 0 0 len at_end s true
-            (inside, feed) (inr refl) (reading old) after (len + 1) refl refl now (omega arith)
+            (feed.within.1, feed.found) (inr refl) (reading old) after (len + 1) refl refl now (omega arith)
             (let limit = old.limit in
             omega (arith, limit)) refl c.requires,
         shown-line s.front

@@ -1,5 +1,6 @@
-use Rattle.std.proofs.Common.{◌≡◌, ℕ, false, cond, ◌+◌, ◌-◌, ◌<◌, ◌≤◌, ◌⊎◌, ⊎_elim, inl, inr, List, [], ◌∷◌, ◌++◌, Err}
-use Rattle.std.proofs.Common.{length, take, drop, slice_range, subst, sym, ap, ◌∙◌, refl, arith, rules}
+use Rattle.std.proofs.Common.{◌≡◌, ℕ, false, cond, ◌+◌, ◌-◌, ◌<◌, ◌≤◌, ◌⊎◌, ⊎_elim, inl, inr, List, [], ◌∷◌}
+use Rattle.std.proofs.Common.{◌++◌, Err, length, take, drop, slice_range, subst, sym, ap, ◌∙◌, refl, arith}
+use Rattle.std.proofs.Common.{rules}
 use Rattle.std.proofs.lemmas.List.{length-drop}
 use Rattle.crx_lines.specs.meaning.Devices.{one_more}
 use Rattle.crx_base.specs.meaning.Lines.{without_return, ends_with_return}
@@ -12,8 +13,9 @@ use Rattle.crx_base.specs.declared.fault.Fault.TheVariants.{InputTooLong, ReadFa
 use Rattle.crx_lines.proofs.DeviceLemmas.{tally-same, tally-line}
 use Rattle.crx_lines.proofs.SeekLemmas.{Seeking-sum}
 use Rattle.crx_lines.proofs.WindowLemmas.{length-kept}
-use Rattle.crx_lines.proofs.AdvanceLemmas.{EndIs, piece_at, passed-within, takes, held-within, some-byte, whole-piece, content-long}
-use Rattle.crx_lines.proofs.AdvanceLemmas.{nothing, over-fault, read-fault, shown-line}
+use Rattle.crx_lines.proofs.AdvanceLemmas.{EndIs, piece_at, passed-within, takes, held-within, some-byte}
+use Rattle.crx_lines.proofs.AdvanceLemmas.{whole-piece, content-long, nothing, over-fault, read-fault}
+use Rattle.crx_lines.proofs.AdvanceLemmas.{shown-line}
 use Rattle.crx_lines.proofs.line.LineReader.advance_by_reading.Goals as goal
 
 pub invariant_of-self : goal.invariant_of-self
@@ -42,7 +44,8 @@ returns-in-Err-clause-answers g c =
     let same = ap kept c.deref_mut.ensures.value in
     let shown = c.as_slice.ensures.value ∙ ap kept c.deref.ensures in
     let limit : old.passed + (length (kept c.deref_mut.result.now) + (INPUT_LIMIT - old.passed
-    - length c.as_slice.result.now)) ≡ INPUT_LIMIT = omega (arith, ap length same, ap length shown, old.limit) in
+    - length c.as_slice.result.now))
+    ≡ INPUT_LIMIT = omega (arith, ap length same, ap length shown, old.limit) in
     ⊎_elim
     (λ (e : c.in-Err.fault ≡ InputTooLong).
     let found = c.in-Err.ensures.over (ap Err e) in (
@@ -146,7 +149,8 @@ invariant_of-self-2 g c =
     let found = c.in-Ok.found in
     let taken = c.in-Ok.ensures.ok.0 in
     let s = c.in-Ok.ensures.ok.1 in
-    let byte = some-byte gave start held _ taken found.passed found.len at_end s found.is_ended c.held-held.result
+    let byte = some-byte gave start held _ taken found.passed found.len at_end s found.is_ended
+    c.held-held.result
     (c.if-is_nothing.ensures.something refl) c.held-held.ensures in
     let bound = passed-within gave start held _ taken found.passed found.len at_end s found.is_ended
     c.held-held.result c.in-Ok.ensures.end c.held-held.ensures old.passed
@@ -163,7 +167,8 @@ returns-then-is_over-clause-answers g c =
     let same = ap kept c.deref_mut.ensures.value in
     let shown = c.as_slice.ensures.value ∙ ap kept c.deref.ensures in
     let limit : old.passed + (length (kept c.deref_mut.result.now) + (INPUT_LIMIT - old.passed
-    - length c.as_slice.result.now)) ≡ INPUT_LIMIT = omega (arith, ap length same, ap length shown, old.limit) in
+    - length c.as_slice.result.now))
+    ≡ INPUT_LIMIT = omega (arith, ap length same, ap length shown, old.limit) in
     let gave = λ (given : List ℕ). g.R.Source.gave c.args.reader.now given c.seek.new.reader in
     let start = kept c.deref_mut.result.now in
     let held = kept c.seek.new.window in
@@ -176,14 +181,16 @@ returns-then-is_over-clause-answers g c =
     let place = c.content-place.result in
     let content = slice_range c.deref-2.result.now.bytes.items place.from place.to in
     let over : (0 < found.passed) ⊎ (LINE_LIMIT < length content) = ⊎_elim
-    (λ h. inl h) (λ h. inr (omega (arith, h, c.content-place.ensures.len))) (c.if-is_over.ensures.over refl) in
+    (λ h. inl h) (λ h. inr (omega (arith, h, c.content-place.ensures.len)))
+    (c.if-is_over.ensures.over refl) in
     let piece = piece_at s.front held found.len found.is_ended in (
       s.given,
       s.lead,
       (
         piece,
         takes gave start held _ taken
-            found.passed found.len at_end s found.is_ended c.in-Ok.ensures.end some (reading old) _ c.held-held.result
+            found.passed found.len at_end s found.is_ended c.in-Ok.ensures.end some
+            (reading old) _ c.held-held.result
             (sym same) c.held-held.ensures now refl (omega (arith, limit)) refl c.phase_after-self.ensures,
         content-long
             gave start held _ taken found.passed found.len at_end s found.is_ended content
@@ -201,7 +208,8 @@ returns-clause-answers g c =
     let same = ap kept c.deref_mut.ensures.value in
     let shown = c.as_slice.ensures.value ∙ ap kept c.deref.ensures in
     let limit : old.passed + (length (kept c.deref_mut.result.now) + (INPUT_LIMIT - old.passed
-    - length c.as_slice.result.now)) ≡ INPUT_LIMIT = omega (arith, ap length same, ap length shown, old.limit) in
+    - length c.as_slice.result.now))
+    ≡ INPUT_LIMIT = omega (arith, ap length same, ap length shown, old.limit) in
     let gave = λ (given : List ℕ). g.R.Source.gave c.args.reader.now given c.seek.new.reader in
     let start = kept c.deref_mut.result.now in
     let held = kept c.seek.new.window in
@@ -214,7 +222,8 @@ returns-clause-answers g c =
     let place = c.content-place.result in
     let none = (c.if-is_over.ensures.within refl).0 in
     let whole = whole-piece gave start held _ taken found.passed found.len at_end s none in
-    let bytes = c.pass.ensures.bytes ∙ ap (λ w. w.bytes.items) (c.deref_mut-2.ensures.value ∙ sym c.deref-2.ensures) in
+    let bytes = c.pass.ensures.bytes
+    ∙ ap (λ w. w.bytes.items) (c.deref_mut-2.ensures.value ∙ sym c.deref-2.ensures) in
     let content = ap (λ l. slice_range l place.from place.to) bytes
     ∙ c.content-place.ensures.value ∙ ap (λ w. without_return (take found.len (kept w))) c.deref-2.ensures in
     let returns = c.content-place.ensures.has_return
@@ -225,7 +234,8 @@ returns-clause-answers g c =
       (
         piece,
         takes gave start held _ taken found.passed found.len at_end s found.is_ended
-            c.in-Ok.ensures.end some (reading old) _ c.held-held.result (sym same) c.held-held.ensures now refl
+            c.in-Ok.ensures.end some (reading old) _ c.held-held.result
+            (sym same) c.held-held.ensures now refl
             (omega (arith, limit)) refl c.phase_after-self.ensures,
         shown-line s.front
             (take found.len held) (slice_range c.pass.new.self.bytes.items place.from place.to)
