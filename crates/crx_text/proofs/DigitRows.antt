@@ -4,7 +4,7 @@ use Rattle.std.proofs.Common.{not, cond, ◌&&◌, T, ltb, leb, eqb, List, [], �
 use Rattle.std.proofs.Common.{take, drop, get_or, subst, Fits, w8, refl, sym, ap, ◌∙◌, arith}
 use Rattle.std.proofs.Math.Nat.{mul-le-mul_right}
 use Rattle.std.proofs.lemmas.Bool.{agree_below_at, and_parts, lt-ltb, ltb-true, ne_eqb}
-use Rattle.std.proofs.lemmas.List.Sums.{prefix_len_stops}
+use Rattle.std.proofs.lemmas.List.Sums.{prefix_len-le-length, prefix_len_stops}
 use Rattle.std.proofs.lemmas.List.{length-append, length-take-le, take-append-drop, take-take, get_or-take}
 use Rattle.std.proofs.lemmas.List.{take-append-le, take-map}
 use Rattle.std.proofs.lemmas.Bool.{le-leb}
@@ -21,7 +21,8 @@ use Rattle.crx_text.specs.meaning.Codes.{after_cell, first_cell}
 use Rattle.crx_text.specs.Digits.{above_zero, written}
 use Rattle.crx_text.specs.FirstDigits.{HasFirstDigits, is_below_ten}
 use Rattle.crx_text.specs.declared.code_digits.TheConstants.{WEIGHTS, SCALES}
-use Rattle.crx_text.proofs.PowersOfTen.{digit_range, digit_value_is, digits_value_after-append, value_small}
+use Rattle.crx_text.proofs.PowersOfTen.{digit_range, digits_before, digit_value_is, digits_value_after-append}
+use Rattle.crx_text.proofs.PowersOfTen.{value_small}
 use Rattle.crx_text.proofs.LaneBits.{sixteen, no_bit, top_lane}
 use Rattle.crx_text.proofs.PlainLanes.{lane_fits}
 
@@ -259,13 +260,6 @@ after_cell-digits (c ∷ cs) rest digits =
     let other = no_blank c parts.0 in
     rw other (after_cell-digits cs rest parts.1)
 
-digits_before : (ds rest : List ℕ) → all_ascii_digits ds ≡ true
-    → all_ascii_digits (ds ++ rest) ≡ all_ascii_digits rest
-digits_before [] rest digits = refl
-digits_before (c ∷ cs) rest digits =
-    let parts = and_parts (is_ascii_digit c) (all_ascii_digits cs) digits in
-    rw parts.0 (digits_before cs rest parts.1)
-
 -- so many digits, which a text begins with, and no digit after them
 digits_found : (text : List ℕ) (size count : ℕ) → count < 8 → count ≤ length text
     → all_ascii_digits (take count text) ≡ true → size ≡ digits_value_after 10 0 (take count text)
@@ -314,19 +308,10 @@ padded_prefix [] zero = refl
 padded_prefix [] (suc more) = refl
 padded_prefix (c ∷ cs) more = ap (λ (n : ℕ). cond (is_ascii_digit c) (1 + n) 0) (padded_prefix cs more)
 
-pub prefix_within : (text : List ℕ) → prefix_len is_ascii_digit text ≤ length text
-prefix_within [] = omega arith
-prefix_within (c ∷ cs) = go (is_ascii_digit c) (prefix_within cs)
-  where
-    go : (t : Bool) → prefix_len is_ascii_digit cs ≤ length cs
-        → cond t (1 + prefix_len is_ascii_digit cs) 0 ≤ length (c ∷ cs)
-    go true rest = omega (arith, rest)
-    go false rest = omega arith
-
 module _ (text : List ℕ) (more size count : ℕ)
     (count_is : count ≡ prefix_len is_ascii_digit (text ++ replicate more 0)) where
   pub few_within : count ≤ length text
-  few_within = omega (arith, count_is, padded_prefix text more, prefix_within text)
+  few_within = omega (arith, count_is, padded_prefix text more, prefix_len-le-length is_ascii_digit text)
 
   pub few_digits : all_ascii_digits (take count (text ++ replicate more 0)) ≡ true
   few_digits = rw count_is (prefix_digits (text ++ replicate more 0))

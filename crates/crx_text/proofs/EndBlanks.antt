@@ -6,7 +6,7 @@ use Rattle.std.proofs.Math.Nat.{pow-le-pow_right}
 use Rattle.std.proofs.Math.Seq.{take-add}
 use Rattle.std.proofs.lemmas.Bool.{ne_eqb}
 use Rattle.std.proofs.lemmas.List.{drop_all, drop_more, length-append, length-map, length-take-le}
-use Rattle.std.proofs.lemmas.List.{take-append-drop, take_more}
+use Rattle.std.proofs.lemmas.List.{nil_from_length, take-append-drop, take_more}
 use Rattle.std.proofs.lemmas.Nat.{leading_top}
 use Rattle.std.proofs.lemmas.Simd.{bitmask_splat, chunk-drop, mask_l-lt}
 use Rattle.std.specs.Int.Count.{count_leading_zeros, leading_of_zero}
@@ -39,10 +39,6 @@ none_append (x ∷ xs) ys none = ap (before_end_blanks x) (none_append xs ys non
 none_after : (xs ys : List ℕ) → without_end_blanks (xs ++ ys) ≡ [] → without_end_blanks ys ≡ []
 none_after [] ys none = none
 none_after (x ∷ xs) ys none = none_after xs ys (before_none x (without_end_blanks (xs ++ ys)) none)
-
-nothing : (xs : List ℕ) → length xs ≡ 0 → xs ≡ []
-nothing [] long = refl
-nothing (x ∷ xs) long = absurd (omega (arith, long))
 
 pub take_kept : (xs : List ℕ) → take (length (without_end_blanks xs)) xs ≡ without_end_blanks xs
 take_kept [] = refl
@@ -125,7 +121,7 @@ module _ (text : List ℕ) (end : ℕ) (within : end ≤ length text)
       ap without_end_blanks (chunk-drop start size text)
       ∙ (none_append (chunk start size text)
       (drop (start + size) text) (ap (λ (k : ℕ). without_end_blanks (drop k text)) sum ∙ none)
-      ∙ nothing (without_end_blanks (chunk start size text)) long)
+      ∙ nil_from_length (without_end_blanks (chunk start size text)) long)
 
   -- the first piece decides where only blanks are after it
   pub kept_in_first : (count : ℕ) → end < 16
@@ -178,7 +174,7 @@ next_bit : (k x m : ℕ) (xs : List ℕ)
 next_bit k x zero xs few rest is =
     let empty : k - count_leading_zeros k 0 ≡ length (without_end_blanks xs) =
     ap (λ (m : ℕ). k - count_leading_zeros k m) (sym is) ∙ rest in
-    let none = nothing (without_end_blanks xs) (omega (arith, empty, leading_of_zero k)) in
+    let none = nil_from_length (without_end_blanks xs) (omega (arith, empty, leading_of_zero k)) in
     ap (λ (m : ℕ). suc k - count_leading_zeros (suc k) (cond (not (eqb x 32)) 1 0 + 2 * m)) is
     ∙ first_bit k x (without_end_blanks xs) none
 next_bit k x (suc m) xs few rest is =

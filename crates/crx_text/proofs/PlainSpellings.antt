@@ -12,7 +12,7 @@ use Rattle.crx_text.specs.meaning.Columns.{without_first_blanks}
 use Rattle.crx_text.specs.Fields.{IsPlain, is_plain_after, weighed, plain_digits}
 use Rattle.crx_text.specs.meaning.Numbers.{number_of, missing_or_number, signed_number, size_of}
 use Rattle.crx_text.proofs.LaneBits.{fourteen}
-use Rattle.crx_text.proofs.PowersOfTen.{digit_range, digit_value_is, digits_value_after-append}
+use Rattle.crx_text.proofs.PowersOfTen.{digit_range, digit_value_is, digits_before, digits_value_after-append}
 use Rattle.crx_text.proofs.ReadBack.{digits_behind, size_of_pieces, without_first_blanks-text}
 use Rattle.crx_text.proofs.Sizes.{missing_or_number_text, number_of_width, decimal_number_plain}
 
@@ -52,13 +52,6 @@ weighed_digits n (c ∷ cs) digits =
     weighed_digits (n * 10 + (c - 48)) cs parts.1
     ∙ ap (λ (d : ℕ). digits_value_after 10 (n * 10 + d) cs) (sym (digit_value_is c parts.0))
 
-digits_joined : (xs ys : List ℕ)
-    → all_ascii_digits xs ≡ true → all_ascii_digits ys ≡ true → all_ascii_digits (xs ++ ys) ≡ true
-digits_joined [] ys first then = then
-digits_joined (x ∷ xs) ys first then =
-    let parts = and_parts (is_ascii_digit x) (all_ascii_digits xs) first in
-    rw parts.0 (digits_joined xs ys parts.1 then)
-
 no_minus : (ds : List ℕ) → all_ascii_digits ds ≡ true → list_any (λ c. eqb c 45) ds ≡ false
 no_minus [] digits = refl
 no_minus (c ∷ cs) digits =
@@ -75,7 +68,7 @@ digits_decimal decimals whole fraction first then three =
     let w = digits_value_after 10 0 whole in
     let f = digits_value_after 10 0 fraction in
     let joined : weighed 0 (whole ++ fraction) ≡ w * 10 ^ length fraction + f =
-    weighed_digits 0 (whole ++ fraction) (digits_joined whole fraction first then)
+    weighed_digits 0 (whole ++ fraction) (digits_before whole fraction first ∙ then)
     ∙ (digits_value_after-append 0 whole fraction ∙ digits_behind w fraction) in
     let power : w * 10 ^ length fraction + f ≡ w * 10 ^ decimals + f = ap (λ (n : ℕ). w * 10 ^ n + f) three in
     size_of_pieces decimals w f whole fraction three first then refl refl ∙ ap Some (sym (joined ∙ power))

@@ -59,6 +59,14 @@ pub digits_value_after-append : (n : ℕ) (xs ys : List ℕ)
 digits_value_after-append n [] ys = refl
 digits_value_after-append n (x ∷ xs) ys = digits_value_after-append (n * 10 + digit_value x) xs ys
 
+-- digits at a beginning leave the test to the rest
+pub digits_before : (ds rest : List ℕ) → all_ascii_digits ds ≡ true
+    → all_ascii_digits (ds ++ rest) ≡ all_ascii_digits rest
+digits_before [] rest digits = refl
+digits_before (c ∷ cs) rest digits =
+    let parts = and_parts (is_ascii_digit c) (all_ascii_digits cs) digits in
+    rw parts.0 (digits_before cs rest parts.1)
+
 -- the number that digits write is less than the next one before them, with as many zeros
 pub value_small : (size : ℕ) (ds : List ℕ)
     → all_ascii_digits ds ≡ true → digits_value_after 10 size ds < (size + 1) * 10 ^ length ds
