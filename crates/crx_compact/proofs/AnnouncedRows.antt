@@ -53,14 +53,6 @@ line-of_text types before line text r printable made read =
     else satellites_of_text types (patched before.text line)) printable
     ∙ ap (satellites_of_text types) (sym made) ∙ read
 
--- the satellites of a line without a fault are those of the text that it makes
-pub text-of_line : (types : List Count) (before : Tail) (line text : List ℕ) (satellites : List Satellite)
-    → list_all is_printable line ≡ true → text ≡ patched before.text line
-    → satellites_of_line types (past_of_tail before) line ≡ Ok satellites
-    → satellites_of_text types text ≡ Ok satellites
-text-of_line types before line text satellites printable made read =
-    sym (line-of_text types before line text (satellites_of_text types text) printable made refl) ∙ read
-
 -- a line without a fault has printable characters alone
 pub line-printable : (types : List Count) (before : Tail) (line : List ℕ) (satellites : List Satellite)
     → satellites_of_line types (past_of_tail before) line ≡ Ok satellites → list_all is_printable line ≡ true

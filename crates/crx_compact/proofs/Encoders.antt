@@ -1,5 +1,5 @@
 -- What an encoder's parts still are once a line of it was lent.
-use Rattle.std.proofs.Common.{◌≡◌, ℕ, List, Bool, true, false, Option, refl, sym, ◌∙◌}
+use Rattle.std.proofs.Common.{◌≡◌, List, Bool, true, false, Option, refl, ◌∙◌}
 use Rattle.crx_rinex.specs.meaning.Observations.{Row}
 use Rattle.crx_compact.specs.Encoding.{IsEncoding}
 use Rattle.crx_compact.specs.LineLists.{PendingLines}

@@ -1,19 +1,18 @@
 -- Satellites that come by the identifiers of an epoch text, each with as many types as its system has.
 use Rattle.std.proofs.Common.{◌≡◌, ◌++◌, ◌∷◌, [], ℕ, List, Bool, true, false, not, length, take, map, refl}
-use Rattle.std.proofs.Common.{ap, sym, ◌∙◌, subst, Some, Ok, ◌+◌, drop}
+use Rattle.std.proofs.Common.{ap, sym, ◌∙◌, subst, Some}
 use Rattle.std.proofs.lemmas.List.{map-append}
 use Rattle.std.proofs.Math.Seq.{take-append_seam}
 use Rattle.crx_text.specs.meaning.Columns.{columns}
-use Rattle.crx_header.specs.meaning.ObservationTypes.{Count, IsAllowedCount}
-use Rattle.crx_header.specs.meaning.Satellites.{is_among, is_identifier, types_of_satellite}
+use Rattle.crx_header.specs.meaning.ObservationTypes.{IsAllowedCount}
+use Rattle.crx_header.specs.meaning.Satellites.{is_among, is_identifier}
 use Rattle.crx_header.proofs.Apart.{among-map}
 use Rattle.crx_text.proofs.Characters.{length-columns}
 use Rattle.crx_compact.specs.HeldRows.{IsAwaitedSatellite}
-use Rattle.crx_compact.specs.meaning.EpochText.{Satellite, satellites_named}
-use Rattle.crx_compact.specs.Placing.{HasCome, HasRoom, HaveTypesRoom, KeepsRooms, PlacedRows, padded, padded_among}
+use Rattle.crx_compact.specs.meaning.EpochText.{Satellite}
+use Rattle.crx_compact.specs.Placing.{HasCome, PlacedRows, padded, padded_among}
 use Rattle.crx_compact.specs.Placing.{row_or_blank}
 use Rattle.crx_compact.specs.Tails.{RowTail}
-use Rattle.crx_compact.proofs.Naming.{NamedSoFar, named-holds}
 use Rattle.crx_compact.proofs.ComeRows.{AreAwaited, awaited-after, come-name, come-padded}
 
 -- whether a satellite has come, by the rows that have
@@ -68,13 +67,3 @@ awaited-one name text first count is named allowed =
     let whole : columns name 1 3 ≡ name =
     ap (λ n. take n (name ++ 32 ∷ 32 ∷ 32 ∷ [])) (sym three) ∙ take-append_seam name (32 ∷ 32 ∷ 32 ∷ []) in
     record { named = ap is_identifier (sym whole) ∙ named; counted = allowed }
-
--- what room the next satellite has before it comes
-pub next-room : (types : List Count) (all : List (List ℕ)) (place : ℕ) (found : List Satellite) (name : List ℕ)
-    (count : ℕ) (named : List Satellite) (before now : List (List ℕ × ℕ))
-    → NamedSoFar types all place found → drop place all ≡ name ∷ drop (place + 1) all
-    → types_of_satellite types name ≡ Some count → satellites_named types [] all ≡ Ok named
-    → HaveTypesRoom named before → KeepsRooms before now → HasRoom name count now
-next-room types all place found name count named before now so_far e some is has kept =
-    kept name count (named-holds (λ (s : Satellite). HasRoom s.name s.count before)
-    types all place found name count named so_far e some is has)

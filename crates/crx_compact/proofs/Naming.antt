@@ -1,9 +1,10 @@
 -- The identifiers of an epoch text, read from left to right.
 use Rattle.std.specs.Prelude.{◌≡◌, ◌<◌, refl, ℕ, zero, suc, ◌+◌, ◌*◌, Bool, true, false, ◌||◌, List, [], ◌∷◌, ◌++◌, drop, Option, Some, None}
-use Rattle.std.specs.Prelude.{Result, Ok, Err, if◌then◌else◌, All}
+use Rattle.std.specs.Prelude.{Result, Ok, Err, if◌then◌else◌, All, slice_get}
 use Rattle.std.specs.List.{list_any}
 use Rattle.std.specs.Str.{bytes_eq}
-use Rattle.std.proofs.Common.{sym, ◌∙◌, ap, arith, subst}
+use Rattle.std.proofs.Common.{sym, ◌∙◌, ap, arith, subst, inl, inr}
+use Rattle.std.proofs.lemmas.Option.{same_Some}
 use Rattle.std.proofs.lemmas.List.Elements.{All-head, All-tail}
 use Rattle.crx_text.specs.meaning.EachPlace.{each_place}
 use Rattle.crx_text.proofs.EachPlace.{drop-each_place, each_place-more}
@@ -14,8 +15,9 @@ use Rattle.crx_base.specs.declared.fault.Fault.TheVariants.{BadSatellite, Repeat
 use Rattle.crx_header.specs.meaning.ObservationTypes.{Count}
 use Rattle.crx_compact.specs.meaning.Sequences.{before_all}
 use Rattle.crx_compact.specs.meaning.EpochText.{Satellite, names_in, satellite_before, satellites_named}
-use Rattle.crx_compact.proofs.Characters.{bytes_eq-same, bytes_eq-is}
-use Rattle.crx_compact.proofs.Results.{before-ok, if-err, ok-same}
+use Rattle.crx_compact.specs.Placing.{HasRoom, HaveNamesRoom, HaveTypesRoom, KeepsRooms}
+use Rattle.crx_compact.proofs.Characters.{bytes_eq-same, bytes_eq-is, within-or_past}
+use Rattle.crx_compact.proofs.Results.{before-ok, if-err, no-err, ok-same}
 
 -- the names of some satellites before earlier ones, the last one first
 abbrev pub names_after : List Satellite → List (List ℕ) → List (List ℕ)
@@ -187,27 +189,68 @@ next-name text count place name h e =
     drop-each_place count place (λ k. columns text (42 + 3 * k) 3) h
     ∙ ap (λ n. n ∷ drop (place + 1) (names_in text count)) (sym e)
 
--- what is so of each satellite is so of the next one
-onto-holds : (P : Satellite → Type 0) (ss : List Satellite) (s : Satellite) (b : Bool)
-    (r : Result (List Satellite) Fault) (named : List Satellite)
-    → onto ss (if b then Err RepeatedSatellite else before_all s r) ≡ Ok named → All P named → P s
-onto-holds P [] s b r named e all =
-    let rest = before-ok s r named (if-err b RepeatedSatellite (before_all s r) named e) in
-    All-head P s rest.from (subst (All P) (sym (ok-same (s ∷ rest.from) named rest.next)) all)
-onto-holds P (q ∷ qs) s b r named e all =
-    let rest = before-ok q (onto qs (if b then Err RepeatedSatellite else before_all s r)) named e in
-    onto-holds P qs s b r rest.from rest.first
-    (All-tail P q rest.from (subst (All P) (sym (ok-same (q ∷ rest.from) named rest.next)) all))
+-- what holds of all satellites of a text holds of the one at each place
+pub named-each : (P : Satellite → Type 0) (types : List Count) (earlier all : List (List ℕ)) (k : ℕ)
+    (name : List ℕ) (others : List (List ℕ)) (count : ℕ) (named : List Satellite)
+    → satellites_named types earlier all ≡ Ok named → drop k all ≡ name ∷ others
+    → types_of_satellite types name ≡ Some count → All P named → P (record { name = name; count = count })
+named-each P types earlier [] k name others count named is at some h = absurd (none-there k at)
+  where
+    none-there : (k : ℕ) → drop k [] ≡ name ∷ others → ⊥
+    none-there zero e = cc
+    none-there (suc k) e = cc
+named-each P types earlier (n ∷ ns) k name others count named is at some h =
+    by (λ j there rest first all. named-each P types (n ∷ earlier) ns j name others count rest first there some all)
+    (types_of_satellite types n) refl is
+  where
+    After : Type 0
+    After = (j : ℕ) → drop j ns ≡ name ∷ others → (rest : List Satellite)
+        → satellites_named types (n ∷ earlier) ns ≡ Ok rest → All P rest → P (record { name = name; count = count })
 
-pub named-holds : (P : Satellite → Type 0) (types : List Count)
-    (all : List (List ℕ)) (place : ℕ) (found : List Satellite) (name : List ℕ) (count : ℕ)
-    (named : List Satellite) → NamedSoFar types all place found
-    → drop place all ≡ name ∷ drop (place + 1) all → types_of_satellite types name ≡ Some count
-    → satellites_named types [] all ≡ Ok named → All P named → P (record { name = name; count = count })
-named-holds P types all place found name count named n e some is h =
-    let s : Satellite = record { name = name; count = count } in
-    let others : Result (List Satellite) Fault =
-    satellites_named types (name ∷ names_after found []) (drop (place + 1) all) in
-    onto-holds P found s (list_any (bytes_eq name) (names_after found [])) others named
-    (sym (at-next types all place found name n e
-    ∙ ap (λ (c : Option ℕ). onto found (satellite_before (names_after found []) name c others)) some) ∙ is) h
+    step : After → (c : ℕ) (j : ℕ) → types_of_satellite types n ≡ Some c → drop j (n ∷ ns) ≡ name ∷ others
+        → (rest : List Satellite) → satellites_named types (n ∷ earlier) ns ≡ Ok rest
+        → All P (record { name = n; count = c } ∷ rest) → P (record { name = name; count = count })
+    step after c zero e there rest first all =
+        let same : n ≡ name = same_Some n name (ap (λ (xs : List (List ℕ)). slice_get xs 0) there) in
+        let counted : c ≡ count = same_Some c count (sym e ∙ ap (types_of_satellite types) same ∙ some) in
+        subst (λ (x : List ℕ). P (record { name = x; count = count })) same
+        (subst (λ x. P (record { name = n; count = x })) counted
+        (All-head P (record { name = n; count = c }) rest all))
+    step after c (suc j) e there rest first all =
+        after j there rest first (All-tail P (record { name = n; count = c }) rest all)
+
+    by : After → (o : Option ℕ) → types_of_satellite types n ≡ o
+        → satellite_before earlier n o (satellites_named types (n ∷ earlier) ns) ≡ Ok named
+        → P (record { name = name; count = count })
+    by after None e g = absurd (no-err BadSatellite named g)
+    by after (Some c) e g =
+        let s : Satellite = record { name = n; count = c } in
+        let later = satellites_named types (n ∷ earlier) ns in
+        let rest = before-ok s later named
+        (if-err (list_any (bytes_eq n) earlier) RepeatedSatellite (before_all s later) named g) in
+        step after c k e at rest.from rest.first (subst (All P) (sym (ok-same (s ∷ rest.from) named rest.next)) h)
+
+-- where each satellite of a text has room, the one at each place has
+pub names-room : (types : List Count) (text : List ℕ) (count : ℕ) (named : List Satellite)
+    (before now : List (List ℕ × ℕ)) → satellites_named types [] (names_in text count) ≡ Ok named
+    → HaveTypesRoom named before → KeepsRooms before now → HaveNamesRoom types text count now
+names-room types text count named before now is has kept = λ place cells within some.
+    let name : List ℕ = columns text (42 + 3 * place) 3 in
+    kept name cells (named-each (λ (s : Satellite). HasRoom s.name s.count before) types []
+    (names_in text count) place name (drop (place + 1) (names_in text count)) cells named is
+    (next-name text count place name within refl) some has)
+
+-- the satellite at one place more has room
+pub names-room-more : (types : List Count) (text : List ℕ) (place : ℕ) (before now : List (List ℕ × ℕ))
+    → HaveNamesRoom types text place before → KeepsRooms before now
+    → ((cells : ℕ) → types_of_satellite types (columns text (42 + 3 * place) 3) ≡ Some cells
+    → HasRoom (columns text (42 + 3 * place) 3) cells now)
+    → HaveNamesRoom types text (place + 1) now
+names-room-more types text place before now have kept last = λ k cells within some.
+    elim (within-or_past place k) [
+      | inl less ↦ kept (columns text (42 + 3 * k) 3) cells (have k cells less some)
+      | inr more ↦
+          let same : place ≡ k = omega (arith, within, more) in
+          subst (λ p. types_of_satellite types (columns text (42 + 3 * p) 3) ≡ Some cells
+          → HasRoom (columns text (42 + 3 * p) 3) cells now) same (last cells) some
+    ]

@@ -1,21 +1,23 @@
 -- The satellites of a history while an epoch is open: the rows that have come, in the order of the file; those of the epoch before that
 -- haven't come yet, each known by its identifier; and how many types there is room for.
 use Rattle.std.specs.Prelude.{◌≡◌, ◌≤◌, ◌++◌, ◌∷◌, ℕ, ℤ, List, [], length, slice_index_or, Option, None, Some, false, map}
-use Rattle.std.specs.Prelude.{All, sum, unwrap_or, ◌+◌, ◌*◌}
+use Rattle.std.specs.Prelude.{All, unwrap_or, ◌+◌, ◌*◌, ◌<◌}
 use Rattle.std.specs.Str.{bytes_eq}
 use Rattle.crx_text.specs.meaning.EachPlace.{each_place}
 use Rattle.crx_compact.specs.ArcTails.{ArcTail}
 use Rattle.crx_compact.specs.meaning.EpochText.{Satellite}
 use Rattle.crx_compact.specs.meaning.Sequences.{named}
 use Rattle.std.specs.Prelude.{Ok, slice_get, slice_set}
-use Rattle.crx_header.specs.meaning.ObservationTypes.{IsAllowedCount}
+use Rattle.crx_header.specs.meaning.ObservationTypes.{Count, IsAllowedCount}
 use Rattle.crx_compact.specs.HeldRows.{IsAwaitedSatellite, row_held}
 use Rattle.crx_compact.specs.RowsSoFar.{AreAnnounced}
 use Rattle.crx_compact.specs.ShownRows.{shown_row}
 use Rattle.crx_compact.specs.Steps.{cell_of_tail, flags_of_tail, flags_held}
 use Rattle.crx_compact.specs.Tails.{RowTail, Tail}
-use Rattle.crx_rinex.specs.meaning.Observations.{Row, Epoch}
-use Rattle.crx_base.specs.declared.limits.TheConstants.{LINE_LIMIT, TYPES_LIMIT}
+use Rattle.crx_rinex.specs.meaning.Observations.{Row}
+use Rattle.crx_base.specs.declared.limits.TheConstants.{HEAD_WIDTH, NAME_WIDTH, TYPES_LIMIT}
+use Rattle.crx_header.specs.meaning.Satellites.{types_of_satellite}
+use Rattle.crx_text.specs.meaning.Columns.{columns}
 use Rattle.crx_compact.specs.declared.cells.TheConstants.{CELL_ROOM}
 
 -- what is stored of a satellite: its indicators without the blanks at their end, the tail of each cell's arc, and how many types it has
@@ -119,6 +121,12 @@ HaveRoom rows rooms = All (λ (row : Row). HasRoom row.name (length row.values) 
 -- each satellite is known, and has room for its types
 abbrev pub HaveTypesRoom : List Satellite → List (List ℕ × ℕ) → Type 0
 HaveTypesRoom satellites rooms = All (λ (s : Satellite). HasRoom s.name s.count rooms) satellites
+
+-- the same of so many satellites of an epoch text, which have no fault
+abbrev pub HaveNamesRoom : List Count → List ℕ → ℕ → List (List ℕ × ℕ) → Type 0
+HaveNamesRoom types text count rooms = (place cells : ℕ) → place < count
+    → types_of_satellite types (columns text (HEAD_WIDTH + 1 + NAME_WIDTH * place) NAME_WIDTH) ≡ Some cells
+    → HasRoom (columns text (HEAD_WIDTH + 1 + NAME_WIDTH * place) NAME_WIDTH) cells rooms
 
 -- a row by its identifier, values and indicators
 abbrev pub row_of_parts : List ℕ → List (Option ℤ) → List ℕ → Row

@@ -1,5 +1,5 @@
 -- What columns are seen as: a reader of compact epochs, and for how much it has room.
-use Rattle.std.specs.Prelude.{◌≡◌, ◌≤◌, ◌<◌, ◌+◌, ℕ, List, All, length, map, sum}
+use Rattle.std.specs.Prelude.{◌≤◌, ◌<◌, ◌+◌, ℕ, List, All, length, map, sum}
 use Rattle.crx_base.specs.declared.limits.TheConstants.{LINE_LIMIT}
 use Rattle.crx_compact.specs.OpenEpochs.{ColumnsState, OpenRawEpoch}
 use Rattle.crx_compact.specs.Placing.{HasRoom, KeepsRooms}

@@ -1,6 +1,6 @@
 //! The history, which each epoch's lines are made and read after, and which they change in place: Hatanaka's Compact RINEX 3.0.
 
-ghost use Rattle.std.specs.Prelude.{List, sum, flat_map, ◌≡◌, ◌≤◌, ◌<◌, ◌+◌, ◌*◌, ◌++◌, ◌∷◌, ◌⊎◌, if◌then◌else◌, [], true, false, None, Some, Ok, Err, All, length, take, map, slice_get, is_some, not, OnOk, OnErr, IfOk, IfErr, IsOk, vec_capacity};
+ghost use Rattle.std.specs.Prelude.{List, ℕ, sum, flat_map, ◌≡◌, ◌≤◌, ◌<◌, ◌+◌, ◌*◌, ◌++◌, ◌∷◌, ◌⊎◌, if◌then◌else◌, [], true, false, None, Some, Ok, Err, All, length, take, map, slice_get, is_some, not, OnOk, OnErr, IfOk, IfErr, IsOk, vec_capacity};
 ghost use Rattle.std.specs.Result.{is_ok};
 ghost use Rattle.crx_text.specs.meaning.Columns.{columns, without_end_blanks};
 ghost use Rattle.crx_text.specs.meaning.Texts.{text_difference};
@@ -10,13 +10,14 @@ ghost use Rattle.crx_header.specs.meaning.EpochColumns.{begins_epoch, epoch_coun
 ghost use Rattle.crx_rinex.specs.Epochs.{is_full_epoch, with_row};
 ghost use Rattle.crx_rinex.specs.meaning.Epochs.{IsSoundEpoch, has_satellite};
 ghost use Rattle.crx_rinex.specs.meaning.Observations.{Row};
+ghost use Rattle.crx_header.specs.meaning.Satellites.{types_of_satellite};
 ghost use Rattle.crx_rinex.specs.meaning.Printing.{printed_head, printed_row};
 ghost use Rattle.crx_compact.specs.ArcSteps.{shown_value};
 ghost use Rattle.crx_compact.specs.EncodingRooms.{HasRoomForEpoch, encoding_room};
 ghost use Rattle.crx_compact.specs.HeldRows.{IsAwaitedSatellite, past_of_tail, row_held};
 ghost use Rattle.crx_compact.specs.meaning.CompactPlaces.{clock_line_read, satellites_of_line, satellites_of_text};
 ghost use Rattle.crx_compact.specs.meaning.EpochText.{Satellite, names_in, satellites_named};
-ghost use Rattle.crx_compact.specs.Placing.{HasAllowedCount, HasRoom, HaveRoom, HaveTypesRoom, IsAnnounced, IsBetween, IsRowRead, KeepsRooms, padded, padded_among, room_of_types, row_of_parts, row_room, satellite_of, tail_of_history};
+ghost use Rattle.crx_compact.specs.Placing.{HasAllowedCount, HasRoom, HaveNamesRoom, HaveRoom, HaveTypesRoom, IsAnnounced, IsBetween, IsRowRead, KeepsRooms, padded, padded_among, room_of_types, row_of_parts, row_room, satellite_of, tail_of_history};
 ghost use Rattle.crx_compact.specs.Written.{AreRowsWritten, epoch_by_rows};
 ghost use Rattle.crx_rinex.specs.meaning.SatelliteLines.{IsSoundRow};
 ghost use Rattle.crx_compact.specs.PrintedBlocks.{printed_room};
@@ -28,7 +29,7 @@ ghost use Rattle.crx_compact.specs.Tails.{RowTail, Tail};
 use crate::arc::ClockArc;
 use crate::cells::CELL_ROOM;
 use crate::lines::{FIRST_LINES, Lines};
-use crate::refusals::fault_of_text;
+use crate::refusals::prepare_names;
 use crate::satellites::Satellites;
 use crx_base::Fault;
 use crx_base::limits::{CELL_WIDTH, HEAD_WIDTH, LINE_LIMIT, NAME_WIDTH, TYPES_LIMIT};
@@ -320,16 +321,7 @@ impl History {
         }
         self.satellites.begin();
         let text = part.bytes();
-        match read_satellites(types, text, &mut self.satellites) {
-            Ok(()) => {}
-            Err(Fault::OutOfMemory) => {
-                if let Some(fault) = fault_of_text(types, text) {
-                    return Err(fault);
-                }
-                return Err(Fault::OutOfMemory);
-            }
-            Err(fault) => return Err(fault),
-        }
+        read_satellites(types, text, &mut self.satellites)?;
         if put_text_in(&mut self.text, text).is_err() {
             return Err(Fault::OutOfMemory);
         }
@@ -587,7 +579,7 @@ fn push_row(epoch: &mut Epoch, row: SatRow) -> Result<(), Fault>
 /// Has the satellites of an epoch text come, each with as many types as its system has.
 ///
 /// `BadEpoch` comes where columns 1 to 41 are not those of an observation epoch, or anything but blanks is behind the last identifier; then
-/// the faults of the identifiers; `OutOfMemory` where something can't grow.
+/// the faults of the identifiers; `OutOfMemory` where something can't grow and the text has no fault.
 fn read_satellites(types: &Types, text: &[u8], satellites: &mut Satellites) -> Result<(), Fault>
     requires { satellites.old.rows ≡ [] }
     ensures ok { OnOk result ((named : List Satellite) × (satellites_of_text types.now text.now ≡ Ok named)
@@ -595,6 +587,9 @@ fn read_satellites(types: &Types, text: &[u8], satellites: &mut Satellites) -> R
         × All IsAwaitedSatellite named) }
     ensures err { IfErr result (λ fault. (satellites_of_text types.now text.now ≡ Err fault)
         ⊎ (fault ≡ Fault.OutOfMemory)) }
+    // Memory runs out only at a text without a fault.
+    ensures memory { IfErr result (λ fault. fault ≡ Fault.OutOfMemory
+        → is_ok (satellites_of_text types.now text.now) ≡ true) }
     // Where room was asked for before, the answer isn't for want of memory.
     ensures known { (named : List Satellite) → satellites_of_text types.now text.now ≡ Ok named
         → HaveTypesRoom named satellites.old.rooms → IsOk result }
@@ -615,7 +610,7 @@ fn read_satellites(types: &Types, text: &[u8], satellites: &mut Satellites) -> R
 /// Has so many satellites after the columns of an epoch text come, from left to right.
 ///
 /// `BadSatellite` comes where one has the form of none of a system that has types, then `RepeatedSatellite` where it has come already;
-/// `OutOfMemory` where something can't grow.
+/// `OutOfMemory` where something can't grow and none has a fault.
 fn read_names(
     types: &Types,
     text: &[u8],
@@ -630,6 +625,9 @@ fn read_names(
         × All IsAwaitedSatellite named) }
     ensures err { IfErr result (λ fault. (satellites_named types.now [] (names_in text.now count) ≡ Err fault)
         ⊎ (fault ≡ Fault.OutOfMemory)) }
+    // Memory runs out only where no satellite has a fault.
+    ensures memory { IfErr result (λ fault. fault ≡ Fault.OutOfMemory
+        → is_ok (satellites_named types.now [] (names_in text.now count)) ≡ true) }
     // Where room was asked for before, the answer isn't for want of memory.
     ensures known { (named : List Satellite)
         → satellites_named types.now [] (names_in text.now count) ≡ Ok named
@@ -641,17 +639,47 @@ fn read_names(
 {
     for place in 0..count {
         let name = identifier(text, HEAD_WIDTH + 1 + NAME_WIDTH * place);
-        let Some(types) = types_of_satellite(types, &name) else {
+        let Some(cells) = types_of_satellite(types, &name) else {
             return Err(Fault::BadSatellite);
         };
-        match satellites.place(name) {
-            Ok(true) => {}
-            Ok(false) => return Err(Fault::RepeatedSatellite),
-            Err(_) => return Err(Fault::OutOfMemory),
+        have_room(types, text, count, satellites, name, cells)?;
+        if !satellites.place(name).unwrap() {
+            return Err(Fault::RepeatedSatellite);
         }
-        if satellites.resize_last(types).is_err() {
-            return Err(Fault::OutOfMemory);
-        }
+        satellites.resize_last(cells);
     }
     Ok(())
+}
+
+/// Makes sure that a satellite of an epoch text has room for so many types. Mostly it has; else room is asked for all of the text at once, and
+/// only where none has a fault. No row changes.
+#[inline(always)]
+fn have_room(
+    types: &Types,
+    text: &[u8],
+    count: usize,
+    satellites: &mut Satellites,
+    name: [u8; NAME_WIDTH],
+    cells: usize,
+) -> Result<(), Fault>
+    requires few { count ≤ SATELLITES_LIMIT }
+    requires there { (place : ℕ) × (place < count)
+        × (name ≡ columns text.now (HEAD_WIDTH + 1 + NAME_WIDTH * place) NAME_WIDTH)
+        × (types_of_satellite types.now name ≡ Some cells) }
+    ensures rows { satellites.new.rows ≡ satellites.old.rows }
+    ensures rest { satellites.new.rest ≡ satellites.old.rest }
+    ensures room { OnOk result (HasRoom name cells satellites.new.rooms) }
+    ensures rooms { KeepsRooms satellites.old.rooms satellites.new.rooms }
+    ensures err { IfErr result (λ fault. (satellites_named types.now [] (names_in text.now count) ≡ Err fault)
+        ⊎ (fault ≡ Fault.OutOfMemory)) }
+    ensures memory { IfErr result (λ fault. fault ≡ Fault.OutOfMemory
+        → is_ok (satellites_named types.now [] (names_in text.now count)) ≡ true) }
+    ensures known { (named : List Satellite)
+        → satellites_named types.now [] (names_in text.now count) ≡ Ok named
+        → HaveNamesRoom types.now text.now count satellites.old.rooms → IsOk result }
+{
+    if satellites.has_room(name, cells) {
+        return Ok(());
+    }
+    prepare_names(types, text, count, satellites)
 }

@@ -1,17 +1,19 @@
-//! The faults of compact epoch lines for which there was no room: Hatanaka's Compact RINEX 3.0, epoch line. They are found without
-//! memory, so that a line with a fault is answered by it, and `OutOfMemory` comes only at a line without one.
+//! The faults of an epoch text's satellites, and room for them: Hatanaka's Compact RINEX 3.0, epoch line. The faults are found before memory
+//! is asked for, so that a line with a fault is answered by it and takes none, and `OutOfMemory` comes only at a line without one.
 
-ghost use Rattle.std.specs.Prelude.{◌≡◌, ◌≤◌, List, [], ℕ, Err, None, IfSome, true};
+ghost use Rattle.std.specs.Prelude.{◌≡◌, ◌≤◌, ◌⊎◌, List, [], ℕ, Ok, Err, None, IfSome, OnOk, IfErr, IsOk, true};
 ghost use Rattle.std.specs.Result.{is_ok};
 ghost use Rattle.crx_base.specs.declared.limits.TheConstants.{SATELLITES_LIMIT};
 ghost use Rattle.crx_header.specs.meaning.Satellites.{is_among};
-ghost use Rattle.crx_compact.specs.meaning.CompactPlaces.{satellites_of_text};
-ghost use Rattle.crx_compact.specs.meaning.EpochText.{names_in, satellites_named};
+ghost use Rattle.crx_compact.specs.meaning.EpochText.{Satellite, names_in, satellites_named};
+ghost use Rattle.crx_compact.specs.Placing.{HaveNamesRoom, KeepsRooms};
 
+use crate::satellites::Satellites;
 use crx_base::Fault;
 use crx_base::limits::{HEAD_WIDTH, NAME_WIDTH};
-use crx_header::{Types, after_columns, all_blank, identifier, padded};
-use crx_rinex::{EpochLine, types_of_satellite};
+use crx_header::{Types, identifier};
+use crx_rinex::types_of_satellite;
+use std::alloc::AllocError;
 
 /// Whether an identifier is one of the first so many of an epoch text.
 fn is_among_first(text: &[u8], count: usize, name: [u8; NAME_WIDTH]) -> bool
@@ -46,19 +48,61 @@ fn fault_of_names(types: &Types, text: &[u8], count: usize) -> Option<Fault>
     None
 }
 
-/// The first fault of an epoch text; `None` where it has none.
+/// Asks for room for so many satellites of an epoch text, each with as many types as its system has, where none of them has a fault. No row
+/// changes.
+#[cold]
 #[inline(never)]
-pub(crate) fn fault_of_text(types: &Types, text: &[u8]) -> Option<Fault>
-    ensures fault { IfSome result (λ fault. satellites_of_text types.now text.now ≡ Err fault) }
-    ensures no_memory { IfSome result (λ fault. fault ≡ Fault.OutOfMemory → ⊥) }
-    ensures none { result ≡ None → is_ok (satellites_of_text types.now text.now) ≡ true }
+pub(crate) fn prepare_names(
+    types: &Types,
+    text: &[u8],
+    count: usize,
+    satellites: &mut Satellites,
+) -> Result<(), Fault>
+    requires few { count ≤ SATELLITES_LIMIT }
+    ensures rows { satellites.new.rows ≡ satellites.old.rows }
+    ensures rest { satellites.new.rest ≡ satellites.old.rest }
+    ensures room { OnOk result (HaveNamesRoom types.now text.now count satellites.new.rooms) }
+    ensures rooms { KeepsRooms satellites.old.rooms satellites.new.rooms }
+    ensures err { IfErr result (λ fault. (satellites_named types.now [] (names_in text.now count) ≡ Err fault)
+        ⊎ (fault ≡ Fault.OutOfMemory)) }
+    // Memory runs out only where no satellite has a fault; where one has, none was asked for.
+    ensures memory { IfErr result (λ fault. fault ≡ Fault.OutOfMemory
+        → is_ok (satellites_named types.now [] (names_in text.now count)) ≡ true) }
+    ensures unasked { IfErr result (λ fault. (fault ≡ Fault.OutOfMemory → ⊥)
+        → satellites.new ≡ satellites.old) }
+    // Where room was asked for before, the answer isn't for want of memory.
+    ensures known { (named : List Satellite)
+        → satellites_named types.now [] (names_in text.now count) ≡ Ok named
+        → HaveNamesRoom types.now text.now count satellites.old.rooms → IsOk result }
 {
-    let Ok(head) = EpochLine::new(padded(text, 1), None) else {
-        return Some(Fault::BadEpoch);
-    };
-    let count = head.count();
-    if !all_blank(after_columns(text, HEAD_WIDTH + NAME_WIDTH * count)) {
-        return Some(Fault::BadEpoch);
+    if let Some(fault) = fault_of_names(types, text, count) {
+        return Err(fault);
     }
-    fault_of_names(types, text, count)
+    match prepare_all(types, text, count, satellites) {
+        Ok(()) => Ok(()),
+        Err(_) => Err(Fault::OutOfMemory),
+    }
+}
+
+/// Asks for room for so many satellites of an epoch text, for [`prepare_names`].
+fn prepare_all(
+    types: &Types,
+    text: &[u8],
+    count: usize,
+    satellites: &mut Satellites,
+) -> Result<(), AllocError>
+    requires few { count ≤ SATELLITES_LIMIT }
+    ensures rows { satellites.new.rows ≡ satellites.old.rows }
+    ensures rest { satellites.new.rest ≡ satellites.old.rest }
+    ensures room { OnOk result (HaveNamesRoom types.now text.now count satellites.new.rooms) }
+    ensures rooms { KeepsRooms satellites.old.rooms satellites.new.rooms }
+    ensures known { HaveNamesRoom types.now text.now count satellites.old.rooms → IsOk result }
+{
+    for place in 0..count {
+        let name = identifier(text, HEAD_WIDTH + 1 + NAME_WIDTH * place);
+        if let Some(cells) = types_of_satellite(types, &name) {
+            satellites.prepare(name, cells)?;
+        }
+    }
+    Ok(())
 }

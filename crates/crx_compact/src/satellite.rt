@@ -1,7 +1,7 @@
 //! What is stored of a satellite: its indicators and the arcs of its cells, changed in place by each of its lines. Hatanaka's Compact RINEX
 //! 3.0, satellite lines.
 
-ghost use Rattle.std.specs.Prelude.{All, ℕ, List, ◌≡◌, ◌≤◌, ◌<◌, ◌+◌, ◌-◌, ◌*◌, ◌++◌, [], None, Some, Ok, Err, true, false, length, replicate, take, OnOk, IfOk, IfErr, IsOk};
+ghost use Rattle.std.specs.Prelude.{All, ℕ, List, ◌≡◌, ◌≤◌, ◌<◌, ◌+◌, ◌-◌, ◌*◌, ◌++◌, [], None, Some, Ok, Err, true, false, length, replicate, take, OnOk, IfOk, IfErr, IsOk, IsTrue, ◌↔◌};
 ghost use Rattle.std.specs.List.{flat_map, list_all};
 ghost use Rattle.crx_text.specs.meaning.Columns.{columns, without_end_blanks};
 ghost use Rattle.crx_text.specs.meaning.Texts.{is_kept, text_difference};
@@ -83,6 +83,14 @@ impl SatelliteHistory {
         ensures few { result ≤ TYPES_LIMIT }
     {
         self.count
+    }
+
+    /// Whether there is room for so many types.
+    #[inline(always)]
+    pub(crate) fn has_room(&self, count: usize) -> bool
+        ensures value { IsTrue result ↔ (count ≤ self.now.room) }
+    {
+        count <= self.arcs.len()
     }
 
     /// Forgets everything; the memory is used again.

@@ -1,6 +1,7 @@
 //! The satellites of a history, in the order of the file: Hatanaka's Compact RINEX 3.0.
 
-ghost use Rattle.std.specs.Prelude.{ℕ, List, ◌≡◌, ◌≤◌, ◌<◌, ◌+◌, ◌*◌, ◌^◌, ◌++◌, ◌∷◌, [], true, false, not, Some, Ok, Err, length, take, map, slice_get, slice_set, OnOk, OnErr, IfOk, IfErr, IsOk};
+ghost use Rattle.std.specs.Prelude.{ℕ, List, ◌≡◌, ◌≤◌, ◌<◌, ◌+◌, ◌*◌, ◌^◌, ◌++◌, ◌∷◌, [], true, false, not, is_some, None, Some, Ok, Err, length, take, map, slice_get, slice_set, OnOk, OnErr, IfOk, IfErr, IfSome, IsOk, IsTrue, ◌↔◌};
+ghost use Rattle.std.specs.Map.{lookup};
 ghost use Rattle.std.specs.Str.{bytes_eq};
 ghost use Rattle.crx_base.specs.declared.limits.TheConstants.{CELL_WIDTH, LINE_LIMIT, NAME_WIDTH, TYPES_LIMIT};
 ghost use Rattle.crx_header.specs.meaning.EpochColumns.{begins_epoch};
@@ -9,7 +10,7 @@ ghost use Rattle.crx_header.specs.meaning.Satellites.{is_among, is_identifier};
 ghost use Rattle.crx_rinex.specs.meaning.Printing.{printed_row};
 ghost use Rattle.crx_rinex.specs.meaning.SatelliteLines.{IsSoundRow};
 ghost use Rattle.crx_compact.specs.declared.cells.TheConstants.{CELL_ROOM};
-ghost use Rattle.crx_compact.specs.Entries.{IsFound, IsPutNext, IsRevived, key_of};
+ghost use Rattle.crx_compact.specs.Entries.{Entry, IsFound, IsPutNext, IsRevived, key_of};
 ghost use Rattle.crx_compact.specs.HeldRows.{row_held};
 ghost use Rattle.crx_compact.specs.Placing.{HasCome, HasRoom, KeepsRooms, SatelliteTail, padded, row_of_parts, satellite_of};
 ghost use Rattle.crx_compact.specs.ShownRows.{shown_row};
@@ -166,6 +167,34 @@ impl Satellites {
         Ok(true)
     }
 
+    /// Whether a satellite is known, and has room for so many types. The one that comes next is mostly the next one in the order of the epoch
+    /// before, which one comparison finds; for any other one it is noted where it was found, so that [`Satellites::place`] finds it there.
+    #[inline(always)]
+    pub(crate) fn has_room(&mut self, name: [u8; NAME_WIDTH], count: usize) -> bool
+        ensures there { result ≡ true → HasRoom name count self.old.rooms }
+        ensures same { self.new ≡ self.old }
+    {
+        if self.placed < self.live && is_same_identifier(key_at(&self.known, self.placed), name) {
+            return has_room_at(&self.known, self.placed, count);
+        }
+        self.finds_room(name, count)
+    }
+
+    /// Whether a satellite has room, for [`Satellites::has_room`], where it isn't the next one in the order of the epoch before.
+    #[inline(never)]
+    fn finds_room(&mut self, name: [u8; NAME_WIDTH], count: usize) -> bool
+        ensures there { result ≡ true → HasRoom name count self.old.rooms }
+        ensures same { self.new ≡ self.old }
+    {
+        let behind = self.placed.saturating_add(self.ahead);
+        let near = likely_index(&self.known, self.last, behind, name);
+        let Some(found) = find(&self.known, near, name) else {
+            return false;
+        };
+        self.last = found;
+        has_room_at(&self.known, found, count)
+    }
+
     /// Asks for room for a satellite of so many types, which mostly is the one behind that of the call before. No row changes, and after `Ok`
     /// the satellite is known.
     #[inline(always)]
@@ -210,27 +239,20 @@ impl Satellites {
         key_at(&self.known, index)
     }
 
-    /// Makes the satellite that came last have so many types: those that it has stay, and new ones have no arcs and blank indicators.
-    ///
-    /// After `AllocError` nothing has changed.
+    /// Makes the satellite that came last have so many types, for which it has room: those that it has stay, and new ones have no arcs and
+    /// blank indicators.
     #[inline(always)]
-    pub(crate) fn resize_last(&mut self, count: usize) -> Result<(), AllocError>
+    pub(crate) fn resize_last(&mut self, count: usize)
         requires some { 0 < length self.old.rows }
-        requires allowed { count ≤ TYPES_LIMIT }
-        ensures ok { OnOk result ((before : List RowTail) (row : RowTail) → self.old.rows ≡ before ++ row ∷ []
-            → self.new.rows ≡ before ++ padded (record { name = row.name; count = count }) (Some row) ∷ []) }
-        ensures err { OnErr result (self.new.rows ≡ self.old.rows) }
-        ensures room { OnOk result ((before : List RowTail) (row : RowTail) → self.old.rows ≡ before ++ row ∷ []
-            → HasRoom row.name count self.new.rooms) }
-        ensures known { (before : List RowTail) (row : RowTail) → self.old.rows ≡ before ++ row ∷ []
-            → HasRoom row.name count self.old.rooms → IsOk result }
+        requires room { (before : List RowTail) (row : RowTail) → self.old.rows ≡ before ++ row ∷ []
+            → HasRoom row.name count self.old.rooms }
+        ensures rows { (before : List RowTail) (row : RowTail) → self.old.rows ≡ before ++ row ∷ []
+            → self.new.rows ≡ before ++ padded (record { name = row.name; count = count }) (Some row) ∷ [] }
         ensures rest { self.new.rest ≡ self.old.rest }
         ensures rooms { KeepsRooms self.old.rooms self.new.rooms }
     {
         let (_, satellite) = self.known.pair_mut(self.placed - 1);
-        satellite.make_room(count)?;
         satellite.resize(count);
-        Ok(())
     }
 
     /// Writes the compact line of a row, whose satellite is at an index among those that have come, from another index on, in place of
@@ -364,6 +386,39 @@ fn likely_index(
     behind
 }
 
+/// Whether the satellite at an index has room for so many types.
+#[inline(always)]
+fn has_room_at(
+    map: &IndexMap<[u8; NAME_WIDTH], SatelliteHistory>,
+    index: usize,
+    count: usize,
+) -> bool
+    requires within { index < length map.now.entries }
+    ensures value { (entry : Entry) → slice_get map.now.entries index ≡ Some entry
+        → IsTrue result ↔ (count ≤ entry.1.room) }
+{
+    let (_, satellite) = map.get_index(index).unwrap();
+    satellite.has_room(count)
+}
+
+/// The index of the satellite with an identifier, where it is known. It is looked for at one index first.
+fn find(
+    map: &IndexMap<[u8; NAME_WIDTH], SatelliteHistory>,
+    near: usize,
+    name: [u8; NAME_WIDTH],
+) -> Option<usize>
+    ensures found { IfSome result (λ found. IsFound name found map.now.entries map.now.entries) }
+    ensures unknown { result ≡ None → is_some (lookup (bytes_eq name) map.now.entries) ≡ false }
+    ensures unique { IsUnique bytes_eq map.now }
+    ensures small { IfSome result (λ found. found < 2 ^ 63) }
+{
+    let count = map.len();
+    if near < count && is_same_identifier(key_at(map, near), name) {
+        return Some(near);
+    }
+    map.get_index_of(&name)
+}
+
 /// The index of the satellite with an identifier, which is added behind the others where it isn't known. It is looked for at one index first.
 fn find_or_add(
     map: &mut IndexMap<[u8; NAME_WIDTH], SatelliteHistory>,
@@ -377,16 +432,13 @@ fn find_or_add(
     ensures unique { IsUnique bytes_eq map.new }
     ensures small { IfOk result (λ found. found < 2 ^ 63) }
 {
-    let count = map.len();
-    if near < count && is_same_identifier(key_at(map, near), name) {
-        return Ok(near);
+    if let Some(found) = find(map, near, name) {
+        return Ok(found);
     }
-    match map.get_index_of(&name) {
-        Some(found) => Ok(found),
-        None => match map.insert(name, SatelliteHistory::new(alloc)) {
-            Ok(_) => Ok(count),
-            Err(_) => Err(AllocError),
-        },
+    let count = map.len();
+    match map.insert(name, SatelliteHistory::new(alloc)) {
+        Ok(_) => Ok(count),
+        Err(_) => Err(AllocError),
     }
 }
 

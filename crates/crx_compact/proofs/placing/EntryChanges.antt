@@ -80,6 +80,11 @@ module _ {S : Type 0} (m : IndexMap (List ℕ) SatelliteTail S) (i : ℕ) (name 
       let within = known.2 in
       subst (λ (s : SatelliteTail). count ≤ s.room) same within
 
+  pub room-here : (count : ℕ) → count ≤ before.room → HasRoom name count (rooms_of m.entries)
+  room-here count within =
+      room-from_look_up name count m.entries before
+      (hash_map_get_place bytes_eq-equiv m i name before unique there) within
+
   pub rooms-changed : before.room ≤ after.room
       → KeepsRooms (rooms_of m.entries) (rooms_of (set_value_at m.entries i after))
   rooms-changed more =

@@ -1,6 +1,6 @@
 -- A satellite is found by its identifier, or added behind the others.
 use Rattle.std.proofs.Common.{◌≡◌, ℕ, ◌<◌, List, [], ◌∷◌, ◌++◌, length, take, slice_get}
-use Rattle.std.proofs.Common.{get_or, position, Option, Some, None, is_some, option_map, refl, ap, sym, ◌∙◌}
+use Rattle.std.proofs.Common.{get_or, position, Option, Some, None, IfSome, is_some, option_map, refl, ap, sym, ◌∙◌}
 use Rattle.std.proofs.Common.{inl, inr, arith}
 use Rattle.std.proofs.Common.{Bool, false}
 use Rattle.std.specs.Str.{bytes_eq}
@@ -35,7 +35,7 @@ pub found-same : (name other : List ℕ) (i : ℕ) (es : List Entry)
 found-same name other i es there same =
     found-there name i es there.0 (there.1 ∙ ap (λ (n : List ℕ). Some (n, there.0)) same)
 
-pub found-by_look_up : (name : List ℕ) (i : ℕ) (es : List Entry)
+found-by_look_up : (name : List ℕ) (i : ℕ) (es : List Entry)
     → position (bytes_eq name) (keys_of es) ≡ Some i → IsFound name i es es
 found-by_look_up name i es is =
     let at = position-Some (bytes_eq name) (keys_of es) i [] is in
@@ -46,6 +46,11 @@ found-by_look_up name i es is =
     ∙ get_or_from_slice_get (keys_of es) i (key_of entry.0) []
     (slice_get-map key_of es i ∙ ap (option_map key_of) entry.1) in
     found-there name i es entry.0.1 (entry.1 ∙ ap (λ (n : List ℕ). Some (n, entry.0.1)) (sym same))
+
+pub found-if_some : (name : List ℕ) (es : List Entry) (r : Option ℕ) → position (bytes_eq name) (keys_of es) ≡ r
+    → IfSome r (λ i. IsFound name i es es)
+found-if_some name es None is = tt
+found-if_some name es (Some i) is = found-by_look_up name i es is
 
 at-seam : {X : Type 0} (xs : List X) (x : X) → slice_get (xs ++ x ∷ []) (length xs) ≡ Some x
 at-seam [] x = refl

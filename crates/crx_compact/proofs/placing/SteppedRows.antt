@@ -85,13 +85,23 @@ last-row-is placed es e before row some all there is =
     row-is placed (placed - 1) es e row (omega (arith, few)) there ends.0
 
 -- a satellite by another count of types
-pub padded-is : (name : List ℕ) (count : ℕ) (satellite made after : SatelliteTail)
-    → made.flags ≡ satellite.flags → made.cells ≡ satellite.cells
-    → after ≡ record made { flags = flags_held count made.flags; cells = cells_for count made.cells }
+pub padded-is : (name : List ℕ) (count : ℕ) (satellite after : SatelliteTail)
+    → after ≡ record satellite { flags = flags_held count satellite.flags; cells = cells_for count satellite.cells }
     → row_tail_of name after ≡ padded (record { name = name; count = count }) (Some (row_tail_of name satellite))
-padded-is name count satellite made after flags cells is =
-    ap (row_tail_of name) is
-    ∙ (λ j. record { name = name; flags = flags_held count (flags j); cells = cells_for count (cells j) })
+padded-is name count satellite after is = ap (row_tail_of name) is
+
+pub ends-same : {X : Type 0} (xs ys : List X) (x y : X) → xs ++ x ∷ [] ≡ ys ++ y ∷ [] → x ≡ y
+ends-same xs ys x y e =
+    let all = xs ++ x ∷ [] in
+    same_Some x y (sym (last-is all xs x x (length all - 1) refl refl).0
+    ∙ (last-is all ys y y (length all - 1) e refl).0)
+
+pub has-last : {X : Type 0} (xs : List X) → 0 < length xs
+    → (before : List X) × (x : X) × (xs ≡ before ++ x ∷ [])
+has-last [] some = absurd (omega (arith, some))
+has-last (x ∷ []) some = ([], x, refl)
+has-last (x ∷ (y ∷ ys)) some =
+    let deeper = has-last (y ∷ ys) (omega arith) in (x ∷ deeper.0, deeper.1, ap (λ zs. x ∷ zs) deeper.2)
 
 -- ---- a row that is written
 

@@ -1,18 +1,36 @@
-use Rattle.std.proofs.Common.{◌≡◌, refl, ◌+◌, ◌*◌, ◌++◌, ◌∷◌, [], not, drop, ap, sym, ◌∙◌, inl, arith, subst}
-use Rattle.std.proofs.Common.{ℕ, List, Ok, Err, Result, All}
+use Rattle.std.proofs.Common.{◌≡◌, refl, ◌+◌, ◌*◌, ◌++◌, ◌∷◌, [], Bool, not, true, false, drop, ap, sym, ◌∙◌, inl, arith, subst}
+use Rattle.std.proofs.Common.{ℕ, List, Ok, Err, Result, IfOk, map}
 use Rattle.std.proofs.lemmas.Bool.{false≢true}
 use Rattle.std.proofs.lemmas.List.Elements.{All-append}
 use Rattle.crx_text.specs.meaning.Columns.{columns}
 use Rattle.crx_text.proofs.EachPlace.{drop_all-each_place}
+use Rattle.crx_header.specs.meaning.Satellites.{is_among}
 use Rattle.crx_compact.specs.HeldRows.{IsAwaitedSatellite}
-use Rattle.crx_compact.specs.meaning.EpochText.{Satellite, names_in}
-use Rattle.crx_compact.specs.Placing.{HasRoom, HaveTypesRoom, row_or_blank}
-use Rattle.crx_compact.proofs.ComeRows.{come-name}
-use Rattle.crx_compact.proofs.Naming.{named-bad, named-twice, named-more, named-all, next-name}
-use Rattle.crx_compact.proofs.NamesCome.{HasNameCome, among-rows, awaited-one, name-comes, next-room}
-use Rattle.crx_compact.proofs.Results.{by_ok, no-err, ok-same}
+use Rattle.crx_base.specs.declared.fault.Fault.TheVariants.{RepeatedSatellite}
+use Rattle.crx_compact.specs.meaning.EpochText.{Satellite, names_in, satellites_named}
+use Rattle.crx_compact.specs.Placing.{HasCome, HasRoom, HaveTypesRoom, KeepsRooms, PlacedRows, padded_among, row_or_blank}
+use Rattle.crx_compact.specs.Tails.{RowTail}
+use Rattle.crx_compact.proofs.ComeRows.{AreAwaited, come-name}
+use Rattle.crx_compact.proofs.Naming.{named-bad, named-twice, named-more, named-all, names-room, next-name}
+use Rattle.crx_compact.proofs.NamesCome.{HasNameCome, among-rows, awaited-one, name-comes}
+use Rattle.crx_compact.proofs.Results.{from_ok, no-err, ok-same}
 use Rattle.crx_compact.proofs.RowByRow.{all-of, only}
+use Rattle.crx_compact.proofs.placing.SteppedRows.{ends-same}
 use Rattle.crx_compact.proofs.history.read_names.Goals as goal
+
+-- whether a satellite has come already
+come-already : {E : Type 0} (before rows roomed : List RowTail) (found : List Satellite) (name : List ℕ)
+    (r : Result Bool E) (b : Bool) → roomed ≡ rows → rows ≡ map (padded_among before) found → r ≡ Ok b
+    → IfOk r (λ is_new. is_new ≡ not (is_among (λ (row : RowTail). row.name) name roomed))
+    → is_among (λ (s : Satellite). s.name) name found ≡ not b
+come-already before rows roomed found name r b same made is answer =
+    among-rows before roomed found name b (same ∙ made)
+    (from_ok (λ is_new. is_new ≡ not (is_among (λ (row : RowTail). row.name) name roomed)) r b is answer)
+
+-- where it hasn't, it has now
+come-now : {E : Type 0} (name : List ℕ) (old new : PlacedRows) (r : Result Bool E) (b : Bool) → r ≡ Ok b → b ≡ true
+    → IfOk r (λ is_new. is_new ≡ true → HasCome name old new) → HasCome name old new
+come-now name old new r b is one come = from_ok (λ is_new. is_new ≡ true → HasCome name old new) r b is come one
 
 pub returns-in_default-clause-err : goal.returns-in_default-clause-err
 returns-in_default-clause-err c =
@@ -32,92 +50,85 @@ returns-in_default-clause-known c named is has =
     c.identifier-name.result c.loop-place-test.true c.identifier-name.ensures.value)
     (sym c.in_default.ensures.value)) ∙ is))
 
-pub returns-in-Ok-false-clause-err : goal.returns-in-Ok-false-clause-err
-returns-in-Ok-false-clause-err c =
+pub returns-in_err-have_room-clause-known : goal.returns-in_err-have_room-clause-known
+returns-in_err-have_room-clause-known c named is has =
+    absurd (false≢true (c.in_err-have_room.ensures.known named is
+    (names-room c.args.types.now c.args.text.now c.args.count named c.args.satellites.now.rooms
+    c.loop-place.satellites.rooms is has c.loop-place.invariant.5)))
+
+-- what is found twice
+twice : (c : goal.Then-not-unwrap)
+    → satellites_named c.args.types.now [] (names_in c.args.text.now c.args.count) ≡ Err RepeatedSatellite
+twice c =
     let found = c.loop-place.invariant in
-    inl (named-twice c.args.types.now (names_in c.args.text.now c.args.count) c.loop-place.place
-    found.0 c.identifier-name.result c.in-Some.types found.1
+    let old : c.unwrap.result ≡ false = search c.if-not-unwrap in
+    named-twice c.args.types.now (names_in c.args.text.now c.args.count) c.loop-place.place
+    found.0 c.identifier-name.result c.in-Some.cells found.1
     (next-name c.args.text.now c.args.count c.loop-place.place
     c.identifier-name.result c.loop-place-test.true c.identifier-name.ensures.value)
-    (sym c.in-Some.ensures.value)
-    (among-rows c.args.satellites.now.rest c.loop-place.satellites.rows found.0 c.identifier-name.result
-    c.in-Ok-false.field-0 found.2 c.in-Ok-false.ensures.answer ∙ ap not c.in-Ok-false.field-0-test))
+    (sym c.in-Some.ensures.value) (come-already c.args.satellites.now.rest c.loop-place.satellites.rows c.have_room.new.satellites.rows
+    found.0 c.identifier-name.result c.place.result c.unwrap.result c.have_room.ensures.rows found.2
+    c.unwrap.ensures c.place.ensures.answer ∙ ap not old)
 
-pub returns-in-Ok-false-clause-known : goal.returns-in-Ok-false-clause-known
-returns-in-Ok-false-clause-known c named is has =
-    let found = c.loop-place.invariant in
-    absurd (no-err _ named (sym (named-twice c.args.types.now (names_in c.args.text.now c.args.count) c.loop-place.place
-    found.0 c.identifier-name.result c.in-Some.types found.1
-    (next-name c.args.text.now c.args.count c.loop-place.place
-    c.identifier-name.result c.loop-place-test.true c.identifier-name.ensures.value)
-    (sym c.in-Some.ensures.value)
-    (among-rows c.args.satellites.now.rest c.loop-place.satellites.rows found.0 c.identifier-name.result
-    c.in-Ok-false.field-0 found.2 c.in-Ok-false.ensures.answer ∙ ap not c.in-Ok-false.field-0-test)) ∙ is))
+pub returns-then-not-unwrap-clause-err : goal.returns-then-not-unwrap-clause-err
+returns-then-not-unwrap-clause-err c = inl (twice c)
 
-pub returns-in-Err-clause-known : goal.returns-in-Err-clause-known
-returns-in-Err-clause-known c named is has =
-    let found = c.loop-place.invariant in
-    let room = next-room c.args.types.now (names_in c.args.text.now c.args.count) c.loop-place.place found.0
-    c.identifier-name.result c.in-Some.types named c.args.satellites.now.rooms c.loop-place.satellites.rooms found.1
-    (next-name c.args.text.now c.args.count c.loop-place.place
-    c.identifier-name.result c.loop-place-test.true c.identifier-name.ensures.value)
-    (sym c.in-Some.ensures.value) is has found.5 in
-    absurd (false≢true (c.in-Err.ensures.known (record { room = room.room; there = room.there; within = omega arith })))
+pub returns-then-not-unwrap-clause-known : goal.returns-then-not-unwrap-clause-known
+returns-then-not-unwrap-clause-known c named is has = absurd (no-err _ named (sym (twice c) ∙ is))
 
-pub returns-then-is_err-clause-known : goal.returns-then-is_err-clause-known
-returns-then-is_err-clause-known c named is has =
+pub resize_last-requires-clause-room : goal.resize_last-requires-clause-room
+resize_last-requires-clause-room c before row is =
+    let new : c.unwrap.result ≡ true = search c.if-not-unwrap in
     let name = c.identifier-name.result in
-    let kept = row_or_blank name c.loop-place.satellites.rest in
-    let found = c.loop-place.invariant in
-    let roomy = c.place.ensures.rooms name c.in-Some.types (next-room c.args.types.now (names_in c.args.text.now c.args.count) c.loop-place.place found.0
-    c.identifier-name.result c.in-Some.types named c.args.satellites.now.rooms c.loop-place.satellites.rooms found.1
-    (next-name c.args.text.now c.args.count c.loop-place.place
-    c.identifier-name.result c.loop-place-test.true c.identifier-name.ensures.value)
-    (sym c.in-Some.ensures.value) is has found.5) in
-    let come = c.in-Ok-true.ensures.come c.in-Ok-true.field-0-test in
-    absurd (false≢true (sym c.if-is_err.ensures.negation ∙ c.resize_last.ensures.known c.loop-place.satellites.rows kept
-    come.rows
-    (subst (λ (n : List ℕ). HasRoom n c.in-Some.types c.place.new.self.rooms)
-    (sym (come-name name c.loop-place.satellites.rest)) roomy)))
+    let come = come-now c.identifier-name.result c.have_room.new.satellites c.place.new.self c.place.result
+    c.unwrap.result c.unwrap.ensures new c.place.ensures.come in
+    let last = ends-same c.have_room.new.satellites.rows before
+    (row_or_blank name c.have_room.new.satellites.rest) row (sym come.rows ∙ is) in
+    subst (λ (r : RowTail). HasRoom r.name c.in-Some.cells c.place.new.self.rooms) last
+    (subst (λ (n : List ℕ). HasRoom n c.in-Some.cells c.place.new.self.rooms)
+    (sym (come-name name c.have_room.new.satellites.rest)) (c.place.ensures.rooms name c.in-Some.cells c.in_ok-have_room.ensures.room))
 
 pub loop-place-preserved : goal.loop-place-preserved
 loop-place-preserved c =
     let found = c.loop-place.invariant in
+    let new : c.unwrap.result ≡ true = search c.if-not-unwrap in
     let before = c.args.satellites.now.rest in
     let text = c.args.text.now in
     let place = c.loop-place.place in
     let name = c.identifier-name.result in
-    let satellite : Satellite = record { name = name; count = c.in-Some.types } in
-    let fresh = among-rows before c.loop-place.satellites.rows found.0 name
-    c.in-Ok-true.field-0 found.2 c.in-Ok-true.ensures.answer ∙ ap not c.in-Ok-true.field-0-test in
-    let come : HasNameCome before (found.0 ++ satellite ∷ []) c.resize_last.new.self =
-    name-comes before found.0 name c.in-Some.types c.loop-place.satellites c.place.new.self
-    c.resize_last.new.self
-    found.2 found.3 fresh (c.in-Ok-true.ensures.come c.in-Ok-true.field-0-test)
-    (by_ok c.resize_last.result c.if-is_err.ensures.negation c.resize_last.ensures.ok)
-    c.resize_last.ensures.rest in (
+    let satellite : Satellite = record { name = name; count = c.in-Some.cells } in
+    let fresh = come-already c.args.satellites.now.rest c.loop-place.satellites.rows c.have_room.new.satellites.rows
+    found.0 c.identifier-name.result c.place.result c.unwrap.result c.have_room.ensures.rows found.2
+    c.unwrap.ensures c.place.ensures.answer ∙ ap not new in
+    let roomed = c.have_room.new.satellites in
+    let after = c.resize_last.new.self in
+    let kept : KeepsRooms c.loop-place.satellites.rooms after.rooms = λ other count has.
+    c.resize_last.ensures.rooms other count
+    (c.place.ensures.rooms other count (c.have_room.ensures.rooms other count has)) in
+    let come : HasNameCome before (found.0 ++ satellite ∷ []) after =
+    name-comes before found.0 name c.in-Some.cells roomed c.place.new.self after
+    (c.have_room.ensures.rows ∙ found.2)
+    (subst (AreAwaited (λ (s : Satellite). s.name) found.0 before) (sym c.have_room.ensures.rest) found.3)
+    fresh (come-now c.identifier-name.result c.have_room.new.satellites c.place.new.self c.place.result
+    c.unwrap.result c.unwrap.ensures new c.place.ensures.come)
+    c.resize_last.ensures.rows c.resize_last.ensures.rest in (
       found.0 ++ satellite ∷ [],
       named-more c.args.types.now (names_in text c.args.count) place found.0 (found.0 ++ satellite ∷ []) name
-          c.in-Some.types found.1
+          c.in-Some.cells found.1
           (next-name text c.args.count place name c.loop-place-test.true c.identifier-name.ensures.value)
           (sym c.in-Some.ensures.value) fresh refl,
       come.rows,
       come.awaited,
       All-append IsAwaitedSatellite found.0 (satellite ∷ []) found.4 (only IsAwaitedSatellite satellite
-          (awaited-one name text (42 + 3 * place) c.in-Some.types c.identifier-name.ensures.value
+          (awaited-one name text (42 + 3 * place) c.in-Some.cells c.identifier-name.ensures.value
           c.in-Some.ensures.named c.in-Some.ensures.allowed)),
-      λ other count has. c.resize_last.ensures.rooms other count
-          (c.place.ensures.rooms other count (found.5 other count has)),
-      All-append (λ (s : Satellite). HasRoom s.name s.count c.resize_last.new.self.rooms) found.0 (satellite ∷ [])
+      λ other count has. kept other count (found.5 other count has),
+      All-append (λ (s : Satellite). HasRoom s.name s.count after.rooms) found.0 (satellite ∷ [])
           (all-of (λ (s : Satellite). HasRoom s.name s.count c.loop-place.satellites.rooms)
-          (λ (s : Satellite). HasRoom s.name s.count c.resize_last.new.self.rooms) found.0
-          (λ s has. c.resize_last.ensures.rooms s.name s.count (c.place.ensures.rooms s.name s.count has)) found.6)
-          (only (λ (s : Satellite). HasRoom s.name s.count c.resize_last.new.self.rooms) satellite
-          (subst (λ (n : List ℕ). HasRoom n c.in-Some.types c.resize_last.new.self.rooms)
-          (come-name name c.loop-place.satellites.rest)
-          (by_ok c.resize_last.result c.if-is_err.ensures.negation c.resize_last.ensures.room
-          c.loop-place.satellites.rows (row_or_blank name c.loop-place.satellites.rest)
-          (c.in-Ok-true.ensures.come c.in-Ok-true.field-0-test).rows))),
+          (λ (s : Satellite). HasRoom s.name s.count after.rooms) found.0
+          (λ s has. kept s.name s.count has) found.6)
+          (only (λ (s : Satellite). HasRoom s.name s.count after.rooms) satellite
+          (c.resize_last.ensures.rooms name c.in-Some.cells (c.place.ensures.rooms name c.in-Some.cells c.in_ok-have_room.ensures.room))),
     )
 
 pub returns-clause-ok : goal.returns-clause-ok

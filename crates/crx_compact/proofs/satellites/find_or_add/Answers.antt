@@ -1,13 +1,9 @@
-use Rattle.std.proofs.Common.{sym, subst, ◌∙◌}
+use Rattle.std.proofs.Common.{refl, sym, subst, ◌∙◌}
 use Rattle.std.specs.Str.{bytes_eq}
 use Rattle.indexmap.proofs.CallerLemmas.{insert_entry-new}
 use Rattle.crx_compact.specs.Entries.{IsFound}
-use Rattle.crx_compact.proofs.placing.Found.{found-added, found-by_look_up, none-there, not-found}
+use Rattle.crx_compact.proofs.placing.Found.{found-added, none-there, not-found}
 use Rattle.crx_compact.proofs.satellites.find_or_add.Goals as goal
-
-pub returns-in-Some-clause-found : goal.returns-in-Some-clause-found
-returns-in-Some-clause-found c =
-    found-by_look_up c.args.name c.in-Some.found c.args.map.now.entries (sym c.in-Some.ensures.index)
 
 pub returns-in-Ok-clause-found : goal.returns-in-Ok-clause-found
 returns-in-Ok-clause-found c =
@@ -16,7 +12,7 @@ returns-in-Ok-clause-found c =
     (found-added c.args.name c.new.result c.args.map.now.entries c.insert.new.self.entries
     (c.in-Ok.ensures.entries
     ∙ insert_entry-new bytes_eq c.args.map.now c.args.name c.new.result
-    (none-there _ (sym c.in-None.ensures.found))))
+    (none-there _ (c.in_default.ensures.unknown refl))))
 
 pub returns-clause-unknown : goal.returns-clause-unknown
-returns-clause-unknown c = not-found c.args.name c.args.map.now.entries (sym c.in-None.ensures.found)
+returns-clause-unknown c = not-found c.args.name c.args.map.now.entries (c.in_default.ensures.unknown refl)

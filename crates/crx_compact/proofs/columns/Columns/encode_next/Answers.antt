@@ -1,4 +1,4 @@
-use Rattle.std.proofs.Common.{◌≡◌, ℕ, Bool, true, false, not, Option, Some, None, if◌then◌else◌, refl, sym, ap, ◌∙◌}
+use Rattle.std.proofs.Common.{◌≡◌, ℕ, Bool, true, false, not, Some, None, if◌then◌else◌, refl, sym, ap, ◌∙◌}
 use Rattle.crx_compact.specs.OpenEpochs.{ColumnsState, is_idle, tail_held}
 use Rattle.crx_compact.specs.OpenEpochs.ColumnsState.{Idle}
 use Rattle.crx_compact.specs.OpenLines.{columns_state}

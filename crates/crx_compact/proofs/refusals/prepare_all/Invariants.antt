@@ -1,0 +1,11 @@
+use Rattle.std.specs.Prelude.{◌≡◌}
+use Rattle.crx_compact.specs.Placing.{HaveNamesRoom, KeepsRooms}
+use Rattle.crx_compact.proofs.refusals.prepare_all.Given as goal
+
+abbrev pub invariant-loop-place : goal.invariant-loop-place
+invariant-loop-place l = record {
+  rows : l.satellites.rows ≡ l.fn.satellites.rows;
+  rest : l.satellites.rest ≡ l.fn.satellites.rest;
+  kept : KeepsRooms l.fn.satellites.rooms l.satellites.rooms;
+  room : HaveNamesRoom l.types l.text l.place l.satellites.rooms;
+}
