@@ -176,17 +176,6 @@ impl<const WIDTH: usize> Arc<WIDTH> {
             → (result ≡ code_at WRITTEN_ORDER (stretch (value ∷ values)))
             × (self.new ≡ arc_of_values (value ∷ values)) }
     {
-        self.push_next(value)
-    }
-
-    /// Does what [`Arc::push`] does; the law over all the values so far is proved of that, by what is promised here.
-    #[inline(always)]
-    fn push_next(&mut self, value: Option<i64>) -> Code
-        requires { IsMissingOrWithin WIDTH value }
-        ensures code { result ≡ code_of_value value self.old }
-        ensures printable { IsPrintable result }
-        ensures arc { self.new ≡ arc_of_value value self.old }
-    {
         let Some(value) = value else {
             self.count = 0;
             return Code::Missing;
@@ -240,17 +229,6 @@ impl<const WIDTH: usize> Arc<WIDTH> {
         ensures every { (codes : List Code) → self.old ≡ arc_of_codes WIDTH codes
             → (result ≡ value_of WIDTH (code ∷ accepted WIDTH codes))
             × (self.new ≡ arc_of_codes WIDTH (code ∷ codes)) }
-    {
-        self.apply_next(code)
-    }
-
-    /// Does what [`Arc::apply`] does; the law over all the codes so far is proved of that, by what is promised here.
-    #[inline(always)]
-    fn apply_next(&mut self, code: Code) -> Result<Option<i64>, Fault>
-        requires { IsPrintable code }
-        ensures value { result ≡ value_of_code WIDTH code self.old }
-        ensures ok { OnOk result (self.new ≡ arc_of_code code self.old) }
-        ensures err { OnErr result (self.new ≡ self.old) }
     {
         match code {
             Code::Missing => {

@@ -139,32 +139,14 @@ impl Columns {
     {
         // What holds of every epoch is known by its line.
         let _ = epoch.is_full();
-        self.encode_next(epoch, full)
-    }
-
-    /// Makes the compact lines of an epoch for [`Columns::encode`].
-    fn encode_next(&mut self, epoch: Epoch, full: bool) -> Result<Coded, (Epoch, Fault)>
-        requires whole { is_full_epoch epoch ≡ true }
-        requires sound { IsSoundEpoch epoch }
-        requires idle { is_idle self.old.state ≡ true }
-        ensures coded { IfOk result (λ coded. coded
-            ≡ record {
-              epoch = epoch;
-              lines = lines_after_tail (tail_written_after full (tail_held self.old.state)) epoch;
-            }) }
-        ensures kept { OnOk result (self.new.state
-            ≡ Idle (Some (tail_after (tail_written_after full (tail_held self.old.state)) epoch))) }
-        ensures refused { IfErr result (λ refused. (refused.0 ≡ epoch) × (refused.1 ≡ Fault.OutOfMemory)) }
-        ensures err { OnErr result (self.new.state ≡ self.old.state) }
-    {
-        let mut lines = mem::replace(&mut self.lines, Lines::new(self.alloc));
         let in_full = full || !self.is_kept;
         match self
             .history
-            .encode(&epoch, in_full, &mut self.part, &mut lines)
+            .encode(&epoch, in_full, &mut self.part, &mut self.lines)
         {
             Ok(()) => {
                 self.is_kept = true;
+                let lines = mem::replace(&mut self.lines, Lines::new(self.alloc));
                 Ok(Coded::new(epoch, lines))
             }
             Err(_) => Err((epoch, Fault::OutOfMemory)),
@@ -200,29 +182,6 @@ impl Columns {
             → first_step types.now (tail_held self.old.state) (Content line.now) ≡ Going begun
             → HasRoomFor begun self.old.room → IsOk result }
         // After `Ok` there is. There is never less than before, after a refusal too.
-        ensures room { (begun : OpenRawEpoch)
-            → first_step types.now (tail_held self.old.state) (Content line.now) ≡ Going begun
-            → OnOk result (HasRoomFor begun self.new.room) }
-        ensures kept { KeepsRoom self.old.room self.new.room }
-    {
-        self.begin_next(types, line)
-    }
-
-    /// Begins an epoch for [`Columns::begin`], which forgets everything after a refusal.
-    fn begin_next(&mut self, types: &Types, line: &[u8]) -> Result<(), Fault>
-        requires idle { is_idle self.old.state ≡ true }
-        requires short { length line.now ≤ LINE_LIMIT }
-        requires no_event { is_event_line line.now ≡ false }
-        ensures made { OnOk result (HasMade
-            (first_step types.now (tail_held self.old.state) (Content line.now)) self.new.state None) }
-        ensures refused { IfErr result (λ fault. (first_step types.now (tail_held self.old.state) (Content line.now)
-            ≡ Faulty fault) ⊎ (fault ≡ Fault.OutOfMemory)) }
-        ensures emptied { OnErr result (self.new.state ≡ Idle None) }
-        ensures memory { IfErr result (λ fault. fault ≡ Fault.OutOfMemory
-            → is_faulty (first_step types.now (tail_held self.old.state) (Content line.now)) ≡ false) }
-        ensures known { (begun : OpenRawEpoch)
-            → first_step types.now (tail_held self.old.state) (Content line.now) ≡ Going begun
-            → HasRoomFor begun self.old.room → IsOk result }
         ensures room { (begun : OpenRawEpoch)
             → first_step types.now (tail_held self.old.state) (Content line.now) ≡ Going begun
             → OnOk result (HasRoomFor begun self.new.room) }
@@ -276,22 +235,6 @@ impl Columns {
             → IfErr result (λ fault. (epoch_at types older (lines ++ Content line.now ∷ [])
             ≡ Wrong (length lines) fault) ⊎ (fault ≡ Fault.OutOfMemory)) }
         // There is never less room than before.
-        ensures kept { KeepsRoom self.old.room self.new.room }
-    {
-        self.feed_next(line)
-    }
-
-    /// Takes the next line of the epoch for [`Columns::feed`], which forgets everything after a refusal.
-    fn feed_next(&mut self, line: &[u8]) -> Result<Option<Epoch>, Fault>
-        requires open { is_idle self.old.state ≡ false }
-        requires short { length line.now ≤ LINE_LIMIT }
-        ensures made { IfOk result (λ given. HasMade (step_in self.old.state (Content line.now)) self.new.state given) }
-        ensures refused { IfErr result
-            (λ fault. (step_in self.old.state (Content line.now) ≡ Faulty fault) ⊎ (fault ≡ Fault.OutOfMemory)) }
-        ensures memory { IfErr result (λ fault. fault ≡ Fault.OutOfMemory
-            → (begins_epoch line.now ≡ false) × (awaits_row self.old.state ≡ true)
-            × (makes_epoch (step_in self.old.state (Content line.now)) ≡ true)) }
-        ensures emptied { OnErr result (self.new.state ≡ Idle None) }
         ensures kept { KeepsRoom self.old.room self.new.room }
     {
         match take_line(

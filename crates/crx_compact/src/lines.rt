@@ -1,6 +1,6 @@
 //! Lines that are made one after another and borrowed in that order, one by one or as one text.
 
-ghost use Rattle.std.specs.Prelude.{ℕ, ◌≡◌, ◌≤◌, ◌<◌, ◌+◌, ◌++◌, ◌∷◌, [], drop, length, slice_get, slice_set, take, Some, OnOk, IsOk, IsTrue, ◌↔◌};
+ghost use Rattle.std.specs.Prelude.{ℕ, ◌≡◌, ◌≤◌, ◌<◌, ◌+◌, ◌++◌, ◌∷◌, [], drop, length, slice_get, slice_set, take, Some, OnOk, IsOk, IsTrue, ◌↔◌, vec_capacity};
 ghost use Rattle.crx_base.specs.declared.limits.TheConstants.{LINE_LIMIT};
 ghost use Rattle.crx_rinex.specs.meaning.SatelliteLines.{IsSoundRow};
 ghost use Rattle.std.specs.Borrow.{sem};
@@ -150,8 +150,14 @@ impl Lines {
         ensures reserved { self.new.reserved ≡ self.old.reserved }
         ensures known { lines ≤ self.old.free_lines → bytes ≤ self.old.free_bytes → IsOk result }
     {
-        grow(&mut self.bytes, self.filled.saturating_add(bytes))?;
-        grow_lengths(&mut self.lengths, self.count.saturating_add(lines))
+        let filled = self.filled.saturating_add(bytes);
+        let count = self.count.saturating_add(lines);
+        // Mostly there is room: the two calls would take 15 instructions a row.
+        if filled <= self.bytes.len() && count <= self.lengths.len() {
+            return Ok(());
+        }
+        grow(&mut self.bytes, filled)?;
+        grow_lengths(&mut self.lengths, count)
     }
 
     /// Puts a line in front of the others.
@@ -299,13 +305,13 @@ impl Lines {
 }
 
 /// Makes a list have at least so many lengths; those that are there stay.
-#[inline(always)]
 fn grow_lengths(lengths: &mut Vec<usize>, count: usize) -> Result<(), AllocError>
     ensures room { OnOk result (count ≤ length lengths.new.items) }
     ensures longer { length lengths.old.items ≤ length lengths.new.items }
     ensures same { (n : ℕ) → n ≤ length lengths.old.items
         → take n lengths.new.items ≡ take n lengths.old.items }
     ensures known { count ≤ length lengths.old.items → IsOk result }
+    ensures asked { count ≤ vec_capacity lengths.old → IsOk result }
 {
     if count > lengths.len() {
         lengths.resize(count, 0)?;

@@ -1,7 +1,7 @@
 //! What is stored of a satellite: its indicators and the arcs of its cells, changed in place by each of its lines. Hatanaka's Compact RINEX
 //! 3.0, satellite lines.
 
-ghost use Rattle.std.specs.Prelude.{All, ℕ, List, ◌≡◌, ◌≤◌, ◌<◌, ◌+◌, ◌-◌, ◌*◌, ◌++◌, [], None, Some, Ok, Err, true, false, length, replicate, take, OnOk, IfOk, IfErr, IsOk, IsTrue, ◌↔◌};
+ghost use Rattle.std.specs.Prelude.{All, ℕ, List, ◌≡◌, ◌≤◌, ◌<◌, ◌+◌, ◌-◌, ◌*◌, ◌++◌, [], None, Some, Ok, Err, true, false, length, replicate, take, OnOk, IfOk, IfErr, IsOk, IsTrue, ◌↔◌, vec_capacity};
 ghost use Rattle.std.specs.List.{flat_map, list_all};
 ghost use Rattle.crx_text.specs.meaning.Columns.{columns, without_end_blanks};
 ghost use Rattle.crx_text.specs.meaning.Texts.{is_kept, text_difference};
@@ -287,6 +287,7 @@ fn grow(indicators: &mut Vec<u8>, arcs: &mut Vec<ObsArc>, count: usize) -> Resul
     ensures arcs { (n : ℕ) → n ≤ length arcs.old.items → take n arcs.new.items ≡ take n arcs.old.items }
     ensures indicators { (n : ℕ) → n ≤ length indicators.old.items
         → take n indicators.new.items ≡ take n indicators.old.items }
+    ensures asked { 2 * count ≤ vec_capacity indicators.old → count ≤ vec_capacity arcs.old → IsOk result }
 {
     if indicators.resize(2 * count, b' ').is_err() {
         return Err(AllocError);
@@ -305,6 +306,7 @@ fn add_arcs(arcs: &mut Vec<ObsArc>, count: usize) -> Result<(), AllocError>
     ensures longer { length arcs.old.items ≤ length arcs.new.items }
     ensures few { length arcs.new.items ≤ count }
     ensures same { (n : ℕ) → n ≤ length arcs.old.items → take n arcs.new.items ≡ take n arcs.old.items }
+    ensures asked { count ≤ vec_capacity arcs.old → IsOk result }
 {
     while arcs.len() < count {
         arcs.push(ObsArc::new())?;

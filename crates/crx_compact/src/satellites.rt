@@ -16,7 +16,7 @@ ghost use Rattle.crx_compact.specs.Placing.{HasCome, HasRoom, KeepsRooms, Satell
 ghost use Rattle.crx_compact.specs.ShownRows.{shown_row};
 ghost use Rattle.crx_compact.specs.Steps.{row_line_after, row_tail_after};
 ghost use Rattle.crx_compact.specs.Tails.{RowTail};
-ghost use Rattle.indexmap.specs.IndexMap.{IsUnique};
+ghost use Rattle.indexmap.specs.IndexMap.{IsUnique, spare};
 
 use crate::satellite::SatelliteHistory;
 use crx_base::Fault;
@@ -429,6 +429,7 @@ fn find_or_add(
     ensures found { IfOk result (λ found. IsFound name found map.old.entries map.new.entries) }
     ensures unknown { OnErr result (is_among key_of name map.old.entries ≡ false) }
     ensures unchanged { OnErr result (map.new.entries ≡ map.old.entries) }
+    ensures asked { OnErr result (spare map.old ≡ 0) }
     ensures unique { IsUnique bytes_eq map.new }
     ensures small { IfOk result (λ found. found < 2 ^ 63) }
 {

@@ -1,29 +1,131 @@
-use Rattle.std.proofs.Common.{rules, ◌≡◌, ℤ, ap, ◌∙◌, Option, Result, Ok, Err}
-use Rattle.std.specs.Prelude.{OnOk, OnErr, if◌then◌else◌}
+use Rattle.std.proofs.Common.{rules, ◌≡◌, ◌<◌, ◌+◌, ◌∷◌, ℕ, ℤ, List, true, length, take, refl, sym, ap, ◌∙◌}
+use Rattle.std.proofs.Common.{FitsSigned, w64, to_z, of_z, Some, Result, Ok, Err, Option}
 use Rattle.std.specs.Result.{is_ok}
-use Rattle.crx_base.specs.declared.fault.Fault.{Fault}
+use Rattle.crx_text.specs.declared.code.Code.{Code}
 use Rattle.crx_compact.specs.ArcTails.{ArcTail}
-use Rattle.crx_compact.specs.ArcSteps.{value_of_code, arc_of_code}
+use Rattle.crx_compact.specs.ArcLaws.{accepted, arc_of_codes}
+use Rattle.crx_compact.specs.meaning.ArcValues.{value_of}
 use Rattle.crx_compact.proofs.arcs.Arcs.{values-of_codes}
+use Rattle.std.specs.Prelude.{if◌then◌else◌}
+use Rattle.crx_base.specs.declared.fault.Fault.{Fault}
+use Rattle.crx_base.specs.declared.fault.Fault.TheVariants.{NoArc, OutOfRange}
+use Rattle.crx_compact.specs.meaning.ArcValues.{is_within, in_range}
+use Rattle.crx_compact.specs.ArcSteps.{arc_of_code, differences_after, value_of_code}
+use Rattle.crx_compact.specs.Arcs.{kept_tail}
+use Rattle.crx_compact.proofs.arcs.Bounds.{within-is}
+use Rattle.crx_compact.proofs.arcs.Running.{StepsOn, accepted as is-accepted, refused, stepped, same-bits, begun-list, begun-kept}
+use Rattle.crx_compact.proofs.arcs.Running.{lower-below, within-below, goes-on-kept}
 use Rattle.crx_compact.proofs.arc.Arc.apply.Goals as goal
 
--- the arc after a code, by whether it was accepted
-left : (result : Result (Option ℤ) Fault) (new old next : Option ArcTail)
-    → OnOk result (new ≡ next) → OnErr result (new ≡ old) → new ≡ (if is_ok result then next else old)
-left (Ok value) new old next ok err = ok
-left (Err fault) new old next ok err = err
+pub invariant_of-self-in-Start : goal.invariant_of-self-in-Start
+invariant_of-self-in-Start g c =
+    let some : 0 < length c.self.inside.differences = search rules in
+    let fits : FitsSigned w64 c.in-Start.value = search rules in
+    let is : is_within g.row.WIDTH c.in-Start.value ≡ true = ap (is_within g.row.WIDTH) (sym (same-bits _ fits))
+    ∙ sym c.is_within.ensures ∙ c.if-not-is_within.false in
+    let printable = rw c.in-Start.is at c.requires in
+    rw (same-bits _ fits) (begun-kept g.row.WIDTH c.in-Start.order
+    c.self.inside.differences c.in-Start.value some c.self.invariant.few_columns printable.0 ((within-is _ _).0 is))
 
-pub returns-clause-every : goal.returns-clause-every
-returns-clause-every g c =
-    let value : c.apply_next.result ≡ value_of_code g.row.WIDTH c.args.code c.args.self.now = search rules in
-    let ok : OnOk c.apply_next.result
-    (c.apply_next.new.self ≡ arc_of_code c.args.code c.args.self.now) = search rules in
-    λ codes h. (
-      value ∙ ap (value_of_code g.row.WIDTH c.args.code) h ∙ (values-of_codes g.row.WIDTH c.args.code codes).value,
-      left c.apply_next.result c.apply_next.new.self c.args.self.now
-          (arc_of_code c.args.code c.args.self.now) ok c.apply_next.ensures.err
-          ∙ ap {B = Option ArcTail} (λ r. if is_ok r then arc_of_code c.args.code c.args.self.now
-          else c.args.self.now) value
-          ∙ ap {B = Option ArcTail}
-          (λ a. if is_ok (value_of_code g.row.WIDTH c.args.code a) then arc_of_code c.args.code a else a) h,
-    )
+pub returns-else-not-is_within-clause-ok : goal.returns-else-not-is_within-clause-ok
+returns-else-not-is_within-clause-ok g c =
+    let some : 0 < length c.self.inside.differences = search rules in
+    let fits : FitsSigned w64 c.in-Start.value = search rules in
+    rw (c.in-Start.is, same-bits _ fits)
+    (ap (kept_tail c.in-Start.order) (begun-list c.self.inside.differences c.in-Start.value some))
+
+pub value_after-value-requires-clause-below : goal.value_after-value-requires-clause-below
+value_after-value-requires-clause-below g c =
+    lower-below c.self.inside.order c.self.inside.count c.min-last.result _
+    (record { least = search rules }) c.self.invariant.below
+
+pub returns-then-not-is_within-2-clause-value : goal.returns-then-not-is_within-2-clause-value
+returns-then-not-is_within-2-clause-value g c =
+    let fits : FitsSigned w64 c.in-Step.number = search rules in
+    let fits' : FitsSigned w64 c.value_after-value.result = search rules in
+    let on : StepsOn g.row.WIDTH c.self.inside.order c.self.inside.count
+    c.min-last.result c.in-Step.number c.value_after-value.result c.self.inside.differences =
+    stepped _ _ _ _ _ _ _ c.min-last.ensures (search rules) c.self.told c.value_after-value.ensures fits in
+    rw (c.in-Step.is, ← c.self.view_is)
+    (refused g.row.WIDTH c.value_after-value.result _ c.is_within-in-Step.ensures c.if-not-is_within-2.true fits'
+    ∙ on.value_is)
+
+pub go_on-requires-clause-below : goal.go_on-requires-clause-below
+go_on-requires-clause-below g c =
+    lower-below c.self.inside.order c.self.inside.count c.min-last.result _
+    (record { least = search rules }) c.self.invariant.below
+
+pub go_on-requires-clause-next : goal.go_on-requires-clause-next
+go_on-requires-clause-next g c =
+    let fits' : FitsSigned w64 c.value_after-value.result = search rules in
+    let is : is_within g.row.WIDTH c.value_after-value.result ≡ true =
+    is-accepted g.row.WIDTH _ _ c.is_within-in-Step.ensures c.if-not-is_within-2.false fits' in
+    rw (same-bits _ fits')
+    (within-below g.row.WIDTH c.value_after-value.result c.self.invariant.few_columns ((within-is _ _).0 is))
+
+pub invariant_of-self-in-Step : goal.invariant_of-self-in-Step
+invariant_of-self-in-Step g c =
+    let fits' : FitsSigned w64 c.value_after-value.result = search rules in
+    let is : is_within g.row.WIDTH c.value_after-value.result ≡ true =
+    is-accepted g.row.WIDTH _ _ c.is_within-in-Step.ensures c.if-not-is_within-2.false fits' in
+    let after : take (c.min-last.result + 1) c.go_on.new.differences
+    ≡ differences_after c.value_after-value.result (take c.min-last.result c.self.inside.differences) =
+    rw (same-bits _ fits') at c.go_on.ensures.after in
+    goes-on-kept _ _ _ _ _ _ _ (record { least = c.min-last.ensures })
+    c.self.invariant ((within-is _ _).0 is) after
+
+pub returns-else-not-is_within-2-clause-value : goal.returns-else-not-is_within-2-clause-value
+returns-else-not-is_within-2-clause-value g c =
+    let fits : FitsSigned w64 c.in-Step.number = search rules in
+    let fits' : FitsSigned w64 c.value_after-value.result = search rules in
+    let on : StepsOn g.row.WIDTH c.self.inside.order c.self.inside.count
+    c.min-last.result c.in-Step.number c.value_after-value.result c.self.inside.differences =
+    stepped _ _ _ _ _ _ _ c.min-last.ensures (search rules) c.self.told c.value_after-value.ensures fits in
+    let is : is_within g.row.WIDTH c.value_after-value.result ≡ true =
+    is-accepted g.row.WIDTH _ _ c.is_within-in-Step.ensures c.if-not-is_within-2.false fits' in
+    let given : Ok (Some c.value_after-value.result) ≡ in_range g.row.WIDTH c.value_after-value.result =
+    ap {B = Result (Option ℤ) Fault}
+    (λ t. if t then Ok (Some c.value_after-value.result) else Err OutOfRange) (sym is) in
+    rw (c.in-Step.is, ← c.self.view_is, same-bits _ fits') (given ∙ on.value_is)
+
+pub returns-else-not-is_within-2-clause-ok : goal.returns-else-not-is_within-2-clause-ok
+returns-else-not-is_within-2-clause-ok g c =
+    let fits : FitsSigned w64 c.in-Step.number = search rules in
+    let fits' : FitsSigned w64 c.value_after-value.result = search rules in
+    let on : StepsOn g.row.WIDTH c.self.inside.order c.self.inside.count
+    c.min-last.result c.in-Step.number c.value_after-value.result c.self.inside.differences =
+    stepped _ _ _ _ _ _ _ c.min-last.ensures (search rules) c.self.told c.value_after-value.ensures fits in
+    rw (c.in-Step.is, ← c.self.view_is)
+    (ap (kept_tail c.self.inside.order) (rw (same-bits _ fits') at c.go_on.ensures.after) ∙ on.tail)
+
+-- what is said of any codes so far, by what is said of the arc
+every : (width : ℕ) (code : Code) (codes : List Code) (old new : Option ArcTail) (result : Result (Option ℤ) Fault)
+    → result ≡ value_of_code width code old → new ≡ (if is_ok result then arc_of_code code old else old)
+    → old ≡ arc_of_codes width codes
+    → (result ≡ value_of width (code ∷ accepted width codes)) × (new ≡ arc_of_codes width (code ∷ codes))
+every width code codes old new result value left h = (
+  value ∙ ap (value_of_code width code) h ∙ (values-of_codes width code codes).value,
+  left ∙ ap {B = Option ArcTail} (λ r. if is_ok r then arc_of_code code old else old) value
+      ∙ ap {B = Option ArcTail} (λ a. if is_ok (value_of_code width code a) then arc_of_code code a else a) h,
+)
+
+pub returns-then-self-eq0-clause-every : goal.returns-then-self-eq0-clause-every
+returns-then-self-eq0-clause-every g c = λ codes h.
+    let value : Err NoArc ≡ value_of_code g.row.WIDTH c.args.code c.args.self.now = search rules in
+    every g.row.WIDTH c.args.code codes c.args.self.now c.args.self.now (Err NoArc) value refl h
+
+pub returns-then-not-is_within-2-clause-every : goal.returns-then-not-is_within-2-clause-every
+returns-then-not-is_within-2-clause-every g c = λ codes h.
+    every g.row.WIDTH c.args.code codes c.args.self.now c.args.self.now (Err OutOfRange)
+    (returns-then-not-is_within-2-clause-value g c) refl h
+
+pub returns-else-not-is_within-clause-every : goal.returns-else-not-is_within-clause-every
+returns-else-not-is_within-clause-every g c = λ codes h.
+    let value : Ok (Some (to_z w64 (of_z w64 c.in-Start.value)))
+    ≡ value_of_code g.row.WIDTH c.args.code c.args.self.now = search rules in
+    every g.row.WIDTH c.args.code codes c.args.self.now _ _ value (returns-else-not-is_within-clause-ok g c) h
+
+pub returns-else-not-is_within-2-clause-every : goal.returns-else-not-is_within-2-clause-every
+returns-else-not-is_within-2-clause-every g c = λ codes h.
+    every g.row.WIDTH c.args.code codes c.args.self.now _ _ (returns-else-not-is_within-2-clause-value g c)
+    (returns-else-not-is_within-2-clause-ok g c) h

@@ -1,20 +1,83 @@
-use Rattle.std.proofs.Common.{ap, ◌∙◌, Some}
-use Rattle.crx_compact.specs.Coded.{CodedEpoch}
-use Rattle.crx_compact.specs.OpenEpochs.{ColumnsState, tail_held}
+use Rattle.std.proofs.Common.{◌≡◌, ℕ, Bool, true, false, not, Some, None, if◌then◌else◌, refl, sym, ap, ◌∙◌}
+use Rattle.crx_compact.specs.OpenEpochs.{ColumnsState, is_idle, tail_held}
 use Rattle.crx_compact.specs.OpenEpochs.ColumnsState.{Idle}
+use Rattle.crx_compact.specs.Coded.{CodedEpoch}
+use Rattle.crx_compact.specs.LineLists.{PendingLines}
+use Rattle.crx_compact.specs.OpenLines.{columns_state}
+use Rattle.crx_compact.specs.Placing.{OpenHistory, tail_of_history}
+use Rattle.crx_compact.specs.Steps.{lines_after_tail, no_tail, tail_after, tail_written_after}
 use Rattle.crx_compact.specs.Tails.{Tail}
-use Rattle.crx_compact.proofs.Marks.{if-ok, on-ok}
+use Rattle.crx_compact.specs.declared.columns.Stage.{Stage}
+use Rattle.crx_compact.specs.declared.columns.Stage.TheVariants.{Unbegun, Clock, Rows}
+use Rattle.crx_compact.specs.ReadingRooms.{HeldColumns}
 use Rattle.crx_compact.proofs.wayback.Encoding.{lines-coded, tail-coded}
+use Rattle.crx_compact.proofs.columns.Columns.encode.Goals.{then-full, else-full}
 use Rattle.crx_compact.proofs.columns.Columns.encode.Goals as goal
 
-pub returns-clause-left : goal.returns-clause-left
-returns-clause-left c = λ epochs h.
-    on-ok c.encode_next.result (λ kept. kept ∙ ap {B = ColumnsState} (λ (t : Tail). Idle (Some t))
-    (tail-coded c.args.full c.args.epoch (tail_held c.args.self.now.state) epochs c.is_full.ensures.sound h))
-    c.encode_next.ensures.kept
+-- an epoch is in full where that is asked for, or where nothing is kept
+in-full : (full is_kept : Bool) (tail : Tail)
+    → (if (if full then true else not is_kept) then no_tail else tail)
+    ≡ tail_written_after full (if is_kept then Some tail else None)
+in-full true is_kept tail = refl
+in-full false true tail = refl
+in-full false false tail = refl
 
-pub returns-clause-lines : goal.returns-clause-lines
-returns-clause-lines c = λ epochs h.
-    if-ok c.encode_next.result _ _ (λ coded is. ap (λ (q : CodedEpoch). q.lines) is
-    ∙ lines-coded c.args.full c.args.epoch (tail_held c.args.self.now.state) epochs c.is_full.ensures.sound h)
-    c.encode_next.ensures.coded
+-- the tail that an epoch is written after, by what idle columns store
+written-after : (full is_kept in_full : Bool) (stage : Stage) (count : ℕ) (history : OpenHistory) (state : ColumnsState)
+    → columns_state is_kept stage count history ≡ state → is_idle state ≡ true
+    → in_full ≡ (if full then true else not is_kept)
+    → (if in_full then no_tail else tail_of_history history) ≡ tail_written_after full (tail_held state)
+written-after full is_kept in_full Unbegun count history state is idle means =
+    ap (λ b. if b then no_tail else tail_of_history history) means
+    ∙ in-full full is_kept (tail_of_history history)
+    ∙ ap (λ s. tail_written_after full (tail_held s)) is
+written-after full is_kept in_full Clock count history state is idle means =
+    absurd (cc (ap is_idle is, idle))
+written-after full is_kept in_full Rows count history state is idle means =
+    absurd (cc (ap is_idle is, idle))
+
+-- columns in which no epoch is open stay so
+still-idle : (is_kept : Bool) (stage : Stage) (count : ℕ) (old new : OpenHistory) (state : ColumnsState)
+    → columns_state is_kept stage count old ≡ state → is_idle state ≡ true
+    → columns_state true stage count new ≡ Idle (Some (tail_of_history new))
+still-idle is_kept Unbegun count old new state is idle = refl
+still-idle is_kept Clock count old new state is idle = absurd (cc (ap is_idle is, idle))
+still-idle is_kept Rows count old new state is idle = absurd (cc (ap is_idle is, idle))
+
+asked-for : (full in_full other : Bool) → in_full ≡ full → full ≡ true → in_full ≡ (if full then true else other)
+asked-for full in_full other is asked = is ∙ asked ∙ sym (ap (λ f. if f then true else other) asked)
+
+means : (c : goal.After-new-in-Ok)
+    → c.if-full.in_full ≡ (if c.args.full then true else not c.self.inside.is_kept)
+means c = elim (c.if-full.branch) [
+  | then-full w ↦ asked-for c.args.full _ _ w.in_full-is w.if-full.true
+  | else-full w ↦ w.in_full-is ∙ sym (ap (λ f. if f then true else not c.self.inside.is_kept) w.if-full.false)
+]
+
+after : (c : goal.After-new-in-Ok)
+    → (if c.if-full.in_full then no_tail else tail_of_history c.self.inside.history)
+    ≡ tail_written_after c.args.full (tail_held c.args.self.now.state)
+after c = written-after c.args.full c.self.inside.is_kept c.if-full.in_full c.self.inside.stage c.self.inside.count
+    c.self.inside.history c.args.self.now.state (ap (λ (held : HeldColumns). held.state) c.self.view_is) c.requires.idle (means c)
+
+pub returns-in-Ok-clause-coded : goal.returns-in-Ok-clause-coded
+returns-in-Ok-clause-coded c =
+    c.new-in-Ok.ensures
+    ∙ ap (λ lines. record { epoch = c.args.epoch; lines = lines })
+    (ap (λ (made : PendingLines). made.lines) c.replace-lines.ensures.value ∙ c.in-Ok.ensures.lines ∙ ap (λ t. lines_after_tail t c.args.epoch) (after c))
+
+pub returns-in-Ok-clause-kept : goal.returns-in-Ok-clause-kept
+returns-in-Ok-clause-kept c =
+    still-idle c.self.inside.is_kept c.self.inside.stage c.self.inside.count c.self.inside.history
+    c.encode.new.self c.args.self.now.state (ap (λ (held : HeldColumns). held.state) c.self.view_is) c.requires.idle
+    ∙ ap (λ t. Idle (Some t)) (c.in-Ok.ensures.after ∙ ap (λ t. tail_after t c.args.epoch) (after c))
+
+pub returns-in-Ok-clause-left : goal.returns-in-Ok-clause-left
+returns-in-Ok-clause-left c = λ epochs h.
+    returns-in-Ok-clause-kept c ∙ ap {B = ColumnsState} (λ (t : Tail). Idle (Some t))
+    (tail-coded c.args.full c.args.epoch (tail_held c.args.self.now.state) epochs c.is_full.ensures.sound h)
+
+pub returns-in-Ok-clause-lines : goal.returns-in-Ok-clause-lines
+returns-in-Ok-clause-lines c = λ epochs h.
+    ap (λ (q : CodedEpoch). q.lines) (returns-in-Ok-clause-coded c)
+    ∙ lines-coded c.args.full c.args.epoch (tail_held c.args.self.now.state) epochs c.is_full.ensures.sound h

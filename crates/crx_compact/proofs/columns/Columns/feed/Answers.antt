@@ -1,12 +1,77 @@
+use Rattle.std.proofs.Common.{rules, ◌≡◌, ◌∙◌, ◌<◌, ◌⊎◌, sym, ap, subst, arith, length, Ok, Err, Some, None}
+use Rattle.crx_base.specs.declared.fault.Fault.TheVariants.{OutOfMemory}
+use Rattle.crx_base.specs.meaning.Seen.{Content}
+use Rattle.crx_compact.specs.OpenEpochs.{ColumnsState, Faulty, HasMade, Idle, step_in, step_with_rows}
+use Rattle.crx_compact.specs.Placing.{tail_of_history}
+use Rattle.crx_compact.specs.Tails.{Tail}
 use Rattle.crx_compact.proofs.reading.Blocks.{more-block, more-refused}
+use Rattle.crx_compact.proofs.reading.Stages.{row-was_awaited, rows-come, rows-left, rows-made, state-rows}
+use Rattle.crx_compact.proofs.reading.Stages.{step-whole}
+use Rattle.crx_compact.proofs.reading.StepsByCode.{made-more, made-whole}
+use Rattle.crx_compact.specs.ReadingRooms.{HeldColumns}
 use Rattle.crx_compact.proofs.columns.Columns.feed.Goals as goal
 
-pub returns-clause-block : goal.returns-clause-block
-returns-clause-block c = λ types older lines r. more-block
-    c.feed_next.result types older lines c.args.line.now c.args.self.now.state c.feed_next.new.self.state r
-    c.feed_next.ensures.made
+pub returns-in-Ok-clause-made : goal.returns-in-Ok-clause-made
+returns-in-Ok-clause-made c =
+    let inside = c.self.inside in
+    let new = c.take_line.new in
+    let rows = c.in-Ok-true.ensures in
+    let tail : Tail = tail_of_history new.history in
+    let come : new.count ≡ length new.history.satellites.rows =
+    rows-come new.stage new.count new.history rows.rows (sym rows.whole ∙ c.in-Ok-true.field-0-test) in
+    let step : step_in c.args.self.now.state (Content c.args.line.now) ≡ step_with_rows tail new.count =
+    rows-made inside.is_kept inside.stage inside.count inside.history c.args.self.now.state c.args.line.now
+    new.stage new.count new.history (ap (λ (held : HeldColumns). held.state) c.self.view_is) c.requires.open rows.made rows.rows in
+    let P : Tail → Type 0 = λ t.
+    HasMade (step_in c.args.self.now.state (Content c.args.line.now)) (Idle (Some t)) (Some c.in-Ok.epoch) in
+    subst P (sym (ap {B = Tail} tail_of_history c.end.ensures.ended))
+    (made-whole _ tail new.count c.in-Ok.epoch step (omega (arith, come)) c.in-Ok.ensures.ok)
 
-pub returns-clause-block_fault : goal.returns-clause-block_fault
-returns-clause-block_fault c = λ types older lines r.
-    more-refused c.feed_next.result types older lines c.args.line.now c.args.self.now.state r
-    c.feed_next.ensures.refused
+pub returns-in-Err-epoch-clause-memory : goal.returns-in-Err-epoch-clause-memory
+returns-in-Err-epoch-clause-memory c = λ out.
+    let inside = c.self.inside in
+    let new = c.take_line.new in
+    let rows = c.in-Ok-true.ensures in
+    let tail : Tail = tail_of_history new.history in
+    let come : new.count ≡ length new.history.satellites.rows =
+    rows-come new.stage new.count new.history rows.rows (sym rows.whole ∙ c.in-Ok-true.field-0-test) in
+    let step : step_in c.args.self.now.state (Content c.args.line.now) ≡ step_with_rows tail new.count =
+    rows-made inside.is_kept inside.stage inside.count inside.history c.args.self.now.state c.args.line.now
+    new.stage new.count new.history (ap (λ (held : HeldColumns). held.state) c.self.view_is) c.requires.open rows.made rows.rows in
+    let some : 0 < length new.history.satellites.rows = c.in-Err-epoch.ensures.memory in (
+      rows.start,
+      row-was_awaited inside.is_kept inside.stage inside.count inside.history c.args.self.now.state
+          (ap (λ (held : HeldColumns). held.state) c.self.view_is) (rows.awaited (omega (arith, come, some))),
+      step-whole _ tail new.count step (omega (arith, come)),
+    )
+
+pub returns-in-Ok-false-clause-made : goal.returns-in-Ok-false-clause-made
+returns-in-Ok-false-clause-made c =
+    let inside = c.self.inside in
+    let new = c.take_line.new in
+    let rows = c.in-Ok-false.ensures in
+    let tail : Tail = tail_of_history new.history in
+    let left : new.count < length new.history.satellites.rows =
+    rows-left new.stage new.count new.history rows.rows
+    (sym rows.whole ∙ c.in-Ok-false.field-0-test) rows.within in
+    let step : step_in c.args.self.now.state (Content c.args.line.now) ≡ step_with_rows tail new.count =
+    rows-made inside.is_kept inside.stage inside.count inside.history c.args.self.now.state c.args.line.now
+    new.stage new.count new.history (ap (λ (held : HeldColumns). held.state) c.self.view_is) c.requires.open rows.made rows.rows in
+    let P : ColumnsState → Type 0 = λ s. HasMade (step_in c.args.self.now.state (Content c.args.line.now)) s None in
+    subst P (sym (state-rows inside.is_kept new.stage new.count new.history rows.rows))
+    (made-more _ tail new.count step left)
+
+pub returns-in-Ok-false-clause-block : goal.returns-in-Ok-false-clause-block
+returns-in-Ok-false-clause-block c = λ types older lines r. more-block
+    (Ok None) types older lines c.args.line.now c.args.self.now.state _ r (returns-in-Ok-false-clause-made c)
+
+pub returns-in-Ok-clause-block : goal.returns-in-Ok-clause-block
+returns-in-Ok-clause-block c = λ types older lines r. more-block
+    (Ok (Some c.in-Ok.epoch)) types older lines c.args.line.now c.args.self.now.state _ r
+    (returns-in-Ok-clause-made c)
+
+pub returns-in-Err-clause-block_fault : goal.returns-in-Err-clause-block_fault
+returns-in-Err-clause-block_fault c = λ types older lines r.
+    let refused : (step_in c.args.self.now.state (Content c.args.line.now) ≡ Faulty c.in-Err.fault)
+    ⊎ (c.in-Err.fault ≡ OutOfMemory) = search rules in
+    more-refused (Err c.in-Err.fault) types older lines c.args.line.now c.args.self.now.state r refused
