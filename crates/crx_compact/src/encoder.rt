@@ -166,6 +166,7 @@ impl Encoder {
         }) }
         // Where there is room for the row, the answer isn't for want of memory.
         ensures known { HasRowRoom row.now self.old.room → IsOk result }
+        ensures held { self.new.room.held ≡ self.old.room.held }
         ensures taken { IfOk result (λ is_new. is_new ≡ true
             → HasTakenRow row.now self.old.room self.new.room) }
         // There is never less room than before, after a refusal too.
@@ -215,6 +216,11 @@ impl Encoder {
         }) }
         // Where there is room for the epoch's text, the answer isn't for want of memory.
         ensures known { HEAD_WIDTH + NAME_WIDTH * head.now.count ≤ self.old.room.text → IsOk result }
+        // There is room where this text is, and where there was before, there is for the next one too: so after two epochs of as many
+        // satellites the answer isn't for want of memory.
+        ensures held { OnOk result (HEAD_WIDTH + NAME_WIDTH * head.now.count ≤ self.new.room.held) }
+        ensures next { OnOk result (HEAD_WIDTH + NAME_WIDTH * head.now.count ≤ self.old.room.held
+            → HEAD_WIDTH + NAME_WIDTH * head.now.count ≤ self.new.room.text) }
         // There is never less room than before, after a refusal too.
         ensures kept { KeepsEncodingRoom self.old.room self.new.room }
     {
@@ -274,6 +280,7 @@ fn forget(history: &mut History, is_kept: &mut bool, before: &mut KeptTail, rows
     ensures rows { rows.new.rows ≡ [] }
     ensures rooms { history.new.satellites.rooms ≡ history.old.satellites.rooms }
     ensures text_room { history.new.text_room ≡ history.old.text_room }
+    ensures held_room { history.new.held_room ≡ history.old.held_room }
 {
     history.clear();
     *is_kept = false;

@@ -156,6 +156,7 @@ impl History {
         ensures begun { AreRowsWritten (if in_full then no_tail else tail_of_history self.old) [] self.new [] }
         ensures next_text { self.new.next_text ≡ self.old.next_text }
         ensures text_room { self.new.text_room ≡ self.old.text_room }
+        ensures held_room { self.new.held_room ≡ self.old.held_room }
         ensures rooms { KeepsRooms self.old.satellites.rooms self.new.satellites.rooms }
         ensures same_rooms { self.new.satellites.rooms ≡ self.old.satellites.rooms }
     {
@@ -197,6 +198,7 @@ impl History {
         ensures free_bytes { lines.old.free_bytes ≤ lines.new.free_bytes + room_of_types (length values.now) }
         ensures next_text { self.new.next_text ≡ self.old.next_text }
         ensures text_room { self.new.text_room ≡ self.old.text_room }
+        ensures held_room { self.new.held_room ≡ self.old.held_room }
         ensures all_lines { lines.old.all_lines ≤ lines.new.all_lines }
         ensures all_bytes { lines.old.all_bytes ≤ lines.new.all_bytes }
         // One line more is in use, and no more bytes than it may have; for these there was room.
@@ -261,6 +263,10 @@ impl History {
         ensures known { HEAD_WIDTH + NAME_WIDTH * head.now.count ≤ length self.old.next_text → IsOk result }
         ensures asked { HEAD_WIDTH + NAME_WIDTH * head.now.count ≤ self.old.text_room → IsOk result }
         ensures text_room { self.old.text_room ≤ self.new.text_room }
+        // There is room for the text from then on, and where there was before, for the next one too.
+        ensures held { OnOk result (HEAD_WIDTH + NAME_WIDTH * head.now.count ≤ self.new.held_room) }
+        ensures next { OnOk result (HEAD_WIDTH + NAME_WIDTH * head.now.count ≤ self.old.held_room
+            → HEAD_WIDTH + NAME_WIDTH * head.now.count ≤ self.new.text_room) }
         ensures rooms { self.new.satellites.rooms ≡ self.old.satellites.rooms }
         ensures all_lines { lines.new.all_lines ≡ lines.old.all_lines }
         ensures all_bytes { lines.new.all_bytes ≡ lines.old.all_bytes }
@@ -485,6 +491,7 @@ fn renew_text(
     ensures known { HEAD_WIDTH + NAME_WIDTH * head.now.count ≤ length text.old.items → IsOk result }
     ensures asked { HEAD_WIDTH + NAME_WIDTH * head.now.count ≤ vec_capacity text.old → IsOk result }
     ensures room { vec_capacity text.old ≤ vec_capacity text.new }
+    ensures fits { OnOk result (HEAD_WIDTH + NAME_WIDTH * head.now.count ≤ vec_capacity text.new) }
 {
     let length = HEAD_WIDTH + NAME_WIDTH * head.count();
     make_long(text, length)?;
