@@ -124,30 +124,14 @@ impl History {
         ensures rooms { KeepsRooms self.old.satellites.rooms self.new.satellites.rooms }
         ensures text_room { self.old.text_room ≤ self.new.text_room }
     {
-        self.prepare(epoch)?;
+        make_long(&mut self.next_text, HEAD_WIDTH + NAME_WIDTH * epoch.count())?;
+        prepare_rows(&mut self.satellites, epoch)?;
         lines.reserve_front(FIRST_LINES)?;
         lines.make_room(epoch.count(), room_of_rows(epoch))?;
         self.begin_rows(in_full);
         self.write_rows(epoch, part, lines);
         self.end_rows(epoch.head(), part, lines).unwrap();
         Ok(())
-    }
-
-    /// Asks for all memory that the lines of an epoch need in the history, which stays.
-    fn prepare(&mut self, epoch: &Epoch) -> Result<(), AllocError>
-        requires sound { IsSoundEpoch epoch.now }
-        ensures tail { tail_of_history self.new ≡ tail_of_history self.old }
-        ensures rest { self.new.satellites.rest ≡ self.old.satellites.rest }
-        ensures text { OnOk result (HEAD_WIDTH + NAME_WIDTH * length epoch.now.rows ≤ length self.new.next_text) }
-        ensures room { OnOk result (HaveRoom epoch.now.rows self.new.satellites.rooms) }
-        // Where room was asked for before, the answer isn't for want of memory.
-        ensures known { HEAD_WIDTH + NAME_WIDTH * length epoch.now.rows ≤ self.old.text_room
-            → HaveRoom epoch.now.rows self.old.satellites.rooms → IsOk result }
-        ensures rooms { KeepsRooms self.old.satellites.rooms self.new.satellites.rooms }
-        ensures text_room { self.old.text_room ≤ self.new.text_room }
-    {
-        make_long(&mut self.next_text, HEAD_WIDTH + NAME_WIDTH * epoch.count())?;
-        prepare_rows(&mut self.satellites, epoch)
     }
 
     /// Begins an epoch whose rows are written one by one: in full, where that is asked for, else as differences from the epoch before.
@@ -276,7 +260,10 @@ impl History {
         part.clear();
         code_print(self.clock.push(head.clock()), part).unwrap();
         lines.put_front(part.bytes());
-        mark_change(&self.text, &self.next_text, part);
+        // The texts of two epochs mostly differ by their time alone.
+        part.clear();
+        append_difference(&self.text, &self.next_text, part);
+        part.trim_end_blanks();
         lines.put_front(part.bytes());
         mem::swap(&mut self.text, &mut self.next_text);
         Ok(())
@@ -406,7 +393,10 @@ impl History {
     {
         let mut epoch = Epoch::new(self.alloc, self.head());
         for index in 0..self.satellites.placed() {
-            push_row(&mut epoch, self.satellites.row(index, self.alloc)?)?;
+            match epoch.push(self.satellites.row(index, self.alloc)?) {
+                Ok(()) => {}
+                Err((_, fault)) => return Err(fault),
+            }
         }
         Ok(epoch)
     }
@@ -533,17 +523,6 @@ fn put_names(text: &mut [u8], satellites: &Satellites)
     }
 }
 
-/// Replaces a text by the difference of two others. The texts of two epochs mostly differ by their time alone.
-fn mark_change(old: &[u8], new: &[u8], part: &mut Text)
-    requires old_short { length old.now ≤ LINE_LIMIT }
-    requires new_short { length new.now ≤ LINE_LIMIT }
-    ensures { part.new ≡ text_difference old.now new.now }
-{
-    part.clear();
-    append_difference(old, new, part);
-    part.trim_end_blanks();
-}
-
 /// As many bytes as the compact lines of an epoch's rows have at most, each with its LF.
 fn room_of_rows(epoch: &Epoch) -> usize
     requires sound { IsSoundEpoch epoch.now }
@@ -568,19 +547,6 @@ fn put_text_in(text: &mut Vec<u8>, new: &[u8]) -> Result<(), AllocError>
     text.clear();
     text.extend_from_slice(new)?;
     Ok(())
-}
-
-/// Puts a row after the others of an epoch, which has no row of its satellite: so only `OutOfMemory` can refuse it.
-fn push_row(epoch: &mut Epoch, row: SatRow) -> Result<(), Fault>
-    requires wanted { is_full_epoch epoch.old ≡ false }
-    requires new { has_satellite row.name epoch.old.rows ≡ false }
-    ensures ok { OnOk result (epoch.new ≡ with_row epoch.old row) }
-    ensures err { IfErr result (λ fault. fault ≡ Fault.OutOfMemory) }
-{
-    match epoch.push(row) {
-        Ok(()) => Ok(()),
-        Err((_, fault)) => Err(fault),
-    }
 }
 
 /// Has the satellites of an epoch text come, each with as many types as its system has.

@@ -327,15 +327,6 @@ fn blank_types(indicators: &mut [u8], arcs: &mut [ObsArc], from: usize, to: usiz
     ensures arcs { take to arcs.new ≡ take from arcs.old ++ replicate (to - from) None }
 {
     put_blanks(&mut indicators[2 * from..2 * to]);
-    end_arcs(arcs, from, to);
-}
-
-/// Ends the arcs from one on, up to another.
-fn end_arcs(arcs: &mut [ObsArc], from: usize, to: usize)
-    requires more { from ≤ to }
-    requires within { to ≤ length arcs.old }
-    ensures ended { take to arcs.new ≡ take from arcs.old ++ replicate (to - from) None }
-{
     for place in from..to {
         arcs[place].end();
     }

@@ -3,7 +3,7 @@ use Rattle.std.specs.List.{flat_map}
 use Rattle.std.specs.Result.{is_ok}
 use Rattle.std.proofs.lemmas.List.Folds.{flat_map-map}
 use Rattle.crx_text.specs.meaning.Columns.{without_end_blanks}
-use Rattle.crx_text.specs.meaning.Texts.{text_difference}
+use Rattle.crx_text.specs.meaning.Texts.{by_position, mark_of, text_difference}
 use Rattle.crx_rinex.specs.meaning.Observations.{Row}
 use Rattle.crx_text.proofs.CodeTexts.{code_text_length}
 use Rattle.crx_text.specs.meaning.Codes.{code_text}
@@ -66,7 +66,9 @@ returns-clause-lines c = λ after rows written.
     c.in_ok-renew_text.ensures.ok in
     let before = c.deref.ensures.value ∙ ap (λ (h : OpenHistory). h.text) c.self.view_is ∙ written.text in
     let first : c.bytes-2.result.now ≡ text_difference after.text whole =
-    c.bytes-2.ensures.value ∙ c.mark_change.ensures
+    c.bytes-2.ensures.value ∙ c.trim_end_blanks.ensures.trimmed
+    ∙ ap without_end_blanks (c.append_difference.ensures.appended
+    ∙ ap (λ (t : List ℕ). t ++ by_position mark_of c.deref.result.now c.deref-2.result.now) c.clear-2.ensures.emptied)
     ∙ (λ j. text_difference (before j) ((c.deref-2.ensures.value ∙ text) j))
     ∙ difference-trimmed after.text whole in
     let code = c.push.ensures.code

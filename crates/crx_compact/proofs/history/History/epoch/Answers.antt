@@ -1,4 +1,5 @@
-use Rattle.std.proofs.Common.{List, ap, sym, ◌∙◌, arith, slice_get}
+use Rattle.std.proofs.Common.{List, ap, inl, inr, sym, ◌∙◌, arith, slice_get}
+use Rattle.std.proofs.lemmas.Bool.{false≢true}
 use Rattle.std.specs.Option.{option_map}
 use Rattle.std.proofs.lemmas.Option.{slice_get-map}
 use Rattle.crx_rinex.specs.Epochs.{with_row}
@@ -23,8 +24,9 @@ row-requires-clause-sound c = λ old there.
     ∙ ap (option_map satellite_of) here) in
     (sound.named, sound.counted)
 
-pub push_row-requires-clause-new : goal.push_row-requires-clause-new
-push_row-requires-clause-new c =
+-- only memory can be wanted, since the epoch has no row of the satellite
+pub returns-in-Err-clause-err : goal.returns-in-Err-clause-err
+returns-in-Err-clause-err c =
     let index = c.loop-index.index in
     let history : OpenHistory = c.args.self.now in
     let rows : List RowTail = c.self.inside.satellites.rows in
@@ -33,8 +35,12 @@ push_row-requires-clause-new c =
     let row : IsThere rows index = is-there rows index (omega (arith, many, next)) in
     let at = row-shown history index row.item c.requires.announced
     (ap (λ (h : OpenHistory). slice_get h.satellites.rows index) (sym c.self.view_is) ∙ row.there) in
-    ap (λ (r : Row). has_satellite r.name c.loop-index.epoch.rows) (c.in_ok-row.ensures.ok row.item row.there)
-    ∙ ap (λ (e : Epoch). has_satellite row.item.name e.rows) c.loop-index.invariant ∙ at.new
+    let new = ap (λ (r : Row). has_satellite r.name c.loop-index.epoch.rows) (c.in_ok-row.ensures.ok row.item row.there)
+    ∙ ap (λ (e : Epoch). has_satellite row.item.name e.rows) c.loop-index.invariant ∙ at.new in
+    elim c.in-Err.ensures.refused [
+      | inl twice ↦ absurd (false≢true (sym new ∙ twice.1))
+      | inr out ↦ out.0
+    ]
 
 pub loop-index-preserved : goal.loop-index-preserved
 loop-index-preserved c =
@@ -46,6 +52,6 @@ loop-index-preserved c =
     let row : IsThere rows index = is-there rows index (omega (arith, many, next)) in
     let at = row-shown history index row.item c.requires.announced
     (ap (λ (h : OpenHistory). slice_get h.satellites.rows index) (sym c.self.view_is) ∙ row.there) in
-    c.in_ok-push_row.ensures.ok
+    c.in-Ok.ensures.ok
     ∙ ap (λ (r : Row). with_row c.loop-index.epoch r) (c.in_ok-row.ensures.ok row.item row.there)
     ∙ ap (λ (e : Epoch). with_row e (shown_row row.item)) c.loop-index.invariant ∙ at.with

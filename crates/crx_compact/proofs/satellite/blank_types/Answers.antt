@@ -2,7 +2,7 @@ use Rattle.std.proofs.Common.{◌+◌, ◌-◌, ◌++◌, ◌∷◌, [], List, �
 use Rattle.std.proofs.lemmas.List.{take_more_set}
 use Rattle.crx_compact.specs.ArcTails.{ArcTail}
 use Rattle.crx_compact.proofs.Resizing.{one-more-alike}
-use Rattle.crx_compact.proofs.satellite.end_arcs.Goals as goal
+use Rattle.crx_compact.proofs.satellite.blank_types.Goals as goal
 
 pub loop-place-preserved : goal.loop-place-preserved
 loop-place-preserved c =

@@ -1,5 +1,5 @@
 use Rattle.std.specs.Prelude.{◌≡◌, ◌-◌, ◌++◌, None, replicate, take}
-use Rattle.crx_compact.proofs.satellite.end_arcs.Given as goal
+use Rattle.crx_compact.proofs.satellite.blank_types.Given as goal
 
 -- the arcs from the first one on are over, up to the place
 abbrev pub invariant-loop-place : goal.invariant-loop-place
