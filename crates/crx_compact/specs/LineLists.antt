@@ -25,6 +25,15 @@ pub record PendingLines : Type 0 where
   pub reserved : ℕ
   pub front : ℕ
 
+-- all lines are dropped: the room that was ever asked for is free
+abbrev pub cleared : PendingLines → PendingLines
+cleared lines = record lines {
+  lines = [];
+  free_lines = lines.all_lines;
+  free_bytes = lines.all_bytes;
+  front = lines.reserved;
+}
+
 -- there is place for so many lines, each as long as a line may be, among so many lines and bytes
 abbrev pub HasFront : ℕ → ℕ → ℕ → Type 0
 HasFront front lines bytes = (front ≤ lines) × (front * (LINE_LIMIT + 1) ≤ bytes)

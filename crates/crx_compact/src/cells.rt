@@ -101,7 +101,7 @@ fn read_any_cell(arcs: &mut [ObsArc], place: usize, text: &[u8]) -> Result<usize
     let Ok((code, length)) = code_before_blank(text) else {
         return Err(Fault::BadField);
     };
-    let _ = arcs[place].apply(code)?;
+    arcs[place].apply(code)?;
     Ok(length)
 }
 

@@ -48,7 +48,7 @@ impl CopiedLine {
         ensures { self.new ≡ line.now ∷ [] }
     {
         self.text.clear();
-        let _ = self.text.extend(line);
+        self.text.extend(line).unwrap();
         self.is_ready = true;
     }
 

@@ -7,7 +7,7 @@ ghost use Rattle.std.specs.Borrow.{sem};
 ghost use Rattle.std.specs.Io.BufRead.{Rests};
 ghost use Rattle.std.specs.Option.{option_copied};
 ghost use Rattle.crx_compact.specs.contracts.lines.Lines.{the_row};
-ghost use Rattle.crx_compact.specs.LineLists.{lines_text};
+ghost use Rattle.crx_compact.specs.LineLists.{cleared, lines_text};
 ghost use Rattle.crx_compact.specs.Placing.{HasRoom, KeepsRooms, room_of_types, row_of_parts};
 ghost use Rattle.crx_compact.specs.PrintedBlocks.{printed_room};
 ghost use Rattle.crx_compact.specs.ShownRows.{shown_row};
@@ -92,12 +92,7 @@ impl Lines {
         ensures emptied { self.new.lines ≡ [] }
         ensures free_lines { self.old.free_lines ≤ self.new.free_lines }
         ensures free_bytes { self.old.free_bytes ≤ self.new.free_bytes }
-        ensures all_free_lines { self.new.free_lines ≡ self.old.all_lines }
-        ensures all_free_bytes { self.new.free_bytes ≡ self.old.all_bytes }
-        ensures all_lines { self.new.all_lines ≡ self.old.all_lines }
-        ensures all_bytes { self.new.all_bytes ≡ self.old.all_bytes }
-        ensures reserved { self.new.reserved ≡ self.old.reserved }
-        ensures front { self.new.front ≡ self.old.reserved }
+        ensures cleared { self.new ≡ cleared self.old }
     {
         self.filled = self.reserved * (LINE_LIMIT + 1);
         self.count = self.reserved;

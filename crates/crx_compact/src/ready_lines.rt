@@ -3,6 +3,7 @@
 ghost use Rattle.std.specs.Prelude.{◌≡◌, ◌≤◌, ◌++◌, ◌∷◌, ◌↔◌, if◌then◌else◌, [], drop, length, slice_get, is_some, IfOk, IfSome, IsSome, IsTrue, Some, true, false};
 ghost use Rattle.crx_base.specs.declared.limits.TheConstants.{DATE_LIMIT, LINE_LIMIT};
 ghost use Rattle.crx_compact.specs.declared.lines.TheConstants.{FIRST_LINES};
+ghost use Rattle.crx_compact.specs.LineLists.{cleared};
 ghost use Rattle.crx_compact.specs.ReadyLines.{is_opened};
 ghost use Rattle.crx_header.specs.meaning.CompactHeader.{program_line, lines_before_header};
 ghost use Rattle.crx_base.specs.meaning.Lines.{lines_text};
@@ -90,12 +91,8 @@ impl ReadyLines {
     pub(crate) fn clear(&mut self)
         ensures emptied { pending_lines self.new ≡ [] }
         ensures turn { self.new.turn ≡ Turn.Made }
-        ensures reserved { self.new.made.reserved ≡ self.old.made.reserved }
         // The memory of all lines is used again.
-        ensures free_lines { self.new.made.free_lines ≡ self.old.made.all_lines }
-        ensures free_bytes { self.new.made.free_bytes ≡ self.old.made.all_bytes }
-        ensures all_lines { self.new.made.all_lines ≡ self.old.made.all_lines }
-        ensures all_bytes { self.new.made.all_bytes ≡ self.old.made.all_bytes }
+        ensures cleared { self.new.made ≡ cleared self.old.made }
     {
         self.turn = Turn::Made;
         self.made.clear();
@@ -106,18 +103,13 @@ impl ReadyLines {
         requires short { length line.now ≤ LINE_LIMIT }
         ensures turn { self.new.turn ≡ turn }
         ensures copied { self.new.copied.value ≡ line.now }
-        ensures made { self.new.made.lines ≡ [] }
         ensures program { self.new.program ≡ self.old.program }
-        ensures reserved { self.new.made.reserved ≡ self.old.made.reserved }
         // The memory of all lines is used again.
-        ensures free_lines { self.new.made.free_lines ≡ self.old.made.all_lines }
-        ensures free_bytes { self.new.made.free_bytes ≡ self.old.made.all_bytes }
-        ensures all_lines { self.new.made.all_lines ≡ self.old.made.all_lines }
-        ensures all_bytes { self.new.made.all_bytes ≡ self.old.made.all_bytes }
+        ensures cleared { self.new.made ≡ cleared self.old.made }
     {
         self.made.clear();
         self.copied.clear();
-        let _ = self.copied.extend(line);
+        self.copied.extend(line).unwrap();
         self.turn = turn;
     }
 
@@ -126,12 +118,8 @@ impl ReadyLines {
         requires short { length line.now ≤ LINE_LIMIT }
         ensures copied { pending_lines self.new ≡ line.now ∷ [] }
         ensures closed { is_opened self.new.turn ≡ false }
-        ensures reserved { self.new.made.reserved ≡ self.old.made.reserved }
         // The memory of all lines is used again.
-        ensures free_lines { self.new.made.free_lines ≡ self.old.made.all_lines }
-        ensures free_bytes { self.new.made.free_bytes ≡ self.old.made.all_bytes }
-        ensures all_lines { self.new.made.all_lines ≡ self.old.made.all_lines }
-        ensures all_bytes { self.new.made.all_bytes ≡ self.old.made.all_bytes }
+        ensures cleared { self.new.made ≡ cleared self.old.made }
     {
         self.hold(line, Turn::Copied);
     }
@@ -142,12 +130,8 @@ impl ReadyLines {
         requires short { length line.now ≤ LINE_LIMIT }
         ensures copied { pending_lines self.new ≡ lines_before_header date.now is_first ++ line.now ∷ [] }
         ensures closed { is_opened self.new.turn ≡ false }
-        ensures reserved { self.new.made.reserved ≡ self.old.made.reserved }
         // The memory of all lines is used again.
-        ensures free_lines { self.new.made.free_lines ≡ self.old.made.all_lines }
-        ensures free_bytes { self.new.made.free_bytes ≡ self.old.made.all_bytes }
-        ensures all_lines { self.new.made.all_lines ≡ self.old.made.all_lines }
-        ensures all_bytes { self.new.made.all_bytes ≡ self.old.made.all_bytes }
+        ensures cleared { self.new.made ≡ cleared self.old.made }
     {
         if is_first {
             write_program_line(&mut self.program, date);
@@ -160,14 +144,8 @@ impl ReadyLines {
     /// Begins the lines of an epoch, in place of all others: none is pending until [`ReadyLines::close`].
     pub(crate) fn open(&mut self)
         ensures turn { self.new.turn ≡ Turn.Open }
-        ensures lines { self.new.made.lines ≡ [] }
-        ensures front { self.new.made.front ≡ self.old.made.reserved }
-        ensures reserved { self.new.made.reserved ≡ self.old.made.reserved }
         // The memory of all lines is used again.
-        ensures free_lines { self.new.made.free_lines ≡ self.old.made.all_lines }
-        ensures free_bytes { self.new.made.free_bytes ≡ self.old.made.all_bytes }
-        ensures all_lines { self.new.made.all_lines ≡ self.old.made.all_lines }
-        ensures all_bytes { self.new.made.all_bytes ≡ self.old.made.all_bytes }
+        ensures cleared { self.new.made ≡ cleared self.old.made }
     {
         self.turn = Turn::Open;
         self.made.clear();

@@ -1,5 +1,6 @@
 use Rattle.std.proofs.Common.{◌≡◌, List, ℕ, Bool, true, ◌++◌, ◌∷◌, [], ap, rules}
 use Rattle.crx_header.specs.meaning.CompactHeader.{program_line, version_line, lines_before_header}
+use Rattle.crx_compact.specs.LineLists.{PendingLines}
 use Rattle.crx_compact.specs.ReadyLines.{lines_from}
 use Rattle.crx_compact.specs.declared.ready_lines.Turn.{Turn}
 use Rattle.crx_compact.specs.declared.ready_lines.Turn.TheVariants.{Version}
@@ -15,5 +16,6 @@ pub returns-then-is_first-clause-copied : goal.returns-then-is_first-clause-copi
 returns-then-is_first-clause-copied c =
     first-header c.args.date.now c.hold.new.self.program.value c.args.line.now
     c.hold.new.self.copied.value c.hold.new.self.made.lines c.hold.new.self.turn c.args.is_first
-    (search c.if-is_first) c.hold.ensures.turn c.hold.ensures.copied c.hold.ensures.made
+    (search c.if-is_first) c.hold.ensures.turn c.hold.ensures.copied
+    (ap (λ (made : PendingLines). made.lines) c.hold.ensures.cleared)
     (search rules)
