@@ -34,6 +34,14 @@ cleared lines = record lines {
   front = lines.reserved;
 }
 
+-- a line was put after others, for which there was room: there is room for one less, and else nothing has changed but the room for bytes
+pub record HasTakenLine (old new : PendingLines) : Type 0 where
+  pub free_lines : new.free_lines + 1 ≡ old.free_lines
+  pub all_lines : new.all_lines ≡ old.all_lines
+  pub all_bytes : new.all_bytes ≡ old.all_bytes
+  pub reserved : new.reserved ≡ old.reserved
+  pub front : new.front ≡ old.front
+
 -- there is place for so many lines, each as long as a line may be, among so many lines and bytes
 abbrev pub HasFront : ℕ → ℕ → ℕ → Type 0
 HasFront front lines bytes = (front ≤ lines) × (front * (LINE_LIMIT + 1) ≤ bytes)

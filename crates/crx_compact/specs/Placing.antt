@@ -105,6 +105,12 @@ pub record OpenHistory : Type 0 where
   pub clock : Option ArcTail
   pub satellites : PlacedRows
 
+-- the text of the next epoch is the same, and there is room for as long texts
+pub record HasSameTexts (old new : OpenHistory) : Type 0 where
+  pub next_text : new.next_text ≡ old.next_text
+  pub text_room : new.text_room ≡ old.text_room
+  pub held_room : new.held_room ≡ old.held_room
+
 -- the tail that a history has between two epochs
 abbrev pub tail_of_history : OpenHistory → Tail
 tail_of_history history =

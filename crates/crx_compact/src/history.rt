@@ -15,9 +15,10 @@ ghost use Rattle.crx_rinex.specs.meaning.Printing.{printed_head, printed_row};
 ghost use Rattle.crx_compact.specs.ArcSteps.{shown_value};
 ghost use Rattle.crx_compact.specs.EncodingRooms.{HasRoomForEpoch, encoding_room};
 ghost use Rattle.crx_compact.specs.HeldRows.{IsAwaitedSatellite, past_of_tail, row_held};
+ghost use Rattle.crx_compact.specs.LineLists.{HasTakenLine};
 ghost use Rattle.crx_compact.specs.meaning.CompactPlaces.{clock_line_read, satellites_of_line, satellites_of_text};
 ghost use Rattle.crx_compact.specs.meaning.EpochText.{Satellite, names_in, satellites_named};
-ghost use Rattle.crx_compact.specs.Placing.{HasAllowedCount, HasRoom, HaveNamesRoom, HaveRoom, HaveTypesRoom, IsAnnounced, IsBetween, IsRowRead, KeepsRooms, padded, padded_among, room_of_types, row_of_parts, row_room, satellite_of, tail_of_history};
+ghost use Rattle.crx_compact.specs.Placing.{HasAllowedCount, HasRoom, HasSameTexts, HaveNamesRoom, HaveRoom, HaveTypesRoom, IsAnnounced, IsBetween, IsRowRead, KeepsRooms, padded, padded_among, room_of_types, row_of_parts, row_room, satellite_of, tail_of_history};
 ghost use Rattle.crx_compact.specs.Written.{AreRowsWritten, epoch_by_rows};
 ghost use Rattle.crx_rinex.specs.meaning.SatelliteLines.{IsSoundRow};
 ghost use Rattle.crx_compact.specs.PrintedBlocks.{printed_room};
@@ -138,9 +139,7 @@ impl History {
     pub(crate) fn begin_rows(&mut self, in_full: bool)
         requires between { IsBetween self.old }
         ensures begun { AreRowsWritten (if in_full then no_tail else tail_of_history self.old) [] self.new [] }
-        ensures next_text { self.new.next_text ≡ self.old.next_text }
-        ensures text_room { self.new.text_room ≡ self.old.text_room }
-        ensures held_room { self.new.held_room ≡ self.old.held_room }
+        ensures texts { HasSameTexts self.old self.new }
         ensures rooms { KeepsRooms self.old.satellites.rooms self.new.satellites.rooms }
         ensures same_rooms { self.new.satellites.rooms ≡ self.old.satellites.rooms }
     {
@@ -180,9 +179,7 @@ impl History {
         ensures rooms { KeepsRooms self.old.satellites.rooms self.new.satellites.rooms }
         ensures free_lines { lines.old.free_lines ≤ lines.new.free_lines + 1 }
         ensures free_bytes { lines.old.free_bytes ≤ lines.new.free_bytes + room_of_types (length values.now) }
-        ensures next_text { self.new.next_text ≡ self.old.next_text }
-        ensures text_room { self.new.text_room ≡ self.old.text_room }
-        ensures held_room { self.new.held_room ≡ self.old.held_room }
+        ensures texts { HasSameTexts self.old self.new }
         ensures all_lines { lines.old.all_lines ≤ lines.new.all_lines }
         ensures all_bytes { lines.old.all_bytes ≤ lines.new.all_bytes }
         // One line more is in use, and no more bytes than it may have; for these there was room.
@@ -215,10 +212,9 @@ impl History {
         requires free_bytes { sum (map row_room epoch.now.rows) ≤ lines.old.free_bytes }
         ensures written { (after : Tail) → AreRowsWritten after [] self.old lines.old.lines
             → AreRowsWritten after epoch.now.rows self.new lines.new.lines }
-        ensures next_text { self.new.next_text ≡ self.old.next_text }
+        ensures texts { HasSameTexts self.old self.new }
         ensures front { lines.new.front ≡ lines.old.front }
         ensures rooms { KeepsRooms self.old.satellites.rooms self.new.satellites.rooms }
-        ensures text_room { self.new.text_room ≡ self.old.text_room }
     {
         let mut index = 0;
         while let Some(row) = epoch.row(index) {
@@ -440,11 +436,9 @@ impl History {
             → printed_room row ≤ lines.old.free_bytes }
         ensures lines { (row : RowTail) → slice_get self.now.satellites.rows index ≡ Some row
             → lines.new.lines ≡ lines.old.lines ++ printed_row (shown_row row) ∷ [] }
-        ensures free_lines { lines.new.free_lines + 1 ≡ lines.old.free_lines }
+        ensures taken { HasTakenLine lines.old lines.new }
         ensures free_bytes { (row : RowTail) → slice_get self.now.satellites.rows index ≡ Some row
             → lines.old.free_bytes ≤ lines.new.free_bytes + printed_room row }
-        ensures all_lines { lines.new.all_lines ≡ lines.old.all_lines }
-        ensures all_bytes { lines.new.all_bytes ≡ lines.old.all_bytes }
     {
         lines.put_printed(&self.satellites, index);
     }

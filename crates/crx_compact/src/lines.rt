@@ -7,7 +7,7 @@ ghost use Rattle.std.specs.Borrow.{sem};
 ghost use Rattle.std.specs.Io.BufRead.{Rests};
 ghost use Rattle.std.specs.Option.{option_copied};
 ghost use Rattle.crx_compact.specs.contracts.lines.Lines.{the_row};
-ghost use Rattle.crx_compact.specs.LineLists.{cleared, lines_text};
+ghost use Rattle.crx_compact.specs.LineLists.{HasTakenLine, cleared, lines_text};
 ghost use Rattle.crx_compact.specs.Placing.{HasRoom, KeepsRooms, room_of_types, row_of_parts};
 ghost use Rattle.crx_compact.specs.PrintedBlocks.{printed_room};
 ghost use Rattle.crx_compact.specs.ShownRows.{shown_row};
@@ -178,12 +178,8 @@ impl Lines {
         requires free_line { 0 < self.old.free_lines }
         requires free_bytes { length line.now < self.old.free_bytes }
         ensures lines { self.new.lines ≡ self.old.lines ++ line.now ∷ [] }
-        ensures free_lines { self.new.free_lines + 1 ≡ self.old.free_lines }
+        ensures taken { HasTakenLine self.old self.new }
         ensures free_bytes { self.new.free_bytes + (length line.now + 1) ≡ self.old.free_bytes }
-        ensures all_lines { self.new.all_lines ≡ self.old.all_lines }
-        ensures all_bytes { self.new.all_bytes ≡ self.old.all_bytes }
-        ensures front { self.new.front ≡ self.old.front }
-        ensures reserved { self.new.reserved ≡ self.old.reserved }
     {
         put_line(&mut self.bytes, self.filled, line);
         self.lengths[self.count] = line.len();
@@ -213,12 +209,8 @@ impl Lines {
             (row_tail_after (Some old) (row_of_parts old.name values.now flags.now)) }
         ensures lines { (old : RowTail) → slice_get satellites.old.rows index ≡ Some old → self.new.lines
             ≡ self.old.lines ++ row_line_after (Some old) (row_of_parts old.name values.now flags.now) ∷ [] }
-        ensures free_lines { self.new.free_lines + 1 ≡ self.old.free_lines }
+        ensures taken { HasTakenLine self.old self.new }
         ensures free_bytes { self.old.free_bytes ≤ self.new.free_bytes + room_of_types (length values.now) }
-        ensures all_lines { self.new.all_lines ≡ self.old.all_lines }
-        ensures all_bytes { self.new.all_bytes ≡ self.old.all_bytes }
-        ensures front { self.new.front ≡ self.old.front }
-        ensures reserved { self.new.reserved ≡ self.old.reserved }
         ensures rest { satellites.new.rest ≡ satellites.old.rest }
         ensures rooms { KeepsRooms satellites.old.rooms satellites.new.rooms }
     {
@@ -246,13 +238,9 @@ impl Lines {
             → printed_room old ≤ self.old.free_bytes }
         ensures lines { (old : RowTail) → slice_get satellites.now.rows index ≡ Some old
             → self.new.lines ≡ self.old.lines ++ printed_row (shown_row old) ∷ [] }
-        ensures free_lines { self.new.free_lines + 1 ≡ self.old.free_lines }
+        ensures taken { HasTakenLine self.old self.new }
         ensures free_bytes { (old : RowTail) → slice_get satellites.now.rows index ≡ Some old
             → self.old.free_bytes ≤ self.new.free_bytes + printed_room old }
-        ensures all_lines { self.new.all_lines ≡ self.old.all_lines }
-        ensures all_bytes { self.new.all_bytes ≡ self.old.all_bytes }
-        ensures front { self.new.front ≡ self.old.front }
-        ensures reserved { self.new.reserved ≡ self.old.reserved }
     {
         let length = satellites.print_line(index, &mut self.bytes, self.filled);
         self.bytes[self.filled + length] = b'\n';

@@ -78,10 +78,13 @@ loop-row-preserved c =
           (λ r known. c.write_row.ensures.rooms r.name (length r.values) known) c.loop-row.invariant.room;
       free_lines = omega (arith, free_lines, one_line);
       free_bytes = omega (arith, free_bytes, some_bytes, next, many);
-      next_text = c.write_row.ensures.next_text ∙ c.loop-row.invariant.next_text;
+      texts = record {
+        next_text = c.write_row.ensures.texts.next_text ∙ c.loop-row.invariant.texts.next_text;
+        text_room = c.write_row.ensures.texts.text_room ∙ c.loop-row.invariant.texts.text_room;
+        held_room = c.write_row.ensures.texts.held_room ∙ c.loop-row.invariant.texts.held_room;
+      };
       rooms = λ name count has.
           c.write_row.ensures.rooms name count (c.loop-row.invariant.rooms name count has);
-      text_room = c.write_row.ensures.text_room ∙ c.loop-row.invariant.text_room;
       front = c.write_row.ensures.front ∙ c.loop-row.invariant.front;
     }
 

@@ -1,5 +1,5 @@
 use Rattle.std.proofs.Common.{◌≡◌, ◌≤◌, ◌+◌, ◌-◌, [], drop, length, map, sum, take}
-use Rattle.crx_compact.specs.Placing.{HaveRoom, KeepsRooms, row_room}
+use Rattle.crx_compact.specs.Placing.{HasSameTexts, HaveRoom, KeepsRooms, row_room}
 use Rattle.crx_compact.specs.Tails.{Tail}
 use Rattle.crx_compact.specs.Written.{AreRowsWritten}
 use Rattle.crx_compact.proofs.history.History.write_rows.Given as goal
@@ -12,9 +12,8 @@ invariant-loop-row l = record {
   room : HaveRoom l.epoch.rows l.self.satellites.rooms;
   free_lines : length l.epoch.rows ≤ l.lines.free_lines + l.index;
   free_bytes : sum (map row_room (drop l.index l.epoch.rows)) ≤ l.lines.free_bytes;
-  next_text : l.self.next_text ≡ l.fn.self.next_text;
+  texts : HasSameTexts l.fn.self l.self;
   rooms : KeepsRooms l.fn.self.satellites.rooms l.self.satellites.rooms;
-  text_room : l.self.text_room ≡ l.fn.self.text_room;
   front : l.lines.front ≡ l.fn.lines.front;
 }
 

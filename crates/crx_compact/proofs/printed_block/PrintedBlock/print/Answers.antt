@@ -19,9 +19,9 @@ loop-self-preserved c =
       lines =
           row-printed c.args.history.now c.loop-self.self.rows row.item c.loop-self.self.lines
           c.put_printed.new.lines c.loop-self.invariant.lines row.there
-          (put.lines row.item row.there) put.free_lines (put.free_bytes row.item row.there);
+          (put.lines row.item row.there) put.taken.free_lines (put.free_bytes row.item row.there);
       head = c.loop-self.invariant.head;
       within = omega (arith, next);
-      all_lines = put.all_lines ∙ c.loop-self.invariant.all_lines;
-      all_bytes = put.all_bytes ∙ c.loop-self.invariant.all_bytes;
+      all_lines = put.taken.all_lines ∙ c.loop-self.invariant.all_lines;
+      all_bytes = put.taken.all_bytes ∙ c.loop-self.invariant.all_bytes;
     }
