@@ -10,6 +10,7 @@ pub mod Steps
 pub mod OpenEpochs
 pub mod ShownRows
 pub mod HeldRows
+pub mod Refusals
 pub mod RowsSoFar
 pub mod Placing
 pub mod Entries

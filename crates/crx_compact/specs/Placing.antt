@@ -66,6 +66,12 @@ pub record HasRoom (name : List ℕ) (count : ℕ) (rooms : List (List ℕ × �
 abbrev pub KeepsRooms : List (List ℕ × ℕ) → List (List ℕ × ℕ) → Type 0
 KeepsRooms before after = (name : List ℕ) (count : ℕ) → HasRoom name count before → HasRoom name count after
 
+-- room was asked for: no row has changed, and no satellite has less room
+pub record HasAskedRoom (old new : PlacedRows) : Type 0 where
+  pub rows : new.rows ≡ old.rows
+  pub rest : new.rest ≡ old.rest
+  pub rooms : KeepsRooms old.rooms new.rooms
+
 -- the satellite with this identifier has come: its row, which is what is stored of it, is the last one, and those of all others that
 -- haven't come stay
 pub record HasCome (name : List ℕ) (before after : PlacedRows) : Type 0 where

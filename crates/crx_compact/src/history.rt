@@ -18,10 +18,11 @@ ghost use Rattle.crx_compact.specs.HeldRows.{IsAwaitedSatellite, past_of_tail, r
 ghost use Rattle.crx_compact.specs.LineLists.{HasTakenLine};
 ghost use Rattle.crx_compact.specs.meaning.CompactPlaces.{clock_line_read, satellites_of_line, satellites_of_text};
 ghost use Rattle.crx_compact.specs.meaning.EpochText.{Satellite, names_in, satellites_named};
-ghost use Rattle.crx_compact.specs.Placing.{HasAllowedCount, HasRoom, HasSameTexts, HaveNamesRoom, HaveRoom, HaveTypesRoom, IsAnnounced, IsBetween, IsRowRead, KeepsRooms, padded, padded_among, room_of_types, row_of_parts, row_room, satellite_of, tail_of_history};
+ghost use Rattle.crx_compact.specs.Placing.{HasAllowedCount, HasAskedRoom, HasRoom, HasSameTexts, HaveNamesRoom, HaveRoom, HaveTypesRoom, IsAnnounced, IsBetween, IsRowRead, KeepsRooms, padded, padded_among, room_of_types, row_of_parts, row_room, satellite_of, tail_of_history};
 ghost use Rattle.crx_compact.specs.Written.{AreRowsWritten, epoch_by_rows};
 ghost use Rattle.crx_rinex.specs.meaning.SatelliteLines.{IsSoundRow};
 ghost use Rattle.crx_compact.specs.PrintedBlocks.{printed_room};
+ghost use Rattle.crx_compact.specs.Refusals.{IsRefused};
 ghost use Rattle.crx_compact.specs.RowsSoFar.{HasClock};
 ghost use Rattle.crx_compact.specs.ShownRows.{shown_epoch, shown_row};
 ghost use Rattle.crx_compact.specs.Steps.{lines_after_tail, no_tail, tail_after, tail_named};
@@ -447,11 +448,9 @@ impl History {
 /// Asks for all memory that the lines of an epoch's rows need of their satellites.
 fn prepare_rows(satellites: &mut Satellites, epoch: &Epoch) -> Result<(), AllocError>
     requires sound { IsSoundEpoch epoch.now }
-    ensures rows { satellites.new.rows ≡ satellites.old.rows }
-    ensures rest { satellites.new.rest ≡ satellites.old.rest }
+    ensures asked { HasAskedRoom satellites.old satellites.new }
     ensures room { OnOk result (HaveRoom epoch.now.rows satellites.new.rooms) }
     ensures known { HaveRoom epoch.now.rows satellites.old.rooms → IsOk result }
-    ensures rooms { KeepsRooms satellites.old.rooms satellites.new.rooms }
 {
     let mut index = 0;
     while let Some(row) = epoch.row(index) {
@@ -552,11 +551,8 @@ fn read_satellites(types: &Types, text: &[u8], satellites: &mut Satellites) -> R
     ensures ok { OnOk result ((named : List Satellite) × (satellites_of_text types.now text.now ≡ Ok named)
         × (satellites.new.rows ≡ map (padded_among satellites.old.rest) named)
         × All IsAwaitedSatellite named) }
-    ensures err { IfErr result (λ fault. (satellites_of_text types.now text.now ≡ Err fault)
-        ⊎ (fault ≡ Fault.OutOfMemory)) }
     // Memory runs out only at a text without a fault.
-    ensures memory { IfErr result (λ fault. fault ≡ Fault.OutOfMemory
-        → is_ok (satellites_of_text types.now text.now) ≡ true) }
+    ensures err { IfErr result (IsRefused (satellites_of_text types.now text.now)) }
     // Where room was asked for before, the answer isn't for want of memory.
     ensures known { (named : List Satellite) → satellites_of_text types.now text.now ≡ Ok named
         → HaveTypesRoom named satellites.old.rooms → IsOk result }
@@ -590,11 +586,8 @@ fn read_names(
         × (satellites_named types.now [] (names_in text.now count) ≡ Ok named)
         × (satellites.new.rows ≡ map (padded_among satellites.old.rest) named)
         × All IsAwaitedSatellite named) }
-    ensures err { IfErr result (λ fault. (satellites_named types.now [] (names_in text.now count) ≡ Err fault)
-        ⊎ (fault ≡ Fault.OutOfMemory)) }
     // Memory runs out only where no satellite has a fault.
-    ensures memory { IfErr result (λ fault. fault ≡ Fault.OutOfMemory
-        → is_ok (satellites_named types.now [] (names_in text.now count)) ≡ true) }
+    ensures err { IfErr result (IsRefused (satellites_named types.now [] (names_in text.now count))) }
     // Where room was asked for before, the answer isn't for want of memory.
     ensures known { (named : List Satellite)
         → satellites_named types.now [] (names_in text.now count) ≡ Ok named
@@ -633,14 +626,9 @@ fn have_room(
     requires there { (place : ℕ) × (place < count)
         × (name ≡ columns text.now (HEAD_WIDTH + 1 + NAME_WIDTH * place) NAME_WIDTH)
         × (types_of_satellite types.now name ≡ Some cells) }
-    ensures rows { satellites.new.rows ≡ satellites.old.rows }
-    ensures rest { satellites.new.rest ≡ satellites.old.rest }
+    ensures asked { HasAskedRoom satellites.old satellites.new }
     ensures room { OnOk result (HasRoom name cells satellites.new.rooms) }
-    ensures rooms { KeepsRooms satellites.old.rooms satellites.new.rooms }
-    ensures err { IfErr result (λ fault. (satellites_named types.now [] (names_in text.now count) ≡ Err fault)
-        ⊎ (fault ≡ Fault.OutOfMemory)) }
-    ensures memory { IfErr result (λ fault. fault ≡ Fault.OutOfMemory
-        → is_ok (satellites_named types.now [] (names_in text.now count)) ≡ true) }
+    ensures err { IfErr result (IsRefused (satellites_named types.now [] (names_in text.now count))) }
     ensures known { (named : List Satellite)
         → satellites_named types.now [] (names_in text.now count) ≡ Ok named
         → HaveNamesRoom types.now text.now count satellites.old.rooms → IsOk result }

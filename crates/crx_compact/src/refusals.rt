@@ -1,12 +1,13 @@
 //! The faults of an epoch text's satellites, and room for them: Hatanaka's Compact RINEX 3.0, epoch line. The faults are found before memory
 //! is asked for, so that a line with a fault is answered by it and takes none, and `OutOfMemory` comes only at a line without one.
 
-ghost use Rattle.std.specs.Prelude.{◌≡◌, ◌≤◌, ◌⊎◌, List, [], ℕ, Ok, Err, None, IfSome, OnOk, IfErr, IsOk, true};
+ghost use Rattle.std.specs.Prelude.{◌≡◌, ◌≤◌, List, [], ℕ, Ok, Err, None, IfSome, OnOk, IfErr, IsOk, true};
 ghost use Rattle.std.specs.Result.{is_ok};
 ghost use Rattle.crx_base.specs.declared.limits.TheConstants.{SATELLITES_LIMIT};
 ghost use Rattle.crx_header.specs.meaning.Satellites.{is_among};
 ghost use Rattle.crx_compact.specs.meaning.EpochText.{Satellite, names_in, satellites_named};
-ghost use Rattle.crx_compact.specs.Placing.{HaveNamesRoom, KeepsRooms};
+ghost use Rattle.crx_compact.specs.Placing.{HasAskedRoom, HaveNamesRoom};
+ghost use Rattle.crx_compact.specs.Refusals.{IsRefused};
 
 use crate::satellites::Satellites;
 use crx_base::Fault;
@@ -59,15 +60,10 @@ pub(crate) fn prepare_names(
     satellites: &mut Satellites,
 ) -> Result<(), Fault>
     requires few { count ≤ SATELLITES_LIMIT }
-    ensures rows { satellites.new.rows ≡ satellites.old.rows }
-    ensures rest { satellites.new.rest ≡ satellites.old.rest }
+    ensures asked { HasAskedRoom satellites.old satellites.new }
     ensures room { OnOk result (HaveNamesRoom types.now text.now count satellites.new.rooms) }
-    ensures rooms { KeepsRooms satellites.old.rooms satellites.new.rooms }
-    ensures err { IfErr result (λ fault. (satellites_named types.now [] (names_in text.now count) ≡ Err fault)
-        ⊎ (fault ≡ Fault.OutOfMemory)) }
     // Memory runs out only where no satellite has a fault; where one has, none was asked for.
-    ensures memory { IfErr result (λ fault. fault ≡ Fault.OutOfMemory
-        → is_ok (satellites_named types.now [] (names_in text.now count)) ≡ true) }
+    ensures err { IfErr result (IsRefused (satellites_named types.now [] (names_in text.now count))) }
     ensures unasked { IfErr result (λ fault. (fault ≡ Fault.OutOfMemory → ⊥)
         → satellites.new ≡ satellites.old) }
     // Where room was asked for before, the answer isn't for want of memory.
@@ -92,10 +88,8 @@ fn prepare_all(
     satellites: &mut Satellites,
 ) -> Result<(), AllocError>
     requires few { count ≤ SATELLITES_LIMIT }
-    ensures rows { satellites.new.rows ≡ satellites.old.rows }
-    ensures rest { satellites.new.rest ≡ satellites.old.rest }
+    ensures asked { HasAskedRoom satellites.old satellites.new }
     ensures room { OnOk result (HaveNamesRoom types.now text.now count satellites.new.rooms) }
-    ensures rooms { KeepsRooms satellites.old.rooms satellites.new.rooms }
     ensures known { HaveNamesRoom types.now text.now count satellites.old.rooms → IsOk result }
 {
     for place in 0..count {

@@ -12,7 +12,7 @@ ghost use Rattle.crx_rinex.specs.meaning.SatelliteLines.{IsSoundRow};
 ghost use Rattle.crx_compact.specs.declared.cells.TheConstants.{CELL_ROOM};
 ghost use Rattle.crx_compact.specs.Entries.{Entry, IsFound, IsPutNext, IsRevived, key_of};
 ghost use Rattle.crx_compact.specs.HeldRows.{row_held};
-ghost use Rattle.crx_compact.specs.Placing.{HasCome, HasRoom, KeepsRooms, SatelliteTail, padded, row_of_parts, satellite_of};
+ghost use Rattle.crx_compact.specs.Placing.{HasAskedRoom, HasCome, HasRoom, KeepsRooms, SatelliteTail, padded, row_of_parts, satellite_of};
 ghost use Rattle.crx_compact.specs.ShownRows.{shown_row};
 ghost use Rattle.crx_compact.specs.Steps.{row_line_after, row_tail_after};
 ghost use Rattle.crx_compact.specs.Tails.{RowTail};
@@ -200,10 +200,8 @@ impl Satellites {
     #[inline(always)]
     pub(crate) fn prepare(&mut self, name: [u8; NAME_WIDTH], count: usize) -> Result<(), AllocError>
         requires allowed { count ≤ TYPES_LIMIT }
-        ensures rows { self.new.rows ≡ self.old.rows }
-        ensures rest { self.new.rest ≡ self.old.rest }
+        ensures asked { HasAskedRoom self.old self.new }
         ensures room { OnOk result (HasRoom name count self.new.rooms) }
-        ensures rooms { KeepsRooms self.old.rooms self.new.rooms }
         ensures known { HasRoom name count self.old.rooms → IsOk result }
     {
         let near = self.last.wrapping_add(1);
@@ -218,11 +216,9 @@ impl Satellites {
     pub(crate) fn make_room_last(&mut self, count: usize) -> Result<(), AllocError>
         requires some { 0 < length self.old.rows }
         requires allowed { count ≤ TYPES_LIMIT }
-        ensures rows { self.new.rows ≡ self.old.rows }
-        ensures rest { self.new.rest ≡ self.old.rest }
+        ensures asked { HasAskedRoom self.old self.new }
         ensures room { OnOk result ((before : List RowTail) (row : RowTail) → self.old.rows ≡ before ++ row ∷ []
             → HasRoom row.name count self.new.rooms) }
-        ensures rooms { KeepsRooms self.old.rooms self.new.rooms }
         ensures known { (before : List RowTail) (row : RowTail) → self.old.rows ≡ before ++ row ∷ []
             → HasRoom row.name count self.old.rooms → IsOk result }
     {

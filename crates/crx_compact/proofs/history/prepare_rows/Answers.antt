@@ -19,13 +19,13 @@ loop-row-preserved c =
     (subst (λ (values : List (Option ℤ)). HasRoom c.name.result (length values) rooms) c.values.ensures.value
     c.in_ok-prepare.ensures.room) in
     record {
-      rows = c.prepare.ensures.rows ∙ c.loop-row.invariant.rows;
-      rest = c.prepare.ensures.rest ∙ c.loop-row.invariant.rest;
-      kept = λ name count has. c.prepare.ensures.rooms name count (c.loop-row.invariant.kept name count has);
+      rows = c.prepare.ensures.asked.rows ∙ c.loop-row.invariant.rows;
+      rest = c.prepare.ensures.asked.rest ∙ c.loop-row.invariant.rest;
+      kept = λ name count has. c.prepare.ensures.asked.rooms name count (c.loop-row.invariant.kept name count has);
       room = all-next (λ (r : Row). HasRoom r.name (length r.values) rooms) rows index row
           (all-of (λ (r : Row). HasRoom r.name (length r.values) c.loop-row.satellites.rooms)
           (λ (r : Row). HasRoom r.name (length r.values) rooms) (take index rows)
-          (λ r known. c.prepare.ensures.rooms r.name (length r.values) known) c.loop-row.invariant.room)
+          (λ r known. c.prepare.ensures.asked.rooms r.name (length r.values) known) c.loop-row.invariant.room)
           (sym c.in-Some.ensures.value) roomy;
     }
 

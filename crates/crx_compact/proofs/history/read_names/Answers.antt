@@ -6,7 +6,9 @@ use Rattle.crx_text.specs.meaning.Columns.{columns}
 use Rattle.crx_text.proofs.EachPlace.{drop_all-each_place}
 use Rattle.crx_header.specs.meaning.Satellites.{is_among}
 use Rattle.crx_compact.specs.HeldRows.{IsAwaitedSatellite}
-use Rattle.crx_base.specs.declared.fault.Fault.TheVariants.{RepeatedSatellite}
+use Rattle.crx_base.specs.declared.fault.Fault.TheVariants.{BadSatellite, OutOfMemory, RepeatedSatellite}
+use Rattle.crx_base.specs.declared.fault.Fault.{Fault}
+use Rattle.crx_compact.specs.Refusals.{IsRefused}
 use Rattle.crx_compact.specs.meaning.EpochText.{Satellite, names_in, satellites_named}
 use Rattle.crx_compact.specs.Placing.{HasCome, HasRoom, HaveTypesRoom, KeepsRooms, PlacedRows, padded_among, row_or_blank}
 use Rattle.crx_compact.specs.Tails.{RowTail}
@@ -17,6 +19,10 @@ use Rattle.crx_compact.proofs.Results.{from_ok, no-err, ok-same}
 use Rattle.crx_compact.proofs.RowByRow.{all-of, only}
 use Rattle.crx_compact.proofs.placing.SteppedRows.{ends-same}
 use Rattle.crx_compact.proofs.history.read_names.Goals as goal
+
+refused-by : {X : Type 0} (fault : Fault) (made : Result X Fault) → (fault ≡ OutOfMemory → ⊥) → made ≡ Err fault
+    → IsRefused made fault
+refused-by fault made other is = record { answered = inl is; memory = λ out. absurd (other out) }
 
 -- whether a satellite has come already
 come-already : {E : Type 0} (before rows roomed : List RowTail) (found : List Satellite) (name : List ℕ)
@@ -35,7 +41,7 @@ come-now name old new r b is one come = from_ok (λ is_new. is_new ≡ true → 
 pub returns-in_default-clause-err : goal.returns-in_default-clause-err
 returns-in_default-clause-err c =
     let found = c.loop-place.invariant in
-    inl (named-bad c.args.types.now (names_in c.args.text.now c.args.count)
+    refused-by BadSatellite _ (λ out. cc out) (named-bad c.args.types.now (names_in c.args.text.now c.args.count)
     c.loop-place.place found.0 c.identifier-name.result found.1
     (next-name c.args.text.now c.args.count c.loop-place.place
     c.identifier-name.result c.loop-place-test.true c.identifier-name.ensures.value)
@@ -67,11 +73,11 @@ twice c =
     (next-name c.args.text.now c.args.count c.loop-place.place
     c.identifier-name.result c.loop-place-test.true c.identifier-name.ensures.value)
     (sym c.in-Some.ensures.value) (come-already c.args.satellites.now.rest c.loop-place.satellites.rows c.have_room.new.satellites.rows
-    found.0 c.identifier-name.result c.place.result c.unwrap.result c.have_room.ensures.rows found.2
+    found.0 c.identifier-name.result c.place.result c.unwrap.result c.have_room.ensures.asked.rows found.2
     c.unwrap.ensures c.place.ensures.answer ∙ ap not old)
 
 pub returns-then-not-unwrap-clause-err : goal.returns-then-not-unwrap-clause-err
-returns-then-not-unwrap-clause-err c = inl (twice c)
+returns-then-not-unwrap-clause-err c = refused-by RepeatedSatellite _ (λ out. cc out) (twice c)
 
 pub returns-then-not-unwrap-clause-known : goal.returns-then-not-unwrap-clause-known
 returns-then-not-unwrap-clause-known c named is has = absurd (no-err _ named (sym (twice c) ∙ is))
@@ -98,17 +104,17 @@ loop-place-preserved c =
     let name = c.identifier-name.result in
     let satellite : Satellite = record { name = name; count = c.in-Some.cells } in
     let fresh = come-already c.args.satellites.now.rest c.loop-place.satellites.rows c.have_room.new.satellites.rows
-    found.0 c.identifier-name.result c.place.result c.unwrap.result c.have_room.ensures.rows found.2
+    found.0 c.identifier-name.result c.place.result c.unwrap.result c.have_room.ensures.asked.rows found.2
     c.unwrap.ensures c.place.ensures.answer ∙ ap not new in
     let roomed = c.have_room.new.satellites in
     let after = c.resize_last.new.self in
     let kept : KeepsRooms c.loop-place.satellites.rooms after.rooms = λ other count has.
     c.resize_last.ensures.rooms other count
-    (c.place.ensures.rooms other count (c.have_room.ensures.rooms other count has)) in
+    (c.place.ensures.rooms other count (c.have_room.ensures.asked.rooms other count has)) in
     let come : HasNameCome before (found.0 ++ satellite ∷ []) after =
     name-comes before found.0 name c.in-Some.cells roomed c.place.new.self after
-    (c.have_room.ensures.rows ∙ found.2)
-    (subst (AreAwaited (λ (s : Satellite). s.name) found.0 before) (sym c.have_room.ensures.rest) found.3)
+    (c.have_room.ensures.asked.rows ∙ found.2)
+    (subst (AreAwaited (λ (s : Satellite). s.name) found.0 before) (sym c.have_room.ensures.asked.rest) found.3)
     fresh (come-now c.identifier-name.result c.have_room.new.satellites c.place.new.self c.place.result
     c.unwrap.result c.unwrap.ensures new c.place.ensures.come)
     c.resize_last.ensures.rows c.resize_last.ensures.rest in (

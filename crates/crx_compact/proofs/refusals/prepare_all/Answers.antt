@@ -31,11 +31,11 @@ loop-place-preserved c =
       | in-Some+in_ok-prepare w ↦
           let prepared = w.in_ok-prepare.ensures in
           rw w.satellites-is (record {
-            rows = prepared.rows ∙ so_far.rows;
-            rest = prepared.rest ∙ so_far.rest;
-            kept = λ name count has. prepared.rooms name count (so_far.kept name count has);
+            rows = prepared.asked.rows ∙ so_far.rows;
+            rest = prepared.asked.rest ∙ so_far.rest;
+            kept = λ name count has. prepared.asked.rooms name count (so_far.kept name count has);
             room = names-room-more types text place before.rooms w.prepare.new.self.rooms so_far.room
-                prepared.rooms (λ cells some.
+                prepared.asked.rooms (λ cells some.
                 let same = same_Some w.in-Some.cells cells (w.in-Some.ensures.value
                 ∙ ap (types_of_satellite types) is ∙ some) in
                 subst (λ (n : List ℕ). HasRoom n cells w.prepare.new.self.rooms) is

@@ -32,7 +32,7 @@ returns-in_err-read_satellites-clause-memory c =
     ∙ ap (λ (t : List ℕ). patched t c.args.line.now) (c.deref.ensures.value
     ∙ ap (λ (h : OpenHistory). h.text) c.self.view_is)) in
     let p = err_from_is_err_and c.from_residual.result c.from_residual.ensures.1 in
-    rw (p.1, p.2) (λ out. ap is_ok same ∙ c.in_err-read_satellites.ensures.memory out)
+    rw (p.1, p.2) (λ out. ap is_ok same ∙ c.in_err-read_satellites.ensures.err.memory out)
 
 -- the satellites have the room that they had
 pub returns-in_err-read_satellites-clause-known : goal.returns-in_err-read_satellites-clause-known

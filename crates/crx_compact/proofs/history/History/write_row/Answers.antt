@@ -57,7 +57,7 @@ put_row-requires-clause-sound c = λ old there.
     let placed = c.self.inside.satellites in
     let come = c.in_ok-place.ensures.come c.if-not-branch.false in
     let last = come-last name placed c.place.new.self c.make_room_last.new.self.rows _ come
-    c.make_room_last.ensures.rows (ap (λ n. n - 1) c.placed-last.ensures.value) in
+    c.make_room_last.ensures.asked.rows (ap (λ n. n - 1) c.placed-last.ensures.value) in
     let kept = row_or_blank name placed.rest in
     let is = same_Some old kept (sym there ∙ last.there) in
     let named : old.name ≡ name = ap (λ (t : RowTail). t.name) is ∙ last.named in (
@@ -81,7 +81,7 @@ returns-clause-written c = λ after rows written is.
     let placed = c.self.inside.satellites in
     let come = c.in_ok-place.ensures.come c.if-not-branch.false in
     let last = come-last name placed c.place.new.self c.make_room_last.new.self.rows _ come
-    c.make_room_last.ensures.rows (ap (λ n. n - 1) c.placed-last.ensures.value) in
+    c.make_room_last.ensures.asked.rows (ap (λ n. n - 1) c.placed-last.ensures.value) in
     let kept = row_or_blank name placed.rest in
     let parts : row_of_parts kept.name values flags ≡ row =
     ap (λ (n : List ℕ). row_of_parts n values flags) last.named in
@@ -93,7 +93,7 @@ returns-clause-written c = λ after rows written is.
     (c.put_row.ensures.after kept last.there
     ∙ last.put (row_tail_after (Some kept) (row_of_parts kept.name values flags))
     ∙ ap (λ (r : Row). placed.rows ++ row_tail_after (Some kept) r ∷ []) parts)
-    (c.put_row.ensures.rest ∙ c.make_room_last.ensures.rest)
+    (c.put_row.ensures.rest ∙ c.make_room_last.ensures.asked.rest)
     (c.put_row.ensures.lines kept last.there
     ∙ (λ j. c.make_room.ensures.lines j ++ row_line_after (Some kept) (parts j) ∷ []))
     (ap (λ (h : OpenHistory). h.text) c.self.view_is) (ap (λ (h : OpenHistory). h.clock) c.self.view_is)

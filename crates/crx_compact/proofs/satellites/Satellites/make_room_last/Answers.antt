@@ -19,26 +19,24 @@ invariant_of-self c =
       omega (arith, all, length-set_value_at known (c.self.inside.placed - 1) c.make_room.new.self),
     )
 
-pub returns-clause-rows : goal.returns-clause-rows
-returns-clause-rows c =
+pub returns-clause-asked : goal.returns-clause-asked
+returns-clause-asked c =
     let known = c.self.inside.known.entries in
     let last = c.self.inside.placed - 1 in
     let few = c.self.invariant.0 in
     let all = c.self.invariant.1 in
-    rw (← c.self.view_is)
-    (front-same c.pair_mut-satellite.result.0.now last known known
-    (set_value_at known last c.make_room.new.self)
-    (found-there _ last known _ c.pair_mut-satellite.ensures.value)
-    (rows-same known last _ _ c.make_room.new.self c.pair_mut-satellite.ensures.value
-    c.make_room.ensures.flags c.make_room.ensures.cells) c.self.inside.placed (omega (arith, few, all)))
-
-pub returns-clause-rest : goal.returns-clause-rest
-returns-clause-rest c =
-    let known = c.self.inside.known.entries in
+    let there = c.pair_mut-satellite.ensures.value in
     let some = among-placed c.self.inside.placed 0 known (rw (← c.self.view_is) at c.requires.some) in
-    rw (← c.self.view_is)
-    (rest-unchanged c.self.inside.placed c.self.inside.live (c.self.inside.placed - 1) known _ _
-    c.make_room.new.self (omega (arith, some)) c.self.invariant.0 c.pair_mut-satellite.ensures.value)
+    rw (← c.self.view_is) (record {
+      rows = front-same c.pair_mut-satellite.result.0.now last known known
+          (set_value_at known last c.make_room.new.self) (found-there _ last known _ there)
+          (rows-same known last _ _ c.make_room.new.self there c.make_room.ensures.flags
+          c.make_room.ensures.cells) c.self.inside.placed (omega (arith, few, all));
+      rest = rest-unchanged c.self.inside.placed c.self.inside.live last known _ _ c.make_room.new.self
+          (omega (arith, some)) few there;
+      rooms = λ name count. rooms-changed c.self.inside.known last _ _ c.make_room.new.self
+          c.pair_mut-satellite.ensures.unique there c.make_room.ensures.kept name count;
+    })
 
 pub returns-clause-room : goal.returns-clause-room
 returns-clause-room c =
@@ -54,13 +52,6 @@ returns-clause-room c =
     (omega (arith, few, all)) there (rw (← c.self.view_is) at is))
     (has-room c.self.inside.known last _ _ c.make_room.new.self c.pair_mut-satellite.ensures.unique there
     c.args.count within)) c.make_room.ensures.room
-
-pub returns-clause-rooms : goal.returns-clause-rooms
-returns-clause-rooms c name count =
-    rw (← c.self.view_is)
-    (rooms-changed c.self.inside.known (c.self.inside.placed - 1) _ _ c.make_room.new.self
-    c.pair_mut-satellite.ensures.unique c.pair_mut-satellite.ensures.value c.make_room.ensures.kept name
-    count)
 
 pub returns-clause-known : goal.returns-clause-known
 returns-clause-known c before row is has =

@@ -17,42 +17,30 @@ invariant_of-self-2 c =
     let all = c.self.invariant.1 in
     (c.self.invariant.0, omega (arith, all, more, length-set_value_at known found c.make_room.new.self))
 
-pub returns-clause-rows : goal.returns-clause-rows
-returns-clause-rows c =
+pub returns-clause-asked : goal.returns-clause-asked
+returns-clause-asked c =
     let known = c.find_or_add.new.map.entries in
     let found = c.in_ok-found.found in
     let few = c.self.invariant.0 in
     let all = c.self.invariant.1 in
-    rw (← c.self.view_is)
-    (front-same c.args.name found c.self.inside.known.entries known
-    (set_value_at known found c.make_room.new.self) c.in_ok-found.ensures.found
-    (rows-same known found _ _ c.make_room.new.self c.pair_mut-satellite.ensures.value
-    c.make_room.ensures.flags
-    c.make_room.ensures.cells) c.self.inside.placed (omega (arith, few, all)))
-
-pub returns-clause-rest : goal.returns-clause-rest
-returns-clause-rest c =
-    let known = c.find_or_add.new.map.entries in
-    let found = c.in_ok-found.found in
-    rw (← c.self.view_is)
-    (range-same c.args.name found c.self.inside.known.entries known
-    (set_value_at known found c.make_room.new.self) c.in_ok-found.ensures.found
-    (rows-same known found _ _ c.make_room.new.self c.pair_mut-satellite.ensures.value
-    c.make_room.ensures.flags
-    c.make_room.ensures.cells) c.self.inside.placed c.self.inside.live c.self.invariant.1)
+    let after = set_value_at known found c.make_room.new.self in
+    let same = rows-same known found _ _ c.make_room.new.self c.pair_mut-satellite.ensures.value
+    c.make_room.ensures.flags c.make_room.ensures.cells in
+    rw (← c.self.view_is) (record {
+      rows = front-same c.args.name found c.self.inside.known.entries known after c.in_ok-found.ensures.found same
+          c.self.inside.placed (omega (arith, few, all));
+      rest = range-same c.args.name found c.self.inside.known.entries known after c.in_ok-found.ensures.found same
+          c.self.inside.placed c.self.inside.live all;
+      rooms = λ name count has. rooms-changed c.find_or_add.new.map found _ _ c.make_room.new.self
+          c.find_or_add.ensures.unique c.pair_mut-satellite.ensures.value c.make_room.ensures.kept name count
+          (c.in_ok-found.ensures.found.rooms name count has);
+    })
 
 pub returns-clause-room : goal.returns-clause-room
 returns-clause-room c =
     on_ok_weaker c.make_room.result (has-room c.find_or_add.new.map c.in_ok-found.found c.args.name _
     c.make_room.new.self c.find_or_add.ensures.unique c.in_ok-found.ensures.found.there c.args.count)
     c.make_room.ensures.room
-
-pub returns-clause-rooms : goal.returns-clause-rooms
-returns-clause-rooms c name count =
-    rw (← c.self.view_is)
-    (λ has. rooms-changed c.find_or_add.new.map c.in_ok-found.found _ _ c.make_room.new.self
-    c.find_or_add.ensures.unique c.pair_mut-satellite.ensures.value c.make_room.ensures.kept name count
-    (c.in_ok-found.ensures.found.rooms name count has))
 
 pub returns-in_err-found-clause-known : goal.returns-in_err-found-clause-known
 returns-in_err-found-clause-known c =
