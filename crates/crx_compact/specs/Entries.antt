@@ -40,6 +40,7 @@ pub record IsRevived (live found : ℕ) (old new : List Entry) : Type 0 where
   pub front : take live new ≡ take live old
   pub counted : length new ≡ length old
   pub rooms : KeepsRooms (rooms_of old) (rooms_of new)
+  pub back : KeepsRooms (rooms_of new) (rooms_of old)
 
 -- the satellite at an index comes: it is the next of those that have come, and among the rest each other one
 -- is found as before
@@ -52,3 +53,4 @@ pub record IsPutNext (placed found : ℕ) (old new : List Entry) : Type 0 where
       ≡ named key_of other (drop placed (take live old))
   pub counted : length new ≡ length old
   pub rooms : KeepsRooms (rooms_of old) (rooms_of new)
+  pub back : KeepsRooms (rooms_of new) (rooms_of old)

@@ -171,6 +171,9 @@ impl Columns {
         // Memory runs out only at a line without a fault.
         ensures memory { IfErr result (λ fault. fault ≡ Fault.OutOfMemory
             → is_faulty (first_step types.now (tail_held self.old.state) (Content line.now)) ≡ false) }
+        // At a line with a fault none was asked for: there is no more room than before.
+        ensures unasked { IfErr result (λ fault. (fault ≡ Fault.OutOfMemory → ⊥)
+            → KeepsRoom self.new.room self.old.room) }
         // After the raw epochs accepted since everything was last forgotten, the line makes what it makes by them.
         ensures block { (older : List RawEpoch) → tail_held self.old.state ≡ tail_left older
             → OnOk result (IsReading types.now older (Content line.now ∷ []) self.new.state) }

@@ -290,9 +290,12 @@ impl History {
         ensures err { IfErr result (λ fault.
             (satellites_of_line types.now (past_of_tail (tail_of_history self.old)) line.now ≡ Err fault)
             ⊎ (fault ≡ Fault.OutOfMemory)) }
-        // Memory runs out only at a line without a fault.
+        // Memory runs out only at a line without a fault; at one with a fault none was asked for.
         ensures memory { IfErr result (λ fault. fault ≡ Fault.OutOfMemory
             → is_ok (satellites_of_line types.now (past_of_tail (tail_of_history self.old)) line.now) ≡ true) }
+        ensures unasked { IfErr result (λ fault. (fault ≡ Fault.OutOfMemory → ⊥)
+            → KeepsRooms self.new.satellites.rooms self.old.satellites.rooms
+            × (self.new.held_room ≡ self.old.held_room)) }
         // Where room was asked for before, the answer isn't for want of memory.
         ensures known { (satellites : List Satellite)
             → satellites_of_line types.now (past_of_tail (tail_of_history self.old)) line.now ≡ Ok satellites
@@ -551,8 +554,10 @@ fn read_satellites(types: &Types, text: &[u8], satellites: &mut Satellites) -> R
     ensures ok { OnOk result ((named : List Satellite) × (satellites_of_text types.now text.now ≡ Ok named)
         × (satellites.new.rows ≡ map (padded_among satellites.old.rest) named)
         × All IsAwaitedSatellite named) }
-    // Memory runs out only at a text without a fault.
+    // Memory runs out only at a text without a fault; at one with a fault none was asked for.
     ensures err { IfErr result (IsRefused (satellites_of_text types.now text.now)) }
+    ensures unasked { IfErr result (λ fault. (fault ≡ Fault.OutOfMemory → ⊥)
+        → KeepsRooms satellites.new.rooms satellites.old.rooms) }
     // Where room was asked for before, the answer isn't for want of memory.
     ensures known { (named : List Satellite) → satellites_of_text types.now text.now ≡ Ok named
         → HaveTypesRoom named satellites.old.rooms → IsOk result }
@@ -588,6 +593,8 @@ fn read_names(
         × All IsAwaitedSatellite named) }
     // Memory runs out only where no satellite has a fault.
     ensures err { IfErr result (IsRefused (satellites_named types.now [] (names_in text.now count))) }
+    ensures unasked { IfErr result (λ fault. (fault ≡ Fault.OutOfMemory → ⊥)
+        → KeepsRooms satellites.new.rooms satellites.old.rooms) }
     // Where room was asked for before, the answer isn't for want of memory.
     ensures known { (named : List Satellite)
         → satellites_named types.now [] (names_in text.now count) ≡ Ok named
@@ -629,6 +636,10 @@ fn have_room(
     ensures asked { HasAskedRoom satellites.old satellites.new }
     ensures room { OnOk result (HasRoom name cells satellites.new.rooms) }
     ensures err { IfErr result (IsRefused (satellites_named types.now [] (names_in text.now count))) }
+    ensures unasked { IfErr result (λ fault. (fault ≡ Fault.OutOfMemory → ⊥)
+        → satellites.new ≡ satellites.old) }
+    ensures back { OnOk result ((is_ok (satellites_named types.now [] (names_in text.now count)) ≡ true)
+        ⊎ KeepsRooms satellites.new.rooms satellites.old.rooms) }
     ensures known { (named : List Satellite)
         → satellites_named types.now [] (names_in text.now count) ≡ Ok named
         → HaveNamesRoom types.now text.now count satellites.old.rooms → IsOk result }

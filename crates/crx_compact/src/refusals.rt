@@ -66,6 +66,7 @@ pub(crate) fn prepare_names(
     ensures err { IfErr result (IsRefused (satellites_named types.now [] (names_in text.now count))) }
     ensures unasked { IfErr result (λ fault. (fault ≡ Fault.OutOfMemory → ⊥)
         → satellites.new ≡ satellites.old) }
+    ensures good { OnOk result (is_ok (satellites_named types.now [] (names_in text.now count)) ≡ true) }
     // Where room was asked for before, the answer isn't for want of memory.
     ensures known { (named : List Satellite)
         → satellites_named types.now [] (names_in text.now count) ≡ Ok named

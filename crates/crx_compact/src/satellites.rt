@@ -124,6 +124,7 @@ impl Satellites {
         ensures unchanged { OnErr result (self.new ≡ self.old) }
         ensures rooms { KeepsRooms self.old.rooms self.new.rooms }
         ensures known { HasRoom name 0 self.old.rooms → IsOk result }
+        ensures back { HasRoom name 0 self.old.rooms → KeepsRooms self.new.rooms self.old.rooms }
     {
         if self.placed < self.live && is_same_identifier(key_at(&self.known, self.placed), name) {
             self.placed += 1;
@@ -143,6 +144,7 @@ impl Satellites {
         ensures unchanged { OnErr result (self.new ≡ self.old) }
         ensures rooms { KeepsRooms self.old.rooms self.new.rooms }
         ensures known { HasRoom name 0 self.old.rooms → IsOk result }
+        ensures back { HasRoom name 0 self.old.rooms → KeepsRooms self.new.rooms self.old.rooms }
     {
         // There are fewer than 2^63: the length's clauses say so.
         let _count = self.known.len();
@@ -246,6 +248,7 @@ impl Satellites {
             → self.new.rows ≡ before ++ padded (record { name = row.name; count = count }) (Some row) ∷ [] }
         ensures rest { self.new.rest ≡ self.old.rest }
         ensures rooms { KeepsRooms self.old.rooms self.new.rooms }
+        ensures back { KeepsRooms self.new.rooms self.old.rooms }
     {
         let (_, satellite) = self.known.pair_mut(self.placed - 1);
         satellite.resize(count);
@@ -426,6 +429,7 @@ fn find_or_add(
     ensures unknown { OnErr result (is_among key_of name map.old.entries ≡ false) }
     ensures unchanged { OnErr result (map.new.entries ≡ map.old.entries) }
     ensures asked { OnErr result (spare map.old ≡ 0) }
+    ensures kept { is_some (lookup (bytes_eq name) map.old.entries) ≡ true → map.new.entries ≡ map.old.entries }
     ensures unique { IsUnique bytes_eq map.new }
     ensures small { IfOk result (λ found. found < 2 ^ 63) }
 {

@@ -107,6 +107,30 @@ module _ {S : Type 0} (m : IndexMap (List ℕ) SatelliteTail S) (i : ℕ) (name 
         )
       ])
 
+  -- where its room is no greater, none is
+  pub rooms-changed-back : after.room ≤ before.room
+      → KeepsRooms (rooms_of (set_value_at m.entries i after)) (rooms_of m.entries)
+  rooms-changed-back less =
+      let updates = updates-with_value_at m i after bytes_eq-equiv unique name before there in
+      rooms-kept (set_value_at m.entries i after) m.entries (λ other satellite known.
+      elim (cases_Bool (bytes_eq name other)) [
+        | inl t ↦
+            let same : name ≡ other = (bytes_eq-Decides name other).0 t in
+            let is : satellite ≡ after = same_Some satellite after (sym known
+            ∙ updates.0 other ∙ cond-true (bytes_eq name other) (Some after) (get bytes_eq m other) t) in (
+              before,
+              ap (λ n. get bytes_eq m n) (sym same)
+                  ∙ hash_map_get_place bytes_eq-equiv m i name before unique there,
+              subst (λ (s : SatelliteTail). s.room ≤ before.room) (sym is) less,
+            )
+        | inr f ↦ (
+          satellite,
+          sym (cond-false (bytes_eq name other) (Some after) (get bytes_eq m other) f) ∙ sym (updates.0 other)
+              ∙ known,
+          omega arith,
+        )
+      ])
+
   pub has-room : (count : ℕ) → count ≤ after.room
       → HasRoom name count (rooms_of (set_value_at m.entries i after))
   has-room count within =

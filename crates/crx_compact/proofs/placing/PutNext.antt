@@ -1,5 +1,5 @@
 -- A satellite that comes is put behind those that have come.
-use Rattle.std.proofs.Common.{◌≡◌, ℕ, zero, suc, ◌+◌, ◌<◌, List, [], ◌∷◌, ◌++◌, length, take, drop, set}
+use Rattle.std.proofs.Common.{◌≡◌, ℕ, zero, suc, ◌+◌, ◌<◌, List, [], ◌∷◌, ◌++◌, length, take, drop, set, sym}
 use Rattle.std.proofs.Common.{swap, slice_get, Some, refl, ap, ◌∙◌, arith, length-set}
 use Rattle.std.specs.Str.{bytes_eq}
 use Rattle.std.specs.List.{IsDistinct}
@@ -37,6 +37,7 @@ put-same placed es =
           ∙ rest-next placed live es entry other before there differs;
       counted = refl;
       rooms = λ name count has. has;
+      back = λ name count has. has;
     }
 
 -- where it is brought from further behind
@@ -64,4 +65,5 @@ put-brought placed found old new before within is apart looked =
           ∙ rest-brought placed live found old a entry other before near first.1 there apart differs;
       counted = ap length is ∙ length-swap old found placed;
       rooms = rooms-kept old new (λ name satellite known. (satellite, looked name ∙ known, omega arith));
+      back = rooms-kept new old (λ name satellite known. (satellite, sym (looked name) ∙ known, omega arith));
     }

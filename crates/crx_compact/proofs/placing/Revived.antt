@@ -11,7 +11,7 @@ use Rattle.indexmap.specs.IndexMap.{IndexMap, IsUnique, set_value_at}
 use Rattle.indexmap.specs.Layout.{length-set_value_at}
 use Rattle.crx_compact.specs.Entries.{Entry, IsRevived}
 use Rattle.crx_compact.specs.Placing.{SatelliteTail}
-use Rattle.crx_compact.proofs.placing.EntryChanges.{changed-is, rooms-changed, set-there}
+use Rattle.crx_compact.proofs.placing.EntryChanges.{changed-is, rooms-changed, rooms-changed-back, set-there}
 use Rattle.crx_compact.proofs.placing.PutNext.{there-is}
 use Rattle.crx_compact.proofs.placing.Ranges.{swap-is}
 use Rattle.crx_compact.proofs.placing.Rooms.{rooms-kept}
@@ -42,6 +42,9 @@ module _ {S : Type 0} (m : IndexMap (List ℕ) SatelliteTail S) (found : ℕ) (n
   rooms : (n : ℕ) → n ≡ after.room → before.room ≤ n
   rooms n e = let same = ap (λ (s : SatelliteTail). s.room) is in omega (arith, e, same)
 
+  fewer : after.room ≤ before.room
+  fewer = let same = ap (λ (s : SatelliteTail). s.room) is in omega (arith, same)
+
   -- it is there already
   pub revived-there : IsRevived found found m.entries (set_value_at m.entries found after)
   revived-there =
@@ -52,6 +55,7 @@ module _ {S : Type 0} (m : IndexMap (List ℕ) SatelliteTail S) (found : ℕ) (n
         front = ap (take found) set-is ∙ take-set-le found m.entries found (name, after) (omega arith);
         counted = length-set_value_at m.entries found after;
         rooms = rooms-changed m found name before after unique there (rooms after.room refl);
+        back = rooms-changed-back m found name before after unique there fewer;
       }
 
   -- it is brought from further behind
@@ -84,4 +88,6 @@ module _ {S : Type 0} (m : IndexMap (List ℕ) SatelliteTail S) (found : ℕ) (n
         rooms = λ other count has.
             rooms-kept es new (λ n satellite known. (satellite, looked n ∙ known, omega arith)) other count
             (rooms-changed m found name before after unique there (rooms after.room refl) other count has);
+        back = λ other count has. rooms-changed-back m found name before after unique there fewer other count
+            (rooms-kept new es (λ n satellite known. (satellite, sym (looked n) ∙ known, omega arith)) other count has);
       }

@@ -1,6 +1,8 @@
-use Rattle.std.proofs.Common.{◌≡◌, refl, ◌+◌, ◌*◌, ◌++◌, ◌∷◌, [], Bool, not, true, false, drop, ap, sym, ◌∙◌, inl, arith, subst}
+use Rattle.std.proofs.Common.{◌≡◌, refl, ◌+◌, ◌*◌, ◌++◌, ◌∷◌, [], Bool, not, true, false, drop, ap, sym, ◌∙◌, inl, arith, subst, ◌⊎◌, inl, inr}
 use Rattle.std.proofs.Common.{ℕ, List, Ok, Err, Result, IfOk, map}
 use Rattle.std.proofs.lemmas.Bool.{false≢true}
+use Rattle.std.proofs.lemmas.Result.{err_from_is_err_and}
+use Rattle.std.specs.Result.{is_ok}
 use Rattle.std.proofs.lemmas.List.Elements.{All-append}
 use Rattle.crx_text.specs.meaning.Columns.{columns}
 use Rattle.crx_text.proofs.EachPlace.{drop_all-each_place}
@@ -38,23 +40,40 @@ come-now : {E : Type 0} (name : List ℕ) (old new : PlacedRows) (r : Result Boo
     → IfOk r (λ is_new. is_new ≡ true → HasCome name old new) → HasCome name old new
 come-now name old new r b is one come = from_ok (λ is_new. is_new ≡ true → HasCome name old new) r b is come one
 
-pub returns-in_default-clause-err : goal.returns-in_default-clause-err
-returns-in_default-clause-err c =
+-- where there is a fault, no room was asked for
+unasked : {X Y : Type 0} (made : Result X Fault) (fault : Fault) → made ≡ Err fault → (is_ok made ≡ true) ⊎ Y → Y
+unasked made fault is asked = elim asked [
+  | inl good ↦ absurd (false≢true (sym (ap is_ok is) ∙ good))
+  | inr y ↦ y
+]
+
+bad : (c : goal.In_default)
+    → satellites_named c.args.types.now [] (names_in c.args.text.now c.args.count) ≡ Err BadSatellite
+bad c =
     let found = c.loop-place.invariant in
-    refused-by BadSatellite _ (λ out. cc out) (named-bad c.args.types.now (names_in c.args.text.now c.args.count)
+    named-bad c.args.types.now (names_in c.args.text.now c.args.count)
     c.loop-place.place found.0 c.identifier-name.result found.1
     (next-name c.args.text.now c.args.count c.loop-place.place
     c.identifier-name.result c.loop-place-test.true c.identifier-name.ensures.value)
-    (sym c.in_default.ensures.value))
+    (sym c.in_default.ensures.value)
+
+pub returns-in_default-clause-err : goal.returns-in_default-clause-err
+returns-in_default-clause-err c = refused-by BadSatellite _ (λ out. cc out) (bad c)
+
+pub returns-in_default-clause-unasked : goal.returns-in_default-clause-unasked
+returns-in_default-clause-unasked c = λ other. unasked _ _ (bad c) c.loop-place.invariant.7
+
+pub returns-in_err-have_room-clause-unasked : goal.returns-in_err-have_room-clause-unasked
+returns-in_err-have_room-clause-unasked c =
+    let p = err_from_is_err_and c.from_residual.result c.from_residual.ensures.1 in
+    rw (p.1, p.2) (λ other name count has. elim c.in_err-have_room.ensures.err.answered [
+      | inl is ↦ unasked _ _ is c.loop-place.invariant.7 name count
+          (subst (λ (s : PlacedRows). HasRoom name count s.rooms) (c.in_err-have_room.ensures.unasked other) has)
+      | inr out ↦ absurd (other out)
+    ])
 
 pub returns-in_default-clause-known : goal.returns-in_default-clause-known
-returns-in_default-clause-known c named is has =
-    let found = c.loop-place.invariant in
-    absurd (no-err _ named (sym (named-bad c.args.types.now (names_in c.args.text.now c.args.count)
-    c.loop-place.place found.0 c.identifier-name.result found.1
-    (next-name c.args.text.now c.args.count c.loop-place.place
-    c.identifier-name.result c.loop-place-test.true c.identifier-name.ensures.value)
-    (sym c.in_default.ensures.value)) ∙ is))
+returns-in_default-clause-known c named is has = absurd (no-err _ named (sym (bad c) ∙ is))
 
 pub returns-in_err-have_room-clause-known : goal.returns-in_err-have_room-clause-known
 returns-in_err-have_room-clause-known c named is has =
@@ -81,6 +100,15 @@ returns-then-not-unwrap-clause-err c = refused-by RepeatedSatellite _ (λ out. c
 
 pub returns-then-not-unwrap-clause-known : goal.returns-then-not-unwrap-clause-known
 returns-then-not-unwrap-clause-known c named is has = absurd (no-err _ named (sym (twice c) ∙ is))
+
+pub returns-then-not-unwrap-clause-unasked : goal.returns-then-not-unwrap-clause-unasked
+returns-then-not-unwrap-clause-unasked c = λ other name count has.
+    let old : c.unwrap.result ≡ false = search c.if-not-unwrap in
+    let same = from_ok (λ is_new. is_new ≡ false → c.place.new.self ≡ c.have_room.new.satellites) c.place.result
+    c.unwrap.result c.unwrap.ensures c.place.ensures.repeated old in
+    unasked _ _ (twice c) c.loop-place.invariant.7 name count
+    (unasked _ _ (twice c) c.in_ok-have_room.ensures.back name count
+    (subst (λ (s : PlacedRows). HasRoom name count s.rooms) same has))
 
 pub resize_last-requires-clause-room : goal.resize_last-requires-clause-room
 resize_last-requires-clause-room c before row is =
@@ -111,6 +139,7 @@ loop-place-preserved c =
     let kept : KeepsRooms c.loop-place.satellites.rooms after.rooms = λ other count has.
     c.resize_last.ensures.rooms other count
     (c.place.ensures.rooms other count (c.have_room.ensures.asked.rooms other count has)) in
+    let room = c.in_ok-have_room.ensures.room in
     let come : HasNameCome before (found.0 ++ satellite ∷ []) after =
     name-comes before found.0 name c.in-Some.cells roomed c.place.new.self after
     (c.have_room.ensures.asked.rows ∙ found.2)
@@ -135,6 +164,15 @@ loop-place-preserved c =
           (λ s has. kept s.name s.count has) found.6)
           (only (λ (s : Satellite). HasRoom s.name s.count after.rooms) satellite
           (c.resize_last.ensures.rooms name c.in-Some.cells (c.place.ensures.rooms name c.in-Some.cells c.in_ok-have_room.ensures.room))),
+      elim found.7 [
+        | inl good ↦ inl good
+        | inr so_far ↦ elim c.in_ok-have_room.ensures.back [
+          | inl good ↦ inl good
+          | inr more ↦ inr (λ other count has. so_far other count (more other count
+              (c.place.ensures.back (record { room = room.room; there = room.there; within = omega arith }) other count
+              (c.resize_last.ensures.back other count has))))
+        ]
+      ],
     )
 
 pub returns-clause-ok : goal.returns-clause-ok

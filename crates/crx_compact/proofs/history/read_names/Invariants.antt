@@ -1,6 +1,7 @@
-use Rattle.std.specs.Prelude.{◌≡◌, All, List, map}
+use Rattle.std.specs.Prelude.{◌≡◌, ◌⊎◌, All, List, [], true, map}
+use Rattle.std.specs.Result.{is_ok}
 use Rattle.crx_compact.specs.HeldRows.{IsAwaitedSatellite}
-use Rattle.crx_compact.specs.meaning.EpochText.{Satellite, names_in}
+use Rattle.crx_compact.specs.meaning.EpochText.{Satellite, names_in, satellites_named}
 use Rattle.crx_compact.specs.Placing.{HaveTypesRoom, KeepsRooms, padded_among}
 use Rattle.crx_compact.proofs.ComeRows.{AreAwaited}
 use Rattle.crx_compact.proofs.Naming.{NamedSoFar}
@@ -14,3 +15,5 @@ invariant-loop-place l = (found : List Satellite)
     × All IsAwaitedSatellite found
     × KeepsRooms l.fn.satellites.rooms l.satellites.rooms
     × HaveTypesRoom found l.satellites.rooms
+    × ((is_ok (satellites_named l.types [] (names_in l.text l.count)) ≡ true)
+    ⊎ KeepsRooms l.satellites.rooms l.fn.satellites.rooms)

@@ -1,14 +1,17 @@
-use Rattle.std.proofs.Common.{rules, ◌≡◌, ◌∙◌, ◌⊎◌, ap, sym, Bool, true, Ok, Err, Option, Some, None, if◌then◌else◌}
+use Rattle.std.proofs.Common.{rules, ◌≡◌, ◌∙◌, ◌⊎◌, ap, sym, Bool, true, Ok, Err, Option, Some, None, if◌then◌else◌, ◌≤◌, ℕ, arith, subst}
 use Rattle.crx_base.specs.meaning.Seen.{Content}
 use Rattle.crx_base.specs.declared.fault.Fault.TheVariants.{NotAnEpoch, OutOfMemory}
 use Rattle.crx_compact.specs.OpenEpochs.{Faulty, HasMade, Reading, before_clock, first_step, tail_for_line, tail_held}
-use Rattle.crx_compact.specs.Placing.{OpenHistory, tail_of_history}
+use Rattle.crx_compact.specs.Placing.{HasRoom, OpenHistory, tail_of_history}
 use Rattle.crx_compact.specs.Tails.{Tail}
 use Rattle.crx_compact.proofs.ReadingRooms.{opened-from, room-for, rows-opened, satellites-known, text-known}
 use Rattle.crx_compact.proofs.reading.Blocks.{begun-block, begun-refused}
 use Rattle.crx_compact.proofs.reading.Stages.{line-good, tail-idle}
-use Rattle.crx_compact.specs.ReadingRooms.{HeldColumns}
+use Rattle.crx_compact.specs.ReadingRooms.{HeldColumns, KeepsRoom}
 use Rattle.crx_compact.proofs.columns.Columns.begin.Goals as goal
+
+same-below : {m n : ℕ} → m ≡ n → m ≤ n
+same-below is = omega (arith, is)
 
 pub returns-in-Err-clause-memory : goal.returns-in-Err-clause-memory
 returns-in-Err-clause-memory c = λ out.
@@ -23,6 +26,19 @@ returns-in-Err-clause-memory c = λ out.
     ∙ ap {B = Option Tail} (λ (b : Bool). if b then Some (tail_of_history history) else None) there in
     line-good c.args.types.now c.args.line.now (tail_held c.args.self.now.state) (tail_of_history history) before
     (c.in-Err.ensures.memory out)
+
+pub returns-in-Err-clause-unasked : goal.returns-in-Err-clause-unasked
+returns-in-Err-clause-unasked c = λ other.
+    let left = c.in-Err.ensures.unasked other in
+    subst (KeepsRoom _) (ap (λ (held : HeldColumns). held.room) c.self.view_is) (record {
+      history = record {
+        text = same-below (c.forget-in-Err.ensures.held_room ∙ left.1 ∙ c.has_history.ensures.held_room);
+        rooms = λ name count has. subst (HasRoom name count) c.has_history.ensures.rooms
+            (left.0 name count (subst (HasRoom name count) c.forget-in-Err.ensures.rooms has));
+      };
+      lines = omega arith;
+      bytes = omega arith;
+    })
 
 pub returns-in-Ok-begin-clause-room : goal.returns-in-Ok-begin-clause-room
 returns-in-Ok-begin-clause-room c begun step =

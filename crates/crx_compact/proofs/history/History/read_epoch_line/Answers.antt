@@ -10,7 +10,7 @@ use Rattle.crx_text.specs.Texts.{patched}
 use Rattle.crx_compact.specs.HeldRows.{IsAwaitedSatellite, past_of_tail}
 use Rattle.crx_compact.specs.meaning.CompactPlaces.{satellites_of_line, satellites_of_text}
 use Rattle.crx_compact.specs.meaning.EpochText.{Satellite}
-use Rattle.crx_compact.specs.Placing.{HaveTypesRoom, OpenHistory, PlacedRows, padded_among, tail_of_history}
+use Rattle.crx_compact.specs.Placing.{HasRoom, HaveTypesRoom, OpenHistory, PlacedRows, padded_among, tail_of_history}
 use Rattle.crx_compact.specs.Tails.{RowTail, Tail}
 use Rattle.crx_compact.proofs.AnnouncedRows.{announced-rows, line-of_text}
 use Rattle.crx_compact.proofs.Results.{by_ok}
@@ -33,6 +33,16 @@ returns-in_err-read_satellites-clause-memory c =
     ∙ ap (λ (h : OpenHistory). h.text) c.self.view_is)) in
     let p = err_from_is_err_and c.from_residual.result c.from_residual.ensures.1 in
     rw (p.1, p.2) (λ out. ap is_ok same ∙ c.in_err-read_satellites.ensures.err.memory out)
+
+pub returns-in_err-read_satellites-clause-unasked : goal.returns-in_err-read_satellites-clause-unasked
+returns-in_err-read_satellites-clause-unasked c =
+    let p = err_from_is_err_and c.from_residual.result c.from_residual.ensures.1 in
+    rw (p.1, p.2) (λ other. (
+      λ name count has. subst (HasRoom name count) (ap (λ (p : PlacedRows). p.rooms) c.begin.ensures.begun
+          ∙ ap (λ (h : OpenHistory). h.satellites.rooms) c.self.view_is)
+          (c.in_err-read_satellites.ensures.unasked other name count has),
+      ap (λ (h : OpenHistory). h.held_room) c.self.view_is,
+    ))
 
 -- the satellites have the room that they had
 pub returns-in_err-read_satellites-clause-known : goal.returns-in_err-read_satellites-clause-known

@@ -2,7 +2,7 @@ use Rattle.std.proofs.Common.{ℕ, ◌≤◌, ap, sym, not, arith}
 use Rattle.std.proofs.lemmas.Option.{slice_get_within}
 use Rattle.crx_compact.proofs.placing.Coming.{come-anew, come-awaited, is-new, repeated, unknown-no_row}
 use Rattle.crx_compact.proofs.Results.{on_err}
-use Rattle.crx_compact.proofs.placing.Rooms.{unknown}
+use Rattle.crx_compact.proofs.placing.Rooms.{is-known, same-rooms, unknown}
 use Rattle.crx_compact.proofs.satellites.Satellites.bring.Goals as goal
 
 within : {placed live all : ℕ} → (placed ≤ live) × (live ≤ all) → placed ≤ all
@@ -90,3 +90,31 @@ invariant_of-self-2 c =
         c.put_next-2.ensures.put.counted,
       ),
     )
+
+pub returns-in_err-found-clause-back : goal.returns-in_err-found-clause-back
+returns-in_err-found-clause-back c =
+    rw (← c.self.view_is)
+    (λ has. same-rooms c.self.inside.known.entries c.find_or_add.new.map.entries c.in_err-found.ensures.unchanged)
+
+pub returns-then-found-self-clause-back : goal.returns-then-found-self-clause-back
+returns-then-found-self-clause-back c =
+    let known = c.self.inside.known.entries in
+    rw (← c.self.view_is)
+    (λ has. same-rooms known c.find_or_add.new.map.entries
+    (c.find_or_add.ensures.kept (is-known c.args.name 0 known has)))
+
+pub returns-then-found-self-2-clause-back : goal.returns-then-found-self-2-clause-back
+returns-then-found-self-2-clause-back c =
+    let known = c.self.inside.known.entries in
+    rw (← c.self.view_is)
+    (λ has name count after. same-rooms known c.find_or_add.new.map.entries
+    (c.find_or_add.ensures.kept (is-known c.args.name 0 known has)) name count
+    (c.put_next.ensures.put.back name count after))
+
+pub returns-clause-back : goal.returns-clause-back
+returns-clause-back c =
+    let known = c.self.inside.known.entries in
+    rw (← c.self.view_is)
+    (λ has name count after. same-rooms known c.find_or_add.new.map.entries
+    (c.find_or_add.ensures.kept (is-known c.args.name 0 known has)) name count
+    (c.revive.ensures.revived.back name count (c.put_next-2.ensures.put.back name count after)))

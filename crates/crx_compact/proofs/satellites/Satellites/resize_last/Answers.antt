@@ -3,7 +3,7 @@ use Rattle.indexmap.specs.Layout.{length-set_value_at}
 use Rattle.crx_compact.specs.Entries.{rooms_of}
 use Rattle.crx_compact.specs.Placing.{HasRoom, SatelliteTail, padded, row_of_entry, row_tail_of}
 use Rattle.crx_compact.specs.Tails.{RowTail}
-use Rattle.crx_compact.proofs.placing.EntryChanges.{rest-unchanged, room-there, rooms-changed, rows-changed}
+use Rattle.crx_compact.proofs.placing.EntryChanges.{rest-unchanged, room-there, rooms-changed, rooms-changed-back, rows-changed}
 use Rattle.crx_compact.proofs.placing.SteppedRows.{among-placed, has-last, last-is, last-row-is, padded-is, row-is}
 use Rattle.crx_compact.proofs.placing.SteppedRows.{rows-counted}
 use Rattle.crx_compact.proofs.satellites.Satellites.resize_last.Goals as goal
@@ -74,3 +74,11 @@ resize-requires c =
           (subst (λ (kept : RowTail). HasRoom kept.name c.args.count (rooms_of known))
           (sym (last-row-is placed known _ last.0 last.1 some (omega (arith, few, all)) there last.2)) has);
     }
+
+pub returns-clause-back : goal.returns-clause-back
+returns-clause-back c name count =
+    let same = ap (λ (s : SatelliteTail). s.room) c.resize.ensures.resized in
+    rw (← c.self.view_is)
+    (rooms-changed-back c.self.inside.known (c.self.inside.placed - 1) _ _ c.resize.new.self
+    c.pair_mut-satellite.ensures.unique c.pair_mut-satellite.ensures.value (omega (arith, same)) name
+    count)
