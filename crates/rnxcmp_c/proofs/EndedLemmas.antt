@@ -1,71 +1,89 @@
 -- What the result of a run brings back, saves and judges follows from what it is, by the laws.
-use Rattle.std.proofs.Common.{◌≡◌, ◌⊎◌, inl, inr, ⊎_elim, ℕ, true, ap, sym, ◌∙◌}
+use Rattle.std.proofs.Common.{◌≡◌, ◌⊎◌, inl, inr, ⊎_elim, ℕ, List, ap, sym, ◌∙◌, subst}
 use Rattle.crx_base.specs.meaning.Faults.{code_of_fault}
 use Rattle.crx_base.specs.declared.fault.Fault.TheVariants.{InputTooLong}
 use Rattle.crx_base.specs.meaning.Choices.{Choices}
 use Rattle.crx_filter.specs.meaning.Expanded.{expanded}
+use Rattle.crx_filter.specs.meaning.Standard.{checked}
 use Rattle.crx_filter.proofs.standard.Lossless.{what-passes}
 use Rattle.crx_filter.proofs.stretches.StretchesSaved.{rest-kept, whole-first}
 use Rattle.crx_runs.specs.meaning.Results.{FilterResult}
 use Rattle.rnxcmp_c.specs.declared.answer.Answer.{Answer}
 use Rattle.rnxcmp_c.specs.declared.answer.TheConstants.{OUTPUT_LIMIT}
-use Rattle.rnxcmp_c.specs.meaning.Answers.{BothTexts, HasNoMemory}
-use Rattle.rnxcmp_c.specs.Handles.{IsLineReached}
-use Rattle.rnxcmp_c.specs.meaning.Handles.{HandlePast, RunHasEnded, RunHasResult, RunIsFull}
-use Rattle.rnxcmp_c.specs.meaning.Handles.{Task, Expand, Check, result_for}
+use Rattle.rnxcmp_c.specs.meaning.Answers.{BothTexts, HasNoMemory, fault_code_in}
+use Rattle.rnxcmp_c.specs.meaning.Handles.{LacksLastMessage, RunHasEnded, RunHasResult, StopsAtLimit, StopsForMemory}
+use Rattle.rnxcmp_c.specs.meaning.Handles.{StopsWhenFull, Task, run_for}
 use Rattle.rnxcmp_c.specs.meaning.Ended.{CheckPromises, ExpansionPromises}
 use Rattle.rnxcmp_c.proofs.Kept.{brings-back, judges-status, saves-all_else}
 use Rattle.rnxcmp_c.proofs.Lossless.{brings-back_passed}
 
-module _ (past : HandlePast) (kept : BothTexts) (answer : Answer) where
-  -- a run has its result where neither memory nor a limit ended it
-  pub result-where : (is_line : ℕ → Type 0) (task : Task) → RunHasEnded is_line task past kept answer →
-      (HasNoMemory answer → ⊥)
-      → (answer.status ≡ OUTPUT_LIMIT → ⊥) → RunHasResult (result_for task past.fed) past kept answer
-  result-where is_line task (inl result) memory limit = result
-  result-where is_line task (inr (inl over)) memory limit = absurd (limit (ap (λ
-      (a : Answer). a.status) over.answered))
-  result-where is_line task (inr (inr ran)) memory limit = absurd (memory (ap (λ
-      (a : Answer). a.code) ran.answered))
-
-  pub ended-where : (task : Task)
-      → RunHasEnded (IsLineReached past.fed) task past kept answer ⊎ RunIsFull task past kept answer
-      → (HasNoMemory answer → ⊥) → (answer.code ≡ code_of_fault InputTooLong → ⊥)
-      → RunHasEnded (IsLineReached past.fed) task past kept answer
-  ended-where task (inl ended) memory long = ended
-  ended-where task (inr full) memory long = ⊎_elim
-      (λ said. absurd (long (ap (λ (a : Answer). a.code) full.answered ∙ ap code_of_fault said.0)))
-      (λ hidden. absurd (memory (ap (λ (a : Answer). a.code) full.answered ∙ ap code_of_fault hidden.0)))
-      full.why
-
+module _ (fed : List ℕ) (made kept : BothTexts) (answer : Answer) where
   abbrev Has : FilterResult → Type 0
-  Has whole = RunHasResult whole past kept answer
+  Has whole = RunHasResult whole made kept answer
 
-  module _ (is_line : ℕ → Type 0) (choices : Choices) (limit : ℕ)
-      (ended : RunHasEnded is_line (Expand choices limit) past kept answer)
-      (memory : HasNoMemory answer → ⊥) (few : answer.status ≡ OUTPUT_LIMIT → ⊥) where
-    whole : Has (expanded past.fed choices)
-    whole = result-where is_line (Expand choices limit) ended memory few
+  abbrev Early : (ℕ → Type 0) → Task → FilterResult → Type 0
+  Early is_line task result = StopsAtLimit (run_for task) fed result
+      ⊎ StopsForMemory is_line (run_for task) fed result
 
-    pub run-expansion : ExpansionPromises choices past kept answer
-    run-expansion = record {
-      lossless = brings-back_passed Has choices past.fed whole;
-      way_back = brings-back Has choices past.fed whole;
-      salvage = λ skips. saves-all_else Has choices past.fed skips whole;
-      damage = λ skips file compacting dated damage.
-          (expanded past.fed choices, rest-kept file compacting choices past.fed dated skips damage, whole);
-      whole_units = λ file compacting dated first.
-          (expanded past.fed choices, whole-first file compacting choices past.fed dated first, whole);
-    }
+  abbrev Late : (ℕ → Type 0) → Task → FilterResult → Type 0
+  Late is_line task result = StopsAtLimit (run_for task) fed result
+      ⊎ (StopsForMemory is_line (run_for task) fed result ⊎ StopsWhenFull (run_for task) fed result)
 
-  module _ (is_line : ℕ → Type 0) (ended : RunHasEnded is_line Check past kept answer)
-      (memory : HasNoMemory answer → ⊥) (few : answer.status ≡ OUTPUT_LIMIT → ⊥) where
-    checked-status : answer.status ≡ (result_for Check past.fed).status
-    checked-status = ap (λ (a : Answer). a.status) (RunHasResult.answered
-        (result-where is_line Check ended memory few))
+  -- a run has its result where neither memory nor a limit ended it
+  has-where : (is_line : ℕ → Type 0) (task : Task) (result : FilterResult) → (HasNoMemory answer → ⊥)
+      → (answer.status ≡ OUTPUT_LIMIT → ⊥) → (answer.code ≡ code_of_fault InputTooLong → ⊥) → Has result
+      → (result ≡ (run_for task).result fed) ⊎ Late is_line task result → Has ((run_for task).result fed)
+  has-where is_line task result memory few long has (inl whole) = subst Has whole has
+  has-where is_line task result memory few long has (inr (inl limit)) =
+      absurd (few (ap (λ (a : Answer). a.status) has.answered ∙ ap (λ (r : FilterResult). r.status) limit.result_is))
+  has-where is_line task result memory few long has (inr (inr (inl short))) = absurd (memory
+      (ap (λ (a : Answer). a.code) has.answered ∙ ap (λ (r : FilterResult). fault_code_in r.fault) short.result_is))
+  has-where is_line task result memory few long has (inr (inr (inr full))) = absurd (long
+      (ap (λ (a : Answer). a.code) has.answered ∙ ap (λ (r : FilterResult). fault_code_in r.fault) full.result_is))
 
-    pub run-check : CheckPromises past answer
-    run-check = record {
-      lossless = λ zero. what-passes past.fed (sym checked-status ∙ zero);
-      standard = judges-status past.fed answer.status checked-status;
-    }
+  pub result-where : (is_line : ℕ → Type 0) (task : Task) → (HasNoMemory answer → ⊥)
+      → (answer.status ≡ OUTPUT_LIMIT → ⊥) → (answer.code ≡ code_of_fault InputTooLong → ⊥)
+      → RunHasEnded (λ result. (result ≡ (run_for task).result fed) ⊎ Late is_line task result) made kept answer
+      → Has ((run_for task).result fed)
+  result-where is_line task memory few long ended = ⊎_elim
+      (λ has. has-where is_line task ended.result memory few long has ended.is)
+      (λ lacks. absurd (memory (ap (λ (a : Answer). a.code) (LacksLastMessage.answered lacks))))
+      ended.ends
+
+  -- the same where no input is too long
+  has-early : (is_line : ℕ → Type 0) (task : Task) (result : FilterResult) → (HasNoMemory answer → ⊥)
+      → (answer.status ≡ OUTPUT_LIMIT → ⊥) → Has result
+      → (result ≡ (run_for task).result fed) ⊎ Early is_line task result → Has ((run_for task).result fed)
+  has-early is_line task result memory few has (inl whole) = subst Has whole has
+  has-early is_line task result memory few has (inr (inl limit)) =
+      absurd (few (ap (λ (a : Answer). a.status) has.answered ∙ ap (λ (r : FilterResult). r.status) limit.result_is))
+  has-early is_line task result memory few has (inr (inr short)) = absurd (memory
+      (ap (λ (a : Answer). a.code) has.answered ∙ ap (λ (r : FilterResult). fault_code_in r.fault) short.result_is))
+
+  pub result-early : (is_line : ℕ → Type 0) (task : Task) → (HasNoMemory answer → ⊥)
+      → (answer.status ≡ OUTPUT_LIMIT → ⊥)
+      → RunHasEnded (λ result. (result ≡ (run_for task).result fed) ⊎ Early is_line task result) made kept answer
+      → Has ((run_for task).result fed)
+  result-early is_line task memory few ended = ⊎_elim
+      (λ has. has-early is_line task ended.result memory few has ended.is)
+      (λ lacks. absurd (memory (ap (λ (a : Answer). a.code) (LacksLastMessage.answered lacks))))
+      ended.ends
+
+  pub run-expansion : (choices : Choices) → Has (expanded fed choices) → ExpansionPromises choices fed made kept answer
+  run-expansion choices whole = record {
+    lossless = brings-back_passed Has choices fed whole;
+    way_back = brings-back Has choices fed whole;
+    salvage = λ skips. saves-all_else Has choices fed skips whole;
+    damage = λ skips file compacting dated damage.
+        (expanded fed choices, rest-kept file compacting choices fed dated skips damage, whole);
+    whole_units = λ file compacting dated first.
+        (expanded fed choices, whole-first file compacting choices fed dated first, whole);
+  }
+
+  pub run-check : Has (checked fed) → CheckPromises fed answer
+  run-check whole =
+      let status = ap (λ (a : Answer). a.status) (RunHasResult.answered whole) in
+      record {
+        lossless = λ zero. what-passes fed (sym status ∙ zero);
+        standard = judges-status fed answer.status status;
+      }

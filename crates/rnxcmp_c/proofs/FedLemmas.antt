@@ -6,9 +6,12 @@ use Rattle.crx_base.specs.declared.limits.TheConstants.{INPUT_LIMIT}
 use Rattle.crx_runs.specs.declared.outcome.Outcome.{Outcome}
 use Rattle.rnxcmp_c.specs.Handles.{FeedsBy, FeedsBytes, HasFed, IsFed, ReaderHasPassed, ReaderRuns, StandsBy}
 use Rattle.rnxcmp_c.specs.Handles.{answer_now}
-use Rattle.rnxcmp_c.specs.meaning.Handles.{Task, HandlePast, IsMisused, fed_with}
-use Rattle.rnxcmp_c.specs.meaning.Handles.{StopsSoon, allowed_after, filter_for}
+use Rattle.rnxcmp_c.specs.Past.{HandlePast, fed_with}
+use Rattle.rnxcmp_c.specs.meaning.Handles.{Task}
+use Rattle.rnxcmp_c.specs.Past.{StopsSoon, allowed_after, filter_for}
+use Rattle.rnxcmp_c.specs.meaning.Answers.{bare_answer}
 use Rattle.rnxcmp_c.specs.declared.answer.Answer.{Answer}
+use Rattle.rnxcmp_c.specs.declared.answer.TheConstants.{MISUSED}
 use Rattle.rnxcmp_c.specs.declared.reader.Reader.{Reader}
 use Rattle.rnxcmp_c.proofs.PieceLemmas.{none-or}
 
@@ -64,7 +67,7 @@ module _ (task : Task) (old new : Reader) (past : HandlePast) (bytes allowed : L
 
 -- the run has ended before
 pub misused-by : (task : Task) (reader : Reader) (past : HandlePast) (bytes : List ℕ) (answer : Answer)
-    → IsMisused answer → (outcome : Option Outcome) → is_some outcome ≡ true
+    → answer ≡ bare_answer MISUSED 0 0 → (outcome : Option Outcome) → is_some outcome ≡ true
     → FeedsBy task reader reader past bytes 0 answer outcome
 misused-by task reader past bytes answer misused None some = absurd (cc)
 misused-by task reader past bytes answer misused (Some outcome) some = (misused, refl, refl)

@@ -18,12 +18,14 @@ use Rattle.rnxcmp_c.specs.Holding.{HoldsNothing}
 use Rattle.rnxcmp_c.proofs.PieceLemmas.{none-or}
 use Rattle.rnxcmp_c.specs.Handles.{IsLineReached, StandsBy}
 use Rattle.rnxcmp_c.specs.Handles.{RunIsOutOfMemory}
-use Rattle.rnxcmp_c.specs.meaning.Handles.{Task, HandlePast, fed_with, limit_for, nothing_fed, result_for, IsMisused}
-use Rattle.rnxcmp_c.specs.meaning.Handles.{allowed_after, filter_for}
+use Rattle.rnxcmp_c.specs.Past.{HandlePast, fed_with, limit_for, nothing_fed, result_for}
+use Rattle.rnxcmp_c.specs.meaning.Handles.{Task}
+use Rattle.rnxcmp_c.specs.Past.{allowed_after, filter_for}
 use Rattle.rnxcmp_c.specs.Going.{IsLineEnded}
 use Rattle.crx_runs.specs.meaning.Filters.{Filter}
-use Rattle.rnxcmp_c.specs.meaning.Answers.{line_in}
+use Rattle.rnxcmp_c.specs.meaning.Answers.{bare_answer, line_in}
 use Rattle.rnxcmp_c.specs.declared.answer.Answer.{Answer}
+use Rattle.rnxcmp_c.specs.declared.answer.TheConstants.{MISUSED}
 use Rattle.rnxcmp_c.specs.declared.engines.AnyEngine.{AnyEngine}
 use Rattle.rnxcmp_c.specs.declared.held.Held.{Held}
 use Rattle.rnxcmp_c.proofs.ReaderLemmas.{filter-is, lawful-for}
@@ -138,7 +140,7 @@ module _ (task : Task) (old new : Reader) (past : HandlePast) (answer : Answer) 
   feeds-answer bytes used (Some outcome) runs feeds = absurd (cc)
 
   pub feeds-misused : (bytes : List ℕ) (used : ℕ) (outcome : Option Outcome) → is_some outcome ≡ true
-      → FeedsBy task old new past bytes used answer outcome → IsMisused answer × (used ≡ 0) × (new ≡ old)
+      → FeedsBy task old new past bytes used answer outcome → (answer ≡ bare_answer MISUSED 0 0) × (used ≡ 0) × (new ≡ old)
   feeds-misused bytes used None ended feeds = absurd (cc)
   feeds-misused bytes used (Some outcome) ended feeds = feeds
 
@@ -148,7 +150,7 @@ module _ (task : Task) (old new : Reader) (past : HandlePast) (answer : Answer) 
   ends-answer (Some outcome) runs ends = absurd (cc)
 
   pub ends-misused : (outcome : Option Outcome) → is_some outcome ≡ true
-      → ReaderEndsBy task old new past answer outcome → IsMisused answer × (new ≡ old)
+      → ReaderEndsBy task old new past answer outcome → (answer ≡ bare_answer MISUSED 0 0) × (new ≡ old)
   ends-misused None ended ends = absurd (cc)
   ends-misused (Some outcome) ended ends = ends
 

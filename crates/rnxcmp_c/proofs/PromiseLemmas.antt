@@ -1,12 +1,12 @@
 -- What the state of a reader says of its run, in the words of the promise.
-use Rattle.std.proofs.Common.{◌≡◌, ◌⊎◌, inl, inr, ⊎_elim, ℕ, ◌<◌, ◌≤◌, List, [], ◌∷◌, ◌++◌, length, map}
+use Rattle.std.proofs.Common.{◌≡◌, ◌⊎◌, inl, inr, ⊎_elim, ℕ, ◌-◌, ◌<◌, ◌≤◌, List, [], ◌∷◌, ◌++◌, length, map}
 use Rattle.std.proofs.Common.{reverse, take, drop, append_assoc, Option, Some, None, is_some, true, false}
-use Rattle.std.proofs.Common.{arith, refl, sym, ap, ◌∙◌, subst, append-nil}
+use Rattle.std.proofs.Common.{arith, refl, sym, ap, ◌∙◌, subst, append-nil, length-append}
 use Rattle.std.proofs.lemmas.List.{map-append, reverse-append}
 use Rattle.crx_base.specs.meaning.Lines.{InputLine, lines_of}
 use Rattle.crx_base.specs.meaning.Seen.{ReadLine, ended_lines_of, seen}
 use Rattle.crx_base.specs.declared.fault.At.{At}
-use Rattle.crx_base.specs.declared.fault.Fault.TheVariants.{InputTooLong, OutOfMemory}
+use Rattle.crx_base.specs.declared.fault.Fault.TheVariants.{OutOfMemory}
 use Rattle.crx_filter.specs.meaning.Compacted.{rinex_place, whole_rinex}
 use Rattle.crx_filter.specs.meaning.Directions.{compact_reading, rinex_reading}
 use Rattle.crx_filter.specs.meaning.Expanded.{whole_compact}
@@ -17,37 +17,33 @@ use Rattle.crx_filter.proofs.reading.Forward.{rinex-forward}
 use Rattle.crx_filter.proofs.reading.Prefixes.{AreMore, whole-items}
 use Rattle.crx_runs.specs.meaning.Filters.{Filter, with_next}
 use Rattle.crx_runs.specs.meaning.Messages.{error_text, notices_text}
-use Rattle.crx_runs.specs.meaning.Results.{Begins}
+use Rattle.crx_runs.specs.meaning.Results.{Begins, Course, FilterResult, result_of_course}
 use Rattle.crx_runs.specs.meaning.Spans.{AreNext}
 use Rattle.crx_runs.specs.declared.outcome.Outcome.{Outcome}
-use Rattle.rnxcmp_c.specs.Going.{IsGoing}
-use Rattle.rnxcmp_c.specs.Handles.{ReaderRuns, ReaderStands, RunIsOutOfMemory, RunIsOverLimit}
-use Rattle.rnxcmp_c.specs.Handles.{IsLineReached, RunIsTooLong, StandsBy, answer_now, fault_now, shows_of}
-use Rattle.rnxcmp_c.specs.Handles.{state_now, status_now, too_long_after}
-use Rattle.rnxcmp_c.specs.Handles.{Feeds, FeedsBy, FeedsBytes, HasFedBy, HasPassedBy}
-use Rattle.rnxcmp_c.specs.Handles.{HasEndedBy, ReaderHasEnded, ReaderIsOver}
+use Rattle.rnxcmp_c.specs.Going.{IsGoing, IsLineEnded}
+use Rattle.rnxcmp_c.specs.Handles.{IsLastLine, IsLineReached, ReaderIsOver, ReaderRuns, ReaderStands, RunIsOutOfMemory}
+use Rattle.rnxcmp_c.specs.Handles.{RunIsOverLimit, RunIsTooLong, StandsBy, answer_now, fault_now, shows_of, status_now}
+use Rattle.rnxcmp_c.specs.Handles.{too_long_after}
+use Rattle.rnxcmp_c.specs.Handles.{Feeds, FeedsBy, FeedsBytes, HasEndedBy, HasFedBy, HasPassedBy, ReaderHasEnded}
 use Rattle.rnxcmp_c.specs.Holding.{texts_of_held}
 use Rattle.rnxcmp_c.specs.Opened.{have_ended, run_in, texts_in}
+use Rattle.rnxcmp_c.specs.Past.{AsksMemory, HandlePast, HidesFault, IsShortOfMemory, allowed_after, fed_with, filter_for}
+use Rattle.rnxcmp_c.specs.Past.{limit_for, memory_next, past_of, result_for, texts_made}
 use Rattle.rnxcmp_c.specs.Waiting.{waiting}
 use Rattle.rnxcmp_c.specs.declared.answer.Answer.{Answer}
 use Rattle.rnxcmp_c.specs.declared.answer.TheConstants.{OUTPUT_LIMIT}
 use Rattle.rnxcmp_c.specs.declared.held.Held.{Held}
 use Rattle.rnxcmp_c.specs.declared.limits.TheConstants.{READY_LIMIT}
 use Rattle.rnxcmp_c.specs.declared.reader.Reader.{Reader}
-use Rattle.rnxcmp_c.specs.meaning.Answers.{BothTexts, fault_code_in, line_in}
-use Rattle.rnxcmp_c.specs.meaning.Handles.{HandlePast, HandlePromise}
-use Rattle.rnxcmp_c.specs.Handles.{IsLastLine}
-use Rattle.rnxcmp_c.specs.Going.{IsLineEnded}
-use Rattle.rnxcmp_c.specs.meaning.Handles.{RunHasEnded, RunHasNoMemory, RunHasResult, RunIsFull, RunIsLimited}
-use Rattle.rnxcmp_c.specs.meaning.Handles.{RunWasEnded, TakesBytes, Task, Compact, Expand, Check}
-use Rattle.rnxcmp_c.specs.meaning.Handles.{allowed_after, fed_with, filter_for, handle_answer}
-use Rattle.rnxcmp_c.specs.meaning.Handles.{limit_for, ready, result_for, texts_made}
-use Rattle.rnxcmp_c.specs.meaning.Handles.{with_one_more}
+use Rattle.rnxcmp_c.specs.meaning.Answers.{BothTexts, line_in}
+use Rattle.rnxcmp_c.specs.meaning.Handles.{HandlePromise, RunHasEnded, RunWasEnded, StopsAtLimit, StopsForMemory}
+use Rattle.rnxcmp_c.specs.meaning.Handles.{StopsWhenFull, TakesBytes, Task, Compact, Expand, Check, handle_answer}
+use Rattle.rnxcmp_c.specs.meaning.Handles.{joined_texts, run_for, with_one_more}
 use Rattle.rnxcmp_c.proofs.Cut.{begins-next}
 use Rattle.rnxcmp_c.proofs.GoingLemmas.{begins-then, notices-both}
 use Rattle.rnxcmp_c.proofs.HandleLemmas.{feeds-answer, none-fed}
 use Rattle.rnxcmp_c.proofs.PieceLemmas.{none-or}
-use Rattle.rnxcmp_c.proofs.ReaderLemmas.{fault-at, filter-is, lawful-for, output-for}
+use Rattle.rnxcmp_c.proofs.ReaderLemmas.{fault-at, faulty-status, filter-is, lawful-for, output-for}
 
 -- ---- warnings
 
@@ -138,194 +134,362 @@ module _ (task : Task) (input : List ℕ) (lines : List InputLine) where
 -- ---- answers
 
 abbrev answer_by : Option Outcome → Reader → Answer
-answer_by outcome reader =
-    handle_answer (status_now outcome) (line_in (fault_now outcome)) (fault_code_in (fault_now outcome))
-    (texts_of_held reader.held)
+answer_by outcome reader = handle_answer (status_now outcome) (fault_now outcome) (texts_of_held reader.held)
 
 answers-same : (kept : BothTexts) (status then : ℕ) (fault found : Option At) → status ≡ then → fault ≡ found
-    → handle_answer status (line_in fault) (fault_code_in fault) kept
-    ≡ handle_answer then (line_in found) (fault_code_in found) kept
+    → handle_answer status fault kept ≡ handle_answer then found kept
 answers-same kept status then fault found same is =
-    ap (λ s. handle_answer s (line_in fault) (fault_code_in fault) kept) same
-    ∙ ap (λ f. handle_answer then (line_in f) (fault_code_in f) kept) is
+    ap (λ s. handle_answer s fault kept) same ∙ ap (λ f. handle_answer then f kept) is
+
+-- a run that has ended with one of some results has ended with one of more
+ended-as : (P Q : FilterResult → Type 0) (made kept : BothTexts) (answer : Answer)
+    → ((result : FilterResult) → P result → Q result) → RunHasEnded P made kept answer
+    → RunHasEnded Q made kept answer
+ended-as P Q made kept answer weaker ended = record {
+  result = ended.result;
+  is = weaker ended.result ended.is;
+  ends = ended.ends;
+}
+
+-- ---- memory
+
+-- the line that comes next takes memory, or it adds to one of both texts
+abbrev Asks : Filter → List InputLine → List InputLine → List At → Type 0
+Asks filter lines others notices = ((next : InputLine) × (more : List InputLine)
+    × (others ≡ next ∷ more) × (filter.memory_after lines next ≡ Some notices))
+    ⊎ ((notices ≡ [])
+    × ((length (filter.so_far lines).output < length (with_one_more filter lines others).output)
+    ⊎ (length (notices_text (filter.so_far lines).warnings)
+    < length (notices_text (with_one_more filter lines others).warnings))))
+
+asks : (filter : Filter) (lines others : List InputLine) (notices : List At)
+    → AsksMemory (memory_next filter lines others) (filter.so_far lines) (with_one_more filter lines others) notices
+    → Asks filter lines others notices
+asks filter lines [] notices (inl takes) = absurd (cc)
+asks filter lines (next ∷ more) notices (inl takes) = inl (next, more, refl, takes)
+asks filter lines others notices (inr adds) = inr adds
+
+-- a fault that there is
+some-at : (fault : Option At) → is_some fault ≡ true → (at : At) × (fault ≡ Some at)
+some-at None is = absurd (cc)
+some-at (Some at) is = (at, refl)
 
 -- ---- the cases
 
 module _ (task : Task) (reader : Reader) (past : HandlePast) where
+  abbrev kept : BothTexts
+  kept = texts_of_held reader.held
+
+  abbrev made : BothTexts
+  made = texts_made past kept
+
+  abbrev Ended : (FilterResult → Type 0) → Option Outcome → Type 0
+  Ended is_one outcome = RunHasEnded is_one made kept (answer_by outcome reader)
+
+  -- the result of an input, that at the limit of the output, or that of a run for which memory ran out
+  abbrev Whole : List ℕ → FilterResult → Type 0
+  Whole input result = result ≡ result_for task input
+
+  abbrev Limited : List ℕ → FilterResult → Type 0
+  Limited input result = StopsAtLimit (run_for task) input result
+
+  abbrev Short : (ℕ → Type 0) → List ℕ → FilterResult → Type 0
+  Short is_line input result = StopsForMemory is_line (run_for task) input result
+
+  abbrev Failed : List ℕ → FilterResult → Type 0
+  Failed input result = Whole input result × (result.status ≡ 1)
+
   runs-on : ReaderRuns task reader past
-      → HandlePromise (state_now None) task past (texts_of_held reader.held) (answer_by None reader)
+      → HandlePromise None (run_for task) past.fed made kept (answer_by None reader)
   runs-on runs =
       let going = subst (λ (f : Filter). IsGoing f (shows_of reader.engine) reader.held past)
       (filter-is task reader.engine runs.is_of) runs.going in
       record {
-        answered = refl;
-        goes_on = λ runs_on. (
-          refl,
-          record {
-            good = going.good;
-            output = going.text.wrote;
-            messages = append-nil (notices_text ((filter_for task).so_far (ended_lines_of past.fed)).warnings)
-                ∙ going.text.reported;
-          },
+        goes_on = λ none. (
+          going.good,
+          record { answered = refl; output = going.text.wrote; messages = going.text.reported },
         );
+        answered = λ (outcome : Outcome) is. ap (λ (o : Option Outcome). answer_by o reader) is;
         ended = λ ended. absurd (cc);
         within = λ limited.
             let before : 0 < reader.held.limit = subst (λ (n : ℕ). 0 < n) (sym runs.limit) limited in
             omega (arith, going.left before, runs.limit, ap length going.text.wrote);
       }
 
+  -- at a line, or at the end
+  stopped-short : (is_line : ℕ → Type 0) (outcome : Outcome) (input : List ℕ)
+      → RunIsOutOfMemory (filter_for task) (limit_for task) is_line input
+      (result_for task input) reader outcome past
+      → is_line (line_in outcome.fault) → IsShortOfMemory (filter_for task) input (line_in outcome.fault) made
+      → Ended (Short is_line input) (Some outcome)
+  stopped-short is_line outcome input ran there by =
+      let at : At = record { line = line_in outcome.fault; fault = OutOfMemory } in
+      let before : Course = (filter_for task).so_far by.lines in
+      let warned : List ℕ = notices_text before.warnings in
+      let own : List ℕ = notices_text by.notices in
+      let answered : answer_by (Some outcome) reader ≡ handle_answer 1 (Some at) kept =
+      answers-same kept outcome.status 1 outcome.fault (Some at) ran.status (fault-at outcome.fault ran.memory) in
+      record {
+        result = result_of_course (record {
+          output = before.output;
+          warnings = before.warnings ++ by.notices;
+          fault = Some at;
+        });
+        is = record {
+          lines = by.lines;
+          others = by.others;
+          first = by.first;
+          before = before;
+          before_is = refl;
+          good = by.made.good;
+          after = with_one_more (filter_for task) by.lines by.others;
+          after_is = refl;
+          line = line_in outcome.fault;
+          line_is = by.line_is;
+          there = there;
+          notices = by.notices;
+          own = by.own;
+          asked = asks (filter_for task) by.lines by.others by.notices by.asked;
+          result_is = refl;
+        };
+        ends = ⊎_elim
+            (λ none. inr (record {
+              at = at;
+              faulty = refl;
+              answered = answered;
+              output = by.made.output;
+              messages = ap (λ t. t ++ error_text (Some at)) (notices-both before.warnings by.notices
+                  ∙ ap (λ t. warned ++ t) (sym (ap (λ t. own ++ t) none ∙ append-nil own)) ∙ by.made.messages);
+            }))
+            (λ said. inl (record {
+              answered = answered;
+              output = by.made.output;
+              messages = ap (λ t. t ++ error_text (Some at)) (notices-both before.warnings by.notices)
+                  ∙ append_assoc warned own (error_text (Some at)) ∙ ap (λ t. warned ++ (own ++ t)) (sym said)
+                  ∙ by.made.messages;
+            }))
+            by.last_is;
+      }
+
+  -- for the message of a fault
+  hidden-fault : (is_line : ℕ → Type 0) (outcome : Outcome) (input : List ℕ)
+      → RunIsOutOfMemory (filter_for task) (limit_for task) is_line input
+      (result_for task input) reader outcome past
+      → HidesFault (result_for task input) (line_in outcome.fault) made → Ended (Failed input) (Some outcome)
+  hidden-fault is_line outcome input ran hidden =
+      let found = some-at (result_for task input).fault hidden.faulty in
+      record {
+        result = result_for task input;
+        is = (refl, faulty-status task input found.0 found.1);
+        ends = inr (record {
+          at = found.0;
+          faulty = found.1;
+          answered = answers-same kept outcome.status 1 outcome.fault _ ran.status
+              (fault-at outcome.fault ran.memory
+              ∙ ap (λ (n : ℕ). let a : At = record { line = n; fault = OutOfMemory } in Some a)
+              (hidden.line_is ∙ ap line_in found.1));
+          output = hidden.output_is;
+          messages = hidden.messages_are ∙ ap (λ f. made.messages ++ error_text f) found.1;
+        });
+      }
+
   short-of_memory : (is_line : ℕ → Type 0) (outcome : Outcome) (input : List ℕ)
       → RunIsOutOfMemory (filter_for task) (limit_for task) is_line input
       (result_for task input) reader outcome past
-      → RunHasNoMemory is_line task (record past { fed = input }) (texts_of_held reader.held) (answer_by
-      (Some outcome) reader)
-  short-of_memory is_line outcome input ran = record {
-    answered = answers-same (texts_of_held reader.held) outcome.status 1 outcome.fault _ ran.status
-        (fault-at outcome.fault ran.memory);
-    made = ⊎_elim (λ by. inl (by.at, by.made)) (λ hidden. inr hidden) ran.made;
-  }
+      → Ended (λ result. Failed input result ⊎ Short is_line input result) (Some outcome)
+  short-of_memory is_line outcome input ran = ⊎_elim
+      (λ by. ended-as _ _ made kept _ (λ result is. inr is)
+      (stopped-short is_line outcome input ran by.at by.made))
+      (λ hidden. ended-as _ _ made kept _ (λ result is. inl is) (hidden-fault is_line outcome input ran hidden))
+      ran.made
 
   is-full : (outcome : Outcome) → RunIsTooLong (filter_for task) (limit_for task) reader outcome past
-      → RunIsFull task past (texts_of_held reader.held) (answer_by (Some outcome) reader)
-  is-full outcome long = ⊎_elim
-      (λ said. record {
-        full = long.full;
-        fault = InputTooLong;
-        answered = answers-same (texts_of_held reader.held) outcome.status 1 outcome.fault _ long.status said.0;
-        last = error_text (Some (too_long_after past.fed));
-        why = inl (
-          refl,
-          ap (λ (n : ℕ). error_text (Some (record { line = n; fault = InputTooLong })))
-              (ap line_in (sym said.0)),
-        );
-        made = record { good = long.good; output = long.output; messages = said.1 };
-      })
-      (λ hidden. record {
-        full = long.full;
-        fault = OutOfMemory;
-        answered = answers-same (texts_of_held reader.held) outcome.status 1 outcome.fault _ long.status hidden.0;
-        last = [];
-        why = inr (refl, refl);
-        made = record {
-          good = long.good;
-          output = long.output;
-          messages = append-nil (notices_text ((filter_for task).so_far (ended_lines_of past.fed)).warnings)
-              ∙ hidden.1;
-        };
-      })
-      long.said
+      → Ended (StopsWhenFull (run_for task) past.fed) (Some outcome)
+  is-full outcome long =
+      let at : At = too_long_after past.fed in
+      let before : Course = (filter_for task).so_far (ended_lines_of past.fed) in
+      record {
+        result = result_of_course (record {
+          output = before.output;
+          warnings = before.warnings;
+          fault = Some at;
+        });
+        is = record { full = long.full; good = long.good; result_is = refl };
+        ends = ⊎_elim
+            (λ said. inl (record {
+              answered = answers-same kept outcome.status 1 outcome.fault (Some at) long.status said.0;
+              output = long.output;
+              messages = said.1;
+            }))
+            (λ hidden. inr (record {
+              at = at;
+              faulty = refl;
+              answered = answers-same kept outcome.status 1 outcome.fault _ long.status hidden.0;
+              output = long.output;
+              messages = ap (λ t. t ++ error_text (Some at)) hidden.1;
+            }))
+            long.said;
+      }
 
   over-limit : (outcome : Outcome) (input : List ℕ)
       → RunIsOverLimit (filter_for task) (limit_for task) input (result_for task input) reader outcome past
-      → RunIsLimited task (record past { fed = input }) (texts_of_held reader.held)
-      (answer_by (Some outcome) reader)
-  over-limit outcome input over = record {
-    answered = answers-same (texts_of_held reader.held) outcome.status OUTPUT_LIMIT outcome.fault None
-        over.status over.fault;
-    exceeds = (over.limited, over.longer);
-    lines = over.lines;
-    others = over.others;
-    first = over.first;
-    within = over.within;
-    over = over.over;
-    made = over.made;
-  }
+      → Ended (Limited input) (Some outcome)
+  over-limit outcome input over =
+      let before : Course = (filter_for task).so_far over.lines in
+      record {
+        result = record {
+          output = before.output;
+          messages = notices_text before.warnings;
+          status = OUTPUT_LIMIT;
+          fault = None;
+        };
+        is = record {
+          lines = over.lines;
+          others = over.others;
+          first = over.first;
+          before = before;
+          before_is = refl;
+          good = over.made.good;
+          after = with_one_more (filter_for task) over.lines over.others;
+          after_is = refl;
+          limited = over.limited;
+          within = over.within;
+          over = over.over;
+          result_is = refl;
+        };
+        ends = inl (record {
+          answered = answers-same kept outcome.status OUTPUT_LIMIT outcome.fault None over.status over.fault;
+          output = over.made.output;
+          messages = sym (append-nil (notices_text before.warnings)) ∙ over.made.messages;
+        });
+      }
 
   has-result : (outcome : Outcome) (input : List ℕ)
       → ReaderIsOver (limit_for task) (result_for task input) reader outcome past
-      → RunHasResult (result_for task input) past (texts_of_held reader.held) (answer_by (Some outcome) reader)
+      → Ended (Whole input) (Some outcome)
   has-result outcome input over = record {
-    answered = answers-same (texts_of_held reader.held) outcome.status _ outcome.fault _ over.status over.fault;
-    output = over.output;
-    messages = over.messages;
+    result = result_for task input;
+    is = refl;
+    ends = inl (record {
+      answered = answers-same kept outcome.status _ outcome.fault _ over.status over.fault;
+      output = over.output;
+      messages = over.messages;
+    });
+  }
+
+  -- how a run stands that has ended
+  abbrev Any : FilterResult → Type 0
+  Any result = Whole past.fed result ⊎ (Limited past.fed result
+      ⊎ (Short (IsLineReached past.fed) past.fed result ⊎ StopsWhenFull (run_for task) past.fed result))
+
+  promise-by : (outcome : Outcome) → Ended Any (Some outcome)
+      → (0 < limit_for task → length made.output ≤ limit_for task)
+      → HandlePromise (Some outcome) (run_for task) past.fed made kept (answer_by (Some outcome) reader)
+  promise-by outcome ended within = record {
+    goes_on = λ none. absurd (cc);
+    answered = λ (other : Outcome) is. ap (λ (o : Option Outcome). answer_by o reader) is;
+    ended = λ some. ended;
+    within = within;
   }
 
   stands-by : (outcome : Option Outcome) → StandsBy task reader past outcome
-      → HandlePromise (state_now outcome) task past (texts_of_held reader.held) (answer_by outcome reader)
+      → HandlePromise outcome (run_for task) past.fed made kept (answer_by outcome reader)
   stands-by None runs = runs-on runs
-  stands-by (Some outcome) (inl ran) = record {
-    answered = refl;
-    goes_on = λ runs_on. absurd (cc);
-    ended = λ ended. inl (inr (inr (short-of_memory (IsLineReached past.fed) outcome past.fed ran)));
-    within = ran.within;
-  }
-  stands-by (Some outcome) (inr (inl over)) = record {
-    answered = refl;
-    goes_on = λ runs_on. absurd (cc);
-    ended = λ ended. inl (inr (inl (over-limit outcome past.fed over)));
-    within = λ limited. omega (arith, over.within, ap length over.made.output);
-  }
-  stands-by (Some outcome) (inr (inr (inl long))) = record {
-    answered = refl;
-    goes_on = λ runs_on. absurd (cc);
-    ended = λ ended. inr (is-full outcome long);
-    within = long.within;
-  }
-  stands-by (Some outcome) (inr (inr (inr over))) = record {
-    answered = refl;
-    goes_on = λ runs_on. absurd (cc);
-    ended = λ ended. inl (inl (has-result outcome past.fed over));
-    within = over.within;
-  }
+  stands-by (Some outcome) (inl ran) = promise-by outcome
+      (ended-as _ Any made kept _
+      (λ result is. ⊎_elim (λ whole. inl whole.0) (λ short. inr (inr (inl short))) is)
+      (short-of_memory (IsLineReached past.fed) outcome past.fed ran)) ran.within
+  stands-by (Some outcome) (inr (inl over)) = promise-by outcome
+      (ended-as _ Any made kept _ (λ result is. inr (inl is)) (over-limit outcome past.fed over))
+      (λ limited. omega (arith, over.within, ap length over.made.output))
+  stands-by (Some outcome) (inr (inr (inl long))) = promise-by outcome
+      (ended-as _ Any made kept _ (λ result is. inr (inr (inr is))) (is-full outcome long)) long.within
+  stands-by (Some outcome) (inr (inr (inr over))) = promise-by outcome
+      (ended-as _ Any made kept _ (λ result is. inl is) (has-result outcome past.fed over)) over.within
 
   pub reader-promise : ReaderStands task reader past
-      → HandlePromise (state_now reader.outcome) task past (texts_of_held reader.held) (answer_now reader)
+      → HandlePromise reader.outcome (run_for task) past.fed made kept (answer_now reader)
   reader-promise stands = stands-by reader.outcome stands
 
+  -- how a run stands whose end was reported
+  abbrev Last : FilterResult → Type 0
+  Last result = Whole past.fed result
+      ⊎ (Limited past.fed result ⊎ Short (IsLastLine past.fed) past.fed result)
+
   ended-by : (outcome : Option Outcome) → HasEndedBy task reader past outcome
-      → (is_some outcome ≡ true)
-      × RunHasEnded (IsLastLine past.fed) task past (texts_of_held reader.held) (answer_by outcome reader)
+      → (is_some outcome ≡ true) × Ended Last outcome
   ended-by None ended = absurd ended
-  ended-by (Some outcome) (inl ran) =
-      (refl, inr (inr (short-of_memory (IsLastLine past.fed) outcome past.fed ran)))
-  ended-by (Some outcome) (inr (inl over)) = (refl, inr (inl (over-limit outcome past.fed over)))
-  ended-by (Some outcome) (inr (inr over)) = (refl, inl (has-result outcome past.fed over))
+  ended-by (Some outcome) (inl ran) = (
+    refl,
+    ended-as _ Last made kept _ (λ result is. ⊎_elim (λ whole. inl whole.0) (λ short. inr (inr short)) is)
+        (short-of_memory (IsLastLine past.fed) outcome past.fed ran),
+  )
+  ended-by (Some outcome) (inr (inl over)) =
+      (refl, ended-as _ Last made kept _ (λ result is. inr (inl is)) (over-limit outcome past.fed over))
+  ended-by (Some outcome) (inr (inr over)) =
+      (refl, ended-as _ Last made kept _ (λ result is. inl is) (has-result outcome past.fed over))
 
   pub reader-ended : ReaderHasEnded task reader past
-      → (is_some reader.outcome ≡ true) × RunHasEnded (IsLastLine past.fed) task past (texts_of_held reader.held)
-      (answer_now reader)
+      → (is_some reader.outcome ≡ true) × RunHasEnded Last made kept (answer_now reader)
   reader-ended ended = ended-by reader.outcome ended
 
+  -- how a run stands that bytes have ended, whatever follows
+  abbrev Broken : List ℕ → List ℕ → FilterResult → Type 0
+  Broken before more result = Failed (past.fed ++ more) result
+      ⊎ (Limited (past.fed ++ more) result ⊎ Short (IsLineEnded before past.fed) (past.fed ++ more) result)
+
   fed-ended : (before left : List ℕ) (outcome : Option Outcome) → is_some outcome ≡ true
-      → HasFedBy before task reader past outcome → RunWasEnded task before past left (texts_of_held reader.held)
-      (answer_by outcome reader)
+      → HasFedBy before task reader past outcome
+      → RunWasEnded (run_for task) before past.fed left made kept (answer_by outcome reader)
   fed-ended before left None ended fed = absurd (cc)
   fed-ended before left (Some outcome) ended (inl memory) =
-      inr (inr (inl (λ (more : List ℕ). short-of_memory (IsLineEnded before past.fed) outcome
-      (past.fed ++ more) (memory more))))
+      inl (λ (more : List ℕ). ended-as _ (Broken before more) made kept _
+      (λ result is. ⊎_elim (λ failed. inl failed) (λ short. inr (inr short)) is)
+      (short-of_memory (IsLineEnded before past.fed) outcome (past.fed ++ more) (memory more)))
   fed-ended before left (Some outcome) ended (inr (inl limit)) =
-      inr (inl (λ (more : List ℕ). over-limit outcome (past.fed ++ more) (limit more)))
+      inl (λ (more : List ℕ). ended-as _ (Broken before more) made kept _ (λ result is. inr (inl is))
+      (over-limit outcome (past.fed ++ more) (limit more)))
   fed-ended before left (Some outcome) ended (inr (inr over)) =
-      inl (over.0, λ (more : List ℕ). has-result outcome (past.fed ++ more) (over.1 more))
+      inl (λ (more : List ℕ). ended-as _ (Broken before more) made kept _
+      (λ result is. inl (
+        is,
+        ap (λ (r : FilterResult). r.status) is ∙ sym (ReaderIsOver.status (over.1 more)) ∙ over.0,
+      ))
+      (has-result outcome (past.fed ++ more) (over.1 more)))
 
   passed-ended : (left : List ℕ) → 0 < length left → (outcome : Option Outcome)
-      → HasPassedBy task reader past outcome → RunWasEnded task past.fed past left (texts_of_held reader.held)
-      (answer_by outcome reader)
+      → HasPassedBy task reader past outcome
+      → RunWasEnded (run_for task) past.fed past.fed left made kept (answer_by outcome reader)
   passed-ended left some None passed = absurd passed
-  passed-ended left some (Some outcome) long = inr (inr (inr (some, refl, is-full outcome long)))
+  passed-ended left some (Some outcome) long = inr (some, refl, is-full outcome long)
 
   passed-some : (outcome : Option Outcome) → HasPassedBy task reader past outcome → is_some outcome ≡ true
   passed-some None passed = absurd passed
   passed-some (Some outcome) long = refl
 
 -- what bytes have ended
-module _ (task : Task) (old new : Reader) (past : HandlePast) (bytes : List ℕ) (used : ℕ) (answer : Answer) where
-  abbrev Ended : HandlePast → ℕ → Type 0
-  Ended then count = RunWasEnded task past.fed then (drop count bytes) (texts_of_held new.held) (answer_now new)
+module _ (task : Task) (old new : Reader) (fed : List ℕ) (taken : BothTexts) (bytes : List ℕ) (used : ℕ)
+    (answer : Answer) where
+  abbrev past : HandlePast
+  past = past_of fed taken
+
+  abbrev BytesEnded : HandlePast → ℕ → Type 0
+  BytesEnded then count = RunWasEnded (run_for task) fed then.fed (drop count bytes)
+      (texts_made then (texts_of_held new.held)) (texts_of_held new.held) (answer_now new)
 
   feeds-ended : (outcome : Option Outcome) → is_some outcome ≡ false → is_some new.outcome ≡ true
-      → FeedsBy task old new past bytes used answer outcome → Ended (fed_with past (take used bytes)) used
+      → FeedsBy task old new past bytes used answer outcome → BytesEnded (fed_with past (take used bytes)) used
   feeds-ended None runs ended feeds =
       let goes_on : (0 < length bytes → 0 < length (allowed_after past bytes))
-      → Ended (fed_with past (take used bytes)) used =
-      λ some. fed-ended task new (fed_with past (take used bytes)) past.fed
+      → BytesEnded (fed_with past (take used bytes)) used =
+      λ some. fed-ended task new (fed_with past (take used bytes)) fed
       (drop used bytes) new.outcome ended
       (feeds.fed some) in
       ⊎_elim (λ none. goes_on (λ h. absurd (omega (arith, h, none))))
       (λ more. ⊎_elim
-      (λ none. subst (λ (then : HandlePast). Ended then used)
+      (λ none. subst (λ (then : HandlePast). BytesEnded then used)
       (none-fed past bytes used (feeds.over more none).0)
-      (subst (Ended past) (sym (feeds.over more none).0)
+      (subst (BytesEnded past) (sym (feeds.over more none).0)
       (passed-ended task new past bytes more new.outcome (feeds.over more none).1)))
       (λ some. goes_on (λ h. some)) (none-or (length (allowed_after past bytes))))
       (none-or (length bytes))
@@ -333,14 +497,13 @@ module _ (task : Task) (old new : Reader) (past : HandlePast) (bytes : List ℕ)
 
   pub handle-was_ended : (readers : List Reader) → readers ≡ new ∷ [] → is_some old.outcome ≡ false
       → have_ended readers ≡ true → Feeds task old new past bytes used answer
-      → RunWasEnded task past.fed (fed_with past (take used bytes)) (drop used bytes)
-      (texts_in readers) answer
+      → RunWasEnded (run_for task) fed (fed ++ take used bytes) (drop used bytes)
+      (joined_texts taken (texts_in readers)) (texts_in readers) answer
   handle-was_ended readers holds runs ended feeds =
-      subst (λ (l : List Reader). RunWasEnded task past.fed (fed_with past (take used bytes))
-      (drop used bytes) (texts_in l)
-      answer) (sym holds)
-      (subst (λ (a : Answer). RunWasEnded task past.fed (fed_with past (take used bytes)) (drop used bytes)
-      (texts_of_held new.held) a)
+      subst (λ (l : List Reader). RunWasEnded (run_for task) fed (fed ++ take used bytes) (drop used bytes)
+      (joined_texts taken (texts_in l)) (texts_in l) answer) (sym holds)
+      (subst (λ (a : Answer). RunWasEnded (run_for task) fed (fed ++ take used bytes) (drop used bytes)
+      (joined_texts taken (texts_of_held new.held)) (texts_of_held new.held) a)
       (sym (feeds-answer task old new past answer bytes used old.outcome runs feeds))
       (feeds-ended old.outcome runs (sym (ap have_ended holds) ∙ ended) feeds))
 
@@ -348,8 +511,16 @@ module _ (task : Task) (old new : Reader) (past : HandlePast) (bytes : List ℕ)
   takes-all : (outcome : Option Outcome) → new.outcome ≡ outcome
       → FeedsBytes task old new past bytes used answer
       → used < length (allowed_after past bytes)
-      → (is_some new.outcome ≡ false) × (READY_LIMIT ≤ ready (texts_of_held new.held))
-  takes-all None is feeds less = (ap (λ (o : Option Outcome). is_some o) is, feeds.all is less)
+      → (is_some new.outcome ≡ false)
+      × (READY_LIMIT ≤ length (waiting new.held.output ++ waiting new.held.messages))
+  takes-all None is feeds less = (
+    ap (λ (o : Option Outcome). is_some o) is,
+    omega (
+      arith,
+      feeds.all is less,
+      length-append (waiting new.held.output) (waiting new.held.messages),
+    ),
+  )
   takes-all (Some outcome) is feeds less =
       absurd (omega (
         arith,
@@ -364,55 +535,71 @@ module _ (task : Task) (old new : Reader) (past : HandlePast) (bytes : List ℕ)
 
   takes-bytes : (outcome : Option Outcome) → is_some outcome ≡ false
       → FeedsBy task old new past bytes used answer outcome
-      → TakesBytes task past bytes used (texts_of_held old.held) (texts_of_held new.held) (is_some new.outcome)
-  takes-bytes None runs feeds = record {
-    within = feeds.within;
-    some = feeds.some;
-    all = takes-all new.outcome refl feeds;
-    soon = λ goes_on. feeds.soon (none-is new.outcome goes_on);
-    still = λ some full.
-        let still = feeds.still some full in (
-          still.0,
-          ap (λ (h : Held). let kept : BothTexts = record {
-            output = waiting h.output;
-            messages = waiting h.messages;
-          } in kept) still.1,
-          ap (λ (o : Option Outcome). is_some o) still.2,
+      → TakesBytes (run_for task) fed taken bytes used (texts_of_held old.held) (texts_of_held new.held)
+      (is_some new.outcome)
+  takes-bytes None runs feeds =
+      let ready = length-append (waiting old.held.output) (waiting old.held.messages) in
+      let less : Course = (filter_for task).so_far
+      (ended_lines_of (fed ++ take (used - 1) (allowed_after past bytes))) in
+      record {
+        allowed = allowed_after past bytes;
+        allowed_is = refl;
+        within = feeds.within;
+        some = λ some few. feeds.some some (omega (arith, few, ready));
+        all = takes-all new.outcome refl feeds;
+        soon = λ goes_on more. omega (
+          arith,
+          (feeds.soon (none-is new.outcome goes_on) more).low,
+          length-append less.output (notices_text less.warnings),
+          length-append taken.output taken.messages,
         );
-    over = λ some none. (
-      (feeds.over some none).0,
-      passed-some task new past new.outcome (feeds.over some none).1,
-    );
-  }
+        still = λ some full.
+            let still = feeds.still some (omega (arith, full, ready)) in (
+              still.0,
+              ap (λ (h : Held). let kept : BothTexts = record {
+                output = waiting h.output;
+                messages = waiting h.messages;
+              } in kept) still.1,
+              ap (λ (o : Option Outcome). is_some o) still.2,
+            );
+        over = λ some none. (
+          (feeds.over some none).0,
+          passed-some task new past new.outcome (feeds.over some none).1,
+        );
+      }
   takes-bytes (Some outcome) runs feeds = absurd (cc)
 
   pub handle-takes : (olds news : List Reader) → olds ≡ old ∷ [] → news ≡ new ∷ [] → have_ended olds ≡ false
       → Feeds task old new past bytes used answer
-      → TakesBytes task past bytes used (texts_in olds) (texts_in news) (have_ended news)
+      → TakesBytes (run_for task) fed taken bytes used (texts_in olds) (texts_in news) (have_ended news)
   handle-takes olds news held holds runs feeds =
-      subst (λ (l : List Reader). TakesBytes task past bytes used (texts_in l) (texts_in news)
+      subst (λ (l : List Reader). TakesBytes (run_for task) fed taken bytes used (texts_in l) (texts_in news)
       (have_ended news))
       (sym held)
-      (subst (λ (l : List Reader). TakesBytes task past bytes used (texts_of_held old.held) (texts_in l)
-      (have_ended l)) (sym holds)
+      (subst (λ (l : List Reader). TakesBytes (run_for task) fed taken bytes used (texts_of_held old.held)
+      (texts_in l) (have_ended l)) (sym holds)
       (takes-bytes old.outcome (sym (ap have_ended held) ∙ runs) feeds))
 
 -- the same of a handle
-module _ (task : Task) (readers : List Reader) (reader : Reader) (past : HandlePast) (answer : Answer)
+module _ (task : Task) (readers : List Reader) (reader : Reader) (fed : List ℕ) (taken : BothTexts) (answer : Answer)
     (holds : readers ≡ reader ∷ []) (answers : answer ≡ answer_now reader) where
-  pub handle-promise : ReaderStands task reader past
-      → HandlePromise (run_in readers) task past (texts_in readers) answer
+  pub handle-promise : ReaderStands task reader (past_of fed taken)
+      → HandlePromise (run_in readers) (run_for task) fed (joined_texts taken (texts_in readers)) (texts_in readers)
+      answer
   handle-promise stands =
-      subst (λ (l : List Reader). HandlePromise (run_in l) task past (texts_in l) answer) (sym holds)
-      (subst (λ (a : Answer). HandlePromise (state_now reader.outcome) task past (texts_of_held reader.held) a)
-      (sym answers)
-      (reader-promise task reader past stands))
-
-  pub handle-ended : ReaderHasEnded task reader past
-      → (have_ended readers ≡ true) × RunHasEnded (IsLastLine past.fed) task past (texts_in readers) answer
-  handle-ended ended =
-      subst (λ (l : List Reader). (have_ended l ≡ true) × RunHasEnded (IsLastLine past.fed) task past
+      subst (λ (l : List Reader). HandlePromise (run_in l) (run_for task) fed (joined_texts taken (texts_in l))
       (texts_in l) answer) (sym holds)
-      (subst (λ (a : Answer). (is_some reader.outcome ≡ true) × RunHasEnded (IsLastLine past.fed) task past
-      (texts_of_held reader.held) a) (sym answers)
-      (reader-ended task reader past ended))
+      (subst (λ (a : Answer). HandlePromise reader.outcome (run_for task) fed
+      (joined_texts taken (texts_of_held reader.held)) (texts_of_held reader.held) a)
+      (sym answers)
+      (reader-promise task reader (past_of fed taken) stands))
+
+  pub handle-ended : ReaderHasEnded task reader (past_of fed taken)
+      → (have_ended readers ≡ true) × RunHasEnded (Last task reader (past_of fed taken))
+      (joined_texts taken (texts_in readers)) (texts_in readers) answer
+  handle-ended ended =
+      subst (λ (l : List Reader). (have_ended l ≡ true) × RunHasEnded (Last task reader (past_of fed taken))
+      (joined_texts taken (texts_in l)) (texts_in l) answer) (sym holds)
+      (subst (λ (a : Answer). (is_some reader.outcome ≡ true) × RunHasEnded (Last task reader (past_of fed taken))
+      (joined_texts taken (texts_of_held reader.held)) (texts_of_held reader.held) a) (sym answers)
+      (reader-ended task reader (past_of fed taken) ended))

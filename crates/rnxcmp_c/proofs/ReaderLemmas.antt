@@ -7,7 +7,7 @@ use Rattle.crx_base.specs.declared.limits.TheConstants.{INPUT_LIMIT}
 use Rattle.crx_base.specs.declared.fault.At.{At}
 use Rattle.crx_base.specs.declared.fault.Fault.{Fault as FaultOf}
 use Rattle.crx_base.specs.declared.fault.Fault.TheVariants.{InputTooLong, OutOfMemory}
-use Rattle.crx_filter.specs.meaning.Directions.{check_filter, report_unless}
+use Rattle.crx_filter.specs.meaning.Directions.{check_filter, compaction_filter, expansion_filter, report_unless}
 use Rattle.crx_runs.specs.Lawful.{IsLawful}
 use Rattle.crx_runs.specs.meaning.Filters.{Filter, with_next}
 use Rattle.crx_runs.specs.meaning.Messages.{error_text, notices_text}
@@ -29,8 +29,10 @@ use Rattle.rnxcmp_c.specs.Handles.{HasPassedBy, shows_of, too_long_after}
 use Rattle.rnxcmp_c.specs.Handles.{HasFedBy, HasEndedBy, engine_filter, has_ended_of}
 use Rattle.rnxcmp_c.specs.meaning.Answers.{KeepsToLimit, line_in}
 use Rattle.rnxcmp_c.specs.Handles.{status_at_end}
-use Rattle.rnxcmp_c.specs.meaning.Handles.{Task, HandlePast, limit_for, result_for, Compact, Expand, Check}
-use Rattle.rnxcmp_c.specs.meaning.Handles.{filter_for, memory_next, with_one_more}
+use Rattle.rnxcmp_c.specs.Past.{HandlePast, limit_for, result_for}
+use Rattle.rnxcmp_c.specs.meaning.Handles.{Task, Compact, Expand, Check}
+use Rattle.rnxcmp_c.specs.Past.{filter_for, memory_next}
+use Rattle.rnxcmp_c.specs.meaning.Handles.{with_one_more}
 use Rattle.rnxcmp_c.specs.declared.engines.AnyEngine.{AnyEngine}
 use Rattle.rnxcmp_c.specs.declared.engines.AnyEngine.TheVariants.{Compacting, Expanding, Checking}
 use Rattle.rnxcmp_c.specs.declared.held.Held.{Held}
@@ -65,6 +67,20 @@ result-faulty : (task : Task) (input : List ℕ) (at : At) → ((filter_for task
 result-faulty (Compact choices limit) input at is = refl
 result-faulty (Expand choices limit) input at is = refl
 result-faulty Check input at is = checked-faulty (whole_of input).fault (findings_of (lines_of input)) at is
+
+-- the status of a result that has a fault is 1
+checked-status : (fault : Option At) (found : Findings) (at : At) → (checked_by fault found).fault ≡ Some at
+    → (checked_by fault found).status ≡ 1
+checked-status (Some other) found at is = refl
+checked-status None found at is = absurd (cc)
+
+pub faulty-status : (task : Task) (input : List ℕ) (at : At) → (result_for task input).fault ≡ Some at
+    → (result_for task input).status ≡ 1
+faulty-status (Compact choices limit) input at is =
+    ap (status_after ((compaction_filter choices).whole (lines_of input)).warnings) is
+faulty-status (Expand choices limit) input at is =
+    ap (status_after ((expansion_filter choices).whole (lines_of input)).warnings) is
+faulty-status Check input at is = checked-status (whole_of input).fault (findings_of (lines_of input)) at is
 
 course-over : (limit : ℕ) (course : Course) (reader : Reader) (mid : Held) (outcome : Outcome) (past : HandlePast)
     (at : At) → course.fault ≡ Some at → IsText course mid past
@@ -284,7 +300,7 @@ module _ (task : Task) (engine : AnyEngine) (is : IsOf task engine)
 
 -- ---- the limit of the output
 
-length-begins : (text first : List ℕ) → Begins text first → length first ≤ length text
+pub length-begins : (text first : List ℕ) → Begins text first → length first ≤ length text
 length-begins text first begins = omega (arith, ap length begins.same, length-append first begins.rest)
 
 -- what some lines make with one more of those that follow, or with the end, is first in what all of them make

@@ -7,8 +7,9 @@ use Rattle.crx_runs.specs.meaning.Messages.{error_text, notices_text}
 use Rattle.crx_runs.specs.meaning.Results.{Course}
 use Rattle.rnxcmp_c.specs.Handles.{IsLineReached, IsSaid, RanOutBy, ReaderStands, StandsBy, too_long_after}
 use Rattle.rnxcmp_c.specs.Holding.{texts_of_held}
-use Rattle.rnxcmp_c.specs.meaning.Handles.{HandlePast, HidesFault, IsMadeByLines, Task, filter_for, limit_for}
-use Rattle.rnxcmp_c.specs.meaning.Handles.{result_for, taken_with, texts_made}
+use Rattle.rnxcmp_c.specs.Past.{HandlePast, HidesFault, IsMadeByLines, filter_for, limit_for}
+use Rattle.rnxcmp_c.specs.meaning.Handles.{Task}
+use Rattle.rnxcmp_c.specs.Past.{result_for, taken_with, texts_made}
 use Rattle.rnxcmp_c.specs.meaning.Answers.{KeepsToLimit, line_in}
 use Rattle.rnxcmp_c.specs.Waiting.{waiting}
 use Rattle.rnxcmp_c.specs.declared.pending.Pending.{Pending}

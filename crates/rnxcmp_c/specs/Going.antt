@@ -20,8 +20,8 @@ use Rattle.rnxcmp_c.specs.declared.held.Held.{Held}
 use Rattle.rnxcmp_c.specs.declared.limits.TheConstants.{LINE_ROOM, READY_LIMIT}
 use Rattle.rnxcmp_c.specs.Holding.{AreUnfailed, IsMemoryLacking, texts_of_held, ready_in}
 use Rattle.rnxcmp_c.specs.meaning.Answers.{KeepsToLimit}
-use Rattle.rnxcmp_c.specs.meaning.Handles.{AsksMemory, HandlePast, IsMadeByLines}
-use Rattle.rnxcmp_c.specs.meaning.Handles.{memory_next, texts_made, with_one_more}
+use Rattle.rnxcmp_c.specs.meaning.Handles.{with_one_more}
+use Rattle.rnxcmp_c.specs.Past.{AsksMemory, HandlePast, IsMadeByLines, memory_next, texts_made}
 use Rattle.rnxcmp_c.specs.declared.stop.Stop.{Stop}
 use Rattle.rnxcmp_c.specs.declared.stop.Stop.TheVariants.{Fault, Limit}
 

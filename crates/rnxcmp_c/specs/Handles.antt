@@ -22,13 +22,12 @@ use Rattle.crx_filter.specs.ExpansionByLine.{expansion, expansion_seen}
 use Rattle.crx_runs.specs.declared.outcome.Outcome.{Outcome}
 use Rattle.crx_runs.specs.meaning.Runs.{FaultIs}
 use Rattle.rnxcmp_c.specs.Going.{IsGoing, IsLineEnded}
-use Rattle.rnxcmp_c.specs.meaning.Handles.{HandlePast, HidesFault, IsMadeByLines, IsMisused}
-use Rattle.rnxcmp_c.specs.meaning.Handles.{RunState, StopsForMemory, StopsSoon, Task, Compact, Expand, Check}
-use Rattle.rnxcmp_c.specs.meaning.Handles.{allowed_after, fed_with, filter_for, handle_answer, limit_for}
-use Rattle.rnxcmp_c.specs.meaning.Handles.{memory_next, result_for, texts_made, with_one_more}
-use Rattle.rnxcmp_c.specs.meaning.Answers.{KeepsToLimit, fault_code_in, line_in}
+use Rattle.rnxcmp_c.specs.Past.{HandlePast, HidesFault, IsMadeByLines, IsShortOfMemory, StopsSoon}
+use Rattle.rnxcmp_c.specs.Past.{allowed_after, fed_with, filter_for, limit_for, memory_next, result_for, texts_made}
+use Rattle.rnxcmp_c.specs.meaning.Handles.{Task, Compact, Expand, Check, handle_answer, with_one_more}
+use Rattle.rnxcmp_c.specs.meaning.Answers.{KeepsToLimit, bare_answer, line_in}
 use Rattle.rnxcmp_c.specs.declared.answer.Answer.{Answer}
-use Rattle.rnxcmp_c.specs.declared.answer.TheConstants.{OUTPUT_LIMIT}
+use Rattle.rnxcmp_c.specs.declared.answer.TheConstants.{MISUSED, OUTPUT_LIMIT}
 use Rattle.rnxcmp_c.specs.declared.engines.AnyEngine.{AnyEngine}
 use Rattle.rnxcmp_c.specs.declared.engines.AnyEngine.TheVariants.{Compacting, Expanding, Checking}
 use Rattle.rnxcmp_c.specs.declared.held.Held.{Held}
@@ -113,7 +112,7 @@ pub record ReaderIsOver (limit : ℕ) (result : FilterResult) (reader : Reader) 
 pub record RanOutBy (filter : Filter) (is_line : ℕ → Type 0) (input : List ℕ) (reader : Reader) (line : ℕ)
     (past : HandlePast) : Type 0 where
   pub at : is_line line
-  pub made : StopsForMemory filter input line (texts_made past (texts_of_held reader.held))
+  pub made : IsShortOfMemory filter input line (texts_made past (texts_of_held reader.held))
   pub lacking : IsMemoryLacking (is_some (memory_next filter made.lines made.others)) reader.held
 
 -- memory ran out, which is status 1: at such a line, or for the message of the fault that the result has; the
@@ -266,19 +265,10 @@ abbrev pub fault_now : Option Outcome → Option At
 fault_now None = None
 fault_now (Some outcome) = outcome.fault
 
--- how a run is
-abbrev pub state_now : Option Outcome → RunState
-state_now outcome = record {
-  has_ended = is_some outcome;
-  status = status_now outcome;
-  line = line_in (fault_now outcome);
-  code = fault_code_in (fault_now outcome);
-}
-
 -- how the run is, and how many bytes are kept of the output and of the messages
 abbrev pub answer_now : Reader → Answer
-answer_now reader = handle_answer (status_now reader.outcome) (line_in (fault_now reader.outcome))
-    (fault_code_in (fault_now reader.outcome)) (texts_of_held reader.held)
+answer_now reader =
+    handle_answer (status_now reader.outcome) (fault_now reader.outcome) (texts_of_held reader.held)
 
 -- so many more bytes were fed, a line's after another's, as long as little enough waited to be taken, and no more; or
 -- there were some, and no more may be fed, which ends the run
@@ -299,7 +289,7 @@ pub record FeedsBytes (task : Task) (old new : Reader) (past : HandlePast) (byte
 
 abbrev pub FeedsBy : Task → Reader → Reader → HandlePast → List ℕ → ℕ → Answer → Option Outcome → Type 0
 FeedsBy task old new past bytes used answer None = FeedsBytes task old new past bytes used answer
-FeedsBy task old new past bytes used answer (Some outcome) = IsMisused answer × (used ≡ 0) × (new ≡ old)
+FeedsBy task old new past bytes used answer (Some outcome) = (answer ≡ bare_answer MISUSED 0 0) × (used ≡ 0) × (new ≡ old)
 
 abbrev pub Feeds : Task → Reader → Reader → HandlePast → List ℕ → ℕ → Answer → Type 0
 Feeds task old new past bytes used answer = FeedsBy task old new past bytes used answer old.outcome
@@ -307,7 +297,7 @@ Feeds task old new past bytes used answer = FeedsBy task old new past bytes used
 -- the end of the input was reported
 abbrev pub ReaderEndsBy : Task → Reader → Reader → HandlePast → Answer → Option Outcome → Type 0
 ReaderEndsBy task old new past answer None = ReaderHasEnded task new past × (answer ≡ answer_now new)
-ReaderEndsBy task old new past answer (Some outcome) = IsMisused answer × (new ≡ old)
+ReaderEndsBy task old new past answer (Some outcome) = (answer ≡ bare_answer MISUSED 0 0) × (new ≡ old)
 
 abbrev pub Ends : Task → Reader → Reader → HandlePast → Answer → Type 0
 Ends task old new past answer = ReaderEndsBy task old new past answer old.outcome

@@ -6,5 +6,6 @@ pub mod Handles
 pub mod Holding
 pub mod Holdings
 pub mod Opened
+pub mod Past
 pub mod Places
 pub mod Waiting

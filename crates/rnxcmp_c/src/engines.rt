@@ -8,7 +8,8 @@ ghost use Rattle.rnxcmp_c.specs.Going.{IsAll, IsGoing, IsTaken, RunBreaks, RunFa
 ghost use Rattle.rnxcmp_c.specs.Holding.{ready_in};
 ghost use Rattle.rnxcmp_c.specs.declared.limits.TheConstants.{READY_LIMIT};
 ghost use Rattle.rnxcmp_c.specs.Handles.{IsOf, engine_filter, has_ended_of, is_open_of, ready_of, shows_of, status_at_end};
-ghost use Rattle.rnxcmp_c.specs.meaning.Handles.{Task, HandlePast, StopsSoon, fed_with};
+ghost use Rattle.rnxcmp_c.specs.Past.{HandlePast, StopsSoon, fed_with};
+ghost use Rattle.rnxcmp_c.specs.meaning.Handles.{Task};
 
 use crate::held::Held;
 use crate::lines::{take_bytes, take_last};

@@ -4,19 +4,19 @@
 //! a time. The bytes that were fed in all have a defined result. What was taken in all, and then what is kept, is what the lines make that
 //! were fed, a prefix of the result's texts, while the run goes on; and after its end the whole of them, unless memory or a limit ended it.
 
-ghost use Rattle.std.specs.Prelude.{◌≡◌, ◌⊎◌, ℕ, [], IfSome, drop, length, take, Some, true, false};
+ghost use Rattle.std.specs.Prelude.{◌≡◌, ◌⊎◌, ◌++◌, ℕ, List, [], IfSome, drop, length, take, Some, true, false};
 ghost use Rattle.crx_base.specs.meaning.Choices.{Choices, choices_of, is_date};
 ghost use Rattle.crx_base.specs.declared.fault.Fault.TheVariants.{InputTooLong, OutOfMemory};
 ghost use Rattle.crx_base.specs.meaning.Faults.{code_of_fault};
 ghost use Rattle.crx_base.specs.meaning.Lines.{lines_of};
 ghost use Rattle.rnxcmp_c.specs.Handles.{IsFresh};
-ghost use Rattle.rnxcmp_c.specs.meaning.Handles.{HandlePast, HandlePromise, IsMisused, RunHasEnded, RunWasEnded, TakesBytes, Task, fed_with, limit_for, nothing_fed, taken_with};
+ghost use Rattle.rnxcmp_c.specs.meaning.Handles.{HandlePromise, RunHasEnded, RunWasEnded, StopsAtLimit, StopsForMemory, TakesBytes, Task, joined_texts, run_for};
 ghost use Rattle.rnxcmp_c.specs.Holding.{HoldsNothing};
 ghost use Rattle.rnxcmp_c.specs.Opened.{AnswersHandle, EndedAlike, EndsHandle, FeedsHandle, HandleStands, Holds, IsSoundHandle, IsUnchanged, has_ended, messages_kept, output_kept, run_state, texts_kept};
 ghost use Rattle.rnxcmp_c.specs.declared.reader.Reader.{Reader};
-ghost use Rattle.rnxcmp_c.specs.meaning.Answers.{HasNoMemory, bare_answer, placed};
+ghost use Rattle.rnxcmp_c.specs.meaning.Answers.{BothTexts, HasNoMemory, bare_answer, placed, rooms};
 ghost use Rattle.rnxcmp_c.specs.meaning.Ended.{CheckPromises, ExpansionPromises};
-ghost use Rattle.rnxcmp_c.specs.declared.answer.TheConstants.{OUTPUT_LIMIT};
+ghost use Rattle.rnxcmp_c.specs.declared.answer.TheConstants.{MISUSED, OUTPUT_LIMIT};
 
 use crate::answer::{Answer, BAD_DATE, date_refused, good, misused, out_of_memory};
 use crate::engines::AnyEngine;
@@ -73,8 +73,8 @@ fn put_in(handle: &mut Handle, reader: Box<Reader>)
 
 /// Opens a closed handle for a run of this engine, with what is held beside it.
 fn open(alloc: Global, handle: &mut Handle, engine: AnyEngine, held: Held) -> Answer
-    ensures opened { (task : Task) → IsFresh task engine → HoldsNothing (limit_for task) held
-        → result.status ≡ 0 → HandleStands task handle.new nothing_fed }
+    ensures opened { (task : Task) → IsFresh task engine → HoldsNothing (run_for task).limit held
+        → result.status ≡ 0 → HandleStands task handle.new [] (rooms [] []) }
     ensures running { result.status ≡ 0 → has_ended handle.new ≡ false }
     ensures answer { (result ≡ bare_answer 0 0 0) ⊎ (result ≡ bare_answer 1 0 (code_of_fault OutOfMemory)) }
     ensures unchanged { (result.status ≡ 0 → ⊥) → IsUnchanged handle.old handle.new }
@@ -116,10 +116,10 @@ pub extern "C" fn rnxcmp_c_open_compact(
     max_output: u64,
 ) -> Answer
     ensures opened { result.status ≡ 0
-        → HandleStands (Task.Compact (choices_of (Some every) skip date.now) max_output) handle.new nothing_fed }
+        → HandleStands (Task.Compact (choices_of (Some every) skip date.now) max_output) handle.new [] (rooms [] []) }
     ensures running { result.status ≡ 0 → has_ended handle.new ≡ false }
     ensures unchanged { (result.status ≡ 0 → ⊥) → IsUnchanged handle.old handle.new }
-    ensures misused { handle.old.is_open ≡ true → IsMisused result }
+    ensures misused { handle.old.is_open ≡ true → result ≡ bare_answer MISUSED 0 0 }
     ensures date { handle.old.is_open ≡ false → is_date date.now ≡ false → result ≡ bare_answer BAD_DATE 0 0 }
     ensures answer { handle.old.is_open ≡ false → is_date date.now ≡ true
         → (result ≡ bare_answer 0 0 0) ⊎ (result ≡ bare_answer 1 0 (code_of_fault OutOfMemory)) }
@@ -148,10 +148,10 @@ pub extern "C" fn rnxcmp_c_open_expand(
     max_output: u64,
 ) -> Answer
     ensures opened { result.status ≡ 0 → (choices : Choices) × (choices.skip ≡ skip)
-        × HandleStands (Task.Expand choices max_output) handle.new nothing_fed }
+        × HandleStands (Task.Expand choices max_output) handle.new [] (rooms [] []) }
     ensures running { result.status ≡ 0 → has_ended handle.new ≡ false }
     ensures unchanged { (result.status ≡ 0 → ⊥) → IsUnchanged handle.old handle.new }
-    ensures misused { handle.old.is_open ≡ true → IsMisused result }
+    ensures misused { handle.old.is_open ≡ true → result ≡ bare_answer MISUSED 0 0 }
     ensures answer { handle.old.is_open ≡ false
         → (result ≡ bare_answer 0 0 0) ⊎ (result ≡ bare_answer 1 0 (code_of_fault OutOfMemory)) }
 {
@@ -170,10 +170,10 @@ pub extern "C" fn rnxcmp_c_open_expand(
 /// Opens a closed handle for a check.
 #[unsafe(no_mangle)]
 pub extern "C" fn rnxcmp_c_open_check(alloc: Global, handle: &mut Handle) -> Answer
-    ensures opened { result.status ≡ 0 → HandleStands Task.Check handle.new nothing_fed }
+    ensures opened { result.status ≡ 0 → HandleStands Task.Check handle.new [] (rooms [] []) }
     ensures running { result.status ≡ 0 → has_ended handle.new ≡ false }
     ensures unchanged { (result.status ≡ 0 → ⊥) → IsUnchanged handle.old handle.new }
-    ensures misused { handle.old.is_open ≡ true → IsMisused result }
+    ensures misused { handle.old.is_open ≡ true → result ≡ bare_answer MISUSED 0 0 }
     ensures answer { handle.old.is_open ≡ false
         → (result ≡ bare_answer 0 0 0) ⊎ (result ≡ bare_answer 1 0 (code_of_fault OutOfMemory)) }
 {
@@ -201,25 +201,25 @@ pub extern "C" fn rnxcmp_c_feed(
 ) -> Answer
     requires sound { IsSoundHandle handle.old }
     ensures closed { handle.old.is_open ≡ false
-        → IsMisused result × (used.new ≡ 0) × IsUnchanged handle.old handle.new }
-    ensures feeds { (task : Task) (past : HandlePast) → HandleStands task handle.old past
-        → FeedsHandle task handle.old handle.new past bytes.now used.new result }
-    ensures stands { (task : Task) (past : HandlePast) → HandleStands task handle.old past
-        → HandleStands task handle.new (fed_with past (take used.new bytes.now)) }
-    ensures promise { (task : Task) (past : HandlePast) → HandleStands task handle.old past
+        → (result ≡ bare_answer MISUSED 0 0) × (used.new ≡ 0) × IsUnchanged handle.old handle.new }
+    ensures feeds { (task : Task) (fed : List ℕ) (taken : BothTexts) → HandleStands task handle.old fed taken
+        → FeedsHandle task handle.old handle.new fed taken bytes.now used.new result }
+    ensures stands { (task : Task) (fed : List ℕ) (taken : BothTexts) → HandleStands task handle.old fed taken
+        → HandleStands task handle.new (fed ++ take used.new bytes.now) taken }
+    ensures promise { (task : Task) (fed : List ℕ) (taken : BothTexts) → HandleStands task handle.old fed taken
         → has_ended handle.old ≡ false
-        → HandlePromise (run_state handle.new) task (fed_with past (take used.new bytes.now))
-        (texts_kept handle.new) result }
-    ensures takes { (task : Task) (past : HandlePast) → HandleStands task handle.old past
-        → has_ended handle.old ≡ false → TakesBytes task past bytes.now used.new
+        → HandlePromise (run_state handle.new) (run_for task) (fed ++ take used.new bytes.now)
+        (joined_texts taken (texts_kept handle.new)) (texts_kept handle.new) result }
+    ensures takes { (task : Task) (fed : List ℕ) (taken : BothTexts) → HandleStands task handle.old fed taken
+        → has_ended handle.old ≡ false → TakesBytes (run_for task) fed taken bytes.now used.new
         (texts_kept handle.old) (texts_kept handle.new) (has_ended handle.new) }
-    ensures ended { (task : Task) (past : HandlePast) → HandleStands task handle.old past
+    ensures ended { (task : Task) (fed : List ℕ) (taken : BothTexts) → HandleStands task handle.old fed taken
         → has_ended handle.old ≡ false → has_ended handle.new ≡ true
-        → RunWasEnded task past.fed (fed_with past (take used.new bytes.now)) (drop used.new bytes.now)
-        (texts_kept handle.new) result }
-    ensures misused { (task : Task) (past : HandlePast) → HandleStands task handle.old past
+        → RunWasEnded (run_for task) fed (fed ++ take used.new bytes.now) (drop used.new bytes.now)
+        (joined_texts taken (texts_kept handle.new)) (texts_kept handle.new) result }
+    ensures misused { (task : Task) (fed : List ℕ) (taken : BothTexts) → HandleStands task handle.old fed taken
         → has_ended handle.old ≡ true
-        → IsMisused result × (used.new ≡ 0) × (handle.new.place.held ≡ handle.old.place.held) }
+        → (result ≡ bare_answer MISUSED 0 0) × (used.new ≡ 0) × (handle.new.place.held ≡ handle.old.place.held) }
     ensures sound { IsSoundHandle handle.new }
 {
     *used = 0;
@@ -237,28 +237,30 @@ pub extern "C" fn rnxcmp_c_feed(
 #[unsafe(no_mangle)]
 pub extern "C" fn rnxcmp_c_end(alloc: Global, handle: &mut Handle) -> Answer
     requires sound { IsSoundHandle handle.old }
-    ensures closed { handle.old.is_open ≡ false → IsMisused result × IsUnchanged handle.old handle.new }
-    ensures ends { (task : Task) (past : HandlePast) → HandleStands task handle.old past
-        → EndsHandle task handle.old handle.new past result }
-    ensures stands { (task : Task) (past : HandlePast) → HandleStands task handle.old past
-        → HandleStands task handle.new past }
-    ensures promise { (task : Task) (past : HandlePast) → HandleStands task handle.old past
+    ensures closed { handle.old.is_open ≡ false → (result ≡ bare_answer MISUSED 0 0) × IsUnchanged handle.old handle.new }
+    ensures ends { (task : Task) (fed : List ℕ) (taken : BothTexts) → HandleStands task handle.old fed taken
+        → EndsHandle task handle.old handle.new fed taken result }
+    ensures stands { (task : Task) (fed : List ℕ) (taken : BothTexts) → HandleStands task handle.old fed taken
+        → HandleStands task handle.new fed taken }
+    ensures promise { (task : Task) (fed : List ℕ) (taken : BothTexts) → HandleStands task handle.old fed taken
         → has_ended handle.old ≡ false
-        → HandlePromise (run_state handle.new) task past (texts_kept handle.new) result }
-    ensures ended { (task : Task) (past : HandlePast) → HandleStands task handle.old past
-        → has_ended handle.old ≡ false
-        → (has_ended handle.new ≡ true)
-        × RunHasEnded (λ line. line ≡ length (lines_of past.fed)) task past (texts_kept handle.new) result }
-    ensures misused { (task : Task) (past : HandlePast) → HandleStands task handle.old past
+        → HandlePromise (run_state handle.new) (run_for task) fed (joined_texts taken (texts_kept handle.new))
+        (texts_kept handle.new) result }
+    ensures ended { (task : Task) (fed : List ℕ) (taken : BothTexts) → HandleStands task handle.old fed taken
+        → has_ended handle.old ≡ false → (has_ended handle.new ≡ true)
+        × RunHasEnded (λ ended. (ended ≡ (run_for task).result fed) ⊎ (StopsAtLimit (run_for task) fed ended
+        ⊎ StopsForMemory (λ line. line ≡ length (lines_of fed)) (run_for task) fed ended))
+        (joined_texts taken (texts_kept handle.new)) (texts_kept handle.new) result }
+    ensures misused { (task : Task) (fed : List ℕ) (taken : BothTexts) → HandleStands task handle.old fed taken
         → has_ended handle.old ≡ true
-        → IsMisused result × (handle.new.place.held ≡ handle.old.place.held) }
-    ensures expansion { (choices : Choices) (limit : ℕ) (past : HandlePast)
-        → HandleStands (Task.Expand choices limit) handle.old past → has_ended handle.old ≡ false
+        → (result ≡ bare_answer MISUSED 0 0) × (handle.new.place.held ≡ handle.old.place.held) }
+    ensures expansion { (choices : Choices) (limit : ℕ) (fed : List ℕ) (taken : BothTexts)
+        → HandleStands (Task.Expand choices limit) handle.old fed taken → has_ended handle.old ≡ false
         → (HasNoMemory result → ⊥) → (result.status ≡ OUTPUT_LIMIT → ⊥)
-        → ExpansionPromises choices past (texts_kept handle.new) result }
-    ensures check { (past : HandlePast)
-        → HandleStands Task.Check handle.old past → has_ended handle.old ≡ false
-        → (HasNoMemory result → ⊥) → (result.status ≡ OUTPUT_LIMIT → ⊥) → CheckPromises past result }
+        → ExpansionPromises choices fed (joined_texts taken (texts_kept handle.new)) (texts_kept handle.new) result }
+    ensures check { (fed : List ℕ) (taken : BothTexts)
+        → HandleStands Task.Check handle.old fed taken → has_ended handle.old ≡ false
+        → (HasNoMemory result → ⊥) → (result.status ≡ OUTPUT_LIMIT → ⊥) → CheckPromises fed result }
     ensures sound { IsSoundHandle handle.new }
 {
     if !handle.is_open {
@@ -280,7 +282,7 @@ pub extern "C" fn rnxcmp_c_take(
     messages: &mut [u8],
 ) -> Answer
     requires sound { IsSoundHandle handle.old }
-    ensures closed { handle.old.is_open ≡ false → IsMisused result × IsUnchanged handle.old handle.new
+    ensures closed { handle.old.is_open ≡ false → (result ≡ bare_answer MISUSED 0 0) × IsUnchanged handle.old handle.new
         × (output.new ≡ output.old) × (messages.new ≡ messages.old) }
     ensures output { handle.old.is_open ≡ true
         → output.new ≡ placed (output_kept handle.old.place.held) output.old }
@@ -293,23 +295,25 @@ pub extern "C" fn rnxcmp_c_take(
     ensures answer { handle.old.is_open ≡ true → AnswersHandle handle.new result }
     ensures same { handle.old.is_open ≡ true → (reader : Reader) → Holds handle.old reader
         → EndedAlike reader handle.new }
-    ensures stands { (task : Task) (past : HandlePast) → HandleStands task handle.old past
-        → HandleStands task handle.new (taken_with past (take (length output.old) (output_kept handle.old.place.held))
-        (take (length messages.old) (messages_kept handle.old.place.held))) }
+    ensures stands { (task : Task) (fed : List ℕ) (taken : BothTexts) → HandleStands task handle.old fed taken
+        → HandleStands task handle.new fed (joined_texts taken
+        (rooms (take (length output.old) (output_kept handle.old.place.held))
+        (take (length messages.old) (messages_kept handle.old.place.held)))) }
     ensures still { run_state handle.new ≡ run_state handle.old }
-    ensures promise { (task : Task) (past : HandlePast) → HandleStands task handle.old past
-        → (run_state handle.new ≡ run_state handle.old) × HandlePromise (run_state handle.new) task
-        (taken_with past (take (length output.old) (output_kept handle.old.place.held))
-        (take (length messages.old) (messages_kept handle.old.place.held))) (texts_kept handle.new) result }
-    ensures expansion { (choices : Choices) (limit : ℕ) (past : HandlePast)
-        → HandleStands (Task.Expand choices limit) handle.new past → has_ended handle.new ≡ true
+    ensures promise { (task : Task) (fed : List ℕ) (taken : BothTexts) → HandleStands task handle.old fed taken
+        → (run_state handle.new ≡ run_state handle.old) × HandlePromise (run_state handle.new) (run_for task) fed
+        (joined_texts (joined_texts taken (rooms (take (length output.old) (output_kept handle.old.place.held))
+        (take (length messages.old) (messages_kept handle.old.place.held)))) (texts_kept handle.new))
+        (texts_kept handle.new) result }
+    ensures expansion { (choices : Choices) (limit : ℕ) (fed : List ℕ) (taken : BothTexts)
+        → HandleStands (Task.Expand choices limit) handle.new fed taken → has_ended handle.new ≡ true
         → (HasNoMemory result → ⊥) → (result.status ≡ OUTPUT_LIMIT → ⊥)
         → (result.code ≡ code_of_fault InputTooLong → ⊥)
-        → ExpansionPromises choices past (texts_kept handle.new) result }
-    ensures check { (past : HandlePast)
-        → HandleStands Task.Check handle.new past → has_ended handle.new ≡ true
+        → ExpansionPromises choices fed (joined_texts taken (texts_kept handle.new)) (texts_kept handle.new) result }
+    ensures check { (fed : List ℕ) (taken : BothTexts)
+        → HandleStands Task.Check handle.new fed taken → has_ended handle.new ≡ true
         → (HasNoMemory result → ⊥) → (result.status ≡ OUTPUT_LIMIT → ⊥)
-        → (result.code ≡ code_of_fault InputTooLong → ⊥) → CheckPromises past result }
+        → (result.code ≡ code_of_fault InputTooLong → ⊥) → CheckPromises fed result }
     ensures sound { IsSoundHandle handle.new }
 {
     if !handle.is_open {

@@ -8,7 +8,7 @@ ghost use Rattle.crx_lines.specs.Reading.{HasNoFeed};
 ghost use Rattle.crx_runs.specs.Lawful.{IsLawful};
 ghost use Rattle.crx_runs.specs.meaning.Filters.{with_next};
 ghost use Rattle.rnxcmp_c.specs.Going.{IsAll, IsGoing, IsKept, IsTaken, MovesOn, MovesWithin, RunBreaks, RunFails, StepStops, StopsBy, piece_line};
-ghost use Rattle.rnxcmp_c.specs.meaning.Handles.{HandlePast, StopsSoon, fed_with};
+ghost use Rattle.rnxcmp_c.specs.Past.{HandlePast, StopsSoon, fed_with};
 ghost use Rattle.rnxcmp_c.specs.Holding.{AreCutTo, StaysWithin, StopsCounted, ready_in};
 ghost use Rattle.rnxcmp_c.specs.Waiting.{waiting};
 ghost use Rattle.rnxcmp_c.specs.declared.limits.TheConstants.{LINE_ROOM, READY_LIMIT};

@@ -3,7 +3,8 @@
 ghost use Rattle.std.specs.Prelude.{drop, ◌≡◌, ◌<◌, ◌≤◌, ◌+◌, ◌-◌, false, length, take, true, None, Some};
 ghost use Rattle.crx_base.specs.declared.limits.TheConstants.{INPUT_LIMIT};
 ghost use Rattle.rnxcmp_c.specs.Handles.{Ends, Feeds, HasFed, IsFed, IsPut, EndsRunBy, ReaderHasEnded, ReaderHasPassed, ReaderRuns, ReaderStands, answer_now};
-ghost use Rattle.rnxcmp_c.specs.meaning.Handles.{Task, HandlePast, StopsSoon, fed_with, filter_for, taken_with};
+ghost use Rattle.rnxcmp_c.specs.Past.{HandlePast, StopsSoon, fed_with, filter_for, taken_with};
+ghost use Rattle.rnxcmp_c.specs.meaning.Handles.{Task};
 ghost use Rattle.rnxcmp_c.specs.Waiting.{waiting};
 ghost use Rattle.rnxcmp_c.specs.declared.answer.TheConstants.{OUTPUT_LIMIT};
 ghost use Rattle.rnxcmp_c.specs.meaning.Answers.{placed};

@@ -1,11 +1,11 @@
 -- What a handle promises of the files that the text was made of which it was fed, once its run has ended with
 -- its result.
-use Rattle.std.specs.Prelude.{◌≡◌, true}
+use Rattle.std.specs.Prelude.{◌≡◌, ℕ, List, true}
 use Rattle.crx_filter.specs.meaning.Lossless.{SaysThatItComesBack}
 use Rattle.crx_base.specs.meaning.Choices.{Choices}
 use Rattle.rnxcmp_c.specs.declared.answer.Answer.{Answer}
 use Rattle.rnxcmp_c.specs.meaning.Answers.{BothTexts}
-use Rattle.rnxcmp_c.specs.meaning.Handles.{HandlePast, RunHasResult}
+use Rattle.rnxcmp_c.specs.meaning.Handles.{RunHasResult}
 use Rattle.rnxcmp_c.specs.meaning.Lossless.{CallBringsBackWhatPasses}
 use Rattle.rnxcmp_c.specs.meaning.Promises.{CallBringsBackWhatWasCompacted, CallJudgesStandard}
 use Rattle.rnxcmp_c.specs.meaning.Promises.{CallSavesAllElse}
@@ -13,16 +13,16 @@ use Rattle.rnxcmp_c.specs.meaning.Stretches.{CallKeepsUndamaged, CallWritesWhole
 
 -- an expansion: what passes a check comes back; so does what was compacted; and where faults are skipped, all
 -- but what is damaged is there, or all that is whole before a cut
-pub record ExpansionPromises (choices : Choices) (past : HandlePast) (kept : BothTexts)
-    (answer : Answer) : Type 0 where
-  pub lossless : CallBringsBackWhatPasses (λ whole. RunHasResult whole past kept answer) past.fed
-  pub way_back : CallBringsBackWhatWasCompacted (λ whole. RunHasResult whole past kept answer) past.fed
-  pub salvage : choices.skip ≡ true → CallSavesAllElse (λ whole. RunHasResult whole past kept answer) past.fed
+pub record ExpansionPromises (choices : Choices) (fed : List ℕ) (made kept : BothTexts) (answer : Answer)
+    : Type 0 where
+  pub lossless : CallBringsBackWhatPasses (λ whole. RunHasResult whole made kept answer) fed
+  pub way_back : CallBringsBackWhatWasCompacted (λ whole. RunHasResult whole made kept answer) fed
+  pub salvage : choices.skip ≡ true → CallSavesAllElse (λ whole. RunHasResult whole made kept answer) fed
   pub damage : choices.skip ≡ true → CallKeepsUndamaged
-      (λ whole. RunHasResult whole past kept answer) past.fed
-  pub whole_units : CallWritesWholeUnits (λ whole. RunHasResult whole past kept answer) past.fed
+      (λ whole. RunHasResult whole made kept answer) fed
+  pub whole_units : CallWritesWholeUnits (λ whole. RunHasResult whole made kept answer) fed
 
 -- a check: a file with status 0 comes back, and these are the standard ones
-pub record CheckPromises (past : HandlePast) (answer : Answer) : Type 0 where
-  pub lossless : SaysThatItComesBack answer.status past.fed
-  pub standard : CallJudgesStandard answer.status past.fed
+pub record CheckPromises (fed : List ℕ) (answer : Answer) : Type 0 where
+  pub lossless : SaysThatItComesBack answer.status fed
+  pub standard : CallJudgesStandard answer.status fed

@@ -1,7 +1,7 @@
 use Rattle.std.proofs.Common.{IfErr, OnOk, sym, subst}
 use Rattle.crx_base.specs.meaning.Lines.{lines_of}
 use Rattle.rnxcmp_c.specs.Going.{IsAll, IsGoing, RunFails}
-use Rattle.rnxcmp_c.specs.meaning.Handles.{HandlePast}
+use Rattle.rnxcmp_c.specs.Past.{HandlePast}
 use Rattle.rnxcmp_c.specs.Handles.{engine_filter, shows_of}
 use Rattle.rnxcmp_c.specs.declared.engines.AnyEngine.{AnyEngine}
 use Rattle.crx_filter.specs.CompactorState.{compactor_seen}

@@ -1,19 +1,22 @@
 use Rattle.std.proofs.Common.{◌≡◌, ◌≤◌, inl, inr, ⊎_elim, ℕ, List, length, arith, refl, sym, ap, ◌∙◌, subst}
-use Rattle.crx_base.specs.meaning.Faults.{code_of_fault}
-use Rattle.crx_runs.specs.meaning.Results.{FilterResult}
+use Rattle.crx_base.specs.meaning.Lines.{InputLine}
+use Rattle.crx_runs.specs.meaning.Results.{Begins, Course, FilterResult}
+use Rattle.rnxcmp_c.specs.Past.{filter_for, result_for}
 use Rattle.rnxcmp_c.specs.declared.answer.Answer.{Answer}
 use Rattle.rnxcmp_c.specs.meaning.Answers.{BothTexts, ExceedsLimit, fault_code_in, line_in, placed}
 use Rattle.rnxcmp_c.specs.meaning.Answers.{rooms, status_in}
-use Rattle.rnxcmp_c.specs.meaning.Handles.{HandlePast, Task, handle_answer, limit_for, result_for, texts_made}
+use Rattle.rnxcmp_c.specs.meaning.Handles.{LacksLastMessage, RunHasResult, StopsAtLimit, Task, handle_answer, run_for}
+use Rattle.rnxcmp_c.specs.meaning.Handles.{with_one_more}
 use Rattle.rnxcmp_c.proofs.Kept.{status-where_it_fits}
+use Rattle.rnxcmp_c.proofs.ReaderLemmas.{lawful-for, length-begins, one_more-first, output-for}
 use Rattle.rnxcmp_c.proofs.laws.a_handle_answers_as_a_call.Goals as goal
 
 -- an answer by its parts
-answer-is : (one other : Answer) (kept : BothTexts) → one.status ≡ other.status → one.line ≡ other.line
-    → one.code ≡ other.code → one.output_length ≡ length kept.output
-    → one.messages_length ≡ length kept.messages
-    → one ≡ handle_answer other.status other.line other.code kept
-answer-is one other kept status line code output messages =
+answer-is : (one other : Answer) (made : BothTexts) → one.status ≡ other.status → one.line ≡ other.line
+    → one.code ≡ other.code → one.output_length ≡ length made.output
+    → one.messages_length ≡ length made.messages
+    → one ≡ record other { output_length = length made.output; messages_length = length made.messages }
+answer-is one other made status line code output messages =
     ap (λ (n : ℕ). let a : Answer = record one { status = n } in a) status
     ∙ ap (λ (n : ℕ). let a : Answer = record one { status = other.status; line = n } in a) line
     ∙ ap (λ (n : ℕ). let a : Answer = record one {
@@ -31,16 +34,15 @@ answer-is one other kept status line code output messages =
       status = other.status;
       line = other.line;
       code = other.code;
-      output_length = length kept.output;
+      output_length = length made.output;
       messages_length = n;
     } in a) messages
 
 pub returns-clause-same : goal.returns-clause-same
-returns-clause-same c = λ (task : Task) (past : HandlePast) (kept : BothTexts) (answer call : Answer)
+returns-clause-same c = λ (task : Task) (fed : List ℕ) (made kept : BothTexts) (answer call : Answer)
     (before after : BothTexts) run within answers fits.
-    let result : FilterResult = result_for task past.fed in
-    let made : BothTexts = texts_made past kept in
-    let is = answers.within (λ (more : ExceedsLimit (limit_for task) result.output). absurd (omega (
+    let result : FilterResult = result_for task fed in
+    let is = answers.within (λ (more : ExceedsLimit (run_for task).limit result.output). absurd (omega (
       arith,
       within more.0,
       more.1,
@@ -58,32 +60,65 @@ returns-clause-same c = λ (task : Task) (past : HandlePast) (kept : BothTexts) 
       is.messages ∙ ap (λ (t : List ℕ). placed t before.messages) run.messages,
     )
 
+-- what is made with one line more, or with the end, is first in the output of all
+exceeds : (task : Task) (fed : List ℕ) (result : FilterResult) → StopsAtLimit (run_for task) fed result
+    → ExceedsLimit (run_for task).limit (result_for task fed).output
+exceeds task fed result stops =
+    let filter = filter_for task in
+    let whole : Begins (result_for task fed).output (with_one_more filter stops.lines stops.others).output =
+    subst (λ t. Begins t (with_one_more filter stops.lines stops.others).output)
+    (sym (output-for task fed ∙ ap (λ (ls : List InputLine). (filter.whole ls).output) stops.first))
+    (one_more-first filter (lawful-for task) stops.lines stops.others) in (
+      stops.limited,
+      omega (
+        arith,
+        stops.over,
+        ap (λ (c : Course). length c.output) stops.after_is,
+        length-begins _ _ whole,
+      ),
+    )
+
 pub returns-clause-limit : goal.returns-clause-limit
-returns-clause-limit c = λ (task : Task) (past : HandlePast) (kept : BothTexts) (answer call : Answer)
-    (before after : BothTexts) answered exceeds answers.
-    let over = (answers.over exceeds).0 in (
-      ap (λ (a : Answer). a.status) over ∙ sym (ap (λ (a : Answer). a.status) answered),
-      ap (λ (a : Answer). a.code) over ∙ sym (ap (λ (a : Answer). a.code) answered),
-      ap (λ (a : Answer). a.line) over ∙ sym (ap (λ (a : Answer). a.line) answered),
+returns-clause-limit c = λ (task : Task) (fed : List ℕ) (made kept : BothTexts) (answer call : Answer)
+    (before after : BothTexts) ended answers.
+    let more = exceeds task fed ended.result ended.is in
+    let over = (answers.over more).0 in
+    let result : FilterResult = ended.result in
+    let has : RunHasResult result made kept answer = ⊎_elim (λ has. has)
+    (λ lacks. absurd (let none = sym (ap (λ (r : FilterResult). r.fault) ended.is.result_is) ∙
+    LacksLastMessage.faulty lacks in cc)) ended.ends in
+    let answered : answer ≡ handle_answer ended.result.status ended.result.fault kept = has.answered in (
+      more,
+      ap (λ (a : Answer). a.status) over ∙ sym (ap (λ (a : Answer). a.status) answered
+          ∙ ap (λ (r : FilterResult). r.status) ended.is.result_is),
+      ap (λ (a : Answer). a.code) over ∙ sym (ap (λ (a : Answer). a.code) answered
+          ∙ ap (λ (r : FilterResult). fault_code_in r.fault) ended.is.result_is),
+      ap (λ (a : Answer). a.line) over ∙ sym (ap (λ (a : Answer). a.line) answered
+          ∙ ap (λ (r : FilterResult). line_in r.fault) ended.is.result_is),
     )
 
 pub returns-clause-long : goal.returns-clause-long
-returns-clause-long c = λ (task : Task) (past : HandlePast) (kept : BothTexts) (answer call : Answer)
-    (before after : BothTexts) full long. (
-      ap (λ (a : Answer). a.status) long.0 ∙ sym (ap (λ (a : Answer). a.status) full.answered),
-      ⊎_elim
-          (λ said. inr (ap (λ (a : Answer). a.code) long.0 ∙ ap code_of_fault (sym said.0)
-          ∙ sym (ap (λ (a : Answer). a.code) full.answered)))
-          (λ hidden. inl (ap (λ (a : Answer). a.code) full.answered ∙ ap code_of_fault hidden.0))
-          full.why,
-    )
+returns-clause-long c = λ (task : Task) (fed : List ℕ) (made kept : BothTexts) (answer call : Answer)
+    (before after : BothTexts) ended long.
+    ⊎_elim
+    (λ has. (
+      ap (λ (a : Answer). a.status) long.0 ∙ sym (ap (λ (a : Answer). a.status) (RunHasResult.answered has)
+          ∙ ap (λ (r : FilterResult). r.status) ended.is.result_is),
+      inr (ap (λ (a : Answer). a.code) long.0 ∙ sym (ap (λ (a : Answer). a.code) (RunHasResult.answered has)
+          ∙ ap (λ (r : FilterResult). fault_code_in r.fault) ended.is.result_is)),
+    ))
+    (λ lacks. (
+      ap (λ (a : Answer). a.status) long.0
+          ∙ sym (ap (λ (a : Answer). a.status) (LacksLastMessage.answered lacks)),
+      inl (ap (λ (a : Answer). a.code) (LacksLastMessage.answered lacks)),
+    ))
+    ended.ends
 
 pub returns-clause-instance : goal.returns-clause-instance
 returns-clause-instance c = λ (task : Task) (fed : List ℕ) within.
     let result : FilterResult = result_for task fed in
-    let kept : BothTexts = rooms result.output result.messages in
-    let answer : Answer =
-    handle_answer result.status (line_in result.fault) (fault_code_in result.fault) kept in
+    let made : BothTexts = rooms result.output result.messages in
+    let answer : Answer = handle_answer result.status result.fault made in
     let call : Answer = record {
       line = line_in result.fault;
       output_length = length result.output;
@@ -93,10 +128,10 @@ returns-clause-instance c = λ (task : Task) (fed : List ℕ) within.
     } in
     let after : BothTexts =
     rooms (placed result.output result.output) (placed result.messages result.messages) in (
-      kept,
+      made,
       answer,
       call,
-      kept,
+      made,
       after,
       record { answered = refl; output = refl; messages = refl },
       record {
@@ -109,7 +144,11 @@ returns-clause-instance c = λ (task : Task) (fed : List ℕ) within.
           output = refl;
           messages = refl;
         };
-        over = λ (more : ExceedsLimit (limit_for task) result.output). absurd (omega (arith, within more.0, more.1));
+        over = λ (more : ExceedsLimit (run_for task).limit result.output). absurd (omega (
+          arith,
+          within more.0,
+          more.1,
+        ));
       },
       omega arith,
     )

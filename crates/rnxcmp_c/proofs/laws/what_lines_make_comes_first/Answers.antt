@@ -1,4 +1,4 @@
-use Rattle.std.proofs.Common.{ℕ, List, [], ◌++◌}
+use Rattle.std.proofs.Common.{ℕ, List, ◌++◌}
 use Rattle.crx_base.specs.meaning.Lines.{InputLine, lines_of}
 use Rattle.crx_base.specs.declared.fault.At.{At}
 use Rattle.crx_lines.proofs.ProgressLemmas.{ended_lines-come_first}

@@ -6,7 +6,7 @@ use Rattle.crx_base.specs.meaning.Lines.{InputLine}
 use Rattle.crx_base.specs.meaning.Seen.{ended_lines_of}
 use Rattle.crx_runs.specs.meaning.Filters.{Filter, with_next}
 use Rattle.rnxcmp_c.specs.Going.{MovesWithin, StepStops, piece_line}
-use Rattle.rnxcmp_c.specs.meaning.Handles.{HandlePast}
+use Rattle.rnxcmp_c.specs.Past.{HandlePast}
 use Rattle.rnxcmp_c.proofs.GoingLemmas.{all-ended, all-but_last, ends-well, ends-stopped, last-text}
 use Rattle.rnxcmp_c.proofs.GoingLemmas.{last-flag, last-good}
 use Rattle.rnxcmp_c.proofs.GoingLemmas.{last-left, last-sound, last-stopped}

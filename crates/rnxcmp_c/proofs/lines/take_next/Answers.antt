@@ -3,7 +3,7 @@ use Rattle.std.proofs.lemmas.List.{take_all, take_more}
 use Rattle.crx_base.specs.meaning.Seen.{ended_lines_of}
 use Rattle.crx_lines.specs.Reading.{HasNoFeed}
 use Rattle.rnxcmp_c.specs.Going.{RunBreaks, IsGoing}
-use Rattle.rnxcmp_c.specs.meaning.Handles.{HandlePast, fed_with}
+use Rattle.rnxcmp_c.specs.Past.{HandlePast, fed_with}
 use Rattle.rnxcmp_c.specs.declared.held.Held.{Held}
 use Rattle.rnxcmp_c.proofs.GoingLemmas.{IsSame, breaks, cut-at, goes-on, keeps-going, mid-kept, no_feed-before}
 use Rattle.rnxcmp_c.proofs.lines.take_next.Goals as goal

@@ -1,6 +1,7 @@
 use Rattle.std.proofs.Common.{List, ℕ, length, take, sym, ap, ◌∙◌, ◌++◌}
 use Rattle.std.proofs.lemmas.List.{take-append-drop}
-use Rattle.rnxcmp_c.specs.meaning.Handles.{Task, HandlePast}
+use Rattle.rnxcmp_c.specs.Past.{HandlePast}
+use Rattle.rnxcmp_c.specs.meaning.Handles.{Task}
 use Rattle.rnxcmp_c.specs.Waiting.{waiting}
 use Rattle.rnxcmp_c.proofs.TakenLemmas.{taken-stands}
 use Rattle.rnxcmp_c.proofs.reader.Reader.hand_out.Goals as goal

@@ -1,5 +1,6 @@
 use Rattle.std.proofs.Common.{sym, ◌∙◌}
-use Rattle.rnxcmp_c.specs.meaning.Handles.{Task, HandlePast}
+use Rattle.rnxcmp_c.specs.Past.{HandlePast}
+use Rattle.rnxcmp_c.specs.meaning.Handles.{Task}
 use Rattle.rnxcmp_c.proofs.FedLemmas.{fed-by, misused-by}
 use Rattle.rnxcmp_c.proofs.reader.Reader.take_in.Goals as goal
 
