@@ -94,7 +94,7 @@ CHAPTERS = (
         tuple((f"rnxcmp_c::rnxcmp_c_{call}", clauses) for call, clauses in OF_CALLS)
         + tuple((f"rnxcmp_c::{law}", "*") for law in ("a_handle_answers_as_a_call", "what_lines_make_comes_first")),
         RESULTS + FILTERS + OF_HANDLES,
-        65,
+        57,
     ),
     Chapter(
         "Handles",

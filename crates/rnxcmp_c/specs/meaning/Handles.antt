@@ -85,7 +85,7 @@ pub record LacksLastMessage (result : FilterResult) (made kept : BothTexts) (ans
   pub output : result.output ≡ made.output
   pub messages : result.messages ≡ made.messages ++ error_text (Some at)
 
--- The run has ended with one of these results, or without the message of its fault.
+-- The run has ended with one of these results, or with all of it but the message of its fault.
 pub record RunHasEnded (is_one : FilterResult → Type 0) (made kept : BothTexts) (answer : Answer) : Type 0 where
   pub result : FilterResult
   pub is : is_one result
@@ -113,16 +113,15 @@ pub record StopsAtLimit (run : TaskRun) (input : List ℕ) (result : FilterResul
   pub within : length before.output ≤ run.limit
   pub over : run.limit < length after.output
   pub result_is : result ≡ record {
-      output = before.output;
-      messages = notices_text before.warnings;
-      status = OUTPUT_LIMIT;
-      fault = None;
-    }
+    output = before.output;
+    messages = notices_text before.warnings;
+    status = OUTPUT_LIMIT;
+    fault = None;
+  }
 
--- Memory ran out at such a line, which comes after some of the first lines, or at the end after them: for the line
--- itself, which may take memory once these of its warnings are reported; or, before any of them is, for what it
--- adds to one of both texts. The result is what those first lines make, in which no fault is, these warnings, and
--- the message of this.
+-- Memory ran out at such a line, the next one after some of the first, or at the end after them. The line itself may
+-- take memory once these of its warnings are reported; or, before any of them is, it adds to one of both texts. The
+-- result is what those first lines make, in which no fault is, these warnings, and the message of this.
 pub record StopsForMemory (is_line : ℕ → Type 0) (run : TaskRun) (input : List ℕ) (result : FilterResult)
     : Type 0 where
   pub lines : List InputLine
@@ -143,10 +142,10 @@ pub record StopsForMemory (is_line : ℕ → Type 0) (run : TaskRun) (input : Li
       ⊎ ((notices ≡ []) × ((length before.output < length after.output)
       ⊎ (length (notices_text before.warnings) < length (notices_text after.warnings))))
   pub result_is : result ≡ result_of_course (record {
-      output = before.output;
-      warnings = before.warnings ++ notices;
-      fault = Some (record { line = line; fault = OutOfMemory });
-    })
+    output = before.output;
+    warnings = before.warnings ++ notices;
+    fault = Some (record { line = line; fault = OutOfMemory });
+  })
 
 -- As many bytes were fed as an input may have, and there is one more, at the line after the last line end: the
 -- result is what the lines make whose line end was fed, in which no fault is, and the message of this.
@@ -154,10 +153,10 @@ pub record StopsWhenFull (run : TaskRun) (fed : List ℕ) (result : FilterResult
   pub full : length fed ≡ INPUT_LIMIT
   pub good : (run.filter.so_far (ended_lines_of fed)).fault ≡ None
   pub result_is : result ≡ result_of_course (record {
-      output = (run.filter.so_far (ended_lines_of fed)).output;
-      warnings = (run.filter.so_far (ended_lines_of fed)).warnings;
-      fault = Some (record { line = length (ended_lines_of fed) + 1; fault = InputTooLong });
-    })
+    output = (run.filter.so_far (ended_lines_of fed)).output;
+    warnings = (run.filter.so_far (ended_lines_of fed)).warnings;
+    fault = Some (record { line = length (ended_lines_of fed) + 1; fault = InputTooLong });
+  })
 
 -- ---- what the calls promise
 
@@ -180,11 +179,11 @@ RunWasEnded run before fed left made kept answer =
 pub record HandlePromise (state : Option Outcome) (run : TaskRun) (fed : List ℕ) (made kept : BothTexts)
     (answer : Answer) : Type 0 where
   pub goes_on : state ≡ None → ((run.filter.so_far (ended_lines_of fed)).fault ≡ None) × RunHasResult (record {
-      output = (run.filter.so_far (ended_lines_of fed)).output;
-      messages = notices_text (run.filter.so_far (ended_lines_of fed)).warnings;
-      status = 0;
-      fault = None;
-    }) made kept answer
+    output = (run.filter.so_far (ended_lines_of fed)).output;
+    messages = notices_text (run.filter.so_far (ended_lines_of fed)).warnings;
+    status = 0;
+    fault = None;
+  }) made kept answer
   pub answered : (outcome : Outcome) → state ≡ Some outcome
       → answer ≡ handle_answer outcome.status outcome.fault kept
   pub ended : is_some state ≡ true → RunHasEnded (λ result. (result ≡ run.result fed)
