@@ -1,18 +1,18 @@
 -- The output stays within its limit, or what a line made is let go of.
-use Rattle.std.proofs.Common.{◌≡◌, ℕ, ◌<◌, ◌≤◌, List, [], ◌++◌, length, take, refl, sym, ap}
+use Rattle.std.proofs.Common.{◌≡◌, ℕ, ◌+◌, ◌<◌, ◌≤◌, List, [], ◌++◌, length, take, refl, sym, ap}
 use Rattle.std.proofs.Common.{◌∙◌, subst, arith, length-append, ◌⊎◌, inl, inr, ⊎_elim, append-nil, is_some}
-use Rattle.std.proofs.Common.{Option, Result, Ok, Err, IfErr, IsOk, OnOk}
+use Rattle.std.proofs.Common.{Bool, ◌||◌, Option, Result, Ok, Err, IfErr, IfOk}
 use Rattle.std.proofs.lemmas.List.{take_at}
-use Rattle.std.proofs.lemmas.Result.{IfErr-at_err}
+use Rattle.std.proofs.lemmas.Result.{IfErr-at_err, IfOk-at_ok}
 use Rattle.crx_base.specs.declared.fault.At.{At}
 use Rattle.crx_base.specs.declared.fault.Fault.TheVariants.{OutOfMemory}
 use Rattle.crx_runs.specs.declared.taking.Halt.{Halt}
 use Rattle.crx_runs.specs.declared.taking.Halt.TheVariants.{Fault as Faulty, Unwritten, Unreported}
 use Rattle.crx_runs.specs.meaning.Messages.{notices_text}
 use Rattle.crx_runs.specs.meaning.Results.{Begins, Course}
-use Rattle.rnxcmp_c.specs.Going.{EndsThere, LosesText, MovesOn, MovesWithin, PassesLimit}
+use Rattle.rnxcmp_c.specs.Going.{EndsThere, IsKept, LosesText, MovesOn, MovesWithin, PassesLimit}
 use Rattle.rnxcmp_c.specs.Going.{RanOutAt, StepStops, StopsBy, StopsShort}
-use Rattle.rnxcmp_c.specs.Holding.{AreCutTo, IsCutBack, StaysWithin, StopsCounted}
+use Rattle.rnxcmp_c.specs.Holding.{AreCutTo, IsCounted, IsCutBack, StaysWithin, StopsCounted}
 use Rattle.rnxcmp_c.specs.Waiting.{waiting}
 use Rattle.rnxcmp_c.specs.declared.held.Held.{Held}
 use Rattle.rnxcmp_c.specs.declared.held.Mark.{Mark}
@@ -27,36 +27,39 @@ cut-to : (old mid new more : List ℕ) (mark : ℕ) → mid ≡ old ++ more → 
     → new ≡ old
 cut-to old mid new more mark grew marked cut = cut ∙ ap (take mark) grew ∙ take_at old more mark (sym marked)
 
-module _ (before after : Course) (shown : Type 0) (old mid new : Held)
-    (moved : MovesOn before after shown old mid) where
+module _ (before after : Course) (shown : Type 0) (old mid new : Held) (warned : Bool)
+    (kept : IsKept before after shown old.output mid.output old.messages mid.messages warned) where
   pub more-output : length (waiting old.output) ≤ length (waiting mid.output)
-  more-output = omega (arith, ap length moved.kept.wrote, length-append (waiting old.output) moved.kept.text)
+  more-output = omega (arith, ap length kept.wrote, length-append (waiting old.output) kept.text)
 
   pub more-messages : length (waiting old.messages) ≤ length (waiting mid.messages)
   more-messages = omega (
     arith,
-    ap length moved.kept.reported,
-    length-append (waiting old.messages) (notices_text moved.kept.notices),
+    ap length kept.reported,
+    length-append (waiting old.messages) (notices_text kept.notices),
   )
 
-  pub stays-within : (mark : ℕ) → mark ≡ length (waiting old.output) → mid.limit ≡ old.limit → mid.left ≡ old.left
-      → StaysWithin mark mid new → MovesWithin before after shown old new
-  stays-within mark marked limit left stays = record {
-    moved = subst (λ (h : Held). MovesOn before after shown old h) (sym stays.same) (record {
-      warned = moved.warned;
-      kept = moved.kept;
-      flag = moved.flag;
+  pub stays-within : (mark : Mark) → mark.output ≡ length (waiting old.output) → mid.limit ≡ old.limit
+      → mid.left ≡ old.left → mid.warned ≡ old.warned
+      → new ≡ record mid { left = new.left; warned = mid.warned || warned }
+      → (0 < mid.limit → new.left + length (waiting mid.output) ≡ mid.left + mark.output)
+      → MovesWithin before after shown old new
+  stays-within mark marked limit left flag same counted = record {
+    moved = subst (λ (h : Held). MovesOn before after shown old h) (sym same) (record {
+      warned = warned;
+      kept = kept;
+      flag = ap (λ (b : Bool). b || warned) flag;
     });
-    limit = ap (λ (h : Held). h.limit) stays.same ∙ limit;
+    limit = ap (λ (h : Held). h.limit) same ∙ limit;
     left = λ limited. omega (
       arith,
-      stays.left (subst (λ (n : ℕ). 0 < n) (sym limit) limited),
+      counted (subst (λ (n : ℕ). 0 < n) (sym limit) limited),
       marked,
       left,
-      ap length moved.kept.wrote,
-      length-append (waiting old.output) moved.kept.text,
-      ap length moved.kept.output_is,
-      length-append before.output moved.kept.text,
+      ap length kept.wrote,
+      length-append (waiting old.output) kept.text,
+      ap length kept.output_is,
+      length-append before.output kept.text,
     );
   }
 
@@ -71,13 +74,13 @@ module _ (before after : Course) (shown : Type 0) (old mid new : Held)
       back.over,
       marked,
       left,
-      ap length moved.kept.wrote,
-      length-append (waiting old.output) moved.kept.text,
-      ap length moved.kept.output_is,
-      length-append before.output moved.kept.text,
+      ap length kept.wrote,
+      length-append (waiting old.output) kept.text,
+      ap length kept.output_is,
+      length-append before.output kept.text,
     );
-    output_is = cut-to _ _ _ moved.kept.text mark.output moved.kept.wrote marked back.cut.output_is;
-    messages_are = cut-to _ _ _ (notices_text moved.kept.notices) mark.messages moved.kept.reported told
+    output_is = cut-to _ _ _ kept.text mark.output kept.wrote marked back.cut.output_is;
+    messages_are = cut-to _ _ _ (notices_text kept.notices) mark.messages kept.reported told
         back.cut.messages_are;
   }
 
@@ -220,49 +223,50 @@ module _ (number : ℕ) (memory : Option (List At)) (before after : Course) (old
 -- whatever a step came to, its output was counted after a mark
 module _ (number : ℕ) (memory : Option (List At)) (before after : Course) (shown : Type 0)
     (old mid : Held) where
-  abbrev Ended : {T : Type 0} → Result T Halt → Type 0
+  abbrev Kept : Result Bool Halt → Type 0
+  Kept taken = IfOk taken (λ warned. IsKept before after shown old.output mid.output old.messages mid.messages warned)
+
+  abbrev Ended : Result Bool Halt → Type 0
   Ended taken =
       IfErr taken (λ halt. StopsBy number memory before after old.output mid.output old.messages mid.messages
       halt)
 
-  pub more-output-either : {T : Type 0} (taken : Result T Halt)
-      → OnOk taken (MovesOn before after shown old mid)
-      → Ended taken → length (waiting old.output) ≤ length (waiting mid.output)
-  more-output-either (Ok done) moved stopped = more-output before after shown old mid mid moved
-  more-output-either (Err halt) moved stopped =
+  pub more-output-either : (taken : Result Bool Halt) → Kept taken → Ended taken
+      → length (waiting old.output) ≤ length (waiting mid.output)
+  more-output-either (Ok warned) kept stopped = more-output before after shown old mid mid warned kept
+  more-output-either (Err halt) kept stopped =
       let part = part-of number memory before after old mid halt stopped in
       omega (arith, ap length part.wrote, length-append (waiting old.output) part.text)
 
-  pub more-messages-either : {T : Type 0} (taken : Result T Halt)
-      → OnOk taken (MovesOn before after shown old mid)
-      → Ended taken → length (waiting old.messages) ≤ length (waiting mid.messages)
-  more-messages-either (Ok done) moved stopped = more-messages before after shown old mid mid moved
-  more-messages-either (Err halt) moved stopped =
+  pub more-messages-either : (taken : Result Bool Halt) → Kept taken → Ended taken
+      → length (waiting old.messages) ≤ length (waiting mid.messages)
+  more-messages-either (Ok warned) kept stopped = more-messages before after shown old mid mid warned kept
+  more-messages-either (Err halt) kept stopped =
       let part = part-of number memory before after old mid halt stopped in
       omega (arith, ap length part.reported, length-append (waiting old.messages) part.told)
 
   module _ (new : Held) (mark : Mark) (marked : mark.output ≡ length (waiting old.output))
       (told : mark.messages ≡ length (waiting old.messages)) (limit : mid.limit ≡ old.limit)
       (left : mid.left ≡ old.left) where
-    pub step-stays : {T : Type 0} (taken : Result T Halt) → OnOk taken (MovesOn before after shown old mid)
-        → IsOk taken → StaysWithin mark.output mid new → MovesWithin before after shown old new
-    step-stays (Ok done) moved good stays =
-        stays-within before after shown old mid new moved mark.output marked limit left stays
-    step-stays (Err halt) moved good stays = absurd (cc)
+    pub step-stays : mid.warned ≡ old.warned → (taken : Result Bool Halt) → Kept taken
+        → IsCounted taken mark mid new → MovesWithin before after shown old new
+    step-stays flag taken kept counted =
+        stays-within before after shown old mid new counted.warned
+        (IfOk-at_ok (λ warned. IsKept before after shown old.output mid.output old.messages mid.messages warned)
+        counted.is_taken kept) mark marked limit left flag counted.same counted.left
 
-    pub step-stops : {T : Type 0} (taken : Result T Halt) → OnOk taken (MovesOn before after shown old mid)
-        → Ended taken → (stop : Stop) → StopsCounted taken mark number mid new stop
-        → StepStops number memory before after old new stop
-    step-stops (Ok done) moved stopped (Fault at) (inl stays) = absurd (ok-not-err done (Faulty at) stays.0)
-    step-stops (Ok done) moved stopped (Fault at) (inr lost) =
-        ⊎_elim (λ e. absurd (ok-not-err done Unwritten e)) (λ e. absurd (ok-not-err done Unreported e)) lost.0
-    step-stops (Ok done) moved stopped Limit back =
-        passes-limit before after shown old mid new moved mark marked told limit left back
-    step-stops (Err halt) moved stopped (Fault at) (inl stays) =
+    pub step-stops : (taken : Result Bool Halt) → Kept taken → Ended taken → (stop : Stop)
+        → StopsCounted taken mark number mid new stop → StepStops number memory before after old new stop
+    step-stops (Ok warned) kept stopped (Fault at) (inl stays) = absurd (ok-not-err warned (Faulty at) stays.0)
+    step-stops (Ok warned) kept stopped (Fault at) (inr lost) =
+        ⊎_elim (λ e. absurd (ok-not-err warned Unwritten e)) (λ e. absurd (ok-not-err warned Unreported e)) lost.0
+    step-stops (Ok warned) kept stopped Limit back =
+        passes-limit before after shown old mid new warned kept mark marked told limit left back
+    step-stops (Err halt) kept stopped (Fault at) (inl stays) =
         stops-within number memory before after old mid new mark marked told limit left at
         (IfErr-at_err (λ h. StopsBy number memory before after old.output mid.output old.messages mid.messages h)
         stays.0 stopped) stays.1
-    step-stops (Err halt) moved stopped (Fault at) (inr lost) =
+    step-stops (Err halt) kept stopped (Fault at) (inr lost) =
         stops-lost number memory before after old mid new mark marked told limit left at lost.1
         (⊎_elim
         (λ e. IfErr-at_err (λ h. StopsBy number memory before after old.output mid.output old.messages mid.messages h)
@@ -270,6 +274,6 @@ module _ (number : ℕ) (memory : Option (List At)) (before after : Course) (sho
         (λ e. IfErr-at_err (λ h. StopsBy number memory before after old.output mid.output old.messages mid.messages h)
         e stopped) lost.0)
         lost.2.0 lost.2.1 lost.2.2
-    step-stops (Err halt) moved stopped Limit back =
+    step-stops (Err halt) kept stopped Limit back =
         stops-over number memory before after old mid new mark marked told limit left
         (part-of number memory before after old mid halt stopped) back

@@ -1,5 +1,5 @@
 -- What is held of a run between two calls, and how it is counted.
-use Rattle.std.specs.Prelude.{◌≡◌, ◌≢◌, ◌⊎◌, ◌<◌, ℕ, ◌+◌, Bool, true, false, [], length, take, Result, Err}
+use Rattle.std.specs.Prelude.{◌≡◌, ◌≢◌, ◌⊎◌, ◌<◌, ℕ, ◌+◌, Bool, true, false, ◌||◌, [], length, take, Result, Ok, Err}
 use Rattle.crx_base.specs.declared.fault.Fault.TheVariants.{OutOfMemory}
 use Rattle.crx_runs.specs.declared.taking.Halt.{Halt}
 use Rattle.crx_runs.specs.declared.taking.Halt.TheVariants.{Fault as Faulty, Unwritten, Unreported}
@@ -42,6 +42,13 @@ pub record HoldsNothing (limit : ℕ) (held : Held) : Type 0 where
 pub record StaysWithin (mark : ℕ) (old new : Held) : Type 0 where
   pub same : new ≡ record old { left = new.left }
   pub left : 0 < old.limit → new.left + length (waiting old.output) ≡ old.left + mark
+
+-- a step was taken, whose output since a mark was counted, and so was whether there was a warning
+pub record IsCounted (taken : Result Bool Halt) (mark : Mark) (old new : Held) : Type 0 where
+  pub warned : Bool
+  pub is_taken : taken ≡ Ok warned
+  pub same : new ≡ record old { left = new.left; warned = old.warned || warned }
+  pub left : 0 < old.limit → new.left + length (waiting old.output) ≡ old.left + mark.output
 
 -- what came of both texts since a mark was let go of
 pub record AreCutTo (mark : Mark) (old new : Held) : Type 0 where

@@ -1,15 +1,15 @@
 //! Lines out of the bytes that are fed, through an engine.
 
-ghost use Rattle.std.specs.Prelude.{◌≡◌, ◌⊎◌, ◌≤◌, ◌<◌, ◌+◌, ◌-◌, ℕ, List, [], length, take, drop, None, false, true, IsOk, OnOk, OnErr, IfOk, IfErr};
+ghost use Rattle.std.specs.Prelude.{◌≡◌, ◌⊎◌, ◌≤◌, ◌<◌, ◌+◌, ◌-◌, ℕ, List, [], length, take, drop, None, false, true, OnOk, OnErr, IfOk, IfErr};
 ghost use Rattle.crx_base.specs.declared.fault.Fault.TheVariants.{OutOfMemory};
 ghost use Rattle.crx_base.specs.declared.limits.TheConstants.{INPUT_LIMIT};
 ghost use Rattle.crx_base.specs.meaning.Lines.{InputLine, ends_with_return, lines_of, without_return};
 ghost use Rattle.crx_lines.specs.Reading.{HasNoFeed};
 ghost use Rattle.crx_runs.specs.Lawful.{IsLawful};
 ghost use Rattle.crx_runs.specs.meaning.Filters.{with_next};
-ghost use Rattle.rnxcmp_c.specs.Going.{IsAll, IsGoing, IsKept, IsTaken, MovesOn, MovesWithin, RunBreaks, RunFails, StepStops, StopsBy, piece_line};
+ghost use Rattle.rnxcmp_c.specs.Going.{IsAll, IsGoing, IsKept, IsTaken, MovesWithin, RunBreaks, RunFails, StepStops, StopsBy, piece_line};
 ghost use Rattle.rnxcmp_c.specs.Past.{HandlePast, StopsSoon, fed_with};
-ghost use Rattle.rnxcmp_c.specs.Holding.{AreCutTo, StaysWithin, StopsCounted, ready_in};
+ghost use Rattle.rnxcmp_c.specs.Holding.{AreCutTo, IsCounted, StopsCounted, ready_in};
 ghost use Rattle.rnxcmp_c.specs.Waiting.{waiting};
 ghost use Rattle.rnxcmp_c.specs.declared.limits.TheConstants.{LINE_ROOM, READY_LIMIT};
 
@@ -86,48 +86,6 @@ fn give_line<E: Engine>(
     )
 }
 
-/// Takes what is kept of a line as a line, and lets go of it.
-fn take_piece<E: Engine>(engine: &mut E, held: &mut Held, is_ended: bool) -> Result<(), Halt>
-    requires drained { E.ready engine.old ≡ [] }
-    requires running { E.is_open engine.old }
-    requires next { held.old.number ≡ E.taken engine.old }
-    requires within { held.old.number < INPUT_LIMIT }
-    ensures filter { E.filter engine.new ≡ E.filter engine.old }
-    ensures running { OnOk result (E.is_open engine.new) }
-    ensures drained { OnOk result (E.ready engine.new ≡ []) }
-    ensures number { OnOk result (held.new.number ≡ held.old.number + 1) }
-    ensures tail { OnOk result (held.new.tail.bytes.items ≡ []) }
-    ensures limit { held.new.limit ≡ held.old.limit }
-    ensures left { held.new.left ≡ held.old.left }
-    ensures done { (lines : List InputLine) (whole : List ℕ) → E.shows engine.old lines []
-        → held.old.tail.bytes.items ≡ take LINE_ROOM whole
-        → OnOk result (MovesOn ((E.filter engine.old).so_far lines)
-        ((E.filter engine.old).so_far (with_next lines (piece_line whole is_ended)))
-        (E.shows engine.new (with_next lines (piece_line whole is_ended)) [])
-        held.old held.new) }
-    ensures stops { (lines : List InputLine) (whole : List ℕ) → E.shows engine.old lines []
-        → held.old.tail.bytes.items ≡ take LINE_ROOM whole
-        → IfErr result (λ halt. StopsBy (length lines + 1)
-        ((E.filter engine.old).memory_after lines (piece_line whole is_ended))
-        ((E.filter engine.old).so_far lines)
-        ((E.filter engine.old).so_far (with_next lines (piece_line whole is_ended)))
-        held.old.output held.new.output held.old.messages held.new.messages halt) }
-{
-    let number = held.number + 1;
-    let warned = give_line(
-        engine,
-        &mut held.output,
-        &mut held.messages,
-        held.tail.as_slice(),
-        number,
-        is_ended,
-    )?;
-    held.tail.clear();
-    held.number = number;
-    held.warned = held.warned || warned;
-    Ok(())
-}
-
 /// One of the texts couldn't be kept: memory ran out at the line of this number, and what came of both since a mark is let go of.
 fn out_of_memory(held: &mut Held, mark: Mark, number: u64) -> Stop
     requires output { mark.output ≤ length (waiting held.old.output) }
@@ -142,26 +100,31 @@ fn out_of_memory(held: &mut Held, mark: Mark, number: u64) -> Stop
     })
 }
 
-/// Counts the output since a mark, whatever the step of a line came to: where it is more than there may be, that ends the run.
-fn counted(held: &mut Held, mark: Mark, number: u64, taken: Result<(), Halt>) -> Result<(), Stop>
+/// Counts the output since a mark, whatever the step of a line came to: where it is more than there may be, that ends the run. Keeps in mind
+/// whether there was a warning.
+fn counted(held: &mut Held, mark: Mark, number: u64, taken: Result<bool, Halt>) -> Result<(), Stop>
     requires output { mark.output ≤ length (waiting held.old.output) }
     requires messages { mark.messages ≤ length (waiting held.old.messages) }
     ensures limit { held.new.limit ≡ held.old.limit }
-    ensures good { OnOk result (IsOk taken × StaysWithin mark.output held.old held.new) }
+    ensures good { OnOk result (IsCounted taken mark held.old held.new) }
     ensures stops { IfErr result (StopsCounted taken mark number held.old held.new) }
 {
     if !held.count_since(mark) {
         return Err(Stop::Limit);
     }
     match taken {
-        Ok(()) => Ok(()),
+        Ok(warned) => {
+            held.warned = held.warned || warned;
+            Ok(())
+        }
         Err(Halt::Fault(at)) => Err(Stop::Fault(at)),
         Err(Halt::Unwritten) => Err(out_of_memory(held, mark, number)),
         Err(Halt::Unreported) => Err(out_of_memory(held, mark, number)),
     }
 }
 
-/// Takes what is kept of a line as a line, if the output stays within its limit, also where memory ran out while it was written.
+/// Takes what is kept of a line as a line, and lets go of it, if the output stays within its limit, also where memory ran out while it was
+/// written.
 fn take_within<E: Engine>(engine: &mut E, held: &mut Held, is_ended: bool) -> Result<(), Stop>
     requires drained { E.ready engine.old ≡ [] }
     requires running { E.is_open engine.old }
@@ -189,7 +152,16 @@ fn take_within<E: Engine>(engine: &mut E, held: &mut Held, is_ended: bool) -> Re
 {
     let mark = held.mark();
     let number = held.number + 1;
-    let taken = take_piece(engine, held, is_ended);
+    let taken = give_line(
+        engine,
+        &mut held.output,
+        &mut held.messages,
+        held.tail.as_slice(),
+        number,
+        is_ended,
+    );
+    held.tail.clear();
+    held.number = number;
     counted(held, mark, number, taken)
 }
 
@@ -266,27 +238,6 @@ pub(crate) fn take_bytes<E: Engine>(
     Ok(bytes.len() - left.len())
 }
 
-/// Gives the end of the input to an engine.
-fn end_run<E: Engine>(engine: &mut E, held: &mut Held) -> Result<(), Halt>
-    requires drained { E.ready engine.old ≡ [] }
-    requires running { E.is_open engine.old }
-    requires within { E.taken engine.old ≤ INPUT_LIMIT }
-    ensures filter { E.filter engine.new ≡ E.filter engine.old }
-    ensures limit { held.new.limit ≡ held.old.limit }
-    ensures left { held.new.left ≡ held.old.left }
-    ensures done { (lines : List InputLine) → E.shows engine.old lines []
-        → OnOk result (MovesOn ((E.filter engine.old).so_far lines) ((E.filter engine.old).whole lines)
-        (E.has_ended engine.new lines) held.old held.new) }
-    ensures stops { (lines : List InputLine) → E.shows engine.old lines []
-        → IfErr result (λ halt. StopsBy held.old.number None
-        ((E.filter engine.old).so_far lines) ((E.filter engine.old).whole lines)
-        held.old.output held.new.output held.old.messages held.new.messages halt) }
-{
-    let warned = take_end(engine, &mut held.output, &mut held.messages)?;
-    held.warned = held.warned || warned;
-    Ok(())
-}
-
 /// Gives the end of the input to an engine, if the output stays within its limit.
 fn end_within<E: Engine>(engine: &mut E, held: &mut Held) -> Result<(), Stop>
     requires drained { E.ready engine.old ≡ [] }
@@ -304,7 +255,7 @@ fn end_within<E: Engine>(engine: &mut E, held: &mut Held) -> Result<(), Stop>
 {
     let mark = held.mark();
     let number = held.number;
-    let taken = end_run(engine, held);
+    let taken = take_end(engine, &mut held.output, &mut held.messages);
     counted(held, mark, number, taken)
 }
 
