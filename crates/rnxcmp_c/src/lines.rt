@@ -9,7 +9,7 @@ ghost use Rattle.crx_runs.specs.Lawful.{IsLawful};
 ghost use Rattle.crx_runs.specs.meaning.Filters.{with_next};
 ghost use Rattle.rnxcmp_c.specs.Going.{IsAll, IsGoing, IsKept, IsTaken, MovesWithin, RunBreaks, RunFails, StepStops, StopsBy, piece_line};
 ghost use Rattle.rnxcmp_c.specs.Past.{HandlePast, StopsSoon, fed_with};
-ghost use Rattle.rnxcmp_c.specs.Holding.{AreCutTo, IsCounted, StopsCounted, ready_in};
+ghost use Rattle.rnxcmp_c.specs.Holding.{IsCounted, StopsCounted, ready_in};
 ghost use Rattle.rnxcmp_c.specs.Waiting.{waiting};
 ghost use Rattle.rnxcmp_c.specs.declared.limits.TheConstants.{LINE_ROOM, READY_LIMIT};
 
@@ -86,22 +86,9 @@ fn give_line<E: Engine>(
     )
 }
 
-/// One of the texts couldn't be kept: memory ran out at the line of this number, and what came of both since a mark is let go of.
-fn out_of_memory(held: &mut Held, mark: Mark, number: u64) -> Stop
-    requires output { mark.output ≤ length (waiting held.old.output) }
-    requires messages { mark.messages ≤ length (waiting held.old.messages) }
-    ensures cut { AreCutTo mark held.old held.new }
-    ensures stop { result ≡ Stop.Fault (record { line = number; fault = OutOfMemory }) }
-{
-    held.cut_back(mark);
-    Stop::Fault(At {
-        line: number,
-        fault: Fault::OutOfMemory,
-    })
-}
-
 /// Counts the output since a mark, whatever the step of a line came to: where it is more than there may be, that ends the run. Keeps in mind
-/// whether there was a warning.
+/// whether there was a warning. Where one of the texts couldn't be kept, memory ran out at the line of this number, and what came of both
+/// since the mark is let go of.
 fn counted(held: &mut Held, mark: Mark, number: u64, taken: Result<bool, Halt>) -> Result<(), Stop>
     requires output { mark.output ≤ length (waiting held.old.output) }
     requires messages { mark.messages ≤ length (waiting held.old.messages) }
@@ -118,8 +105,13 @@ fn counted(held: &mut Held, mark: Mark, number: u64, taken: Result<bool, Halt>) 
             Ok(())
         }
         Err(Halt::Fault(at)) => Err(Stop::Fault(at)),
-        Err(Halt::Unwritten) => Err(out_of_memory(held, mark, number)),
-        Err(Halt::Unreported) => Err(out_of_memory(held, mark, number)),
+        Err(Halt::Unwritten | Halt::Unreported) => {
+            held.cut_back(mark);
+            Err(Stop::Fault(At {
+                line: number,
+                fault: Fault::OutOfMemory,
+            }))
+        }
     }
 }
 
