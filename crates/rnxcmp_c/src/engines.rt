@@ -29,7 +29,7 @@ pub enum AnyEngine {
 }
 
 /// Takes some bytes, as long as little enough waits to be taken, and answers how many.
-pub(crate) fn take_any(engine: &mut AnyEngine, held: &mut Held, bytes: &[u8]) -> Result<usize, Stop>
+pub(crate) fn feed_engine(engine: &mut AnyEngine, held: &mut Held, bytes: &[u8]) -> Result<usize, Stop>
     requires drained { ready_of engine.old ≡ [] }
     requires running { is_open_of engine.old }
     requires going { (past : HandlePast) × IsGoing (engine_filter engine.old)
@@ -58,7 +58,7 @@ pub(crate) fn take_any(engine: &mut AnyEngine, held: &mut Held, bytes: &[u8]) ->
 }
 
 /// Takes the end of the input.
-pub(crate) fn end_any(engine: &mut AnyEngine, held: &mut Held) -> Result<(), Stop>
+pub(crate) fn end_engine(engine: &mut AnyEngine, held: &mut Held) -> Result<(), Stop>
     requires drained { ready_of engine.old ≡ [] }
     requires running { is_open_of engine.old }
     requires going { (past : HandlePast) × IsGoing (engine_filter engine.old)

@@ -182,10 +182,8 @@ fn take_next<E: Engine>(engine: &mut E, held: &mut Held, bytes: &[u8]) -> Result
         }
         Some(end) => {
             held.tail.add(&bytes[..end]);
-            match take_within(engine, held, true) {
-                Ok(()) => Ok(end + 1),
-                Err(stop) => Err(stop),
-            }
+            take_within(engine, held, true)?;
+            Ok(end + 1)
         }
     }
 }

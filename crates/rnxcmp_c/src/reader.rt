@@ -10,7 +10,7 @@ ghost use Rattle.rnxcmp_c.specs.declared.answer.TheConstants.{OUTPUT_LIMIT};
 ghost use Rattle.rnxcmp_c.specs.meaning.Answers.{placed};
 
 use crate::answer::{Answer, OUTPUT_LIMIT, code_in, line_in, misused};
-use crate::engines::{AnyEngine, end_any, status_at_end, take_any};
+use crate::engines::{AnyEngine, end_engine, status_at_end, feed_engine};
 use crate::held::Held;
 use crate::stop::Stop;
 use crx_base::limits::INPUT_LIMIT;
@@ -90,7 +90,7 @@ impl Reader {
         ensures fed { (task : Task) (past : HandlePast) → ReaderRuns task self.old past
             → HasFed past.fed task self.new (fed_with past (take result bytes.now)) }
     {
-        match take_any(&mut self.engine, &mut self.held, bytes) {
+        match feed_engine(&mut self.engine, &mut self.held, bytes) {
             Ok(count) => {
                 self.fed += count as u64;
                 count
@@ -108,7 +108,7 @@ impl Reader {
         ensures { (task : Task) (past : HandlePast) → ReaderRuns task self.old past
             → ReaderHasEnded task self.new past }
     {
-        match end_any(&mut self.engine, &mut self.held) {
+        match end_engine(&mut self.engine, &mut self.held) {
             Ok(()) => {
                 self.outcome = Some(Outcome {
                     status: status_at_end(&self.engine, self.held.warned),

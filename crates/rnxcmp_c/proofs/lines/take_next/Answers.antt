@@ -1,5 +1,6 @@
 use Rattle.std.proofs.Common.{◌≡◌, ℕ, ◌+◌, ◌-◌, List, [], ◌∷◌, ◌++◌, length, take, drop, refl, sym, ap, ◌∙◌, subst, arith}
 use Rattle.std.proofs.lemmas.List.{take_all, take_more}
+use Rattle.std.proofs.lemmas.Result.{err_from_is_err_and}
 use Rattle.crx_base.specs.meaning.Seen.{ended_lines_of}
 use Rattle.crx_lines.specs.Reading.{HasNoFeed}
 use Rattle.rnxcmp_c.specs.Going.{RunBreaks, IsGoing}
@@ -31,8 +32,8 @@ returns-in-None-clause-going g c = λ (past : HandlePast) is.
     })
     c.add.ensures none)
 
-pub returns-in-Ok-clause-going : goal.returns-in-Ok-clause-going
-returns-in-Ok-clause-going g c = λ (past : HandlePast) is.
+pub returns-in_ok-take_within-in-Some-clause-going : goal.returns-in_ok-take_within-in-Some-clause-going
+returns-in_ok-take_within-in-Some-clause-going g c = λ (past : HandlePast) is.
     let bytes = c.args.bytes.now in
     let end = c.in-Some.end in
     let filter = g.E.Engine.filter c.args.engine.now in
@@ -58,12 +59,12 @@ returns-in-Ok-clause-going g c = λ (past : HandlePast) is.
     take_more bytes end 0 c.in-Some.ensures.within.1 ∙ ap (λ (b : ℕ). piece ++ b ∷ []) c.in-Some.ensures.found in
     subst (λ (bs : List ℕ). IsGoing filter then new (fed_with past bs)) (sym all)
     (goes-on filter shows c.args.held.now past is mid piece same c.add-in-Some.ensures none then new
-    (c.in-Ok.ensures.done (ended_lines_of past.fed) (is.tail ++ piece) is.shown
+    (c.in_ok-take_within-in-Some.ensures.done (ended_lines_of past.fed) (is.tail ++ piece) is.shown
     (mid-kept filter shows c.args.held.now past is mid piece same c.add-in-Some.ensures none))
-    c.in-Ok.ensures.number c.in-Ok.ensures.tail)
+    c.in_ok-take_within-in-Some.ensures.number c.in_ok-take_within-in-Some.ensures.tail)
 
-pub returns-in-Err-clause-breaks : goal.returns-in-Err-clause-breaks
-returns-in-Err-clause-breaks g c = λ (past : HandlePast) is.
+pub returns-in_err-take_within-in-Some-clause-breaks : goal.returns-in_err-take_within-in-Some-clause-breaks
+returns-in_err-take_within-in-Some-clause-breaks g c = λ (past : HandlePast) is.
     let bytes = c.args.bytes.now in
     let end = c.in-Some.end in
     let filter = g.E.Engine.filter c.args.engine.now in
@@ -84,19 +85,21 @@ returns-in-Err-clause-breaks g c = λ (past : HandlePast) is.
     } in
     let none = no_feed-before bytes end (omega (arith, c.in-Some.ensures.within.1)) (λ k h. c.in-Some.ensures.first k
     (omega arith) h) in
-    subst (λ (bs : List ℕ). RunBreaks past.fed filter new (fed_with past bs) c.in-Err.stop)
+    let p = err_from_is_err_and c.from_residual.result c.from_residual.ensures.1 in
+    rw (p.1, p.2)
+    (subst (λ (bs : List ℕ). RunBreaks past.fed filter new (fed_with past bs) c.in_err-take_within-in-Some.field-0.0)
     (sym (cut-at bytes end c.in-Some.ensures.within.1 c.in-Some.ensures.found))
     (breaks filter shows c.args.held.now past is mid piece same c.add-in-Some.ensures none
-    new (drop (end + 1) bytes) c.in-Err.stop (c.in-Err.ensures.stops (ended_lines_of past.fed) (is.tail ++ piece)
-    is.shown (mid-kept filter shows c.args.held.now past is mid piece same c.add-in-Some.ensures none)))
+    new (drop (end + 1) bytes) c.in_err-take_within-in-Some.field-0.0 (c.in_err-take_within-in-Some.ensures.stops (ended_lines_of past.fed) (is.tail ++ piece)
+    is.shown (mid-kept filter shows c.args.held.now past is mid piece same c.add-in-Some.ensures none))))
 
 pub returns-in-None-clause-piece : goal.returns-in-None-clause-piece
 returns-in-None-clause-piece g c =
     let bytes = c.args.bytes.now in
     no_feed-before bytes (length bytes - 1) (omega arith) (λ k h. c.in-None.ensures.none k (omega arith) (omega (arith, h)))
 
-pub returns-in-Ok-clause-piece : goal.returns-in-Ok-clause-piece
-returns-in-Ok-clause-piece g c =
+pub returns-in_ok-take_within-in-Some-clause-piece : goal.returns-in_ok-take_within-in-Some-clause-piece
+returns-in_ok-take_within-in-Some-clause-piece g c =
     let end : ℕ = c.in-Some.end in
     subst (λ (n : ℕ). HasNoFeed (take n c.args.bytes.now)) (omega arith)
     (no_feed-before c.args.bytes.now end (omega (arith, c.in-Some.ensures.within.1))

@@ -13,13 +13,13 @@ pub returns-in-Err-clause-fed : goal.returns-in-Err-clause-fed
 returns-in-Err-clause-fed c = λ (task : Task) (past : HandlePast) is.
     let bytes : List ℕ = c.args.bytes.now in
     let new : Reader = record c.args.self.now {
-      engine = c.take_any.new.engine;
+      engine = c.feed_engine.new.engine;
       held = c.outcome_of.new.held;
       outcome = Some c.outcome_of.result;
     } in
     subst (λ (fed : List ℕ). HasFed past.fed task new (fed_with past fed)) (sym (take_all
     (length bytes) bytes (omega arith)))
-    (stops-over past.fed task c.args.self.now.engine is.is_of new c.take_any.new.held
+    (stops-over past.fed task c.args.self.now.engine is.is_of new c.feed_engine.new.held
     (c.in-Err.ensures.limit ∙ is.limit)
     c.outcome_of.result (fed_with past bytes) c.in-Err.stop (c.in-Err.ensures.breaks past is.going)
     c.outcome_of.ensures)

@@ -6,7 +6,7 @@ use Rattle.rnxcmp_c.specs.Past.{StopsSoon}
 use Rattle.rnxcmp_c.specs.Handles.{engine_filter, shows_of}
 use Rattle.rnxcmp_c.specs.declared.engines.AnyEngine.{AnyEngine}
 use Rattle.rnxcmp_c.specs.declared.engines.AnyEngine.TheVariants.{Compacting, Expanding}
-use Rattle.rnxcmp_c.proofs.engines.take_any.Goals as goal
+use Rattle.rnxcmp_c.proofs.engines.feed_engine.Goals as goal
 
 pub returns-in-Compacting-clause-going : goal.returns-in-Compacting-clause-going
 returns-in-Compacting-clause-going c = λ (past : HandlePast) is.
