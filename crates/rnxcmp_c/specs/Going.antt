@@ -162,6 +162,32 @@ pub record IsTaken (old new : Held) (length count : ℕ) : Type 0 where
   pub all : count < length → READY_LIMIT ≤ ready_in new
   pub still : READY_LIMIT ≤ ready_in old → (count ≡ 0) × (new ≡ old)
 
+-- ---- one line, by the filter
+
+-- a line that comes after some lines was taken
+abbrev pub LineIsKept : Filter → (List InputLine → List Awaited → Type 0) → List InputLine → InputLine
+    → Pending → Pending → Pending → Pending → Bool → Type 0
+LineIsKept filter shows lines line output then_output messages then_messages = λ warned.
+    IsKept (filter.so_far lines) (filter.so_far (with_next lines line)) (shows (with_next lines line) [])
+    output then_output messages then_messages warned
+
+-- it ended the run
+abbrev pub LineHalts : Filter → List InputLine → InputLine → Pending → Pending → Pending → Pending → Halt → Type 0
+LineHalts filter lines line output then_output messages then_messages = λ halt.
+    StopsBy (length lines + 1) (filter.memory_after lines line) (filter.so_far lines)
+    (filter.so_far (with_next lines line)) output then_output messages then_messages halt
+
+-- it was taken, and the output stays within its limit; or it ended the run
+abbrev pub LineMovesOn : Filter → (List InputLine → List Awaited → Type 0) → List InputLine → InputLine
+    → Held → Held → Type 0
+LineMovesOn filter shows lines line old new =
+    MovesWithin (filter.so_far lines) (filter.so_far (with_next lines line)) (shows (with_next lines line) []) old new
+
+abbrev pub LineStopsRun : Filter → List InputLine → InputLine → Held → Held → Stop → Type 0
+LineStopsRun filter lines line old new = λ stop.
+    StepStops (length lines + 1) (filter.memory_after lines line) (filter.so_far lines)
+    (filter.so_far (with_next lines line)) old new stop
+
 -- a text was written and reported: what was taken of it, and then what is kept
 pub record IsText (course : Course) (held : Held) (past : HandlePast) : Type 0 where
   pub wrote : course.output ≡ past.output ++ waiting held.output

@@ -6,8 +6,7 @@ ghost use Rattle.crx_base.specs.declared.limits.TheConstants.{INPUT_LIMIT};
 ghost use Rattle.crx_base.specs.meaning.Lines.{InputLine, ends_with_return, lines_of, without_return};
 ghost use Rattle.crx_lines.specs.Reading.{HasNoFeed};
 ghost use Rattle.crx_runs.specs.Lawful.{IsLawful};
-ghost use Rattle.crx_runs.specs.meaning.Filters.{with_next};
-ghost use Rattle.rnxcmp_c.specs.Going.{IsAll, IsGoing, IsKept, IsTaken, MovesWithin, RunBreaks, RunFails, StepStops, StopsBy, piece_line};
+ghost use Rattle.rnxcmp_c.specs.Going.{IsAll, IsGoing, IsTaken, LineHalts, LineIsKept, LineMovesOn, LineStopsRun, MovesWithin, RunBreaks, RunFails, StepStops, piece_line};
 ghost use Rattle.rnxcmp_c.specs.Past.{HandlePast, StopsSoon, fed_with};
 ghost use Rattle.rnxcmp_c.specs.Holding.{IsCounted, StopsCounted, ready_in};
 ghost use Rattle.rnxcmp_c.specs.Waiting.{waiting};
@@ -61,17 +60,12 @@ fn give_line<E: Engine>(
     ensures drained { OnOk result (E.ready engine.new ≡ []) }
     ensures done { (lines : List InputLine) (whole : List ℕ) → E.shows engine.old lines []
         → bytes.now ≡ take LINE_ROOM whole
-        → IfOk result (λ warned. IsKept ((E.filter engine.old).so_far lines)
-        ((E.filter engine.old).so_far (with_next lines (piece_line whole is_ended)))
-        (E.shows engine.new (with_next lines (piece_line whole is_ended)) [])
-        output.old output.new messages.old messages.new warned) }
+        → IfOk result (LineIsKept (E.filter engine.old) (E.shows engine.new) lines (piece_line whole is_ended)
+        output.old output.new messages.old messages.new) }
     ensures stops { (lines : List InputLine) (whole : List ℕ) → E.shows engine.old lines []
         → bytes.now ≡ take LINE_ROOM whole
-        → IfErr result (λ halt. StopsBy (length lines + 1)
-        ((E.filter engine.old).memory_after lines (piece_line whole is_ended))
-        ((E.filter engine.old).so_far lines)
-        ((E.filter engine.old).so_far (with_next lines (piece_line whole is_ended)))
-        output.old output.new messages.old messages.new halt) }
+        → IfErr result (LineHalts (E.filter engine.old) lines (piece_line whole is_ended)
+        output.old output.new messages.old messages.new) }
 {
     let content = content_of(bytes);
     if content.len() > LINE_LIMIT {
@@ -131,16 +125,11 @@ fn take_within<E: Engine>(engine: &mut E, held: &mut Held, is_ended: bool) -> Re
     ensures tail { OnOk result (held.new.tail.bytes.items ≡ []) }
     ensures done { (lines : List InputLine) (whole : List ℕ) → E.shows engine.old lines []
         → held.old.tail.bytes.items ≡ take LINE_ROOM whole
-        → OnOk result (MovesWithin ((E.filter engine.old).so_far lines)
-        ((E.filter engine.old).so_far (with_next lines (piece_line whole is_ended)))
-        (E.shows engine.new (with_next lines (piece_line whole is_ended)) [])
+        → OnOk result (LineMovesOn (E.filter engine.old) (E.shows engine.new) lines (piece_line whole is_ended)
         held.old held.new) }
     ensures stops { (lines : List InputLine) (whole : List ℕ) → E.shows engine.old lines []
         → held.old.tail.bytes.items ≡ take LINE_ROOM whole
-        → IfErr result (StepStops (length lines + 1)
-        ((E.filter engine.old).memory_after lines (piece_line whole is_ended))
-        ((E.filter engine.old).so_far lines)
-        ((E.filter engine.old).so_far (with_next lines (piece_line whole is_ended))) held.old held.new) }
+        → IfErr result (LineStopsRun (E.filter engine.old) lines (piece_line whole is_ended) held.old held.new) }
 {
     let mark = held.mark();
     let number = held.number + 1;
