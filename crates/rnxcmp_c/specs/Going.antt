@@ -29,6 +29,10 @@ use Rattle.rnxcmp_c.specs.declared.stop.Stop.TheVariants.{Fault, Limit}
 abbrev pub piece_line : List ℕ → Bool → InputLine
 piece_line bytes is_ended = line_of (record { bytes = bytes; is_ended = is_ended })
 
+-- an engine takes a line, or the end: nothing that it made is left to be written, and its run is open
+abbrev pub IsReady : List (List ℕ) → Type 0 → Type 0
+IsReady ready is_open = (ready ≡ []) × is_open
+
 -- ---- one line, or the end
 
 -- a line was taken, or the end: what it adds was kept

@@ -6,7 +6,7 @@ ghost use Rattle.crx_base.specs.declared.limits.TheConstants.{INPUT_LIMIT};
 ghost use Rattle.crx_base.specs.meaning.Lines.{InputLine, ends_with_return, lines_of, without_return};
 ghost use Rattle.crx_lines.specs.Reading.{HasNoFeed};
 ghost use Rattle.crx_runs.specs.Lawful.{IsLawful};
-ghost use Rattle.rnxcmp_c.specs.Going.{IsAll, IsGoing, IsTaken, LineHalts, LineIsKept, LineMovesOn, LineStopsRun, MovesWithin, RunBreaks, RunFails, StepStops, piece_line};
+ghost use Rattle.rnxcmp_c.specs.Going.{IsAll, IsGoing, IsReady, IsTaken, LineHalts, LineIsKept, LineMovesOn, LineStopsRun, MovesWithin, RunBreaks, RunFails, StepStops, piece_line};
 ghost use Rattle.rnxcmp_c.specs.Past.{HandlePast, StopsSoon, fed_with};
 ghost use Rattle.rnxcmp_c.specs.Holding.{IsCounted, StopsCounted, ready_in};
 ghost use Rattle.rnxcmp_c.specs.Waiting.{waiting};
@@ -51,13 +51,11 @@ fn give_line<E: Engine>(
     number: u64,
     is_ended: bool,
 ) -> Result<bool, Halt>
-    requires drained { E.ready engine.old ≡ [] }
-    requires running { E.is_open engine.old }
+    requires ready { IsReady (E.ready engine.old) (E.is_open engine.old) }
     requires next { number ≡ E.taken engine.old + 1 }
     requires within { number ≤ INPUT_LIMIT }
     ensures filter { E.filter engine.new ≡ E.filter engine.old }
-    ensures running { OnOk result (E.is_open engine.new) }
-    ensures drained { OnOk result (E.ready engine.new ≡ []) }
+    ensures ready { OnOk result (IsReady (E.ready engine.new) (E.is_open engine.new)) }
     ensures done { (lines : List InputLine) (whole : List ℕ) → E.shows engine.old lines []
         → bytes.now ≡ take LINE_ROOM whole
         → IfOk result (LineIsKept (E.filter engine.old) (E.shows engine.new) lines (piece_line whole is_ended)
@@ -112,15 +110,13 @@ fn counted(held: &mut Held, mark: Mark, number: u64, taken: Result<bool, Halt>) 
 /// Takes what is kept of a line as a line, and lets go of it, if the output stays within its limit, also where memory ran out while it was
 /// written.
 fn take_within<E: Engine>(engine: &mut E, held: &mut Held, is_ended: bool) -> Result<(), Stop>
-    requires drained { E.ready engine.old ≡ [] }
-    requires running { E.is_open engine.old }
+    requires ready { IsReady (E.ready engine.old) (E.is_open engine.old) }
     requires next { held.old.number ≡ E.taken engine.old }
     requires shown { (lines : List InputLine) × E.shows engine.old lines [] }
     requires within { held.old.number < INPUT_LIMIT }
     ensures filter { E.filter engine.new ≡ E.filter engine.old }
     ensures limit { held.new.limit ≡ held.old.limit }
-    ensures running { OnOk result (E.is_open engine.new) }
-    ensures drained { OnOk result (E.ready engine.new ≡ []) }
+    ensures ready { OnOk result (IsReady (E.ready engine.new) (E.is_open engine.new)) }
     ensures number { OnOk result (held.new.number ≡ held.old.number + 1) }
     ensures tail { OnOk result (held.new.tail.bytes.items ≡ []) }
     ensures done { (lines : List InputLine) (whole : List ℕ) → E.shows engine.old lines []
@@ -148,13 +144,11 @@ fn take_within<E: Engine>(engine: &mut E, held: &mut Held, is_ended: bool) -> Re
 
 /// Takes the first of some bytes, and answers how many: a line's, with its LF; where no LF is among them, all of them.
 fn take_next<E: Engine>(engine: &mut E, held: &mut Held, bytes: &[u8]) -> Result<usize, Stop>
-    requires drained { E.ready engine.old ≡ [] }
-    requires running { E.is_open engine.old }
+    requires ready { IsReady (E.ready engine.old) (E.is_open engine.old) }
     requires going { (past : HandlePast) × IsGoing (E.filter engine.old) (E.shows engine.old) held.old past
         × (length past.fed + length bytes.now ≤ INPUT_LIMIT) }
     ensures filter { E.filter engine.new ≡ E.filter engine.old }
-    ensures running { OnOk result (E.is_open engine.new) }
-    ensures drained { OnOk result (E.ready engine.new ≡ []) }
+    ensures ready { OnOk result (IsReady (E.ready engine.new) (E.is_open engine.new)) }
     ensures limit { held.new.limit ≡ held.old.limit }
     ensures count { IfOk result (λ n. (n ≤ length bytes.now) × (0 < length bytes.now → 0 < n)) }
     ensures piece { IfOk result (λ n. HasNoFeed (take (n - 1) bytes.now)) }
@@ -191,13 +185,11 @@ pub(crate) fn take_bytes<E: Engine>(
     held: &mut Held,
     bytes: &[u8],
 ) -> Result<usize, Stop>
-    requires drained { E.ready engine.old ≡ [] }
-    requires running { E.is_open engine.old }
+    requires ready { IsReady (E.ready engine.old) (E.is_open engine.old) }
     requires going { (past : HandlePast) × IsGoing (E.filter engine.old) (E.shows engine.old) held.old past
         × (length past.fed + length bytes.now ≤ INPUT_LIMIT) }
     ensures filter { E.filter engine.new ≡ E.filter engine.old }
-    ensures running { OnOk result (E.is_open engine.new) }
-    ensures drained { OnOk result (E.ready engine.new ≡ []) }
+    ensures ready { OnOk result (IsReady (E.ready engine.new) (E.is_open engine.new)) }
     ensures limit { held.new.limit ≡ held.old.limit }
     ensures count { IfOk result (IsTaken held.old held.new (length bytes.now)) }
     ensures soon { (past : HandlePast) → IsGoing (E.filter engine.old) (E.shows engine.old) held.old past
@@ -219,8 +211,7 @@ pub(crate) fn take_bytes<E: Engine>(
 
 /// Gives the end of the input to an engine, if the output stays within its limit.
 fn end_within<E: Engine>(engine: &mut E, held: &mut Held) -> Result<(), Stop>
-    requires drained { E.ready engine.old ≡ [] }
-    requires running { E.is_open engine.old }
+    requires ready { IsReady (E.ready engine.old) (E.is_open engine.old) }
     requires shown { (lines : List InputLine) × E.shows engine.old lines [] }
     requires within { E.taken engine.old ≤ INPUT_LIMIT }
     ensures filter { E.filter engine.new ≡ E.filter engine.old }
@@ -248,8 +239,7 @@ fn is_blank(bytes: &[u8]) -> bool
 
 /// Takes the end of the input, and before it the last line, where no LF ended it.
 pub(crate) fn take_last<E: Engine>(engine: &mut E, held: &mut Held) -> Result<(), Stop>
-    requires drained { E.ready engine.old ≡ [] }
-    requires running { E.is_open engine.old }
+    requires ready { IsReady (E.ready engine.old) (E.is_open engine.old) }
     requires lawful { IsLawful (E.filter engine.old) }
     requires going { (past : HandlePast) × IsGoing (E.filter engine.old) (E.shows engine.old) held.old past
         × (length past.fed ≤ INPUT_LIMIT) }

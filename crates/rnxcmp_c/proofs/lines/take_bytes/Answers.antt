@@ -85,8 +85,8 @@ bytes-preserved g c =
             (omega (arith, more, length-take-le count left c.in_ok-count.ensures.count.0)) low,
       ),
       c.take_next.ensures.filter ∙ i.1,
-      c.in_ok-count.ensures.drained,
-      c.in_ok-count.ensures.running,
+      c.in_ok-count.ensures.ready.0,
+      c.in_ok-count.ensures.ready.1,
       c.take_next.ensures.limit ∙ i.4,
     )
 
