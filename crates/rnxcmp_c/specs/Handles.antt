@@ -21,7 +21,7 @@ use Rattle.crx_filter.specs.ExpanderState.{expander_state}
 use Rattle.crx_filter.specs.ExpansionByLine.{expansion, expansion_seen}
 use Rattle.crx_runs.specs.declared.outcome.Outcome.{Outcome}
 use Rattle.crx_runs.specs.meaning.Runs.{FaultIs}
-use Rattle.rnxcmp_c.specs.Going.{IsGoing, IsLineEnded}
+use Rattle.rnxcmp_c.specs.Going.{IsGoing, IsLineEnded, IsReady}
 use Rattle.rnxcmp_c.specs.Past.{HandlePast, HidesFault, IsMadeByLines, IsShortOfMemory, StopsSoon}
 use Rattle.rnxcmp_c.specs.Past.{allowed_after, fed_with, filter_for, limit_for, memory_next, result_for, texts_made}
 use Rattle.rnxcmp_c.specs.meaning.Handles.{Task, Compact, Expand, Check, handle_answer, with_one_more}
@@ -62,6 +62,14 @@ abbrev pub is_open_of : AnyEngine → Type 0
 is_open_of (Compacting c) = ⊤
 is_open_of (Expanding e) = ⊤
 is_open_of (Checking c) = CheckerIsOpen c
+
+-- it takes a line, or the end
+abbrev pub EngineIsReady : AnyEngine → Type 0
+EngineIsReady engine = IsReady (ready_of engine) (is_open_of engine)
+
+-- its run goes on between two calls
+abbrev pub EngineGoesOn : AnyEngine → Held → HandlePast → Type 0
+EngineGoesOn engine held past = IsGoing (engine_filter engine) (shows_of engine) held past
 
 abbrev pub has_ended_of : AnyEngine → List InputLine → Type 0
 has_ended_of (Compacting c) lines = ⊤

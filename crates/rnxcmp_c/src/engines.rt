@@ -4,10 +4,10 @@ ghost use Rattle.std.specs.Prelude.{◌≡◌, ◌<◌, ◌≤◌, ◌+◌, [], 
 ghost use Rattle.crx_base.specs.declared.limits.TheConstants.{INPUT_LIMIT};
 ghost use Rattle.crx_base.specs.meaning.Lines.{lines_of};
 ghost use Rattle.crx_runs.specs.Lawful.{IsLawful};
-ghost use Rattle.rnxcmp_c.specs.Going.{IsAll, IsGoing, IsTaken, RunBreaks, RunFails};
+ghost use Rattle.rnxcmp_c.specs.Going.{IsAll, IsTaken, RunBreaks, RunFails};
 ghost use Rattle.rnxcmp_c.specs.Holding.{ready_in};
 ghost use Rattle.rnxcmp_c.specs.declared.limits.TheConstants.{READY_LIMIT};
-ghost use Rattle.rnxcmp_c.specs.Handles.{IsOf, engine_filter, has_ended_of, is_open_of, ready_of, shows_of, status_at_end};
+ghost use Rattle.rnxcmp_c.specs.Handles.{EngineGoesOn, EngineIsReady, IsOf, engine_filter, has_ended_of, status_at_end};
 ghost use Rattle.rnxcmp_c.specs.Past.{HandlePast, StopsSoon, fed_with};
 ghost use Rattle.rnxcmp_c.specs.meaning.Handles.{Task};
 
@@ -28,26 +28,21 @@ pub enum AnyEngine {
     Checking(Checker),
 }
 
-/// Takes some bytes, as long as little enough waits to be taken, and answers how many.
+/// Feeds some bytes to the engine of a run, as long as little enough waits to be taken, and answers how many.
 pub(crate) fn feed_engine(engine: &mut AnyEngine, held: &mut Held, bytes: &[u8]) -> Result<usize, Stop>
-    requires drained { ready_of engine.old ≡ [] }
-    requires running { is_open_of engine.old }
-    requires going { (past : HandlePast) × IsGoing (engine_filter engine.old)
-        (shows_of engine.old) held.old past
+    requires ready { EngineIsReady engine.old }
+    requires going { (past : HandlePast) × EngineGoesOn engine.old held.old past
         × (length past.fed + length bytes.now ≤ INPUT_LIMIT) }
     ensures of { (task : Task) → IsOf task engine.old → IsOf task engine.new }
-    ensures running { OnOk result (is_open_of engine.new) }
-    ensures drained { OnOk result (ready_of engine.new ≡ []) }
+    ensures ready { OnOk result (EngineIsReady engine.new) }
     ensures limit { held.new.limit ≡ held.old.limit }
     ensures count { IfOk result (IsTaken held.old held.new (length bytes.now)) }
-    ensures soon { (past : HandlePast) → IsGoing (engine_filter engine.old)
-        (shows_of engine.old) held.old past → IfOk result (λ n. 0 < n → StopsSoon (engine_filter engine.old) past bytes.now n) }
+    ensures soon { (past : HandlePast) → EngineGoesOn engine.old held.old past
+        → IfOk result (λ n. 0 < n → StopsSoon (engine_filter engine.old) past bytes.now n) }
     ensures low { OnErr result (ready_in held.old < READY_LIMIT) }
-    ensures going { (past : HandlePast) → IsGoing (engine_filter engine.old)
-        (shows_of engine.old) held.old past → IfOk result (λ n.
-        IsGoing (engine_filter engine.new) (shows_of engine.new) held.new (fed_with past (take n bytes.now))) }
-    ensures breaks { (past : HandlePast) → IsGoing (engine_filter engine.old)
-        (shows_of engine.old) held.old past
+    ensures going { (past : HandlePast) → EngineGoesOn engine.old held.old past
+        → IfOk result (λ n. EngineGoesOn engine.new held.new (fed_with past (take n bytes.now))) }
+    ensures breaks { (past : HandlePast) → EngineGoesOn engine.old held.old past
         → IfErr result (RunBreaks past.fed (engine_filter engine.old) held.new (fed_with past bytes.now)) }
 {
     match engine {
@@ -57,23 +52,18 @@ pub(crate) fn feed_engine(engine: &mut AnyEngine, held: &mut Held, bytes: &[u8])
     }
 }
 
-/// Takes the end of the input.
+/// Gives the end of the input to the engine of a run.
 pub(crate) fn end_engine(engine: &mut AnyEngine, held: &mut Held) -> Result<(), Stop>
-    requires drained { ready_of engine.old ≡ [] }
-    requires running { is_open_of engine.old }
-    requires going { (past : HandlePast) × IsGoing (engine_filter engine.old)
-        (shows_of engine.old) held.old past
+    requires ready { EngineIsReady engine.old }
+    requires going { (past : HandlePast) × EngineGoesOn engine.old held.old past
         × (length past.fed ≤ INPUT_LIMIT) }
     ensures of { (task : Task) → IsOf task engine.old → IsOf task engine.new }
     ensures limit { held.new.limit ≡ held.old.limit }
-    ensures ended { (past : HandlePast) → IsGoing (engine_filter engine.old)
-        (shows_of engine.old) held.old past
+    ensures ended { (past : HandlePast) → EngineGoesOn engine.old held.old past
         → OnOk result (has_ended_of engine.new (lines_of past.fed)) }
-    ensures done { (past : HandlePast) → IsGoing (engine_filter engine.old)
-        (shows_of engine.old) held.old past
+    ensures done { (past : HandlePast) → EngineGoesOn engine.old held.old past
         → OnOk result (IsAll ((engine_filter engine.old).whole (lines_of past.fed)) held.new past) }
-    ensures fails { (past : HandlePast) → IsGoing (engine_filter engine.old)
-        (shows_of engine.old) held.old past
+    ensures fails { (past : HandlePast) → EngineGoesOn engine.old held.old past
         → IfErr result (RunFails (engine_filter engine.old) held.new past) }
 {
     match engine {
