@@ -224,7 +224,8 @@ module _ (number : ℕ) (memory : Option (List At)) (before after : Course) (old
 module _ (number : ℕ) (memory : Option (List At)) (before after : Course) (shown : Type 0)
     (old mid : Held) where
   abbrev Kept : Result Bool Halt → Type 0
-  Kept taken = IfOk taken (λ warned. IsKept before after shown old.output mid.output old.messages mid.messages warned)
+  Kept taken = IfOk taken
+      (λ warned. IsKept before after shown old.output mid.output old.messages mid.messages warned)
 
   abbrev Ended : Result Bool Halt → Type 0
   Ended taken =
@@ -252,14 +253,17 @@ module _ (number : ℕ) (memory : Option (List At)) (before after : Course) (sho
         → IsCounted taken mark mid new → MovesWithin before after shown old new
     step-stays flag taken kept counted =
         stays-within before after shown old mid new counted.warned
-        (IfOk-at_ok (λ warned. IsKept before after shown old.output mid.output old.messages mid.messages warned)
+        (IfOk-at_ok
+        (λ warned. IsKept before after shown old.output mid.output old.messages mid.messages warned)
         counted.is_taken kept) mark marked limit left flag counted.same counted.left
 
     pub step-stops : (taken : Result Bool Halt) → Kept taken → Ended taken → (stop : Stop)
         → StopsCounted taken mark number mid new stop → StepStops number memory before after old new stop
-    step-stops (Ok warned) kept stopped (Fault at) (inl stays) = absurd (ok-not-err warned (Faulty at) stays.0)
+    step-stops (Ok warned) kept stopped (Fault at) (inl stays) =
+        absurd (ok-not-err warned (Faulty at) stays.0)
     step-stops (Ok warned) kept stopped (Fault at) (inr lost) =
-        ⊎_elim (λ e. absurd (ok-not-err warned Unwritten e)) (λ e. absurd (ok-not-err warned Unreported e)) lost.0
+        ⊎_elim (λ e. absurd (ok-not-err warned Unwritten e))
+        (λ e. absurd (ok-not-err warned Unreported e)) lost.0
     step-stops (Ok warned) kept stopped Limit back =
         passes-limit before after shown old mid new warned kept mark marked told limit left back
     step-stops (Err halt) kept stopped (Fault at) (inl stays) =

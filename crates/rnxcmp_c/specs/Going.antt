@@ -176,7 +176,8 @@ LineIsKept filter shows lines line output then_output messages then_messages = �
     output then_output messages then_messages warned
 
 -- it ended the run
-abbrev pub LineHalts : Filter → List InputLine → InputLine → Pending → Pending → Pending → Pending → Halt → Type 0
+abbrev pub LineHalts : Filter → List InputLine → InputLine → Pending → Pending → Pending → Pending → Halt
+    → Type 0
 LineHalts filter lines line output then_output messages then_messages = λ halt.
     StopsBy (length lines + 1) (filter.memory_after lines line) (filter.so_far lines)
     (filter.so_far (with_next lines line)) output then_output messages then_messages halt
@@ -185,7 +186,8 @@ LineHalts filter lines line output then_output messages then_messages = λ halt.
 abbrev pub LineMovesOn : Filter → (List InputLine → List Awaited → Type 0) → List InputLine → InputLine
     → Held → Held → Type 0
 LineMovesOn filter shows lines line old new =
-    MovesWithin (filter.so_far lines) (filter.so_far (with_next lines line)) (shows (with_next lines line) []) old new
+    MovesWithin (filter.so_far lines) (filter.so_far (with_next lines line))
+    (shows (with_next lines line) []) old new
 
 abbrev pub LineStopsRun : Filter → List InputLine → InputLine → Held → Held → Stop → Type 0
 LineStopsRun filter lines line old new = λ stop.

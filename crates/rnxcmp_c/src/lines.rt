@@ -121,11 +121,12 @@ fn take_within<E: Engine>(engine: &mut E, held: &mut Held, is_ended: bool) -> Re
     ensures tail { OnOk result (held.new.tail.bytes.items ≡ []) }
     ensures done { (lines : List InputLine) (whole : List ℕ) → E.shows engine.old lines []
         → held.old.tail.bytes.items ≡ take LINE_ROOM whole
-        → OnOk result (LineMovesOn (E.filter engine.old) (E.shows engine.new) lines (piece_line whole is_ended)
-        held.old held.new) }
+        → OnOk result (LineMovesOn (E.filter engine.old) (E.shows engine.new) lines
+        (piece_line whole is_ended) held.old held.new) }
     ensures stops { (lines : List InputLine) (whole : List ℕ) → E.shows engine.old lines []
         → held.old.tail.bytes.items ≡ take LINE_ROOM whole
-        → IfErr result (LineStopsRun (E.filter engine.old) lines (piece_line whole is_ended) held.old held.new) }
+        → IfErr result (LineStopsRun (E.filter engine.old) lines
+        (piece_line whole is_ended) held.old held.new) }
 {
     let mark = held.mark();
     let number = held.number + 1;

@@ -16,14 +16,16 @@ counted-requires-clause-output g c =
     let taken = c.take_end-taken in
     let mid : Held = record held { output = taken.new.writer; messages = taken.new.messages } in
     let kept = IfOk-weaker taken.result _ _
-    (λ warned done. kept-of_done _ _ _ _ _ held.output taken.new.writer held.messages taken.new.messages warned
-    (λ t took. took) (λ t took. took) (λ good. ap (λ (t : SinkTally). t.failures) good)
-    (λ good. ap (λ (t : SinkTally). t.failures) good) done) (taken.ensures.done c.requires.shown.0 c.requires.shown.1) in
+    (λ warned done. kept-of_done _ _ _ _ _ held.output taken.new.writer held.messages taken.new.messages
+    warned (λ t took. took) (λ t took. took) (λ good. ap (λ (t : SinkTally). t.failures) good)
+    (λ good. ap (λ (t : SinkTally). t.failures) good) done)
+    (taken.ensures.done c.requires.shown.0 c.requires.shown.1) in
     let stops = IfErr-weaker taken.result _ _
     (λ halt cut. halted-stops (filter.so_far c.requires.shown.0) (filter.whole c.requires.shown.0) held.number _ _ _ held.output
     taken.new.writer held.messages taken.new.messages (λ t took. took) (λ t took. took)
-    (λ failed. ap (λ (t : SinkTally). t.failures) failed) (λ failed. ap (λ (t : SinkTally). t.failures) failed)
-    halt cut) (taken.ensures.cut c.requires.shown.0 c.requires.shown.1) in
+    (λ failed. ap (λ (t : SinkTally). t.failures) failed)
+    (λ failed. ap (λ (t : SinkTally). t.failures) failed) halt cut)
+    (taken.ensures.cut c.requires.shown.0 c.requires.shown.1) in
     subst (λ (n : ℕ). n ≤ length (waiting mid.output)) (sym c.mark-mark.ensures.output)
     (more-output-either _ _ _ _ _ held mid taken.result kept stops)
 
@@ -34,14 +36,16 @@ counted-requires-clause-messages g c =
     let taken = c.take_end-taken in
     let mid : Held = record held { output = taken.new.writer; messages = taken.new.messages } in
     let kept = IfOk-weaker taken.result _ _
-    (λ warned done. kept-of_done _ _ _ _ _ held.output taken.new.writer held.messages taken.new.messages warned
-    (λ t took. took) (λ t took. took) (λ good. ap (λ (t : SinkTally). t.failures) good)
-    (λ good. ap (λ (t : SinkTally). t.failures) good) done) (taken.ensures.done c.requires.shown.0 c.requires.shown.1) in
+    (λ warned done. kept-of_done _ _ _ _ _ held.output taken.new.writer held.messages taken.new.messages
+    warned (λ t took. took) (λ t took. took) (λ good. ap (λ (t : SinkTally). t.failures) good)
+    (λ good. ap (λ (t : SinkTally). t.failures) good) done)
+    (taken.ensures.done c.requires.shown.0 c.requires.shown.1) in
     let stops = IfErr-weaker taken.result _ _
     (λ halt cut. halted-stops (filter.so_far c.requires.shown.0) (filter.whole c.requires.shown.0) held.number _ _ _ held.output
     taken.new.writer held.messages taken.new.messages (λ t took. took) (λ t took. took)
-    (λ failed. ap (λ (t : SinkTally). t.failures) failed) (λ failed. ap (λ (t : SinkTally). t.failures) failed)
-    halt cut) (taken.ensures.cut c.requires.shown.0 c.requires.shown.1) in
+    (λ failed. ap (λ (t : SinkTally). t.failures) failed)
+    (λ failed. ap (λ (t : SinkTally). t.failures) failed) halt cut)
+    (taken.ensures.cut c.requires.shown.0 c.requires.shown.1) in
     subst (λ (n : ℕ). n ≤ length (waiting mid.messages)) (sym c.mark-mark.ensures.messages)
     (more-messages-either _ _ _ _ _ held mid taken.result kept stops)
 
@@ -52,12 +56,14 @@ returns-clause-done g c = λ (lines : List InputLine) shown.
     let taken = c.take_end-taken in
     let mid : Held = record held { output = taken.new.writer; messages = taken.new.messages } in
     let kept = IfOk-weaker taken.result _ _
-    (λ warned done. kept-of_done _ _ _ _ _ held.output taken.new.writer held.messages taken.new.messages warned
-    (λ t took. took) (λ t took. took) (λ good. ap (λ (t : SinkTally). t.failures) good)
-    (λ good. ap (λ (t : SinkTally). t.failures) good) done) (taken.ensures.done lines shown) in
+    (λ warned done. kept-of_done _ _ _ _ _ held.output taken.new.writer held.messages taken.new.messages
+    warned (λ t took. took) (λ t took. took) (λ good. ap (λ (t : SinkTally). t.failures) good)
+    (λ good. ap (λ (t : SinkTally). t.failures) good) done)
+    (taken.ensures.done lines shown) in
     on_ok_weaker c.counted.result
-    (λ counted. step-stays 0 None _ _ _ held mid c.counted.new.held c.mark-mark.result c.mark-mark.ensures.output
-    c.mark-mark.ensures.messages refl refl refl taken.result kept counted) c.counted.ensures.good
+    (λ counted. step-stays 0 None _ _ _ held mid c.counted.new.held c.mark-mark.result
+    c.mark-mark.ensures.output c.mark-mark.ensures.messages refl refl refl taken.result kept counted)
+    c.counted.ensures.good
 
 pub returns-clause-stops : goal.returns-clause-stops
 returns-clause-stops g c = λ (lines : List InputLine) shown.
@@ -66,14 +72,17 @@ returns-clause-stops g c = λ (lines : List InputLine) shown.
     let taken = c.take_end-taken in
     let mid : Held = record held { output = taken.new.writer; messages = taken.new.messages } in
     let kept = IfOk-weaker taken.result _ _
-    (λ warned done. kept-of_done _ _ _ _ _ held.output taken.new.writer held.messages taken.new.messages warned
-    (λ t took. took) (λ t took. took) (λ good. ap (λ (t : SinkTally). t.failures) good)
-    (λ good. ap (λ (t : SinkTally). t.failures) good) done) (taken.ensures.done lines shown) in
+    (λ warned done. kept-of_done _ _ _ _ _ held.output taken.new.writer held.messages taken.new.messages
+    warned (λ t took. took) (λ t took. took) (λ good. ap (λ (t : SinkTally). t.failures) good)
+    (λ good. ap (λ (t : SinkTally). t.failures) good) done)
+    (taken.ensures.done lines shown) in
     let stops = IfErr-weaker taken.result _ _
     (λ halt cut. halted-stops (filter.so_far lines) (filter.whole lines) held.number _ _ _ held.output
     taken.new.writer held.messages taken.new.messages (λ t took. took) (λ t took. took)
-    (λ failed. ap (λ (t : SinkTally). t.failures) failed) (λ failed. ap (λ (t : SinkTally). t.failures) failed)
-    halt cut) (taken.ensures.cut lines shown) in
+    (λ failed. ap (λ (t : SinkTally). t.failures) failed)
+    (λ failed. ap (λ (t : SinkTally). t.failures) failed) halt cut)
+    (taken.ensures.cut lines shown) in
     IfErr-weaker c.counted.result _ _
-    (λ stop s. step-stops _ _ _ _ _ held mid c.counted.new.held c.mark-mark.result c.mark-mark.ensures.output
-    c.mark-mark.ensures.messages refl refl taken.result kept stops stop s) c.counted.ensures.stops
+    (λ stop s. step-stops _ _ _ _ _ held mid c.counted.new.held c.mark-mark.result
+    c.mark-mark.ensures.output c.mark-mark.ensures.messages refl refl taken.result kept stops stop s)
+    c.counted.ensures.stops

@@ -90,7 +90,8 @@ returns-in_err-take_within-in-Some-clause-breaks g c = λ (past : HandlePast) is
     (subst (λ (bs : List ℕ). RunBreaks past.fed filter new (fed_with past bs) c.in_err-take_within-in-Some.field-0.0)
     (sym (cut-at bytes end c.in-Some.ensures.within.1 c.in-Some.ensures.found))
     (breaks filter shows c.args.held.now past is mid piece same c.add-in-Some.ensures none
-    new (drop (end + 1) bytes) c.in_err-take_within-in-Some.field-0.0 (c.in_err-take_within-in-Some.ensures.stops (ended_lines_of past.fed) (is.tail ++ piece)
+    new (drop (end + 1) bytes) c.in_err-take_within-in-Some.field-0.0
+    (c.in_err-take_within-in-Some.ensures.stops (ended_lines_of past.fed) (is.tail ++ piece)
     is.shown (mid-kept filter shows c.args.held.now past is mid piece same c.add-in-Some.ensures none))))
 
 pub returns-in-None-clause-piece : goal.returns-in-None-clause-piece

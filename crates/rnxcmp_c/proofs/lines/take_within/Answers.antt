@@ -62,5 +62,6 @@ returns-clause-stops g c = λ (lines : List InputLine) (whole : List ℕ) shown 
     c.mark-mark.ensures.output c.mark-mark.ensures.messages refl refl taken.result
     (taken.ensures.done lines whole shown (c.as_slice.ensures ∙ kept))
     (taken.ensures.stops lines whole shown (c.as_slice.ensures ∙ kept)) stop s)
-    (subst (λ (n : ℕ). IfErr c.counted.result (StopsCounted taken.result c.mark-mark.result n mid c.counted.new.held))
+    (subst (λ (n : ℕ). IfErr c.counted.result (StopsCounted taken.result c.mark-mark.result n mid
+    c.counted.new.held))
     (ap (λ n. n + 1) number) c.counted.ensures.stops)
