@@ -29,7 +29,11 @@ pub enum AnyEngine {
 }
 
 /// Feeds some bytes to the engine of a run, as long as little enough waits to be taken, and answers how many.
-pub(crate) fn feed_engine(engine: &mut AnyEngine, held: &mut Held, bytes: &[u8]) -> Result<usize, Stop>
+pub(crate) fn feed_engine(
+    engine: &mut AnyEngine,
+    held: &mut Held,
+    bytes: &[u8],
+) -> Result<usize, Stop>
     requires ready { EngineIsReady engine.old }
     requires going { (past : HandlePast) × EngineGoesOn engine.old held.old past
         × (length past.fed + length bytes.now ≤ INPUT_LIMIT) }

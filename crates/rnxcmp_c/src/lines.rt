@@ -143,8 +143,8 @@ fn take_within<E: Engine>(engine: &mut E, held: &mut Held, is_ended: bool) -> Re
     counted(held, mark, number, taken)
 }
 
-/// Takes the first of some bytes, and answers how many: a line's, with its LF; where no LF is among them, all of them.
-fn take_next<E: Engine>(engine: &mut E, held: &mut Held, bytes: &[u8]) -> Result<usize, Stop>
+/// Takes the first of some bytes, up to an LF, with which a line is taken, and answers how many; all, where no LF is among them.
+fn take_to_line_end<E: Engine>(engine: &mut E, held: &mut Held, bytes: &[u8]) -> Result<usize, Stop>
     requires ready { IsReady (E.ready engine.old) (E.is_open engine.old) }
     requires going { (past : HandlePast) × IsGoing (E.filter engine.old) (E.shows engine.old) held.old past
         × (length past.fed + length bytes.now ≤ INPUT_LIMIT) }
@@ -204,7 +204,7 @@ pub(crate) fn take_bytes<E: Engine>(
 {
     let mut left = bytes;
     'bytes: while !left.is_empty() && held.is_low() {
-        let count = take_next(engine, held, left)?;
+        let count = take_to_line_end(engine, held, left)?;
         left = rest_after(left, count);
     }
     Ok(bytes.len() - left.len())

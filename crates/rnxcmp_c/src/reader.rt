@@ -10,7 +10,7 @@ ghost use Rattle.rnxcmp_c.specs.declared.answer.TheConstants.{OUTPUT_LIMIT};
 ghost use Rattle.rnxcmp_c.specs.meaning.Answers.{placed};
 
 use crate::answer::{Answer, OUTPUT_LIMIT, code_in, line_in, misused};
-use crate::engines::{AnyEngine, end_engine, status_at_end, feed_engine};
+use crate::engines::{AnyEngine, end_engine, feed_engine, status_at_end};
 use crate::held::Held;
 use crate::stop::Stop;
 use crx_base::limits::INPUT_LIMIT;

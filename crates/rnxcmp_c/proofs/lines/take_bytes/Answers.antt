@@ -23,8 +23,8 @@ one-less count bytes within =
     (omega (arith, length-take-le count bytes within)))
     ∙ ap (take (count - 1)) (take-append-drop count bytes)
 
-pub take_next-requires-clause-going : goal.take_next-requires-clause-going
-take_next-requires-clause-going g c =
+pub take_to_line_end-requires-clause-going : goal.take_to_line_end-requires-clause-going
+take_to_line_end-requires-clause-going g c =
     let i = c.bytes.invariant in
     let done : List ℕ = i.0.0 in
     let past = c.requires.going.0 in
@@ -50,8 +50,8 @@ bytes-preserved g c =
     let some : List ℕ = take count left in
     let first = g.E.Engine.filter c.args.engine.now in
     let shows = g.E.Engine.shows c.bytes.engine in
-    let then = g.E.Engine.shows c.take_next.new.engine in
-    let held = c.take_next.new.held in
+    let then = g.E.Engine.shows c.take_to_line_end.new.engine in
+    let held = c.take_to_line_end.new.held in
     let more : 0 < count = c.in_ok-count.ensures.count.1 (search rules) in
     let long : length (done ++ some) ≡ length done + count =
     length-append done some ∙ ap (λ (n : ℕ). length done + n)
@@ -84,10 +84,10 @@ bytes-preserved g c =
             c.in_ok-count.ensures.piece)
             (omega (arith, more, length-take-le count left c.in_ok-count.ensures.count.0)) low,
       ),
-      c.take_next.ensures.filter ∙ i.1,
+      c.take_to_line_end.ensures.filter ∙ i.1,
       c.in_ok-count.ensures.ready.0,
       c.in_ok-count.ensures.ready.1,
-      c.take_next.ensures.limit ∙ i.4,
+      c.take_to_line_end.ensures.limit ∙ i.4,
     )
 
 pub returns-in_err-count-clause-breaks : goal.returns-in_err-count-clause-breaks
@@ -97,7 +97,7 @@ returns-in_err-count-clause-breaks g c = λ (past : HandlePast) is.
     let left = c.bytes.left.now in
     let first = g.E.Engine.filter c.args.engine.now in
     let shows = g.E.Engine.shows c.bytes.engine in
-    let held = c.take_next.new.held in
+    let held = c.take_to_line_end.new.held in
     let stop = c.in_err-count.field-0.0 in
     let going = subst (λ (f : Filter). IsGoing f shows c.bytes.held (fed_with past done)) (sym i.1)
     (i.0.2 past is) in

@@ -7,7 +7,7 @@ use Rattle.rnxcmp_c.specs.Going.{RunBreaks, IsGoing}
 use Rattle.rnxcmp_c.specs.Past.{HandlePast, fed_with}
 use Rattle.rnxcmp_c.specs.declared.held.Held.{Held}
 use Rattle.rnxcmp_c.proofs.GoingLemmas.{IsSame, breaks, cut-at, goes-on, keeps-going, mid-kept, no_feed-before}
-use Rattle.rnxcmp_c.proofs.lines.take_next.Goals as goal
+use Rattle.rnxcmp_c.proofs.lines.take_to_line_end.Goals as goal
 
 pub returns-in-None-clause-going : goal.returns-in-None-clause-going
 returns-in-None-clause-going g c = λ (past : HandlePast) is.
