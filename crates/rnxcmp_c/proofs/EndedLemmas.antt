@@ -22,52 +22,52 @@ module _ (fed : List ℕ) (made kept : BothTexts) (answer : Answer) where
   Has whole = RunHasResult whole made kept answer
 
   abbrev Early : (ℕ → Type 0) → Task → FilterResult → Type 0
-  Early is_line task result = StopsAtLimit (run_for task) fed result
-      ⊎ StopsForMemory is_line (run_for task) fed result
+  Early is_line task result = (result ≡ (run_for task).result fed)
+      ⊎ (StopsAtLimit (run_for task) fed result ⊎ StopsForMemory is_line (run_for task) fed result)
 
   abbrev Late : (ℕ → Type 0) → Task → FilterResult → Type 0
-  Late is_line task result = StopsAtLimit (run_for task) fed result
-      ⊎ (StopsForMemory is_line (run_for task) fed result ⊎ StopsWhenFull (run_for task) fed result)
+  Late is_line task result = (result ≡ (run_for task).result fed)
+      ⊎ (StopsAtLimit (run_for task) fed result
+      ⊎ (StopsForMemory is_line (run_for task) fed result ⊎ StopsWhenFull (run_for task) fed result))
 
-  -- a run has its result where neither memory nor a limit ended it
-  has-where : (is_line : ℕ → Type 0) (task : Task) (result : FilterResult) → (HasNoMemory answer → ⊥)
-      → (answer.status ≡ OUTPUT_LIMIT → ⊥) → (answer.code ≡ code_of_fault InputTooLong → ⊥) → Has result
-      → (result ≡ (run_for task).result fed) ⊎ Late is_line task result → Has ((run_for task).result fed)
-  has-where is_line task result memory few long has (inl whole) = subst Has whole has
-  has-where is_line task result memory few long has (inr (inl limit)) =
-      absurd (few (ap (λ (a : Answer). a.status) has.answered ∙ ap (λ (r : FilterResult). r.status) limit.result_is))
-  has-where is_line task result memory few long has (inr (inr (inl short))) = absurd (memory
-      (ap (λ (a : Answer). a.code) has.answered ∙ ap (λ (r : FilterResult). fault_code_in r.fault) short.result_is))
-  has-where is_line task result memory few long has (inr (inr (inr full))) = absurd (long
-      (ap (λ (a : Answer). a.code) has.answered ∙ ap (λ (r : FilterResult). fault_code_in r.fault) full.result_is))
+  module _ (is_line : ℕ → Type 0) (task : Task) (memory : HasNoMemory answer → ⊥) where
+    lacks-none : (result : FilterResult) → LacksLastMessage result made kept answer → ⊥
+    lacks-none result lacks = memory (ap (λ (a : Answer). a.code) lacks.answered)
 
-  pub result-where : (is_line : ℕ → Type 0) (task : Task) → (HasNoMemory answer → ⊥)
-      → (answer.status ≡ OUTPUT_LIMIT → ⊥) → (answer.code ≡ code_of_fault InputTooLong → ⊥)
-      → RunHasEnded (λ result. (result ≡ (run_for task).result fed) ⊎ Late is_line task result) made kept answer
-      → Has ((run_for task).result fed)
-  result-where is_line task memory few long ended = ⊎_elim
-      (λ has. has-where is_line task ended.result memory few long has ended.is)
-      (λ lacks. absurd (memory (ap (λ (a : Answer). a.code) (LacksLastMessage.answered lacks))))
-      ended.ends
+    code-is : (result then : FilterResult) → Has result → result ≡ then → answer.code ≡ fault_code_in then.fault
+    code-is result then has is =
+        ap (λ (a : Answer). a.code) has.answered ∙ ap (λ (r : FilterResult). fault_code_in r.fault) is
 
-  -- the same where no input is too long
-  has-early : (is_line : ℕ → Type 0) (task : Task) (result : FilterResult) → (HasNoMemory answer → ⊥)
-      → (answer.status ≡ OUTPUT_LIMIT → ⊥) → Has result
-      → (result ≡ (run_for task).result fed) ⊎ Early is_line task result → Has ((run_for task).result fed)
-  has-early is_line task result memory few has (inl whole) = subst Has whole has
-  has-early is_line task result memory few has (inr (inl limit)) =
-      absurd (few (ap (λ (a : Answer). a.status) has.answered ∙ ap (λ (r : FilterResult). r.status) limit.result_is))
-  has-early is_line task result memory few has (inr (inr short)) = absurd (memory
-      (ap (λ (a : Answer). a.code) has.answered ∙ ap (λ (r : FilterResult). fault_code_in r.fault) short.result_is))
+    has-where : (answer.status ≡ OUTPUT_LIMIT → ⊥) → (result : FilterResult) → Has result
+        → Early is_line task result → Has ((run_for task).result fed)
+    has-where few result has (inl whole) = subst Has whole has
+    has-where few result has (inr (inl limit)) = absurd (few
+        (ap (λ (a : Answer). a.status) has.answered ∙ ap (λ (r : FilterResult). r.status) limit.result_is))
+    has-where few result has (inr (inr short)) = absurd (memory (code-is result _ has short.result_is))
 
-  pub result-early : (is_line : ℕ → Type 0) (task : Task) → (HasNoMemory answer → ⊥)
-      → (answer.status ≡ OUTPUT_LIMIT → ⊥)
-      → RunHasEnded (λ result. (result ≡ (run_for task).result fed) ⊎ Early is_line task result) made kept answer
-      → Has ((run_for task).result fed)
-  result-early is_line task memory few ended = ⊎_elim
-      (λ has. has-early is_line task ended.result memory few has ended.is)
-      (λ lacks. absurd (memory (ap (λ (a : Answer). a.code) (LacksLastMessage.answered lacks))))
-      ended.ends
+    -- a run has its result where neither memory nor a limit ended it
+    pub result-where : (answer.status ≡ OUTPUT_LIMIT → ⊥) → RunHasEnded (Early is_line task) made kept answer
+        → Has ((run_for task).result fed)
+    result-where few ended = ⊎_elim (λ has. has-where few ended.result has ended.is)
+        (λ lacks. absurd (lacks-none ended.result lacks)) ended.ends
+
+    not-full : (result : FilterResult) → Has result → (answer.code ≡ code_of_fault InputTooLong → ⊥)
+        → Late is_line task result → Early is_line task result
+    not-full result has long (inl whole) = inl whole
+    not-full result has long (inr (inl limit)) = inr (inl limit)
+    not-full result has long (inr (inr (inl short))) = inr (inr short)
+    not-full result has long (inr (inr (inr full))) = absurd (long (code-is result _ has full.result_is))
+
+    -- and where its input wasn't too long
+    pub ended-where : (answer.code ≡ code_of_fault InputTooLong → ⊥)
+        → RunHasEnded (Late is_line task) made kept answer → RunHasEnded (Early is_line task) made kept answer
+    ended-where long ended = ⊎_elim
+        (λ has. record {
+          result = ended.result;
+          is = not-full ended.result has long ended.is;
+          ends = inl has;
+        })
+        (λ lacks. absurd (lacks-none ended.result lacks)) ended.ends
 
   pub run-expansion : (choices : Choices) → Has (expanded fed choices) → ExpansionPromises choices fed made kept answer
   run-expansion choices whole = record {

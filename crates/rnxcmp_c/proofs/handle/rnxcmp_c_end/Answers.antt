@@ -7,7 +7,7 @@ use Rattle.rnxcmp_c.specs.meaning.Handles.{Task, Expand, Check}
 use Rattle.rnxcmp_c.specs.Handles.{IsLastLine}
 use Rattle.rnxcmp_c.specs.declared.reader.Reader.{Reader}
 use Rattle.rnxcmp_c.specs.Opened.{have_ended}
-use Rattle.rnxcmp_c.proofs.EndedLemmas.{result-early, run-check, run-expansion}
+use Rattle.rnxcmp_c.proofs.EndedLemmas.{result-where, run-check, run-expansion}
 use Rattle.rnxcmp_c.proofs.HandleLemmas.{ends-answer, ends-misused, ends-stands, one-held}
 use Rattle.rnxcmp_c.proofs.PromiseLemmas.{handle-ended, handle-promise}
 use Rattle.rnxcmp_c.proofs.handle.rnxcmp_c_end.Goals as goal
@@ -111,11 +111,11 @@ pub returns-clause-expansion : goal.returns-clause-expansion
 returns-clause-expansion c = λ (choices : Choices) (limit : ℕ) (fed : List ℕ) (taken : BothTexts)
     stands runs memory few.
     run-expansion fed _ _ c.take_end-answer.result choices
-    (result-early fed _ _ c.take_end-answer.result (IsLastLine fed) (Expand choices limit) memory few
+    (result-where fed _ _ c.take_end-answer.result (IsLastLine fed) (Expand choices limit) memory few
     (returns-clause-ended c (Expand choices limit) fed taken stands runs).1)
 
 pub returns-clause-check : goal.returns-clause-check
 returns-clause-check c = λ (fed : List ℕ) (taken : BothTexts) stands runs memory few.
     run-check fed _ _ c.take_end-answer.result
-    (result-early fed _ _ c.take_end-answer.result (IsLastLine fed) Check memory few
+    (result-where fed _ _ c.take_end-answer.result (IsLastLine fed) Check memory few
     (returns-clause-ended c Check fed taken stands runs).1)

@@ -6,7 +6,7 @@ use Rattle.rnxcmp_c.specs.meaning.Answers.{BothTexts, placed, rooms}
 use Rattle.rnxcmp_c.specs.meaning.Handles.{Task, Expand, Check, joined_texts}
 use Rattle.rnxcmp_c.specs.Opened.{messages_kept, output_kept, run_in}
 use Rattle.rnxcmp_c.specs.declared.reader.Reader.{Reader}
-use Rattle.rnxcmp_c.proofs.EndedLemmas.{result-where, run-check, run-expansion}
+use Rattle.rnxcmp_c.proofs.EndedLemmas.{ended-where, result-where, run-check, run-expansion}
 use Rattle.rnxcmp_c.proofs.HandleLemmas.{one-held}
 use Rattle.rnxcmp_c.proofs.PromiseLemmas.{handle-promise}
 use Rattle.rnxcmp_c.proofs.handle.rnxcmp_c_take.Goals as goal
@@ -124,8 +124,9 @@ returns-clause-expansion c = λ (choices : Choices) (limit : ℕ) (fed : List �
     let promise = handle-promise (Expand choices limit) _ c.hand_out-answer.new.self fed taken c.hand_out-answer.result
     c.put_in.ensures.reader c.hand_out-answer.ensures.answer after in
     run-expansion fed _ _ c.hand_out-answer.result choices
-    (result-where fed _ _ c.hand_out-answer.result (IsLineReached fed) (Expand choices limit) memory few long
-    (promise.ended ended))
+    (result-where fed _ _ c.hand_out-answer.result (IsLineReached fed) (Expand choices limit) memory few
+    (ended-where fed _ _ c.hand_out-answer.result (IsLineReached fed) (Expand choices limit) memory long
+    (promise.ended ended)))
 
 pub returns-clause-check : goal.returns-clause-check
 returns-clause-check c = λ (fed : List ℕ) (taken : BothTexts) stands ended memory few long.
@@ -134,4 +135,5 @@ returns-clause-check c = λ (fed : List ℕ) (taken : BothTexts) stands ended me
     let promise = handle-promise Check _ c.hand_out-answer.new.self fed taken c.hand_out-answer.result
     c.put_in.ensures.reader c.hand_out-answer.ensures.answer after in
     run-check fed _ _ c.hand_out-answer.result
-    (result-where fed _ _ c.hand_out-answer.result (IsLineReached fed) Check memory few long (promise.ended ended))
+    (result-where fed _ _ c.hand_out-answer.result (IsLineReached fed) Check memory few
+    (ended-where fed _ _ c.hand_out-answer.result (IsLineReached fed) Check memory long (promise.ended ended)))
