@@ -116,7 +116,8 @@ pub extern "C" fn rnxcmp_c_open_compact(
     max_output: u64,
 ) -> Answer
     ensures opened { result.status ≡ 0
-        → HandleStands (Task.Compact (choices_of (Some every) skip date.now) max_output) handle.new [] (rooms [] []) }
+        → HandleStands (Task.Compact (choices_of (Some every) skip date.now) max_output) handle.new []
+        (rooms [] []) }
     ensures running { result.status ≡ 0 → has_ended handle.new ≡ false }
     ensures unchanged { (result.status ≡ 0 → ⊥) → IsUnchanged handle.old handle.new }
     ensures misused { handle.old.is_open ≡ true → result ≡ bare_answer MISUSED 0 0 }
@@ -206,20 +207,22 @@ pub extern "C" fn rnxcmp_c_feed(
         → FeedsHandle task handle.old handle.new fed taken bytes.now used.new result }
     ensures stands { (task : Task) (fed : List ℕ) (taken : BothTexts) → HandleStands task handle.old fed taken
         → HandleStands task handle.new (fed ++ take used.new bytes.now) taken }
-    ensures promise { (task : Task) (fed : List ℕ) (taken : BothTexts) → HandleStands task handle.old fed taken
-        → has_ended handle.old ≡ false
+    ensures promise { (task : Task) (fed : List ℕ) (taken : BothTexts)
+        → HandleStands task handle.old fed taken → has_ended handle.old ≡ false
         → HandlePromise (run_state handle.new) (run_for task) (fed ++ take used.new bytes.now)
         (joined_texts taken (texts_kept handle.new)) (texts_kept handle.new) result }
-    ensures takes { (task : Task) (fed : List ℕ) (taken : BothTexts) → HandleStands task handle.old fed taken
-        → has_ended handle.old ≡ false → TakesBytes (run_for task) fed taken bytes.now used.new
+    ensures takes { (task : Task) (fed : List ℕ) (taken : BothTexts)
+        → HandleStands task handle.old fed taken → has_ended handle.old ≡ false
+        → TakesBytes (run_for task) fed taken bytes.now used.new
         (texts_kept handle.old) (texts_kept handle.new) (has_ended handle.new) }
-    ensures ended { (task : Task) (fed : List ℕ) (taken : BothTexts) → HandleStands task handle.old fed taken
-        → has_ended handle.old ≡ false → has_ended handle.new ≡ true
+    ensures ended { (task : Task) (fed : List ℕ) (taken : BothTexts)
+        → HandleStands task handle.old fed taken → has_ended handle.old ≡ false → has_ended handle.new ≡ true
         → RunWasEnded (run_for task) fed (fed ++ take used.new bytes.now) (drop used.new bytes.now)
         (joined_texts taken (texts_kept handle.new)) (texts_kept handle.new) result }
-    ensures misused { (task : Task) (fed : List ℕ) (taken : BothTexts) → HandleStands task handle.old fed taken
-        → has_ended handle.old ≡ true
-        → (result ≡ bare_answer MISUSED 0 0) × (used.new ≡ 0) × (handle.new.place.held ≡ handle.old.place.held) }
+    ensures misused { (task : Task) (fed : List ℕ) (taken : BothTexts)
+        → HandleStands task handle.old fed taken → has_ended handle.old ≡ true
+        → (result ≡ bare_answer MISUSED 0 0) × (used.new ≡ 0)
+        × (handle.new.place.held ≡ handle.old.place.held) }
     ensures sound { IsSoundHandle handle.new }
 {
     *used = 0;
@@ -237,27 +240,30 @@ pub extern "C" fn rnxcmp_c_feed(
 #[unsafe(no_mangle)]
 pub extern "C" fn rnxcmp_c_end(alloc: Global, handle: &mut Handle) -> Answer
     requires sound { IsSoundHandle handle.old }
-    ensures closed { handle.old.is_open ≡ false → (result ≡ bare_answer MISUSED 0 0) × IsUnchanged handle.old handle.new }
+    ensures closed { handle.old.is_open ≡ false
+        → (result ≡ bare_answer MISUSED 0 0) × IsUnchanged handle.old handle.new }
     ensures ends { (task : Task) (fed : List ℕ) (taken : BothTexts) → HandleStands task handle.old fed taken
         → EndsHandle task handle.old handle.new fed taken result }
     ensures stands { (task : Task) (fed : List ℕ) (taken : BothTexts) → HandleStands task handle.old fed taken
         → HandleStands task handle.new fed taken }
-    ensures promise { (task : Task) (fed : List ℕ) (taken : BothTexts) → HandleStands task handle.old fed taken
-        → has_ended handle.old ≡ false
+    ensures promise { (task : Task) (fed : List ℕ) (taken : BothTexts)
+        → HandleStands task handle.old fed taken → has_ended handle.old ≡ false
         → HandlePromise (run_state handle.new) (run_for task) fed (joined_texts taken (texts_kept handle.new))
         (texts_kept handle.new) result }
-    ensures ended { (task : Task) (fed : List ℕ) (taken : BothTexts) → HandleStands task handle.old fed taken
-        → has_ended handle.old ≡ false → (has_ended handle.new ≡ true)
+    ensures ended { (task : Task) (fed : List ℕ) (taken : BothTexts)
+        → HandleStands task handle.old fed taken → has_ended handle.old ≡ false
+        → (has_ended handle.new ≡ true)
         × RunHasEnded (λ ended. (ended ≡ (run_for task).result fed) ⊎ (StopsAtLimit (run_for task) fed ended
         ⊎ StopsForMemory (λ line. line ≡ length (lines_of fed)) (run_for task) fed ended))
         (joined_texts taken (texts_kept handle.new)) (texts_kept handle.new) result }
-    ensures misused { (task : Task) (fed : List ℕ) (taken : BothTexts) → HandleStands task handle.old fed taken
-        → has_ended handle.old ≡ true
+    ensures misused { (task : Task) (fed : List ℕ) (taken : BothTexts)
+        → HandleStands task handle.old fed taken → has_ended handle.old ≡ true
         → (result ≡ bare_answer MISUSED 0 0) × (handle.new.place.held ≡ handle.old.place.held) }
     ensures expansion { (choices : Choices) (limit : ℕ) (fed : List ℕ) (taken : BothTexts)
         → HandleStands (Task.Expand choices limit) handle.old fed taken → has_ended handle.old ≡ false
         → (HasNoMemory result → ⊥) → (result.status ≡ OUTPUT_LIMIT → ⊥)
-        → ExpansionPromises choices fed (joined_texts taken (texts_kept handle.new)) (texts_kept handle.new) result }
+        → ExpansionPromises choices fed
+        (joined_texts taken (texts_kept handle.new)) (texts_kept handle.new) result }
     ensures check { (fed : List ℕ) (taken : BothTexts)
         → HandleStands Task.Check handle.old fed taken → has_ended handle.old ≡ false
         → (HasNoMemory result → ⊥) → (result.status ≡ OUTPUT_LIMIT → ⊥) → CheckPromises fed result }
@@ -282,7 +288,8 @@ pub extern "C" fn rnxcmp_c_take(
     messages: &mut [u8],
 ) -> Answer
     requires sound { IsSoundHandle handle.old }
-    ensures closed { handle.old.is_open ≡ false → (result ≡ bare_answer MISUSED 0 0) × IsUnchanged handle.old handle.new
+    ensures closed { handle.old.is_open ≡ false
+        → (result ≡ bare_answer MISUSED 0 0) × IsUnchanged handle.old handle.new
         × (output.new ≡ output.old) × (messages.new ≡ messages.old) }
     ensures output { handle.old.is_open ≡ true
         → output.new ≡ placed (output_kept handle.old.place.held) output.old }
@@ -300,16 +307,18 @@ pub extern "C" fn rnxcmp_c_take(
         (rooms (take (length output.old) (output_kept handle.old.place.held))
         (take (length messages.old) (messages_kept handle.old.place.held)))) }
     ensures still { run_state handle.new ≡ run_state handle.old }
-    ensures promise { (task : Task) (fed : List ℕ) (taken : BothTexts) → HandleStands task handle.old fed taken
-        → (run_state handle.new ≡ run_state handle.old) × HandlePromise (run_state handle.new) (run_for task) fed
-        (joined_texts (joined_texts taken (rooms (take (length output.old) (output_kept handle.old.place.held))
+    ensures promise { (task : Task) (fed : List ℕ) (taken : BothTexts)
+        → HandleStands task handle.old fed taken → (run_state handle.new ≡ run_state handle.old)
+        × HandlePromise (run_state handle.new) (run_for task) fed (joined_texts (joined_texts taken
+        (rooms (take (length output.old) (output_kept handle.old.place.held))
         (take (length messages.old) (messages_kept handle.old.place.held)))) (texts_kept handle.new))
         (texts_kept handle.new) result }
     ensures expansion { (choices : Choices) (limit : ℕ) (fed : List ℕ) (taken : BothTexts)
         → HandleStands (Task.Expand choices limit) handle.new fed taken → has_ended handle.new ≡ true
         → (HasNoMemory result → ⊥) → (result.status ≡ OUTPUT_LIMIT → ⊥)
         → (result.code ≡ code_of_fault InputTooLong → ⊥)
-        → ExpansionPromises choices fed (joined_texts taken (texts_kept handle.new)) (texts_kept handle.new) result }
+        → ExpansionPromises choices fed
+        (joined_texts taken (texts_kept handle.new)) (texts_kept handle.new) result }
     ensures check { (fed : List ℕ) (taken : BothTexts)
         → HandleStands Task.Check handle.new fed taken → has_ended handle.new ≡ true
         → (HasNoMemory result → ⊥) → (result.status ≡ OUTPUT_LIMIT → ⊥)

@@ -34,7 +34,10 @@ pub fn a_handle_answers_as_a_call()
         → KeepsToLimit (run_for task).limit made.output
         → AnswersWithin (run_for task).limit ((run_for task).result fed) call before after
         → length made.output ≤ length before.output
-        → (call ≡ record answer { output_length = length made.output; messages_length = length made.messages })
+        → (call ≡ record answer {
+          output_length = length made.output;
+          messages_length = length made.messages;
+        })
         × (after.output ≡ placed made.output before.output)
         × (after.messages ≡ placed made.messages before.messages) }
     ensures limit { (task : Task) (fed : List ℕ) (made kept : BothTexts) (answer call : Answer)

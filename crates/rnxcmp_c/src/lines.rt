@@ -78,9 +78,9 @@ fn give_line<E: Engine>(
     )
 }
 
-/// Counts the output since a mark, whatever the step of a line came to: where it is more than there may be, that ends the run. Keeps in mind
-/// whether there was a warning. Where one of the texts couldn't be kept, memory ran out at the line of this number, and what came of both
-/// since the mark is let go of.
+/// Counts the output since a mark, whatever the step of a line came to: where it is more than there may be, that ends the run. Keeps in
+/// mind whether there was a warning. Where one of the texts couldn't be kept, memory ran out at the line of this number, and what came of
+/// both since the mark is let go of.
 fn counted(held: &mut Held, mark: Mark, number: u64, taken: Result<bool, Halt>) -> Result<(), Stop>
     requires output { mark.output ≤ length (waiting held.old.output) }
     requires messages { mark.messages ≤ length (waiting held.old.messages) }

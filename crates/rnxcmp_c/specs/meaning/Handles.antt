@@ -51,7 +51,7 @@ run_for (Expand choices most) = record {
 }
 run_for Check = record { result = checked; filter = check_filter; limit = 0 }
 
--- These are both texts, and after each of them the other one's.
+-- These are both texts, each followed by that which comes after it.
 abbrev pub joined_texts : BothTexts → BothTexts → BothTexts
 joined_texts first then = record {
   output = first.output ++ then.output;
