@@ -11,8 +11,8 @@ use Rattle.crx_runs.specs.meaning.Results.{FilterResult}
 use Rattle.rnxcmp_c.specs.declared.answer.Answer.{Answer}
 use Rattle.rnxcmp_c.specs.declared.answer.TheConstants.{OUTPUT_LIMIT}
 use Rattle.rnxcmp_c.specs.meaning.Answers.{BothTexts, HasNoMemory, fault_code_in}
-use Rattle.rnxcmp_c.specs.meaning.Handles.{LacksLastMessage, RunHasEnded, RunHasResult, StopsAtLimit, StopsForMemory}
-use Rattle.rnxcmp_c.specs.meaning.Handles.{StopsWhenFull, Task, run_for}
+use Rattle.rnxcmp_c.specs.meaning.Handles.{LacksLastMessage, RunHasEnded, RunHasResult, StopsAtLimit}
+use Rattle.rnxcmp_c.specs.meaning.Handles.{StopsForMemory, StopsWhenFull, Task, run_for}
 use Rattle.rnxcmp_c.specs.meaning.Ended.{CheckPromises, ExpansionPromises}
 use Rattle.rnxcmp_c.proofs.Kept.{brings-back, judges-status, saves-all_else}
 use Rattle.rnxcmp_c.proofs.Lossless.{brings-back_passed}
@@ -34,7 +34,8 @@ module _ (fed : List ℕ) (made kept : BothTexts) (answer : Answer) where
     lacks-none : (result : FilterResult) → LacksLastMessage result made kept answer → ⊥
     lacks-none result lacks = memory (ap (λ (a : Answer). a.code) lacks.answered)
 
-    code-is : (result then : FilterResult) → Has result → result ≡ then → answer.code ≡ fault_code_in then.fault
+    code-is : (result then : FilterResult) → Has result → result ≡ then
+        → answer.code ≡ fault_code_in then.fault
     code-is result then has is =
         ap (λ (a : Answer). a.code) has.answered ∙ ap (λ (r : FilterResult). fault_code_in r.fault) is
 
@@ -69,7 +70,8 @@ module _ (fed : List ℕ) (made kept : BothTexts) (answer : Answer) where
         })
         (λ lacks. absurd (lacks-none ended.result lacks)) ended.ends
 
-  pub run-expansion : (choices : Choices) → Has (expanded fed choices) → ExpansionPromises choices fed made kept answer
+  pub run-expansion : (choices : Choices) → Has (expanded fed choices)
+      → ExpansionPromises choices fed made kept answer
   run-expansion choices whole = record {
     lossless = brings-back_passed Has choices fed whole;
     way_back = brings-back Has choices fed whole;

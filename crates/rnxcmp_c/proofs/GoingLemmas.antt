@@ -19,14 +19,11 @@ use Rattle.rnxcmp_c.specs.declared.held.Held.{Held}
 use Rattle.rnxcmp_c.specs.Waiting.{waiting}
 use Rattle.rnxcmp_c.specs.Counting.{take-of_taken}
 use Rattle.rnxcmp_c.specs.Going.{IsText, IsGoing, IsBroken, MovesOn, EndsThere}
-use Rattle.rnxcmp_c.specs.Past.{HandlePast, fed_with}
-use Rattle.rnxcmp_c.specs.Past.{StopsSoon}
+use Rattle.rnxcmp_c.specs.Past.{HandlePast, fed_with, StopsSoon}
 use Rattle.rnxcmp_c.specs.meaning.Handles.{with_one_more}
 use Rattle.rnxcmp_c.specs.Going.{piece_line, IsAll, IsCutBy, IsFailed, LineFails, RanOutAt, RunsShort}
-use Rattle.rnxcmp_c.specs.Going.{StopsShort}
-use Rattle.rnxcmp_c.specs.Going.{AddsWithin, EndsPastLimit, IsKeptWithin, IsPastLimit}
-use Rattle.rnxcmp_c.specs.Going.{MovesWithin, PassesLimit}
-use Rattle.rnxcmp_c.specs.Going.{RunBreaks, RunFails, StepStops}
+use Rattle.rnxcmp_c.specs.Going.{StopsShort, AddsWithin, EndsPastLimit, IsKeptWithin, IsPastLimit}
+use Rattle.rnxcmp_c.specs.Going.{MovesWithin, PassesLimit, RunBreaks, RunFails, StepStops}
 use Rattle.rnxcmp_c.specs.Holding.{AreUnfailed, IsMemoryLacking, ready_in}
 use Rattle.rnxcmp_c.specs.declared.limits.TheConstants.{LINE_ROOM, READY_LIMIT}
 use Rattle.rnxcmp_c.specs.declared.stop.Stop.{Stop}

@@ -10,14 +10,12 @@ use Rattle.crx_runs.specs.Lawful.{IsLawful}
 use Rattle.crx_runs.specs.meaning.Messages.{notices_text}
 use Rattle.crx_runs.specs.meaning.Results.{Course, FilterResult, are_some}
 use Rattle.crx_runs.specs.declared.outcome.Outcome.{Outcome}
-use Rattle.rnxcmp_c.specs.Handles.{IsFresh, ReaderRuns}
-use Rattle.rnxcmp_c.specs.Handles.{ReaderEndsBy, FeedsBy, HasEndedBy, HasFedBy, HasPassedBy, ReaderIsOver}
-use Rattle.rnxcmp_c.specs.Handles.{ReaderStands, RunIsOverLimit}
-use Rattle.rnxcmp_c.specs.Handles.{ReaderHasEnded, answer_now}
+use Rattle.rnxcmp_c.specs.Handles.{IsFresh, ReaderRuns, ReaderEndsBy, FeedsBy, HasEndedBy, HasFedBy}
+use Rattle.rnxcmp_c.specs.Handles.{HasPassedBy, ReaderIsOver, ReaderStands, RunIsOverLimit, ReaderHasEnded}
+use Rattle.rnxcmp_c.specs.Handles.{answer_now}
 use Rattle.rnxcmp_c.specs.Holding.{HoldsNothing}
 use Rattle.rnxcmp_c.proofs.PieceLemmas.{none-or}
-use Rattle.rnxcmp_c.specs.Handles.{IsLineReached, StandsBy}
-use Rattle.rnxcmp_c.specs.Handles.{RunIsOutOfMemory}
+use Rattle.rnxcmp_c.specs.Handles.{IsLineReached, StandsBy, RunIsOutOfMemory}
 use Rattle.rnxcmp_c.specs.Past.{HandlePast, fed_with, limit_for, nothing_fed, result_for}
 use Rattle.rnxcmp_c.specs.meaning.Handles.{Task}
 use Rattle.rnxcmp_c.specs.Past.{allowed_after, filter_for}
@@ -140,7 +138,8 @@ module _ (task : Task) (old new : Reader) (past : HandlePast) (answer : Answer) 
   feeds-answer bytes used (Some outcome) runs feeds = absurd (cc)
 
   pub feeds-misused : (bytes : List ℕ) (used : ℕ) (outcome : Option Outcome) → is_some outcome ≡ true
-      → FeedsBy task old new past bytes used answer outcome → (answer ≡ bare_answer MISUSED 0 0) × (used ≡ 0) × (new ≡ old)
+      → FeedsBy task old new past bytes used answer outcome → (answer ≡ bare_answer MISUSED 0 0)
+      × (used ≡ 0) × (new ≡ old)
   feeds-misused bytes used None ended feeds = absurd (cc)
   feeds-misused bytes used (Some outcome) ended feeds = feeds
 

@@ -21,14 +21,14 @@ use Rattle.crx_runs.specs.meaning.Results.{Begins, Course, FilterResult, result_
 use Rattle.crx_runs.specs.meaning.Spans.{AreNext}
 use Rattle.crx_runs.specs.declared.outcome.Outcome.{Outcome}
 use Rattle.rnxcmp_c.specs.Going.{IsGoing, IsLineEnded}
-use Rattle.rnxcmp_c.specs.Handles.{IsLastLine, IsLineReached, ReaderIsOver, ReaderRuns, ReaderStands, RunIsOutOfMemory}
-use Rattle.rnxcmp_c.specs.Handles.{RunIsOverLimit, RunIsTooLong, StandsBy, answer_now, fault_now, shows_of, status_now}
-use Rattle.rnxcmp_c.specs.Handles.{too_long_after}
-use Rattle.rnxcmp_c.specs.Handles.{Feeds, FeedsBy, FeedsBytes, HasEndedBy, HasFedBy, HasPassedBy, ReaderHasEnded}
+use Rattle.rnxcmp_c.specs.Handles.{IsLastLine, IsLineReached, ReaderIsOver, ReaderRuns, ReaderStands}
+use Rattle.rnxcmp_c.specs.Handles.{RunIsOutOfMemory, RunIsOverLimit, RunIsTooLong, StandsBy, answer_now}
+use Rattle.rnxcmp_c.specs.Handles.{fault_now, shows_of, status_now, too_long_after, Feeds, FeedsBy}
+use Rattle.rnxcmp_c.specs.Handles.{FeedsBytes, HasEndedBy, HasFedBy, HasPassedBy, ReaderHasEnded}
 use Rattle.rnxcmp_c.specs.Holding.{texts_of_held}
 use Rattle.rnxcmp_c.specs.Opened.{have_ended, run_in, texts_in}
-use Rattle.rnxcmp_c.specs.Past.{AsksMemory, HandlePast, HidesFault, IsShortOfMemory, allowed_after, fed_with, filter_for}
-use Rattle.rnxcmp_c.specs.Past.{limit_for, memory_next, past_of, result_for, texts_made}
+use Rattle.rnxcmp_c.specs.Past.{AsksMemory, HandlePast, HidesFault, IsShortOfMemory, allowed_after, fed_with}
+use Rattle.rnxcmp_c.specs.Past.{filter_for, limit_for, memory_next, past_of, result_for, texts_made}
 use Rattle.rnxcmp_c.specs.Waiting.{waiting}
 use Rattle.rnxcmp_c.specs.declared.answer.Answer.{Answer}
 use Rattle.rnxcmp_c.specs.declared.answer.TheConstants.{OUTPUT_LIMIT}
@@ -36,9 +36,9 @@ use Rattle.rnxcmp_c.specs.declared.held.Held.{Held}
 use Rattle.rnxcmp_c.specs.declared.limits.TheConstants.{READY_LIMIT}
 use Rattle.rnxcmp_c.specs.declared.reader.Reader.{Reader}
 use Rattle.rnxcmp_c.specs.meaning.Answers.{BothTexts, line_in}
-use Rattle.rnxcmp_c.specs.meaning.Handles.{HandlePromise, RunHasEnded, RunWasEnded, StopsAtLimit, StopsForMemory}
-use Rattle.rnxcmp_c.specs.meaning.Handles.{StopsWhenFull, TakesBytes, Task, Compact, Expand, Check, handle_answer}
-use Rattle.rnxcmp_c.specs.meaning.Handles.{joined_texts, run_for, with_one_more}
+use Rattle.rnxcmp_c.specs.meaning.Handles.{HandlePromise, RunHasEnded, RunWasEnded, StopsAtLimit}
+use Rattle.rnxcmp_c.specs.meaning.Handles.{StopsForMemory, StopsWhenFull, TakesBytes, Task, Compact, Expand}
+use Rattle.rnxcmp_c.specs.meaning.Handles.{Check, handle_answer, joined_texts, run_for, with_one_more}
 use Rattle.rnxcmp_c.proofs.Cut.{begins-next}
 use Rattle.rnxcmp_c.proofs.GoingLemmas.{begins-then, notices-both}
 use Rattle.rnxcmp_c.proofs.HandleLemmas.{feeds-answer, none-fed}
@@ -163,7 +163,8 @@ Asks filter lines others notices = ((next : InputLine) × (more : List InputLine
     < length (notices_text (with_one_more filter lines others).warnings))))
 
 asks : (filter : Filter) (lines others : List InputLine) (notices : List At)
-    → AsksMemory (memory_next filter lines others) (filter.so_far lines) (with_one_more filter lines others) notices
+    → AsksMemory (memory_next filter lines others) (filter.so_far lines) (with_one_more filter lines others)
+    notices
     → Asks filter lines others notices
 asks filter lines [] notices (inl takes) = absurd (cc)
 asks filter lines (next ∷ more) notices (inl takes) = inl (next, more, refl, takes)
@@ -228,7 +229,8 @@ module _ (task : Task) (reader : Reader) (past : HandlePast) where
       let warned : List ℕ = notices_text before.warnings in
       let own : List ℕ = notices_text by.notices in
       let answered : answer_by (Some outcome) reader ≡ handle_answer 1 (Some at) kept =
-      answers-same kept outcome.status 1 outcome.fault (Some at) ran.status (fault-at outcome.fault ran.memory) in
+      answers-same kept outcome.status 1 outcome.fault (Some at) ran.status
+      (fault-at outcome.fault ran.memory) in
       record {
         result = result_of_course (record {
           output = before.output;
@@ -259,7 +261,8 @@ module _ (task : Task) (reader : Reader) (past : HandlePast) where
               answered = answered;
               output = by.made.output;
               messages = ap (λ t. t ++ error_text (Some at)) (notices-both before.warnings by.notices
-                  ∙ ap (λ t. warned ++ t) (sym (ap (λ t. own ++ t) none ∙ append-nil own)) ∙ by.made.messages);
+                  ∙ ap (λ t. warned ++ t) (sym (ap (λ t. own ++ t) none ∙ append-nil own))
+                  ∙ by.made.messages);
             }))
             (λ said. inl (record {
               answered = answered;
@@ -300,7 +303,8 @@ module _ (task : Task) (reader : Reader) (past : HandlePast) where
   short-of_memory is_line outcome input ran = ⊎_elim
       (λ by. ended-as _ _ made kept _ (λ result is. inr is)
       (stopped-short is_line outcome input ran by.at by.made))
-      (λ hidden. ended-as _ _ made kept _ (λ result is. inl is) (hidden-fault is_line outcome input ran hidden))
+      (λ hidden. ended-as _ _ made kept _ (λ result is. inl is)
+      (hidden-fault is_line outcome input ran hidden))
       ran.made
 
   is-full : (outcome : Outcome) → RunIsTooLong (filter_for task) (limit_for task) reader outcome past
@@ -478,7 +482,8 @@ module _ (task : Task) (old new : Reader) (fed : List ℕ) (taken : BothTexts) (
       (texts_made then (texts_of_held new.held)) (texts_of_held new.held) (answer_now new)
 
   feeds-ended : (outcome : Option Outcome) → is_some outcome ≡ false → is_some new.outcome ≡ true
-      → FeedsBy task old new past bytes used answer outcome → BytesEnded (fed_with past (take used bytes)) used
+      → FeedsBy task old new past bytes used answer outcome
+      → BytesEnded (fed_with past (take used bytes)) used
   feeds-ended None runs ended feeds =
       let goes_on : (0 < length bytes → 0 < length (allowed_after past bytes))
       → BytesEnded (fed_with past (take used bytes)) used =
@@ -581,14 +586,14 @@ module _ (task : Task) (old new : Reader) (fed : List ℕ) (taken : BothTexts) (
       (takes-bytes old.outcome (sym (ap have_ended held) ∙ runs) feeds))
 
 -- the same of a handle
-module _ (task : Task) (readers : List Reader) (reader : Reader) (fed : List ℕ) (taken : BothTexts) (answer : Answer)
-    (holds : readers ≡ reader ∷ []) (answers : answer ≡ answer_now reader) where
+module _ (task : Task) (readers : List Reader) (reader : Reader) (fed : List ℕ) (taken : BothTexts)
+    (answer : Answer) (holds : readers ≡ reader ∷ []) (answers : answer ≡ answer_now reader) where
   pub handle-promise : ReaderStands task reader (past_of fed taken)
-      → HandlePromise (run_in readers) (run_for task) fed (joined_texts taken (texts_in readers)) (texts_in readers)
-      answer
+      → HandlePromise (run_in readers) (run_for task) fed
+      (joined_texts taken (texts_in readers)) (texts_in readers) answer
   handle-promise stands =
-      subst (λ (l : List Reader). HandlePromise (run_in l) (run_for task) fed (joined_texts taken (texts_in l))
-      (texts_in l) answer) (sym holds)
+      subst (λ (l : List Reader). HandlePromise (run_in l) (run_for task) fed
+      (joined_texts taken (texts_in l)) (texts_in l) answer) (sym holds)
       (subst (λ (a : Answer). HandlePromise reader.outcome (run_for task) fed
       (joined_texts taken (texts_of_held reader.held)) (texts_of_held reader.held) a)
       (sym answers)
@@ -600,6 +605,7 @@ module _ (task : Task) (readers : List Reader) (reader : Reader) (fed : List ℕ
   handle-ended ended =
       subst (λ (l : List Reader). (have_ended l ≡ true) × RunHasEnded (Last task reader (past_of fed taken))
       (joined_texts taken (texts_in l)) (texts_in l) answer) (sym holds)
-      (subst (λ (a : Answer). (is_some reader.outcome ≡ true) × RunHasEnded (Last task reader (past_of fed taken))
+      (subst (λ (a : Answer). (is_some reader.outcome ≡ true)
+      × RunHasEnded (Last task reader (past_of fed taken))
       (joined_texts taken (texts_of_held reader.held)) (texts_of_held reader.held) a) (sym answers)
       (reader-ended task reader (past_of fed taken) ended))

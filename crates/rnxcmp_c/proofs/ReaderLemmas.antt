@@ -7,7 +7,8 @@ use Rattle.crx_base.specs.declared.limits.TheConstants.{INPUT_LIMIT}
 use Rattle.crx_base.specs.declared.fault.At.{At}
 use Rattle.crx_base.specs.declared.fault.Fault.{Fault as FaultOf}
 use Rattle.crx_base.specs.declared.fault.Fault.TheVariants.{InputTooLong, OutOfMemory}
-use Rattle.crx_filter.specs.meaning.Directions.{check_filter, compaction_filter, expansion_filter, report_unless}
+use Rattle.crx_filter.specs.meaning.Directions.{check_filter, compaction_filter, expansion_filter}
+use Rattle.crx_filter.specs.meaning.Directions.{report_unless}
 use Rattle.crx_runs.specs.Lawful.{IsLawful}
 use Rattle.crx_runs.specs.meaning.Filters.{Filter, with_next}
 use Rattle.crx_runs.specs.meaning.Messages.{error_text, notices_text}
@@ -23,9 +24,8 @@ use Rattle.rnxcmp_c.specs.Going.{Breaks, EndsShort, IsAll, IsCutBy, IsGoing, IsT
 use Rattle.rnxcmp_c.specs.Going.{EndsPastLimit, IsPastLimit, RunBreaks, RunFails, line_reached}
 use Rattle.rnxcmp_c.specs.declared.stop.Stop.{Stop}
 use Rattle.rnxcmp_c.specs.declared.stop.Stop.TheVariants.{Fault, Limit}
-use Rattle.rnxcmp_c.specs.Handles.{IsOf, ReaderIsOver, IsPut, IsPutDown, IsPutSilently}
-use Rattle.rnxcmp_c.specs.Handles.{EndsRunBy, ReaderRuns, RunIsOutOfMemory, RunIsOverLimit}
-use Rattle.rnxcmp_c.specs.Handles.{HasPassedBy, shows_of, too_long_after}
+use Rattle.rnxcmp_c.specs.Handles.{IsOf, ReaderIsOver, IsPut, IsPutDown, IsPutSilently, EndsRunBy, ReaderRuns}
+use Rattle.rnxcmp_c.specs.Handles.{RunIsOutOfMemory, RunIsOverLimit, HasPassedBy, shows_of, too_long_after}
 use Rattle.rnxcmp_c.specs.Handles.{HasFedBy, HasEndedBy, engine_filter, has_ended_of}
 use Rattle.rnxcmp_c.specs.meaning.Answers.{KeepsToLimit, line_in}
 use Rattle.rnxcmp_c.specs.Handles.{status_at_end}

@@ -10,8 +10,8 @@ use Rattle.crx_runs.specs.declared.taking.Halt.{Halt}
 use Rattle.crx_runs.specs.declared.taking.Halt.TheVariants.{Fault as Faulty, Unwritten, Unreported}
 use Rattle.crx_runs.specs.meaning.Messages.{notices_text}
 use Rattle.crx_runs.specs.meaning.Results.{Begins, Course}
-use Rattle.rnxcmp_c.specs.Going.{EndsThere, IsKept, LosesText, MovesOn, MovesWithin, PassesLimit}
-use Rattle.rnxcmp_c.specs.Going.{RanOutAt, StepStops, StopsBy, StopsShort}
+use Rattle.rnxcmp_c.specs.Going.{EndsThere, IsKept, LosesText, MovesOn, MovesWithin, PassesLimit, RanOutAt}
+use Rattle.rnxcmp_c.specs.Going.{StepStops, StopsBy, StopsShort}
 use Rattle.rnxcmp_c.specs.Holding.{AreCutTo, IsCounted, IsCutBack, StaysWithin, StopsCounted}
 use Rattle.rnxcmp_c.specs.Waiting.{waiting}
 use Rattle.rnxcmp_c.specs.declared.held.Held.{Held}

@@ -23,7 +23,8 @@ use Rattle.crx_runs.specs.declared.outcome.Outcome.{Outcome}
 use Rattle.crx_runs.specs.meaning.Runs.{FaultIs}
 use Rattle.rnxcmp_c.specs.Going.{IsGoing, IsLineEnded, IsReady}
 use Rattle.rnxcmp_c.specs.Past.{HandlePast, HidesFault, IsMadeByLines, IsShortOfMemory, StopsSoon}
-use Rattle.rnxcmp_c.specs.Past.{allowed_after, fed_with, filter_for, limit_for, memory_next, result_for, texts_made}
+use Rattle.rnxcmp_c.specs.Past.{allowed_after, fed_with, filter_for, limit_for, memory_next, result_for}
+use Rattle.rnxcmp_c.specs.Past.{texts_made}
 use Rattle.rnxcmp_c.specs.meaning.Handles.{Task, Compact, Expand, Check, handle_answer, with_one_more}
 use Rattle.rnxcmp_c.specs.meaning.Answers.{KeepsToLimit, bare_answer, line_in}
 use Rattle.rnxcmp_c.specs.declared.answer.Answer.{Answer}
@@ -297,7 +298,8 @@ pub record FeedsBytes (task : Task) (old new : Reader) (past : HandlePast) (byte
 
 abbrev pub FeedsBy : Task → Reader → Reader → HandlePast → List ℕ → ℕ → Answer → Option Outcome → Type 0
 FeedsBy task old new past bytes used answer None = FeedsBytes task old new past bytes used answer
-FeedsBy task old new past bytes used answer (Some outcome) = (answer ≡ bare_answer MISUSED 0 0) × (used ≡ 0) × (new ≡ old)
+FeedsBy task old new past bytes used answer (Some outcome) = (answer ≡ bare_answer MISUSED 0 0)
+    × (used ≡ 0) × (new ≡ old)
 
 abbrev pub Feeds : Task → Reader → Reader → HandlePast → List ℕ → ℕ → Answer → Type 0
 Feeds task old new past bytes used answer = FeedsBy task old new past bytes used answer old.outcome

@@ -66,7 +66,8 @@ pub record IsMadeByLines (course : Course) (after : List ℕ) (texts : BothTexts
 
 -- ---- memory
 
--- the line that comes after some lines may take memory once these of its warnings are reported; the end takes none
+-- the line that comes after some lines may take memory once these of its warnings are reported; the end takes
+-- none
 abbrev pub memory_next : Filter → List InputLine → List InputLine → Option (List At)
 memory_next filter lines [] = None
 memory_next filter lines (line ∷ more) = filter.memory_after lines line
@@ -78,8 +79,8 @@ AsksMemory memory before after notices = (memory ≡ Some notices)
     ⊎ ((notices ≡ []) × ((length before.output < length after.output)
     ⊎ (length (notices_text before.warnings) < length (notices_text after.warnings))))
 
--- memory ran out at a line, or at the end: what was made is what the lines before it make, such warnings of its
--- own, each of them whole, and the message of this, or none
+-- memory ran out at a line, or at the end: what was made is what the lines before it make, such warnings of
+-- its own, each of them whole, and the message of this, or none
 pub record IsShortOfMemory (filter : Filter) (input : List ℕ) (line : ℕ) (texts : BothTexts) : Type 0 where
   pub lines : List InputLine
   pub others : List InputLine

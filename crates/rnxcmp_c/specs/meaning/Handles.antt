@@ -30,8 +30,8 @@ pub data Task : Type 0 where
   Expand : Choices → ℕ → Task
   Check : Task
 
--- This is what a run writes, reports and answers for its whole input; what it writes and reports for some of the
--- first lines, and for all; and how many bytes its output may have, where 0 is no limit.
+-- This is what a run writes, reports and answers for its whole input; what it writes and reports for some of
+-- the first lines, and for all; and how many bytes its output may have, where 0 is no limit.
 pub record TaskRun : Type 0 where
   pub result : List ℕ → FilterResult
   pub filter : Filter
@@ -76,8 +76,8 @@ pub record RunHasResult (result : FilterResult) (made kept : BothTexts) (answer 
   pub output : result.output ≡ made.output
   pub messages : result.messages ≡ made.messages
 
--- Memory ran out for the message of the fault that a result has: both texts are there but for this message, and
--- the answer has code 22 at the line of the fault.
+-- Memory ran out for the message of the fault that a result has: both texts are there but for this message,
+-- and the answer has code 22 at the line of the fault.
 pub record LacksLastMessage (result : FilterResult) (made kept : BothTexts) (answer : Answer) : Type 0 where
   pub at : At
   pub faulty : result.fault ≡ Some at
@@ -86,7 +86,8 @@ pub record LacksLastMessage (result : FilterResult) (made kept : BothTexts) (ans
   pub messages : result.messages ≡ made.messages ++ error_text (Some at)
 
 -- The run has ended with one of these results, or with all of it but the message of its fault.
-pub record RunHasEnded (is_one : FilterResult → Type 0) (made kept : BothTexts) (answer : Answer) : Type 0 where
+pub record RunHasEnded (is_one : FilterResult → Type 0) (made kept : BothTexts) (answer : Answer)
+    : Type 0 where
   pub result : FilterResult
   pub is : is_one result
   pub ends : RunHasResult result made kept answer ⊎ LacksLastMessage result made kept answer
@@ -98,8 +99,8 @@ abbrev pub with_one_more : Filter → List InputLine → List InputLine → Cour
 with_one_more filter lines [] = filter.whole lines
 with_one_more filter lines (line ∷ more) = filter.so_far (with_next lines line)
 
--- The output of some of the first lines is within its limit, and with one line more, or with the end, it isn't:
--- the result is what those first lines make, in which no fault is.
+-- The output of some of the first lines is within its limit, and with one line more, or with the end, it
+-- isn't: the result is what those first lines make, in which no fault is.
 pub record StopsAtLimit (run : TaskRun) (input : List ℕ) (result : FilterResult) : Type 0 where
   pub lines : List InputLine
   pub others : List InputLine
@@ -119,9 +120,10 @@ pub record StopsAtLimit (run : TaskRun) (input : List ℕ) (result : FilterResul
     fault = None;
   }
 
--- Memory ran out at such a line, the next one after some of the first, or at the end after them. The line itself may
--- take memory once these of its warnings are reported; or, before any of them is, it adds to one of both texts. The
--- result is what those first lines make, in which no fault is, these warnings, and the message of this.
+-- Memory ran out at such a line, the next one after some of the first, or at the end after them. The line
+-- itself may take memory once these of its warnings are reported; or, before any of them is, it adds to one
+-- of both texts. The result is what those first lines make, in which no fault is, these warnings, and the
+-- message of this.
 pub record StopsForMemory (is_line : ℕ → Type 0) (run : TaskRun) (input : List ℕ) (result : FilterResult)
     : Type 0 where
   pub lines : List InputLine
@@ -147,8 +149,8 @@ pub record StopsForMemory (is_line : ℕ → Type 0) (run : TaskRun) (input : Li
     fault = Some (record { line = line; fault = OutOfMemory });
   })
 
--- As many bytes were fed as an input may have, and there is one more, at the line after the last line end: the
--- result is what the lines make whose line end was fed, in which no fault is, and the message of this.
+-- As many bytes were fed as an input may have, and there is one more, at the line after the last line end:
+-- the result is what the lines make whose line end was fed, in which no fault is, and the message of this.
 pub record StopsWhenFull (run : TaskRun) (fed : List ℕ) (result : FilterResult) : Type 0 where
   pub full : length fed ≡ INPUT_LIMIT
   pub good : (run.filter.so_far (ended_lines_of fed)).fault ≡ None
@@ -160,9 +162,9 @@ pub record StopsWhenFull (run : TaskRun) (fed : List ℕ) (result : FilterResult
 
 -- ---- what the calls promise
 
--- Bytes have ended the run. Whatever follows, it has the result of the input, by a fault; or the one at the limit of
--- the output, or where memory ran out, at a line whose line end came after what was fed before. Or no byte was
--- taken, and bytes are left of which an input may have none.
+-- Bytes have ended the run. Whatever follows, it has the result of the input, by a fault; or the one at the
+-- limit of the output, or where memory ran out, at a line whose line end came after what was fed before. Or
+-- no byte was taken, and bytes are left of which an input may have none.
 abbrev pub RunWasEnded : TaskRun → List ℕ → List ℕ → List ℕ → BothTexts → BothTexts → Answer → Type 0
 RunWasEnded run before fed left made kept answer =
     ((more : List ℕ) → RunHasEnded
@@ -172,18 +174,19 @@ RunWasEnded run before fed left made kept answer =
     run (fed ++ more) result)) made kept answer)
     ⊎ ((0 < length left) × (fed ≡ before) × RunHasEnded (StopsWhenFull run fed) made kept answer)
 
--- While the run goes on, what was made is all that the lines make whose line end was fed, in which no fault is, and
--- the answer has status 0 and no fault. Once it has ended, each call answers its status and its fault. It has the
--- result of what was fed; or it has stopped at the limit of the output, for want of memory at one of the lines, or
--- since its input is too long. The output is never longer than it may be.
+-- While the run goes on, what was made is all that the lines make whose line end was fed, in which no fault
+-- is, and the answer has status 0 and no fault. Once it has ended, each call answers its status and its
+-- fault. It has the result of what was fed; or it has stopped at the limit of the output, for want of memory
+-- at one of the lines, or since its input is too long. The output is never longer than it may be.
 pub record HandlePromise (state : Option Outcome) (run : TaskRun) (fed : List ℕ) (made kept : BothTexts)
     (answer : Answer) : Type 0 where
-  pub goes_on : state ≡ None → ((run.filter.so_far (ended_lines_of fed)).fault ≡ None) × RunHasResult (record {
-    output = (run.filter.so_far (ended_lines_of fed)).output;
-    messages = notices_text (run.filter.so_far (ended_lines_of fed)).warnings;
-    status = 0;
-    fault = None;
-  }) made kept answer
+  pub goes_on : state ≡ None → ((run.filter.so_far (ended_lines_of fed)).fault ≡ None)
+      × RunHasResult (record {
+        output = (run.filter.so_far (ended_lines_of fed)).output;
+        messages = notices_text (run.filter.so_far (ended_lines_of fed)).warnings;
+        status = 0;
+        fault = None;
+      }) made kept answer
   pub answered : (outcome : Outcome) → state ≡ Some outcome
       → answer ≡ handle_answer outcome.status outcome.fault kept
   pub ended : is_some state ≡ true → RunHasEnded (λ result. (result ≡ run.result fed)
@@ -192,10 +195,10 @@ pub record HandlePromise (state : Option Outcome) (run : TaskRun) (fed : List �
       ⊎ StopsWhenFull run fed result))) made kept answer
   pub within : 0 < run.limit → length made.output ≤ run.limit
 
--- Of the bytes that an input may still have (`allowed`) so many were used: at least one where less than READY_LIMIT
--- was ready, all unless the run goes on and so much is, none where it was. While the run goes on, without the last
--- byte less was ready: what the lines make whose line end was fed, but for what was taken of it. Where bytes come
--- and none is allowed, that ends the run.
+-- Of the bytes that an input may still have (`allowed`) so many were used: at least one where less than
+-- READY_LIMIT was ready, all unless the run goes on and so much is, none where it was. While the run goes on,
+-- without the last byte less was ready: what the lines make whose line end was fed, but for what was taken of
+-- it. Where bytes come and none is allowed, that ends the run.
 pub record TakesBytes (run : TaskRun) (fed : List ℕ) (taken : BothTexts) (bytes : List ℕ) (used : ℕ)
     (before after : BothTexts) (has_ended : Bool) : Type 0 where
   pub allowed : List ℕ

@@ -1,8 +1,7 @@
 use Rattle.std.proofs.Common.{◌<◌, IfErr, IfOk, take, sym, subst}
 use Rattle.crx_runs.specs.meaning.Filters.{Filter}
 use Rattle.rnxcmp_c.specs.Going.{IsGoing, RunBreaks}
-use Rattle.rnxcmp_c.specs.Past.{HandlePast, fed_with}
-use Rattle.rnxcmp_c.specs.Past.{StopsSoon}
+use Rattle.rnxcmp_c.specs.Past.{HandlePast, fed_with, StopsSoon}
 use Rattle.rnxcmp_c.specs.Handles.{engine_filter, shows_of}
 use Rattle.rnxcmp_c.specs.declared.engines.AnyEngine.{AnyEngine}
 use Rattle.rnxcmp_c.specs.declared.engines.AnyEngine.TheVariants.{Compacting, Expanding}

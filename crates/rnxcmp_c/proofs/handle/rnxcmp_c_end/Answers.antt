@@ -81,7 +81,8 @@ returns-clause-promise c = λ (task : Task) (fed : List ℕ) (taken : BothTexts)
     let same = one-held c.args.handle.now.place.held stands.reader c.deref_mut.result.now stands.holds holds in
     let before = subst (λ (r : Reader). ReaderStands task r past) same stands.stands in
     let ends = c.take_end-answer.ensures task past before in
-    handle-promise task _ c.take_end-answer.new.self fed taken c.take_end-answer.result c.put_in.ensures.reader
+    handle-promise task _ c.take_end-answer.new.self fed taken c.take_end-answer.result
+    c.put_in.ensures.reader
     (ends-answer task c.deref_mut.result.now c.take_end-answer.new.self past c.take_end-answer.result
     c.deref_mut.result.now.outcome (sym (ap have_ended holds) ∙ runs) ends).1
     (ends-stands task c.deref_mut.result.now c.take_end-answer.new.self past c.take_end-answer.result
@@ -95,7 +96,8 @@ returns-clause-ended c = λ (task : Task) (fed : List ℕ) (taken : BothTexts) s
     let before = subst (λ (r : Reader). ReaderStands task r past) same stands.stands in
     let ends = ends-answer task c.deref_mut.result.now c.take_end-answer.new.self past c.take_end-answer.result
     c.deref_mut.result.now.outcome (sym (ap have_ended holds) ∙ runs) (c.take_end-answer.ensures task past before) in
-    handle-ended task _ c.take_end-answer.new.self fed taken c.take_end-answer.result c.put_in.ensures.reader ends.1 ends.0
+    handle-ended task _ c.take_end-answer.new.self fed taken c.take_end-answer.result c.put_in.ensures.reader
+    ends.1 ends.0
 
 pub returns-clause-misused : goal.returns-clause-misused
 returns-clause-misused c = λ (task : Task) (fed : List ℕ) (taken : BothTexts) stands ended.

@@ -80,7 +80,8 @@ returns-clause-promise c = λ (task : Task) (fed : List ℕ) (taken : BothTexts)
     let same = one-held c.args.handle.now.place.held stands.reader c.deref_mut.result.now stands.holds holds in
     let before = subst (λ (r : Reader). ReaderStands task r past) same stands.stands in
     let feeds = c.take_in-count.ensures task past before in
-    handle-promise task _ c.take_in-count.new.self (fed ++ take c.take_in-count.result.0 c.args.bytes.now) taken
+    handle-promise task _ c.take_in-count.new.self
+    (fed ++ take c.take_in-count.result.0 c.args.bytes.now) taken
     c.take_in-count.result.1 c.put_in.ensures.reader
     (feeds-answer task c.deref_mut.result.now c.take_in-count.new.self past c.take_in-count.result.1 c.args.bytes.now
     c.take_in-count.result.0 c.deref_mut.result.now.outcome (sym (ap have_ended holds) ∙ runs) feeds)
@@ -107,7 +108,8 @@ returns-clause-ended c = λ (task : Task) (fed : List ℕ) (taken : BothTexts) s
     let holds = c.take_out-reader.ensures.reader ∙ ap (λ (r : Reader). r ∷ []) (sym c.deref_mut.ensures.value) in
     let same = one-held c.args.handle.now.place.held stands.reader c.deref_mut.result.now stands.holds holds in
     let before = subst (λ (r : Reader). ReaderStands task r past) same stands.stands in
-    handle-was_ended task c.deref_mut.result.now c.take_in-count.new.self fed taken c.args.bytes.now c.take_in-count.result.0
+    handle-was_ended task c.deref_mut.result.now c.take_in-count.new.self fed taken c.args.bytes.now
+    c.take_in-count.result.0
     c.take_in-count.result.1 _ c.put_in.ensures.reader (sym (ap have_ended holds) ∙ runs) ended
     (c.take_in-count.ensures task past before)
 

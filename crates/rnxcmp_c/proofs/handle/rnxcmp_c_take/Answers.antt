@@ -80,7 +80,8 @@ returns-clause-sound c = λ is_open.
     let task = sound.0 in
     let past = past_of sound.1 sound.2 in
     let holds = c.take_out-reader.ensures.reader ∙ ap (λ (r : Reader). r ∷ []) (sym c.deref_mut.ensures.value) in
-    let same = one-held c.args.handle.now.place.held sound.3.reader c.deref_mut.result.now sound.3.holds holds in (
+    let same =
+    one-held c.args.handle.now.place.held sound.3.reader c.deref_mut.result.now sound.3.holds holds in (
       task,
       _,
       _,
@@ -106,7 +107,8 @@ returns-clause-promise c = λ (task : Task) (fed : List ℕ) (taken : BothTexts)
     let new = c.hand_out-answer.new.self in (
       returns-clause-still c,
       handle-promise task _ new fed
-          (joined_texts taken (rooms (take (length c.args.output.now) (output_kept c.args.handle.now.place.held))
+          (joined_texts taken (rooms
+          (take (length c.args.output.now) (output_kept c.args.handle.now.place.held))
           (take (length c.args.messages.now) (messages_kept c.args.handle.now.place.held))))
           c.hand_out-answer.result c.put_in.ensures.reader c.hand_out-answer.ensures.answer
           (subst (λ (l : List Reader). ReaderStands task new
@@ -120,8 +122,10 @@ pub returns-clause-expansion : goal.returns-clause-expansion
 returns-clause-expansion c = λ (choices : Choices) (limit : ℕ) (fed : List ℕ) (taken : BothTexts)
     stands ended memory few long.
     let same = one-held _ stands.reader c.hand_out-answer.new.self stands.holds c.put_in.ensures.reader in
-    let after = subst (λ (r : Reader). ReaderStands (Expand choices limit) r (past_of fed taken)) same stands.stands in
-    let promise = handle-promise (Expand choices limit) _ c.hand_out-answer.new.self fed taken c.hand_out-answer.result
+    let after =
+    subst (λ (r : Reader). ReaderStands (Expand choices limit) r (past_of fed taken)) same stands.stands in
+    let promise = handle-promise (Expand choices limit) _ c.hand_out-answer.new.self fed taken
+    c.hand_out-answer.result
     c.put_in.ensures.reader c.hand_out-answer.ensures.answer after in
     run-expansion fed _ _ c.hand_out-answer.result choices
     (result-where fed _ _ c.hand_out-answer.result (IsLineReached fed) (Expand choices limit) memory few
@@ -136,4 +140,5 @@ returns-clause-check c = λ (fed : List ℕ) (taken : BothTexts) stands ended me
     c.put_in.ensures.reader c.hand_out-answer.ensures.answer after in
     run-check fed _ _ c.hand_out-answer.result
     (result-where fed _ _ c.hand_out-answer.result (IsLineReached fed) Check memory few
-    (ended-where fed _ _ c.hand_out-answer.result (IsLineReached fed) Check memory long (promise.ended ended)))
+    (ended-where fed _ _ c.hand_out-answer.result (IsLineReached fed) Check memory long
+    (promise.ended ended)))

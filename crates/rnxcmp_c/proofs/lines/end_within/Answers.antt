@@ -21,7 +21,8 @@ counted-requires-clause-output g c =
     (λ good. ap (λ (t : SinkTally). t.failures) good) done)
     (taken.ensures.done c.requires.shown.0 c.requires.shown.1) in
     let stops = IfErr-weaker taken.result _ _
-    (λ halt cut. halted-stops (filter.so_far c.requires.shown.0) (filter.whole c.requires.shown.0) held.number _ _ _ held.output
+    (λ halt cut. halted-stops (filter.so_far c.requires.shown.0) (filter.whole c.requires.shown.0) held.number
+    _ _ _ held.output
     taken.new.writer held.messages taken.new.messages (λ t took. took) (λ t took. took)
     (λ failed. ap (λ (t : SinkTally). t.failures) failed)
     (λ failed. ap (λ (t : SinkTally). t.failures) failed) halt cut)
@@ -41,7 +42,8 @@ counted-requires-clause-messages g c =
     (λ good. ap (λ (t : SinkTally). t.failures) good) done)
     (taken.ensures.done c.requires.shown.0 c.requires.shown.1) in
     let stops = IfErr-weaker taken.result _ _
-    (λ halt cut. halted-stops (filter.so_far c.requires.shown.0) (filter.whole c.requires.shown.0) held.number _ _ _ held.output
+    (λ halt cut. halted-stops (filter.so_far c.requires.shown.0) (filter.whole c.requires.shown.0) held.number
+    _ _ _ held.output
     taken.new.writer held.messages taken.new.messages (λ t took. took) (λ t took. took)
     (λ failed. ap (λ (t : SinkTally). t.failures) failed)
     (λ failed. ap (λ (t : SinkTally). t.failures) failed) halt cut)

@@ -5,8 +5,7 @@ use Rattle.crx_lines.specs.Reading.{HasNoFeed}
 use Rattle.std.proofs.lemmas.Result.{err_from_is_err_and}
 use Rattle.crx_runs.specs.meaning.Filters.{Filter}
 use Rattle.rnxcmp_c.specs.Going.{RunBreaks, IsGoing}
-use Rattle.rnxcmp_c.specs.Past.{HandlePast, fed_with}
-use Rattle.rnxcmp_c.specs.Past.{StopsSoon}
+use Rattle.rnxcmp_c.specs.Past.{HandlePast, fed_with, StopsSoon}
 use Rattle.rnxcmp_c.specs.Holding.{ready_in}
 use Rattle.rnxcmp_c.specs.declared.held.Held.{Held}
 use Rattle.rnxcmp_c.specs.declared.limits.TheConstants.{READY_LIMIT}

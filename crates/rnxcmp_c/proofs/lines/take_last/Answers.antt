@@ -8,8 +8,7 @@ use Rattle.crx_runs.specs.meaning.Filters.{Filter, with_next}
 use Rattle.rnxcmp_c.specs.Going.{MovesWithin, StepStops, piece_line}
 use Rattle.rnxcmp_c.specs.Past.{HandlePast}
 use Rattle.rnxcmp_c.proofs.GoingLemmas.{all-ended, all-but_last, ends-well, ends-stopped, last-text}
-use Rattle.rnxcmp_c.proofs.GoingLemmas.{last-flag, last-good}
-use Rattle.rnxcmp_c.proofs.GoingLemmas.{last-left, last-sound, last-stopped}
+use Rattle.rnxcmp_c.proofs.GoingLemmas.{last-flag, last-good, last-left, last-sound, last-stopped}
 use Rattle.rnxcmp_c.proofs.lines.take_last.Goals as goal
 
 pub returns-then-is_blank-clause-ended : goal.returns-then-is_blank-clause-ended
