@@ -1,16 +1,17 @@
 -- The date of a moment fits its columns.
 use Rattle.std.proofs.Common.{arith, ◌≡◌, ◌∙◌, ◌≤◌, ◌<◌, ◌+◌, ◌-◌, ◌/◌, ◌%◌, ◌&&◌, ap, refl, ℕ, zero, suc, true, false}
-use Rattle.std.proofs.Common.{Bool, List, [], ◌∷◌, ◌++◌, length, length-append, codes, nat_le, leb-true, le-leb, inl}
-use Rattle.std.proofs.Common.{inr}
+use Rattle.std.proofs.Common.{Bool, List, [], ◌∷◌, ◌++◌, length, length-append, codes, nat_le, leb-true, le-leb, Option, None}
+use Rattle.std.proofs.Common.{Some}
 use Rattle.std.specs.List.{list_all, slice_index_or}
 use Rattle.std.specs.Prelude.{unsigned_abs, ℤ, if◌then◌else◌}
 use Rattle.std.proofs.lemmas.List.Folds.{list_all-append}
 use Rattle.std.proofs.lemmas.Bool.{and_parts}
 use Rattle.jiff.specs.Types.{DateTime}
 use Rattle.jiff.specs.Words.{days_in_month}
+use Rattle.jiff.specs.declared.timestamp.Timestamp.{Timestamp}
 use Rattle.crx_base.specs.meaning.Lines.{is_printable}
 use Rattle.crx_base.specs.meaning.Choices.{is_date}
-use Rattle.crx_command.specs.meaning.Dates.{IsDateText, IsDefaultDate, date_text_of, months, two_digits}
+use Rattle.crx_command.specs.meaning.Dates.{IsDateOf, IsDateText, date_text_of, months, two_digits}
 
 -- a text of so many bytes at most, each printable
 record Fits (most : ℕ) (text : List ℕ) : Type 0 where
@@ -85,6 +86,6 @@ pub moment_fits : (nanoseconds : ℤ) (text : List ℕ) → IsDateText nanosecon
 moment_fits nanoseconds text h = ap is_date h.2 ∙ date_fits h.0
 
 -- the date of a run that has none among its words
-pub default_fits : (text : List ℕ) → IsDefaultDate text → is_date text ≡ true
-default_fits text (inl none) = ap is_date none
-default_fits text (inr moment) = moment_fits moment.0 text moment.1
+pub default_fits : (moment : Option Timestamp) (text : List ℕ) → IsDateOf moment text → is_date text ≡ true
+default_fits None text none = ap is_date none
+default_fits (Some at) text h = moment_fits at.nanosecond text h

@@ -1,7 +1,7 @@
 //! The date in the second line of Compact RINEX 3.0.
 
 ghost use Rattle.std.specs.Prelude.{◌≡◌, ◌<◌, ◌-◌, ◌⊎◌, ◌++◌, ℤ, [], IfOk, OnOk, string_bytes};
-ghost use Rattle.crx_command.specs.meaning.Dates.{IsDateText, IsDefaultDate, date_text_of, months, two_digits};
+ghost use Rattle.crx_command.specs.meaning.Dates.{IsDateOf, IsDateText, IsDefaultDate, date_text_of, months, two_digits};
 ghost use Rattle.std.specs.List.{slice_index_or};
 
 use jiff::Timestamp;
@@ -56,12 +56,24 @@ pub fn date_text(alloc: Global, at: Timestamp) -> Result<String, AllocError>
     shown(alloc, Offset::UTC.to_datetime(at))
 }
 
-/// The clock's moment as [`date_text`] gives it; an empty text where the clock gives none.
+/// The date of a moment as [`date_text`] gives it; an empty text where there is none.
+pub fn date_of(alloc: Global, moment: Option<Timestamp>) -> Result<String, AllocError>
+    ensures date { IfOk result (λ text. IsDateOf moment (string_bytes text)) }
+{
+    match moment {
+        Some(at) => date_text(alloc, at),
+        None => Ok(String::new(alloc)),
+    }
+}
+
+/// The moment that the clock gives; none where that has no date.
+pub fn moment_now<C: Clock>(clock: &C) -> Option<Timestamp> {
+    Timestamp::now(clock).ok()
+}
+
+/// The date of the clock's moment as [`date_of`] gives it.
 pub fn default_date<C: Clock>(clock: &C, alloc: Global) -> Result<String, AllocError>
     ensures date { IfOk result (λ text. IsDefaultDate (string_bytes text)) }
 {
-    match Timestamp::now(clock) {
-        Ok(at) => date_text(alloc, at),
-        Err(_) => Ok(String::new(alloc)),
-    }
+    date_of(alloc, moment_now(clock))
 }

@@ -1,7 +1,8 @@
 //! From the arguments to what is to be done.
 
-ghost use Rattle.std.specs.Prelude.{◌≡◌, ◌≢◌, IfOk, IfSome, codes, count_by, find, map, option_and_then, option_map, string_bytes, true};
+ghost use Rattle.std.specs.Prelude.{◌≡◌, ◌≢◌, IfOk, IfSome, codes, count_by, drop, find, map, option_and_then, option_map, string_bytes, true};
 ghost use Rattle.std.specs.Option.{option_map_or};
+ghost use Rattle.std.specs.Vec.Iter.{into_iter_items};
 ghost use Rattle.clap.specs.Words.{found_of, kind_of, one_of, rows_of, subcommand_rows_of};
 ghost use Rattle.crx_base.specs.meaning.Choices.{is_date};
 ghost use Rattle.crx_command.specs.meaning.Planning.{by_kind, given_in, is_dash, is_file, is_set, job_of, judged, file_names_in, counted_argument, of_subcommand, plan_of, tool_named, with_source, writes_file};
@@ -15,6 +16,7 @@ use clap::error::ErrorKind;
 use clap::{ArgMatches, Error};
 use crx_base::Options;
 use std::alloc::{AllocError, Global};
+use std::env::Args;
 
 /// What is after a subcommand.
 #[derive(Clone, Copy)]
@@ -241,6 +243,13 @@ fn not_run(alloc: Global, error: &Error) -> Result<Decision, UsageFault>
         ErrorKind::DisplayHelp => Ok(Decision::Help(Word::shown(alloc, error)?)),
         _ => Err(UsageFault::Parse(Word::shown(alloc, error)?)),
     }
+}
+
+/// All arguments of a process but the first, which is the program's name: in order, and each once.
+pub fn words_given(alloc: Global, arguments: Args) -> Result<Vec<String>, AllocError>
+    ensures words { IfOk result (λ words. words.items ≡ drop 1 (into_iter_items arguments)) }
+{
+    arguments.skip(1).collect(alloc)
 }
 
 /// What the arguments ask for; they come without the program's name.

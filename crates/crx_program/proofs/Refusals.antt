@@ -13,7 +13,7 @@ use Rattle.crx_command.specs.declared.job.UsageFault.{UsageFault}
 use Rattle.crx_command.specs.declared.job.UsageFault.TheVariants as usage_fault
 
 -- each refusal has a line
-some_line : (refusal : Refusal) → (line : List ℕ) × IsLineOf refusal line
+pub some_line : (refusal : Refusal) → (line : List ℕ) × IsLineOf refusal line
 some_line Parse = ([], tt)
 some_line DashTwice = (_, refl)
 some_line TwoFiles = (_, refl)

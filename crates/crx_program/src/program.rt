@@ -11,7 +11,7 @@ ghost use Rattle.crx_runs.specs.meaning.Spans.{span, reader_span};
 use crate::log::{Made, SourceFile, TargetFile, open_to_read, open_to_write};
 use crate::refusal::{refuse, report, report_at_start};
 use crx_base::Fault;
-use crx_command::date::date_text;
+use crx_command::date::{date_of, moment_now};
 use crx_command::job::{Decision, Job, Tool};
 use crx_command::plan::plan;
 use crx_command::word::Word;
@@ -44,11 +44,6 @@ pub(crate) fn hand_on<F: Write + Drop>(device: TargetFile<F>) {
         // since one that is dropped flushes again.
         Ok(()) | Err(_) => drop(buffer.into_parts()),
     }
-}
-
-/// The moment that the clock gives; none where that has no date.
-pub fn moment_now<C: Clock>(clock: &C) -> Option<Timestamp> {
-    Timestamp::now(clock).ok()
 }
 
 impl<F: Write + Drop> Ended<F> {
@@ -97,13 +92,10 @@ fn options_of(alloc: Global, moment: Option<Timestamp>, job: &Job) -> Result<Opt
 {
     match (&job.date, job.tool) {
         (Some(date), _) => Ok(options_with(job, date.text())),
-        (None, Tool::Compact) => match moment {
-            Some(at) => {
-                let date = date_text(alloc, at)?;
-                Ok(options_with(job, date.as_str()))
-            }
-            None => Ok(options_with(job, "")),
-        },
+        (None, Tool::Compact) => {
+            let date = date_of(alloc, moment)?;
+            Ok(options_with(job, date.as_str()))
+        }
         (None, _) => Ok(options_with(job, "")),
     }
 }

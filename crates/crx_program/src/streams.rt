@@ -3,12 +3,14 @@
 ghost use Rattle.std.specs.Prelude.{◌≡◌, [], None, map, string_bytes};
 ghost use Rattle.crx_command.specs.meaning.Planning.{Help, Refusal, Refused, Run, plan_of};
 ghost use Rattle.crx_program.specs.meaning.Jobs.{IsJobDone};
-ghost use Rattle.crx_program.specs.meaning.Program.{IsHelped, IsRefused};
-ghost use Rattle.crx_program.specs.meaning.Streams.{FromUnused, IsExact, IsPrefix};
+ghost use Rattle.crx_program.specs.meaning.Program.{IsHelped, IsRefused, IsShown, at_start};
+ghost use Rattle.crx_program.specs.meaning.Streams.{FromUnused, IsExact, IsPrefix, IsUnused};
 ghost use Rattle.crx_runs.specs.meaning.Spans.{reader_span, span};
 
 use crate::log::{Logged, SourceFile, TargetFile};
 use crate::program::{hand_on, run_with_files};
+use crate::refusal::report_at_start;
+use crx_base::Fault;
 use crx_command::job::Job;
 use crx_lines::{Sink, Source, Std, Uninterrupted};
 use crx_runs::UntilFailure;
@@ -41,6 +43,32 @@ pub struct Whole<I, O: Write + Drop, E, F: Write + Drop> {
     pub source: Option<SourceFile<F>>,
     /// The file that was written, where the run made one.
     pub target: Option<TargetFile<F>>,
+}
+
+/// A run that had no memory for its arguments: a line says so. It reads nothing, and writes nothing else.
+pub fn without_memory<I: Read, O: Write + Drop, E: Write, F: Write + Drop>(
+    stdin: Uninterrupted<I>,
+    stdout: BufWriter<UntilFailure<Uninterrupted<O>>>,
+    stderr: Uninterrupted<E>,
+) -> Whole<I, O, E, F>
+    ensures status { result.status ≡ 1 }
+    ensures shown { FromUnused stderr (λ messages.
+        IsShown (span ⟦<MessageDevice<E> as Sink>⟧ messages result.messages) (at_start Fault.OutOfMemory)) }
+    ensures input { IsUnused stdin result.input }
+    ensures output { IsUnused stdout result.output }
+    ensures source { result.source ≡ None }
+    ensures target { result.target ≡ None }
+{
+    let mut messages = Logged::new(Std::new(stderr));
+    let status = report_at_start(&mut messages, Fault::OutOfMemory);
+    Whole {
+        status,
+        input: Logged::new(Std::new(stdin)),
+        output: Logged::new(Std::new(stdout)),
+        messages,
+        source: None,
+        target: None,
+    }
 }
 
 /// Does what the arguments ask for, over standard streams (see [`run`](crate::program::run)), and hands these back.

@@ -1,6 +1,7 @@
 //! The program's arguments and its standard streams.
 
-ghost use Rattle.std.specs.Prelude.{◌≡◌, [], None, map, string_bytes};
+ghost use Rattle.std.specs.Prelude.{◌≡◌, [], None, drop, map, string_bytes};
+ghost use Rattle.std.specs.Vec.Iter.{into_iter_items};
 ghost use Rattle.crx_command.specs.meaning.Planning.{Help, Refusal, Refused, Run, plan_of};
 ghost use Rattle.crx_program.specs.meaning.Jobs.{IsJobDone};
 ghost use Rattle.crx_program.specs.meaning.Program.{IsHelped, IsRefused};
@@ -9,14 +10,18 @@ ghost use Rattle.crx_runs.specs.meaning.Spans.{reader_span, span};
 
 use crate::{Job, UsageFault, Word};
 use crx_base::Fault;
+use crx_command::date::moment_now;
+use crx_command::plan::words_given;
 use crx_lines::{Sink, Source, Std, Uninterrupted};
 use crx_program::log::{OUTPUT_BUFFER, SourceFile, TargetFile};
-use crx_program::program::moment_now;
 use crx_program::refusal::{refuse, report_at_start};
-use crx_program::streams::{InputDevice, MessageDevice, OutputDevice, Whole, run_over};
+use crx_program::streams::{
+    InputDevice, MessageDevice, OutputDevice, Whole, run_over, without_memory,
+};
 use crx_runs::UntilFailure;
 use jiff::Timestamp;
 use std::alloc::Global;
+use std::env::Args;
 use std::fs::File;
 use std::io::{BufWriter, Stderr, Stdin, Stdout};
 use std::process::ExitCode;
@@ -34,46 +39,46 @@ fn no_words(alloc: Global, error: &io::Error) -> UsageFault {
     Word::new(alloc, text).map_or_else(UsageFault::from, UsageFault::Parse)
 }
 
-/// The arguments without the program's name.
-fn words_given(rt: &HostRuntime) -> Result<Vec<String>, UsageFault> {
-    match env::args(rt) {
-        Ok(args) => Ok(args.skip(1).collect(rt.alloc())?),
-        Err(error) => Err(no_words(rt.alloc(), &error)),
-    }
-}
-
-/// Does what the arguments ask for, over the standard streams (see [`run_over`]), and hands these back.
+/// Does what the arguments of a process ask for, of which the first is the program's name, over the standard streams (see [`run_over`]), and
+/// hands these back. It takes the list and the streams as they come from the machine: the words are all but the first, in order, each once.
 pub fn run_streams(
     rt: &HostRuntime,
     moment: Option<Timestamp>,
-    words: Vec<String>,
+    arguments: Args,
     stdin: Uninterrupted<Stdin>,
     stdout: BufWriter<UntilFailure<Uninterrupted<Stdout>>>,
     stderr: Uninterrupted<Stderr>,
 ) -> Whole<Stdin, Stdout, Stderr, File>
-    ensures refused { (refusal : Refusal) → plan_of (map string_bytes words.items) ≡ Refused refusal
+    ensures refused { (refusal : Refusal)
+        → plan_of (map string_bytes (drop 1 (into_iter_items arguments))) ≡ Refused refusal
         → FromUnused stderr (λ messages.
         IsRefused (span ⟦<MessageDevice<Stderr> as Sink>⟧ messages result.messages) refusal result.status)
         × (result.input.log.bytes ≡ []) × (result.output.log.bytes ≡ []) × (result.source ≡ None)
         × (result.target ≡ None) }
-    ensures help { plan_of (map string_bytes words.items) ≡ Help
+    ensures help { plan_of (map string_bytes (drop 1 (into_iter_items arguments))) ≡ Help
         → FromUnused stdout (λ output. FromUnused stderr (λ messages.
         IsHelped (span ⟦<OutputDevice<Stdout> as Sink>⟧ output result.output)
         (span ⟦<MessageDevice<Stderr> as Sink>⟧ messages result.messages) result.status))
         × (result.input.log.bytes ≡ []) × (result.source ≡ None) × (result.target ≡ None) }
-    ensures done { (job : Job) → plan_of (map string_bytes words.items) ≡ Run job
+    ensures done { (job : Job)
+        → plan_of (map string_bytes (drop 1 (into_iter_items arguments))) ≡ Run job
         → FromUnused stdin (λ input. FromUnused stdout (λ output. FromUnused stderr (λ messages.
         IsJobDone ⟦<SourceFile<File> as Source>⟧ ⟦<TargetFile<File> as Sink>⟧
         moment job result.source result.target (reader_span ⟦<InputDevice<Stdin> as Source>⟧ input result.input)
         (span ⟦<OutputDevice<Stdout> as Sink>⟧ output result.output)
         (span ⟦<MessageDevice<Stderr> as Sink>⟧ messages result.messages) result.status
         ((result.input ≡ input) × (result.output ≡ output) × (result.target ≡ None))))) }
-    ensures exact { (job : Job) → plan_of (map string_bytes words.items) ≡ Run job
+    ensures exact { (job : Job)
+        → plan_of (map string_bytes (drop 1 (into_iter_items arguments))) ≡ Run job
         → (result.status ≡ 1 → ⊥) → IsExact moment job result }
-    ensures front { (job : Job) → plan_of (map string_bytes words.items) ≡ Run job
+    ensures front { (job : Job)
+        → plan_of (map string_bytes (drop 1 (into_iter_items arguments))) ≡ Run job
         → IsPrefix moment job result }
 {
-    run_over(rt, rt.alloc(), moment, words, stdin, stdout, stderr)
+    match words_given(rt.alloc(), arguments) {
+        Ok(words) => run_over(rt, rt.alloc(), moment, words, stdin, stdout, stderr),
+        Err(_) => without_memory(stdin, stdout, stderr),
+    }
 }
 
 /// Does what the arguments ask for, over the standard streams, and answers the exit status. The output goes through a buffer.
@@ -88,10 +93,11 @@ pub fn run_host(rt: &HostRuntime) -> ExitCode {
         fs::open(rt, NO_STREAM),
         fs::open(rt, NO_STREAM),
     ];
-    let words = match words_given(rt) {
-        Ok(words) => words,
-        Err(fault) => {
+    let arguments = match env::args(rt) {
+        Ok(arguments) => arguments,
+        Err(error) => {
             let mut messages = Std::new(Uninterrupted::new(rt.stderr()));
+            let fault = no_words(rt.alloc(), &error);
             return ExitCode::from(refuse(rt.alloc(), &mut messages, &fault));
         }
     };
@@ -103,6 +109,6 @@ pub fn run_host(rt: &HostRuntime) -> ExitCode {
     let moment = moment_now(rt);
     let stdin = Uninterrupted::new(rt.stdin());
     let stderr = Uninterrupted::new(rt.stderr());
-    let whole = run_streams(rt, moment, words, stdin, buffer, stderr);
+    let whole = run_streams(rt, moment, arguments, stdin, buffer, stderr);
     ExitCode::from(whole.close())
 }

@@ -1,8 +1,10 @@
 -- The date that the second line of Compact RINEX 3.0 shows, as `01-Jan-24 00:00`.
 use Rattle.std.specs.Prelude.{◌≡◌, ◌⊎◌, ℕ, ℤ, ◌+◌, ◌-◌, ◌/◌, ◌%◌, List, [], ◌∷◌, ◌++◌, codes, unsigned_abs}
+use Rattle.std.specs.Prelude.{Option, None, Some}
 use Rattle.std.specs.List.{slice_index_or}
 use Rattle.jiff.specs.Words.{civil_nanos}
 use Rattle.jiff.specs.Types.{DateTime}
+use Rattle.jiff.specs.declared.timestamp.Timestamp.{Timestamp}
 
 abbrev pub months : List (List ℕ)
 months = codes "Jan" ∷ codes "Feb" ∷ codes "Mar" ∷ codes "Apr" ∷ codes "May" ∷ codes "Jun"
@@ -21,6 +23,11 @@ date_text_of at = two_digits at.date.day ++ (codes "-" ++ (slice_index_or months
 -- what a clock in UTC shows that many nanoseconds after 1970 began (before it, where the number is negative)
 abbrev pub IsDateText : ℤ → List ℕ → Type 0
 IsDateText nanoseconds text = (at : DateTime) × (civil_nanos at ≡ nanoseconds) × (text ≡ date_text_of at)
+
+-- the date of the moment that the clock gave, or none where it gave none
+abbrev pub IsDateOf : Option Timestamp → List ℕ → Type 0
+IsDateOf None date = date ≡ []
+IsDateOf (Some moment) date = IsDateText moment.nanosecond date
 
 -- the date of a run that has none among its words: the moment's, or none where no clock gives one
 abbrev pub IsDefaultDate : List ℕ → Type 0

@@ -18,7 +18,7 @@ use Rattle.crx_runs.specs.meaning.Filters.{Filter}
 use Rattle.crx_runs.specs.meaning.Results.{FilterResult}
 use Rattle.crx_runs.specs.meaning.Runs.{RunsAs}
 use Rattle.crx_filter.specs.meaning.Standard.{checked}
-use Rattle.crx_command.specs.meaning.Dates.{IsDateText}
+use Rattle.crx_command.specs.meaning.Dates.{IsDateOf}
 use Rattle.jiff.specs.declared.timestamp.Timestamp.{Timestamp}
 use Rattle.crx_command.specs.declared.job.Job.{Job}
 use Rattle.crx_command.specs.declared.job.Tool.{Tool}
@@ -29,11 +29,6 @@ use Rattle.crx_program.specs.declared.log.Opening.{Opening}
 use Rattle.crx_program.specs.meaning.Program.{at_start, IsShownOr}
 
 -- ---- a run
-
--- the date of the moment that the clock gave, or none where it gave none
-abbrev pub IsDateOf : Option Timestamp → List ℕ → Type 0
-IsDateOf None date = date ≡ []
-IsDateOf (Some moment) date = IsDateText moment.nanosecond date
 
 -- the choices of a job; the date counts in a compaction alone
 abbrev pub IsChosen : Option Timestamp → Tool → Option (List ℕ) → Option ℕ → Bool → Choices → Type 0

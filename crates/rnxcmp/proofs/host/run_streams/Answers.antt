@@ -1,0 +1,78 @@
+use Rattle.std.proofs.Common.{◌∙◌, ap, map, inl, inr, refl, string_bytes}
+use Rattle.crx_command.specs.meaning.Planning.{plan_of}
+use Rattle.crx_program.proofs.Refusals.{some_line}
+use Rattle.crx_program.specs.Logs.{adds_none}
+use Rattle.crx_program.specs.meaning.Jobs.{NoMemory}
+use Rattle.rnxcmp.proofs.host.run_streams.Goals as goal
+
+pub returns-in-Ok-clause-help : goal.returns-in-Ok-clause-help
+returns-in-Ok-clause-help c = λ e.
+    c.run_over.ensures.help (ap (λ words. plan_of (map string_bytes words)) c.in-Ok.ensures.words ∙ e)
+
+pub returns-in-Ok-clause-front : goal.returns-in-Ok-clause-front
+returns-in-Ok-clause-front c = λ job e.
+    c.run_over.ensures.front job (ap (λ words. plan_of (map string_bytes words)) c.in-Ok.ensures.words ∙ e)
+
+pub returns-in-Err-clause-refused : goal.returns-in-Err-clause-refused
+returns-in-Err-clause-refused c = λ refusal e.
+    let shown = c.without_memory.ensures.shown in (
+      (
+        shown.0,
+        shown.1,
+        (c.without_memory.ensures.status, ((some_line refusal).0, (some_line refusal).1, inr shown.2)),
+      ),
+      c.without_memory.ensures.input.1,
+      c.without_memory.ensures.output.1,
+      c.without_memory.ensures.source,
+      c.without_memory.ensures.target,
+    )
+
+pub returns-in-Err-clause-help : goal.returns-in-Err-clause-help
+returns-in-Err-clause-help c = λ e.
+    let shown = c.without_memory.ensures.shown in (
+      (
+        c.without_memory.result.output,
+        c.without_memory.ensures.output,
+        (
+          shown.0,
+          shown.1,
+          inr (inr (
+            c.without_memory.ensures.status,
+            ((adds_none c.without_memory.result.output.log.bytes, refl, tt), refl),
+            shown.2,
+          )),
+        ),
+      ),
+      c.without_memory.ensures.input.1,
+      c.without_memory.ensures.source,
+      c.without_memory.ensures.target,
+    )
+
+pub returns-in-Err-clause-done : goal.returns-in-Err-clause-done
+returns-in-Err-clause-done c = λ job e.
+    let shown = c.without_memory.ensures.shown in (
+      c.without_memory.result.input,
+      c.without_memory.ensures.input,
+      (
+        c.without_memory.result.output,
+        c.without_memory.ensures.output,
+        (
+          shown.0,
+          shown.1,
+          inr (record {
+            why = NoMemory;
+            can = tt;
+            shown = inl shown.2;
+            status_is = c.without_memory.ensures.status;
+            same = (refl, refl, c.without_memory.ensures.target);
+          }),
+        ),
+      ),
+    )
+
+pub returns-in-Err-clause-exact : goal.returns-in-Err-clause-exact
+returns-in-Err-clause-exact c = λ job e well. absurd (well c.without_memory.ensures.status)
+
+pub returns-in-Err-clause-front : goal.returns-in-Err-clause-front
+returns-in-Err-clause-front c = λ job e.
+    inr (c.without_memory.ensures.input.1, c.without_memory.ensures.output.1, c.without_memory.ensures.target)
