@@ -23,7 +23,7 @@ HELP = {"rnx2crx": "help_of_a_compaction", "crx2rnx": "help_of_an_expansion", "c
 
 # Texts that have one of these numbers: the file, and phrases with the name in place of the number.
 STATED = {
-    "README.md": ("DEFINITIONS, in DEFINITION_LINES lines", "on FIRST_DEFINITIONS definitions"),
+    "README.md": ("DEFINITIONS, in DEFINITION_LINES lines", "on FIRST_DEFINITIONS definitions", "in some USUAL_MEMORY MB of memory"),
     "docs/FORMATS.md": (
         "content of more than LINE_LIMIT bytes is fault 1", "| a content of more than LINE_LIMIT bytes |", "input of more than INPUT_LIMIT bytes",
         "after the first INPUT_LIMIT |", "1 to TYPES_LIMIT (bound: profile)", "(0 to SATELLITES_LIMIT)", "1 to DIGITS_LIMIT digits",
@@ -36,11 +36,13 @@ STATED = {
     "docs/GUARANTEES.md": (
         "lines of at most LINE_LIMIT bytes", "grows past LINE_LIMIT bytes", "a code from 1 to FAULTS.", "stops after INPUT_LIMIT bytes",
         "has at most INPUT_LIMIT bytes", "a byte past INPUT_LIMIT (2)", "at most INPUT_LIMIT bytes and the date",
+        "some USUAL_MEMORY MB over usual files, and some GREATEST_MEMORY MB at the limits",
     ),
     "docs/LIBRARY.md": (
         "if the input has at most INPUT_LIMIT bytes and memory", "the input has at most INPUT_LIMIT bytes and the date", "and the input has at most INPUT_LIMIT bytes.",
-        "no line end, at most LINE_KEPT bytes",
+        "no line end, at most LINE_KEPT bytes", "over that has some GREATEST_MEMORY MB",
     ),
+    "docs/PLANNING.md": ("has some USUAL_MEMORY MB over usual files", "has some GREATEST_MEMORY MB (bench"),
     "docs/USE.md": ("N is from 1 to EVERY", "at most DATE_LIMIT bytes", "lists the FAULTS codes"),
     "packaging/man/rnxcmp.1": (
         "at most DATE_LIMIT bytes", "Limits: LINE_LIMIT bytes a line", "INPUT_LIMIT bytes of input", "TYPES_LIMIT types of a system",
@@ -81,12 +83,15 @@ def faults():
 @cache
 def numbers():
     """The limits by their names, and what follows from them: how long the longest lines of an epoch are, and how many it has. FAULTS is how
-    many faults there are, EVERY the greatest N of -e; then how many definitions one has to believe, and how many for the first promise."""
+    many faults there are, EVERY the greatest N of -e; then how many definitions one has to believe, and how many for the first promise; then the
+    greatest memory of the program over a usual file and at the limits, in MB, by the table of bench/README.md."""
     limits = (SOURCES / "limits.rt").read_text(encoding="utf-8")
     command = (TOP / "crates/crx_command/src/command.rt").read_text(encoding="utf-8")
     found = {name: int(number) for name, number in re.findall(r"const (\w+): \w+ = ([\d_]+);", limits)}
     book = Book()
     trusted = book.trusted()
+    measured = (TOP / "bench/README.md").read_text(encoding="utf-8")
+    usual, *at_the_limits = (max(int(size.replace(",", "")) for size in row.split(" | ")) for row in re.findall(r"^\| (?:a usual file|770 .*), [\d,]+ bytes \| (.*) \|$", measured, re.M))
     return {
         **found,
         "INPUT_LIMIT": f"2^{found['INPUT_LIMIT'].bit_length() - 1}",
@@ -101,6 +106,8 @@ def numbers():
         "DEFINITIONS": len(trusted),
         "DEFINITION_LINES": lines_of(trusted),
         "FIRST_DEFINITIONS": sum(map(is_definition, book.contents[0].items)),
+        "USUAL_MEMORY": round(usual / 1000),
+        "GREATEST_MEMORY": round(max(at_the_limits) / 1000),
     }
 
 

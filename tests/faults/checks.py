@@ -125,6 +125,45 @@ def interrupted_writes(program):
     return wrong
 
 
+def interrupted_reads(program):
+    """A read that was interrupted is repeated, of standard input and of a file."""
+    good = Run(program, DATED, MANY)
+    wrong = [] if good.places("read", 0) else ["no read of the input"]
+    for place in good.places("read", 0):
+        run = Run(program, DATED, MANY, f"read:error=EINTR:when={place}")
+        if (run.status, run.output, run.messages) != (0, good.output, b""):
+            wrong.append(f"read {place}: status {run.status}, messages {run.messages!r}, {len(run.output)} bytes of {len(good.output)}")
+    return wrong
+
+
+def opened_files(program):
+    """After the root folder, three times (docs/DECISIONS.md), a run opens the file that is read and then the one that is written, each once and as
+    the options say, and no other; it removes, renames and links none. Where the first can't be opened, the second isn't."""
+    wrong, places = [], [("/", "O_RDONLY")] * 3
+    calls = "open,openat,openat2,creat,unlink,unlinkat,rename,renameat,renameat2,link,linkat,symlink,symlinkat,mkdir,mkdirat,truncate,chmod,fchmodat"
+    read, made, emptied = "O_RDONLY", "O_WRONLY|O_CREAT|O_EXCL", "O_WRONLY|O_CREAT|O_TRUNC"
+    for words, wanted in (
+        ([*DATED, "a.rnx"], [("a.rnx", read), ("a.crx", made)]),
+        ([*DATED, "-f", "a.rnx"], [("a.rnx", read), ("a.crx", emptied)]),
+        ([*DATED, "-", "a.rnx"], [("a.rnx", read)]),
+        (["check", "a.rnx"], [("a.rnx", read)]),
+        (["crx2rnx", "missing.crx"], [("missing.crx", read)]),
+        (DATED, []),
+        (["rnx2crx", "--help"], []),
+        (["rnx2crx", "-x", "a.rnx"], []),
+    ):
+        with tempfile.TemporaryDirectory() as name, tempfile.NamedTemporaryFile("r") as trace:
+            (Path(name) / "a.rnx").write_bytes(FIVE)
+            command = ["strace", "-f", "-o", trace.name, "-e", f"trace={calls}", program, *words]
+            subprocess.run(command, cwd=name, stdin=subprocess.DEVNULL, capture_output=True, timeout=SECONDS)
+            found = [re.search(r'"(.*?)"(?:, ([A-Z_|]+))?', line) for line in trace.read().splitlines() if "exited with" not in line]
+        got = [(call[1], re.sub(r"\|O_(CLOEXEC|NOCTTY)", "", call[2] or "another call")) for call in found if call]
+        # What is opened before is the loader's.
+        got = got[got.index(places[0]) :] if places[0] in got else got
+        wrong += [] if got == places + wanted else [f"{' '.join(words)}: {got}"]
+    return wrong
+
+
 def close_of_a_file(program):
     """A close of the output that fails isn't seen: all is written, the status is 0, there is no message (docs/GUARANTEES.md)."""
     with tempfile.TemporaryDirectory() as name:
@@ -163,6 +202,8 @@ def checks(program):
         ("messages of warnings", lambda: failed_messages(program, [*DATED, "-s"], BAD_INDICATOR)),
         ("a message of an error", lambda: failed_messages(program, DATED, BAD_INDICATOR)),
         ("interrupted writes", lambda: interrupted_writes(program)),
+        ("interrupted reads", lambda: interrupted_reads(program)),
+        ("files that a run opens", lambda: opened_files(program)),
         ("a close of the output file", lambda: close_of_a_file(program)),
     ):
         yield name, where_traced(check)

@@ -16,6 +16,7 @@ PATH, STEP = 4000, 180  # bytes of a long path, and of each folder's name in it
 EPOCHS = 2_000_000
 TWICE = text("error: the argument '-s' cannot be used multiple times", "", "Usage: rnxcmp rnx2crx [OPTIONS] [FILE]...", "",
              "For more information, try '--help'.")
+HELP = b"Usage: rnxcmp rnx2crx [OPTIONS] [FILE]..."
 
 
 def answered(run, status, output, messages):
@@ -25,13 +26,32 @@ def answered(run, status, output, messages):
 
 
 def forty_arguments(program):
-    """Forty names are more than one, and forty hyphens more than one; forty options that are the same are refused as such."""
+    """Forty names are more than one, and forty hyphens more than one; forty options that are the same are refused as such. The last of forty
+    arguments decides as the first does: it asks for help."""
     wrong = []
     for words, message in ((["rnx2crx", *[f"{place}.rnx" for place in range(40)]], text("ERROR: more than one file name")),
                            (["crx2rnx", *["-"] * 40], text("ERROR: - given twice")),
                            (["check", *["a.rnx"] * 40], text("ERROR: more than one file name")), (["rnx2crx", *["-s"] * 40], TWICE)):
         run = subprocess.run([program, *words], capture_output=True, stdin=subprocess.DEVNULL, timeout=SECONDS)
         wrong += answered(run, 1, b"", message)
+    run = subprocess.run([program, "rnx2crx", *["a.rnx"] * 38, "--help"], capture_output=True, stdin=subprocess.DEVNULL, timeout=SECONDS)
+    return wrong if (run.returncode, run.stderr) == (0, b"") and HELP in run.stdout else [*wrong, f"no help: {run.returncode}, {run.stderr[:200]!r}"]
+
+
+def names_with_blanks(program):
+    """A name is taken as it is: with blanks at both ends, beside the file of the name without them, and with an LF in it."""
+    wrong, other = [], FIVE.replace(b"20000000.000", b"30000000.000")
+    for name, beside in ((" a.rnx", "a.rnx"), ("b .rnx", "b.rnx"), ("c\n.rnx", "c.rnx"), ("D.rnx", "d.rnx")):
+        with tempfile.TemporaryDirectory() as top:
+            folder = Path(top)
+            (folder / name).write_bytes(FIVE)
+            (folder / beside).write_bytes(other)
+            run = subprocess.run([program, *DATED, name], cwd=folder, capture_output=True, timeout=SECONDS)
+            wrong += answered(run, 0, b"", b"")
+            made = {path.name: path.read_bytes() for path in folder.iterdir() if path.suffix == ".crx"}
+            wrong += [] if made == {name.replace(".rnx", ".crx"): COMPACT_FIVE} else [f"{name!r}: made {made!r}"]
+            run = subprocess.run([program, "check", name + " "], cwd=folder, capture_output=True, timeout=SECONDS)
+            wrong += answered(run, 1, b"", text(f"ERROR: cannot read {name} "))
     return wrong
 
 
@@ -113,6 +133,7 @@ def two_million_epochs(program):
 
 CHECKS = [
     ("forty arguments", forty_arguments),
+    ("names with blanks", names_with_blanks),
     ("long names", long_names),
     ("70 MB by standard streams", lambda program: long_input(program, LONG)),
     ("a gigabyte by standard streams", lambda program: long_input(program, GIGABYTE)),
