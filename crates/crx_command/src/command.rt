@@ -124,32 +124,6 @@ fn flag<'a>(alloc: Global, id: &'a str, letter: char, help: &'a str) -> Arg<'a>
         .help(help)
 }
 
-/// `-s`.
-fn skip_flag<'a>(alloc: Global) -> Arg<'a>
-    ensures rule { rule_of result ≡ flag_rule (codes "skip") 115 }
-    ensures local { result.global ≡ false }
-{
-    flag(
-        alloc,
-        "skip",
-        's',
-        "Warn about strange epochs and skip them",
-    )
-}
-
-/// `-f`.
-fn force_flag<'a>(alloc: Global) -> Arg<'a>
-    ensures rule { rule_of result ≡ flag_rule (codes "force") 102 }
-    ensures local { result.global ≡ false }
-{
-    flag(
-        alloc,
-        "force",
-        'f',
-        "Overwrite the output file where it exists",
-    )
-}
-
 /// `-` and a file's name, in any order.
 fn names_of_files<'a>(alloc: Global, help: &'a str) -> Arg<'a>
     ensures rule { rule_of result ≡ names_rule }
@@ -174,7 +148,19 @@ fn with_flags<'a>(alloc: Global, command: Command<'a>) -> Result<Command<'a>, Al
     ensures { IfOk result (λ c. app_of c ≡ with_rule (with_rule (app_of command.entry)
         (flag_rule (codes "skip") 115)) (flag_rule (codes "force") 102)) }
 {
-    command.arg(skip_flag(alloc))?.arg(force_flag(alloc))
+    let skip = flag(
+        alloc,
+        "skip",
+        's',
+        "Warn about strange epochs and skip them",
+    );
+    let force = flag(
+        alloc,
+        "force",
+        'f',
+        "Overwrite the output file where it exists",
+    );
+    command.arg(skip)?.arg(force)
 }
 
 /// `rnx2crx`.

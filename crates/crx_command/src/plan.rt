@@ -58,37 +58,6 @@ fn file_among<'a>(names: &[&'a str]) -> Option<&'a str>
     None
 }
 
-/// How often `-` is after a subcommand.
-fn dash_count(found: &ArgMatches<'_>) -> usize
-    ensures { result ≡ count_by is_dash (file_names_in (rows_of (found_of found.now))) }
-{
-    match found.get_strs("names") {
-        Some(names) => dashes_among(names),
-        None => 0,
-    }
-}
-
-/// How many names of files are after a subcommand.
-fn file_count(found: &ArgMatches<'_>) -> usize
-    ensures { result ≡ count_by is_file (file_names_in (rows_of (found_of found.now))) }
-{
-    match found.get_strs("names") {
-        Some(names) => files_among(names),
-        None => 0,
-    }
-}
-
-/// The first name of a file after a subcommand.
-fn file_given<'a>(found: &ArgMatches<'a>) -> Option<&'a str>
-    ensures { option_map (λ name. name.now) result
-        ≡ find is_file (file_names_in (rows_of (found_of found.now))) }
-{
-    match found.get_strs("names") {
-        Some(names) => file_among(names),
-        None => None,
-    }
-}
-
 /// The number of `-e N`.
 fn every(found: &ArgMatches<'_>) -> Option<u32>
     ensures { result ≡ option_and_then counted_argument
@@ -111,10 +80,11 @@ fn is_set(found: &ArgMatches<'_>, flag: &str) -> bool
 fn arguments_of<'a>(found: &ArgMatches<'a>) -> Arguments<'a>
     ensures { given_of result ≡ given_in (rows_of (found_of found.now)) }
 {
+    let names = found.get_strs("names").unwrap_or(&[]);
     Arguments {
-        dashes: dash_count(found),
-        files: file_count(found),
-        file: file_given(found),
+        dashes: dashes_among(names),
+        files: files_among(names),
+        file: file_among(names),
         every: every(found),
         skip: is_set(found, "skip"),
         force: is_set(found, "force"),

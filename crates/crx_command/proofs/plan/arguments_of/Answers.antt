@@ -1,15 +1,32 @@
-use Rattle.std.proofs.Common.{◌∙◌, codes}
+use Rattle.std.proofs.Common.{◌≡◌, ◌∙◌, ap, codes, count_by, find, map, List, ℕ, Option, Some, None, unwrap_or, [], Bor}
+use Rattle.std.proofs.Common.{option_map, refl}
 use Rattle.clap.specs.Matches.{found_of}
-use Rattle.clap.proofs.WalkLemmas.{first_value-rows}
+use Rattle.clap.specs.Walk.{rows_of}
+use Rattle.clap.proofs.WalkLemmas.{first_value-rows, raw_values-rows}
+use Rattle.crx_command.specs.meaning.Planning.{file_names_in, is_dash, is_file}
 use Rattle.crx_command.proofs.plan.arguments_of.Goals as goal
 
+abbrev texts : List (Bor (List ℕ)) → List (List ℕ)
+texts names = map (λ name. name.now) names
+
+-- names that were given, and else none
+given : (names : Option (Bor (List (Bor (List ℕ))))) (none : Bor (List (Bor (List ℕ)))) → none.now ≡ []
+    → texts (unwrap_or names none).now ≡ unwrap_or (option_map (λ given. texts given.now) names) []
+given None none e = ap texts e
+given (Some names) none e = refl
+
 pub returns : goal.returns
-returns c = λ i. record {
-  dashes = c.dash_count.ensures i;
-  files = c.file_count.ensures i;
-  file = c.file_given.ensures i;
-  every = c.every.ensures i;
-  skip = c.is_set.ensures i;
-  force = c.is_set-2.ensures i;
-  date = (c.get_str.ensures ∙ first_value-rows (found_of c.args.found.now) (codes "date")) i;
-}
+returns c =
+    let names : texts c.unwrap_or-names.result.now ≡ file_names_in (rows_of (found_of c.args.found.now)) =
+    ap (λ (given : Bor (List (Bor (List ℕ)))). texts given.now) c.unwrap_or-names.ensures
+    ∙ given c.get_strs.result _ refl ∙ ap (λ (o : Option (List (List ℕ))). unwrap_or o [])
+    (c.get_strs.ensures ∙ raw_values-rows (found_of c.args.found.now) (codes "names")) in
+    λ i. record {
+      dashes = (c.dashes_among.ensures ∙ ap (count_by is_dash) names) i;
+      files = (c.files_among.ensures ∙ ap (count_by is_file) names) i;
+      file = (c.file_among.ensures ∙ ap (find is_file) names) i;
+      every = c.every.ensures i;
+      skip = c.is_set.ensures i;
+      force = c.is_set-2.ensures i;
+      date = (c.get_str.ensures ∙ first_value-rows (found_of c.args.found.now) (codes "date")) i;
+    }
