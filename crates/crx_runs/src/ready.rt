@@ -11,6 +11,7 @@ use crate::engine::Engine;
 use crx_lines::{Sink, WriteFailed, write_all_counted};
 
 /// Writes the lines that an engine has ready, each with LF: as one text where the engine has them as one, else one by one.
+#[inline(never)]
 pub(crate) fn write_ready<E: Engine, W: Sink>(
     engine: &mut E,
     writer: &mut W,
@@ -38,6 +39,7 @@ pub(crate) fn write_ready<E: Engine, W: Sink>(
 }
 
 /// Writes the lines that an engine has ready one by one, each with LF.
+#[inline(never)]
 fn write_lines<E: Engine, W: Sink>(engine: &mut E, writer: &mut W) -> Result<(), WriteFailed>
     ensures all { OnOk result (W.took writer.old (lines_text (E.ready engine.old)) writer.new) }
     ensures good { OnOk result (W.failures writer.new ≡ W.failures writer.old) }

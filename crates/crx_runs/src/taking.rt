@@ -294,6 +294,13 @@ pub fn take_line<E: Engine, W: Sink, M: Sink>(
     if engine.take(line) {
         return Ok(false);
     }
+    // Most of the other lines are copied: this way saves 70 instructions for each of them.
+    if let Ok(Step::Ready) = engine.answer() {
+        return match write_ready(engine, writer) {
+            Ok(()) => Ok(false),
+            Err(_) => Err(Halt::Unwritten),
+        };
+    }
     let answer = engine.answer();
     take_answered(engine, writer, messages, Taken::Line(line), answer)
 }
