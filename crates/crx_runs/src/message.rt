@@ -1,13 +1,16 @@
 //! Messages about faults.
 
-ghost use Rattle.std.specs.Prelude.{◌≡◌, ◌≤◌, length};
+ghost use Rattle.std.specs.Prelude.{◌≡◌, ◌≤◌, ◌+◌, ◌++◌, [], length};
 ghost use Rattle.crx_runs.specs.meaning.Messages.{message_text};
 ghost use Rattle.crx_runs.specs.Severities.{word_of};
+ghost use Rattle.crx_runs.specs.declared.message.TheConstants.{MESSAGE_LIMIT};
 
 use crx_base::At;
-use crx_text::appending::append;
-use crx_text::text::Text;
 use itoa::Buffer;
+use std::marker::Model;
+
+/// How many bytes a message has at most.
+const MESSAGE_LIMIT: usize = 256;
 
 /// How grave a fault is.
 #[derive(Clone, Copy, Debug, PartialEq, Eq)]
@@ -31,18 +34,65 @@ impl Severity {
     }
 }
 
+/// A message, held in place. It is small, since it is set to zero and moved for each fault that is skipped.
+#[derive(Drop)]
+pub struct MessageLine {
+    bytes: [u8; MESSAGE_LIMIT],
+    len: usize,
+}
+
+impl Model for MessageLine {
+    ghost use Rattle.std.specs.Prelude.{ℕ, List, ◌≤◌, take};
+    ghost use Rattle.crx_runs.specs.declared.message.TheConstants.{MESSAGE_LIMIT};
+
+    ghost Value = { List ℕ };
+
+    ghost view = { λ message. take message.len message.bytes };
+
+    ghost invariant = { λ message. message.len ≤ MESSAGE_LIMIT };
+}
+
+impl MessageLine {
+    /// The empty message.
+    fn new() -> MessageLine
+        ensures empty { result ≡ [] }
+    {
+        MessageLine {
+            bytes: [0; MESSAGE_LIMIT],
+            len: 0,
+        }
+    }
+
+    /// Appends bytes that fit.
+    fn append(&mut self, bytes: &[u8])
+        requires { length self.old + length bytes.now ≤ MESSAGE_LIMIT }
+        ensures { self.new ≡ self.old ++ bytes.now }
+    {
+        let end = self.len + bytes.len();
+        self.bytes[self.len..end].copy_from_slice(bytes);
+        self.len = end;
+    }
+
+    /// The bytes of the message.
+    pub fn bytes(&self) -> &[u8]
+        ensures value { result.now ≡ self.now }
+    {
+        &self.bytes[..self.len]
+    }
+}
+
 /// The line of a fault, as `ERROR line 7 code 18: bad indicator`, with its LF. It takes no memory.
-pub fn message(severity: Severity, at: At) -> Text
+pub fn message(severity: Severity, at: At) -> MessageLine
     ensures value { result ≡ message_text (word_of severity) at }
 {
-    let mut text = Text::new();
-    append(&mut text, severity.word().as_bytes());
-    append(&mut text, b" line ");
-    append(&mut text, Buffer::new().format(at.line).as_bytes());
-    append(&mut text, b" code ");
-    append(&mut text, Buffer::new().format(at.fault.code()).as_bytes());
-    append(&mut text, b": ");
-    append(&mut text, at.fault.words().as_bytes());
-    append(&mut text, b"\n");
-    text
+    let mut message = MessageLine::new();
+    message.append(severity.word().as_bytes());
+    message.append(b" line ");
+    message.append(Buffer::new().format(at.line).as_bytes());
+    message.append(b" code ");
+    message.append(Buffer::new().format(at.fault.code()).as_bytes());
+    message.append(b": ");
+    message.append(at.fault.words().as_bytes());
+    message.append(b"\n");
+    message
 }
