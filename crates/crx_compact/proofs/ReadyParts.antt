@@ -1,5 +1,5 @@
 -- Lines that are ready in two parts.
-use Rattle.std.proofs.Common.{◌≡◌, List, [], ◌∷◌, ◌++◌, true, false, refl, ap, true≢false}
+use Rattle.std.proofs.Common.{◌≡◌, ℕ, List, [], ◌∷◌, ◌++◌, Bool, true, false, if◌then◌else◌, refl, ap, true≢false}
 
 abbrev pub none-left : {A : Type 0} (x : A) (xs : List A) → x ∷ xs ≡ [] → ⊥
 none-left x xs e = true≢false (ap (λ l. elim l [ [] ↦ false | y ∷ ys ↦ true ]) e)
@@ -11,3 +11,9 @@ first-empty (x ∷ xs) ys e = absurd (none-left x (xs ++ ys) e)
 pub second-empty : {A : Type 0} (xs ys : List A) → xs ++ ys ≡ [] → ys ≡ []
 second-empty [] ys e = e
 second-empty (x ∷ xs) ys e = absurd (none-left x (xs ++ ys) e)
+
+-- no line is copied where none is ready
+pub none-copied : (is_copied : Bool) (line : List ℕ) (printed : List (List ℕ))
+    → (if is_copied then line ∷ [] else []) ++ printed ≡ [] → is_copied ≡ false
+none-copied false line printed e = refl
+none-copied true line printed e = absurd (none-left line printed e)

@@ -5,7 +5,7 @@ use Rattle.crx_compact.specs.declared.satellite.SatelliteHistory.TheInside.{Insi
 use Rattle.crx_compact.specs.declared.satellites.Satellites.TheInside.{Inside as SatellitesInside}
 use Rattle.crx_compact.specs.declared.history.History.TheInside.{Inside as HistoryInside}
 use Rattle.crx_compact.specs.declared.lines.Lines.TheInside.{Inside as LinesInside}
-use Rattle.crx_compact.specs.declared.expanded_lines.CopiedLine.TheInside.{Inside as CopiedLineInside}
+use Rattle.crx_compact.specs.declared.copied_line.CopiedLine.TheInside.{Inside as CopiedLineInside}
 use Rattle.crx_compact.specs.declared.expanded_lines.ExpandedLines.TheInside.{Inside as ExpandedLinesInside}
 use Rattle.crx_compact.specs.declared.printed_block.PrintedBlock.{PrintedBlock}
 use Rattle.crx_compact.specs.declared.columns.Columns.TheInside.{Inside as ColumnsInside}
@@ -59,14 +59,15 @@ lines_with one other = record one {
 -- a line that is copied, with the parts of another
 abbrev pub copied_line_with : CopiedLineInside → CopiedLineInside → CopiedLineInside
 copied_line_with one other = record one {
-  text = other.text;
-  is_ready = other.is_ready;
+  bytes = other.bytes;
+  len = other.len;
 }
 
 -- the lines that an expansion has ready, with the parts of another
 abbrev pub expanded_lines_with : ExpandedLinesInside → ExpandedLinesInside → ExpandedLinesInside
 expanded_lines_with one other = record one {
   copied = other.copied;
+  is_copied = other.is_copied;
   printed = other.printed;
 }
 

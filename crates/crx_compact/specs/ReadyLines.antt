@@ -2,14 +2,16 @@
 use Rattle.std.specs.Prelude.{ℕ, List, [], ◌∷◌, Bool, true, false}
 use Rattle.crx_header.specs.meaning.CompactHeader.{version_line}
 use Rattle.crx_compact.specs.declared.ready_lines.Turn.{Turn}
-use Rattle.crx_compact.specs.declared.ready_lines.Turn.TheVariants.{Version, Program, Copied, Made, Open}
+use Rattle.crx_compact.specs.declared.ready_lines.Turn.TheVariants.{Version, Program, Copied, Over, Made, Open}
 use Rattle.crx_compact.specs.declared.ready_lines.ReadyLines.{ReadyLines}
 
--- the lines from a turn on: the two of compact text, a line that is copied, and those that were made; none while those of an epoch are made
+-- the lines from a turn on: the two of compact text before a line that is copied, or this alone; or those that were made. There is none while
+-- those of an epoch are made, and none after a line that was copied
 abbrev pub lines_from : Turn → List ℕ → List ℕ → List (List ℕ) → List (List ℕ)
-lines_from Version program copied made = version_line ∷ program ∷ copied ∷ made
-lines_from Program program copied made = program ∷ copied ∷ made
-lines_from Copied program copied made = copied ∷ made
+lines_from Version program copied made = version_line ∷ program ∷ copied ∷ []
+lines_from Program program copied made = program ∷ copied ∷ []
+lines_from Copied program copied made = copied ∷ []
+lines_from Over program copied made = []
 lines_from Made program copied made = made
 lines_from Open program copied made = []
 
@@ -19,4 +21,4 @@ is_opened Open = true
 is_opened turn = false
 
 abbrev pub pending_lines : ReadyLines → List (List ℕ)
-pending_lines r = lines_from r.turn r.program.value r.copied.value r.made.lines
+pending_lines r = lines_from r.turn r.program.value r.copied r.made.lines

@@ -9,7 +9,7 @@ ghost use Rattle.crx_compact.specs.declared.satellite.SatelliteHistory.TheInside
 ghost use Rattle.crx_compact.specs.declared.satellites.Satellites.TheInside.{Inside as SatellitesInside};
 ghost use Rattle.crx_compact.specs.declared.history.History.TheInside.{Inside as HistoryInside};
 ghost use Rattle.crx_compact.specs.declared.lines.Lines.TheInside.{Inside as LinesInside};
-ghost use Rattle.crx_compact.specs.declared.expanded_lines.CopiedLine.TheInside.{Inside as CopiedLineInside};
+ghost use Rattle.crx_compact.specs.declared.copied_line.CopiedLine.TheInside.{Inside as CopiedLineInside};
 ghost use Rattle.crx_compact.specs.declared.expanded_lines.ExpandedLines.TheInside.{Inside as ExpandedLinesInside};
 ghost use Rattle.crx_compact.specs.declared.printed_block.PrintedBlock.{PrintedBlock};
 ghost use Rattle.crx_compact.specs.declared.columns.Columns.TheInside.{Inside as ColumnsInside};

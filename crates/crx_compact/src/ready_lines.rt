@@ -8,6 +8,7 @@ ghost use Rattle.crx_compact.specs.ReadyLines.{is_opened};
 ghost use Rattle.crx_header.specs.meaning.CompactHeader.{program_line, lines_before_header};
 ghost use Rattle.crx_base.specs.meaning.Lines.{lines_text};
 
+use crate::copied_line::CopiedLine;
 use crate::lines::{FIRST_LINES, Lines};
 use crx_base::options::in_columns;
 use crx_header::crinex::{CRINEX_PROGRAM, CRINEX_PROGRAM_LABEL, CRINEX_VERSION_LINE};
@@ -22,8 +23,10 @@ pub(crate) enum Turn {
     Version,
     /// Its second line, then the others.
     Program,
-    /// The line that is copied, then those that were made.
+    /// The line that is copied, and none after it.
     Copied,
+    /// None any more, after a line that was copied.
+    Over,
     /// Those that were made.
     Made,
     /// None yet: those of an epoch are being made.
@@ -36,7 +39,7 @@ pub(crate) enum Turn {
 pub struct ReadyLines {
     turn: Turn,
     program: Box<Text>,
-    copied: Box<Text>,
+    copied: CopiedLine,
     pub(crate) made: Lines,
 }
 
@@ -65,7 +68,7 @@ impl ReadyLines {
         ensures reserved { IfOk result (λ r. r.made.reserved ≡ FIRST_LINES) }
     {
         let program = Box::new(alloc, Text::new())?;
-        let copied = Box::new(alloc, Text::new())?;
+        let copied = CopiedLine::new(alloc)?;
         let mut made = Lines::new(alloc);
         made.reserve_front(FIRST_LINES)?;
         Ok(ReadyLines {
@@ -82,8 +85,8 @@ impl ReadyLines {
     {
         match self.turn {
             Turn::Made => self.made.is_empty(),
-            Turn::Open => true,
-            _ => false,
+            Turn::Open | Turn::Over => true,
+            Turn::Version | Turn::Program | Turn::Copied => false,
         }
     }
 
@@ -98,30 +101,16 @@ impl ReadyLines {
         self.made.clear();
     }
 
-    /// Holds a line that is copied, and no lines that were made.
-    fn hold(&mut self, line: &[u8], turn: Turn)
-        requires short { length line.now ≤ LINE_LIMIT }
-        ensures turn { self.new.turn ≡ turn }
-        ensures copied { self.new.copied.value ≡ line.now }
-        ensures program { self.new.program ≡ self.old.program }
-        // The memory of all lines is used again.
-        ensures cleared { self.new.made ≡ cleared self.old.made }
-    {
-        self.made.clear();
-        self.copied.clear();
-        self.copied.extend(line).unwrap();
-        self.turn = turn;
-    }
-
     /// A line that is copied, in place of all others.
     pub(crate) fn copy(&mut self, line: &[u8])
         requires short { length line.now ≤ LINE_LIMIT }
         ensures copied { pending_lines self.new ≡ line.now ∷ [] }
+        ensures line { self.new.copied ≡ line.now }
         ensures closed { is_opened self.new.turn ≡ false }
-        // The memory of all lines is used again.
-        ensures cleared { self.new.made ≡ cleared self.old.made }
+        ensures made { self.new.made ≡ self.old.made }
     {
-        self.hold(line, Turn::Copied);
+        self.copied.put(line);
+        self.turn = Turn::Copied;
     }
 
     /// A header line, in place of all others: before the first one the two lines of compact text.
@@ -130,15 +119,13 @@ impl ReadyLines {
         requires short { length line.now ≤ LINE_LIMIT }
         ensures copied { pending_lines self.new ≡ lines_before_header date.now is_first ++ line.now ∷ [] }
         ensures closed { is_opened self.new.turn ≡ false }
-        // The memory of all lines is used again.
-        ensures cleared { self.new.made ≡ cleared self.old.made }
+        ensures made { self.new.made ≡ self.old.made }
     {
+        self.copy(line);
         if is_first {
             write_program_line(&mut self.program, date);
-            self.hold(line, Turn::Version);
-            return;
+            self.turn = Turn::Version;
         }
-        self.hold(line, Turn::Copied);
     }
 
     /// Begins the lines of an epoch, in place of all others: none is pending until [`ReadyLines::close`].
@@ -181,16 +168,16 @@ impl ReadyLines {
                 Some(self.program.bytes())
             }
             Turn::Copied => {
-                self.turn = Turn::Made;
-                Some(self.copied.bytes())
+                self.turn = Turn::Over;
+                Some(self.copied.line())
             }
             Turn::Made => self.made.next_line(),
-            Turn::Open => None,
+            Turn::Open | Turn::Over => None,
         }
     }
 
-    /// Borrows all lines as one text, each followed by LF, after which none is pending. `None` comes where the next one is in other
-    /// memory, and then all stay as they are.
+    /// Borrows all lines as one text, each followed by LF, after which none is pending. `None` comes before the header, whose lines are in
+    /// several memories, and then all stay as they are.
     pub(crate) fn take_text(&mut self) -> Option<&[u8]>
         ensures value { IfSome result (λ text. text.now ≡ lines_text (pending_lines self.old)) }
         ensures made { self.old.turn ≡ Turn.Made → IsSome result }
@@ -203,8 +190,12 @@ impl ReadyLines {
     {
         match self.turn {
             Turn::Made => Some(self.made.take_text()),
-            Turn::Open => Some(&[]),
-            _ => None,
+            Turn::Copied => {
+                self.turn = Turn::Over;
+                Some(self.copied.text())
+            }
+            Turn::Open | Turn::Over => Some(&[]),
+            Turn::Version | Turn::Program => None,
         }
     }
 }

@@ -4,13 +4,11 @@ ghost use Rattle.std.specs.Prelude.{◌≡◌, ◌≢◌, ◌≤◌, ℕ, if◌t
 ghost use Rattle.crx_base.specs.declared.limits.TheConstants.{LINE_LIMIT};
 ghost use Rattle.crx_base.specs.meaning.Seen.{Content};
 ghost use Rattle.crx_compact.specs.OpenEpochs.{is_idle, tail_held};
-ghost use Rattle.crx_compact.specs.OpenEpochs.ColumnsState.{Idle};
 ghost use Rattle.crx_base.specs.meaning.Choices.{Choices};
-ghost use Rattle.crx_filter.specs.CompactStages.{is_compact_stage, open_in, wants_lines};
+ghost use Rattle.crx_filter.specs.CompactStages.{is_compact_stage, open_in};
 ghost use Rattle.crx_filter.specs.Stages.{is_ended, is_settled, seen_stage};
-ghost use Rattle.crx_filter.specs.meaning.Expanded.{empties_state};
 ghost use Rattle.crx_filter.specs.ExpansionByLine.{expansion, compact_begins};
-ghost use Rattle.crx_filter.specs.LineByLine.{BetweenUnits, made_in, made_of_first_lines, made_of_unit};
+ghost use Rattle.crx_filter.specs.LineByLine.{BetweenUnits, made_of_first_lines, made_of_unit};
 ghost use Rattle.crx_filter.specs.meaning.UnitPlaces.{event_record, header_line};
 ghost use Rattle.crx_filter.specs.declared.stage.Stage.{Stage};
 ghost use Rattle.crx_filter.specs.declared.stage.Stage.TheVariants.{FirstLines, Header, Event, Looking, Open};
@@ -21,7 +19,7 @@ use crate::stage::{Stage, after_header_line, counts_types, with_records_left};
 use crate::types_lines::{accept_header_line, accept_record};
 use crx_base::Fault;
 use crx_compact::{Columns, ExpandedLines};
-use crx_header::{Types, is_types};
+use crx_header::Types;
 use crx_rinex::{begins_epoch, is_event_line};
 use std::alloc::Global;
 
@@ -113,8 +111,8 @@ impl CompactReader {
             (seen_stage (open_in self.old.columns.state) (Event left counted)) line.now) }
         ensures types { OnErr result (self.new.types ≡ self.old.types) }
     {
-        accept_record(&mut self.types, counted, line)?;
-        reset_if(&mut self.columns, empties_columns(counted, line));
+        let is_emptied = accept_record(&mut self.types, counted, line)?;
+        reset_if(&mut self.columns, is_emptied);
         self.stage = with_records_left(left.saturating_sub(1), counted);
         Ok(())
     }
@@ -149,16 +147,15 @@ impl CompactReader {
     ///
     /// The refusals are those of [`Columns::feed_into`].
     #[inline(always)]
-    fn go_on(&mut self, line: &[u8], lines: &mut ExpandedLines) -> Result<bool, Fault>
-        requires open { wants_lines self.old.columns.state ≡ true }
+    pub(crate) fn go_on(&mut self, line: &[u8], lines: &mut ExpandedLines) -> Result<bool, Fault>
+        requires open { self.old.stage ≡ Open }
         requires short { length line.now ≤ LINE_LIMIT }
         requires drained { lines.old ≡ [] }
-        ensures takes { (choices : Choices) (number : ℕ) → IfOk result (TakesCompactLine (made_in expansion
-            (seen_stage (open_in self.old.columns.state) Open) self.old.types None (Content line.now)) line.now
-            (seen_in choices number self.old Open) (compact_reader_state choices number self.new) lines.new) }
+        ensures takes { (choices : Choices) (number : ℕ)
+            → IfOk result (TakesCompactLine (made_next self.old line.now) line.now (compact_reader_state
+            choices number self.old) (compact_reader_state choices number self.new) lines.new) }
         ensures refuses { IfErr result (RefusesCompactLine self.old.types (tail_held self.old.columns.state)
-            (made_in expansion (seen_stage (open_in self.old.columns.state) Open) self.old.types None
-            (Content line.now)) (seen_stage (open_in self.old.columns.state) Open) line.now) }
+            (made_next self.old line.now) (compact_reader_phase self.old) line.now) }
         ensures types { OnErr result (self.new.types ≡ self.old.types) }
         ensures none { OnErr result (lines.new ≡ []) }
     {
@@ -175,37 +172,12 @@ impl CompactReader {
         }
     }
 
-    /// Takes the next line of the input, once no line before it is pending: `true` says that lines are ready, which are the line itself
-    /// or those of the epoch that it completes.
-    ///
-    /// The faults are those of what the line is. `OutOfMemory` comes only at a line without a fault: a types line that counts, an
-    /// epoch's line, and a satellite's line.
-    #[inline(always)]
-    pub fn read(&mut self, line: &[u8], lines: &mut ExpandedLines) -> Result<bool, Fault>
-        requires running { is_ended self.old.stage ≡ false }
-        requires short { length line.now ≤ LINE_LIMIT }
-        requires drained { lines.old ≡ [] }
-        ensures takes { (choices : Choices) (number : ℕ)
-            → IfOk result (TakesCompactLine (made_next self.old line.now) line.now (compact_reader_state
-            choices number self.old) (compact_reader_state choices number self.new) lines.new) }
-        ensures refuses { IfErr result (RefusesCompactLine self.old.types (tail_held self.old.columns.state)
-            (made_next self.old line.now) (compact_reader_phase self.old) line.now) }
-        ensures types { OnErr result (self.new.types ≡ self.old.types) }
-        ensures none { OnErr result (lines.new ≡ []) }
-    {
-        if let Stage::Open = self.stage {
-            return self.go_on(line, lines);
-        }
-        let is_copied = self.read_between(line)?;
-        if is_copied {
-            lines.copy(line);
-        }
-        Ok(is_copied)
-    }
-
     /// Takes a line where no epoch is open; `true` says that it is copied into RINEX as it is.
+    ///
+    /// The faults are those of what the line is. `OutOfMemory` comes only at a line without a fault: a types line that counts, and an epoch's
+    /// first line.
     #[inline(never)]
-    fn read_between(&mut self, line: &[u8]) -> Result<bool, Fault>
+    pub(crate) fn read_between(&mut self, line: &[u8]) -> Result<bool, Fault>
         requires running { is_ended self.old.stage ≡ false }
         requires between { self.old.stage ≢ Open }
         requires short { length line.now ≤ LINE_LIMIT }
@@ -266,13 +238,6 @@ impl CompactReader {
         }
         self.stage = stage;
     }
-}
-
-/// Whether a record that was accepted empties the columns: a types line does, where types lines count.
-fn empties_columns(counted: bool, line: &[u8]) -> bool
-    ensures { result ≡ empties_state counted line.now }
-{
-    counted && is_types(line)
 }
 
 /// Empties columns between two epochs, where that is asked for.

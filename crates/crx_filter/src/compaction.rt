@@ -137,17 +137,18 @@ impl Compaction {
         settled.answer
     }
 
-    /// The next line has a fault; whether reading may go on at it. Nothing is ready then.
+    /// The next line has a fault; whether reading may go on at it. Nothing is ready then. The answer is put into its place: one that was
+    /// handed back would have a place of its own in the functions that call this, and be set to zero at each good line.
     #[inline(never)]
-    fn fail(&mut self, fault: Fault, goes_on: bool) -> Result<Step, At>
+    fn fail(&mut self, fault: Fault, goes_on: bool, answer: &mut Result<Step, At>)
         requires within { self.old.number < INPUT_LIMIT }
         ensures fails { (line : ReadLine) → can_go_on line ≡ goes_on
-            → step_made result (compaction_ready self.new) (compaction_state self.new)
+            → step_made answer.new (compaction_ready self.new) (compaction_state self.new)
             ≡ failed_step compaction (compaction_state self.old) line fault }
         ensures drained { compaction_ready self.new ≡ [] }
-        ensures ended { IfErr result (λ at. (compaction_state self.new).phase ≡ Ended at) }
+        ensures ended { IfErr answer.new (λ at. (compaction_state self.new).phase ≡ Ended at) }
         ensures fatal { is_skippable fault ≡ false
-            → result ≡ Err (record { line = self.old.number + 1; fault = fault }) }
+            → answer.new ≡ Err (record { line = self.old.number + 1; fault = fault }) }
         ensures counts { is_skippable fault ≡ false
             → (compaction_state self.new).number ≡ self.old.number + 1 }
         ensures choices { (compaction_state self.new).choices ≡ (compaction_state self.old).choices }
@@ -159,7 +160,7 @@ impl Compaction {
             fault,
             goes_on,
         );
-        self.settle(settled)
+        *answer = self.settle(settled);
     }
 
     /// Makes a line ready that is copied: the next epoch is in full.
@@ -185,31 +186,31 @@ impl Compaction {
     }
 
     /// An epoch has ended: it is counted, and its lines are ready, unless memory ran out.
-    fn conclude(&mut self, ended: Result<(), AllocError>) -> Result<Step, At>
+    fn conclude(&mut self, ended: Result<(), AllocError>, answer: &mut Result<Step, At>)
         requires within { self.old.number < INPUT_LIMIT }
         requires closed { is_open_stage self.old.reader.stage ≡ false }
         requires drained { OnErr ended (compaction_ready self.old ≡ []) }
-        ensures value { OnOk ended (result ≡ Ok Step.Ready) }
+        ensures value { OnOk ended (answer.new ≡ Ok Step.Ready) }
         ensures seen { OnOk ended (compaction_state self.new
             ≡ record (compaction_state self.old) {
               number = self.old.number + 1;
               kept = record { index = self.old.index + 1; tail = self.old.encoder.before };
             }) }
         ensures lines { OnOk ended (compaction_ready self.new ≡ compaction_ready self.old) }
-        ensures refused { OnErr ended (result
+        ensures refused { OnErr ended (answer.new
             ≡ Err (record { line = self.old.number + 1; fault = Fault.OutOfMemory })) }
         ensures drained { OnErr ended (compaction_ready self.new ≡ []) }
-        ensures nothing { OnErr result (compaction_ready self.new ≡ []) }
-        ensures ended { IfErr result (λ at. (compaction_state self.new).phase ≡ Ended at) }
+        ensures nothing { OnErr answer.new (compaction_ready self.new ≡ []) }
+        ensures ended { IfErr answer.new (λ at. (compaction_state self.new).phase ≡ Ended at) }
         ensures counted { (compaction_state self.new).number ≡ self.old.number + 1 }
         ensures choices { (compaction_state self.new).choices ≡ (compaction_state self.old).choices }
     {
         if ended.is_err() {
-            return self.fail(Fault::OutOfMemory, false);
+            return self.fail(Fault::OutOfMemory, false, answer);
         }
         self.number += 1;
         self.index += 1;
-        Ok(Step::Ready)
+        *answer = Ok(Step::Ready);
     }
 
     /// Takes the next line: see [`Compactor::feed`](crate::compactor::Compactor::feed). `true` says that nothing is to be written or
@@ -247,19 +248,19 @@ impl Compaction {
         ensures choices { (compaction_state self.new).choices ≡ (compaction_state self.old).choices }
     {
         if let Err(fault) = self.reader.read_row(line) {
-            *answer = self.fail(fault, begins_epoch(line));
+            self.fail(fault, begins_epoch(line), answer);
             return false;
         }
         match self.encoder.encode_row(self.reader.row()) {
             Ok(true) => {}
             Ok(false) => {
-                *answer = self.fail(Fault::RepeatedSatellite, false);
+                self.fail(Fault::RepeatedSatellite, false, answer);
                 return false;
             }
             Err(_) => {
                 // The encoder has forgotten the open epoch.
                 self.reader.stage = Stage::Looking;
-                *answer = self.fail(Fault::OutOfMemory, false);
+                self.fail(Fault::OutOfMemory, false, answer);
                 return false;
             }
         }
@@ -268,7 +269,7 @@ impl Compaction {
             return true;
         }
         let ended = end_epoch(&self.reader, &mut self.encoder);
-        *answer = self.conclude(ended);
+        self.conclude(ended, answer);
         false
     }
 
@@ -293,7 +294,7 @@ impl Compaction {
         }
         match self.reader.take(line) {
             Err(fault) => {
-                *answer = self.fail(fault, begins_epoch(line));
+                self.fail(fault, begins_epoch(line), answer);
                 false
             }
             Ok(step) => match step {
@@ -309,7 +310,7 @@ impl Compaction {
                         return true;
                     }
                     let ended = end_epoch(&self.reader, &mut self.encoder);
-                    *answer = self.conclude(ended);
+                    self.conclude(ended, answer);
                     false
                 }
                 _ => {
@@ -340,7 +341,11 @@ impl Compaction {
                 self.number += 1;
                 Ok(Step::Quiet)
             }
-            _ => self.fail(Fault::LineTooLong, false),
+            _ => {
+                let mut answer = Ok(Step::Quiet);
+                self.fail(Fault::LineTooLong, false, &mut answer);
+                answer
+            }
         }
     }
 

@@ -1,12 +1,11 @@
 //! Expansion, one line of compact text at a time.
 
-ghost use Rattle.std.specs.Prelude.{◌≡◌, ℕ, ◌+◌, ◌≤◌, ◌<◌, ◌↔◌, List, [], IsTrue, IfOk, IfErr, OnErr, Err, Ok, true, false, drop, length, slice_get, if◌then◌else◌, is_some, IfSome};
+ghost use Rattle.std.specs.Prelude.{◌≡◌, ◌≢◌, ◌+◌, ◌≤◌, ◌<◌, ◌↔◌, List, [], IsTrue, IfOk, IfErr, OnErr, Err, Ok, true, false, drop, length, slice_get};
 ghost use Rattle.crx_base.specs.meaning.Lines.{InputLine, is_long};
 ghost use Rattle.crx_base.specs.meaning.Seen.{Content, Overlong};
 ghost use Rattle.crx_lines.specs.Reading.{line_number, line_shown};
 ghost use Rattle.crx_base.specs.declared.fault.At.{At};
 ghost use Rattle.crx_base.specs.declared.limits.TheConstants.{INPUT_LIMIT, LINE_LIMIT};
-ghost use Rattle.crx_base.specs.meaning.Choices.{Choices};
 ghost use Rattle.crx_filter.specs.meaning.Directions.{expansion_filter};
 ghost use Rattle.crx_runs.specs.Engines.{EngineAnswers, answer_given, Awaited, Concludes, IsAwaited};
 ghost use Rattle.crx_filter.specs.EngineSteps.{Steps, step_made};
@@ -81,12 +80,10 @@ impl Expander {
         self.lines.next_line()
     }
 
-    /// Borrows all lines that are ready as one text, each followed by LF. `None` comes where a line is copied, and then the lines stay
-    /// ready.
-    pub(crate) fn take_text(&mut self) -> Option<&[u8]>
-        ensures value { IfSome result (λ text. text.now ≡ lines_text self.old.lines) }
-        ensures* after_borrow { sem 𝓛 (Rests the_row self.entry
-            (λ new. new ≡ record self.old { lines = if is_some result then [] else self.old.lines })) }
+    /// Borrows all lines that are ready as one text, each followed by LF.
+    pub(crate) fn take_text(&mut self) -> &[u8]
+        ensures value { result.now ≡ lines_text self.old.lines }
+        ensures* after_borrow { sem 𝓛 (Rests the_row self.entry (λ new. new ≡ record self.old { lines = [] })) }
     {
         self.lines.take_text()
     }
@@ -207,10 +204,9 @@ impl Expander {
             ≡ Ended at → answer_given result self.new.answer ≡ Err at }
     {
         let Stage::Open = self.reader.stage else {
-            self.store_any(line);
-            return false;
+            return self.take_between(line);
         };
-        match self.reader.read(line, &mut self.lines) {
+        match self.reader.go_on(line, &mut self.lines) {
             Ok(false) => {
                 self.number.go_on();
                 true
@@ -221,68 +217,65 @@ impl Expander {
                 false
             }
             Err(fault) => {
-                self.store_fault(fault, begins_epoch(line));
+                self.store_fault(Stage::Open, fault, begins_epoch(line));
                 false
             }
         }
     }
 
-    /// Takes the content of a line of any kind, and stores the answer. An answer that took its place within [`Expander::take_line`] would
-    /// be set to zero at every line.
+    /// Takes the content of a line where no epoch is open as [`Expander::take_line`] does. An answer that took its place within that one
+    /// would be set to zero at every line.
     #[inline(never)]
-    fn store_any(&mut self, line: &[u8])
+    fn take_between(&mut self, line: &[u8]) -> bool
         requires drained { self.old.lines ≡ [] }
+        requires between { self.old.reader.stage ≢ Open }
         requires short { length line.now ≤ LINE_LIMIT }
         requires within { self.old.number < INPUT_LIMIT }
         ensures steps { Steps expansion (expander_state self.old) (Content line.now)
-            self.new.answer self.new.lines (expander_state self.new) }
+            (answer_given result self.new.answer) self.new.lines (expander_state self.new) }
         ensures options { self.new.options ≡ self.old.options }
-        ensures drained { OnErr self.new.answer (self.new.lines ≡ []) }
-        ensures ended { IfErr self.new.answer (λ at. self.new.reader.stage ≡ Ended at) }
-        ensures repeated { (at : At) → self.old.reader.stage ≡ Ended at → self.new.answer ≡ Err at }
+        ensures drained { OnErr (answer_given result self.new.answer) (self.new.lines ≡ []) }
+        ensures ended { IfErr (answer_given result self.new.answer) (λ at. self.new.reader.stage ≡ Ended at) }
+        ensures repeated { (at : At) → self.old.reader.stage
+            ≡ Ended at → answer_given result self.new.answer ≡ Err at }
     {
-        self.answer = self.take_any(line);
+        let stage = self.reader.stage;
+        if let Stage::Ended(at) = stage {
+            self.number.go_on();
+            self.answer = Err(at);
+            return false;
+        }
+        match self.reader.read_between(line) {
+            Ok(false) => {
+                self.number.go_on();
+                true
+            }
+            Ok(true) => {
+                self.number.go_on();
+                self.lines.copy(line);
+                self.answer = Ok(Step::Ready);
+                false
+            }
+            Err(fault) => {
+                self.store_fault(stage, fault, begins_epoch(line));
+                false
+            }
+        }
     }
 
-    /// Stores the answer to a fault of the next line of an epoch that is open, which reading may go on at or not.
+    /// Stores the answer to a fault of the next line, which reading may go on at or not.
     #[inline(never)]
-    fn store_fault(&mut self, fault: Fault, goes_on: bool)
+    fn store_fault(&mut self, stage: Stage, fault: Fault, goes_on: bool)
         requires within { self.old.number < INPUT_LIMIT }
         requires drained { self.old.lines ≡ [] }
-        ensures fails { Fails self.old Open fault goes_on self.new.answer self.new }
+        ensures fails { Fails self.old stage fault goes_on self.new.answer self.new }
         ensures drained { self.new.lines ≡ [] }
         ensures options { self.new.options ≡ self.old.options }
         ensures ended { IfErr self.new.answer (λ at. self.new.reader.stage ≡ Ended at) }
         ensures fatal { is_skippable fault ≡ false
             → self.new.answer ≡ Err (record { line = self.old.number + 1; fault = fault }) }
     {
-        self.answer = self.fail(Stage::Open, fault, goes_on);
-    }
-
-    /// Takes the content of a line of any kind: see [`Expander::feed`].
-    fn take_any(&mut self, line: &[u8]) -> Result<Step, At>
-        requires drained { self.old.lines ≡ [] }
-        requires short { length line.now ≤ LINE_LIMIT }
-        requires within { self.old.number < INPUT_LIMIT }
-        ensures steps { Steps expansion
-            (expander_state self.old) (Content line.now) result self.new.lines (expander_state self.new) }
-        ensures options { self.new.options ≡ self.old.options }
-        ensures drained { OnErr result (self.new.lines ≡ []) }
-        ensures ended { IfErr result (λ at. self.new.reader.stage ≡ Ended at) }
-        ensures repeated { (at : At) → self.old.reader.stage ≡ Ended at → result ≡ Err at }
-    {
-        let stage = self.reader.stage;
-        if let Stage::Ended(at) = stage {
-            self.number.go_on();
-            return Err(at);
-        }
-        match self.reader.read(line, &mut self.lines) {
-            Ok(is_ready) => {
-                self.number.go_on();
-                Ok(if is_ready { Step::Ready } else { Step::Quiet })
-            }
-            Err(fault) => self.fail(stage, fault, begins_epoch(line)),
-        }
+        self.answer = self.fail(stage, fault, goes_on);
     }
 
     /// Answers to a fault of the next line, which reading may go on at or not.

@@ -50,6 +50,6 @@ impl Engine for Expander {
     }
 
     fn take_text(&mut self) -> Option<&[u8]> {
-        Expander::take_text(self)
+        Some(Expander::take_text(self))
     }
 }

@@ -1,13 +1,14 @@
 //! Lines that may declare observation types, in either direction: header lines, and records of events.
 
 ghost use Rattle.std.specs.Option.{is_some};
-ghost use Rattle.std.specs.Prelude.{◌≡◌, ◌⊎◌, ◌&&◌, None, Some, is_none, true, false, if◌then◌else◌, OnOk, OnErr, IfErr};
+ghost use Rattle.std.specs.Prelude.{◌≡◌, ◌⊎◌, ◌&&◌, None, Some, is_none, true, false, if◌then◌else◌, OnOk, OnErr, IfOk, IfErr};
 ghost use Rattle.crx_header.specs.meaning.ObservationTypes.{count_of_types_line};
 ghost use Rattle.crx_header.specs.ObservationTypes.{with_line};
+ghost use Rattle.crx_filter.specs.meaning.Expanded.{empties_state};
 ghost use Rattle.crx_filter.specs.meaning.UnitPlaces.{header_line_fault, types_fault};
 
 use crx_base::Fault;
-use crx_header::{Types, header_first};
+use crx_header::{Types, header_first, is_types};
 
 /// Takes in a header line, or answers what is wrong with it: the first line has checks of its own. After a fault the types
 /// are as they were.
@@ -25,16 +26,19 @@ pub fn accept_header_line(types: &mut Types, is_first: bool, line: &[u8]) -> Res
     types.accept_line(line)
 }
 
-/// Takes in a record of an event: types lines among them count where this is said. After a fault the types are as they were.
-pub fn accept_record(types: &mut Types, counted: bool, line: &[u8]) -> Result<(), Fault>
+/// Takes in a record of an event: types lines among them count where this is said, and `true` says that it is one that counts. After a
+/// fault the types are as they were.
+pub fn accept_record(types: &mut Types, counted: bool, line: &[u8]) -> Result<bool, Fault>
+    ensures types { IfOk result (λ is_accepted. is_accepted ≡ empties_state counted line.now) }
     ensures good { OnOk result ((if counted then types_fault line.now else None) ≡ None) }
     ensures ok { OnOk result (types.new ≡ (if counted then with_line types.old line.now else types.old)) }
     ensures same { OnErr result (types.new ≡ types.old) }
     ensures refused { IfErr result (λ fault. ((if counted then types_fault line.now else None) ≡ Some fault)
         ⊎ ((fault ≡ Fault.OutOfMemory) × ((counted && is_some (count_of_types_line line.now)) ≡ true))) }
 {
-    if !counted {
-        return Ok(());
+    if !(counted && is_types(line)) {
+        return Ok(false);
     }
-    types.accept_line(line)
+    types.accept_line(line)?;
+    Ok(true)
 }
