@@ -2,7 +2,7 @@ use Rattle.std.proofs.Common.{◌≡◌, ℕ, List, ◌++◌, length}
 use Rattle.crx_base.specs.meaning.Lines.{InputLine}
 use Rattle.crx_runs.specs.Engines.{Awaited}
 use Rattle.crx_base.specs.meaning.Lines.{lines_text}
-use Rattle.crx_runs.proofs.ready.write_lines.Given as goal
+use Rattle.crx_runs.proofs.ready.write_ready.Given as goal
 
 abbrev pub invariant-loop-line : goal.invariant-loop-line
 invariant-loop-line g l =
