@@ -194,16 +194,6 @@ fn checker<'a>(alloc: Global) -> Result<Command<'a>, AllocError>
         .arg(names_of_files(alloc, CHECKED_FILE))
 }
 
-/// The program without its subcommands.
-fn top<'a>(alloc: Global) -> Command<'a>
-    ensures { app_of result ≡ top }
-{
-    titled(alloc, "rnxcmp", ABOUT, HELP)
-        .no_binary_name(true)
-        .disable_help_subcommand(true)
-        .subcommand_required(true)
-}
-
 /// A command with one more subcommand, where there was memory to make that.
 fn joined<'a>(
     command: Command<'a>,
@@ -223,7 +213,11 @@ fn joined<'a>(
 pub(crate) fn command<'a>(alloc: Global) -> Result<Command<'a>, AllocError>
     ensures { IfOk result (λ c. app_of c ≡ program) }
 {
-    let one = joined(top(alloc), rnx2crx(alloc))?;
+    let top = titled(alloc, "rnxcmp", ABOUT, HELP)
+        .no_binary_name(true)
+        .disable_help_subcommand(true)
+        .subcommand_required(true);
+    let one = joined(top, rnx2crx(alloc))?;
     let two = joined(one, crx2rnx(alloc))?;
     joined(two, checker(alloc))
 }

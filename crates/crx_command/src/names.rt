@@ -1,7 +1,7 @@
 //! The name of the output file, made from that of the input file.
 
 ghost use Rattle.std.specs.Prelude.{◌≡◌, ◌++◌, IfOk, map, option_map};
-ghost use Rattle.crx_command.specs.meaning.Names.{ends_in_year, first_renamed, is_year, output_name, renamings, stem_of, without_ending};
+ghost use Rattle.crx_command.specs.meaning.Names.{ends_in_year, first_renamed, output_name, renamings, stem_of, without_ending};
 ghost use Rattle.crx_command.specs.Names.{renaming_of};
 
 use crate::job::Tool;
@@ -80,24 +80,17 @@ fn without_ending<'a>(name: &'a str, ending: &str) -> Option<&'a str>
     name.strip_suffix(ending)
 }
 
-/// Whether these are a point and two digits.
-fn is_year(bytes: &[u8]) -> bool
-    ensures { result ≡ is_year bytes.now }
-{
-    match bytes {
-        [point, tens, units] => {
-            *point == b'.' && tens.is_ascii_digit() && units.is_ascii_digit()
-        }
-        _ => false,
-    }
-}
-
 /// Whether the last three bytes are a point and two digits.
 fn ends_in_year(stem: &str) -> bool
     ensures { result ≡ ends_in_year stem.now }
 {
     let bytes = stem.as_bytes();
-    is_year(&bytes[bytes.len().saturating_sub(3)..])
+    match &bytes[bytes.len().saturating_sub(3)..] {
+        [point, tens, units] => {
+            *point == b'.' && tens.is_ascii_digit() && units.is_ascii_digit()
+        }
+        _ => false,
+    }
 }
 
 /// The part of a name with this ending that the output's name has too; `None` where the name hasn't this ending.
