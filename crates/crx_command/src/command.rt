@@ -1,7 +1,7 @@
 //! The command line: its subcommands, their options, and their help.
 
-ghost use Rattle.std.specs.Prelude.{◌≡◌, IfOk, codes, false, true};
-ghost use Rattle.clap.specs.Words.{Shape, app_of, new_app, rule_of, shape_of, with_rule, with_subcommand};
+ghost use Rattle.std.specs.Prelude.{◌≡◌, IfOk, codes, false};
+ghost use Rattle.clap.specs.Words.{app_of, new_app, rule_of, shape_of, with_rule};
 ghost use Rattle.crx_command.specs.meaning.Commands.{checker, crx2rnx, date_rule, every_rule, flag_rule, names_rule, program, rnx2crx, top};
 
 use clap::{Arg, ArgAction, Command, value_parser};
@@ -194,20 +194,6 @@ fn checker<'a>(alloc: Global) -> Result<Command<'a>, AllocError>
         .arg(names_of_files(alloc, CHECKED_FILE))
 }
 
-/// A command with one more subcommand, where there was memory to make that.
-fn joined<'a>(
-    command: Command<'a>,
-    made: Result<Command<'a>, AllocError>,
-) -> Result<Command<'a>, AllocError>
-    ensures { (shape : Shape) → IfOk made.entry (λ sub. shape_of sub ≡ shape) → shape.is_plain ≡ true
-        → IfOk result (λ c. app_of c ≡ with_subcommand (app_of command.entry) shape) }
-{
-    match made {
-        Ok(subcommand) => command.subcommand(subcommand),
-        Err(error) => Err(error),
-    }
-}
-
 /// The whole command line: `rnx2crx`, `crx2rnx` and `check`, each with its options and its help. The
 /// arguments come without the program's name.
 pub(crate) fn command<'a>(alloc: Global) -> Result<Command<'a>, AllocError>
@@ -217,7 +203,7 @@ pub(crate) fn command<'a>(alloc: Global) -> Result<Command<'a>, AllocError>
         .no_binary_name(true)
         .disable_help_subcommand(true)
         .subcommand_required(true);
-    let one = joined(top, rnx2crx(alloc))?;
-    let two = joined(one, crx2rnx(alloc))?;
-    joined(two, checker(alloc))
+    let one = top.subcommand(rnx2crx(alloc)?)?;
+    let two = one.subcommand(crx2rnx(alloc)?)?;
+    two.subcommand(checker(alloc)?)
 }
