@@ -63,41 +63,40 @@ module _ (c : ℕ → ℕ) (small : (i : ℕ)
   all = sym (all_bits (λ b. b) (bits_of c))
       ∙ ap (λ m. nat_eq m 65535) (sym (mask_l-mod (bits_of c) 64 (omega arith)) ∙ set)
 
-  digit_at : (k : ℕ) → bit (c k) ≡ true → is_ascii_digit (c k) ≡ true
-  digit_at k is_set = sym (bit_is (c k) (small k)) ∙ is_set
+  digit_at : (i k : ℕ) → get_or (bits_of c) k true ≡ bit (c i) → is_ascii_digit (c i) ≡ true
+  digit_at i k is = sym (bit_is (c i) (small i)) ∙ sym is ∙ all_at (bits_of c) k all
+
+  same_at : (i k : ℕ) → get_or (bits_of c) k true ≡ bit (c i) → above_zero (c i) ≡ c i - 48
+  same_at i k is = lane_digit (c i) (digit_at i k is)
 
   digits_explicit : all_ascii_digits (drop 3 (map c (range_with_len 0 15))) ≡ true
   digits_explicit =
-      and_from _ _ (digit_at 3 (all_at (bits_of c) 0 all))
-      (and_from _ _ (digit_at 4 (all_at (bits_of c) 1 all))
-      (and_from _ _ (digit_at 5 (all_at (bits_of c) 2 all))
-      (and_from _ _ (digit_at 6 (all_at (bits_of c) 4 all))
-      (and_from _ _ (digit_at 7 (all_at (bits_of c) 5 all))
-      (and_from _ _ (digit_at 8 (all_at (bits_of c) 6 all)) (and_from _ _ (digit_at 9 (all_at
-      (bits_of c) 8 all)) (and_from _ _ (digit_at 10 (all_at (bits_of c) 9 all))
-      (and_from _ _ (digit_at 11 (all_at
-      (bits_of c) 10 all)) (and_from _ _ (digit_at 12 (all_at (bits_of c) 12 all)) (and_from _ _ (digit_at 13
-      (all_at (bits_of c) 13 all)) (and_from _ _ (digit_at 14 (all_at (bits_of c) 14 all)) (refl))))))))))))
+      and_from _ _ (digit_at 3 0 refl) (and_from _ _ (digit_at 4 1 refl) (and_from _ _ (digit_at 5 2 refl)
+      (and_from _ _ (digit_at 6 4 refl) (and_from _ _ (digit_at 7 5 refl) (and_from _ _ (digit_at 8 6 refl)
+      (and_from _ _ (digit_at 9 8 refl) (and_from _ _ (digit_at 10 9 refl) (and_from _ _ (digit_at 11 10 refl)
+      (and_from _ _ (digit_at 12 12 refl) (and_from _ _ (digit_at 13 13 refl)
+      (and_from _ _ (digit_at 14 14 refl) refl)))))))))))
 
   value_explicit : joined_of (groups_of (map c (range_with_len 0 15)))
       ≡ digits_value 10 (drop 3 (map c (range_with_len 0 15)))
   value_explicit =
       let d = λ (i : ℕ). above_zero (c i) in
       let whole = weighed_digits 0 (drop 3 (map c (range_with_len 0 15))) digits_explicit in
-      let s3 = lane_digit (c 3) (digit_at 3 (all_at (bits_of c) 0 all)) in
-      let s4 = lane_digit (c 4) (digit_at 4 (all_at (bits_of c) 1 all)) in
-      let s5 = lane_digit (c 5) (digit_at 5 (all_at (bits_of c) 2 all)) in
-      let s6 = lane_digit (c 6) (digit_at 6 (all_at (bits_of c) 4 all)) in
-      let s7 = lane_digit (c 7) (digit_at 7 (all_at (bits_of c) 5 all)) in
-      let s8 = lane_digit (c 8) (digit_at 8 (all_at (bits_of c) 6 all)) in
-      let s9 = lane_digit (c 9) (digit_at 9 (all_at (bits_of c) 8 all)) in
-      let s10 = lane_digit (c 10) (digit_at 10 (all_at (bits_of c) 9 all)) in
-      let s11 = lane_digit (c 11) (digit_at 11 (all_at (bits_of c) 10 all)) in
-      let s12 = lane_digit (c 12) (digit_at 12 (all_at (bits_of c) 12 all)) in
-      let s13 = lane_digit (c 13) (digit_at 13 (all_at (bits_of c) 13 all)) in
-      let s14 = lane_digit (c 14) (digit_at 14 (all_at (bits_of c) 14 all)) in
       twelve (d 3) (d 4) (d 5) (d 6) (d 7) (d 8) (d 9) (d 10) (d 11) (d 12) (d 13) (d 14) (d 3)
-      ∙ ((rw (s3, s4, s5, s6, s7, s8, s9, s10, s11, s12, s13, s14) refl) ∙ whole)
+      ∙ ((rw (
+        same_at 3 0 refl,
+        same_at 4 1 refl,
+        same_at 5 2 refl,
+        same_at 6 4 refl,
+        same_at 7 5 refl,
+        same_at 8 6 refl,
+        same_at 9 8 refl,
+        same_at 10 9 refl,
+        same_at 11 10 refl,
+        same_at 12 12 refl,
+        same_at 13 13 refl,
+        same_at 14 14 refl,
+      ) refl) ∙ whole)
 
 pub fraction_digits : (field : List ℕ) → length field ≡ 15
     → ((i : ℕ) → get_or field i 0 < 256) → digit_bits field % 2 ^ 64 ≡ 65535 → all_ascii_digits (drop 3 field)

@@ -1,15 +1,14 @@
 -- The blanks at the end of a text, 16 characters at a time.
-use Rattle.std.proofs.Common.{true, false, not, cond, if◌then◌else◌, eqb, ℕ, suc, zero, ◌≡◌, ◌+◌, ◌-◌, ◌*◌}
-use Rattle.std.proofs.Common.{◌/◌, ◌%◌, ◌^◌, ◌<◌, ◌≤◌, List, [], ◌∷◌, ◌++◌, length, drop, take, map}
+use Rattle.std.proofs.Common.{Bool, true, false, not, cond, if◌then◌else◌, eqb, ℕ, suc, ◌≡◌, ◌+◌, ◌-◌, ◌*◌}
+use Rattle.std.proofs.Common.{◌%◌, ◌^◌, ◌<◌, ◌≤◌, List, [], ◌∷◌, ◌++◌, length, drop, take, map}
 use Rattle.std.proofs.Common.{replicate, w8, arith, refl, ap, sym, ◌∙◌, ◌≢◌, get_or}
-use Rattle.std.proofs.Math.Nat.{pow-le-pow_right}
+use Rattle.std.proofs.Math.Nat.{pow-suc}
 use Rattle.std.proofs.Math.Seq.{take-add}
 use Rattle.std.proofs.lemmas.Bool.{ne_eqb}
-use Rattle.std.proofs.lemmas.List.{drop_all, drop_more, length-append, length-map, length-take-le}
+use Rattle.std.proofs.lemmas.List.{drop_all, drop_more, length-append, length-take-le}
 use Rattle.std.proofs.lemmas.List.{nil_from_length, take-append-drop, take_more}
-use Rattle.std.proofs.lemmas.Nat.{leading_top}
-use Rattle.std.proofs.lemmas.Simd.{bitmask_splat, chunk-drop, mask_l-lt}
-use Rattle.std.specs.Int.Count.{count_leading_zeros, leading_of_zero}
+use Rattle.std.proofs.lemmas.Simd.{bitmask_splat, chunk-drop}
+use Rattle.std.specs.Int.Count.{count_leading_zeros, leading_unique}
 use lib.Lanes.{chunk, mask_l, top, zip2}
 use Rattle.crx_text.specs.meaning.Columns.{is_blank, before_end_blanks, without_end_blanks}
 
@@ -138,63 +137,37 @@ module _ (text : List ℕ) (end : ℕ) (within : end ≤ length text)
 
 -- ---- the mask of 16 characters
 
-leading_double : (k b m : ℕ) → b ≤ 1 → 0 < m
-    → count_leading_zeros (suc k) (b + 2 * m) ≡ count_leading_zeros k m
-unfolding count_leading_zeros
-leading_double k b m small some =
-    let more : b + 2 * m ≡ suc (b + 2 * m - 1) = omega (arith, some) in
-    let half : suc (b + 2 * m - 1) / 2 ≡ m = omega (arith, small, some) in
-    ap (count_leading_zeros (suc k)) more ∙ ap (count_leading_zeros k) half
-
 abbrev others : List ℕ → ℕ
 others xs = mask_l (map (λ c. not (eqb c 32)) xs)
 
-first_bit : (k x : ℕ) (zs : List ℕ) → zs ≡ []
-    → suc k - count_leading_zeros (suc k) (cond (not (eqb x 32)) 1 0 + 2 * 0)
-    ≡ length (before_end_blanks x zs)
-unfolding count_leading_zeros
-first_bit k x zs none = rw none
-    (elim (eqb x 32) as (λ b. suc k - count_leading_zeros (suc k) (cond (not b) 1 0 + 2 * 0)
-    ≡ length {A = ℕ} (if b then [] else (x ∷ []))) [
-      | true ↦ omega arith
-      | false ↦ omega (arith, leading_of_zero k)
-    ])
-
-all_fit : (xs : List ℕ) (k : ℕ) → length xs ≤ k → others xs < 2 ^ k
-all_fit xs k few =
-    let below = mask_l-lt (map (λ c. not (eqb c 32)) xs) in
-    let power : 2 ^ length (map (λ c. not (eqb c 32)) xs) ≤ 2 ^ k =
-    pow-le-pow_right {n = 2} (omega arith) (omega (arith, length-map xs (λ c. not (eqb c 32)), few)) in
-    omega (arith, below, power)
-
-next_bit : (k x m : ℕ) (xs : List ℕ)
-    → length xs ≤ k → k - count_leading_zeros k (others xs) ≡ length (without_end_blanks xs) → others xs ≡ m
-    → suc k - count_leading_zeros (suc k) (cond (not (eqb x 32)) 1 0 + 2 * others xs)
-    ≡ length (before_end_blanks x (without_end_blanks xs))
-next_bit k x zero xs few rest is =
-    let empty : k - count_leading_zeros k 0 ≡ length (without_end_blanks xs) =
-    ap (λ (m : ℕ). k - count_leading_zeros k m) (sym is) ∙ rest in
-    let none = nil_from_length (without_end_blanks xs) (omega (arith, empty, leading_of_zero k)) in
-    ap (λ (m : ℕ). suc k - count_leading_zeros (suc k) (cond (not (eqb x 32)) 1 0 + 2 * m)) is
-    ∙ first_bit k x (without_end_blanks xs) none
-next_bit k x (suc m) xs few rest is =
-    let some : 0 < others xs = omega (arith, is) in
-    let bit : cond (not (eqb x 32)) 1 0 ≤ 1 =
-    elim (eqb x 32) as (λ b. cond (not b) 1 0 ≤ 1) [ true ↦ omega arith | false ↦ omega arith ] in
-    let top = leading_top k (others xs) some (all_fit xs k few) in
-    let double = leading_double k (cond (not (eqb x 32)) 1 0) (others xs) bit some in
-    let long : 0 < length (without_end_blanks xs) = omega (arith, rest, top.1) in
-    let next : length (before_end_blanks x (without_end_blanks xs)) ≡ suc (length (without_end_blanks xs)) =
-    ap length (before_some x (without_end_blanks xs) long) in
-    omega (arith, double, rest, next, top.1)
+-- the highest bit is that of the last character that isn't a blank
+highest_bit : (xs : List ℕ) → (others xs < 2 ^ length (without_end_blanks xs))
+    × (2 ^ length (without_end_blanks xs) ≤ 2 * others xs + 1)
+highest_bit [] = (omega arith, omega arith)
+highest_bit (x ∷ xs) = go (without_end_blanks xs) (eqb x 32) refl (highest_bit xs)
+  where
+    go : (kept : List ℕ) (b : Bool) → eqb x 32 ≡ b
+        → (others xs < 2 ^ length kept) × (2 ^ length kept ≤ 2 * others xs + 1)
+        → (others (x ∷ xs) < 2 ^ length (before_end_blanks x kept))
+        × (2 ^ length (before_end_blanks x kept) ≤ 2 * others (x ∷ xs) + 1)
+    go [] true e rest = rw e (omega (arith, rest.0), omega (arith, rest.0))
+    go [] false e rest = rw e (omega (arith, rest.0), omega (arith, rest.0))
+    go (d ∷ ds) b e rest =
+        let bit : cond (not (eqb x 32)) 1 0 ≤ 1 =
+        elim (eqb x 32) as (λ b. cond (not b) 1 0 ≤ 1) [ true ↦ omega arith | false ↦ omega arith ] in
+        let power : 2 ^ suc (length ds) ≡ 2 ^ length ds * 2 = pow-suc 2 (length ds) in
+        let next : 2 ^ suc (suc (length ds)) ≡ 2 ^ suc (length ds) * 2 = pow-suc 2 (suc (length ds)) in
+        (omega (arith, rest.0, bit, next), omega (arith, rest.1, bit, power, next))
 
 -- as many bits up to the highest as characters up to the last one that isn't a blank
 bits_kept : (k : ℕ) (xs : List ℕ)
     → length xs ≤ k → k - count_leading_zeros k (others xs) ≡ length (without_end_blanks xs)
-bits_kept k [] few = omega (arith, leading_of_zero k)
-bits_kept zero (x ∷ xs) few = absurd (omega (arith, few))
-bits_kept (suc k) (x ∷ xs) few =
-    next_bit k x (others xs) xs (omega (arith, few)) (bits_kept k xs (omega (arith, few))) refl
+bits_kept k xs few =
+    let kept : ℕ = length (without_end_blanks xs) in
+    let within : kept ≤ k = omega (arith, few_kept xs, few) in
+    let bit = highest_bit xs in
+    let leading = leading_unique k (others xs) (k - kept) kept (omega (arith, within)) bit.0 bit.1 in
+    omega (arith, leading, within)
 
 pub lanes_kept : (size : ℕ) (v : List ℕ) → size ≤ 64 → length v ≡ size
     → 64 - count_leading_zeros 64 (mask_l (map

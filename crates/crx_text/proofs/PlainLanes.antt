@@ -90,30 +90,23 @@ module _ (c : ℕ → ℕ) (small : (i : ℕ) → c i < 256) (all : list_all (λ
   first : (eqb (c 0) 32 || eqb (c 0) 45) ≡ true
   first = sym (first_lane (c 0) (small 0)) ∙ all_at (lanes c) 0 all
 
-  whole_at : (i : ℕ) → lane 48 9 (c i) (c (suc i)) ≡ true → allowed (c i) (c (suc i)) ≡ true
-  whole_at i bit = sym (whole_lane (c i) (c (suc i)) (small (suc i))) ∙ bit
+  whole_at : (i : ℕ) → get_or (lanes c) (suc i) true ≡ lane 48 9 (c i) (c (suc i))
+      → allowed (c i) (c (suc i)) ≡ true
+  whole_at i is = sym (whole_lane (c i) (c (suc i)) (small (suc i))) ∙ sym is ∙ all_at (lanes c) (suc i) all
 
-  fraction_at : (i : ℕ) → lane 48 9 0 (c i) ≡ true → is_ascii_digit (c i) ≡ true
-  fraction_at i bit = sym (fraction_lane (c i) (small i)) ∙ bit
+  fraction_at : (i : ℕ) → get_or (lanes c) i true ≡ lane 48 9 0 (c i) → is_ascii_digit (c i) ≡ true
+  fraction_at i is = sym (fraction_lane (c i) (small i)) ∙ sym is ∙ all_at (lanes c) i all
 
   plain_lanes : IsPlain (map c (range_with_len 0 16))
   plain_lanes = record {
     first = first;
-    whole =
-        and_from _ _ (first_allowed (c 0) first)
-        (and_from _ _ (whole_at 0 (all_at (lanes c) 1 all))
-        (and_from _ _ (whole_at 1 (all_at (lanes c) 2 all))
-        (and_from _ _ (whole_at 2 (all_at (lanes c) 3 all))
-        (and_from _ _ (whole_at 3 (all_at (lanes c) 4 all))
-        (and_from _ _ (whole_at 4 (all_at (lanes c) 5 all))
-        (and_from _ _ (whole_at 5 (all_at (lanes c) 6 all))
-        (and_from _ _ (whole_at 6 (all_at (lanes c) 7 all))
-        (and_from _ _ (whole_at 7 (all_at (lanes c) 8 all))
-        (and_from _ _ (whole_at 8 (all_at (lanes c) 9 all)) refl)))))))));
+    whole = and_from _ _ (first_allowed (c 0) first) (and_from _ _ (whole_at 0 refl)
+        (and_from _ _ (whole_at 1 refl) (and_from _ _ (whole_at 2 refl) (and_from _ _ (whole_at 3 refl)
+        (and_from _ _ (whole_at 4 refl) (and_from _ _ (whole_at 5 refl) (and_from _ _ (whole_at 6 refl)
+        (and_from _ _ (whole_at 7 refl) (and_from _ _ (whole_at 8 refl) refl)))))))));
     point = eqb-true _ _ (sym (point_lane (c 10) (small 10)) ∙ all_at (lanes c) 10 all);
-    fraction = and_from _ _ (fraction_at 11 (all_at (lanes c) 11 all)) (and_from
-        _ _ (fraction_at 12 (all_at (lanes c) 12 all))
-        (and_from _ _ (fraction_at 13 (all_at (lanes c) 13 all)) refl));
+    fraction = and_from _ _ (fraction_at 11 refl) (and_from _ _ (fraction_at 12 refl)
+        (and_from _ _ (fraction_at 13 refl) refl));
   }
 
 -- what isn't allowed in a row, as the code makes it

@@ -6,6 +6,7 @@ use Rattle.std.proofs.Common.{eqb-true, inl, inr, arith}
 use Rattle.std.proofs.Math.Nat.{pow-suc, mul-le-mul_right}
 use Rattle.std.proofs.lemmas.Nat.{and_mask}
 use Rattle.std.proofs.lemmas.Bool.{and_parts, or_cases, leb-true, le-leb}
+use Rattle.std.proofs.lemmas.List.Folds.{list_all-append}
 use Rattle.std.specs.Char.{is_ascii_digit}
 use Rattle.std.specs.List.{range_with_len, list_all}
 use Rattle.std.specs.Str.{all_ascii_digits}
@@ -140,13 +141,6 @@ plain_is_small before (c ∷ cs) plain =
     ]) in
     rw small (plain_is_small c cs parts.1)
 
-joined_are_small : (xs ys : List ℕ) → list_all (λ c. leb c 57) xs ≡ true
-    → list_all (λ c. leb c 57) ys ≡ true → list_all (λ c. leb c 57) (xs ++ ys) ≡ true
-joined_are_small [] ys first then = then
-joined_are_small (x ∷ xs) ys first then =
-    let parts = and_parts (leb x 57) (list_all (λ c. leb c 57) xs) first in
-    rw parts.0 (joined_are_small xs ys parts.1 then)
-
 small_explicit : (c : ℕ → ℕ) → IsPlain (map c (range_with_len 0 16))
     → weighed 0 (plain_digits (map c (range_with_len 0 16))) < 10 ^ 12
 small_explicit c plain =
@@ -157,7 +151,8 @@ small_explicit c plain =
     let fraction : list_all (λ b. leb b 57) (map c (range_with_len 11 3)) ≡ true =
     digits_are_small (map c (range_with_len 11 3)) plain.fraction in
     weighed_is_small 0 (plain_digits (map c (range_with_len 0 16)))
-    (joined_are_small (map c (range_with_len 1 9)) (map c (range_with_len 11 3)) digits fraction)
+    (list_all-append (λ b. leb b 57) (map c (range_with_len 1 9)) (map c (range_with_len 11 3))
+    ∙ (λ k. digits k && fraction k))
 
 pub plain_size_is_small : (v : List ℕ) → length v ≡ 16 → IsPlain v → weighed 0 (plain_digits v) < 10 ^ 12
 plain_size_is_small v long =

@@ -5,10 +5,10 @@ use Rattle.std.proofs.Common.{drop, get_or, subst, refl, sym, ap, ◌∙◌, eqb
 use Rattle.std.proofs.lemmas.Nat.{and_mask}
 use Rattle.std.proofs.lemmas.Bool.{agree_below_at, le-leb, ne_eqb}
 use Rattle.std.proofs.lemmas.Bool.Decides.{nat_tests}
-use Rattle.std.proofs.lemmas.Simd.{get_or_narrower, trailing_mask_l, mask_l-mod, pick_l_whole}
+use Rattle.std.proofs.lemmas.Simd.{trailing_mask_l, mask_l-mod, pick_l_whole}
 use Rattle.std.specs.List.{range_with_len, prefix_len}
 use lib.Count.{count_trailing_zeros}
-use lib.Lanes.{Each1, chunk, mask_l, top, zip2, digits_l, number_l}
+use lib.Lanes.{Each1, chunk, mask_l, pick_l, top, zip2, digits_l, number_l}
 use Rattle.crx_text.specs.FieldTexts.{group_digits}
 use Rattle.crx_text.proofs.LaneBits.{sixteen, no_bit, top_lane}
 use Rattle.crx_text.proofs.PrintedDigits.{leading_zeros}
@@ -32,69 +32,27 @@ word_is g small =
     ap small_word whole
     ∙ eqb-true _ _ (agree_below_at (λ x. eqb (small_word x) (digits_word x)) (λ _. true) 1000 g refl small)
 
-word_fits : (g : ℕ) → g < 1000 → group_word g < 2 ^ 32
-word_fits g small = omega arith
+next_group : (n g y : ℕ) → g < 1000 → digits_l 256 (suc (suc (suc (suc n)))) (group_word g + 2 ^ 32 * y)
+    ≡ g % 10 ∷ g / 10 % 10 ∷ g / 100 ∷ 0 ∷ digits_l 256 n y
+next_group n g y small =
+    let x : ℕ = digits_word g + 2 ^ 32 * y in
+    let ones : x % 256 ≡ g % 10 = omega arith in
+    let tens : x / 256 % 256 ≡ g / 10 % 10 = omega arith in
+    let hundreds : x / 256 / 256 % 256 ≡ g / 100 = omega (arith, small) in
+    let none : x / 256 / 256 / 256 % 256 ≡ 0 = omega (arith, small) in
+    let rest : x / 256 / 256 / 256 / 256 ≡ y = omega (arith, small) in
+    rw (word_is g small) (λ k. ones k ∷ tens k ∷ hundreds k ∷ none k ∷ digits_l 256 n (rest k))
 
-module _ (g : ℕ) (small : g < 1000) where
-  byte_zero : group_word g / 256 ^ 0 % 256 ≡ g % 10
-  byte_zero = rw (word_is g small) (omega arith)
+abbrev quadruple : ℕ → ℕ
+quadruple zero = zero
+quadruple (suc n) = suc (suc (suc (suc (quadruple n))))
 
-  byte_one : group_word g / 256 ^ 1 % 256 ≡ g / 10 % 10
-  byte_one = rw (word_is g small) (omega arith)
-
-  byte_two : group_word g / 256 ^ 2 % 256 ≡ g / 100
-  byte_two = rw (word_is g small) (omega arith)
-
-  byte_three : group_word g / 256 ^ 3 % 256 ≡ 0
-  byte_three = rw (word_is g small) (omega arith)
-
-module _ (c : ℕ → ℕ) (small : (i : ℕ) → i < 4 → c i < 1000) where
-  words : List ℕ
-  words = map (λ i. group_word (c i)) (range_with_len 0 4)
-
-  words_fit : Each1 (λ x. x < 2 ^ 32) (map (λ i. group_word (c i)) (range_with_len 0 4))
-  words_fit = (
-    word_fits (c 0) (small 0 (omega arith)),
-    (
-      word_fits (c 1) (small 1
-          (omega arith)),
-      (word_fits (c 2) (small 2 (omega arith)), (word_fits (c 3) (small 3 (omega arith)), tt)),
-    ),
-  )
-
-  at : (j i : ℕ) → i < 4 → 4 * j + i < 16
-      → get_or (digits_l 256 16 (number_l (2 ^ 32) (map (λ k. group_word (c k)) (range_with_len 0 4))))
-      (4 * j + i) 0
-      ≡ get_or (map (λ k. group_word (c k)) (range_with_len 0 4)) j 0 / 256 ^ i % 256
-  at j i four within = get_or_narrower
-      (2 ^ 32) 4 256 16 (map (λ k. group_word (c k)) (range_with_len 0 4)) j i refl words_fit four within
-
-  digits_explicit : digits_l 256 16 (number_l (2 ^ 32) (map (λ k. group_word (c k)) (range_with_len 0 4)))
-      ≡ group_digits (map c (range_with_len 0 4))
-  digits_explicit =
-      let bytes = digits_l 256 16 (number_l (2 ^ 32) (map (λ k. group_word (c k)) (range_with_len 0 4))) in
-      let s0 = small 0 (omega arith) in
-      let s1 = small 1 (omega arith) in
-      let s2 = small 2 (omega arith) in
-      let s3 = small 3 (omega arith) in
-      let e0 : get_or bytes 0 0 ≡ c 0 % 10 = at 0 0 (omega arith) (omega arith) ∙ byte_zero (c 0) s0 in
-      let e1 : get_or bytes 1 0 ≡ c 0 / 10 % 10 = at 0 1 (omega arith) (omega arith) ∙ byte_one (c 0) s0 in
-      let e2 : get_or bytes 2 0 ≡ c 0 / 100 = at 0 2 (omega arith) (omega arith) ∙ byte_two (c 0) s0 in
-      let e3 : get_or bytes 3 0 ≡ 0 = at 0 3 (omega arith) (omega arith) ∙ byte_three (c 0) s0 in
-      let e4 : get_or bytes 4 0 ≡ c 1 % 10 = at 1 0 (omega arith) (omega arith) ∙ byte_zero (c 1) s1 in
-      let e5 : get_or bytes 5 0 ≡ c 1 / 10 % 10 = at 1 1 (omega arith) (omega arith) ∙ byte_one (c 1) s1 in
-      let e6 : get_or bytes 6 0 ≡ c 1 / 100 = at 1 2 (omega arith) (omega arith) ∙ byte_two (c 1) s1 in
-      let e7 : get_or bytes 7 0 ≡ 0 = at 1 3 (omega arith) (omega arith) ∙ byte_three (c 1) s1 in
-      let e8 : get_or bytes 8 0 ≡ c 2 % 10 = at 2 0 (omega arith) (omega arith) ∙ byte_zero (c 2) s2 in
-      let e9 : get_or bytes 9 0 ≡ c 2 / 10 % 10 = at 2 1 (omega arith) (omega arith) ∙ byte_one (c 2) s2 in
-      let e10 : get_or bytes 10 0 ≡ c 2 / 100 = at 2 2 (omega arith) (omega arith) ∙ byte_two (c 2) s2 in
-      let e11 : get_or bytes 11 0 ≡ 0 = at 2 3 (omega arith) (omega arith) ∙ byte_three (c 2) s2 in
-      let e12 : get_or bytes 12 0 ≡ c 3 % 10 = at 3 0 (omega arith) (omega arith) ∙ byte_zero (c 3) s3 in
-      let e13 : get_or bytes 13 0 ≡ c 3 / 10 % 10 = at 3 1 (omega arith) (omega arith) ∙ byte_one (c 3) s3 in
-      let e14 : get_or bytes 14 0 ≡ c 3 / 100 = at 3 2 (omega arith) (omega arith) ∙ byte_two (c 3) s3 in
-      let e15 : get_or bytes 15 0 ≡ 0 = at 3 3 (omega arith) (omega arith) ∙ byte_three (c 3) s3 in
-      λ k. e0 k ∷ e1 k ∷ e2 k ∷ e3 k ∷ e4 k ∷ e5 k ∷ e6 k ∷ e7 k
-      ∷ e8 k ∷ e9 k ∷ e10 k ∷ e11 k ∷ e12 k ∷ e13 k ∷ e14 k ∷ e15 k ∷ []
+digits_of_groups : (gs : List ℕ) → Each1 (λ g. g < 1000) gs
+    → digits_l 256 (quadruple (length gs)) (number_l (2 ^ 32) (map group_word gs)) ≡ group_digits gs
+digits_of_groups [] small = refl
+digits_of_groups (g ∷ gs) small =
+    next_group (quadruple (length gs)) g (number_l (2 ^ 32) (map group_word gs)) small.0
+    ∙ ap (λ (t : List ℕ). g % 10 ∷ g / 10 % 10 ∷ g / 100 ∷ 0 ∷ t) (digits_of_groups gs small.1)
 
 -- the words as the code makes them of the groups
 abbrev pub words_of : List ℕ → List ℕ
@@ -108,19 +66,12 @@ words_of groups =
     let hundredths = down (times small (replicate 4 41)) (replicate 4 12) in
     plus small (times (plus tenths (up hundredths (replicate 4 8))) (replicate 4 246))
 
-each_below : (groups : List ℕ) (i : ℕ) → Each1 (λ g. g < 1000) groups → get_or groups i 0 < 1000
-each_below [] i h = omega arith
-each_below (g ∷ gs) zero h = h.0
-each_below (g ∷ gs) (suc i) h = each_below gs i h.1
-
-pub digits_of_words : (groups : List ℕ) → length groups ≡ 4
-    → Each1 (λ g. g < 1000) groups
+pub digits_of_words : (groups : List ℕ) → length groups ≡ 4 → Each1 (λ g. g < 1000) groups
     → digits_l 256 16 (number_l (2 ^ 32) (words_of groups)) ≡ group_digits groups
 digits_of_words groups long small =
-    subst (λ (w : List ℕ). digits_l 256 16 (number_l (2 ^ 32) (words_of w)) ≡ group_digits w)
-    (pick_l_whole 0 groups
-    4 long) (digits_explicit (λ (i : ℕ). get_or groups i 0)
-    (λ (i : ℕ) (within : i < 4). each_below groups i small))
+    let whole = pick_l_whole 0 groups 4 long in
+    subst (λ (w : List ℕ). digits_l 256 16 (number_l (2 ^ 32) (words_of w)) ≡ group_digits w) whole
+    (digits_of_groups (pick_l 0 groups (range_with_len 0 4)) (subst (Each1 (λ g. g < 1000)) (sym whole) small))
 
 -- ---- where the number begins
 

@@ -1,11 +1,11 @@
-use Rattle.std.proofs.Common.{◌≡◌, ℕ, ◌+◌, ◌≤◌, List, [], ◌∷◌, ◌++◌, ⊎_elim, Ok, length, subst, sym, ap, ◌∙◌, refl, arith}
-use Rattle.std.proofs.Common.{append-nil, length-append}
+use Rattle.std.proofs.Common.{◌≡◌, ℕ, ◌+◌, ◌≤◌, List, [], ◌∷◌, ◌++◌, ⊎_elim, Ok, length, subst, sym, ap, ◌∙◌}
+use Rattle.std.proofs.Common.{refl, arith, append-nil, length-append}
 use Rattle.crx_lines.specs.Window.{kept}
 use Rattle.crx_lines.specs.Seeking.{Seeking}
 use Rattle.crx_lines.proofs.DeviceLemmas.{ends-some}
 use Rattle.crx_lines.proofs.WindowLemmas.{length-kept}
-use Rattle.crx_lines.proofs.SeekLemmas.{Seeking-start, Seeking-found, Seeking-step, Seeking-filled, Seeking-same}
-use Rattle.crx_lines.proofs.SeekLemmas.{Seeking-sum, Seeking-not_old}
+use Rattle.crx_lines.proofs.SeekLemmas.{Seeking-start, Seeking-found, Seeking-step, Seeking-filled}
+use Rattle.crx_lines.proofs.SeekLemmas.{Seeking-same, Seeking-sum, Seeking-not_old}
 use Rattle.crx_lines.proofs.seek.seek.Goals as goal
 
 pub seeking-init : goal.seeking-init
@@ -40,10 +40,8 @@ returns-in-Ok-true-clause-over g c =
     let old = c.args.reader.now in
     let now = c.seeking.reader in
     let new = c.has_more.new.reader in
-    let s = Seeking-step (λ given. g.R.Source.gave old given now)
-    (kept c.args.window.now) (kept c.seeking.window) c.as_slice.result.now
-    (kept c.discarded.new.window) c.args.room c.seeking.taken c.seeking.passed c.seeking.searched c.discarded.result
-    c.seeking.invariant.0 c.as_slice.ensures.value c.in_default.ensures.none c.discarded.ensures.count in
+    let s = Seeking-step (λ given. g.R.Source.gave old given now) _ _ _ _ _ _ _ _ _ c.seeking.invariant.0
+    c.as_slice.ensures.value c.in_default.ensures.none c.discarded.ensures.count in
     let more = c.in-Ok-true.ensures.some (ap Ok c.in-Ok-true.field-0-test) in
     let then = λ (given : List ℕ). g.R.Source.gave old (given ++ more.0 ∷ []) new in
     let goes = λ (given : List ℕ) (lead : g.R.Source.gave old given now). subst (λ l. g.R.Source.gave old (l ++ more.0
@@ -61,10 +59,8 @@ returns-in-Ok-false-clause-ok g c =
     let old = c.args.reader.now in
     let now = c.seeking.reader in
     let new = c.has_more.new.reader in
-    let s = Seeking-step (λ given. g.R.Source.gave old given now)
-    (kept c.args.window.now) (kept c.seeking.window) c.as_slice.result.now
-    (kept c.discarded.new.window) c.args.room c.seeking.taken c.seeking.passed c.seeking.searched c.discarded.result
-    c.seeking.invariant.0 c.as_slice.ensures.value c.in_default.ensures.none c.discarded.ensures.count in
+    let s = Seeking-step (λ given. g.R.Source.gave old given now) _ _ _ _ _ _ _ _ _ c.seeking.invariant.0
+    c.as_slice.ensures.value c.in_default.ensures.none c.discarded.ensures.count in
     let none = c.in-Ok-false.ensures.none (ap Ok c.in-Ok-false.field-0-test) in (
       c.seeking.taken,
       Seeking-same _ (λ given. g.R.Source.gave old given new) _ _ _ _ _ _ _ s (λ given lead.
@@ -78,11 +74,7 @@ returns-in-Ok-false-clause-end g c =
 
 pub returns-in-Ok-false-clause-unasked : goal.returns-in-Ok-false-clause-unasked
 returns-in-Ok-false-clause-unasked g c =
-    let old = c.args.reader.now in
-    let now = c.seeking.reader in
-    let s = Seeking-step (λ given. g.R.Source.gave old given now)
-    (kept c.args.window.now) (kept c.seeking.window) c.as_slice.result.now
-    (kept c.discarded.new.window) c.args.room c.seeking.taken c.seeking.passed c.seeking.searched c.discarded.result
+    let s = Seeking-step (λ given. g.R.Source.gave c.args.reader.now given c.seeking.reader) _ _ _ _ _ _ _ _ _
     c.seeking.invariant.0 c.as_slice.ensures.value c.in_default.ensures.none c.discarded.ensures.count in
     λ has. absurd (Seeking-not_old _ _ _ _ _ _ s has)
 
@@ -91,10 +83,8 @@ returns-in-Err-clause-failed g c =
     let old = c.args.reader.now in
     let now = c.seeking.reader in
     let new = c.has_more.new.reader in
-    let s = Seeking-step (λ given. g.R.Source.gave old given now)
-    (kept c.args.window.now) (kept c.seeking.window) c.as_slice.result.now
-    (kept c.discarded.new.window) c.args.room c.seeking.taken c.seeking.passed c.seeking.searched c.discarded.result
-    c.seeking.invariant.0 c.as_slice.ensures.value c.in_default.ensures.none c.discarded.ensures.count in
+    let s = Seeking-step (λ given. g.R.Source.gave old given now) _ _ _ _ _ _ _ _ _ c.seeking.invariant.0
+    c.as_slice.ensures.value c.in_default.ensures.none c.discarded.ensures.count in
     λ _. (
       _,
       _,
@@ -107,10 +97,8 @@ returns-in-Ok-eq0-clause-ok g c =
     let old = c.args.reader.now in
     let now = c.seeking.reader in
     let new = c.fill.new.reader in
-    let s = Seeking-step (λ given. g.R.Source.gave old given now)
-    (kept c.args.window.now) (kept c.seeking.window) c.as_slice.result.now
-    (kept c.discarded.new.window) c.args.room c.seeking.taken c.seeking.passed c.seeking.searched c.discarded.result
-    c.seeking.invariant.0 c.as_slice.ensures.value c.in_default.ensures.none c.discarded.ensures.count in
+    let s = Seeking-step (λ given. g.R.Source.gave old given now) _ _ _ _ _ _ _ _ _ c.seeking.invariant.0
+    c.as_slice.ensures.value c.in_default.ensures.none c.discarded.ensures.count in
     let more = c.in-Ok-eq0.ensures.ok in (
       _,
       Seeking-filled _ (λ given. g.R.Source.gave old given new) _ _ _ more.0 _ _ _ 0 _ s
@@ -128,11 +116,7 @@ returns-in-Ok-eq0-clause-end g c =
 
 pub returns-in-Ok-eq0-clause-unasked : goal.returns-in-Ok-eq0-clause-unasked
 returns-in-Ok-eq0-clause-unasked g c =
-    let old = c.args.reader.now in
-    let now = c.seeking.reader in
-    let s = Seeking-step (λ given. g.R.Source.gave old given now)
-    (kept c.args.window.now) (kept c.seeking.window) c.as_slice.result.now
-    (kept c.discarded.new.window) c.args.room c.seeking.taken c.seeking.passed c.seeking.searched c.discarded.result
+    let s = Seeking-step (λ given. g.R.Source.gave c.args.reader.now given c.seeking.reader) _ _ _ _ _ _ _ _ _
     c.seeking.invariant.0 c.as_slice.ensures.value c.in_default.ensures.none c.discarded.ensures.count in
     λ has. absurd (Seeking-not_old _ _ _ _ _ _ s has)
 
@@ -141,10 +125,8 @@ seeking-preserved g c =
     let old = c.args.reader.now in
     let now = c.seeking.reader in
     let new = c.fill.new.reader in
-    let s = Seeking-step (λ given. g.R.Source.gave old given now)
-    (kept c.args.window.now) (kept c.seeking.window) c.as_slice.result.now
-    (kept c.discarded.new.window) c.args.room c.seeking.taken c.seeking.passed c.seeking.searched c.discarded.result
-    c.seeking.invariant.0 c.as_slice.ensures.value c.in_default.ensures.none c.discarded.ensures.count in
+    let s = Seeking-step (λ given. g.R.Source.gave old given now) _ _ _ _ _ _ _ _ _ c.seeking.invariant.0
+    c.as_slice.ensures.value c.in_default.ensures.none c.discarded.ensures.count in
     let more = c.in-Ok.ensures.ok in (
       Seeking-filled _ (λ given. g.R.Source.gave old given new) _ _ _ more.0 _ _ _ c.in-Ok.count _ s
           (λ given lead. g.met.R.Source.gave_both old now new given more.0 lead more.3) more.1
@@ -162,10 +144,8 @@ returns-in-Err-fill-clause-failed g c =
     let old = c.args.reader.now in
     let now = c.seeking.reader in
     let new = c.fill.new.reader in
-    let s = Seeking-step (λ given. g.R.Source.gave old given now)
-    (kept c.args.window.now) (kept c.seeking.window) c.as_slice.result.now
-    (kept c.discarded.new.window) c.args.room c.seeking.taken c.seeking.passed c.seeking.searched c.discarded.result
-    c.seeking.invariant.0 c.as_slice.ensures.value c.in_default.ensures.none c.discarded.ensures.count in
+    let s = Seeking-step (λ given. g.R.Source.gave old given now) _ _ _ _ _ _ _ _ _ c.seeking.invariant.0
+    c.as_slice.ensures.value c.in_default.ensures.none c.discarded.ensures.count in
     λ _. (
       _,
       _,
@@ -176,30 +156,18 @@ returns-in-Err-fill-clause-failed g c =
 
 pub returns-in-Ok-true-clause-unasked : goal.returns-in-Ok-true-clause-unasked
 returns-in-Ok-true-clause-unasked g c =
-    let old = c.args.reader.now in
-    let now = c.seeking.reader in
-    let s = Seeking-step (λ given. g.R.Source.gave old given now)
-    (kept c.args.window.now) (kept c.seeking.window) c.as_slice.result.now
-    (kept c.discarded.new.window) c.args.room c.seeking.taken c.seeking.passed c.seeking.searched c.discarded.result
+    let s = Seeking-step (λ given. g.R.Source.gave c.args.reader.now given c.seeking.reader) _ _ _ _ _ _ _ _ _
     c.seeking.invariant.0 c.as_slice.ensures.value c.in_default.ensures.none c.discarded.ensures.count in
     λ has. absurd (Seeking-not_old _ _ _ _ _ _ s has)
 
 pub returns-in-Err-clause-unasked : goal.returns-in-Err-clause-unasked
 returns-in-Err-clause-unasked g c =
-    let old = c.args.reader.now in
-    let now = c.seeking.reader in
-    let s = Seeking-step (λ given. g.R.Source.gave old given now)
-    (kept c.args.window.now) (kept c.seeking.window) c.as_slice.result.now
-    (kept c.discarded.new.window) c.args.room c.seeking.taken c.seeking.passed c.seeking.searched c.discarded.result
+    let s = Seeking-step (λ given. g.R.Source.gave c.args.reader.now given c.seeking.reader) _ _ _ _ _ _ _ _ _
     c.seeking.invariant.0 c.as_slice.ensures.value c.in_default.ensures.none c.discarded.ensures.count in
     λ has. absurd (Seeking-not_old _ _ _ _ _ _ s has)
 
 pub returns-in-Err-fill-clause-unasked : goal.returns-in-Err-fill-clause-unasked
 returns-in-Err-fill-clause-unasked g c =
-    let old = c.args.reader.now in
-    let now = c.seeking.reader in
-    let s = Seeking-step (λ given. g.R.Source.gave old given now)
-    (kept c.args.window.now) (kept c.seeking.window) c.as_slice.result.now
-    (kept c.discarded.new.window) c.args.room c.seeking.taken c.seeking.passed c.seeking.searched c.discarded.result
+    let s = Seeking-step (λ given. g.R.Source.gave c.args.reader.now given c.seeking.reader) _ _ _ _ _ _ _ _ _
     c.seeking.invariant.0 c.as_slice.ensures.value c.in_default.ensures.none c.discarded.ensures.count in
     λ has. absurd (Seeking-not_old _ _ _ _ _ _ s has)
