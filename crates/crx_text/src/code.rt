@@ -106,7 +106,7 @@ pub fn code_read(text: &[u8]) -> Result<Code, BadField>
 
 /// Reads the code up to a line's first blank, or up to its end, and answers it with the index after
 /// that blank, or of the line's end. Spellings and `BadField` are those of [`code_read`].
-#[inline]
+#[inline(always)]
 pub fn code_before_blank(line: &[u8]) -> Result<(Code, usize), BadField>
     ensures value { option_map (λ cell. cell.0) (result_ok result) ≡ code_of (first_cell line.now) }
     ensures next { IfOk result (λ cell. drop cell.1 line.now ≡ after_cell line.now) }
