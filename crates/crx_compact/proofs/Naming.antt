@@ -200,12 +200,14 @@ named-each P types earlier [] k name others count named is at some h = absurd (n
     none-there zero e = cc
     none-there (suc k) e = cc
 named-each P types earlier (n ∷ ns) k name others count named is at some h =
-    by (λ j there rest first all. named-each P types (n ∷ earlier) ns j name others count rest first there some all)
+    by (λ j there rest first all. named-each P types
+    (n ∷ earlier) ns j name others count rest first there some all)
     (types_of_satellite types n) refl is
   where
     After : Type 0
     After = (j : ℕ) → drop j ns ≡ name ∷ others → (rest : List Satellite)
-        → satellites_named types (n ∷ earlier) ns ≡ Ok rest → All P rest → P (record { name = name; count = count })
+        → satellites_named types (n ∷ earlier) ns ≡ Ok rest → All P rest
+        → P (record { name = name; count = count })
 
     step : After → (c : ℕ) (j : ℕ) → types_of_satellite types n ≡ Some c → drop j (n ∷ ns) ≡ name ∷ others
         → (rest : List Satellite) → satellites_named types (n ∷ earlier) ns ≡ Ok rest
@@ -228,7 +230,8 @@ named-each P types earlier (n ∷ ns) k name others count named is at some h =
         let later = satellites_named types (n ∷ earlier) ns in
         let rest = before-ok s later named
         (if-err (list_any (bytes_eq n) earlier) RepeatedSatellite (before_all s later) named g) in
-        step after c k e at rest.from rest.first (subst (All P) (sym (ok-same (s ∷ rest.from) named rest.next)) h)
+        step after c k e at rest.from rest.first (subst (All P) (sym (ok-same
+        (s ∷ rest.from) named rest.next)) h)
 
 -- where each satellite of a text has room, the one at each place has
 pub names-room : (types : List Count) (text : List ℕ) (count : ℕ) (named : List Satellite)

@@ -1,5 +1,6 @@
 -- The room that an epoch's lines need, by its satellites and by its rows.
-use Rattle.std.specs.Prelude.{◌≡◌, ◌≤◌, ◌<◌, ◌+◌, refl, ℕ, List, [], ◌∷◌, map, sum, length, Option, Some, None}
+use Rattle.std.specs.Prelude.{◌≡◌, ◌≤◌, ◌<◌, ◌+◌, refl, ℕ, List}
+use Rattle.std.specs.Prelude.{[], ◌∷◌, map, sum, length, Option, Some, None}
 use Rattle.std.specs.Prelude.{Result, Ok, Err}
 use Rattle.std.proofs.Common.{sym, ◌∙◌, ap, subst, arith, true≢false}
 use Rattle.std.proofs.lemmas.List.Elements.{All-nil, All-cons, All-head, All-tail}

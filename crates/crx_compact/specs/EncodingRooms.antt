@@ -5,9 +5,9 @@ use Rattle.crx_compact.specs.LineLists.{PendingLines}
 use Rattle.crx_compact.specs.Placing.{HasRoom, HaveRoom, KeepsRooms, OpenHistory, row_room}
 use Rattle.crx_rinex.specs.meaning.Observations.{Epoch, Row}
 
--- so many types of each satellite that is known; a text of so many characters, and so many where the newest one is, which the text after the
--- next one takes; so many compact lines of an epoch's rows, of so many bytes with their LFs; and how many of these lines and bytes the open
--- epoch has left
+-- so many types of each satellite that is known; a text of so many characters, and so many where the newest one is,
+-- which the text after the next one takes; so many compact lines of an epoch's rows, of so many bytes with their LFs;
+-- and how many of these lines and bytes the open epoch has left
 pub record EncodingRoom : Type 0 where
   pub rooms : List (List ℕ × ℕ)
   pub text : ℕ

@@ -618,8 +618,8 @@ fn read_names(
     Ok(())
 }
 
-/// Makes sure that a satellite of an epoch text has room for so many types. Mostly it has; else room is asked for all of the text at once, and
-/// only where none has a fault. No row changes.
+/// Makes sure that a satellite of an epoch text has room for so many types. Mostly it has; else room is asked for all of the text at
+/// once, and only where none has a fault. No row changes.
 #[inline(always)]
 fn have_room(
     types: &Types,

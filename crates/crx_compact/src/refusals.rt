@@ -1,5 +1,5 @@
-//! The faults of an epoch text's satellites, and room for them: Hatanaka's Compact RINEX 3.0, epoch line. The faults are found before memory
-//! is asked for, so that a line with a fault is answered by it and takes none, and `OutOfMemory` comes only at a line without one.
+//! The faults of an epoch text's satellites, and room for them: Hatanaka's Compact RINEX 3.0, epoch line. The faults are found before
+//! memory is asked for, so that a line with a fault is answered by it and takes none, and `OutOfMemory` comes only at a line without one.
 
 ghost use Rattle.std.specs.Prelude.{◌≡◌, ◌≤◌, List, [], ℕ, Ok, Err, None, IfSome, OnOk, IfErr, IsOk, true};
 ghost use Rattle.std.specs.Result.{is_ok};

@@ -169,8 +169,8 @@ impl Satellites {
         Ok(true)
     }
 
-    /// Whether a satellite is known, and has room for so many types. The one that comes next is mostly the next one in the order of the epoch
-    /// before, which one comparison finds; for any other one it is noted where it was found, so that [`Satellites::place`] finds it there.
+    /// Whether a satellite is known, and has room for so many types. The one that comes next is mostly the next one in the order of the
+    /// epoch before, which one comparison finds. Where another one is found is noted, so that [`Satellites::place`] finds it there.
     #[inline(always)]
     pub(crate) fn has_room(&mut self, name: [u8; NAME_WIDTH], count: usize) -> bool
         ensures there { result ≡ true → HasRoom name count self.old.rooms }
@@ -429,7 +429,8 @@ fn find_or_add(
     ensures unknown { OnErr result (is_among key_of name map.old.entries ≡ false) }
     ensures unchanged { OnErr result (map.new.entries ≡ map.old.entries) }
     ensures asked { OnErr result (spare map.old ≡ 0) }
-    ensures kept { is_some (lookup (bytes_eq name) map.old.entries) ≡ true → map.new.entries ≡ map.old.entries }
+    ensures kept { is_some (lookup (bytes_eq name) map.old.entries) ≡ true
+        → map.new.entries ≡ map.old.entries }
     ensures unique { IsUnique bytes_eq map.new }
     ensures small { IfOk result (λ found. found < 2 ^ 63) }
 {

@@ -1,6 +1,7 @@
 -- A satellite is found by its identifier, or added behind the others.
 use Rattle.std.proofs.Common.{◌≡◌, ℕ, ◌<◌, List, [], ◌∷◌, ◌++◌, length, take, slice_get}
-use Rattle.std.proofs.Common.{get_or, position, Option, Some, None, IfSome, is_some, option_map, refl, ap, sym, ◌∙◌}
+use Rattle.std.proofs.Common.{get_or, position, Option, Some, None, IfSome}
+use Rattle.std.proofs.Common.{is_some, option_map, refl, ap, sym, ◌∙◌}
 use Rattle.std.proofs.Common.{inl, inr, arith}
 use Rattle.std.proofs.Common.{Bool, false}
 use Rattle.std.specs.Str.{bytes_eq}
@@ -47,7 +48,8 @@ found-by_look_up name i es is =
     (slice_get-map key_of es i ∙ ap (option_map key_of) entry.1) in
     found-there name i es entry.0.1 (entry.1 ∙ ap (λ (n : List ℕ). Some (n, entry.0.1)) (sym same))
 
-pub found-if_some : (name : List ℕ) (es : List Entry) (r : Option ℕ) → position (bytes_eq name) (keys_of es) ≡ r
+pub found-if_some : (name : List ℕ) (es : List Entry) (r : Option ℕ)
+    → position (bytes_eq name) (keys_of es) ≡ r
     → IfSome r (λ i. IsFound name i es es)
 found-if_some name es None is = tt
 found-if_some name es (Some i) is = found-by_look_up name i es is

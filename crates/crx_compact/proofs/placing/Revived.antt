@@ -89,5 +89,10 @@ module _ {S : Type 0} (m : IndexMap (List ℕ) SatelliteTail S) (found : ℕ) (n
             rooms-kept es new (λ n satellite known. (satellite, looked n ∙ known, omega arith)) other count
             (rooms-changed m found name before after unique there (rooms after.room refl) other count has);
         back = λ other count has. rooms-changed-back m found name before after unique there fewer other count
-            (rooms-kept new es (λ n satellite known. (satellite, sym (looked n) ∙ known, omega arith)) other count has);
+            (rooms-kept new es (λ n satellite known. (
+              satellite,
+              sym (looked n)
+                  ∙ known,
+              omega arith,
+            )) other count has);
       }

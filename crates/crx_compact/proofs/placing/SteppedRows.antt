@@ -86,7 +86,11 @@ last-row-is placed es e before row some all there is =
 
 -- a satellite by another count of types
 pub padded-is : (name : List ℕ) (count : ℕ) (satellite after : SatelliteTail)
-    → after ≡ record satellite { flags = flags_held count satellite.flags; cells = cells_for count satellite.cells }
+    → after ≡ record satellite {
+      flags = flags_held count satellite.flags;
+      cells = cells_for count
+          satellite.cells;
+    }
     → row_tail_of name after ≡ padded (record { name = name; count = count }) (Some (row_tail_of name satellite))
 padded-is name count satellite after is = ap (row_tail_of name) is
 

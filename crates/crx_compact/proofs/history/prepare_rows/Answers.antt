@@ -21,7 +21,8 @@ loop-row-preserved c =
     record {
       rows = c.prepare.ensures.asked.rows ∙ c.loop-row.invariant.rows;
       rest = c.prepare.ensures.asked.rest ∙ c.loop-row.invariant.rest;
-      kept = λ name count has. c.prepare.ensures.asked.rooms name count (c.loop-row.invariant.kept name count has);
+      kept = λ name count has. c.prepare.ensures.asked.rooms name count
+          (c.loop-row.invariant.kept name count has);
       room = all-next (λ (r : Row). HasRoom r.name (length r.values) rooms) rows index row
           (all-of (λ (r : Row). HasRoom r.name (length r.values) c.loop-row.satellites.rooms)
           (λ (r : Row). HasRoom r.name (length r.values) rooms) (take index rows)

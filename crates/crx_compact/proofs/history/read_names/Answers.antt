@@ -1,4 +1,5 @@
-use Rattle.std.proofs.Common.{◌≡◌, refl, ◌+◌, ◌*◌, ◌++◌, ◌∷◌, [], Bool, not, true, false, drop, ap, sym, ◌∙◌, inl, arith, subst, ◌⊎◌, inl, inr}
+use Rattle.std.proofs.Common.{◌≡◌, refl, ◌+◌, ◌*◌, ◌++◌, ◌∷◌, [], Bool, not, true}
+use Rattle.std.proofs.Common.{false, drop, ap, sym, ◌∙◌, inl, arith, subst, ◌⊎◌, inl, inr}
 use Rattle.std.proofs.Common.{ℕ, List, Ok, Err, Result, IfOk, map}
 use Rattle.std.proofs.lemmas.Bool.{false≢true}
 use Rattle.std.proofs.lemmas.Result.{err_from_is_err_and}
@@ -12,7 +13,8 @@ use Rattle.crx_base.specs.declared.fault.Fault.TheVariants.{BadSatellite, OutOfM
 use Rattle.crx_base.specs.declared.fault.Fault.{Fault}
 use Rattle.crx_compact.specs.Refusals.{IsRefused}
 use Rattle.crx_compact.specs.meaning.EpochText.{Satellite, names_in, satellites_named}
-use Rattle.crx_compact.specs.Placing.{HasCome, HasRoom, HaveTypesRoom, KeepsRooms, PlacedRows, padded_among, row_or_blank}
+use Rattle.crx_compact.specs.Placing.{HasCome, HasRoom, HaveTypesRoom}
+use Rattle.crx_compact.specs.Placing.{KeepsRooms, PlacedRows, padded_among, row_or_blank}
 use Rattle.crx_compact.specs.Tails.{RowTail}
 use Rattle.crx_compact.proofs.ComeRows.{AreAwaited, come-name}
 use Rattle.crx_compact.proofs.Naming.{named-bad, named-twice, named-more, named-all, names-room, next-name}
@@ -22,7 +24,8 @@ use Rattle.crx_compact.proofs.RowByRow.{all-of, only}
 use Rattle.crx_compact.proofs.placing.SteppedRows.{ends-same}
 use Rattle.crx_compact.proofs.history.read_names.Goals as goal
 
-refused-by : {X : Type 0} (fault : Fault) (made : Result X Fault) → (fault ≡ OutOfMemory → ⊥) → made ≡ Err fault
+refused-by : {X : Type 0} (fault : Fault) (made : Result X Fault) → (fault ≡ OutOfMemory → ⊥)
+    → made ≡ Err fault
     → IsRefused made fault
 refused-by fault made other is = record { answered = inl is; memory = λ out. absurd (other out) }
 
@@ -36,12 +39,15 @@ come-already before rows roomed found name r b same made is answer =
     (from_ok (λ is_new. is_new ≡ not (is_among (λ (row : RowTail). row.name) name roomed)) r b is answer)
 
 -- where it hasn't, it has now
-come-now : {E : Type 0} (name : List ℕ) (old new : PlacedRows) (r : Result Bool E) (b : Bool) → r ≡ Ok b → b ≡ true
+come-now : {E : Type 0} (name : List ℕ) (old new : PlacedRows) (r : Result Bool E) (b : Bool) → r ≡ Ok b
+    → b ≡ true
     → IfOk r (λ is_new. is_new ≡ true → HasCome name old new) → HasCome name old new
-come-now name old new r b is one come = from_ok (λ is_new. is_new ≡ true → HasCome name old new) r b is come one
+come-now name old new r b is one come = from_ok (λ is_new. is_new ≡ true
+    → HasCome name old new) r b is come one
 
 -- where there is a fault, no room was asked for
-unasked : {X Y : Type 0} (made : Result X Fault) (fault : Fault) → made ≡ Err fault → (is_ok made ≡ true) ⊎ Y → Y
+unasked : {X Y : Type 0} (made : Result X Fault) (fault : Fault) → made ≡ Err fault
+    → (is_ok made ≡ true) ⊎ Y → Y
 unasked made fault is asked = elim asked [
   | inl good ↦ absurd (false≢true (sym (ap is_ok is) ∙ good))
   | inr y ↦ y
@@ -68,7 +74,8 @@ returns-in_err-have_room-clause-unasked c =
     let p = err_from_is_err_and c.from_residual.result c.from_residual.ensures.1 in
     rw (p.1, p.2) (λ other name count has. elim c.in_err-have_room.ensures.err.answered [
       | inl is ↦ unasked _ _ is c.loop-place.invariant.7 name count
-          (subst (λ (s : PlacedRows). HasRoom name count s.rooms) (c.in_err-have_room.ensures.unasked other) has)
+          (subst (λ (s : PlacedRows). HasRoom name count s.rooms)
+          (c.in_err-have_room.ensures.unasked other) has)
       | inr out ↦ absurd (other out)
     ])
 
@@ -91,7 +98,8 @@ twice c =
     found.0 c.identifier-name.result c.in-Some.cells found.1
     (next-name c.args.text.now c.args.count c.loop-place.place
     c.identifier-name.result c.loop-place-test.true c.identifier-name.ensures.value)
-    (sym c.in-Some.ensures.value) (come-already c.args.satellites.now.rest c.loop-place.satellites.rows c.have_room.new.satellites.rows
+    (sym c.in-Some.ensures.value) (come-already c.args.satellites.now.rest c.loop-place.satellites.rows
+    c.have_room.new.satellites.rows
     found.0 c.identifier-name.result c.place.result c.unwrap.result c.have_room.ensures.asked.rows found.2
     c.unwrap.ensures c.place.ensures.answer ∙ ap not old)
 
@@ -104,7 +112,8 @@ returns-then-not-unwrap-clause-known c named is has = absurd (no-err _ named (sy
 pub returns-then-not-unwrap-clause-unasked : goal.returns-then-not-unwrap-clause-unasked
 returns-then-not-unwrap-clause-unasked c = λ other name count has.
     let old : c.unwrap.result ≡ false = search c.if-not-unwrap in
-    let same = from_ok (λ is_new. is_new ≡ false → c.place.new.self ≡ c.have_room.new.satellites) c.place.result
+    let same = from_ok (λ is_new. is_new ≡ false
+    → c.place.new.self ≡ c.have_room.new.satellites) c.place.result
     c.unwrap.result c.unwrap.ensures c.place.ensures.repeated old in
     unasked _ _ (twice c) c.loop-place.invariant.7 name count
     (unasked _ _ (twice c) c.in_ok-have_room.ensures.back name count
@@ -120,7 +129,8 @@ resize_last-requires-clause-room c before row is =
     (row_or_blank name c.have_room.new.satellites.rest) row (sym come.rows ∙ is) in
     subst (λ (r : RowTail). HasRoom r.name c.in-Some.cells c.place.new.self.rooms) last
     (subst (λ (n : List ℕ). HasRoom n c.in-Some.cells c.place.new.self.rooms)
-    (sym (come-name name c.have_room.new.satellites.rest)) (c.place.ensures.rooms name c.in-Some.cells c.in_ok-have_room.ensures.room))
+    (sym (come-name name c.have_room.new.satellites.rest))
+    (c.place.ensures.rooms name c.in-Some.cells c.in_ok-have_room.ensures.room))
 
 pub loop-place-preserved : goal.loop-place-preserved
 loop-place-preserved c =
@@ -131,7 +141,8 @@ loop-place-preserved c =
     let place = c.loop-place.place in
     let name = c.identifier-name.result in
     let satellite : Satellite = record { name = name; count = c.in-Some.cells } in
-    let fresh = come-already c.args.satellites.now.rest c.loop-place.satellites.rows c.have_room.new.satellites.rows
+    let fresh = come-already c.args.satellites.now.rest c.loop-place.satellites.rows
+    c.have_room.new.satellites.rows
     found.0 c.identifier-name.result c.place.result c.unwrap.result c.have_room.ensures.asked.rows found.2
     c.unwrap.ensures c.place.ensures.answer ∙ ap not new in
     let roomed = c.have_room.new.satellites in
@@ -143,7 +154,8 @@ loop-place-preserved c =
     let come : HasNameCome before (found.0 ++ satellite ∷ []) after =
     name-comes before found.0 name c.in-Some.cells roomed c.place.new.self after
     (c.have_room.ensures.asked.rows ∙ found.2)
-    (subst (AreAwaited (λ (s : Satellite). s.name) found.0 before) (sym c.have_room.ensures.asked.rest) found.3)
+    (subst (AreAwaited (λ (s : Satellite). s.name) found.0 before)
+    (sym c.have_room.ensures.asked.rest) found.3)
     fresh (come-now c.identifier-name.result c.have_room.new.satellites c.place.new.self c.place.result
     c.unwrap.result c.unwrap.ensures new c.place.ensures.come)
     c.resize_last.ensures.rows c.resize_last.ensures.rest in (
@@ -163,13 +175,15 @@ loop-place-preserved c =
           (λ (s : Satellite). HasRoom s.name s.count after.rooms) found.0
           (λ s has. kept s.name s.count has) found.6)
           (only (λ (s : Satellite). HasRoom s.name s.count after.rooms) satellite
-          (c.resize_last.ensures.rooms name c.in-Some.cells (c.place.ensures.rooms name c.in-Some.cells c.in_ok-have_room.ensures.room))),
+          (c.resize_last.ensures.rooms name c.in-Some.cells
+          (c.place.ensures.rooms name c.in-Some.cells c.in_ok-have_room.ensures.room))),
       elim found.7 [
         | inl good ↦ inl good
         | inr so_far ↦ elim c.in_ok-have_room.ensures.back [
           | inl good ↦ inl good
           | inr more ↦ inr (λ other count has. so_far other count (more other count
-              (c.place.ensures.back (record { room = room.room; there = room.there; within = omega arith }) other count
+              (c.place.ensures.back (record { room = room.room; there = room.there; within = omega arith })
+              other count
               (c.resize_last.ensures.back other count has))))
         ]
       ],

@@ -13,7 +13,8 @@ use Rattle.crx_compact.specs.meaning.ArcValues.{is_within, in_range}
 use Rattle.crx_compact.specs.ArcSteps.{arc_of_code, differences_after, value_of_code}
 use Rattle.crx_compact.specs.Arcs.{kept_tail}
 use Rattle.crx_compact.proofs.arcs.Bounds.{within-is}
-use Rattle.crx_compact.proofs.arcs.Running.{StepsOn, accepted as is-accepted, refused, stepped, same-bits, begun-list, begun-kept}
+use Rattle.crx_compact.proofs.arcs.Running.{StepsOn, accepted as is-accepted, refused}
+use Rattle.crx_compact.proofs.arcs.Running.{stepped, same-bits, begun-list, begun-kept}
 use Rattle.crx_compact.proofs.arcs.Running.{lower-below, within-below, goes-on-kept}
 use Rattle.crx_compact.proofs.arc.Arc.apply.Goals as goal
 
@@ -21,11 +22,13 @@ pub invariant_of-self-in-Start : goal.invariant_of-self-in-Start
 invariant_of-self-in-Start g c =
     let some : 0 < length c.self.inside.differences = search rules in
     let fits : FitsSigned w64 c.in-Start.value = search rules in
-    let is : is_within g.row.WIDTH c.in-Start.value ≡ true = ap (is_within g.row.WIDTH) (sym (same-bits _ fits))
+    let is : is_within g.row.WIDTH c.in-Start.value
+    ≡ true = ap (is_within g.row.WIDTH) (sym (same-bits _ fits))
     ∙ sym c.is_within.ensures ∙ c.if-not-is_within.false in
     let printable = rw c.in-Start.is at c.requires in
     rw (same-bits _ fits) (begun-kept g.row.WIDTH c.in-Start.order
-    c.self.inside.differences c.in-Start.value some c.self.invariant.few_columns printable.0 ((within-is _ _).0 is))
+    c.self.inside.differences c.in-Start.value some c.self.invariant.few_columns printable.0
+    ((within-is _ _).0 is))
 
 pub returns-else-not-is_within-clause-ok : goal.returns-else-not-is_within-clause-ok
 returns-else-not-is_within-clause-ok g c =
@@ -47,7 +50,8 @@ returns-then-not-is_within-2-clause-value g c =
     c.min-last.result c.in-Step.number c.value_after-value.result c.self.inside.differences =
     stepped _ _ _ _ _ _ _ c.min-last.ensures (search rules) c.self.told c.value_after-value.ensures fits in
     rw (c.in-Step.is, ← c.self.view_is)
-    (refused g.row.WIDTH c.value_after-value.result _ c.is_within-in-Step.ensures c.if-not-is_within-2.true fits'
+    (refused g.row.WIDTH c.value_after-value.result _ c.is_within-in-Step.ensures c.if-not-is_within-2.true
+    fits'
     ∙ on.value_is)
 
 pub go_on-requires-clause-below : goal.go_on-requires-clause-below
@@ -99,7 +103,8 @@ returns-else-not-is_within-2-clause-ok g c =
     (ap (kept_tail c.self.inside.order) (rw (same-bits _ fits') at c.go_on.ensures.after) ∙ on.tail)
 
 -- what is said of any codes so far, by what is said of the arc
-every : (width : ℕ) (code : Code) (codes : List Code) (old new : Option ArcTail) (result : Result (Option ℤ) Fault)
+every : (width : ℕ) (code : Code) (codes : List Code) (old new : Option ArcTail) (result : Result
+    (Option ℤ) Fault)
     → result ≡ value_of_code width code old → new ≡ (if is_ok result then arc_of_code code old else old)
     → old ≡ arc_of_codes width codes
     → (result ≡ value_of width (code ∷ accepted width codes)) × (new ≡ arc_of_codes width (code ∷ codes))

@@ -60,7 +60,8 @@ returns-clause-code g c =
     c.self.inside.count c.min-last.result c.in-Some.value c.self.inside.differences =
     goes-on _ _ _ _ _ (record { least = search rules }) (search rules) (search rules) in
     rw (c.in-Some.is, ← c.self.view_is)
-    (ap Step (same-bits _ (search rules) ∙ (rw (same-bits _ fits) at c.go_on-highest.ensures.highest)) ∙ on.code)
+    (ap Step (same-bits _ (search rules) ∙ (rw (same-bits _ fits) at c.go_on-highest.ensures.highest))
+    ∙ on.code)
 
 pub returns-clause-arc : goal.returns-clause-arc
 returns-clause-arc g c =

@@ -1,7 +1,9 @@
-use Rattle.std.proofs.Common.{rules, ◌≡◌, ◌∙◌, ◌⊎◌, ap, sym, Bool, true, Ok, Err, Option, Some, None, if◌then◌else◌, ◌≤◌, ℕ, arith, subst}
+use Rattle.std.proofs.Common.{rules, ◌≡◌, ◌∙◌, ◌⊎◌, ap, sym, Bool, true, Ok}
+use Rattle.std.proofs.Common.{Err, Option, Some, None, if◌then◌else◌, ◌≤◌, ℕ, arith, subst}
 use Rattle.crx_base.specs.meaning.Seen.{Content}
 use Rattle.crx_base.specs.declared.fault.Fault.TheVariants.{NotAnEpoch, OutOfMemory}
-use Rattle.crx_compact.specs.OpenEpochs.{Faulty, HasMade, Reading, before_clock, first_step, tail_for_line, tail_held}
+use Rattle.crx_compact.specs.OpenEpochs.{Faulty, HasMade, Reading}
+use Rattle.crx_compact.specs.OpenEpochs.{before_clock, first_step, tail_for_line, tail_held}
 use Rattle.crx_compact.specs.Placing.{HasRoom, OpenHistory, tail_of_history}
 use Rattle.crx_compact.specs.Tails.{Tail}
 use Rattle.crx_compact.proofs.ReadingRooms.{opened-from, room-for, rows-opened, satellites-known, text-known}
@@ -18,13 +20,15 @@ returns-in-Err-clause-memory c = λ out.
     let inside = c.self.inside in
     let history : OpenHistory = c.has_history.new.history in
     let there : c.has_history.result ≡ true = search c.if-not-has_history in
-    let before : tail_for_line (tail_held c.args.self.now.state) c.args.line.now ≡ Some (tail_of_history history) =
+    let before : tail_for_line (tail_held c.args.self.now.state) c.args.line.now
+    ≡ Some (tail_of_history history) =
     ap {B = Option Tail} (λ (t : Option Tail). tail_for_line t c.args.line.now)
     (tail-idle inside.is_kept inside.stage inside.count inside.history c.args.self.now.state
     (ap (λ (held : HeldColumns). held.state) c.self.view_is) c.requires.idle)
     ∙ c.has_history.ensures.before
     ∙ ap {B = Option Tail} (λ (b : Bool). if b then Some (tail_of_history history) else None) there in
-    line-good c.args.types.now c.args.line.now (tail_held c.args.self.now.state) (tail_of_history history) before
+    line-good c.args.types.now c.args.line.now (tail_held c.args.self.now.state)
+    (tail_of_history history) before
     (c.in-Err.ensures.memory out)
 
 pub returns-in-Err-clause-unasked : goal.returns-in-Err-clause-unasked
@@ -45,7 +49,8 @@ returns-in-Ok-begin-clause-room c begun step =
     let inside = c.self.inside in
     let history : OpenHistory = c.has_history.new.history in
     let there : c.has_history.result ≡ true = search c.if-not-has_history in
-    let before : tail_for_line (tail_held c.args.self.now.state) c.args.line.now ≡ Some (tail_of_history history) =
+    let before : tail_for_line (tail_held c.args.self.now.state) c.args.line.now
+    ≡ Some (tail_of_history history) =
     ap {B = Option Tail} (λ (t : Option Tail). tail_for_line t c.args.line.now)
     (tail-idle inside.is_kept inside.stage inside.count inside.history c.args.self.now.state
     (ap (λ (held : HeldColumns). held.state) c.self.view_is) c.requires.idle)
@@ -54,10 +59,12 @@ returns-in-Ok-begin-clause-room c begun step =
     let opened = opened-from c.args.types.now c.args.line.now (tail_held c.args.self.now.state)
     (tail_of_history history) begun before step in
     let read = c.in-Ok.ensures.ok in
-    room-for c.args.types.now c.args.line.now (tail_of_history history) begun opened c.read_epoch_line.new.self
+    room-for c.args.types.now c.args.line.now
+    (tail_of_history history) begun opened c.read_epoch_line.new.self
     c.begin.new.self c.in-Ok.ensures.text c.in-Ok.ensures.text_fits
     (c.in-Ok.ensures.room opened.satellites opened.read)
-    (rows-opened c.args.types.now c.args.line.now (tail_of_history history) begun read.0 _ opened read.1 read.2)
+    (rows-opened c.args.types.now c.args.line.now
+    (tail_of_history history) begun read.0 _ opened read.1 read.2)
     c.in-Ok-begin.ensures.enough_lines c.in-Ok-begin.ensures.enough_bytes
 
 pub returns-in-Err-clause-known : goal.returns-in-Err-clause-known
@@ -65,7 +72,8 @@ returns-in-Err-clause-known c begun step has =
     let inside = c.self.inside in
     let history : OpenHistory = c.has_history.new.history in
     let there : c.has_history.result ≡ true = search c.if-not-has_history in
-    let before : tail_for_line (tail_held c.args.self.now.state) c.args.line.now ≡ Some (tail_of_history history) =
+    let before : tail_for_line (tail_held c.args.self.now.state) c.args.line.now
+    ≡ Some (tail_of_history history) =
     ap {B = Option Tail} (λ (t : Option Tail). tail_for_line t c.args.line.now)
     (tail-idle inside.is_kept inside.stage inside.count inside.history c.args.self.now.state
     (ap (λ (held : HeldColumns). held.state) c.self.view_is) c.requires.idle)
@@ -75,13 +83,16 @@ returns-in-Err-clause-known c begun step has =
     (tail_of_history history) begun before step in
     c.in-Err.ensures.known opened.satellites opened.read
     (satellites-known c.args.types.now c.args.line.now (tail_of_history history) begun c.args.self.now.room _
-    opened has (sym (ap (λ (held : HeldColumns). held.room.rooms) c.self.view_is) ∙ sym c.has_history.ensures.rooms))
+    opened has (sym (ap (λ (held : HeldColumns). held.room.rooms) c.self.view_is)
+    ∙ sym c.has_history.ensures.rooms))
     (text-known c.args.types.now c.args.line.now (tail_of_history history) begun c.args.self.now.room _
-    opened has (sym (ap (λ (held : HeldColumns). held.room.text) c.self.view_is) ∙ sym c.has_history.ensures.held_room))
+    opened has (sym (ap (λ (held : HeldColumns). held.room.text) c.self.view_is)
+    ∙ sym c.has_history.ensures.held_room))
 
 pub returns-in-Ok-begin-clause-block : goal.returns-in-Ok-begin-clause-block
 returns-in-Ok-begin-clause-block c = λ older e.
-    let made : HasMade (first_step c.args.types.now (tail_held c.args.self.now.state) (Content c.args.line.now))
+    let made : HasMade (first_step c.args.types.now (tail_held c.args.self.now.state)
+    (Content c.args.line.now))
     (Reading (before_clock (tail_of_history c.read_epoch_line.new.self))) None = search rules in
     begun-block (Ok tt) c.args.types.now older (tail_held c.args.self.now.state) c.args.line.now _ e made
 
@@ -89,7 +100,8 @@ pub returns-in-Err-clause-block_fault : goal.returns-in-Err-clause-block_fault
 returns-in-Err-clause-block_fault c = λ older e.
     let refused : (first_step c.args.types.now (tail_held c.args.self.now.state) (Content c.args.line.now)
     ≡ Faulty c.in-Err.fault) ⊎ (c.in-Err.fault ≡ OutOfMemory) = search rules in
-    begun-refused (Err c.in-Err.fault) c.args.types.now older (tail_held c.args.self.now.state) c.args.line.now e
+    begun-refused (Err c.in-Err.fault) c.args.types.now older
+    (tail_held c.args.self.now.state) c.args.line.now e
     refused
 
 pub returns-then-not-has_history-clause-block_fault : goal.returns-then-not-has_history-clause-block_fault

@@ -23,7 +23,8 @@ in-full false true tail = refl
 in-full false false tail = refl
 
 -- the tail that an epoch is written after, by what idle columns store
-written-after : (full is_kept in_full : Bool) (stage : Stage) (count : ℕ) (history : OpenHistory) (state : ColumnsState)
+written-after : (full is_kept in_full : Bool) (stage : Stage) (count : ℕ) (history : OpenHistory)
+    (state : ColumnsState)
     → columns_state is_kept stage count history ≡ state → is_idle state ≡ true
     → in_full ≡ (if full then true else not is_kept)
     → (if in_full then no_tail else tail_of_history history) ≡ tail_written_after full (tail_held state)
@@ -44,7 +45,8 @@ still-idle is_kept Unbegun count old new state is idle = refl
 still-idle is_kept Clock count old new state is idle = absurd (cc (ap is_idle is, idle))
 still-idle is_kept Rows count old new state is idle = absurd (cc (ap is_idle is, idle))
 
-asked-for : (full in_full other : Bool) → in_full ≡ full → full ≡ true → in_full ≡ (if full then true else other)
+asked-for : (full in_full other : Bool) → in_full ≡ full → full ≡ true
+    → in_full ≡ (if full then true else other)
 asked-for full in_full other is asked = is ∙ asked ∙ sym (ap (λ f. if f then true else other) asked)
 
 means : (c : goal.After-new-in-Ok)
@@ -57,19 +59,23 @@ means c = elim (c.if-full.branch) [
 after : (c : goal.After-new-in-Ok)
     → (if c.if-full.in_full then no_tail else tail_of_history c.self.inside.history)
     ≡ tail_written_after c.args.full (tail_held c.args.self.now.state)
-after c = written-after c.args.full c.self.inside.is_kept c.if-full.in_full c.self.inside.stage c.self.inside.count
-    c.self.inside.history c.args.self.now.state (ap (λ (held : HeldColumns). held.state) c.self.view_is) c.requires.idle (means c)
+after c = written-after c.args.full c.self.inside.is_kept c.if-full.in_full c.self.inside.stage
+    c.self.inside.count
+    c.self.inside.history c.args.self.now.state (ap (λ
+    (held : HeldColumns). held.state) c.self.view_is) c.requires.idle (means c)
 
 pub returns-in-Ok-clause-coded : goal.returns-in-Ok-clause-coded
 returns-in-Ok-clause-coded c =
     c.new-in-Ok.ensures
     ∙ ap (λ lines. record { epoch = c.args.epoch; lines = lines })
-    (ap (λ (made : PendingLines). made.lines) c.replace-lines.ensures.value ∙ c.in-Ok.ensures.lines ∙ ap (λ t. lines_after_tail t c.args.epoch) (after c))
+    (ap (λ (made : PendingLines). made.lines) c.replace-lines.ensures.value ∙ c.in-Ok.ensures.lines
+    ∙ ap (λ t. lines_after_tail t c.args.epoch) (after c))
 
 pub returns-in-Ok-clause-kept : goal.returns-in-Ok-clause-kept
 returns-in-Ok-clause-kept c =
     still-idle c.self.inside.is_kept c.self.inside.stage c.self.inside.count c.self.inside.history
-    c.encode.new.self c.args.self.now.state (ap (λ (held : HeldColumns). held.state) c.self.view_is) c.requires.idle
+    c.encode.new.self c.args.self.now.state (ap (λ
+    (held : HeldColumns). held.state) c.self.view_is) c.requires.idle
     ∙ ap (λ t. Idle (Some t)) (c.in-Ok.ensures.after ∙ ap (λ t. tail_after t c.args.epoch) (after c))
 
 pub returns-in-Ok-clause-left : goal.returns-in-Ok-clause-left

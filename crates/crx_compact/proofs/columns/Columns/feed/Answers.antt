@@ -21,7 +21,8 @@ returns-in-Ok-clause-made c =
     rows-come new.stage new.count new.history rows.rows (sym rows.whole ∙ c.in-Ok-true.field-0-test) in
     let step : step_in c.args.self.now.state (Content c.args.line.now) ≡ step_with_rows tail new.count =
     rows-made inside.is_kept inside.stage inside.count inside.history c.args.self.now.state c.args.line.now
-    new.stage new.count new.history (ap (λ (held : HeldColumns). held.state) c.self.view_is) c.requires.open rows.made rows.rows in
+    new.stage new.count new.history (ap (λ
+    (held : HeldColumns). held.state) c.self.view_is) c.requires.open rows.made rows.rows in
     let P : Tail → Type 0 = λ t.
     HasMade (step_in c.args.self.now.state (Content c.args.line.now)) (Idle (Some t)) (Some c.in-Ok.epoch) in
     subst P (sym (ap {B = Tail} tail_of_history c.end.ensures.ended))
@@ -37,7 +38,8 @@ returns-in-Err-epoch-clause-memory c = λ out.
     rows-come new.stage new.count new.history rows.rows (sym rows.whole ∙ c.in-Ok-true.field-0-test) in
     let step : step_in c.args.self.now.state (Content c.args.line.now) ≡ step_with_rows tail new.count =
     rows-made inside.is_kept inside.stage inside.count inside.history c.args.self.now.state c.args.line.now
-    new.stage new.count new.history (ap (λ (held : HeldColumns). held.state) c.self.view_is) c.requires.open rows.made rows.rows in
+    new.stage new.count new.history (ap (λ
+    (held : HeldColumns). held.state) c.self.view_is) c.requires.open rows.made rows.rows in
     let some : 0 < length new.history.satellites.rows = c.in-Err-epoch.ensures.memory in (
       rows.start,
       row-was_awaited inside.is_kept inside.stage inside.count inside.history c.args.self.now.state
@@ -56,8 +58,10 @@ returns-in-Ok-false-clause-made c =
     (sym rows.whole ∙ c.in-Ok-false.field-0-test) rows.within in
     let step : step_in c.args.self.now.state (Content c.args.line.now) ≡ step_with_rows tail new.count =
     rows-made inside.is_kept inside.stage inside.count inside.history c.args.self.now.state c.args.line.now
-    new.stage new.count new.history (ap (λ (held : HeldColumns). held.state) c.self.view_is) c.requires.open rows.made rows.rows in
-    let P : ColumnsState → Type 0 = λ s. HasMade (step_in c.args.self.now.state (Content c.args.line.now)) s None in
+    new.stage new.count new.history (ap (λ
+    (held : HeldColumns). held.state) c.self.view_is) c.requires.open rows.made rows.rows in
+    let P : ColumnsState → Type 0 = λ s. HasMade (step_in c.args.self.now.state
+    (Content c.args.line.now)) s None in
     subst P (sym (state-rows inside.is_kept new.stage new.count new.history rows.rows))
     (made-more _ tail new.count step left)
 

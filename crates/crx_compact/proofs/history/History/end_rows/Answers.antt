@@ -68,7 +68,8 @@ returns-clause-lines c = λ after rows written.
     let first : c.bytes-2.result.now ≡ text_difference after.text whole =
     c.bytes-2.ensures.value ∙ c.trim_end_blanks.ensures.trimmed
     ∙ ap without_end_blanks (c.append_difference.ensures.appended
-    ∙ ap (λ (t : List ℕ). t ++ by_position mark_of c.deref.result.now c.deref-2.result.now) c.clear-2.ensures.emptied)
+    ∙ ap (λ (t : List ℕ). t ++ by_position mark_of c.deref.result.now c.deref-2.result.now)
+    c.clear-2.ensures.emptied)
     ∙ (λ j. text_difference (before j) ((c.deref-2.ensures.value ∙ text) j))
     ∙ difference-trimmed after.text whole in
     let code = c.push.ensures.code

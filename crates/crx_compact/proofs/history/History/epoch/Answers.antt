@@ -35,7 +35,8 @@ returns-in-Err-clause-err c =
     let row : IsThere rows index = is-there rows index (omega (arith, many, next)) in
     let at = row-shown history index row.item c.requires.announced
     (ap (λ (h : OpenHistory). slice_get h.satellites.rows index) (sym c.self.view_is) ∙ row.there) in
-    let new = ap (λ (r : Row). has_satellite r.name c.loop-index.epoch.rows) (c.in_ok-row.ensures.ok row.item row.there)
+    let new = ap (λ (r : Row). has_satellite r.name c.loop-index.epoch.rows)
+    (c.in_ok-row.ensures.ok row.item row.there)
     ∙ ap (λ (e : Epoch). has_satellite row.item.name e.rows) c.loop-index.invariant ∙ at.new in
     elim c.in-Err.ensures.refused [
       | inl twice ↦ absurd (false≢true (sym new ∙ twice.1))

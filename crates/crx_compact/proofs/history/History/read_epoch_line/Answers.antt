@@ -10,7 +10,8 @@ use Rattle.crx_text.specs.Texts.{patched}
 use Rattle.crx_compact.specs.HeldRows.{IsAwaitedSatellite, past_of_tail}
 use Rattle.crx_compact.specs.meaning.CompactPlaces.{satellites_of_line, satellites_of_text}
 use Rattle.crx_compact.specs.meaning.EpochText.{Satellite}
-use Rattle.crx_compact.specs.Placing.{HasRoom, HaveTypesRoom, OpenHistory, PlacedRows, padded_among, tail_of_history}
+use Rattle.crx_compact.specs.Placing.{HasRoom, HaveTypesRoom, OpenHistory}
+use Rattle.crx_compact.specs.Placing.{PlacedRows, padded_among, tail_of_history}
 use Rattle.crx_compact.specs.Tails.{RowTail, Tail}
 use Rattle.crx_compact.proofs.AnnouncedRows.{announced-rows, line-of_text}
 use Rattle.crx_compact.proofs.Results.{by_ok}
@@ -25,7 +26,8 @@ by-line types before line text printable made =
 
 pub returns-in_err-read_satellites-clause-memory : goal.returns-in_err-read_satellites-clause-memory
 returns-in_err-read_satellites-clause-memory c =
-    let same = by-line c.args.types.now (tail_of_history c.args.self.now) c.args.line.now c.bytes-text.result.now
+    let same = by-line c.args.types.now
+    (tail_of_history c.args.self.now) c.args.line.now c.bytes-text.result.now
     (sym c.patch_bytes.ensures.printable ∙ c.if-is_err.ensures.negation)
     (c.bytes-text.ensures.value
     ∙ by_ok c.patch_bytes.result c.if-is_err.ensures.negation c.patch_bytes.ensures.ok
@@ -47,7 +49,8 @@ returns-in_err-read_satellites-clause-unasked c =
 -- the satellites have the room that they had
 pub returns-in_err-read_satellites-clause-known : goal.returns-in_err-read_satellites-clause-known
 returns-in_err-read_satellites-clause-known c satellites is has within =
-    let same = by-line c.args.types.now (tail_of_history c.args.self.now) c.args.line.now c.bytes-text.result.now
+    let same = by-line c.args.types.now
+    (tail_of_history c.args.self.now) c.args.line.now c.bytes-text.result.now
     (sym c.patch_bytes.ensures.printable ∙ c.if-is_err.ensures.negation)
     (c.bytes-text.ensures.value
     ∙ by_ok c.patch_bytes.result c.if-is_err.ensures.negation c.patch_bytes.ensures.ok
@@ -59,7 +62,8 @@ returns-in_err-read_satellites-clause-known c satellites is has within =
 
 pub returns-then-is_err-2-clause-memory : goal.returns-then-is_err-2-clause-memory
 returns-then-is_err-2-clause-memory c = λ out.
-    let same = by-line c.args.types.now (tail_of_history c.args.self.now) c.args.line.now c.bytes-text.result.now
+    let same = by-line c.args.types.now
+    (tail_of_history c.args.self.now) c.args.line.now c.bytes-text.result.now
     (sym c.patch_bytes.ensures.printable ∙ c.if-is_err.ensures.negation)
     (c.bytes-text.ensures.value
     ∙ by_ok c.patch_bytes.result c.if-is_err.ensures.negation c.patch_bytes.ensures.ok

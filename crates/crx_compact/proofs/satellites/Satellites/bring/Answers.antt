@@ -94,7 +94,8 @@ invariant_of-self-2 c =
 pub returns-in_err-found-clause-back : goal.returns-in_err-found-clause-back
 returns-in_err-found-clause-back c =
     rw (← c.self.view_is)
-    (λ has. same-rooms c.self.inside.known.entries c.find_or_add.new.map.entries c.in_err-found.ensures.unchanged)
+    (λ has. same-rooms c.self.inside.known.entries c.find_or_add.new.map.entries
+    c.in_err-found.ensures.unchanged)
 
 pub returns-then-found-self-clause-back : goal.returns-then-found-self-clause-back
 returns-then-found-self-clause-back c =

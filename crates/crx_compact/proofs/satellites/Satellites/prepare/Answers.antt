@@ -27,9 +27,11 @@ returns-clause-asked c =
     let same = rows-same known found _ _ c.make_room.new.self c.pair_mut-satellite.ensures.value
     c.make_room.ensures.flags c.make_room.ensures.cells in
     rw (← c.self.view_is) (record {
-      rows = front-same c.args.name found c.self.inside.known.entries known after c.in_ok-found.ensures.found same
+      rows = front-same c.args.name found c.self.inside.known.entries known after
+          c.in_ok-found.ensures.found same
           c.self.inside.placed (omega (arith, few, all));
-      rest = range-same c.args.name found c.self.inside.known.entries known after c.in_ok-found.ensures.found same
+      rest = range-same c.args.name found c.self.inside.known.entries known after
+          c.in_ok-found.ensures.found same
           c.self.inside.placed c.self.inside.live all;
       rooms = λ name count has. rooms-changed c.find_or_add.new.map found _ _ c.make_room.new.self
           c.find_or_add.ensures.unique c.pair_mut-satellite.ensures.value c.make_room.ensures.kept name count

@@ -3,8 +3,10 @@ use Rattle.indexmap.specs.Layout.{length-set_value_at}
 use Rattle.crx_compact.specs.Entries.{rooms_of}
 use Rattle.crx_compact.specs.Placing.{HasRoom, SatelliteTail, padded, row_of_entry, row_tail_of}
 use Rattle.crx_compact.specs.Tails.{RowTail}
-use Rattle.crx_compact.proofs.placing.EntryChanges.{rest-unchanged, room-there, rooms-changed, rooms-changed-back, rows-changed}
-use Rattle.crx_compact.proofs.placing.SteppedRows.{among-placed, has-last, last-is, last-row-is, padded-is, row-is}
+use Rattle.crx_compact.proofs.placing.EntryChanges.{rest-unchanged, room-there}
+use Rattle.crx_compact.proofs.placing.EntryChanges.{rooms-changed, rooms-changed-back, rows-changed}
+use Rattle.crx_compact.proofs.placing.SteppedRows.{among-placed, has-last, last-is}
+use Rattle.crx_compact.proofs.placing.SteppedRows.{last-row-is, padded-is, row-is}
 use Rattle.crx_compact.proofs.placing.SteppedRows.{rows-counted}
 use Rattle.crx_compact.proofs.satellites.Satellites.resize_last.Goals as goal
 
