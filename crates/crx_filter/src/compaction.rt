@@ -322,9 +322,10 @@ impl Compaction {
         }
     }
 
-    /// Takes the next line, which is too long: see [`Compactor::overlong`](crate::compactor::Compactor::overlong).
-    pub(crate) fn overlong(&mut self) -> Result<Step, At>
-        requires within { self.old.number < INPUT_LIMIT }
+    /// Takes the next line, which is too long, by its number: see [`Compactor::overlong`](crate::compactor::Compactor::overlong).
+    pub(crate) fn overlong(&mut self, number: u64) -> Result<Step, At>
+        requires next { number ≡ self.old.number + 1 }
+        requires within { number ≤ INPUT_LIMIT }
         requires drained { compaction_ready self.old ≡ [] }
         ensures steps { step_made result (compaction_ready self.new) (compaction_state self.new)
             ≡ seen_next compaction (compaction_state self.old) Overlong }
@@ -334,11 +335,11 @@ impl Compaction {
     {
         match self.reader.stage {
             Stage::Ended(at) => {
-                self.number += 1;
+                self.number = number;
                 Err(at)
             }
             Stage::Looking | Stage::Closed => {
-                self.number += 1;
+                self.number = number;
                 Ok(Step::Quiet)
             }
             _ => {

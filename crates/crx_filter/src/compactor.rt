@@ -136,8 +136,7 @@ impl Compactor {
             (compactor_took self.new) (compactor_ready self.new) lines notices line result }
         ensures repeated { (at : At) → (compactor_seen self.old).phase ≡ Ended at → result ≡ Err at }
     {
-        let _ = number;
-        self.compaction.overlong()
+        self.compaction.overlong(number)
     }
 
     /// Takes the end of the input. No line is ready then.
