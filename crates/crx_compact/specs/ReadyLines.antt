@@ -5,8 +5,8 @@ use Rattle.crx_compact.specs.declared.ready_lines.Turn.{Turn}
 use Rattle.crx_compact.specs.declared.ready_lines.Turn.TheVariants.{Version, Program, Copied, Over, Made, Open}
 use Rattle.crx_compact.specs.declared.ready_lines.ReadyLines.{ReadyLines}
 
--- the lines from a turn on: the two of compact text before a line that is copied, or this alone; or those that were made. There is none while
--- those of an epoch are made, and none after a line that was copied
+-- the lines from a turn on: the two of compact text before a line that is copied, or this alone; or those that were made.
+-- There is none while those of an epoch are made, and none after a line that was copied
 abbrev pub lines_from : Turn → List ℕ → List ℕ → List (List ℕ) → List (List ℕ)
 lines_from Version program copied made = version_line ∷ program ∷ copied ∷ []
 lines_from Program program copied made = program ∷ copied ∷ []

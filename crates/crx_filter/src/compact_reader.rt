@@ -174,8 +174,8 @@ impl CompactReader {
 
     /// Takes a line where no epoch is open; `true` says that it is copied into RINEX as it is.
     ///
-    /// The faults are those of what the line is. `OutOfMemory` comes only at a line without a fault: a types line that counts, and an epoch's
-    /// first line.
+    /// The faults are those of what the line is. `OutOfMemory` comes only at a line without a fault: a types line that counts, and an
+    /// epoch's first line.
     #[inline(never)]
     pub(crate) fn read_between(&mut self, line: &[u8]) -> Result<bool, Fault>
         requires running { is_ended self.old.stage ≡ false }

@@ -83,7 +83,8 @@ impl Expander {
     /// Borrows all lines that are ready as one text, each followed by LF.
     pub(crate) fn take_text(&mut self) -> &[u8]
         ensures value { result.now ≡ lines_text self.old.lines }
-        ensures* after_borrow { sem 𝓛 (Rests the_row self.entry (λ new. new ≡ record self.old { lines = [] })) }
+        ensures* after_borrow { sem 𝓛 (Rests the_row self.entry
+            (λ new. new ≡ record self.old { lines = [] })) }
     {
         self.lines.take_text()
     }

@@ -6,8 +6,8 @@ use Rattle.crx_runs.proofs.output.ReadyLines.{first-and-rest, one-written, part-
 use Rattle.crx_runs.proofs.ready.write_ready.Goals as goal
 
 -- a part of the lines that were ready was written, also where they were asked for as one text before
-part-of-ready : {W : Type 0} (took : List ℕ → W → Type 0) (then : W) (now before : List (List ℕ)) → now ≡ before
-    → (n : ℕ) × (n < length (lines_text now)) × took (take n (lines_text now)) then
+part-of-ready : {W : Type 0} (took : List ℕ → W → Type 0) (then : W) (now before : List (List ℕ))
+    → now ≡ before → (n : ℕ) × (n < length (lines_text now)) × took (take n (lines_text now)) then
     → (n : ℕ) × (n < length (lines_text before)) × took (take n (lines_text before)) then
 part-of-ready took then now before same part = subst (λ (ls : List (List ℕ)). (n : ℕ)
     × (n < length (lines_text ls)) × took (take n (lines_text ls)) then) same part
@@ -22,7 +22,8 @@ returns-in-Err-write_all_counted-clause-part g c =
     let all = lines_text (g.E.Engine.ready c.take_text.follows.lender-at-none) in
     let so_far = c.loop-line.invariant.0 in
     let whole = so_far.2
-    ∙ ap (λ (ls : List (List ℕ)). so_far.0 ++ lines_text ls) (first-and-rest lines line c.in-Some-next_line.ensures.value)
+    ∙ ap (λ (ls : List (List ℕ)). so_far.0 ++ lines_text ls)
+    (first-and-rest lines line c.in-Some-next_line.ensures.value)
     ∙ ap (λ (t : List ℕ). so_far.0 ++ t) (append_assoc line (10 ∷ []) (lines_text (drop 1 lines))) in
     let n = c.in-Err-write_all_counted.field-0-0 in
     let part = part-written all so_far.0 line ((10 ∷ [])
@@ -82,7 +83,8 @@ loop-line-preserved g c =
     let took = g.met.W.Sink.took_both old now mid so_far.0 line so_far.1 c.in_default-write_all_counted.ensures.all in
     let took_both = g.met.W.Sink.took_both old mid
     then (so_far.0 ++ line) (10 ∷ []) took c.in_default-write_all_counted-2.ensures.all in
-    let whole = one-written all so_far.0 line lines so_far.2 (first-and-rest lines line c.in-Some-next_line.ensures.value)
+    let whole = one-written all so_far.0 line lines so_far.2
+    (first-and-rest lines line c.in-Some-next_line.ensures.value)
     ∙ ap (λ (ls : List (List ℕ)). (so_far.0 ++ line ++ 10 ∷ []) ++ lines_text ls) (sym kept.0) in (
       (so_far.0 ++ line ++ 10 ∷ [], took_both, whole),
       c.in_default-write_all_counted-2.ensures.good ∙ c.in_default-write_all_counted.ensures.good ∙ i.1,

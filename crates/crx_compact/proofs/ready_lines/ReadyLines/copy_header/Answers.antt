@@ -11,5 +11,6 @@ first-header date program line copied is_first first held is =
 
 pub returns-then-is_first-clause-copied : goal.returns-then-is_first-clause-copied
 returns-then-is_first-clause-copied c =
-    first-header c.args.date.now c.write_program_line.new.line c.args.line.now c.copy.new.self.copied c.args.is_first
+    first-header c.args.date.now c.write_program_line.new.line
+    c.args.line.now c.copy.new.self.copied c.args.is_first
     (search c.if-is_first) c.copy.ensures.line (search rules)

@@ -36,7 +36,8 @@ returns-in-Err-clause-steps c =
     let line = c.args.line.now in
     subst (λ (p : CompactionParts). Steps compaction (compaction_state p) (Content line) c.fail.new.answer
     (compaction_ready c.fail.new.self) (compaction_state c.fail.new.self)) c.self.view_is
-    (refused-step (compaction_state self) _ (Content line) c.fail.new.answer _ (compaction_state c.fail.new.self)
+    (refused-step (compaction_state self) _ (Content line) c.fail.new.answer _
+    (compaction_state c.fail.new.self)
     c.in-Err.fault (seen-again self.options self.number kept self.reader c.read_row.new.self c.in-Err.ensures.same)
     (c.fail.ensures.fails (Content line) (sym c.begins_epoch.ensures.value))
     (inl (c.in-Err.ensures.refused kept)) c.fail.ensures.fatal)
@@ -53,7 +54,8 @@ returns-in-Ok-false-clause-steps c =
     c.in-Ok-false.ensures.answer c.row.ensures.value there c.in-Ok-false.field-0-test in
     subst (λ (p : CompactionParts). Steps compaction (compaction_state p) (Content line) fail.new.answer
     (compaction_ready fail.new.self) (compaction_state fail.new.self)) c.self.view_is
-    (refused-step (compaction_state self) _ (Content line) fail.new.answer _ (compaction_state fail.new.self) _
+    (refused-step (compaction_state self) _ (Content line) fail.new.answer _
+    (compaction_state fail.new.self) _
     (ap (λ (e : EncoderState). seen_in self.options self.number (reader_phase mid) mid.types
     (record { index = self.index; tail = e.before }))
     (c.in-Ok-false.ensures.repeated c.in-Ok-false.field-0-test)
@@ -145,8 +147,8 @@ returns c =
     let due = ap (λ (e : EncoderState). e.in_full) written ∙ due-there self c.self.invariant open_ in
     let before = ap (λ (e : EncoderState). e.before) written in
     record {
-      steps = subst (λ (p : CompactionParts). Steps compaction (compaction_state p) (Content line) c.conclude.new.answer
-          (compaction_ready now) (compaction_state now)) c.self.view_is
+      steps = subst (λ (p : CompactionParts). Steps compaction (compaction_state p) (Content line)
+          c.conclude.new.answer (compaction_ready now) (compaction_state now)) c.self.view_is
           (concluded-step self.options self.number kept self.reader after line c.end_epoch-ended.result
           c.conclude.new.answer (compaction_ready now) (compaction_state now) done c.conclude.ensures.value
           (both-ok c.end_epoch-ended.result (λ lines made. lines ∙ made

@@ -64,9 +64,10 @@ returns-in-Err c =
     let kept = (compaction_state self).kept in
     let line = c.args.line.now in
     record {
-      steps = subst (λ (p : CompactionParts). Steps compaction (compaction_state p) (Content line) c.fail.new.answer
-          (compaction_ready c.fail.new.self) (compaction_state c.fail.new.self)) c.self.view_is
-          (refused-step (compaction_state self) _ (Content line) c.fail.new.answer _ (compaction_state c.fail.new.self)
+      steps = subst (λ (p : CompactionParts). Steps compaction (compaction_state p) (Content line)
+          c.fail.new.answer (compaction_ready c.fail.new.self) (compaction_state c.fail.new.self)) c.self.view_is
+          (refused-step (compaction_state self) _ (Content line) c.fail.new.answer _
+          (compaction_state c.fail.new.self)
           c.in-Err.fault (seen-again self.options self.number kept self.reader c.take.new.self c.in-Err.ensures.same)
           (c.fail.ensures.fails (Content line) (sym c.begins_epoch.ensures.value))
           (c.in-Err.ensures.refuses kept) c.fail.ensures.fatal);
@@ -147,8 +148,8 @@ returns-else-not-is_whole c =
     let before = ap (λ (e : EncoderState). e.before) c.begin.ensures.begun in
     let rows = ap (λ (e : EncoderState). e.rows) c.begin.ensures.begun ∙ sym begins.0 in
     record {
-      steps = subst (λ (p : CompactionParts). Steps compaction (compaction_state p) (Content line) c.conclude.new.answer
-          (compaction_ready now) (compaction_state now)) c.self.view_is
+      steps = subst (λ (p : CompactionParts). Steps compaction (compaction_state p) (Content line)
+          c.conclude.new.answer (compaction_ready now) (compaction_state now)) c.self.view_is
           (concluded-step self.options self.number kept self.reader after line c.end_epoch-ended.result
           c.conclude.new.answer (compaction_ready now) (compaction_state now) done c.conclude.ensures.value
           (both-ok c.end_epoch-ended.result (λ lines made. lines ∙ made
