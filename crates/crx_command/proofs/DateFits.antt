@@ -1,6 +1,8 @@
 -- The date of a moment fits its columns.
-use Rattle.std.proofs.Common.{arith, ◌≡◌, ◌∙◌, ◌≤◌, ◌<◌, ◌+◌, ◌-◌, ◌/◌, ◌%◌, ◌&&◌, ap, refl, ℕ, zero, suc, true, false}
-use Rattle.std.proofs.Common.{Bool, List, [], ◌∷◌, ◌++◌, length, length-append, codes, nat_le, leb-true, le-leb, Option, None}
+use Rattle.std.proofs.Common.{arith, ◌≡◌, ◌∙◌, ◌≤◌, ◌<◌, ◌+◌, ◌-◌, ◌/◌, ◌%◌, ◌&&◌, ap, refl, ℕ, zero, suc}
+use Rattle.std.proofs.Common.{true, false}
+use Rattle.std.proofs.Common.{Bool, List, [], ◌∷◌, ◌++◌, length, length-append, codes, nat_le, leb-true}
+use Rattle.std.proofs.Common.{le-leb, Option, None}
 use Rattle.std.proofs.Common.{Some}
 use Rattle.std.specs.List.{list_all, slice_index_or}
 use Rattle.std.specs.Prelude.{unsigned_abs, ℤ, if◌then◌else◌}

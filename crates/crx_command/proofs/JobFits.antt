@@ -1,5 +1,6 @@
 -- The date of a job that words ask for fits its columns.
-use Rattle.std.proofs.Common.{◌≡◌, ◌∙◌, ap, refl, cond, not, true, false, Bool, ℕ, List, [], ◌∷◌, Option, Some, None}
+use Rattle.std.proofs.Common.{◌≡◌, ◌∙◌, ap, refl, cond, not, true, false, Bool, ℕ, List, [], ◌∷◌, Option}
+use Rattle.std.proofs.Common.{Some, None}
 use Rattle.std.proofs.Common.{nat_lt}
 use Rattle.std.specs.Option.{option_map_or}
 use Rattle.clap.specs.Faults.{fault_of}
@@ -11,8 +12,10 @@ use Rattle.clap.specs.declared.error.ErrorKind.TheVariants as kind
 use Rattle.crx_base.specs.meaning.Choices.{is_date}
 use Rattle.crx_command.specs.meaning.Commands.{program}
 use Rattle.crx_command.specs.meaning.Names.{output_name}
-use Rattle.crx_command.specs.meaning.Planning.{Given, Plan, Help, Run, Refused, by_kind, by_kinds, given_in, judged}
-use Rattle.crx_command.specs.meaning.Planning.{of_subcommand, plan_of, tool_named, with_source, with_target, writes_file}
+use Rattle.crx_command.specs.meaning.Planning.{Given, Plan, Help, Run, Refused, by_kind, by_kinds, given_in}
+use Rattle.crx_command.specs.meaning.Planning.{judged}
+use Rattle.crx_command.specs.meaning.Planning.{of_subcommand, plan_of, tool_named, with_source, with_target}
+use Rattle.crx_command.specs.meaning.Planning.{writes_file}
 use Rattle.crx_command.specs.declared.job.Job.{Job}
 use Rattle.crx_command.specs.declared.job.Tool.{Tool}
 
@@ -61,9 +64,11 @@ source_fits : (tool : Tool) (given : Given) (source : Option (List ℕ))
     → date_is given.date ≡ true → fits (with_source tool given source) ≡ true
 source_fits tool given None h = h
 source_fits tool given (Some source) h =
-    either_fits (writes_file tool given.dashes) _ _ (target_fits tool given source (output_name tool source) h) h
+    either_fits (writes_file tool given.dashes) _ _
+      (target_fits tool given source (output_name tool source) h) h
 
-unless_bad : (b : Bool) (p q : Plan) → fits p ≡ true → (b ≡ true → fits q ≡ true) → fits (cond (not b) p q) ≡ true
+unless_bad : (b : Bool) (p q : Plan) → fits p ≡ true → (b ≡ true → fits q ≡ true)
+  → fits (cond (not b) p q) ≡ true
 unless_bad true p q h g = g refl
 unless_bad false p q h g = h
 

@@ -1,5 +1,6 @@
 -- A number that `u32` reads from a text.
-use Rattle.std.proofs.Common.{◌≡◌, ◌^◌, ◌&&◌, ℕ, Bool, true, false, refl, List, [], ◌∷◌, length, nat_lt, Option}
+use Rattle.std.proofs.Common.{◌≡◌, ◌^◌, ◌&&◌, ℕ, Bool, true, false, refl, List, [], ◌∷◌, length, nat_lt}
+use Rattle.std.proofs.Common.{Option}
 use Rattle.std.proofs.Common.{Some, None, Result, Ok, Err, lt-ltb, ltb-true}
 use Rattle.std.specs.Char.{digit_value}
 use Rattle.std.specs.List.{list_all}
@@ -23,7 +24,8 @@ abbrev fits : List ℕ → Bool
 fits ds = is_numeral ds && nat_lt (digits_value 10 ds) (2 ^ 32)
 
 module _ {E : Type 0} (G : List ℕ
-    → Result ℕ E → Type 0) (parses : (text : List ℕ) (r : Result ℕ E) → G text r → ParsesUnsigned 32 10 text r) where
+    → Result ℕ E → Type 0)
+      (parses : (text : List ℕ) (r : Result ℕ E) → G text r → ParsesUnsigned 32 10 text r) where
   pub number_read : (text : List ℕ) (o : Option ℕ) → ReadsOne G text o → o ≡ counted_argument text
   number_read text (Some n) h =
       let ds = without_leading_plus text in

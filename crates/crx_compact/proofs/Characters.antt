@@ -1,5 +1,6 @@
 -- Texts and identifiers by their characters.
-use Rattle.std.specs.Prelude.{◌≡◌, refl, ℕ, zero, suc, ◌<◌, ◌≤◌, ◌⊎◌, List, [], ◌∷◌, take, Bool, true, false, ◌++◌}
+use Rattle.std.specs.Prelude.{◌≡◌, refl, ℕ, zero, suc, ◌<◌, ◌≤◌, ◌⊎◌, List, [], ◌∷◌, take, Bool, true, false}
+use Rattle.std.specs.Prelude.{◌++◌}
 use Rattle.std.specs.Prelude.{Option, Some, None, if◌then◌else◌, ◌&&◌, nat_eq, ◌||◌, ◌==◌, length}
 use Rattle.std.proofs.Common.{arith, inl, inr, not-suc-le-zero, le_of_suc-le-suc, sym, ◌∙◌, ap}
 use Rattle.crx_text.proofs.Characters.{at}
@@ -59,7 +60,8 @@ all_blank [] h = refl
 all_blank (c ∷ cs) h = before-blank c (without_end_blanks cs) (h 0) (all_blank cs (λ p. h (suc p)))
 
 -- texts with the same characters are the same without the blanks at their ends
-pub same_characters : (xs ys : List ℕ) → ((p : ℕ) → at xs p ≡ at ys p) → without_end_blanks xs ≡ without_end_blanks ys
+pub same_characters : (xs ys : List ℕ) → ((p : ℕ) → at xs p ≡ at ys p)
+  → without_end_blanks xs ≡ without_end_blanks ys
 same_characters [] ys h = sym (all_blank ys (λ p. sym (h p)))
 same_characters (x ∷ xs) [] h = all_blank (x ∷ xs) h
 same_characters (x ∷ xs) (y ∷ ys) h =

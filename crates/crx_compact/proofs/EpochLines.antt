@@ -1,5 +1,6 @@
 -- An epoch line that was read: its satellites are as many as it announces, and no two of one identifier.
-use Rattle.std.specs.Prelude.{◌≡◌, refl, ℕ, ◌+◌, ◌*◌, Bool, true, false, not, List, [], ◌∷◌, map, drop, Option, Some}
+use Rattle.std.specs.Prelude.{◌≡◌, refl, ℕ, ◌+◌, ◌*◌, Bool, true, false, not, List, [], ◌∷◌, map, drop}
+use Rattle.std.specs.Prelude.{Option, Some}
 use Rattle.std.specs.Prelude.{None, Result, Ok, Err, length}
 use Rattle.std.specs.List.{list_all, list_any, AllByRecursion}
 use Rattle.std.specs.Str.{bytes_eq}
@@ -44,7 +45,8 @@ pub record SatellitesFacts (types : List Count)
   pub known : AllByRecursion (λ (s : Satellite). types_of_satellite types s.name ≡ Some s.count) satellites
 
 -- what is known of an epoch line that was read
-pub record LineFacts (types : List Count) (past : Past) (line : List ℕ) (satellites : List Satellite) : Type 0 where
+pub record LineFacts (types : List Count) (past : Past) (line : List ℕ)
+  (satellites : List Satellite) : Type 0 where
   pub count : ℕ
   pub counted : epoch_count (columns (past.text line) 1 41) ≡ Some count
   pub printable : list_all is_printable line ≡ true
@@ -107,7 +109,8 @@ satellites_counted types text found =
     list_all is_blank (drop (HEAD_WIDTH + NAME_WIDTH * count) text) otherwise Err BadEpoch next
     satellites_named types [] (names_in text count)
 
-text-facts : (types : List Count) (past : Past) (line : List ℕ) (found : Option ℕ) (satellites : List Satellite)
+text-facts : (types : List Count) (past : Past) (line : List ℕ) (found : Option ℕ)
+  (satellites : List Satellite)
     → epoch_count (columns (past.text line) 1 41) ≡ found → list_all is_printable line ≡ true
     → satellites_counted types (past.text line) found ≡ Ok satellites → LineFacts types past line satellites
 text-facts types past line None satellites h p e = absurd (no-err BadEpoch satellites e)

@@ -1,5 +1,6 @@
 -- Lists whose items all have a property, and what is at a place of a list.
-use Rattle.std.specs.Prelude.{◌≡◌, ◌<◌, refl, ℕ, zero, suc, List, [], ◌∷◌, get_or, length, map, slice_get, take, Some}
+use Rattle.std.specs.Prelude.{◌≡◌, ◌<◌, refl, ℕ, zero, suc, List, [], ◌∷◌, get_or, length, map, slice_get}
+use Rattle.std.specs.Prelude.{take, Some}
 use Rattle.std.proofs.Common.{arith}
 use Rattle.std.specs.List.{AllByRecursion}
 

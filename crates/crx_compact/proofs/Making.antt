@@ -1,5 +1,6 @@
 -- Items one by one, and the text that is made of them.
-use Rattle.std.specs.Prelude.{◌≡◌, refl, ℕ, zero, suc, ◌+◌, List, [], ◌∷◌, ◌++◌, take, flat_map, slice_get, Some}
+use Rattle.std.specs.Prelude.{◌≡◌, refl, ℕ, zero, suc, ◌+◌, List, [], ◌∷◌, ◌++◌, take, flat_map, slice_get}
+use Rattle.std.specs.Prelude.{Some}
 use Rattle.std.specs.Prelude.{None, Result, Ok, Err, IsOk, IsErr}
 use Rattle.std.proofs.Common.{sym, ◌∙◌, ap, add-one}
 use Rattle.std.proofs.lemmas.List.{flat_map_more}
@@ -31,7 +32,8 @@ taken_all (y ∷ ys) zero h = absurd (cc)
 taken_all (y ∷ ys) (suc i) h = ap (λ zs. y ∷ zs) (taken_all ys i h)
 
 -- the text of one item more
-pub texts_more : {X : Type 0} (f : X → List ℕ) (before : List ℕ) (xs : List X) (i : ℕ) (x : X) (old new : List ℕ)
+pub texts_more : {X : Type 0} (f : X → List ℕ) (before : List ℕ) (xs : List X) (i : ℕ) (x : X)
+  (old new : List ℕ)
     → old ≡ before ++ flat_map f (take i xs)
     → slice_get xs i ≡ Some x → new ≡ old ++ f x → new ≡ before ++ flat_map f (take (i + 1) xs)
 texts_more f before xs i x old new so_far here more =

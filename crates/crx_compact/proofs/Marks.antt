@@ -1,6 +1,8 @@
 -- The marks of a satellite line, and the row that its cells and marks make.
-use Rattle.std.specs.Prelude.{◌≡◌, refl, ℕ, suc, ◌+◌, ◌-◌, ◌*◌, Bool, true, false, List, [], ◌∷◌, ◌++◌, ℤ, length, map}
-use Rattle.std.specs.Prelude.{take, drop, replicate, slice_index_or, Option, None, Some, Result, Ok, Err, IfOk, IfErr}
+use Rattle.std.specs.Prelude.{◌≡◌, refl, ℕ, suc, ◌+◌, ◌-◌, ◌*◌, Bool, true, false, List, [], ◌∷◌, ◌++◌, ℤ}
+use Rattle.std.specs.Prelude.{length, map}
+use Rattle.std.specs.Prelude.{take, drop, replicate, slice_index_or, Option, None, Some, Result, Ok, Err}
+use Rattle.std.specs.Prelude.{IfOk, IfErr}
 use Rattle.std.specs.Prelude.{OnOk, if◌then◌else◌, ◌==◌, zero}
 use Rattle.std.specs.List.{list_all}
 use Rattle.std.proofs.Common.{sym, ◌∙◌, ap, arith}
@@ -29,12 +31,14 @@ use Rattle.crx_compact.specs.ArcSteps.{arc_of_code, value_of_code, shown_value}
 use Rattle.crx_compact.specs.Steps.{cell_of_tail, flags_held, flags_of_tail, tail_named}
 use Rattle.crx_compact.proofs.CellsRead.{cells-same}
 use Rattle.crx_compact.specs.ShownRows.{shown_row}
-use Rattle.crx_compact.specs.HeldRows.{HeldRow, held_row, past_of_tail, arcs_of_tail, held_from, past_of_row, row_after}
+use Rattle.crx_compact.specs.HeldRows.{HeldRow, held_row, past_of_tail, arcs_of_tail, held_from, past_of_row}
+use Rattle.crx_compact.specs.HeldRows.{row_after}
 use Rattle.crx_compact.specs.HeldRows.{row_held, row_held_from}
 use Rattle.crx_compact.specs.Cells.{value_at_place, CellsAreRead, arcs_of_codes}
 use Rattle.crx_compact.proofs.SoundTexts.{held-columns, patched-trimmed}
 use Rattle.crx_compact.proofs.Characters.{list_all-at, at-by_position}
-use Rattle.crx_text.proofs.Characters.{at, at-without_end_blanks, columns-are, list_all-from_at, length-columns}
+use Rattle.crx_text.proofs.Characters.{at, at-without_end_blanks, columns-are, list_all-from_at}
+use Rattle.crx_text.proofs.Characters.{length-columns}
 use Rattle.crx_compact.proofs.PlaceByPlace.{at-padded, at-take}
 use Rattle.crx_text.specs.meaning.Codes.{code_of, after_cell}
 use Rattle.crx_compact.proofs.Results.{ok-same, Follows, and_then-ok, before-ok}
@@ -45,7 +49,8 @@ patched-character : (a b : ℕ) → is_kept a ≡ true → is_printable b ≡ tr
 patched-character a b h k = grind (arith, h, k)
 
 pub patched-kept : (old marks : List ℕ)
-    → list_all is_kept old ≡ true → list_all is_printable marks ≡ true → list_all is_kept (patched old marks) ≡ true
+    → list_all is_kept old ≡ true → list_all is_printable marks ≡ true
+      → list_all is_kept (patched old marks) ≡ true
 patched-kept old marks h k =
     list_all-from_at is_kept (patched old marks) (λ p.
     ap is_kept (at-without_end_blanks (by_position character_of old marks) p
@@ -64,7 +69,8 @@ none-there [] e = refl
 none-there (m ∷ marks) e = absurd (grind (arith, e))
 
 -- the columns of indicators that no marks change
-pub columns-left : (count : ℕ) (flags : List ℕ) → columns flags 1 (2 * count) ≡ columns (patched flags []) 1 (2 * count)
+pub columns-left : (count : ℕ) (flags : List ℕ)
+  → columns flags 1 (2 * count) ≡ columns (patched flags []) 1 (2 * count)
 columns-left count flags =
     columns-are flags 1 (2 * count)
     (columns (patched flags []) 1 (2 * count)) (length-columns (patched flags []) 1 (2 * count)) (λ p less.
@@ -101,7 +107,8 @@ row_of_line past satellite line =
 -- a line that begins no epoch is read by its cells
 line-cells : (arcs : List (Option ArcTail)) (flags : List ℕ) (satellite : Satellite) (line : List ℕ)
     → begins_epoch line ≡ false
-    → (r : Result (List ReadCell) Fault) → cells_read (value_at_place arcs) (cells_of satellite.count line) ≡ r
+    → (r : Result (List ReadCell) Fault) → cells_read (value_at_place arcs) (cells_of satellite.count line)
+      ≡ r
     → row_held_from arcs flags satellite line
     ≡ and_then (and_then r (λ cells. row_with_marks (past_of_row arcs flags) satellite
     (after_cells satellite.count line) cells)) (λ read. Ok (held_from arcs flags read))
@@ -112,7 +119,8 @@ line-cells arcs flags satellite line h r e =
     (λ cells. row_with_marks (past_of_row arcs flags) satellite (after_cells satellite.count line) cells))
     (λ read. Ok (held_from arcs flags read))) e
 
-pub line-fault : (arcs : List (Option ArcTail)) (flags : List ℕ) (satellite : Satellite) (line : List ℕ) (fault : Fault)
+pub line-fault : (arcs : List (Option ArcTail)) (flags : List ℕ) (satellite : Satellite) (line : List ℕ)
+  (fault : Fault)
     → begins_epoch line ≡ false
     → cells_read (value_at_place arcs) (cells_of satellite.count line) ≡ Err fault
     → row_held_from arcs flags satellite line ≡ Err fault
@@ -120,16 +128,19 @@ line-fault arcs flags satellite line fault h e = line-cells arcs flags satellite
 
 -- the marks decide after the cells
 line-marks : (arcs : List (Option ArcTail)) (flags : List ℕ)
-    (satellite : Satellite) (line : List ℕ) (at : ℕ) (cells : List ReadCell) (b : Bool) → begins_epoch line ≡ false
+    (satellite : Satellite) (line : List ℕ) (at : ℕ) (cells : List ReadCell) (b : Bool)
+      → begins_epoch line ≡ false
     → cells_read (value_at_place arcs) (cells_of satellite.count line) ≡ Ok cells
     → after_cells satellite.count line ≡ drop at line → are_marks satellite.count (drop at line) ≡ b
     → row_held_from arcs flags satellite line
     ≡ and_then (b otherwise Err BadFlags next
-    Ok (row_of_cells (past_of_row arcs flags) satellite.name (drop at line) cells)) (λ read. Ok (held_from arcs flags read))
+    Ok (row_of_cells (past_of_row arcs flags) satellite.name (drop at line) cells))
+      (λ read. Ok (held_from arcs flags read))
 line-marks arcs flags satellite line at cells b h good marks e =
     line-cells arcs flags satellite line h (Ok cells) good
     ∙ ap {B = Result HeldRow Fault} (λ text. and_then
-    (row_with_marks (past_of_row arcs flags) satellite text cells) (λ read. Ok (held_from arcs flags read))) marks
+    (row_with_marks (past_of_row arcs flags) satellite text cells) (λ read. Ok (held_from arcs flags read)))
+      marks
     ∙ ap {B = Result HeldRow Fault} (λ q. and_then (q otherwise Err BadFlags next Ok (row_of_cells
     (past_of_row arcs flags) satellite.name (drop at line) cells)) (λ read. Ok (held_from arcs flags read))) e
 
@@ -160,7 +171,8 @@ texts-count (suc count) line = ap suc (texts-count count (after_cell line))
 
 -- ---- a satellite's line
 
-cells-many : (arcs : List (Option ArcTail)) (count : ℕ) (line : List ℕ) (left : List (Option ArcTail)) (at : ℕ)
+cells-many : (arcs : List (Option ArcTail)) (count : ℕ) (line : List ℕ) (left : List (Option ArcTail))
+  (at : ℕ)
     → (read : CellsAreRead arcs count line left at) → length read.cells ≡ count
 cells-many arcs count line left at read =
     cells-count (value_at_place arcs) (cells_of count line) read.cells read.good ∙ texts-count count line
@@ -263,7 +275,8 @@ row-decided tail satellite marks false true (Ok cells) =
       tail = record {
         name = satellite.name;
         flags = flags_held (length codes) (patched (flags_of_tail kept) marks);
-        cells = each_place (length codes) (λ place. arc_of_code (slice_index_or codes place Missing) (cell place));
+        cells = each_place (length codes)
+          (λ place. arc_of_code (slice_index_or codes place Missing) (cell place));
       };
     })) (fun_ext (λ place. cell-by_kept kept place))
 
@@ -288,7 +301,8 @@ pub if-ok : {X E : Type 0} (r : Result X E) (P Q : X → Type 0) → ((x : X) �
 if-ok (Ok x) P Q f h = f x h
 if-ok (Err e) P Q f h = h
 
-pub if-err : {X E : Type 0} (r : Result X E) (P Q : E → Type 0) → ((e : E) → P e → Q e) → IfErr r P → IfErr r Q
+pub if-err : {X E : Type 0} (r : Result X E) (P Q : E → Type 0) → ((e : E) → P e → Q e) → IfErr r P
+  → IfErr r Q
 if-err (Ok x) P Q f h = h
 if-err (Err e) P Q f h = f e h
 

@@ -14,12 +14,15 @@ use Rattle.crx_compact.specs.HeldRows.{past_of_tail}
 use Rattle.crx_compact.specs.meaning.CompactPlaces.{satellites_of_line}
 use Rattle.crx_compact.specs.meaning.EpochText.{Satellite}
 use Rattle.crx_compact.specs.meaning.Sequences.{and_then}
-use Rattle.crx_compact.specs.OpenEpochs.{ColumnsState, OpenRawEpoch, RawStep, Going, Whole, Faulty, before_clock, first_step}
-use Rattle.crx_compact.specs.OpenEpochs.{is_faulty, opened_raw, opening, rows_before, tail_for_line, tail_opened}
+use Rattle.crx_compact.specs.OpenEpochs.{ColumnsState, OpenRawEpoch, RawStep, Going, Whole, Faulty}
+use Rattle.crx_compact.specs.OpenEpochs.{before_clock, first_step}
+use Rattle.crx_compact.specs.OpenEpochs.{is_faulty, opened_raw, opening, rows_before, tail_for_line}
+use Rattle.crx_compact.specs.OpenEpochs.{tail_opened}
 use Rattle.crx_compact.specs.OpenLines.{reading_room}
 use Rattle.crx_compact.specs.Placing.{HasRoom, HaveTypesRoom, KeepsRooms, OpenHistory, padded}
 use Rattle.crx_compact.specs.PrintedBlocks.{printed_room}
-use Rattle.crx_compact.specs.ReadingRooms.{HasRoomFor, HaveCellsRoom, HeldColumns, KeepsHistoryRoom, KeepsRoom}
+use Rattle.crx_compact.specs.ReadingRooms.{HasRoomFor, HaveCellsRoom, HeldColumns, KeepsHistoryRoom}
+use Rattle.crx_compact.specs.ReadingRooms.{KeepsRoom}
 use Rattle.crx_compact.specs.ReadingRooms.{ReadingRoom}
 use Rattle.crx_compact.specs.Steps.{cell_of_tail, tail_named}
 use Rattle.crx_compact.specs.Tails.{RowTail, Tail}
@@ -71,7 +74,8 @@ pub record IsOpened (types : List Count) (line : List ℕ) (before : Tail) (begu
   pub text : begun.text ≡ patched before.text line
   pub rows : begun.rows ≡ rows_before before satellites
 
-pub opened-from : (types : List Count) (line : List ℕ) (tail : Option Tail) (before : Tail) (begun : OpenRawEpoch)
+pub opened-from : (types : List Count) (line : List ℕ) (tail : Option Tail) (before : Tail)
+  (begun : OpenRawEpoch)
     → tail_for_line tail line ≡ Some before → first_step types tail (Content line) ≡ Going begun
     → IsOpened types line before begun
 opened-from types line tail before begun e step =
@@ -95,7 +99,8 @@ opened-from types line tail before begun e step =
 pub none-opened : (types : List Count) (line : List ℕ) (tail : Option Tail) (begun : OpenRawEpoch)
     → tail_for_line tail line ≡ None → first_step types tail (Content line) ≡ Going begun → ⊥
 none-opened types line tail begun e step =
-    true≢false (sym (ap (λ (o : Option Tail). is_faulty (opening (opened_raw types line o))) e) ∙ ap is_faulty step)
+    true≢false (sym (ap (λ (o : Option Tail). is_faulty (opening (opened_raw types line o))) e)
+      ∙ ap is_faulty step)
 
 -- the satellites that a line was found to have are those of the epoch
 pub rows-opened : (types : List Count) (line : List ℕ) (before : Tail) (begun : OpenRawEpoch)
@@ -103,11 +108,13 @@ pub rows-opened : (types : List Count) (line : List ℕ) (before : Tail) (begun 
     → satellites_of_line types (past_of_tail before) line ≡ Ok found → rows ≡ rows_before before found
     → rows ≡ begun.rows
 rows-opened types line before begun found rows opened read made =
-    made ∙ ap (rows_before before) (ok-same found opened.satellites (sym read ∙ opened.read)) ∙ sym opened.rows
+    made ∙ ap (rows_before before) (ok-same found opened.satellites (sym read ∙ opened.read))
+      ∙ sym opened.rows
 
 -- ---- what the lines need is there
 
-pub satellites-known : (types : List Count) (line : List ℕ) (before : Tail) (begun : OpenRawEpoch) (room : ReadingRoom)
+pub satellites-known : (types : List Count) (line : List ℕ) (before : Tail) (begun : OpenRawEpoch)
+  (room : ReadingRoom)
     (rooms : List (List ℕ × ℕ)) (opened : IsOpened types line before begun) → HasRoomFor begun room
     → room.rooms ≡ rooms → HaveTypesRoom opened.satellites rooms
 satellites-known types line before begun room rooms opened has same =
@@ -115,7 +122,8 @@ satellites-known types line before begun room rooms opened has same =
     (subst (λ (rows : List RowTail). HaveCellsRoom rows rooms) opened.rows
     (subst (HaveCellsRoom begun.rows) same has.rows))
 
-pub text-known : (types : List Count) (line : List ℕ) (before : Tail) (begun : OpenRawEpoch) (room : ReadingRoom)
+pub text-known : (types : List Count) (line : List ℕ) (before : Tail) (begun : OpenRawEpoch)
+  (room : ReadingRoom)
     (held : ℕ) → IsOpened types line before begun → HasRoomFor begun room → room.text ≡ held
     → length (patched before.text line) ≤ held
 text-known types line before begun room held opened has same =
@@ -151,7 +159,8 @@ room-for types line before begun opened new after made fits known rows lines byt
       rows = subst (λ (rs : List RowTail). HaveCellsRoom rs new.satellites.rooms) (sym opened.rows)
           (cells-room before opened.satellites new.satellites.rooms known);
       lines = subst (λ (rs : List RowTail). length rs < after.lines.all_lines) rows lines;
-      bytes = subst (λ (rs : List RowTail). LINE_LIMIT + 1 + sum (map printed_room rs) ≤ after.lines.all_bytes)
+      bytes = subst (λ (rs : List RowTail). LINE_LIMIT + 1 + sum (map printed_room rs)
+        ≤ after.lines.all_bytes)
           rows bytes;
     }
 

@@ -1,5 +1,6 @@
 -- Lines that are ready in two parts.
-use Rattle.std.proofs.Common.{◌≡◌, ℕ, List, [], ◌∷◌, ◌++◌, Bool, true, false, if◌then◌else◌, refl, ap, true≢false}
+use Rattle.std.proofs.Common.{◌≡◌, ℕ, List, [], ◌∷◌, ◌++◌, Bool, true, false, if◌then◌else◌, refl, ap}
+use Rattle.std.proofs.Common.{true≢false}
 
 abbrev pub none-left : {A : Type 0} (x : A) (xs : List A) → x ∷ xs ≡ [] → ⊥
 none-left x xs e = true≢false (ap (λ l. elim l [ [] ↦ false | y ∷ ys ↦ true ]) e)

@@ -1,5 +1,6 @@
 -- A satellite's indicators and cells by another count of types.
-use Rattle.std.specs.Prelude.{◌≡◌, ◌≤◌, ◌<◌, ◌⊎◌, refl, ℕ, zero, suc, ◌+◌, ◌-◌, List, [], ◌∷◌, ◌++◌, length, take}
+use Rattle.std.specs.Prelude.{◌≡◌, ◌≤◌, ◌<◌, ◌⊎◌, refl, ℕ, zero, suc, ◌+◌, ◌-◌, List, [], ◌∷◌, ◌++◌, length}
+use Rattle.std.specs.Prelude.{take}
 use Rattle.std.specs.Prelude.{replicate, Option, None, true, ◌*◌}
 use Rattle.std.specs.List.{list_all}
 use Rattle.std.proofs.Common.{sym, ◌∙◌, ap, arith, inl, inr}
@@ -13,7 +14,8 @@ use Rattle.crx_compact.specs.ArcTails.{ArcTail}
 use Rattle.crx_compact.specs.HeldRows.{AreHeldFlags}
 use Rattle.crx_compact.specs.Placing.{SatelliteTail, cells_for}
 use Rattle.crx_compact.specs.Steps.{flags_held}
-use Rattle.crx_compact.proofs.Characters.{all-take, at-take_past, list_all-at, same_characters, within-or_past}
+use Rattle.crx_compact.proofs.Characters.{all-take, at-take_past, list_all-at, same_characters}
+use Rattle.crx_compact.proofs.Characters.{within-or_past}
 use Rattle.crx_compact.proofs.PlaceByPlace.{at-padded, at-take}
 
 -- ---- indicators

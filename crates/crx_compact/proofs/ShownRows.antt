@@ -1,5 +1,6 @@
 -- The row that a history shows, filled value by value.
-use Rattle.std.specs.Prelude.{◌≡◌, ◌<◌, refl, ℕ, suc, zero, ◌+◌, ◌-◌, ◌*◌, ℤ, List, [], ◌∷◌, ◌++◌, length, map, take}
+use Rattle.std.specs.Prelude.{◌≡◌, ◌<◌, refl, ℕ, suc, zero, ◌+◌, ◌-◌, ◌*◌, ℤ, List, [], ◌∷◌, ◌++◌, length}
+use Rattle.std.specs.Prelude.{map, take}
 use Rattle.std.specs.Prelude.{replicate, slice_index_or, slice_set, Option, None, slice_get, Some}
 use Rattle.std.proofs.Common.{sym, ◌∙◌, ap, arith}
 use Rattle.std.proofs.lemmas.List.{append-nil, length-map, length-take-le, map-append, take_all}
@@ -16,7 +17,8 @@ use Rattle.crx_text.specs.meaning.Columns.{columns}
 -- ---- places
 
 -- the next of some values
-pub set-next : {X : Type 0} (xs ys : List X) (d v : X) → slice_set (xs ++ d ∷ ys) (length xs) v ≡ (xs ++ v ∷ []) ++ ys
+pub set-next : {X : Type 0} (xs ys : List X) (d v : X)
+  → slice_set (xs ++ d ∷ ys) (length xs) v ≡ (xs ++ v ∷ []) ++ ys
 set-next [] ys d v = refl
 set-next (x ∷ xs) ys d v = ap (λ r. x ∷ r) (set-next xs ys d v)
 
@@ -29,7 +31,8 @@ get-there (y ∷ ys) (suc k) x h e = get-there ys k x (omega (arith, h)) e
 -- ---- the row
 
 -- the next value is put into the row
-pub row-more : (name flags : List ℕ) (cells : List (Option ArcTail)) (count k : ℕ) (row : Row) (arc : Option ArcTail)
+pub row-more : (name flags : List ℕ) (cells : List (Option ArcTail)) (count k : ℕ) (row : Row)
+  (arc : Option ArcTail)
     → row ≡ record {
       name = name;
       values = map shown_value (take k cells) ++ replicate (count - k) None;

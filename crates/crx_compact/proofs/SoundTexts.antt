@@ -6,7 +6,8 @@ use Rattle.std.proofs.Common.{ap, arith, inl, inr, ◌∙◌, sym}
 use Rattle.std.specs.Prelude.{◌<◌, ◌+◌, ◌-◌, ◌++◌, ◌⊎◌, replicate}
 use Rattle.crx_text.specs.Texts.{character_of, patched}
 use Rattle.crx_header.specs.meaning.ObservationTypes.{IsAllowedCount}
-use Rattle.crx_text.proofs.Characters.{length-columns, at, at-without_end_blanks, columns-are, list_all-from_at}
+use Rattle.crx_text.proofs.Characters.{length-columns, at, at-without_end_blanks, columns-are}
+use Rattle.crx_text.proofs.Characters.{list_all-from_at}
 use Rattle.crx_compact.proofs.PlaceByPlace.{at-padded, at-take}
 use Rattle.crx_compact.proofs.Characters.{at-take_past, within-or_past}
 use Rattle.crx_text.specs.meaning.Columns.{columns, is_blank, without_end_blanks, before_end_blanks}
@@ -20,7 +21,8 @@ use Rattle.crx_text.proofs.EndBlanks.{few_kept}
 -- ---- blanks at the end
 
 -- a difference doesn't see the blanks at the end of the new text
-pub difference-trimmed : (old new : List ℕ) → text_difference old (without_end_blanks new) ≡ text_difference old new
+pub difference-trimmed : (old new : List ℕ)
+  → text_difference old (without_end_blanks new) ≡ text_difference old new
 difference-trimmed old new =
     same_characters (by_position mark_of old (without_end_blanks new)) (by_position mark_of old new) (λ p.
     at-by_position mark_of refl old (without_end_blanks new) p
@@ -35,7 +37,8 @@ mark-same c = ap (λ b. if b then 32 else if is_blank c then 38 else c) ((Decide
 pub same-text : (text : List ℕ) → text_difference text text ≡ []
 same-text [] = refl
 same-text (c ∷ cs) =
-    ap (λ m. before_end_blanks m (text_difference cs cs)) (mark-same c) ∙ ap (before_end_blanks 32) (same-text cs)
+    ap (λ m. before_end_blanks m (text_difference cs cs)) (mark-same c)
+      ∙ ap (before_end_blanks 32) (same-text cs)
 
 -- ---- what is held of indicators by so many types
 
@@ -56,7 +59,8 @@ held-columns count flags =
   where
     by_place : (p : ℕ) → (p < 2 * count) ⊎ (2 * count ≤ p) → at (columns flags 1 (2 * count)) p
         ≡ at (take (2 * count) flags) p
-    by_place p (inl h) = at-take (2 * count) (flags ++ replicate (2 * count) 32) p h ∙ at-padded (2 * count) flags p
+    by_place p (inl h) = at-take (2 * count) (flags ++ replicate (2 * count) 32) p h
+      ∙ at-padded (2 * count) flags p
         ∙ sym (at-take (2 * count) flags p h)
     by_place p (inr h) = at-take_past (2 * count) (flags ++ replicate (2 * count) 32) p h
         ∙ sym (at-take_past (2 * count) flags p h)
@@ -67,17 +71,20 @@ columns-held count flags few h =
     let most = few.1 in
     record {
       within = omega (arith, length-columns flags 1 (2 * count), most);
-      kept = list_all-from_at is_kept (columns flags 1 (2 * count)) (λ k. by_place k (within-or_past (2 * count) k));
+      kept = list_all-from_at is_kept (columns flags 1 (2 * count))
+        (λ k. by_place k (within-or_past (2 * count) k));
     }
   where
-    by_place : (p : ℕ) → (p < 2 * count) ⊎ (2 * count ≤ p) → is_kept (at (columns flags 1 (2 * count)) p) ≡ true
+    by_place : (p : ℕ) → (p < 2 * count) ⊎ (2 * count ≤ p)
+      → is_kept (at (columns flags 1 (2 * count)) p) ≡ true
     by_place p (inl k) = ap is_kept (at-take (2 * count) (flags ++ replicate (2 * count) 32) p k
         ∙ at-padded (2 * count) flags p) ∙ list_all-at is_kept refl flags h.kept p
     by_place p (inr k) = ap is_kept (at-take_past (2 * count) (flags ++ replicate (2 * count) 32) p k)
 
 -- blanks at the end of indicators don't count
 
-pub columns-trimmed : (width : ℕ) (flags : List ℕ) → columns (without_end_blanks flags) 1 width ≡ columns flags 1 width
+pub columns-trimmed : (width : ℕ) (flags : List ℕ)
+  → columns (without_end_blanks flags) 1 width ≡ columns flags 1 width
 columns-trimmed width flags =
     columns-are (without_end_blanks flags) 1 width
     (columns flags 1 width) (length-columns flags 1 width) (λ p less.
@@ -93,8 +100,10 @@ patched-trimmed flags marks =
     ∙ ap (λ c. character_of c (at marks p)) (at-without_end_blanks flags p)
     ∙ sym (at-by_position character_of refl flags marks p))
 
-pub before-trimmed : (old new : List ℕ) → text_difference (without_end_blanks old) new ≡ text_difference old new
+pub before-trimmed : (old new : List ℕ)
+  → text_difference (without_end_blanks old) new ≡ text_difference old new
 before-trimmed old new =
     same_characters (by_position mark_of (without_end_blanks old) new) (by_position mark_of old new) (λ p.
     at-by_position mark_of refl (without_end_blanks old) new p
-    ∙ ap (λ c. mark_of c (at new p)) (at-without_end_blanks old p) ∙ sym (at-by_position mark_of refl old new p))
+    ∙ ap (λ c. mark_of c (at new p)) (at-without_end_blanks old p)
+      ∙ sym (at-by_position mark_of refl old new p))

@@ -1,4 +1,5 @@
--- The satellites of a history in one map: those that have come, those that haven't, and those that mean nothing.
+-- The satellites of a history in one map: those that have come, those that haven't, and those that mean
+-- nothing.
 pub mod Ranges
 pub mod Rooms
 pub mod PutNext

@@ -1,5 +1,6 @@
 -- What a reader of compact text holds after a line.
-use Rattle.std.proofs.Common.{[], ◌≡◌, inl, inr, Bool, true, List, ℕ, Option, Some, None, Result, Ok, Err, refl, sym}
+use Rattle.std.proofs.Common.{[], ◌≡◌, inl, inr, Bool, true, List, ℕ, Option, Some, None, Result, Ok, Err}
+use Rattle.std.proofs.Common.{refl, sym}
 use Rattle.std.proofs.Common.{ap, ◌∙◌, true≢false, if◌then◌else◌, not}
 use Rattle.std.proofs.lemmas.Bool.{and_from}
 use Rattle.std.specs.Prelude.{◌&&◌, IfErr}
@@ -11,8 +12,10 @@ use Rattle.crx_compact.specs.meaning.EpochText.{Satellite}
 use Rattle.crx_compact.specs.Tails.{Tail}
 use Rattle.crx_compact.specs.meaning.CompactPlaces.{satellites_of_line}
 use Rattle.crx_compact.specs.meaning.Sequences.{and_then}
-use Rattle.crx_compact.specs.OpenEpochs.{ColumnsState, RawStep, Going, Whole, Faulty, HasMade, first_step, opened_raw}
-use Rattle.crx_compact.specs.OpenEpochs.{awaited_row, before_clock, is_idle, opening, tail_for_line, tail_opened}
+use Rattle.crx_compact.specs.OpenEpochs.{ColumnsState, RawStep, Going, Whole, Faulty, HasMade, first_step}
+use Rattle.crx_compact.specs.OpenEpochs.{opened_raw}
+use Rattle.crx_compact.specs.OpenEpochs.{awaited_row, before_clock, is_idle, opening, tail_for_line}
+use Rattle.crx_compact.specs.OpenEpochs.{tail_opened}
 use Rattle.crx_compact.specs.HeldRows.{past_of_tail}
 use Rattle.crx_filter.specs.RinexStages.{is_rinex_stage as is_consistent_in_rinex}
 use Rattle.crx_filter.specs.CompactStages.{is_compact_stage, wants_line, wants_lines}
@@ -20,13 +23,15 @@ use Rattle.crx_filter.specs.CompactReaders.{RefusesCompactLine}
 use Rattle.crx_filter.specs.ExpansionByLine.{compact_begins, expansion, is_good_beginning}
 use Rattle.crx_filter.specs.LineByLine.{BetweenUnits, LookingOn, Moves, made_in}
 use Rattle.crx_filter.specs.declared.stage.Stage.{Stage}
-use Rattle.crx_filter.specs.declared.stage.Stage.TheVariants.{FirstLines, Header, Between, Event, Open, Looking}
+use Rattle.crx_filter.specs.declared.stage.Stage.TheVariants.{FirstLines, Header, Between, Event, Open}
+use Rattle.crx_filter.specs.declared.stage.Stage.TheVariants.{Looking}
 use Rattle.crx_filter.specs.declared.stage.Stage.TheVariants.{Closed}
 use Rattle.crx_filter.specs.declared.stage.Stage.TheVariants.{Ended}
 
 -- a stage that RINEX can be in with no epoch is one in which none is open
 pub idle-stage : (stage : Stage) (columns : ColumnsState)
-    → is_consistent_in_rinex stage None 0 [] ≡ true → is_idle columns ≡ true → is_compact_stage stage columns ≡ true
+    → is_consistent_in_rinex stage None 0 [] ≡ true → is_idle columns ≡ true
+      → is_compact_stage stage columns ≡ true
 idle-stage (FirstLines count) columns can idle = idle
 idle-stage (Header is_first) columns can idle = idle
 idle-stage Between columns can idle = idle
@@ -69,7 +74,8 @@ pub look-refused : (types : List Count) (tail : Option Tail) (line : List ℕ) (
     (Content line)) LookingOn line fault)
 look-refused types tail line (Ok step) begins refused = tt
 look-refused types tail line (Err fault) begins (inl fails) =
-    let same : made_in expansion LookingOn types tail (Content line) ≡ compact_begins types tail (Content line) =
+    let same : made_in expansion LookingOn types tail (Content line) ≡ compact_begins types tail
+      (Content line) =
     if-true (begins_epoch line) (compact_begins types tail (Content line)) (Moves LookingOn) begins in
     inl (same ∙ fails)
   where

@@ -1,5 +1,6 @@
 -- What the reading of an event's first line comes to.
-use Rattle.std.proofs.Common.{◌≡◌, ℕ, ◌&&◌, Bool, true, false, List, Option, Some, None, Result, Ok, Err, refl, sym, ap}
+use Rattle.std.proofs.Common.{◌≡◌, ℕ, ◌&&◌, Bool, true, false, List, Option, Some, None, Result, Ok, Err}
+use Rattle.std.proofs.Common.{refl, sym, ap}
 use Rattle.std.proofs.Common.{◌∙◌, true≢false}
 use Rattle.crx_text.specs.meaning.Columns.{character_at}
 use Rattle.crx_base.specs.declared.fault.Fault.{Fault}

@@ -14,7 +14,8 @@ use Rattle.crx_filter.proofs.standard.CheckStandard.{named-where_not, standard-e
 use Rattle.crx_filter.proofs.wayback.WayBack.{comes-back}
 use Rattle.crx_filter.proofs.wayback.Standard.{normal-comes_back, standard-comes_back}
 use Rattle.crx_filter.proofs.damage.DamageStays.{saved-lines}
-use Rattle.crx_filter.specs.meaning.Promises.{IsPromiseKept, BringsBackWhatWasCompacted, SavesAllElse, JudgesStandard}
+use Rattle.crx_filter.specs.meaning.Promises.{IsPromiseKept, BringsBackWhatWasCompacted, SavesAllElse}
+use Rattle.crx_filter.specs.meaning.Promises.{JudgesStandard}
 use Rattle.crx_runs.specs.meaning.Spans.{Input, Device}
 use Rattle.crx_runs.specs.meaning.Runs.{IsResult, RunsAs}
 
@@ -32,7 +33,8 @@ kept result_of filter promise input given writer messages status fault keeps r =
 
 -- ---- the way back
 
-pub brings-back : (expanding : Choices) (writer messages : Device) (status : ℕ) (fault : Option At) (text : List ℕ)
+pub brings-back : (expanding : Choices) (writer messages : Device) (status : ℕ) (fault : Option At)
+  (text : List ℕ)
     → IsResult (expanded text expanding) writer messages status fault
     → BringsBackWhatWasCompacted writer messages status fault text
 brings-back expanding writer messages status fault text ran file compacting dated same =
@@ -82,6 +84,7 @@ judges-standard writer messages status fault file ran good =
       report = here.output;
       says_yes = yes;
       standard = both-ways yes (named-where_not file good);
-      comes_back = λ compacting expanding dated. both-ways (same-number status (checked file).status ran.status_is)
+      comes_back = λ compacting expanding dated. both-ways
+        (same-number status (checked file).status ran.status_is)
           (standard-exactly_where_same file compacting expanding dated good);
     }

@@ -1,5 +1,6 @@
 -- The lines of a report.
-use Rattle.std.proofs.Common.{ℕ, zero, suc, None, arith, ◌≡◌, ◌+◌, ◌<◌, ◌≤◌, List, [], ◌∷◌, ◌++◌, Some, length, take}
+use Rattle.std.proofs.Common.{ℕ, zero, suc, None, arith, ◌≡◌, ◌+◌, ◌<◌, ◌≤◌, List, [], ◌∷◌, ◌++◌, Some}
+use Rattle.std.proofs.Common.{length, take}
 use Rattle.std.proofs.Common.{drop, replicate, slice_get, ap, sym, ◌∙◌, append-nil, length-append}
 use Rattle.std.specs.Prelude.{unwrap_or}
 use Rattle.std.specs.List.{flat_map}

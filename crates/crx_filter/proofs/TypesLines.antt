@@ -1,12 +1,14 @@
 -- What is wrong with a line that may declare types.
-use Rattle.std.proofs.Common.{◌≡◌, ◌⊎◌, inl, inr, Bool, true, false, List, ℕ, Option, Some, None, if◌then◌else◌, refl}
+use Rattle.std.proofs.Common.{◌≡◌, ◌⊎◌, inl, inr, Bool, true, false, List, ℕ, Option, Some, None}
+use Rattle.std.proofs.Common.{if◌then◌else◌, refl}
 use Rattle.std.proofs.Common.{ap, sym, ◌∙◌}
 use Rattle.std.specs.Prelude.{◌&&◌, is_none}
 use Rattle.std.specs.Option.{is_some}
 use Rattle.std.proofs.lemmas.Bool.{and_from}
 use Rattle.crx_base.specs.declared.fault.Fault.{Fault}
 use Rattle.crx_base.specs.declared.fault.Fault.TheVariants.{BadTypesLine, OutOfMemory}
-use Rattle.crx_header.specs.meaning.ObservationTypes.{is_types_line, is_bad_types_line, count_of_types_line, count_in}
+use Rattle.crx_header.specs.meaning.ObservationTypes.{is_types_line, is_bad_types_line, count_of_types_line}
+use Rattle.crx_header.specs.meaning.ObservationTypes.{count_in}
 use Rattle.crx_header.specs.meaning.ObservationTypes.{Count}
 use Rattle.crx_filter.proofs.Choosing.{false-true}
 use Rattle.crx_filter.specs.meaning.UnitPlaces.{types_fault, first_fault}

@@ -1,4 +1,5 @@
--- The words in which these proofs speak: the definitions of the crates below and of std, each brought in once.
+-- The words in which these proofs speak: the definitions of the crates below and of std, each brought in
+-- once.
 pub use Rattle.std.proofs.Common.{ℕ, ◌≡◌, ◌+◌, List, [], ◌∷◌, ◌++◌, length, Option, sym, subst, refl, arith}
 pub use Rattle.std.proofs.Common.{length-append, zero, suc, Bool, true, false, Some, Result, Ok, Err, ap, ◌∙◌}
 pub use Rattle.std.proofs.Common.{None, map, ◌⊎◌, inl, inr, ◌-◌, max, ◌<◌, ◌≤◌, cond, drop, append-nil}

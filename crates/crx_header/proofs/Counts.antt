@@ -1,20 +1,25 @@
 -- Counts of types, letter by letter: what a map from letters holds is what the lines declare.
 use Rattle.std.proofs.Common.{◌≡◌, ℕ, ◌+◌, ◌<◌, ◌≤◌, suc, length, Bool, true, false, cond, eqb}
-use Rattle.std.proofs.Common.{List, [], ◌∷◌, ◌++◌, Option, Some, None, is_none, IfSome, OnSome, refl, ap, sym, subst}
+use Rattle.std.proofs.Common.{List, [], ◌∷◌, ◌++◌, Option, Some, None, is_none, IfSome, OnSome, refl, ap, sym}
+use Rattle.std.proofs.Common.{subst}
 use Rattle.std.proofs.Common.{get_or, set, unwrap_or, ◌≢◌}
 use Rattle.std.proofs.Common.{◌∙◌, inl, inr, arith, leb, ◌&&◌}
 use Rattle.std.specs.List.{All, cons_option, list_any}
 use Rattle.std.specs.Map.{lookup, set_value}
-use Rattle.std.proofs.lemmas.Bool.{cases_eq, cases_Bool, eq-eqb, ne_eqb, eqb-true, leb-true, and_parts, and_from}
+use Rattle.std.proofs.lemmas.Bool.{cases_eq, cases_Bool, eq-eqb, ne_eqb, eqb-true, leb-true, and_parts}
+use Rattle.std.proofs.lemmas.Bool.{and_from}
 use Rattle.std.proofs.lemmas.Bool.{false≢true}
 use Rattle.std.proofs.lemmas.List.{append-nil, get_or-set_same, get_or-set_other}
 use Rattle.std.proofs.lemmas.List.Elements.{filter_map-append, All-cons, All-head, All-tail, All-weaker}
 use Rattle.std.proofs.lemmas.Map.Entries.{All-lookup}
-use Rattle.crx_header.specs.meaning.ObservationTypes.{Count, IsAllowedCount, system_letters, is_system, count_of}
-use Rattle.crx_header.specs.meaning.ObservationTypes.{without, last_count, last_counts, counts_in, count_of_types_line}
+use Rattle.crx_header.specs.meaning.ObservationTypes.{Count, IsAllowedCount, system_letters, is_system}
+use Rattle.crx_header.specs.meaning.ObservationTypes.{count_of}
+use Rattle.crx_header.specs.meaning.ObservationTypes.{without, last_count, last_counts, counts_in}
+use Rattle.crx_header.specs.meaning.ObservationTypes.{count_of_types_line}
 use Rattle.crx_header.specs.meaning.ObservationTypes.{types_of, is_types_line, count_in, count_if_allowed}
 use Rattle.crx_header.specs.declared.types.TheConstants.{LETTERS}
-use Rattle.crx_header.specs.ObservationTypes.{AreCounts, AreByLetter, IsCount, letters_differ, with_count, after_count, with_line}
+use Rattle.crx_header.specs.ObservationTypes.{AreCounts, AreByLetter, IsCount, letters_differ, with_count}
+use Rattle.crx_header.specs.ObservationTypes.{after_count, with_line}
 use Rattle.crx_base.specs.declared.limits.TheConstants.{TYPES_LIMIT}
 use Rattle.crx_header.specs.meaning.Label.{number_in}
 use Rattle.crx_text.specs.meaning.Columns.{character_at, columns}
@@ -37,7 +42,8 @@ last_count-push : (letter count : ℕ) (cs : List Count) (c : Count)
 last_count-push letter count [] c = refl
 last_count-push letter count (d ∷ ds) c =
     elim (eqb d.0 letter) as (λ b. cond b (last_count letter d.1 (ds ++ c ∷ [])) (last_count letter count
-    (ds ++ c ∷ [])) ≡ cond (eqb c.0 letter) c.1 (cond b (last_count letter d.1 ds) (last_count letter count ds)))
+    (ds ++ c ∷ [])) ≡ cond (eqb c.0 letter) c.1
+      (cond b (last_count letter d.1 ds) (last_count letter count ds)))
     [ true ↦ last_count-push letter d.1 ds c | false ↦ last_count-push letter count ds c ]
 
 -- what is left of the others is the same after a letter's own count
@@ -64,7 +70,8 @@ without-with_other a letter count (e ∷ es) n =
       ]
     ]
 
-last_counts-push : (cs : List Count) (c : Count) → last_counts (cs ++ c ∷ []) ≡ with_count (last_counts cs) c.0 c.1
+last_counts-push : (cs : List Count) (c : Count)
+  → last_counts (cs ++ c ∷ []) ≡ with_count (last_counts cs) c.0 c.1
 last_counts-push [] c = refl
 last_counts-push (d ∷ ds) c =
     let others = ap (without d.0) (last_counts-push ds c) in
@@ -77,7 +84,8 @@ last_counts-push (d ∷ ds) c =
           rw (last, others, same, t) refl
       | inr f ↦
           let same : without d.0 (with_count (last_counts ds) c.0 c.1)
-          ≡ with_count (without d.0 (last_counts ds)) c.0 c.1 = without-with_other d.0 c.0 c.1 (last_counts ds) f in
+          ≡ with_count (without d.0 (last_counts ds)) c.0 c.1 =
+            without-with_other d.0 c.0 c.1 (last_counts ds) f in
           rw (last, others, same, f) refl
     ]
 
@@ -92,19 +100,23 @@ types_of-push lines line =
 
 -- counts stay allowed
 allowed-with_count : (es : List Count) (letter count : ℕ)
-    → All IsCount es → is_system letter ≡ true → IsAllowedCount count → All IsCount (with_count es letter count)
+    → All IsCount es → is_system letter ≡ true → IsAllowedCount count
+      → All IsCount (with_count es letter count)
 allowed-with_count [] letter count h s a = All-cons IsCount (letter, count) [] (s, a) h
 allowed-with_count (e ∷ es) letter count h s a =
     let first : IsCount e = All-head IsCount e es h in
     let rest : All IsCount es = All-tail IsCount e es h in
-    elim (eqb letter e.0) as (λ b. All IsCount (cond b ((e.0, count) ∷ es) (e ∷ with_count es letter count))) [
+    elim (eqb letter e.0) as (λ b. All IsCount (cond b ((e.0, count) ∷ es) (e ∷ with_count es letter count)))
+      [
       | true ↦ All-cons IsCount (e.0, count) es (first.0, a) rest
-      | false ↦ All-cons IsCount e (with_count es letter count) first (allowed-with_count es letter count rest s a)
+      | false ↦ All-cons IsCount e (with_count es letter count) first
+        (allowed-with_count es letter count rest s a)
     ]
 
 -- another letter's count leaves a letter absent
 absent-with_count : (es : List Count) (a letter count : ℕ)
-    → eqb letter a ≡ false → is_none (count_of es a) ≡ true → is_none (count_of (with_count es letter count) a) ≡ true
+    → eqb letter a ≡ false → is_none (count_of es a) ≡ true
+      → is_none (count_of (with_count es letter count) a) ≡ true
 absent-with_count [] a letter count n h = rw n refl
 absent-with_count (e ∷ es) a letter count n h =
     elim (cases_Bool (eqb e.0 a)) [
@@ -123,8 +135,10 @@ apart-with_count (e ∷ es) letter count h =
     let parts = and_parts (is_none (count_of es e.0)) (letters_differ es) h in
     elim (cases_Bool (eqb letter e.0)) [
       | inl t ↦ rw t h
-      | inr f ↦ rw f (and_from (is_none (count_of (with_count es letter count) e.0)) (letters_differ (with_count es
-          letter count)) (absent-with_count es e.0 letter count f parts.0) (apart-with_count es letter count parts.1))
+      | inr f ↦ rw f (and_from (is_none (count_of (with_count es letter count) e.0))
+        (letters_differ (with_count es
+          letter count)) (absent-with_count es e.0 letter count f parts.0)
+            (apart-with_count es letter count parts.1))
     ]
 
 pub AreCounts-with_count : (es : List Count) (letter count : ℕ)
@@ -170,7 +184,8 @@ count_in_allowed line letter count h =
     (λ n e g. allowed_if (character_at line 1) n letter count g)
 
 -- a letter that has a count is that of a system
-system_in : (es : List Count) (letter : ℕ) → All IsCount es → OnSome (count_of es letter) (is_system letter ≡ true)
+system_in : (es : List Count) (letter : ℕ) → All IsCount es
+  → OnSome (count_of es letter) (is_system letter ≡ true)
 system_in [] letter h = tt
 system_in (e ∷ es) letter h =
     elim (cases_Bool (eqb e.0 letter)) [
@@ -178,7 +193,8 @@ system_in (e ∷ es) letter h =
       | inr f ↦ rw f (system_in es letter (All-tail IsCount e es h))
     ]
 
-pub system_of : (es : List Count) (letter : ℕ) → AreCounts es → OnSome (count_of es letter) (is_system letter ≡ true)
+pub system_of : (es : List Count) (letter : ℕ) → AreCounts es
+  → OnSome (count_of es letter) (is_system letter ≡ true)
 system_of es letter h = system_in es letter h.allowed
 
 -- ---- counts by letter
@@ -187,7 +203,8 @@ system_of es letter h = system_in es letter h.allowed
 count_with : (es : List Count) (letter count a : ℕ) → unwrap_or (count_of (with_count es letter count) a) 0
     ≡ cond (eqb letter a) count (unwrap_or (count_of es a) 0)
 count_with [] letter count a =
-    elim (eqb letter a) as (λ b. unwrap_or (cond b (Some count) None) 0 ≡ cond b count 0) [ true ↦ refl | false ↦ refl ]
+    elim (eqb letter a) as (λ b. unwrap_or (cond b (Some count) None) 0 ≡ cond b count 0)
+      [ true ↦ refl | false ↦ refl ]
 count_with (e ∷ es) letter count a =
     elim (cases_Bool (eqb letter e.0)) [
       | inl t ↦
@@ -210,7 +227,8 @@ AreByLetter-with_count table es letter count h within = λ a few.
           (ap (λ (k : ℕ). get_or (set table letter count) k 0) (sym (eqb-true letter a t))
           ∙ get_or-set_same table letter count 0 within)
       | inr f ↦ rw (count_with es letter count a, f)
-          (get_or-set_other table letter a count 0 (λ e. false≢true (sym f ∙ eq-eqb letter a (sym e))) ∙ h a few)
+          (get_or-set_other table letter a count 0 (λ e. false≢true (sym f ∙ eq-eqb letter a (sym e)))
+            ∙ h a few)
     ]
 
 -- a letter without a count at its place has none, and one with a count has that
@@ -264,11 +282,13 @@ abbrev times_of_any : List ℕ → List Count → ℕ
 times_of_any [] cs = 0
 times_of_any (l ∷ ls) cs = times l cs + times_of_any ls cs
 
-few_times : (letters : List ℕ) (cs : List Count) → letters_differ cs ≡ true → times_of_any letters cs ≤ length letters
+few_times : (letters : List ℕ) (cs : List Count) → letters_differ cs ≡ true
+  → times_of_any letters cs ≤ length letters
 few_times [] cs h = omega arith
 few_times (l ∷ ls) cs h = let a = once l cs h in let b = few_times ls cs h in omega (arith, a, b)
 
-more_times : (letters : List ℕ) (c : Count) (cs : List Count) → times_of_any letters cs ≤ times_of_any letters (c ∷ cs)
+more_times : (letters : List ℕ) (c : Count) (cs : List Count)
+  → times_of_any letters cs ≤ times_of_any letters (c ∷ cs)
 more_times [] c cs = omega arith
 more_times (l ∷ ls) c cs =
     let rest = more_times ls c cs in
@@ -285,7 +305,8 @@ one_time_more (l ∷ ls) c cs h =
       | inr f ↦
           let more = one_time_more ls c cs (rw f at h) in
           elim (eqb c.0 l) as (λ b. times l cs + times_of_any ls cs < cond b (suc (times l cs))
-          (times l cs) + times_of_any ls (c ∷ cs)) [ true ↦ omega (arith, rest) | false ↦ omega (arith, more) ]
+          (times l cs) + times_of_any ls (c ∷ cs))
+            [ true ↦ omega (arith, rest) | false ↦ omega (arith, more) ]
     ]
 
 all_times : (cs : List Count) → All IsCount cs → length cs ≤ times_of_any system_letters cs
@@ -296,7 +317,8 @@ all_times (c ∷ cs) h =
     omega (arith, more, rest)
 
 pub systems_few : (counts : List Count) → AreCounts counts → length counts ≤ length system_letters
-systems_few counts h = let a = all_times counts h.allowed in let b = few_times system_letters counts h.apart in
+systems_few counts h = let a = all_times counts h.allowed in let b = few_times system_letters counts h.apart
+  in
     omega (arith, a, b)
 
 some_none : (n : ℕ) → Some n ≡ None → ⊥

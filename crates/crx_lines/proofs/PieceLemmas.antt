@@ -1,5 +1,6 @@
 -- The pieces of an input, from its front.
-use Rattle.std.proofs.Common.{◌≡◌, ◌≢◌, ℕ, ◌<◌, Bool, true, false, cond, eqb, ◌⊎◌, inl, inr, List, [], ◌∷◌, ◌++◌}
+use Rattle.std.proofs.Common.{◌≡◌, ◌≢◌, ℕ, ◌<◌, Bool, true, false, cond, eqb, ◌⊎◌, inl, inr, List, [], ◌∷◌}
+use Rattle.std.proofs.Common.{◌++◌}
 use Rattle.std.proofs.Common.{length, refl, sym, ap, subst, arith}
 use Rattle.std.proofs.lemmas.List.Elements.{All-head, All-tail, All-cons}
 use Rattle.std.proofs.lemmas.Bool.{ne_eqb}
@@ -39,13 +40,15 @@ abbrev pub EachEnded : List Piece → Type 0
 EachEnded [] = Unit {0}
 EachEnded (p ∷ ps) = (p.is_ended ≡ true) × EachEnded ps
 
--- the pieces of an input whose first bytes are given: those ended there, then those of a rest without LF and what comes
+-- the pieces of an input whose first bytes are given: those ended there, then those of a rest without LF and
+-- what comes
 -- after
 abbrev pub Splits : (List ℕ → List Piece) → List Piece → Type 0
 Splits pieces before = (rest : List ℕ)
     × HasNoFeed rest × ((more : List ℕ) → pieces more ≡ before ++ pieces_of (rest ++ more))
 
-splits-onto : (b : ℕ) → b ≢ 10 → (F : List ℕ → List Piece) (bytes : List ℕ) (is_ended : Bool) (ps : List Piece)
+splits-onto : (b : ℕ) → b ≢ 10
+  → (F : List ℕ → List Piece) (bytes : List ℕ) (is_ended : Bool) (ps : List Piece)
     → Splits F (ended_pieces (record { bytes = bytes; is_ended = is_ended } ∷ ps))
     → Splits (λ more. onto_first b (F more))
     (ended_pieces (onto_first b (record { bytes = bytes; is_ended = is_ended } ∷ ps)))
@@ -73,14 +76,17 @@ by-byte : (b : ℕ) (bs : List ℕ) → Splits (λ more. pieces_of (bs ++ more))
 by-byte b bs s (inl is) =
     let P : Bool → Type 0 = λ t. Splits (λ more. cond t
     (record { bytes = []; is_ended = true } ∷ pieces_of (bs ++ more)) (onto_first b (pieces_of (bs ++ more))))
-    (ended_pieces (cond t (record { bytes = []; is_ended = true } ∷ pieces_of bs) (onto_first b (pieces_of bs)))) in
+    (ended_pieces (cond t (record { bytes = []; is_ended = true } ∷ pieces_of bs)
+      (onto_first b (pieces_of bs)))) in
     subst P (sym is.0) (s.0, s.1, λ more. ap (λ l. record { bytes = []; is_ended = true } ∷ l) (s.2 more))
 by-byte b bs s (inr is) =
     let P : Bool → Type 0 = λ t. Splits (λ more. cond t
     (record { bytes = []; is_ended = true } ∷ pieces_of (bs ++ more)) (onto_first b (pieces_of (bs ++ more))))
-    (ended_pieces (cond t (record { bytes = []; is_ended = true } ∷ pieces_of bs) (onto_first b (pieces_of bs)))) in
+    (ended_pieces (cond t (record { bytes = []; is_ended = true } ∷ pieces_of bs)
+      (onto_first b (pieces_of bs)))) in
     subst P (sym is.0) (splits-other b is.1 (λ more. pieces_of (bs ++ more)) (pieces_of bs) s)
 
-pub pieces-split : (given : List ℕ) → Splits (λ more. pieces_of (given ++ more)) (ended_pieces (pieces_of given))
+pub pieces-split : (given : List ℕ)
+  → Splits (λ more. pieces_of (given ++ more)) (ended_pieces (pieces_of given))
 pieces-split [] = ([], λ k d h. absurd (omega (arith, h)), λ more. refl)
 pieces-split (b ∷ bs) = by-byte b bs (pieces-split bs) (eqb_tells b 10)

@@ -1,16 +1,20 @@
 -- From one answer of a reader of lines to the next: the lines so far, and the bytes that were given.
-use Rattle.std.proofs.Common.{◌≡◌, ◌≢◌, ◌⊎◌, ⊎_elim, inl, inr, ℕ, ◌+◌, ◌-◌, ◌<◌, ◌≤◌, Bool, true, false, Option, Some}
-use Rattle.std.proofs.Common.{None, Result, Ok, Err, List, [], ◌∷◌, ◌++◌, length, take, map, refl, sym, ap, ◌∙◌, subst}
+use Rattle.std.proofs.Common.{◌≡◌, ◌≢◌, ◌⊎◌, ⊎_elim, inl, inr, ℕ, ◌+◌, ◌-◌, ◌<◌, ◌≤◌, Bool, true, false}
+use Rattle.std.proofs.Common.{Option, Some}
+use Rattle.std.proofs.Common.{None, Result, Ok, Err, List, [], ◌∷◌, ◌++◌, length, take, map, refl, sym, ap}
+use Rattle.std.proofs.Common.{◌∙◌, subst}
 use Rattle.std.proofs.Common.{arith, append-nil, append_assoc, length-append}
 use Rattle.std.proofs.lemmas.List.{length_push, map-append, take_all}
 use Rattle.std.proofs.Math.Seq.{take-append-add}
 use Rattle.crx_lines.specs.meaning.Devices.{one_more, Tally, with_failure}
 use Rattle.crx_lines.specs.Devices.{with_end, tally_after_line}
 use Rattle.crx_base.specs.meaning.Lines.{InputLine, Piece, pieces_of, lines_of, line_of}
-use Rattle.crx_lines.specs.Reading.{HasNoFeed, ReaderState, TakesPiece, ReaderAnswers, AnswersFault, line_shown}
+use Rattle.crx_lines.specs.Reading.{HasNoFeed, ReaderState, TakesPiece, ReaderAnswers, AnswersFault}
+use Rattle.crx_lines.specs.Reading.{line_shown}
 use Rattle.crx_lines.specs.Reading.{line_number}
 use Rattle.crx_base.specs.meaning.Seen.{ended_pieces, ended_lines_of}
-use Rattle.crx_lines.specs.Progress.{IsOpen, IsOver, IsStopped, StandsAt, HasRead, IsOneMore, AtFault, AtAnswer}
+use Rattle.crx_lines.specs.Progress.{IsOpen, IsOver, IsStopped, StandsAt, HasRead, IsOneMore, AtFault}
+use Rattle.crx_lines.specs.Progress.{AtAnswer}
 use Rattle.crx_base.specs.declared.limits.TheConstants.{INPUT_LIMIT}
 use Rattle.crx_base.specs.declared.fault.At.{At}
 use Rattle.crx_base.specs.declared.fault.Fault.{Fault}
@@ -32,7 +36,8 @@ pub lines-first : (piece rest : List ℕ)
 lines-first piece rest none = ap (map line_of) (pieces-first piece rest none)
 
 pub ended_lines-first : (piece rest : List ℕ)
-    → HasNoFeed piece → ended_lines_of (piece ++ 10 ∷ rest) ≡ line_of (ended_piece piece) ∷ ended_lines_of rest
+    → HasNoFeed piece → ended_lines_of (piece ++ 10 ∷ rest)
+      ≡ line_of (ended_piece piece) ∷ ended_lines_of rest
 ended_lines-first piece rest none = ap (λ ps. map line_of (ended_pieces ps)) (pieces-first piece rest none)
 
 -- an input that no LF ends
@@ -80,19 +85,24 @@ module _ (at_end : Type 0) (start counted counted' : Tally) (given more : List �
       → IsOpen start counted' (given ++ more) new (lines ++ line_of (ended_piece bytes) ∷ [])
   line-ended bytes t same = record {
     bytes = omega (arith, length-append given more, length-append old.rest more, t.passed, o.bytes);
-    within = omega (arith, length-append given more, length-append old.rest more, t.passed, o.bytes, t.within);
+    within = omega (arith, length-append given more, length-append old.rest more, t.passed, o.bytes,
+      t.within);
     first = λ x. over-piece lines_of (line_of (ended_piece bytes)) given
-        more old.rest bytes new.rest x lines o.first t.first.cut (lines-first bytes (new.rest ++ x) t.first.no_feed);
+        more old.rest bytes new.rest x lines o.first t.first.cut
+          (lines-first bytes (new.rest ++ x) t.first.no_feed);
     ended = λ x. over-piece ended_lines_of (line_of (ended_piece bytes)) given more
-        old.rest bytes new.rest x lines o.ended t.first.cut (ended_lines-first bytes (new.rest ++ x) t.first.no_feed);
+        old.rest bytes new.rest x lines o.ended t.first.cut
+          (ended_lines-first bytes (new.rest ++ x) t.first.no_feed);
     counts = same ∙ o.counts;
   }
 
-  line-last : (bytes : List ℕ) → TakesPiece old more at_end (last_piece bytes) new → counted' ≡ with_end counted
+  line-last : (bytes : List ℕ) → TakesPiece old more at_end (last_piece bytes) new
+    → counted' ≡ with_end counted
       → IsOver at_end start counted' (given ++ more) (lines ++ line_of (last_piece bytes) ∷ [])
   line-last bytes t same = record {
     reported = t.first.cut.3;
-    within = omega (arith, length-append given more, length-append old.rest more, t.passed, o.bytes, t.within);
+    within = omega (arith, length-append given more, length-append old.rest more, t.passed, o.bytes,
+      t.within);
     all = sym (o.first more ∙ ap (λ l. lines ++ lines_of l) t.first.cut.0
         ∙ ap (λ l. lines ++ l) (lines-last bytes t.first.no_feed t.first.cut.2));
     counts = same ∙ ap with_end o.counts;
@@ -104,10 +114,12 @@ module _ (at_end : Type 0) (start counted counted' : Tally) (given more : List �
       → StandsAt new.phase at_end start counted'
       (given ++ more) new (lines ++ line_of (record { bytes = bytes; is_ended = is_ended }) ∷ [])
   line-stands bytes true t same =
-      subst (λ f. StandsAt f at_end start counted' (given ++ more) new (lines ++ line_of (ended_piece bytes) ∷ []))
+      subst (λ f. StandsAt f at_end start counted' (given ++ more) new
+        (lines ++ line_of (ended_piece bytes) ∷ []))
       (sym t.phase) (line-ended bytes t same)
   line-stands bytes false t same =
-      subst (λ f. StandsAt f at_end start counted' (given ++ more) new (lines ++ line_of (last_piece bytes) ∷ []))
+      subst (λ f. StandsAt f at_end start counted' (given ++ more) new
+        (lines ++ line_of (last_piece bytes) ∷ []))
       (sym t.phase) (line-last bytes t same)
 
   none-over : old.rest ++ more ≡ []
@@ -122,7 +134,8 @@ module _ (at_end : Type 0) (start counted counted' : Tally) (given more : List �
   -- the bytes so far, of which the last have no LF
   ended-so-far : (front : List ℕ) → HasNoFeed (old.rest ++ front) → lines ≡ ended_lines_of (given ++ front)
   ended-so-far front none =
-      sym (o.ended front ∙ ap (λ l. lines ++ l) (ended_lines-none (old.rest ++ front) none) ∙ append-nil lines)
+      sym (o.ended front ∙ ap (λ l. lines ++ l) (ended_lines-none (old.rest ++ front) none)
+        ∙ append-nil lines)
 
   failed-stops : old.passed + length (old.rest ++ more) ≤ INPUT_LIMIT
       → HasNoFeed (old.rest ++ more) → counted' ≡ with_failure counted
@@ -149,14 +162,16 @@ module _ (at_end : Type 0) (start counted counted' : Tally) (given more : List �
 
 -- a line has a byte
 passed-more : (old new : ReaderState) (given : List ℕ) (at_end : Type 0) (bytes : List ℕ) (is_ended : Bool)
-    → TakesPiece old given at_end (record { bytes = bytes; is_ended = is_ended }) new → old.passed < new.passed
+    → TakesPiece old given at_end (record { bytes = bytes; is_ended = is_ended }) new
+      → old.passed < new.passed
 passed-more old new given at_end bytes true t =
     omega (arith, t.passed, ap length t.first.cut, length-append bytes (10 ∷ new.rest))
 passed-more old new given at_end bytes false t =
     omega (arith, t.passed, ap length t.first.cut.0, ap length t.first.cut.1, t.first.cut.2)
 
 module _ (gave gives step : List ℕ → Type 0)
-    (at_end at_end' : Type 0) (start counted counted' : Tally) (old new : ReaderState) (lines : List InputLine)
+    (at_end at_end' : Type 0) (start counted counted' : Tally) (old new : ReaderState)
+      (lines : List InputLine)
     (h : HasRead gave at_end start counted old lines) (goes : (given more : List ℕ)
     → gave given → step more → gives (given ++ more)) where
   is-open : old.phase ≡ Open → IsOpen start counted h.given old lines
@@ -173,7 +188,8 @@ module _ (gave gives step : List ℕ → Type 0)
   }
 
   read-line : old.phase ≡ Open → (more : List ℕ)
-      → step more → (p : Piece) → TakesPiece old more at_end' p new → counted' ≡ tally_after_line p.is_ended counted
+      → step more → (p : Piece) → TakesPiece old more at_end' p new
+        → counted' ≡ tally_after_line p.is_ended counted
       → HasRead gives at_end' start counted' new (lines ++ line_of p ∷ [])
   read-line e more lead p t same = record {
     given = h.given ++ more;
@@ -185,7 +201,8 @@ module _ (gave gives step : List ℕ → Type 0)
 
   read-stop : (more : List ℕ) → step more
       → (at : At) → at.line ≡ old.number + 1 → new.number ≡ old.number → new.phase ≡ Stopped at
-      → IsStopped at.fault start counted' (h.given ++ more) lines → HasRead gives at_end' start counted' new lines
+      → IsStopped at.fault start counted' (h.given ++ more) lines
+        → HasRead gives at_end' start counted' new lines
   read-stop more lead at line number phase stopped = record {
     given = h.given ++ more;
     lead = goes h.given more h.lead lead;
@@ -195,22 +212,26 @@ module _ (gave gives step : List ℕ → Type 0)
   }
 
   at-fault : (f : Fault) (at : At) → at.fault ≡ f
-      → old.phase ≡ Open → (more : List ℕ) → step more → AnswersFault old more at_end' counted counted' at f new
-      → (then : List InputLine) × AtFault f at old new lines then × HasRead gives at_end' start counted' new then
+      → old.phase ≡ Open → (more : List ℕ) → step more
+        → AnswersFault old more at_end' counted counted' at f new
+      → (then : List InputLine) × AtFault f at old new lines then
+        × HasRead gives at_end' start counted' new then
   at-fault LineTooLong at is e more lead a = (
     lines ++ line_of a.0 ∷ [],
     (line_of a.0, a.2, one-more more a.0 (line_of a.0) at.line a.1 refl a.3),
     read-line e more lead a.0 a.1 a.4,
   )
   at-fault InputTooLong at is e more lead a =
-      let stopped = over-stops at_end' start counted counted' h.given more old new lines (is-open e) a.0 a.1 a.3 in (
+      let stopped = over-stops at_end' start counted counted' h.given more old new lines
+        (is-open e) a.0 a.1 a.3 in (
         lines,
         (refl, a.2.phase),
         read-stop more lead at a.2.line a.2.number a.2.phase
             (subst (λ g. IsStopped g start counted' (h.given ++ more) lines) (sym is) stopped),
       )
   at-fault ReadFailed at is e more lead a =
-      let stopped = failed-stops at_end' start counted counted' h.given more old new lines (is-open e) a.0 a.1 a.3 in (
+      let stopped = failed-stops at_end' start counted counted' h.given more old new lines
+        (is-open e) a.0 a.1 a.3 in (
         lines,
         (refl, a.2.phase),
         read-stop more lead at a.2.line a.2.number a.2.phase
@@ -221,7 +242,8 @@ module _ (gave gives step : List ℕ → Type 0)
   -- an answer where lines may come
   pub HasRead-next : old.phase ≡ Open → (more : List ℕ)
       → step more → (r : Result (Option Line) At) → ReaderAnswers old more at_end' counted counted' r new
-      → (then : List InputLine) × AtAnswer r old new lines then × HasRead gives at_end' start counted' new then
+      → (then : List InputLine) × AtAnswer r old new lines then
+        × HasRead gives at_end' start counted' new then
   HasRead-next e more lead (Ok (Some line)) a = (
     lines ++ line_of a.0 ∷ [],
     one-more more a.0 (line_shown line) (line_number line) a.1 a.2 a.3,
@@ -236,7 +258,8 @@ module _ (gave gives step : List ℕ → Type 0)
           lead = goes h.given more h.lead lead;
           number = ap (λ (r : ReaderState). r.number) a.2 ∙ h.number;
           stands = subst (λ f. StandsAt f at_end' start counted' (h.given ++ more) new lines)
-              (sym phase) (none-over at_end' start counted counted' h.given more old new lines (is-open e) a.0 a.1 a.3);
+              (sym phase) (none-over at_end' start counted counted' h.given more old new lines
+                (is-open e) a.0 a.1 a.3);
         },
       )
   HasRead-next e more lead (Err at) a = at-fault at.fault at refl e more lead a
@@ -299,13 +322,16 @@ stopped-again _ at start counted given old new lines s e = absurd s
 
 -- one call, whatever the phase: after the end and after a fault nothing changes, and the answer is repeated
 module _ (gave gives step : List ℕ → Type 0)
-    (at_end at_end' : Type 0) (start counted counted' : Tally) (old new : ReaderState) (lines : List InputLine)
+    (at_end at_end' : Type 0) (start counted counted' : Tally) (old new : ReaderState)
+      (lines : List InputLine)
     (h : HasRead gave at_end start counted old lines) (goes : (given more : List ℕ)
     → gave given → step more → gives (given ++ more))
     (r : Result (Option Line) At) (still : old.phase ≢ Open
-    → (new ≡ old) × ((given : List ℕ) → gave given → gives given) × (at_end → at_end') × (counted' ≡ counted)) where
+    → (new ≡ old) × ((given : List ℕ) → gave given → gives given) × (at_end → at_end') × (counted' ≡ counted))
+      where
   still-ended : old.phase ≡ Ended → r ≡ Ok None
-      → (then : List InputLine) × AtAnswer r old new lines then × HasRead gives at_end' start counted' new then
+      → (then : List InputLine) × AtAnswer r old new lines then
+        × HasRead gives at_end' start counted' new then
   still-ended e is =
       let same = still (ended-not-open old.phase e) in
       let over = HasRead-ended gave at_end start counted old lines h e in
@@ -340,17 +366,20 @@ module _ (gave gives step : List ℕ → Type 0)
           given = h.given;
           lead = same.1 h.given h.lead;
           number = ap (λ (x : ReaderState). x.number) same.0 ∙ h.number;
-          stands = subst (λ f. StandsAt f at_end' start counted' h.given new lines) (sym phase) (now, stopped.1);
+          stands = subst (λ f. StandsAt f at_end' start counted' h.given new lines) (sym phase)
+            (now, stopped.1);
         },
       )
 
   pub HasRead-call : (old.phase ≡ Open
       → (more : List ℕ) × step more × ReaderAnswers old more at_end' counted counted' r new)
       → (old.phase ≡ Ended → r ≡ Ok None) → ((at : At) → old.phase ≡ Stopped at → r ≡ Err at)
-      → (then : List InputLine) × AtAnswer r old new lines then × HasRead gives at_end' start counted' new then
+      → (then : List InputLine) × AtAnswer r old new lines then
+        × HasRead gives at_end' start counted' new then
   HasRead-call at-open at-ended at-stopped =
       ⊎_elim
       (λ e. let a = at-open e in
       HasRead-next gave gives step at_end at_end' start counted counted' old new lines h goes e a.0 a.1 r a.2)
-      (λ other. ⊎_elim (λ e. still-ended e (at-ended e)) (λ s. still-stopped s.0 s.1 (at-stopped s.0 s.1)) other)
+      (λ other. ⊎_elim (λ e. still-ended e (at-ended e)) (λ s. still-stopped s.0 s.1 (at-stopped s.0 s.1))
+        other)
       (phase-cases old.phase)

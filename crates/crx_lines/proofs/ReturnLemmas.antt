@@ -1,6 +1,8 @@
 -- A CR at the end of a text.
-use Rattle.std.proofs.Common.{◌≡◌, ◌≢◌, ◌==◌, ℕ, ◌+◌, ◌-◌, ◌≤◌, ◌<◌, Bool, true, false, cond, List, [], ◌∷◌, ◌++◌}
-use Rattle.std.proofs.Common.{length, take, drop, get_or, slice_range, refl, sym, ap, ◌∙◌, arith, eq-eqb, length-take}
+use Rattle.std.proofs.Common.{◌≡◌, ◌≢◌, ◌==◌, ℕ, ◌+◌, ◌-◌, ◌≤◌, ◌<◌, Bool, true, false, cond, List, [], ◌∷◌}
+use Rattle.std.proofs.Common.{◌++◌}
+use Rattle.std.proofs.Common.{length, take, drop, get_or, slice_range, refl, sym, ap, ◌∙◌, arith, eq-eqb}
+use Rattle.std.proofs.Common.{length-take}
 use Rattle.std.proofs.Common.{length-drop}
 use Rattle.std.proofs.lemmas.List.{take-take, take_more, get_or-take, get_or-drop}
 use Rattle.std.proofs.lemmas.Bool.{ne_eqb}
@@ -11,7 +13,8 @@ without_return-cr [] x e = rw e refl
 without_return-cr (y ∷ []) x e = rw e refl
 without_return-cr (y ∷ z ∷ zs) x e = ap (λ l. y ∷ l) (without_return-cr (z ∷ zs) x e)
 
-pub without_return-other : (xs : List ℕ) (x : ℕ) → (x == 13) ≡ false → without_return (xs ++ x ∷ []) ≡ xs ++ x ∷ []
+pub without_return-other : (xs : List ℕ) (x : ℕ) → (x == 13) ≡ false
+  → without_return (xs ++ x ∷ []) ≡ xs ++ x ∷ []
 without_return-other [] x e = rw e refl
 without_return-other (y ∷ []) x e = rw e refl
 without_return-other (y ∷ z ∷ zs) x e = ap (λ l. y ∷ l) (without_return-other (z ∷ zs) x e)
@@ -45,16 +48,19 @@ part-get_or xs start end n d inside =
 
 -- the first bytes of a part are those before the last of them, and that one
 pub part-last : (xs : List ℕ) (start end n : ℕ) → 0 < n → start + n ≤ end → end ≤ length xs
-    → take n (slice_range xs start end) ≡ slice_range xs start (start + n - 1) ++ get_or xs (start + n - 1) 0 ∷ []
+    → take n (slice_range xs start end) ≡ slice_range xs start (start + n - 1) ++ get_or xs
+      (start + n - 1) 0 ∷ []
 part-last xs start end n some inside within =
     let held = slice_range xs start end in
     let one : n ≡ (n - 1) + 1 = omega arith in
     let at : start + (n - 1) ≡ start + n - 1 = omega arith in
-    let len : n - 1 < length held = omega (arith, length-take (end - start) (drop start xs), length-drop start xs) in
+    let len : n - 1 < length held =
+      omega (arith, length-take (end - start) (drop start xs), length-drop start xs) in
     ap (λ k. take k held) one ∙ take_more held (n - 1) 0 len
     ∙ ap (λ l. l ++ get_or held (n - 1) 0 ∷ []) (sym (part-front xs start end (n - 1) (omega arith))
     ∙ ap (λ k. slice_range xs start k) at)
-    ∙ ap (λ b. slice_range xs start (start + n - 1) ++ b ∷ []) (part-get_or xs start end (n - 1) 0 (omega arith)
+    ∙ ap (λ b. slice_range xs start (start + n - 1) ++ b ∷ [])
+      (part-get_or xs start end (n - 1) 0 (omega arith)
     ∙ ap (λ k. get_or xs k 0) at)
 
 -- the first bytes of a part without the CR that ends them

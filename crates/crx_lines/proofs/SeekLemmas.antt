@@ -1,5 +1,6 @@
 -- The search for the end of a line, step by step.
-use Rattle.std.proofs.Common.{◌≡◌, ◌≢◌, ℕ, ◌+◌, ◌<◌, ◌≤◌, List, [], ◌++◌, ◌⊎◌, length, slice_index, refl, sym, ap, ◌∙◌}
+use Rattle.std.proofs.Common.{◌≡◌, ◌≢◌, ℕ, ◌+◌, ◌<◌, ◌≤◌, List, [], ◌++◌, ◌⊎◌, length, slice_index, refl, sym}
+use Rattle.std.proofs.Common.{ap, ◌∙◌}
 use Rattle.std.proofs.Common.{subst, arith, inl, inr, ⊎_elim, append-nil, append_assoc, length-append}
 use Rattle.std.specs.List.{Contains}
 use Rattle.std.proofs.lemmas.List.{get_or_append_left}
@@ -10,7 +11,8 @@ use Rattle.crx_lines.specs.Seeking.{Seeking}
 use Rattle.crx_base.specs.declared.limits.TheConstants.{LINE_LIMIT}
 use Rattle.crx_lines.proofs.PieceLemmas.{NoFeed}
 
-pub Seeking-start : (gave : List ℕ → Type 0) (old : List ℕ) (room : ℕ) → gave [] → Seeking gave old old room 0 0 0
+pub Seeking-start : (gave : List ℕ → Type 0) (old : List ℕ) (room : ℕ) → gave []
+  → Seeking gave old old room 0 0 0
 Seeking-start gave old room lead = record {
   given = [];
   front = [];
@@ -38,7 +40,8 @@ Seeking-searched gave old held room taken passed searched n s within none = reco
   passed_is = s.passed_is;
   far = s.far;
   none_passed = s.none_passed;
-  none_searched = λ k h. ⊎_elim (λ below. s.none_searched k below) (λ above. none k above h) (cases_lt k searched);
+  none_searched = λ k h. ⊎_elim (λ below. s.none_searched k below) (λ above. none k above h)
+    (cases_lt k searched);
   within = s.within;
   searched_within = within;
 }
@@ -107,7 +110,8 @@ pub Seeking-filled : (gave then : List ℕ → Type 0) (old held after more : Li
     → Seeking gave old held room taken passed (length held)
     → ((given : List ℕ) → gave given → then (given ++ more)) → length more ≡ n → taken + n ≤ room
     → after ≡ held ++ more → m ≡ length held → Seeking then old after room (taken + n) passed m
-Seeking-filled gave then old held after more room taken passed n m s goes count within same searched = record {
+Seeking-filled gave then old held after more room taken passed n m s goes count within same searched =
+  record {
   given = s.given ++ more;
   front = s.front;
   lead = goes s.given s.lead;
@@ -131,11 +135,13 @@ pub Seeking-same : (gave then : List ℕ → Type 0) (old held after : List ℕ)
 Seeking-same gave then old held after room taken passed m s goes same searched =
     let sum : taken + 0 ≡ taken = omega arith in
     subst (λ k. Seeking then old after room k passed m) sum
-    (Seeking-filled gave then old held after [] room taken passed 0 m s goes refl (omega (arith, s.within)) (same
+    (Seeking-filled gave then old held after [] room taken passed 0 m s goes refl (omega (arith, s.within))
+      (same
     ∙ sym (append-nil held)) searched)
 
 -- every byte was discarded or is held
 pub Seeking-sum : (gave : List ℕ → Type 0) (old held : List ℕ) (room taken passed searched : ℕ)
     → Seeking gave old held room taken passed searched → passed + length held ≡ length old + taken
 Seeking-sum gave old held room taken passed searched s =
-    omega (arith, ap length s.input, length-append old s.given, length-append s.front held, s.taken_is, s.passed_is)
+    omega (arith, ap length s.input, length-append old s.given, length-append s.front held, s.taken_is,
+      s.passed_is)

@@ -3,7 +3,8 @@ use Rattle.std.proofs.Common.{◌≡◌, ◌∙◌, List, [], ℕ, Err, Some, in
 use Rattle.std.specs.Option.{IfSome}
 use Rattle.crx_runs.specs.meaning.Spans.{Device}
 use Rattle.crx_base.specs.declared.fault.Fault.TheVariants.{OutOfMemory}
-use Rattle.crx_command.specs.meaning.Planning.{Plan, Help, Run, Refused, Refusal, Parse, DashTwice, TwoFiles, BadDate}
+use Rattle.crx_command.specs.meaning.Planning.{Plan, Help, Run, Refused, Refusal, Parse, DashTwice, TwoFiles}
+use Rattle.crx_command.specs.meaning.Planning.{BadDate}
 use Rattle.crx_command.specs.meaning.Planning.{NoName}
 use Rattle.crx_command.specs.Planning.{plan_in}
 use Rattle.crx_command.specs.meaning.ErrorLines.{IsLineOf}
@@ -23,7 +24,8 @@ some_line (NoName name) = (_, refl)
 module _ (p : Plan) (refusal : Refusal) (messages : Device) (status : ℕ) where
   -- words are refused by the line of their fault, or by that of the memory that ran out
   pub refused_by : (fault : UsageFault)
-      → p ≡ Refused refusal → status ≡ 1 → (fault ≡ usage_fault.Memory → IsShown messages (at_start OutOfMemory))
+      → p ≡ Refused refusal → status ≡ 1
+        → (fault ≡ usage_fault.Memory → IsShown messages (at_start OutOfMemory))
       → (plan_in (Err fault) ≡ Some (Refused refusal) → IsRefused messages refusal status)
       → IfSome (plan_in (Err fault)) (λ plan. plan ≡ p) → IsRefused messages refusal status
   refused_by (usage_fault.Parse text) e one memory by h = by (ap Some (h ∙ e))

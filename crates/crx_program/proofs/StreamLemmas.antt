@@ -1,5 +1,6 @@
 -- What the logs of a run's devices are, by what ran between them.
-use Rattle.std.proofs.Common.{◌≡◌, ◌⊎◌, ◌∙◌, ◌<◌, ℕ, Bool, true, List, [], ◌++◌, Option, Some, None, ap, inl, inr, is_some, refl, subst, sym}
+use Rattle.std.proofs.Common.{◌≡◌, ◌⊎◌, ◌∙◌, ◌<◌, ℕ, Bool, true, List, [], ◌++◌, Option, Some, None, ap, inl}
+use Rattle.std.proofs.Common.{inr, is_some, refl, subst, sym}
 use Rattle.crx_lines.specs.declared.device.Sink.{Ghosts as SinkGhosts}
 use Rattle.crx_lines.specs.declared.device.Source.{Ghosts as SourceGhosts}
 use Rattle.crx_lines.specs.declared.device.Std.{Std}
@@ -14,10 +15,12 @@ use Rattle.crx_program.specs.declared.log.Logged.{Logged}
 use Rattle.crx_program.specs.declared.log.Opening.{Opening}
 use Rattle.crx_program.specs.meaning.Jobs.{tool_result, IsChosen, IsFiltered, IsFilteredFrom, IsFilteredInto}
 use Rattle.crx_program.specs.meaning.Jobs.{IsJobDone, IsMadeBy, IsRunOf}
-use Rattle.crx_program.specs.meaning.Streams.{ReadsGave, WritesTook, IsAllOf, IsEndTold, IsFlushedLast, IsUnused, IsPrefixOf}
+use Rattle.crx_program.specs.meaning.Streams.{ReadsGave, WritesTook, IsAllOf, IsEndTold, IsFlushedLast}
+use Rattle.crx_program.specs.meaning.Streams.{IsUnused, IsPrefixOf}
 
 -- a good run of a filter
-record Good (tool : Tool) (choices : Choices) (input : Input) (writer messages : Device) (status : ℕ) : Type 0 where
+record Good (tool : Tool) (choices : Choices) (input : Input) (writer messages : Device)
+  (status : ℕ) : Type 0 where
   pub given : List ℕ
   pub gave : input.gave given
   pub ended : input.at_end
@@ -80,7 +83,8 @@ made_still name force a b c p q made = subst (IsMadeBy name force) (sym (p ∙ q
 
 -- the run of a filter, where its writer is by the logs
 record Writing {G O : Type 0} (name : Option (List ℕ)) (force : Bool) (target : Option (Logged (Std G)))
-    (output : Logged (Std O)) (tool : Tool) (choices : Choices) (input : Input) (messages : Device) (status : ℕ)
+    (output : Logged (Std O)) (tool : Tool) (choices : Choices) (input : Input) (messages : Device)
+      (status : ℕ)
     : Type 1 where
   pub writer : Device
   pub ran : IsFiltered tool choices input writer messages status
@@ -88,7 +92,8 @@ record Writing {G O : Type 0} (name : Option (List ℕ)) (force : Bool) (target 
   pub flushed : writer.flushed → IsFlushedLast target output
 
 -- and where its reader is
-record Placed {F G I O : Type 0} (job : Job) (source : Option (Logged (Std F))) (target : Option (Logged (Std G)))
+record Placed {F G I O : Type 0} (job : Job) (source : Option (Logged (Std F)))
+  (target : Option (Logged (Std G)))
     (input : Logged (Std I)) (output : Logged (Std O)) (choices : Choices) (messages : Device) (status : ℕ)
     : Type 1 where
   pub reader : Input
@@ -99,7 +104,8 @@ record Placed {F G I O : Type 0} (job : Job) (source : Option (Logged (Std F))) 
 module _ {G O : Type 0} (sinks : SinkGhosts (Logged (Std G))) (outputs : SinkGhosts (Logged (Std O)))
     (sink_takes : Takes sinks) (output_takes : Takes outputs)
     (sink_flushes : Flushes sinks) (output_flushes : Flushes outputs) where
-  writing : (name : Option (List ℕ)) (force : Bool) (target : Option (Logged (Std G))) (before after : Logged (Std O))
+  writing : (name : Option (List ℕ)) (force : Bool) (target : Option (Logged (Std G)))
+    (before after : Logged (Std O))
       → before.log.bytes ≡ [] → (is_some name ≡ true → after ≡ before)
       → (tool : Tool) (choices : Choices) (input : Input) (messages : Device) (status : ℕ)
       → IsFilteredInto sinks name force target tool choices input (span outputs before after) messages status
@@ -136,22 +142,27 @@ module _ {G O : Type 0} (sinks : SinkGhosts (Logged (Std G))) (outputs : SinkGho
       (source_tells : Tells sources) (input_tells : Tells inputs) where
     placed : (job : Job) (source_name : Option (List ℕ)) → job.source ≡ source_name
         → (source : Option (Logged (Std F))) (target : Option (Logged (Std G)))
-        (first last : Logged (Std I)) (before after : Logged (Std O)) → first.log.bytes ≡ [] → before.log.bytes ≡ []
+        (first last : Logged (Std I)) (before after : Logged (Std O)) → first.log.bytes ≡ []
+          → before.log.bytes ≡ []
         → (is_some source_name ≡ true → last ≡ first) → (is_some job.target ≡ true → after ≡ before)
         → (choices : Choices) (messages : Device) (status : ℕ)
         → IsFilteredFrom sources sinks source_name source job.target job.force target job.tool choices
         (reader_span inputs first last) (span outputs before after) messages status
         → Placed job source target last after choices messages status
-    placed job None e source target first last before after none empty same_input same choices messages status h =
+    placed job None e source target first last before after none empty same_input same choices messages status
+      h =
         record {
           reader = reader_span inputs first last;
           writing = writing job.target job.force target before after empty same job.tool choices
               (reader_span inputs first last) messages status h.1;
           gave = λ bytes gave. subst (λ (name : Option (List ℕ)). ReadsGave name source last bytes) (sym e)
-              (h.0, from_empty first.log.bytes last.log.bytes bytes none (input_gives first last bytes gave).0);
-          ended = λ ended. subst (λ (s : Option (Logged (Std F))). IsEndTold s last) (sym h.0) (input_tells last ended);
+              (h.0, from_empty first.log.bytes last.log.bytes bytes none
+                (input_gives first last bytes gave).0);
+          ended = λ ended. subst (λ (s : Option (Logged (Std F))). IsEndTold s last) (sym h.0)
+            (input_tells last ended);
         }
-    placed job (Some name) e source target first last before after none empty same_input same choices messages status
+    placed job (Some name) e source target first last before after none empty same_input same choices messages
+      status
         h =
         let file = h.1 in record {
           reader = reader_span sources h.0 file;
@@ -164,19 +175,23 @@ module _ {G O : Type 0} (sinks : SinkGhosts (Logged (Std G))) (outputs : SinkGho
             from_empty h.0.log.bytes file.log.bytes bytes h.3.1 (source_gives h.0 file bytes gave).0,
             same_log first last (same_input refl) none,
           );
-          ended = λ ended. subst (λ (s : Option (Logged (Std F))). IsEndTold s last) (sym h.2) (source_tells file ended);
+          ended = λ ended. subst (λ (s : Option (Logged (Std F))). IsEndTold s last) (sym h.2)
+            (source_tells file ended);
         }
 
     module _ {E : Type 0} (reports : SinkGhosts (Logged (Std E))) (report_takes : Takes reports)
-        (moment : Option Timestamp) (job : Job) (source : Option (Logged (Std F))) (target : Option (Logged (Std G)))
+        (moment : Option Timestamp) (job : Job) (source : Option (Logged (Std F)))
+          (target : Option (Logged (Std G)))
         (first last : Logged (Std I)) (before after : Logged (Std O)) (quiet spoken : Logged (Std E))
         (none : first.log.bytes ≡ []) (empty : before.log.bytes ≡ []) (silent : quiet.log.bytes ≡ [])
-        (same_input : is_some job.source ≡ true → last ≡ first) (same : is_some job.target ≡ true → after ≡ before)
+        (same_input : is_some job.source ≡ true → last ≡ first)
+          (same : is_some job.target ≡ true → after ≡ before)
         (status : ℕ) where
       -- a run without a fault is exact
       exact_of : (choices : Choices) → IsChosen moment job.tool job.date job.every job.skip choices
           → Placed job source target last after choices (span reports quiet spoken) status → (status ≡ 1 → ⊥)
-          → (given : List ℕ) × (written : List ℕ) × ReadsGave job.source source last given × IsEndTold source last
+          → (given : List ℕ) × (written : List ℕ) × ReadsGave job.source source last given
+            × IsEndTold source last
           × WritesTook job.target job.force target after written × IsFlushedLast target after
           × IsAllOf moment job given written spoken.log.bytes status
       exact_of choices chosen place well =
@@ -215,8 +230,10 @@ module _ {G O : Type 0} (sinks : SinkGhosts (Logged (Std G))) (outputs : SinkGho
           )
 
       -- a job that was begun has a reader and a writer
-      place_of : (choices : Choices) → IsFilteredFrom sources sinks job.source source job.target job.force target
-          job.tool choices (reader_span inputs first last) (span outputs before after) (span reports quiet spoken) status
+      place_of : (choices : Choices)
+        → IsFilteredFrom sources sinks job.source source job.target job.force target
+          job.tool choices (reader_span inputs first last) (span outputs before after)
+            (span reports quiet spoken) status
           → Placed job source target last after choices (span reports quiet spoken) status
       place_of choices h =
           placed job job.source refl source target first last before after none empty same_input same choices
@@ -224,7 +241,8 @@ module _ {G O : Type 0} (sinks : SinkGhosts (Logged (Std G))) (outputs : SinkGho
 
       exact : (P : Type 0) → IsJobDone sources sinks moment job source target (reader_span inputs first last)
           (span outputs before after) (span reports quiet spoken) status P → (status ≡ 1 → ⊥)
-          → (given : List ℕ) × (written : List ℕ) × ReadsGave job.source source last given × IsEndTold source last
+          → (given : List ℕ) × (written : List ℕ) × ReadsGave job.source source last given
+            × IsEndTold source last
           × WritesTook job.target job.force target after written × IsFlushedLast target after
           × IsAllOf moment job given written spoken.log.bytes status
       exact P (inl begun) well = exact_of begun.0 begun.1 (place_of begun.0 begun.2) well
@@ -263,7 +281,8 @@ std_sink contents = record {
 -- and what it says with a log
 abbrev pub logged_source : {D : Type 0} → SourceGhosts D → SourceGhosts (Logged D)
 logged_source inner = record {
-  gave = λ a bytes b. (b.log.bytes ≡ a.log.bytes ++ bytes) × (b.opening ≡ a.opening) × inner.gave a.inner bytes b.inner;
+  gave = λ a bytes b. (b.log.bytes ≡ a.log.bytes ++ bytes) × (b.opening ≡ a.opening)
+    × inner.gave a.inner bytes b.inner;
   at_end = λ s. inner.at_end s.inner × (0 < inner.ends s.inner);
   failures = λ s. inner.failures s.inner;
   ends = λ s. inner.ends s.inner;
@@ -271,7 +290,8 @@ logged_source inner = record {
 
 abbrev pub logged_sink : {D : Type 0} → SinkGhosts D → SinkGhosts (Logged D)
 logged_sink inner = record {
-  took = λ a bytes b. (b.log.bytes ≡ a.log.bytes ++ bytes) × (b.opening ≡ a.opening) × inner.took a.inner bytes b.inner;
+  took = λ a bytes b. (b.log.bytes ≡ a.log.bytes ++ bytes) × (b.opening ≡ a.opening)
+    × inner.took a.inner bytes b.inner;
   failures = λ s. inner.failures s.inner;
   is_flushed = λ s. inner.is_flushed s.inner;
   flushes = λ s. inner.flushes s.inner;
@@ -295,12 +315,15 @@ takes contents a b bytes took = (took.0, took.1)
 flushes : {D : Type 0} (contents : D → Option (List ℕ)) → Flushes (writer_of contents)
 flushes contents a flushed = flushed
 
-module _ {F G I O E : Type 0} (file : F → Option (List ℕ)) (made : G → Option (List ℕ)) (stdin : I → Option (List ℕ))
+module _ {F G I O E : Type 0} (file : F → Option (List ℕ)) (made : G → Option (List ℕ))
+  (stdin : I → Option (List ℕ))
     (stdout : O → Option (List ℕ)) (stderr : E → Option (List ℕ))
-    (moment : Option Timestamp) (job : Job) (source : Option (Logged (Std F))) (target : Option (Logged (Std G)))
+    (moment : Option Timestamp) (job : Job) (source : Option (Logged (Std F)))
+      (target : Option (Logged (Std G)))
     (first last : Logged (Std I)) (before after : Logged (Std O)) (quiet spoken : Logged (Std E))
     (none : first.log.bytes ≡ []) (empty : before.log.bytes ≡ []) (silent : quiet.log.bytes ≡ [])
-    (same_input : is_some job.source ≡ true → last ≡ first) (same : is_some job.target ≡ true → after ≡ before)
+    (same_input : is_some job.source ≡ true → last ≡ first)
+      (same : is_some job.target ≡ true → after ≡ before)
     (status : ℕ) where
   pub exact_run : (P : Type 0) → IsJobDone (reader_of file) (writer_of made) moment job source target
       (reader_span (reader_of stdin) first last) (span (writer_of stdout) before after)

@@ -1,12 +1,15 @@
 -- The cells of a satellite line, taken one by one.
-use Rattle.std.proofs.Common.{◌≡◌, ℕ, ℤ, ◌+◌, ◌-◌, ◌*◌, ◌<◌, ◌≤◌, true, All, List, [], ◌∷◌, ◌++◌, Option, Some}
-use Rattle.std.proofs.Common.{None, length, take, drop, replicate, get_or, refl, ap, sym, subst, ◌∙◌, arith, suc, zero}
+use Rattle.std.proofs.Common.{◌≡◌, ℕ, ℤ, ◌+◌, ◌-◌, ◌*◌, ◌<◌, ◌≤◌, true, All, List, [], ◌∷◌, ◌++◌, Option}
+use Rattle.std.proofs.Common.{Some}
+use Rattle.std.proofs.Common.{None, length, take, drop, replicate, get_or, refl, ap, sym, subst, ◌∙◌, arith}
+use Rattle.std.proofs.Common.{suc, zero}
 use Rattle.std.specs.List.{concat, list_all}
 use Rattle.std.proofs.lemmas.Bool.{and_from}
 use Rattle.std.proofs.lemmas.List.Elements.{All-replicate, All-set}
 use Rattle.std.proofs.lemmas.List.Folds.{concat-append, list_all-append}
 use Rattle.std.specs.Prelude.{slice_set}
-use Rattle.std.proofs.lemmas.List.{take_more_set, length-set, take_at, take-append-le, drop_all, length-drop, take-take}
+use Rattle.std.proofs.lemmas.List.{take_more_set, length-set, take_at, take-append-le, drop_all, length-drop}
+use Rattle.std.proofs.lemmas.List.{take-take}
 use Rattle.std.proofs.lemmas.List.{length-append, length-replicate, take-replicate, append_assoc}
 use Rattle.std.proofs.lemmas.Option.{option_and_then_some, same_Some, none-some}
 use Rattle.crx_text.specs.meaning.Columns.{character_at}
@@ -34,41 +37,48 @@ all_some-push (Some x ∷ xs) vs v h =
     (ap (λ (us : List (Option ℤ)). Some (us ++ v ∷ [])) (same_Some (x ∷ ws) vs g)))
 
 -- one that is missing a spelling
-pub all_some_at : (xs : List (Option (Option ℤ))) (k : ℕ) → k < length xs → get_or xs k None ≡ None → all_some xs ≡ None
+pub all_some_at : (xs : List (Option (Option ℤ))) (k : ℕ) → k < length xs → get_or xs k None ≡ None
+  → all_some xs ≡ None
 all_some_at [] k h e = absurd (omega arith)
 all_some_at (None ∷ xs) k h e = refl
 all_some_at (Some x ∷ xs) zero h e = absurd (none-some x (sym e))
 all_some_at (Some x ∷ xs) (suc k) h e = rw (all_some_at xs k (omega arith) e) refl
 
 pub values_in_more : (line : List ℕ) (k : ℕ) (vs : List (Option ℤ)) (v : Option ℤ)
-    → values_in k line ≡ Some vs → observation_of (field line k) ≡ Some v → values_in (k + 1) line ≡ Some (vs ++ v ∷ [])
+    → values_in k line ≡ Some vs → observation_of (field line k) ≡ Some v
+      → values_in (k + 1) line ≡ Some (vs ++ v ∷ [])
 values_in_more line k vs v h e =
     ap all_some (each_place-more k (λ j. observation_of (field line j)))
     ∙ ap (λ (o : Option (Option ℤ)). all_some (each_place k (λ j. observation_of (field line j)) ++ o ∷ [])) e
     ∙ all_some-push (each_place k (λ j. observation_of (field line j))) vs v h
 
-pub values_in_none : (line : List ℕ) (k m : ℕ) → k < m → observation_of (field line k) ≡ None → values_in m line ≡ None
+pub values_in_none : (line : List ℕ) (k m : ℕ) → k < m → observation_of (field line k) ≡ None
+  → values_in m line ≡ None
 values_in_none line k m h e =
     all_some_at (each_place m (λ j. observation_of (field line j))) k
     (omega (arith, length-each_place m (λ j. observation_of (field line j))))
-    (index-each_place m k (λ j. observation_of (field line j)) None (λ past. absurd (omega (arith, past))) ∙ e)
+    (index-each_place m k (λ j. observation_of (field line j)) None (λ past. absurd (omega (arith, past)))
+      ∙ e)
 
 pub flags_in_more : (line : List ℕ) (k : ℕ) → flags_in (k + 1) line ≡ flags_in k line ++ flags_at line k
 flags_in_more line k = ap concat (each_place-more k (flags_at line))
     ∙ concat-append (each_place k (flags_at line)) (flags_at line k ∷ [])
 
 -- a field past the line's end is blank, and so missing
-pub field_past : (line : List ℕ) (k : ℕ) → length line ≤ 16 * k + 3 → observation_of (field line k) ≡ Some None
+pub field_past : (line : List ℕ) (k : ℕ) → length line ≤ 16 * k + 3
+  → observation_of (field line k) ≡ Some None
 unfolding number_of
 field_past line k h =
     let e : drop (16 * k + 3 + 1 - 1) line ≡ [] = drop_all (16 * k + 3 + 1 - 1) line (omega arith) in
     rw e refl
 
 -- a field inside the line
-pub field_inside : (line : List ℕ) (k : ℕ) → 16 * k + 17 ≤ length line → field line k ≡ take 14 (drop (16 * k + 3) line)
+pub field_inside : (line : List ℕ) (k : ℕ) → 16 * k + 17 ≤ length line
+  → field line k ≡ take 14 (drop (16 * k + 3) line)
 field_inside line k h =
     let e : 16 * k + 3 + 1 - 1 ≡ 16 * k + 3 = omega arith in
-    rw e (take-append-le 14 (drop (16 * k + 3) line) (replicate 14 32) (omega (arith, length-drop (16 * k + 3) line)))
+    rw e (take-append-le 14 (drop (16 * k + 3) line) (replicate 14 32)
+      (omega (arith, length-drop (16 * k + 3) line)))
 
 -- what is read of a line begins with that field
 pub read_inside : (line : List ℕ) (k n : ℕ) → 14 ≤ n → 16 * k + 3 + 14 ≤ length line
@@ -80,7 +90,8 @@ read_inside line k n long h =
 
 -- two indicators more
 pub pair_pushed : (line : List ℕ) (k : ℕ) (flags : List ℕ) (a b : ℕ) → 2 * k + 1 < length flags
-    → take (2 * k) flags ≡ flags_in k line → a ≡ character_at line (16 * k + 18) → b ≡ character_at line (16 * k + 19)
+    → take (2 * k) flags ≡ flags_in k line → a ≡ character_at line (16 * k + 18)
+      → b ≡ character_at line (16 * k + 19)
     → take (2 * (k + 1)) (slice_set (slice_set flags (2 * k) a) (2 * k + 1) b) ≡ flags_in (k + 1) line
 pair_pushed line k flags a b room h ha hb =
     let one = slice_set flags (2 * k) a in
@@ -113,8 +124,10 @@ sound-cells name values flags m named allowed long pairs ranged kept =
     }
 
 -- the same where each list was written through a slice of so many elements
-pub sound-written : (name : List ℕ) (values old_values : List (Option ℤ)) (flags old_flags : List ℕ) (m n k : ℕ)
-    → is_identifier name ≡ true → IsAllowedCount m → length values ≡ m → length flags ≡ 2 * m → n ≡ m → k ≡ 2 * m
+pub sound-written : (name : List ℕ) (values old_values : List (Option ℤ)) (flags old_flags : List ℕ)
+  (m n k : ℕ)
+    → is_identifier name ≡ true → IsAllowedCount m → length values ≡ m → length flags ≡ 2 * m → n ≡ m
+      → k ≡ 2 * m
     → All IsValue values → list_all is_kept flags ≡ true
     → IsSoundRow (record {
       name = name;
@@ -130,14 +143,16 @@ sound-written name values old_values flags old_flags m n k named allowed long pa
     (sound-cells name values flags m named allowed long pairs ranged kept)
 
 -- rows stay sound
-pub sound-blank : (name : List ℕ) (m : ℕ) → is_identifier name ≡ true → IsAllowedCount m → IsSoundRow (blank_row name m)
+pub sound-blank : (name : List ℕ) (m : ℕ) → is_identifier name ≡ true → IsAllowedCount m
+  → IsSoundRow (blank_row name m)
 sound-blank name m named small =
     record {
       named = named;
       counted = let e = length-replicate {A = Option ℤ} m None in
           (omega (arith, e, small.0), omega (arith, e, small.1));
       ranged = All-replicate IsValue m None tt;
-      paired = length-replicate (2 * m) 32 ∙ ap (λ (n : ℕ). 2 * n) (sym (length-replicate {A = Option ℤ} m None));
+      paired = length-replicate (2 * m) 32
+        ∙ ap (λ (n : ℕ). 2 * n) (sym (length-replicate {A = Option ℤ} m None));
       kept = all_kept_blanks (2 * m);
     }
 
@@ -187,6 +202,7 @@ sound-with_flags row flags h small kept =
         length-replicate {A = ℕ} (2 * length row.values - length flags) 32,
       );
       kept = list_all-append is_kept flags (replicate (2 * length row.values - length flags) 32)
-          ∙ and_from (list_all is_kept flags) (list_all is_kept (replicate (2 * length row.values - length flags) 32))
+          ∙ and_from (list_all is_kept flags)
+            (list_all is_kept (replicate (2 * length row.values - length flags) 32))
           kept (all_kept_blanks (2 * length row.values - length flags));
     }

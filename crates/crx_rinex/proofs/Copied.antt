@@ -1,5 +1,6 @@
 -- What a borrowed element is: the one at its place.
-use Rattle.std.proofs.Common.{◌≡◌, ℕ, List, Option, Some, None, Bor, option_copied, slice_get, length, refl, sym}
+use Rattle.std.proofs.Common.{◌≡◌, ℕ, List, Option, Some, None, Bor, option_copied, slice_get, length, refl}
+use Rattle.std.proofs.Common.{sym}
 use Rattle.std.proofs.lemmas.Option.{slice_get_past, slice_get_read}
 use Rattle.std.specs.Slice.{IsItemAt}
 

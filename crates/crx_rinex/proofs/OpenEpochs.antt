@@ -1,5 +1,6 @@
 -- Epochs whose lines come one after another.
-use Rattle.std.proofs.Common.{◌≡◌, ℕ, ◌+◌, ◌-◌, ◌<◌, zero, suc, List, [], ◌∷◌, ◌++◌, length, Option, Some, None, Result}
+use Rattle.std.proofs.Common.{◌≡◌, ℕ, ◌+◌, ◌-◌, ◌<◌, zero, suc, List, [], ◌∷◌, ◌++◌, length, Option, Some}
+use Rattle.std.proofs.Common.{None, Result}
 use Rattle.std.proofs.Common.{Ok, Err, refl, ap, sym, subst, ◌∙◌, inl, inr, arith, append-nil}
 use Rattle.std.specs.Prelude.{⊤}
 use Rattle.std.proofs.lemmas.List.{length_push}
@@ -8,14 +9,17 @@ use Rattle.crx_base.specs.meaning.Seen.{ReadLine, Content, Overlong}
 use Rattle.crx_base.specs.declared.fault.Fault.{Fault}
 use Rattle.crx_rinex.specs.meaning.Observations.{Row, Epoch}
 use Rattle.crx_rinex.specs.meaning.Units.{Unit, Observation}
-use Rattle.crx_rinex.specs.meaning.Places.{Place, Here, Wrong, Wanted, after_lines, then_place, one_line, first_line}
+use Rattle.crx_rinex.specs.meaning.Places.{Place, Here, Wrong, Wanted, after_lines, then_place, one_line}
+use Rattle.crx_rinex.specs.meaning.Places.{first_line}
 use Rattle.crx_rinex.specs.meaning.EpochLines.{ObservationHead}
 use Rattle.crx_header.specs.meaning.ObservationTypes.{Count}
 use Rattle.crx_rinex.specs.Steady.{IsSteady}
-use Rattle.crx_rinex.specs.meaning.EpochPlaces.{OpenEpoch, Beginning, EventBegins, EpochBegins, opened, rows_wanted}
+use Rattle.crx_rinex.specs.meaning.EpochPlaces.{OpenEpoch, Beginning, EventBegins, EpochBegins, opened}
+use Rattle.crx_rinex.specs.meaning.EpochPlaces.{rows_wanted}
 use Rattle.crx_rinex.specs.meaning.EpochPlaces.{epoch_of, with_next_row, next_row, row_at, rows_at, rest_at}
 use Rattle.crx_rinex.specs.meaning.EpochPlaces.{beginning_of, unit_begun, epoch_place}
-use Rattle.crx_rinex.specs.EpochPlaces.{EpochStep, Going, Whole, Faulty, when_wanted, whole_or_going, after_row}
+use Rattle.crx_rinex.specs.EpochPlaces.{EpochStep, Going, Whole, Faulty, when_wanted, whole_or_going}
+use Rattle.crx_rinex.specs.EpochPlaces.{after_row}
 use Rattle.crx_rinex.specs.EpochPlaces.{epoch_step, still_open, opened_by, opened_at, open_after, open_with}
 use Rattle.crx_rinex.specs.EpochPlaces.{place_after}
 use Rattle.crx_rinex.specs.Laws.{IsWantedWhereOpen, IsDecidedByOpen}
@@ -39,7 +43,8 @@ steady-begun types (EpochBegins head) = steady-then (rest_at (opened types head)
 
 pub steady-epoch_place : (types : List Count) → IsSteady (epoch_place types)
 steady-epoch_place types = steady-then
-    (λ lines. first_line lines beginning_of) (unit_begun types) (steady-first_line beginning_of) (steady-begun types)
+    (λ lines. first_line lines beginning_of) (unit_begun types) (steady-first_line beginning_of)
+      (steady-begun types)
 
 -- ---- one line of an open epoch
 
@@ -49,13 +54,16 @@ after_step (Whole epoch) lines = Here epoch 1
 after_step (Faulty fault) lines = Wrong 0 fault
 
 rest_when : (n : ℕ) (so_far : OpenEpoch) (lines : List ReadLine)
-    → rows_wanted so_far ≡ n → after_lines 1 (rows_at so_far n lines) ≡ after_step (when_wanted n so_far) lines
+    → rows_wanted so_far ≡ n
+      → after_lines 1 (rows_at so_far n lines) ≡ after_step (when_wanted n so_far) lines
 rest_when zero so_far lines h = refl
 rest_when (suc n) so_far lines h = ap (λ m. after_lines 1 (rows_at so_far m lines)) (sym h)
 
 whole_or_rest : (n : ℕ) (so_far : OpenEpoch) (lines : List ReadLine)
-    → rows_wanted so_far ≡ n → after_lines 1 (rows_at so_far n lines) ≡ after_step (whole_or_going so_far) lines
-whole_or_rest n so_far lines h = rest_when n so_far lines h ∙ ap (λ m. after_step (when_wanted m so_far) lines) (sym h)
+    → rows_wanted so_far ≡ n
+      → after_lines 1 (rows_at so_far n lines) ≡ after_step (whole_or_going so_far) lines
+whole_or_rest n so_far lines h = rest_when n so_far lines h
+  ∙ ap (λ m. after_step (when_wanted m so_far) lines) (sym h)
 
 row_then_rest : (n : ℕ) (so_far : OpenEpoch) (line : List ℕ) (lines : List ReadLine) (r : Result Row Fault)
     → rows_wanted so_far ≡ suc n
@@ -68,7 +76,8 @@ row_then_rest n so_far line lines (Ok row) h =
 rest_by_step : (n : ℕ) (so_far : OpenEpoch) (line : ReadLine) (lines : List ReadLine)
     → rows_wanted so_far ≡ suc n → rest_at so_far (line ∷ lines) ≡ after_step (epoch_step so_far line) lines
 rest_by_step n so_far Overlong lines h = rw h refl
-rest_by_step n so_far (Content line) lines h = rw h (row_then_rest n so_far line lines (next_row so_far line) h)
+rest_by_step n so_far (Content line) lines h =
+  rw h (row_then_rest n so_far line lines (next_row so_far line) h)
 
 -- ---- line after line
 
@@ -117,17 +126,20 @@ one_more_before count Wanted = refl
 -- an epoch that stays open over some lines goes on after them as the later one does
 record GoesOn (so_far later : OpenEpoch) (lines : List ReadLine) : Type 0 where
   wants : 0 < rows_wanted later
-  rest : (more : List ReadLine) → rest_at so_far (lines ++ more) ≡ after_lines (length lines) (rest_at later more)
+  rest : (more : List ReadLine)
+    → rest_at so_far (lines ++ more) ≡ after_lines (length lines) (rest_at later more)
 
 goes_on_after : (so_far later : OpenEpoch) (line : ReadLine) (lines : List ReadLine) (step : EpochStep)
-    → ((next : OpenEpoch) → 0 < rows_wanted next → open_after (Some next) lines ≡ Some later → GoesOn next later lines)
+    → ((next : OpenEpoch) → 0 < rows_wanted next → open_after (Some next) lines ≡ Some later
+      → GoesOn next later lines)
     → 0 < rows_wanted so_far → epoch_step so_far line ≡ step
     → IsGoing step → open_after (still_open step) lines ≡ Some later → GoesOn so_far later (line ∷ lines)
 goes_on_after so_far later line lines (Going next) ih h e wants left =
     let on = ih next wants left in
     record {
       wants = on.wants;
-      rest = λ more. step_at so_far line (lines ++ more) h ∙ ap (λ (s : EpochStep). after_step s (lines ++ more)) e
+      rest = λ more. step_at so_far line (lines ++ more) h
+        ∙ ap (λ (s : EpochStep). after_step s (lines ++ more)) e
           ∙ ap (after_lines 1) (on.rest more) ∙ one_more_before (length lines) (rest_at later more);
     }
 goes_on_after so_far later line lines (Whole epoch) ih h e wants left = absurd (none-some later left)
@@ -174,7 +186,8 @@ open_where_wanted : (lines : List ReadLine) (so_far : OpenEpoch)
 open_where_wanted [] so_far wants h = (so_far, refl)
 open_where_wanted (line ∷ lines) so_far wants h =
     open_by so_far line lines (epoch_step so_far line)
-    (λ next. open_where_wanted lines next) (step_wants so_far line) (sym (step_at so_far line lines wants) ∙ h)
+    (λ next. open_where_wanted lines next) (step_wants so_far line)
+      (sym (step_at so_far line lines wants) ∙ h)
 
 -- one line more
 pub open_none : (begun : Option OpenEpoch) → open_after begun [] ≡ begun
@@ -210,7 +223,8 @@ unit_is Wanted lines = refl
 -- an open epoch at a line goes on in the lines after it
 record Begins (types : List Count) (line : ReadLine) (so_far : OpenEpoch) : Type 0 where
   wants : 0 < rows_wanted so_far
-  place : (lines : List ReadLine) → epoch_place types (line ∷ lines) ≡ after_lines 1 (as_unit (rest_at so_far lines))
+  place : (lines : List ReadLine)
+    → epoch_place types (line ∷ lines) ≡ after_lines 1 (as_unit (rest_at so_far lines))
 
 begins_when : (n : ℕ) (begun so_far : OpenEpoch) → rows_wanted begun ≡ n
     → still_open (when_wanted n begun) ≡ Some so_far → (0 < rows_wanted so_far) × (begun ≡ so_far)
@@ -219,8 +233,10 @@ begins_when (suc n) begun so_far e h = let same : begun ≡ so_far = same_Some b
     (rw (sym same) (omega (arith, e)), same)
 
 begins_going : (types : List Count) (head : ObservationHead) (so_far : OpenEpoch) → still_open
-    (whole_or_going (opened types head)) ≡ Some so_far → (0 < rows_wanted so_far) × (opened types head ≡ so_far)
-begins_going types head so_far h = begins_when (rows_wanted (opened types head)) (opened types head) so_far refl h
+    (whole_or_going (opened types head)) ≡ Some so_far → (0 < rows_wanted so_far)
+      × (opened types head ≡ so_far)
+begins_going types head so_far h =
+  begins_when (rows_wanted (opened types head)) (opened types head) so_far refl h
 
 begins_by : (types : List Count) (line : List ℕ) (r : Result Beginning Fault) (so_far : OpenEpoch)
     → opened_by types r ≡ Some so_far
@@ -251,7 +267,8 @@ whole_when (suc n) begun lines h w = none-some begun (sym h)
 whole_decides : (types : List Count) (head : ObservationHead) (lines : List ReadLine)
     → still_open (whole_or_going (opened types head)) ≡ None
     → after_lines 1 (as_unit (rest_at (opened types head) lines)) ≡ Wanted → ⊥
-whole_decides types head lines h w = whole_when (rows_wanted (opened types head)) (opened types head) lines h w
+whole_decides types head lines h w =
+  whole_when (rows_wanted (opened types head)) (opened types head) lines h w
 
 decided_by : (types : List Count) (line : List ℕ) (r : Result Beginning Fault) (lines : List ReadLine)
     → opened_by types r ≡ None
@@ -259,7 +276,8 @@ decided_by : (types : List Count) (line : List ℕ) (r : Result Beginning Fault)
 decided_by types line (Err fault) lines h w = not_wrong 0 fault w
 decided_by types line (Ok (EventBegins event)) lines h w = not_here _ _ w
 decided_by types line (Ok (EpochBegins head)) lines h w =
-    whole_decides types head lines h (sym (ap (after_lines 1) (unit_is (rest_at (opened types head) lines) lines)) ∙ w)
+    whole_decides types head lines h
+      (sym (ap (after_lines 1) (unit_is (rest_at (opened types head) lines) lines)) ∙ w)
 
 decided : (types : List Count) (line : ReadLine) (lines : List ReadLine)
     → opened_at types line ≡ None → epoch_place types (line ∷ lines) ≡ Wanted → ⊥
@@ -282,7 +300,8 @@ wanted_from types line lines (Some so_far) e w =
 
 open_from : (types : List Count) (line : ReadLine)
     (lines : List ReadLine) (begun : Option OpenEpoch) (later : OpenEpoch) → opened_at types line ≡ begun
-    → open_after begun lines ≡ Some later → (so_far : OpenEpoch) × Begins types line so_far × GoesOn so_far later lines
+    → open_after begun lines ≡ Some later → (so_far : OpenEpoch) × Begins types line so_far
+      × GoesOn so_far later lines
 open_from types line lines None later e h = absurd (none-some later h)
 open_from types line lines (Some so_far) later e h =
     let b = begins types line so_far e in (so_far, b, goes_on so_far later lines b.wants h)
@@ -296,7 +315,8 @@ place_by_open types line lines later h =
     let from = open_from types line lines (opened_at types line) later refl h in
     let b = from.1 in
     let on = from.2 in
-    (on.wants, λ more. b.place (lines ++ more) ∙ ap (λ (p : Place Epoch). after_lines 1 (as_unit p)) (on.rest more))
+    (on.wants, λ more. b.place (lines ++ more) ∙ ap (λ (p : Place Epoch). after_lines 1 (as_unit p))
+      (on.rest more))
 
 wanted_by_open : (types : List Count) (lines : List ReadLine) (later : OpenEpoch)
     → open_with types lines ≡ Some later → epoch_place types lines ≡ Wanted
@@ -304,7 +324,8 @@ wanted_by_open types [] later h = refl
 wanted_by_open types (line ∷ lines) later h =
     let by = place_by_open types line lines later h in
     ap (λ (ls : List ReadLine). epoch_place types (line ∷ ls)) (sym (append-nil lines)) ∙ by.1 []
-    ∙ ap (λ (p : Place Epoch). after_lines 1 (as_unit (after_lines (length lines) p))) (nothing_yet later by.0)
+    ∙ ap (λ (p : Place Epoch). after_lines 1 (as_unit (after_lines (length lines) p)))
+      (nothing_yet later by.0)
 
 abbrev HasLines : List ReadLine → Type 0
 HasLines [] = ⊥
@@ -317,14 +338,17 @@ pub wanted-open : (types : List Count) (lines : List ReadLine) → IsWantedWhere
 wanted-open types [] = (λ w. inl refl, λ o. refl)
 wanted-open types (line ∷ lines) = (
   λ w. inr (wanted_from types line lines (opened_at types line) refl w),
-  λ o. elim o [ inl e ↦ absurd (some_lines line lines e) | inr s ↦ wanted_by_open types (line ∷ lines) s.0 s.1 ],
+  λ o. elim o [ inl e ↦ absurd (some_lines line lines e) | inr s ↦ wanted_by_open types
+    (line ∷ lines) s.0 s.1 ],
 )
 
 -- what a step makes, so many lines after the epoch line
 step_place : (count : ℕ) (step : EpochStep)
-    → IsGoing step → after_lines 1 (as_unit (after_lines count (after_step step []))) ≡ place_after (suc count) step
+    → IsGoing step → after_lines 1 (as_unit (after_lines count (after_step step [])))
+      ≡ place_after (suc count) step
 step_place count (Going so_far) wants =
-    ap (λ (p : Place Epoch). after_lines 1 (as_unit (after_lines count (after_lines 1 p)))) (nothing_yet so_far wants)
+    ap (λ (p : Place Epoch). after_lines 1 (as_unit (after_lines count (after_lines 1 p))))
+      (nothing_yet so_far wants)
 step_place count (Whole epoch) wants = ap (λ m. Here (Observation epoch) m) (omega arith)
 step_place count (Faulty fault) wants = ap (λ m. Wrong m fault) (omega arith)
 
@@ -334,7 +358,8 @@ next-by_open types [] line so_far h = absurd (none-some so_far h)
 next-by_open types (first ∷ lines) line so_far h =
     let by = place_by_open types first lines so_far h in
     record {
-      place = by.1 (line ∷ []) ∙ ap (λ (p : Place Epoch). after_lines 1 (as_unit (after_lines (length lines) p)))
+      place = by.1 (line ∷ [])
+        ∙ ap (λ (p : Place Epoch). after_lines 1 (as_unit (after_lines (length lines) p)))
           (step_at so_far line [] by.0)
           ∙ step_place (length lines) (epoch_step so_far line) (step_wants so_far line);
       left_open = open_next lines (opened_at types first) line so_far h;

@@ -1,5 +1,6 @@
 -- What is read out of columns fits them.
-use Rattle.std.proofs.Common.{◌≡◌, ℕ, ◌+◌, ◌-◌, ◌<◌, ◌≤◌, ◌^◌, Bool, true, false, cond, eqb, ◌&&◌, List, [], ◌∷◌, ◌++◌}
+use Rattle.std.proofs.Common.{◌≡◌, ℕ, ◌+◌, ◌-◌, ◌<◌, ◌≤◌, ◌^◌, Bool, true, false, cond, eqb, ◌&&◌, List, []}
+use Rattle.std.proofs.Common.{◌∷◌, ◌++◌}
 use Rattle.std.proofs.Common.{length, take, drop, Option, Some, None, refl, subst, inl, inr, arith}
 use Rattle.std.specs.Prelude.{ℤ, slice_index}
 use Rattle.std.specs.Bool.{nat_lt}
@@ -12,7 +13,8 @@ use Rattle.std.proofs.lemmas.List.{length-append, length-take, length-drop}
 use Rattle.std.proofs.lemmas.Option.{cond_some, same_Some, none-some}
 use Rattle.std.proofs.lemmas.Str.Parse.{digits_value_short, numerals_by_value, tells_all_ascii_digits}
 use Rattle.crx_text.specs.meaning.Columns.{is_blank, without_first_blanks}
-use Rattle.crx_text.specs.meaning.Numbers.{size_of, decimal_number, signed_number, missing_or_number, number_of}
+use Rattle.crx_text.specs.meaning.Numbers.{size_of, decimal_number, signed_number, missing_or_number}
+use Rattle.crx_text.specs.meaning.Numbers.{number_of}
 use Rattle.crx_text.specs.meaning.Numbers.{observation_of, clock_of, IsWithin, IsMissingOrWithin, IsValue}
 use Rattle.crx_base.specs.declared.limits.TheConstants.{OBSERVATION_WIDTH, OBSERVATION_DECIMALS, CLOCK_WIDTH}
 use Rattle.crx_base.specs.declared.limits.TheConstants.{CLOCK_DECIMALS}
@@ -27,7 +29,8 @@ digits-append (x ∷ xs) ys h k =
     rw parts.0 (digits-append xs ys parts.1 k)
 
 -- the digits of a text with a point are one fewer than its characters
-size_small : (decimals : ℕ) (text : List ℕ) (n : ℕ) → size_of decimals text ≡ Some n → n < 10 ^ (length text - 1)
+size_small : (decimals : ℕ) (text : List ℕ) (n : ℕ) → size_of decimals text ≡ Some n
+  → n < 10 ^ (length text - 1)
 unfolding size_of
 size_small decimals text n h =
     let point = length text - (decimals + 1) in
@@ -41,7 +44,8 @@ size_small decimals text n h =
     let b = and_parts (long && dot) (all_ascii_digits whole) a.0 in
     let within : length (whole ++ fraction) ≤ length text - 1 =
     omega (arith, length-append whole fraction, length-take point text, length-drop (point + 1) text) in
-    let small = digits_value_short (numerals_by_value (λ ds. all_ascii_digits ds ≡ true) tells_all_ascii_digits)
+    let small = digits_value_short
+      (numerals_by_value (λ ds. all_ascii_digits ds ≡ true) tells_all_ascii_digits)
     (whole ++ fraction) (length text - 1) (digits-append whole fraction b.1 a.1) within in
     subst (λ m. m < 10 ^ (length text - 1)) s.1 small
 
@@ -78,19 +82,22 @@ found_within : (decimals : ℕ) (text : List ℕ) (s : Option ℤ) (o : Option �
     → decimal_number decimals text ≡ s → option_map Some s ≡ Some o → IsMissingOrWithin (length text) o
 found_within decimals text None o e h = absurd (none-some o h)
 found_within decimals text (Some v) o e h = subst
-    (λ (p : Option ℤ). IsMissingOrWithin (length text) p) (same_Some (Some v) o h) (decimal_within decimals text v e)
+    (λ (p : Option ℤ). IsMissingOrWithin (length text) p) (same_Some (Some v) o h)
+      (decimal_within decimals text v e)
 
 missing_within : (decimals : ℕ) (text : List ℕ) (o : Option ℤ)
     → missing_or_number decimals text ≡ Some o → IsMissingOrWithin (length text) o
 missing_within decimals [] o h = subst (λ (p : Option ℤ). IsMissingOrWithin 0 p) (same_Some None o h) tt
-missing_within decimals (c ∷ cs) o h = found_within decimals (c ∷ cs) (decimal_number decimals (c ∷ cs)) o refl h
+missing_within decimals (c ∷ cs) o h =
+  found_within decimals (c ∷ cs) (decimal_number decimals (c ∷ cs)) o refl h
 
 within_more : (columns width : ℕ) (o : Option ℤ)
     → columns ≤ width → IsMissingOrWithin columns o → IsMissingOrWithin width o
 within_more columns width None fewer h = tt
 within_more columns width (Some v) fewer h = IsWithin_more columns width v fewer h
 
-pub tested : {A : Type 0} (b : Bool) (o : Option A) (y : A) → cond b o None ≡ Some y → (b ≡ true) × (o ≡ Some y)
+pub tested : {A : Type 0} (b : Bool) (o : Option A) (y : A) → cond b o None ≡ Some y
+  → (b ≡ true) × (o ≡ Some y)
 tested true o y h = (refl, h)
 tested false o y h = absurd (none-some y h)
 
@@ -98,7 +105,8 @@ number_within : (width decimals : ℕ) (text : List ℕ) (o : Option ℤ)
     → number_of width decimals text ≡ Some o → IsMissingOrWithin width o
 unfolding number_of
 number_within width decimals text o h =
-    let parts = tested (eqb (length text) width) (missing_or_number decimals (without_first_blanks text)) o h in
+    let parts = tested (eqb (length text) width) (missing_or_number decimals (without_first_blanks text)) o h
+      in
     let same : length text ≡ width = eqb-true (length text) width parts.0 in
     let shorter : length (without_first_blanks text) ≤ width = let e = first_blanks_shorter text in
     omega (arith, e, same) in

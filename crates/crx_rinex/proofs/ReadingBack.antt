@@ -1,6 +1,8 @@
 -- What is printed of rows, epoch lines and epochs is read back.
-use Rattle.std.proofs.Common.{◌≡◌, ◌≢◌, ℕ, ℤ, ◌+◌, ◌-◌, ◌*◌, ◌<◌, suc, Bool, true, false, not, cond, eqb, ◌&&◌, List}
-use Rattle.std.proofs.Common.{[], ◌∷◌, ◌++◌, length, drop, map, Option, Some, None, IfSome, Ok, refl, ap, sym, subst}
+use Rattle.std.proofs.Common.{◌≡◌, ◌≢◌, ℕ, ℤ, ◌+◌, ◌-◌, ◌*◌, ◌<◌, suc, Bool, true, false, not, cond, eqb}
+use Rattle.std.proofs.Common.{◌&&◌, List}
+use Rattle.std.proofs.Common.{[], ◌∷◌, ◌++◌, length, drop, map, Option, Some, None, IfSome, Ok, refl, ap, sym}
+use Rattle.std.proofs.Common.{subst}
 use Rattle.std.proofs.Common.{Result, ◌∙◌, ◌⊎◌, inl, inr, arith, append-nil, append_assoc, length-append}
 use Rattle.std.specs.Prelude.{All, ◌==◌}
 use Rattle.std.specs.List.{concat, list_all}
@@ -12,7 +14,8 @@ use Rattle.std.proofs.lemmas.List.Elements.{All-head, All-tail}
 use Rattle.std.proofs.lemmas.List.Folds.{list_any-append}
 use Rattle.std.proofs.lemmas.Option.{none-some}
 use Rattle.crx_text.specs.meaning.Columns.{character_at, columns, is_blank, without_first_blanks}
-use Rattle.crx_text.specs.meaning.Numbers.{number_of, missing_or_number, observation_of, observation_text, clock_of}
+use Rattle.crx_text.specs.meaning.Numbers.{number_of, missing_or_number, observation_of, observation_text}
+use Rattle.crx_text.specs.meaning.Numbers.{clock_of}
 use Rattle.crx_text.specs.meaning.Numbers.{clock_text, IsWithin, IsValue}
 use Rattle.crx_base.specs.meaning.Seen.{ReadLine, Content}
 use Rattle.crx_base.specs.declared.limits.TheConstants.{OBSERVATION_WIDTH, OBSERVATION_DECIMALS, CLOCK_WIDTH}
@@ -23,12 +26,15 @@ use Rattle.crx_text.specs.meaning.Texts.{is_kept}
 use Rattle.crx_rinex.specs.meaning.Observations.{Row, Epoch}
 use Rattle.crx_header.specs.meaning.ObservationTypes.{Count, is_system}
 use Rattle.crx_rinex.specs.meaning.EpochLines.{EpochHead, ObservationHead, IsObservationHead, IsClockOffset}
-use Rattle.crx_header.specs.meaning.EpochColumns.{begins_epoch, is_event_flag, is_observation_flag, satellites_in}
+use Rattle.crx_header.specs.meaning.EpochColumns.{begins_epoch, is_event_flag, is_observation_flag}
+use Rattle.crx_header.specs.meaning.EpochColumns.{satellites_in}
 use Rattle.crx_header.specs.meaning.EpochColumns.{satellites_of, epoch_count}
 use Rattle.crx_rinex.specs.meaning.EpochLines.{HeadLine, epoch_head, head_of}
 use Rattle.crx_rinex.specs.meaning.Epochs.{has_satellite, are_different, IsWholeEpoch}
-use Rattle.crx_rinex.specs.meaning.EpochPlaces.{OpenEpoch, EpochBegins, opened, rows_wanted, epoch_of, with_next_row}
-use Rattle.crx_rinex.specs.meaning.EpochPlaces.{next_row, rows_at, rest_at, begun_by, beginning_of, unit_begun}
+use Rattle.crx_rinex.specs.meaning.EpochPlaces.{OpenEpoch, EpochBegins, opened, rows_wanted, epoch_of}
+use Rattle.crx_rinex.specs.meaning.EpochPlaces.{with_next_row}
+use Rattle.crx_rinex.specs.meaning.EpochPlaces.{next_row, rows_at, rest_at, begun_by, beginning_of}
+use Rattle.crx_rinex.specs.meaning.EpochPlaces.{unit_begun}
 use Rattle.crx_rinex.specs.meaning.EpochPlaces.{epoch_place}
 use Rattle.crx_rinex.specs.meaning.Places.{Here, after_lines, then_place, one_line}
 use Rattle.crx_rinex.specs.meaning.Units.{Observation}
@@ -39,7 +45,8 @@ use Rattle.crx_header.specs.meaning.Satellites.{has_number, types_of_satellite}
 use Rattle.crx_rinex.specs.meaning.SatelliteLines.{row_with, row_of_types, row_of, IsSoundRow, HasItsTypes}
 use Rattle.crx_text.specs.meaning.EachPlace.{each_place}
 use Rattle.crx_text.proofs.EachPlace.{each_place-same}
-use Rattle.crx_text.proofs.Characters.{at, at-without_end_blanks, at-drop, at-append, at-append_past, columns-are}
+use Rattle.crx_text.proofs.Characters.{at, at-without_end_blanks, at-drop, at-append, at-append_past}
+use Rattle.crx_text.proofs.Characters.{columns-are}
 use Rattle.crx_text.proofs.Characters.{list_all-from_at}
 use Rattle.crx_header.proofs.Apart.{other_way}
 use Rattle.crx_rinex.proofs.SoundEpochs.{name_types}
@@ -62,7 +69,8 @@ decimal-width : (width decimals : ℕ) (text : List ℕ) (o : Option ℤ)
     → number_of width decimals text ≡ Some o → length text ≡ width
 unfolding number_of
 decimal-width width decimals text o h = eqb-true
-    (length text) width (tested (eqb (length text) width) (missing_or_number decimals (without_first_blanks text)) o h)
+    (length text) width (tested (eqb (length text) width)
+      (missing_or_number decimals (without_first_blanks text)) o h)
 
 pub value-back : (value : Option ℤ) → IsValue value → observation_of (observation_text value) ≡ Some value
 value-back value h = number_of-number_text OBSERVATION_WIDTH OBSERVATION_DECIMALS value
@@ -88,7 +96,8 @@ first-cell line rest k value a b fits same =
     let found : field line k ≡ observation_text value =
     columns-are line (16 * k + 3 + 1) 14 (observation_text value) width (λ p less.
     let place : 16 * k + 3 + 1 - 1 + p ≡ 16 * k + 3 + p = omega arith in
-    ap (at line) place ∙ same p ∙ at-append (observation_text value) (a ∷ b ∷ rest) p (omega (arith, less, width))) in
+    ap (at line) place ∙ same p ∙ at-append (observation_text value) (a ∷ b ∷ rest) p
+      (omega (arith, less, width))) in
     let one : 16 * k + 18 - 1 ≡ 16 * k + 3 + (14 + 0) = omega arith in
     let two : 16 * k + 19 - 1 ≡ 16 * k + 3 + (14 + 1) = omega arith in (
       ap observation_of found ∙ value-back value fits,
@@ -98,8 +107,10 @@ first-cell line rest k value a b fits same =
 
 -- the first cell, and those after it
 cells-are : (values : List (Option ℤ)) (flags : List ℕ) (value : Option ℤ) (a b : ℕ)
-    → printed_cells (value ∷ values) (a ∷ b ∷ flags) ≡ observation_text value ++ a ∷ b ∷ printed_cells values flags
-cells-are values flags value a b = append_assoc (observation_text value) (a ∷ b ∷ []) (printed_cells values flags)
+    → printed_cells (value ∷ values) (a ∷ b ∷ flags) ≡ observation_text value
+      ++ a ∷ b ∷ printed_cells values flags
+cells-are values flags value a b = append_assoc (observation_text value) (a ∷ b ∷ [])
+  (printed_cells values flags)
 
 -- the place that is counted from, and those after it
 from-next : {X : Type 0} (n k : ℕ) (f : ℕ → X)
@@ -108,7 +119,8 @@ from-next n k f =
     let here : k + 0 ≡ k = omega arith in
     ap (λ p. f p ∷ each_place n (λ i. f (k + suc i))) here
     ∙ ap (λ xs. f k ∷ xs) (each_place-same n
-    (λ i. f (k + suc i)) (λ i. f (k + 1 + i)) (λ i. let next : k + suc i ≡ k + 1 + i = omega arith in ap f next))
+    (λ i. f (k + suc i)) (λ i. f (k + 1 + i))
+      (λ i. let next : k + suc i ≡ k + 1 + i = omega arith in ap f next))
 
 -- places that are counted from 0
 from-none : {X : Type 0} (n : ℕ) (f : ℕ → X) → each_place n f ≡ each_place n (λ j. f (0 + j))
@@ -124,7 +136,8 @@ cells-read line k (value ∷ values) (a ∷ []) same pairs fit = absurd (omega (
 cells-read line k (value ∷ values) (a ∷ b ∷ flags) same pairs fit =
     let fits : IsValue value = All-head IsValue value values fit in
     let width : length (observation_text value) ≡ 14 = value-width value fits in
-    let now : (p : ℕ) → at line (16 * k + 3 + p) ≡ at (observation_text value ++ a ∷ b ∷ printed_cells values flags) p =
+    let now : (p : ℕ) → at line (16 * k + 3 + p)
+      ≡ at (observation_text value ++ a ∷ b ∷ printed_cells values flags) p =
     λ p. same p ∙ ap (λ t. at t p) (cells-are values flags value a b) in
     let first = first-cell line (printed_cells values flags) k value a b fits now in
     let rest : AreCells line (k + 1) values flags =
@@ -135,7 +148,8 @@ cells-read line k (value ∷ values) (a ∷ b ∷ flags) same pairs fit =
     (omega (arith, pairs)) (All-tail IsValue value values fit) in
     record {
       values_read = ap all_some (from-next (length values) k (λ j. observation_of (field line j)))
-          ∙ ap (λ o. all_some (o ∷ each_place (length values) (λ j. observation_of (field line (k + 1 + j))))) first.0
+          ∙ ap (λ o. all_some (o ∷ each_place (length values) (λ j. observation_of (field line (k + 1 + j)))))
+            first.0
           ∙ ap (option_and_then (λ (vs : List (Option ℤ)). Some (value ∷ vs))) rest.values_read;
       flags_read = ap concat (from-next (length values) k (flags_at line))
           ∙ ap (λ c. c ∷ character_at line (16 * k + 19)
@@ -145,15 +159,18 @@ cells-read line k (value ∷ values) (a ∷ b ∷ flags) same pairs fit =
     }
 
 length-cells : (values : List (Option ℤ)) (flags : List ℕ)
-    → length flags ≡ 2 * length values → All IsValue values → length (printed_cells values flags) ≡ 16 * length values
+    → length flags ≡ 2 * length values → All IsValue values
+      → length (printed_cells values flags) ≡ 16 * length values
 length-cells [] flags pairs fit = refl
 length-cells (value ∷ values) [] pairs fit = absurd (omega (arith, pairs))
 length-cells (value ∷ values) (a ∷ []) pairs fit = absurd (omega (arith, pairs))
 length-cells (value ∷ values) (a ∷ b ∷ flags) pairs fit =
-    let width : length (observation_text value) ≡ 14 = value-width value (All-head IsValue value values fit) in
+    let width : length (observation_text value) ≡ 14 = value-width value (All-head IsValue value values fit)
+      in
     let rest : length (printed_cells values flags) ≡ 16 * length values =
     length-cells values flags (omega (arith, pairs)) (All-tail IsValue value values fit) in
-    let all : length (printed_cells (value ∷ values) (a ∷ b ∷ flags)) ≡ length (observation_text value) + length
+    let all : length (printed_cells (value ∷ values) (a ∷ b ∷ flags)) ≡ length (observation_text value)
+      + length
     (a ∷ b ∷ printed_cells values flags) = ap (λ (t : List ℕ). length t) (cells-are values flags value a b)
     ∙ length-append (observation_text value) (a ∷ b ∷ printed_cells values flags) in
     omega (arith, width, rest, all)
@@ -162,7 +179,8 @@ length-cells (value ∷ values) (a ∷ b ∷ flags) pairs fit =
 
 pub name-length : (row : Row) → IsSoundRow row → length row.name ≡ 3
 name-length row h = eqb-true (length row.name) 3
-    ((and_parts (length row.name == 3) (is_system (character_at row.name 1) && has_number row.name) h.named).0)
+    ((and_parts (length row.name == 3) (is_system (character_at row.name 1) && has_number row.name)
+      h.named).0)
 
 -- a row's columns
 pub length-row : (row : Row) → IsSoundRow row
@@ -178,18 +196,21 @@ length-row row h =
 after-text : (line text : List ℕ) (n : ℕ)
     → length text ≡ n → ((p : ℕ) → at line p ≡ at text p) → list_all is_blank (drop n line) ≡ true
 after-text line text n e same =
-    list_all-from_at is_blank (drop n line) (λ k. ap is_blank (at-drop n line k ∙ same (n + k) ∙ past text n k e))
+    list_all-from_at is_blank (drop n line)
+      (λ k. ap is_blank (at-drop n line k ∙ same (n + k) ∙ past text n k e))
   where
     past : (text : List ℕ) (n k : ℕ) → length text ≡ n → at text (n + k) ≡ 32
     past text n k e = ap (λ t. at t (n + k)) (sym (append-nil text)) ∙ at-append_past text [] n k e
 
-row-chosen : (m : ℕ) (line name flags : List ℕ) (values : List (Option ℤ)) → list_all is_blank (drop (16 * m + 3) line)
+row-chosen : (m : ℕ) (line name flags : List ℕ) (values : List (Option ℤ))
+  → list_all is_blank (drop (16 * m + 3) line)
     ≡ true → flags_in m line ≡ flags → list_all is_kept flags ≡ true → columns line 1 3 ≡ name
     → row_with m line (Some values) ≡ Ok (record { name = name; values = values; flags = flags })
 row-chosen m line name flags values blank found kept named = rw (blank, found, kept, named) refl
 
 row-of_text : (types : List Count) (row : Row) (line : List ℕ) → IsSoundRow row → HasItsTypes types row
-    → ((p : ℕ) → at line p ≡ at (row.name ++ printed_cells row.values row.flags) p) → row_of types line ≡ Ok row
+    → ((p : ℕ) → at line p ≡ at (row.name ++ printed_cells row.values row.flags) p)
+      → row_of types line ≡ Ok row
 row-of_text types row line h typed same =
     let three : length row.name ≡ 3 = name-length row h in
     let named : columns line 1 3 ≡ row.name = columns-are line 1 3 row.name three (λ p less.
@@ -241,9 +262,11 @@ clock-width : (clock : Option ℤ) → IsClockOffset clock → length (clock_tex
 clock-width clock h = decimal-width CLOCK_WIDTH CLOCK_DECIMALS (clock_text clock) clock (clock-back clock h)
 
 -- an epoch line's columns
-pub length-head : (head : ObservationHead) → IsObservationHead head → length (head.head ++ clock_text head.clock) ≡ 56
+pub length-head : (head : ObservationHead) → IsObservationHead head
+  → length (head.head ++ clock_text head.clock) ≡ 56
 length-head head h =
-    let all : length (head.head ++ clock_text head.clock) ≡ length head.head + length (clock_text head.clock) =
+    let all : length (head.head ++ clock_text head.clock) ≡ length head.head + length (clock_text head.clock)
+      =
     length-append head.head (clock_text head.clock) in
     let wide : length head.head ≡ 41 = h.width in
     let reads : length (clock_text head.clock) ≡ 15 = clock-width head.clock h.ranged in
@@ -294,7 +317,8 @@ row-begins : (row : Row) → IsSoundRow row → begins_epoch (printed_row row) �
 row-begins row h =
     let three : length row.name ≡ 3 = name-length row h in
     let rest =
-    (and_parts (length row.name == 3) (is_system (character_at row.name 1) && has_number row.name) h.named).1 in
+    (and_parts (length row.name == 3) (is_system (character_at row.name 1) && has_number row.name) h.named).1
+      in
     let system : is_system (character_at row.name 1) ≡ true =
     (and_parts (is_system (character_at row.name 1)) (has_number row.name) rest).0 in
     ap (λ c. c == 62) (at-without_end_blanks (row.name ++ printed_cells row.values row.flags) 0
@@ -306,7 +330,8 @@ row-new : (rows : List Row) (row : Row) (rest : List Row)
     → are_different (rows ++ row ∷ rest) ≡ true → has_satellite row.name rows ≡ false
 row-new [] row rest h = refl
 row-new (r ∷ rows) row rest h =
-    let parts = and_parts (not (has_satellite r.name (rows ++ row ∷ rest))) (are_different (rows ++ row ∷ rest)) h in
+    let parts = and_parts (not (has_satellite r.name (rows ++ row ∷ rest)))
+      (are_different (rows ++ row ∷ rest)) h in
     let none : has_satellite r.name (rows ++ row ∷ rest) ≡ false =
     not-true (has_satellite r.name (rows ++ row ∷ rest)) parts.0 in
     let apart = or_parts (has_satellite r.name rows) (has_satellite r.name (row ∷ rest))
@@ -325,9 +350,11 @@ next-read so_far row h typed new =
 
 row-then : (so_far : OpenEpoch) (row : Row) (count : ℕ) (line : List ℕ) (lines : List ReadLine)
     → next_row so_far line ≡ Ok row
-    → rows_at so_far (suc count) (Content line ∷ lines) ≡ after_lines 1 (rows_at (with_next_row so_far row) count lines)
+    → rows_at so_far (suc count) (Content line ∷ lines)
+      ≡ after_lines 1 (rows_at (with_next_row so_far row) count lines)
 row-then so_far row count line lines e = ap (λ r.
-    then_place (one_line r) (Content line ∷ lines) (λ next rest. rows_at (with_next_row so_far next) count rest)) e
+    then_place (one_line r) (Content line ∷ lines)
+      (λ next rest. rows_at (with_next_row so_far next) count rest)) e
 
 -- the epoch with more rows
 abbrev with_rows : OpenEpoch → List Row → OpenEpoch
@@ -359,17 +386,21 @@ epoch-begun : (types : List Count) (line : List ℕ) (head : ObservationHead) (l
     → beginning_of line ≡ Ok (EpochBegins head)
     → epoch_place types (Content line ∷ lines) ≡ after_lines 1
     (then_place (rest_at (opened types head) lines) lines (λ epoch rest. Here (Observation epoch) 0))
-epoch-begun types line head lines e = ap (λ r. then_place (one_line r) (Content line ∷ lines) (unit_begun types)) e
+epoch-begun types line head lines e =
+  ap (λ r. then_place (one_line r) (Content line ∷ lines) (unit_begun types)) e
 
 pub epoch-back : (types : List Count) (epoch : Epoch) (lines : List ReadLine) → IsWholeEpoch types epoch
-    → epoch_place types (map Content (printed_epoch epoch) ++ lines) ≡ Here (Observation epoch) (length epoch.rows + 1)
+    → epoch_place types (map Content (printed_epoch epoch) ++ lines) ≡ Here (Observation epoch)
+      (length epoch.rows + 1)
 epoch-back types epoch lines h =
-    let head : ObservationHead = record { head = epoch.head; count = satellites_of epoch.head; clock = epoch.clock } in
+    let head : ObservationHead =
+      record { head = epoch.head; count = satellites_of epoch.head; clock = epoch.clock } in
     let line : List ℕ = printed_head epoch.head epoch.clock in
     let rest : List ReadLine = map Content (map printed_row epoch.rows) ++ lines in
     let begins : beginning_of (printed_head epoch.head epoch.clock) ≡ Ok (EpochBegins head) =
     ap (begun_by (printed_head epoch.head epoch.clock)) (head-back head h.sound.head_sound) in
-    let wanted : rows_wanted (opened types head) ≡ length epoch.rows = (let full = h.full in omega (arith, full)) in
+    let wanted : rows_wanted (opened types head) ≡ length epoch.rows =
+      (let full = h.full in omega (arith, full)) in
     let read : rest_at (opened types head) (map Content (map printed_row epoch.rows) ++ lines)
     ≡ Here epoch (length epoch.rows) =
     ap (λ n. rows_at (opened types head) n (map Content (map printed_row epoch.rows) ++ lines)) wanted

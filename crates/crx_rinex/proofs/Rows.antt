@@ -1,5 +1,6 @@
 -- Rows of different satellites, one after another.
-use Rattle.std.proofs.Common.{◌≡◌, ℕ, ◌+◌, ◌<◌, ◌≤◌, Bool, true, false, ◌&&◌, List, [], ◌∷◌, ◌++◌, length, take, map}
+use Rattle.std.proofs.Common.{◌≡◌, ℕ, ◌+◌, ◌<◌, ◌≤◌, Bool, true, false, ◌&&◌, List, [], ◌∷◌, ◌++◌, length}
+use Rattle.std.proofs.Common.{take, map}
 use Rattle.std.proofs.Common.{refl, ap, sym, ◌∙◌, inl, inr, arith, Option, Some, None, unwrap_or, cond, leb}
 use Rattle.std.specs.List.{list_all}
 use Rattle.std.specs.Option.{option_and_then}
@@ -12,7 +13,8 @@ use Rattle.std.proofs.lemmas.List.Elements.{All-push}
 use Rattle.crx_text.specs.meaning.Texts.{is_kept}
 use Rattle.crx_rinex.specs.meaning.Observations.{Row, Epoch}
 use Rattle.crx_rinex.specs.meaning.EpochLines.{ObservationHead}
-use Rattle.crx_header.specs.meaning.EpochColumns.{satellites_of, count_within_limit, begins_epoch, is_observation_flag}
+use Rattle.crx_header.specs.meaning.EpochColumns.{satellites_of, count_within_limit, begins_epoch}
+use Rattle.crx_header.specs.meaning.EpochColumns.{is_observation_flag}
 use Rattle.crx_rinex.specs.meaning.Epochs.{has_satellite, IsSoundEpoch}
 use Rattle.crx_header.specs.meaning.Satellites.{is_among}
 use Rattle.crx_rinex.specs.Epochs.{with_row, is_full_epoch, AreEpochParts}
@@ -21,7 +23,8 @@ use Rattle.crx_header.proofs.Apart.{among-map, apart-push}
 
 -- an epoch that isn't full stays sound with a new satellite's row
 pub sound-with_row : (epoch : Epoch) (row : Row) → IsSoundEpoch epoch → IsSoundRow row
-    → is_full_epoch epoch ≡ false → has_satellite row.name epoch.rows ≡ false → IsSoundEpoch (with_row epoch row)
+    → is_full_epoch epoch ≡ false → has_satellite row.name epoch.rows ≡ false
+      → IsSoundEpoch (with_row epoch row)
 sound-with_row epoch row h sound room new =
     let full : length epoch.rows ≡ satellites_of epoch.head
     → ⊥ = eqb-false (length epoch.rows) (satellites_of epoch.head) room in
@@ -33,7 +36,8 @@ sound-with_row epoch row h sound room new =
       within = omega (arith, length_push epoch.rows row);
     }
 
-few : (b : Bool) (o : Option ℕ) → unwrap_or (cond b (option_and_then count_within_limit o) None) 0 ≤ SATELLITES_LIMIT
+few : (b : Bool) (o : Option ℕ)
+  → unwrap_or (cond b (option_and_then count_within_limit o) None) 0 ≤ SATELLITES_LIMIT
 few true None = omega arith
 few true (Some n) =
     elim (cases_Bool (leb n SATELLITES_LIMIT)) [
@@ -44,7 +48,8 @@ few false o = omega arith
 
 -- columns announce no more satellites than the limit
 pub satellites_few : (head : List ℕ) → satellites_of head ≤ SATELLITES_LIMIT
-satellites_few head = few (begins_epoch head && is_observation_flag (character_at head 32) && list_all is_kept head)
+satellites_few head = few
+  (begins_epoch head && is_observation_flag (character_at head 32) && list_all is_kept head)
     (number_in (columns head 33 3))
 
 -- an epoch that isn't full has fewer rows than the limit

@@ -1,5 +1,6 @@
 -- What follows from how a run ended.
-use Rattle.std.proofs.Common.{◌≡◌, ◌⊎◌, inl, inr, ℕ, ◌+◌, ◌≤◌, Bool, true, List, [], ◌++◌, length, Option, Some}
+use Rattle.std.proofs.Common.{◌≡◌, ◌⊎◌, inl, inr, ℕ, ◌+◌, ◌≤◌, Bool, true, List, [], ◌++◌, length, Option}
+use Rattle.std.proofs.Common.{Some}
 use Rattle.std.proofs.Common.{None, refl, sym, ap, subst, ◌∙◌, arith, append-nil, length-append}
 use Rattle.crx_lines.proofs.DeviceLemmas.{failures-of}
 use Rattle.crx_lines.specs.meaning.Devices.{Tally, with_flush}
@@ -22,7 +23,8 @@ use Rattle.crx_runs.specs.meaning.Spans.{Device, TookAll, Input}
 use Rattle.crx_runs.specs.Running.{WorkEnds, EndedByFault, EndsAt}
 use Rattle.crx_runs.specs.Endings.{Finishes, IsReported, IsFlushed, FlushFailed}
 use Rattle.crx_runs.proofs.Salvaged.{none-failed, asked-once, asked-stopped}
-use Rattle.crx_runs.proofs.RunEndings.{line-stands, end-stands, reader-stands, start-stands, flush-stands, well-front}
+use Rattle.crx_runs.proofs.RunEndings.{line-stands, end-stands, reader-stands, start-stands, flush-stands}
+use Rattle.crx_runs.proofs.RunEndings.{well-front}
 use Rattle.crx_runs.specs.Lawful.{IsLawful}
 use Rattle.crx_runs.specs.Runs.{result_by}
 use Rattle.crx_runs.specs.meaning.Runs.{IsResult, NoneFailed, FaultIs, RunsAs}
@@ -38,7 +40,8 @@ module _ (first second both : Device) (joined : (xs ys : List ℕ)
 
 -- the lines of what was read come first in every input that begins with what was given
 pub first-lines : (input : Input) (now : ReaderState) (lines : List InputLine)
-    (h : HasRead input.gave input.at_end input.start input.counted now lines) → (now.phase ≡ Open) ⊎ (now.phase ≡ Ended)
+    (h : HasRead input.gave input.at_end input.start input.counted now lines)
+      → (now.phase ≡ Open) ⊎ (now.phase ≡ Ended)
     → (rest : List ℕ) → (input.at_end → rest ≡ [])
     → (more : List InputLine) × (lines_of (h.given ++ rest) ≡ lines ++ more)
 first-lines input now lines h (inl e) rest none =
@@ -57,13 +60,15 @@ pub all-lines : (input : Input) (now : ReaderState) (lines : List InputLine)
     → (rest : List ℕ) → (input.at_end → rest ≡ []) → lines_of (h.given ++ rest) ≡ lines
 all-lines input now lines h e rest none =
     let o = HasRead-ended input.gave input.at_end input.start input.counted now lines h e in
-    ap (λ (x : List ℕ). lines_of (h.given ++ x)) (none o.reported) ∙ ap lines_of (append-nil h.given) ∙ sym o.all
+    ap (λ (x : List ℕ). lines_of (h.given ++ x)) (none o.reported) ∙ ap lines_of (append-nil h.given)
+      ∙ sym o.all
 
 status-good : (course : Course)
     → course.fault ≡ None → status_after course.warnings course.fault ≡ good_status (are_some course.warnings)
 status-good course is = ap (status_after course.warnings) is
 
-status-bad : (course : Course) (at : At) → course.fault ≡ Some at → status_after course.warnings course.fault ≡ 1
+status-bad : (course : Course) (at : At) → course.fault ≡ Some at
+  → status_after course.warnings course.fault ≡ 1
 status-bad course at is = ap (status_after course.warnings) is
 
 -- ---- a whole run
@@ -79,7 +84,8 @@ module _ (filter : Filter) (lawful : IsLawful filter)
     (mjoined : (xs ys : List ℕ) → messages1.took xs → messages2.took ys → messages.took (xs ++ ys)) where
   -- a course with a fault that was written, flushed and reported
   whole-bad : (course : Course) (at : At) (status : ℕ) (fault : Option At)
-      → course.fault ≡ Some at → TookAll writer1 course.output → TookAll messages1 (notices_text course.warnings)
+      → course.fault ≡ Some at → TookAll writer1 course.output
+        → TookAll messages1 (notices_text course.warnings)
       → writer2.took [] → TookAll messages2 (error_text (Some at))
       → fault ≡ Some at → status ≡ 1 → IsResult (result_of_course course) writer messages status fault
   whole-bad course at status fault bad wrote warned flushed reported is one = record {
@@ -138,7 +144,8 @@ module _ (filter : Filter) (lawful : IsLawful filter)
   -- what a line, or the end, ended the run with, where no device failed and memory didn't run out
   ends-whole : (can : Option (List At)) (number : ℕ)
       (before course all : Course) (halt : Halt) (last : ℕ) (warned : Bool) (status : ℕ) (fault : Option At)
-      → ((at : At) → course.fault ≡ Some at → all ≡ course) → EndsAt can number writer1 messages1 before course halt
+      → ((at : At) → course.fault ≡ Some at → all ≡ course)
+        → EndsAt can number writer1 messages1 before course halt
       → Finishes writer2 messages2 last warned (Some halt) status fault
       → NoneFailed writer.before.failures writer.after.failures
       → NoneFailed messages.before.failures messages.after.failures
@@ -179,7 +186,8 @@ module _ (filter : Filter) (lawful : IsLawful filter)
   stopped-none : (f : Fault) (given : List ℕ) (lines : List InputLine) (rest : List ℕ)
       → IsStopped f input.start input.counted given lines → length (given ++ rest) ≤ INPUT_LIMIT
       → NoneFailed input.start.failures input.counted.failures → ⊥
-  stopped-none InputTooLong given lines rest s within none = omega (arith, s.0, within, length-append given rest)
+  stopped-none InputTooLong given lines rest s within none =
+    omega (arith, s.0, within, length-append given rest)
   stopped-none ReadFailed given lines rest s within none =
       omega (arith, ap (λ (t : Tally). t.failures) s.2, none.0, none.1)
   stopped-none _ given lines rest s within none = s
@@ -204,7 +212,8 @@ module _ (filter : Filter) (lawful : IsLawful filter)
 
   -- a fault of the reader is the run's
   reader-fault : (at : At) (stop : Halt) (last : ℕ) (warned : Bool) (status : ℕ) (fault : Option At)
-      → stop ≡ halt.Fault at → Finishes writer2 messages2 last warned (Some stop) status fault → fault ≡ Some at
+      → stop ≡ halt.Fault at → Finishes writer2 messages2 last warned (Some stop) status fault
+        → fault ≡ Some at
   reader-fault at stop last warned status fault is finished =
       let f : Finishes writer2 messages2 last warned (Some (halt.Fault at)) status fault =
       subst (λ (h : Halt). Finishes writer2 messages2 last warned (Some h) status fault) is finished in
@@ -219,28 +228,34 @@ module _ (filter : Filter) (lawful : IsLawful filter)
   reader-none _ given lines s other = absurd s
 
   pub runs-as : (has_ended : List InputLine
-      → Type 0) (now : ReaderState) (last : ℕ) (warned : Bool) (halt : Option Halt) (status : ℕ) (fault : Option At)
+      → Type 0) (now : ReaderState) (last : ℕ) (warned : Bool) (halt : Option Halt) (status : ℕ)
+        (fault : Option At)
       → WorkEnds filter has_ended input writer1 messages1 now last warned halt
       → Finishes writer2 messages2 last warned halt status fault
-      → (given : List ℕ) × input.gave given × RunsAs (result_by filter) filter input given writer messages status fault
+      → (given : List ℕ) × input.gave given
+        × RunsAs (result_by filter) filter input given writer messages status fault
       × (fault ≡ None → has_ended (lines_of given))
   runs-as has_ended now last warned None status None done finished =
       let h = done.read in
-      let over = HasRead-ended input.gave input.at_end input.start input.counted now done.lines h done.ended in
+      let over = HasRead-ended input.gave input.at_end input.start input.counted now done.lines h done.ended
+        in
       let course = filter.whole done.lines in
-      let whole = whole-good course status None done.good done.wrote done.reported finished.0.0 finished.1.0 refl
+      let whole = whole-good course status None done.good done.wrote done.reported finished.0.0 finished.1.0
+        refl
       (finished.2 ∙ ap good_status done.flag) in (
         h.given,
         h.lead,
         record {
           whole = λ rn wn mn memory (rest : List ℕ) none within.
-              subst (λ (ls : List InputLine). IsResult (result_of_course (filter.whole ls)) writer messages status None)
+              subst (λ (ls : List InputLine). IsResult (result_of_course (filter.whole ls)) writer messages
+                status None)
               (sym (all-lines input now done.lines h done.ended rest none)) whole;
           ended = λ at is. absurd (no-fault at None is refl);
           asked = inr (ap (λ (t : Tally). t.ends) over.counts);
           read = λ other. ap (λ (t : Tally). t.failures) over.counts;
           front = well-front filter lawful input writer1 writer2 writer messages1 messages2 messages
-              wsame wstart wend wjoined wflushed msame mstart mend mjoined has_ended now last warned done finished.0.0;
+              wsame wstart wend wjoined wflushed msame mstart mend mjoined has_ended now last warned done
+                finished.0.0;
           flushed = λ e. wflushed finished.0.2;
           good = λ e. (
             over.reported,
@@ -256,7 +271,8 @@ module _ (filter : Filter) (lawful : IsLawful filter)
       )
   runs-as has_ended now last warned None status (Some at) done finished =
       let h = done.read in
-      let over = HasRead-ended input.gave input.at_end input.start input.counted now done.lines h done.ended in (
+      let over = HasRead-ended input.gave input.at_end input.start input.counted now done.lines h done.ended
+        in (
         h.given,
         h.lead,
         record {
@@ -274,18 +290,21 @@ module _ (filter : Filter) (lawful : IsLawful filter)
           good = λ e. absurd (no-fault at (Some at) refl e);
           flushed = λ e. absurd (no-fault at (Some at) refl e);
           ended = flush-stands filter lawful input writer1 writer2 writer messages1 messages2 messages wsame
-              wstart wend wjoined wflushed msame mstart mend mjoined has_ended now last warned status at done finished;
+              wstart wend wjoined wflushed msame mstart mend mjoined has_ended now last warned status at done
+                finished;
           asked = inr (ap (λ (t : Tally). t.ends) over.counts);
           read = λ other. ap (λ (t : Tally). t.failures) over.counts;
           front = well-front filter lawful input writer1 writer2 writer messages1 messages2 messages
-              wsame wstart wend wjoined wflushed msame mstart mend mjoined has_ended now last warned done finished.0.0;
+              wsame wstart wend wjoined wflushed msame mstart mend mjoined has_ended now last warned done
+                finished.0.0;
         },
         (λ e. absurd (no-fault at (Some at) refl e)),
       )
   runs-as has_ended now last warned (Some halt) status fault (inl s) finished =
       let h = s.stopped.read in
       let stopped =
-      HasRead-stopped input.gave input.at_end input.start input.counted now s.lines h s.at s.stopped.stopped in (
+      HasRead-stopped input.gave input.at_end input.start input.counted now s.lines h s.at s.stopped.stopped
+        in (
         h.given,
         h.lead,
         record {
@@ -294,12 +313,15 @@ module _ (filter : Filter) (lawful : IsLawful filter)
           good = λ e. absurd (never-good halt last warned status fault finished e);
           flushed = λ e. absurd (never-good halt last warned status fault finished e);
           ended = (reader-stands filter lawful input writer1 writer2 writer messages1 messages2 messages wsame
-              wstart wend wjoined wflushed msame mstart mend mjoined now last warned halt status fault s finished).0;
+              wstart wend wjoined wflushed msame mstart mend mjoined now last warned halt status fault s
+                finished).0;
           asked = asked-stopped input s.at.fault h.given s.lines stopped.0;
           read = λ other. reader-none s.at.fault h.given s.lines stopped.0 (λ f. other (subst
-              (FaultIs ReadFailed) (sym (reader-fault s.at halt last warned status fault s.halt_is finished)) f));
+              (FaultIs ReadFailed) (sym (reader-fault s.at halt last warned status fault s.halt_is finished))
+                f));
           front = (reader-stands filter lawful input writer1 writer2 writer messages1 messages2 messages wsame
-              wstart wend wjoined wflushed msame mstart mend mjoined now last warned halt status fault s finished).1;
+              wstart wend wjoined wflushed msame mstart mend mjoined now last warned halt status fault s
+                finished).1;
         },
         (λ e. absurd (never-good halt last warned status fault finished e)),
       )
@@ -311,18 +333,21 @@ module _ (filter : Filter) (lawful : IsLawful filter)
         record {
           whole = λ rn wn mn memory (rest : List ℕ) none within.
               let first = first-lines input now next h s.ends.going rest none in
-              ends-whole (filter.memory_after s.lines s.ends.line) (length s.lines + 1) (filter.so_far s.lines)
+              ends-whole (filter.memory_after s.lines s.ends.line) (length s.lines + 1)
+                (filter.so_far s.lines)
               (filter.so_far next) (filter.whole (lines_of (h.given ++ rest))) halt last warned status fault
               (λ (at : At) bad. ap filter.whole first.1
               ∙ lawful.decided next first.0 at bad) s.ends.ends finished wn mn memory;
           good = λ e. absurd (never-good halt last warned status fault finished e);
           flushed = λ e. absurd (never-good halt last warned status fault finished e);
           ended = (line-stands filter lawful input writer1 writer2 writer messages1 messages2 messages wsame
-              wstart wend wjoined wflushed msame mstart mend mjoined now last warned halt status fault s finished).0;
+              wstart wend wjoined wflushed msame mstart mend mjoined now last warned halt status fault s
+                finished).0;
           asked = asked-once input now next h s.ends.going;
           read = λ other. none-failed input now next h s.ends.going;
           front = (line-stands filter lawful input writer1 writer2 writer messages1 messages2 messages wsame
-              wstart wend wjoined wflushed msame mstart mend mjoined now last warned halt status fault s finished).1;
+              wstart wend wjoined wflushed msame mstart mend mjoined now last warned halt status fault s
+                finished).1;
         },
         (λ e. absurd (never-good halt last warned status fault finished e)),
       )
@@ -339,11 +364,13 @@ module _ (filter : Filter) (lawful : IsLawful filter)
           good = λ e. absurd (never-good halt last warned status fault finished e);
           flushed = λ e. absurd (never-good halt last warned status fault finished e);
           ended = (end-stands filter lawful input writer1 writer2 writer messages1 messages2 messages wsame
-              wstart wend wjoined wflushed msame mstart mend mjoined now last warned halt status fault s finished).0;
+              wstart wend wjoined wflushed msame mstart mend mjoined now last warned halt status fault s
+                finished).0;
           asked = asked-once input now s.lines h (inr s.ended);
           read = λ other. none-failed input now s.lines h (inr s.ended);
           front = (end-stands filter lawful input writer1 writer2 writer messages1 messages2 messages wsame
-              wstart wend wjoined wflushed msame mstart mend mjoined now last warned halt status fault s finished).1;
+              wstart wend wjoined wflushed msame mstart mend mjoined now last warned halt status fault s
+                finished).1;
         },
         (λ e. absurd (never-good halt last warned status fault finished e)),
       )
@@ -356,11 +383,13 @@ module _ (filter : Filter) (lawful : IsLawful filter)
       good = λ e. absurd (never-good halt last warned status fault finished e);
       flushed = λ e. absurd (never-good halt last warned status fault finished e);
       ended = (start-stands filter lawful input writer1 writer2 writer messages1 messages2 messages
-          wsame wstart wend wjoined wflushed msame mstart mend mjoined last warned halt status fault s finished).0;
+          wsame wstart wend wjoined wflushed msame mstart mend mjoined last warned halt status fault s
+            finished).0;
       asked = inl (ap (λ (t : Tally). t.ends) s.counts);
       read = λ other. ap (λ (t : Tally). t.failures) s.counts;
       front = (start-stands filter lawful input writer1 writer2 writer messages1 messages2 messages
-          wsame wstart wend wjoined wflushed msame mstart mend mjoined last warned halt status fault s finished).1;
+          wsame wstart wend wjoined wflushed msame mstart mend mjoined last warned halt status fault s
+            finished).1;
     },
     (λ e. absurd (never-good halt last warned status fault finished e)),
   )
@@ -371,10 +400,12 @@ module _ (filter : Filter) (lawful : IsLawful filter)
       → stop ≡ Some (halt.Fault (record { line = 0; fault = OutOfMemory }))
       → last ≡ 0 → input.gave [] → input.counted ≡ input.start
       → TookAll writer1 [] → TookAll messages1 [] → Finishes writer2 messages2 last warned stop status fault
-      → (given : List ℕ) × input.gave given × RunsAs (result_by filter) filter input given writer messages status fault
+      → (given : List ℕ) × input.gave given
+        × RunsAs (result_by filter) filter input given writer messages status fault
       × (fault ≡ None → has_ended (lines_of given))
   runs-nothing has_ended last warned stop status fault is none gave counts wrote reported finished =
-      runs-as has_ended (record { rest = []; passed = 0; number = 0; phase = Open }) last warned stop status fault
+      runs-as has_ended (record { rest = []; passed = 0; number = 0; phase = Open }) last warned stop status
+        fault
       (subst (λ (h : Option Halt). WorkEnds filter has_ended input writer1 messages1
       (record { rest = []; passed = 0; number = 0; phase = Open }) last warned h) (sym is)
       (inr (inr (inr (record {

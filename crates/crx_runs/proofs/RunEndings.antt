@@ -1,5 +1,6 @@
 -- What is after a run, by how its work ended and how it was finished.
-use Rattle.std.proofs.Common.{◌≡◌, ◌⊎◌, inl, inr, ℕ, ◌+◌, Bool, true, List, [], ◌++◌, length, take, Option, Some, None}
+use Rattle.std.proofs.Common.{◌≡◌, ◌⊎◌, inl, inr, ℕ, ◌+◌, Bool, true, List, [], ◌++◌, length, take, Option}
+use Rattle.std.proofs.Common.{Some, None}
 use Rattle.std.proofs.Common.{refl, sym, ap, subst, ◌∙◌, append-nil}
 use Rattle.crx_lines.specs.meaning.Devices.{with_failed_flush, with_failed_write, with_flush}
 use Rattle.crx_base.specs.meaning.Lines.{InputLine, lines_of}
@@ -7,7 +8,8 @@ use Rattle.crx_lines.specs.Reading.{ReaderState}
 use Rattle.crx_lines.specs.Progress.{IsStopped}
 use Rattle.crx_base.specs.declared.fault.At.{At}
 use Rattle.crx_base.specs.declared.fault.Fault.{Fault}
-use Rattle.crx_base.specs.declared.fault.Fault.TheVariants.{InputTooLong, ReadFailed, WriteFailed, OutOfMemory}
+use Rattle.crx_base.specs.declared.fault.Fault.TheVariants.{InputTooLong, ReadFailed, WriteFailed}
+use Rattle.crx_base.specs.declared.fault.Fault.TheVariants.{OutOfMemory}
 use Rattle.crx_lines.proofs.ProgressLemmas.{HasRead-stopped}
 use Rattle.crx_runs.specs.declared.taking.Halt.{Halt}
 use Rattle.crx_runs.specs.declared.taking.Halt.TheVariants as halt
@@ -15,19 +17,23 @@ use Rattle.crx_runs.specs.meaning.Results.{Course}
 use Rattle.crx_runs.specs.meaning.Filters.{Filter, with_next}
 use Rattle.crx_runs.specs.meaning.Messages.{error_text, notices_text}
 use Rattle.crx_runs.specs.meaning.Spans.{Device, TookAll, AreNext, Input, IsPart}
-use Rattle.crx_runs.specs.Running.{EndsAt, WellDone, StoppedByReader, StoppedByLine, StoppedByEnd, StoppedAtStart}
+use Rattle.crx_runs.specs.Running.{EndsAt, WellDone, StoppedByReader, StoppedByLine, StoppedByEnd}
+use Rattle.crx_runs.specs.Running.{StoppedAtStart}
 use Rattle.crx_runs.specs.Endings.{Finishes, IsReported, IsFlushed, FlushFailed, write_failed_at}
 use Rattle.crx_runs.specs.Lawful.{IsLawful, is_of_lines}
-use Rattle.crx_runs.specs.meaning.Interruptions.{complete_lines, IsTurn, IsWritten, AreReported, NoMemoryAtLine, FaultFound}
+use Rattle.crx_runs.specs.meaning.Interruptions.{complete_lines, IsTurn, IsWritten, AreReported}
+use Rattle.crx_runs.specs.meaning.Interruptions.{NoMemoryAtLine, FaultFound}
 use Rattle.crx_runs.specs.meaning.Interruptions.{Stands, IsFrontPart}
 use Rattle.crx_runs.proofs.TakingTwice.{all-all}
 use Rattle.crx_runs.proofs.RunningSteps.{took-same, took-part}
-use Rattle.crx_runs.proofs.Salvaged.{complete-stopped, all-read, all-of, taken-read, begins-itself, begins-taken}
+use Rattle.crx_runs.proofs.Salvaged.{complete-stopped, all-read, all-of, taken-read, begins-itself}
+use Rattle.crx_runs.proofs.Salvaged.{begins-taken}
 use Rattle.crx_runs.proofs.Salvaged.{first-whole, first-after-turn, first-before-turn, first-complete}
 
 -- a part that was taken, and nothing after it
 pub part-still : (first second both : Device)
-    (same : second.before ≡ first.after) (start : both.before ≡ first.before) (end : both.after ≡ second.after)
+    (same : second.before ≡ first.after) (start : both.before ≡ first.before)
+      (end : both.after ≡ second.after)
     (joined : (xs ys : List ℕ) → first.took xs → second.took ys → both.took (xs ++ ys))
     (xs all : List ℕ) → IsPart first xs all → TookAll second [] → IsPart both xs all
 part-still first second both same start end joined xs all a b = record {
@@ -61,7 +67,8 @@ module _ (filter : Filter) (lawful : IsLawful filter)
 
   -- ---- devices
 
-  written : (text : List ℕ) → TookAll writer1 text → IsFlushed writer2 ⊎ FlushFailed writer2 → IsWritten writer text
+  written : (text : List ℕ) → TookAll writer1 text → IsFlushed writer2 ⊎ FlushFailed writer2
+    → IsWritten writer text
   written text a (inl b) = (
     subst writer.took (append-nil text) (wjoined text [] a.0 b.0),
     inl (wend ∙ b.1 ∙ ap with_flush (wsame ∙ a.1 ∙ sym wstart), wflushed b.2),
@@ -86,7 +93,8 @@ module _ (filter : Filter) (lawful : IsLawful filter)
   -- ---- a line, or the end
 
   module _ (given : List ℕ) (before after : Course)
-      (last : ℕ) (turn : IsTurn filter input given before after last) (can : Option (List At)) (number : ℕ) where
+      (last : ℕ) (turn : IsTurn filter input given before after last) (can : Option (List At))
+        (number : ℕ) where
     found-stands : (f : Fault) (at : At) → is_of_lines f ≡ true
         → FaultFound filter input given writer messages at → Stands filter input given writer messages at f
     found-stands InputTooLong at e r = absurd (cc)
@@ -97,7 +105,8 @@ module _ (filter : Filter) (lawful : IsLawful filter)
 
     pub turn-stands : (halt : Halt) (warned : Bool) (status : ℕ) (fault : Option At)
         → ((at : At) (notices : List At) → can ≡ Some notices → at.line ≡ number → (notices ≡ []) ⊎ AreNext
-        before after notices → IsWritten writer before.output → AreReported messages (before.warnings ++ notices) at
+        before after notices → IsWritten writer before.output
+          → AreReported messages (before.warnings ++ notices) at
         → NoMemoryAtLine filter input given writer messages at)
         → ((at : At) → after.fault ≡ Some at → is_of_lines at.fault ≡ true)
         → EndsAt can number writer1 messages1 before after halt
@@ -106,7 +115,8 @@ module _ (filter : Filter) (lawful : IsLawful filter)
       finished.3,
       one-fault (λ (a : At). Stands filter input given writer messages a a.fault) at other fault finished.2
           (subst (λ f. Stands filter input given writer messages at f) (sym ran.fault)
-          (inr (memory at ran.notices ran.allowed ran.place ran.next (written before.output ran.wrote finished.0)
+          (inr (memory at ran.notices ran.allowed ran.place ran.next
+            (written before.output ran.wrote finished.0)
           (reported (before.warnings ++ ran.notices) at ran.reported finished.1))))
           is,
     )
@@ -158,7 +168,8 @@ module _ (filter : Filter) (lawful : IsLawful filter)
 
     pub turn-front : (halt : Halt) (warned : Bool) (status : ℕ) (fault : Option At)
         → EndsAt can number writer1 messages1 before after halt
-        → Finishes writer2 messages2 last warned (Some halt) status fault → IsFrontPart filter input given writer
+        → Finishes writer2 messages2 last warned (Some halt) status fault
+          → IsFrontPart filter input given writer
     turn-front (halt.Fault at) warned status fault (inl ran) finished = record {
       written = before.output;
       wrote = was-taken before.output (written before.output ran.wrote finished.0);
@@ -173,7 +184,8 @@ module _ (filter : Filter) (lawful : IsLawful filter)
     }
     turn-front halt.Unwritten warned status fault r finished =
         let part =
-        part-still writer1 writer2 writer wsame wstart wend wjoined before.output after.output r.wrote finished.0 in
+        part-still writer1 writer2 writer wsame wstart wend wjoined before.output after.output r.wrote
+          finished.0 in
         record {
           written = take part.count after.output;
           wrote = part.took;
@@ -191,7 +203,8 @@ module _ (filter : Filter) (lawful : IsLawful filter)
   -- ---- the work of a run
 
   pub line-stands : (now : ReaderState) (last : ℕ) (warned : Bool)
-      (halt : Halt) (status : ℕ) (fault : Option At) (s : StoppedByLine filter input writer1 messages1 now last halt)
+      (halt : Halt) (status : ℕ) (fault : Option At)
+        (s : StoppedByLine filter input writer1 messages1 now last halt)
       → Finishes writer2 messages2 last warned (Some halt) status fault
       → StandsAfter s.ends.read.given status fault × IsFrontPart filter input s.ends.read.given writer
   line-stands now last warned halt status fault s finished =
@@ -227,7 +240,8 @@ module _ (filter : Filter) (lawful : IsLawful filter)
       )
 
   pub end-stands : (now : ReaderState) (last : ℕ) (warned : Bool)
-      (halt : Halt) (status : ℕ) (fault : Option At) (s : StoppedByEnd filter input writer1 messages1 now last halt)
+      (halt : Halt) (status : ℕ) (fault : Option At)
+        (s : StoppedByEnd filter input writer1 messages1 now last halt)
       → Finishes writer2 messages2 last warned (Some halt) status fault
       → StandsAfter s.read.given status fault × IsFrontPart filter input s.read.given writer
   end-stands now last warned halt status fault s finished =
@@ -245,14 +259,16 @@ module _ (filter : Filter) (lawful : IsLawful filter)
         turn-stands h.given before after last turn None (length s.lines) halt warned status fault
             (λ at notices allowed place next-ones wrote reported. absurd (cc))
             (λ at bad. lawful.found_at_end s.lines at bad) s.ends finished,
-        turn-front h.given before after last turn None (length s.lines) halt warned status fault s.ends finished,
+        turn-front h.given before after last turn None
+          (length s.lines) halt warned status fault s.ends finished,
       )
 
   -- the reading stopped
   stopped-stands : (given : List ℕ) (lines : List InputLine) (f : Fault) (at : At)
       → IsStopped f input.start input.counted given lines → at.line ≡ length lines + 1
       → (filter.so_far lines).fault ≡ None → IsWritten writer (filter.so_far lines).output
-      → AreReported messages (filter.so_far lines).warnings at → Stands filter input given writer messages at f
+      → AreReported messages (filter.so_far lines).warnings at
+        → Stands filter input given writer messages at f
   stopped-stands given lines InputTooLong at s line good wrote reported =
       let same : lines ≡ complete_lines given = s.1 in
       record {
@@ -262,11 +278,13 @@ module _ (filter : Filter) (lawful : IsLawful filter)
           line = line ∙ ap (λ (ls : List InputLine). length ls + 1) same;
           good = subst (λ (ls : List InputLine). (filter.so_far ls).fault ≡ None) same good;
           wrote = subst (λ (ls : List InputLine). IsWritten writer (filter.so_far ls).output) same wrote;
-          reported = subst (λ (ls : List InputLine). AreReported messages (filter.so_far ls).warnings at) same reported;
+          reported = subst (λ (ls : List InputLine). AreReported messages (filter.so_far ls).warnings at) same
+            reported;
         };
       }
   stopped-stands given lines ReadFailed at s line good wrote reported =
-      let same : lines ≡ complete_lines given = complete-stopped given lines ReadFailed input.start input.counted s in
+      let same : lines ≡ complete_lines given =
+        complete-stopped given lines ReadFailed input.start input.counted s in
       record {
         counted = s.2;
         within = s.0;
@@ -274,13 +292,15 @@ module _ (filter : Filter) (lawful : IsLawful filter)
           line = line ∙ ap (λ (ls : List InputLine). length ls + 1) same;
           good = subst (λ (ls : List InputLine). (filter.so_far ls).fault ≡ None) same good;
           wrote = subst (λ (ls : List InputLine). IsWritten writer (filter.so_far ls).output) same wrote;
-          reported = subst (λ (ls : List InputLine). AreReported messages (filter.so_far ls).warnings at) same reported;
+          reported = subst (λ (ls : List InputLine). AreReported messages (filter.so_far ls).warnings at) same
+            reported;
         };
       }
   stopped-stands given lines _ at s line good wrote reported = absurd s
 
   pub reader-stands : (now : ReaderState) (last : ℕ) (warned : Bool)
-      (stop : Halt) (status : ℕ) (fault : Option At) (s : StoppedByReader filter input writer1 messages1 now last stop)
+      (stop : Halt) (status : ℕ) (fault : Option At)
+        (s : StoppedByReader filter input writer1 messages1 now last stop)
       → Finishes writer2 messages2 last warned (Some stop) status fault
       → StandsAfter s.stopped.read.given status fault × IsFrontPart filter input s.stopped.read.given writer
   reader-stands now last warned stop status fault s finishes =
@@ -289,14 +309,17 @@ module _ (filter : Filter) (lawful : IsLawful filter)
       let h = s.stopped.read in
       let course = filter.so_far s.lines in
       let stopped =
-      HasRead-stopped input.gave input.at_end input.start input.counted now s.lines h s.at s.stopped.stopped in
+      HasRead-stopped input.gave input.at_end input.start input.counted now s.lines h s.at s.stopped.stopped
+        in
       let wrote = written course.output s.stopped.wrote finished.0 in
       let reported = reported course.warnings s.at s.stopped.reported finished.1 in
       let same = complete-stopped h.given s.lines s.at.fault input.start input.counted stopped.0 in (
         (λ (other : At) is. (
           finished.3,
-          one-fault (λ (a : At). Stands filter input h.given writer messages a a.fault) s.at other fault finished.2
-              (stopped-stands h.given s.lines s.at.fault s.at stopped.0 stopped.1 s.stopped.good wrote reported) is,
+          one-fault (λ (a : At). Stands filter input h.given writer messages a a.fault) s.at other fault
+            finished.2
+              (stopped-stands h.given s.lines s.at.fault s.at stopped.0 stopped.1 s.stopped.good wrote
+                reported) is,
         )),
         record {
           written = course.output;
@@ -333,8 +356,10 @@ module _ (filter : Filter) (lawful : IsLawful filter)
 
   -- the flush alone failed
   pub flush-stands : (has_ended : List InputLine → Type 0) (now : ReaderState) (last : ℕ)
-      (warned : Bool) (status : ℕ) (at : At) (done : WellDone filter has_ended input writer1 messages1 now last warned)
-      → Finishes writer2 messages2 last warned None status (Some at) → StandsAfter done.read.given status (Some at)
+      (warned : Bool) (status : ℕ) (at : At)
+        (done : WellDone filter has_ended input writer1 messages1 now last warned)
+      → Finishes writer2 messages2 last warned None status (Some at)
+        → StandsAfter done.read.given status (Some at)
   flush-stands has_ended now last warned status at done finished other is =
       let h = done.read in
       let all = all-read input now done.lines h done.ended in
@@ -351,7 +376,8 @@ module _ (filter : Filter) (lawful : IsLawful filter)
               line = done.last_is ∙ ap length same;
               good = ap (λ (ls : List InputLine). (filter.whole ls).fault) (sym same) ∙ done.good;
               wrote = subst (λ (ls : List InputLine). writer.took (filter.whole ls).output) same
-                  (subst writer.took (append-nil course.output) (wjoined course.output [] done.wrote.0 flushed.0));
+                  (subst writer.took (append-nil course.output)
+                    (wjoined course.output [] done.wrote.0 flushed.0));
               counted = wend ∙ flushed.1 ∙ ap with_failed_flush (wsame ∙ done.wrote.1 ∙ sym wstart);
               reported = subst (λ (ls : List InputLine).
                   AreReported messages (filter.whole ls).warnings (write_failed_at last)) same reported;

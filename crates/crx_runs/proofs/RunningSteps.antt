@@ -1,5 +1,6 @@
 -- A run goes on by a line, or ends at it.
-use Rattle.std.proofs.Common.{◌≡◌, inl, inr, ℕ, ◌+◌, List, [], ◌∷◌, ◌++◌, length, take, Option, refl, sym, ap, subst}
+use Rattle.std.proofs.Common.{◌≡◌, inl, inr, ℕ, ◌+◌, List, [], ◌∷◌, ◌++◌, length, take, Option, refl, sym, ap}
+use Rattle.std.proofs.Common.{subst}
 use Rattle.std.proofs.Common.{◌∙◌}
 use Rattle.std.proofs.Common.{arith, append-nil, length-append}
 use Rattle.std.proofs.Math.Seq.{take-append-add}
@@ -17,10 +18,13 @@ use Rattle.crx_runs.proofs.TakingTwice.{notices-append, all-all}
 
 -- a device before a line (first), over the line (second), and over both
 module _ (first second both : Device)
-    (same : second.before ≡ first.after) (start : both.before ≡ first.before) (end : both.after ≡ second.after)
+    (same : second.before ≡ first.after) (start : both.before ≡ first.before)
+      (end : both.after ≡ second.after)
     (joined : (xs ys : List ℕ) → first.took xs → second.took ys → both.took (xs ++ ys)) where
-  pub took-more : (xs ys all : List ℕ) → TookAll first xs → TookAll second ys → all ≡ xs ++ ys → TookAll both all
-  took-more xs ys all a b is = subst (TookAll both) (sym is) (all-all first second both same start end joined xs ys a b)
+  pub took-more : (xs ys all : List ℕ) → TookAll first xs → TookAll second ys → all ≡ xs ++ ys
+    → TookAll both all
+  took-more xs ys all a b is =
+    subst (TookAll both) (sym is) (all-all first second both same start end joined xs ys a b)
 
   pub took-same : (xs all : List ℕ) → TookAll first xs → TookAll second [] → all ≡ xs → TookAll both all
   took-same xs all a b is = took-more xs [] all a b (is ∙ sym (append-nil xs))
@@ -51,11 +55,13 @@ module _ (before after : Course) (writer1 writer2 writer messages1 messages2 mes
     (msame : messages2.before ≡ messages1.after)
     (mstart : messages.before ≡ messages1.before) (mend : messages.after ≡ messages2.after)
     (mjoined : (xs ys : List ℕ) → messages1.took xs → messages2.took ys → messages.took (xs ++ ys))
-    (wrote : TookAll writer1 before.output) (reported : TookAll messages1 (notices_text before.warnings)) where
+    (wrote : TookAll writer1 before.output) (reported : TookAll messages1 (notices_text before.warnings))
+      where
   pub more-written : (text : List ℕ)
       → TookAll writer2 text → after.output ≡ before.output ++ text → TookAll writer after.output
   more-written text wrote2 is =
-      took-more writer1 writer2 writer wsame wstart wend wjoined before.output text after.output wrote wrote2 is
+      took-more writer1 writer2 writer wsame wstart wend wjoined before.output text after.output wrote wrote2
+        is
 
   same-written : (output : List ℕ) → TookAll writer2 [] → output ≡ before.output → TookAll writer output
   same-written output wrote2 is =
@@ -68,7 +74,8 @@ module _ (before after : Course) (writer1 writer2 writer messages1 messages2 mes
       (notices_text notices) (notices_text all) reported told2 (warnings-text before.warnings notices all is)
 
   pub ends-at : (memory : Option (List At)) (number : ℕ) (halt : Halt)
-      → IsCut before after memory number writer2 messages2 halt → EndsAt memory number writer messages before after halt
+      → IsCut before after memory number writer2 messages2 halt
+        → EndsAt memory number writer messages before after halt
   ends-at memory number (Fault at) (notices, inl r) =
       inl (record {
         allowed = r.allowed;
@@ -100,6 +107,8 @@ module _ (before after : Course) (writer1 writer2 writer messages1 messages2 mes
       ∙ ap (λ (t : List ℕ). t ++ notices_text r.next.0) (notices-append before.warnings notices) in
       record {
         wrote = same-written before.output r.wrote refl;
-        reported = took-part messages1 messages2 messages msame mstart mend mjoined (notices_text before.warnings)
-            (notices_text notices) (notices_text r.next.0) (notices_text after.warnings) reported r.reported whole;
+        reported = took-part messages1 messages2 messages msame mstart mend mjoined
+          (notices_text before.warnings)
+            (notices_text notices) (notices_text r.next.0)
+              (notices_text after.warnings) reported r.reported whole;
       }

@@ -1,5 +1,6 @@
 -- What is after a run, by how it ended.
-use Rattle.std.proofs.Common.{◌≡◌, ◌⊎◌, inl, inr, ℕ, ◌≤◌, List, [], ◌∷◌, ◌++◌, length, take, drop, refl, sym, ap, subst}
+use Rattle.std.proofs.Common.{◌≡◌, ◌⊎◌, inl, inr, ℕ, ◌≤◌, List, [], ◌∷◌, ◌++◌, length, take, drop, refl, sym}
+use Rattle.std.proofs.Common.{ap, subst}
 use Rattle.std.proofs.Common.{◌∙◌, append-nil, append_assoc}
 use Rattle.std.proofs.lemmas.List.{take_all, take-append-drop}
 use Rattle.crx_lines.specs.meaning.Devices.{Tally, one_more}
@@ -33,7 +34,8 @@ all-read input now lines h e =
     record { reported = over.reported; within = over.within; same = sym over.all }
 
 pub taken-read : (input : Input) (now : ReaderState) (lines : List InputLine)
-    (h : HasRead input.gave input.at_end input.start input.counted now lines) → (now.phase ≡ Open) ⊎ (now.phase ≡ Ended)
+    (h : HasRead input.gave input.at_end input.start input.counted now lines)
+      → (now.phase ≡ Open) ⊎ (now.phase ≡ Ended)
     → AreTaken input h.given lines
 taken-read input now lines h (inl e) =
     let o : IsOpen input.start input.counted h.given now lines =
@@ -46,7 +48,8 @@ taken-read input now lines h (inl e) =
 taken-read input now lines h (inr e) = inr (all-read input now lines h e)
 
 pub none-failed : (input : Input) (now : ReaderState) (lines : List InputLine)
-    (h : HasRead input.gave input.at_end input.start input.counted now lines) → (now.phase ≡ Open) ⊎ (now.phase ≡ Ended)
+    (h : HasRead input.gave input.at_end input.start input.counted now lines)
+      → (now.phase ≡ Open) ⊎ (now.phase ≡ Ended)
     → input.counted.failures ≡ input.start.failures
 none-failed input now lines h (inl e) =
     let o : IsOpen input.start input.counted h.given now lines =
@@ -112,7 +115,8 @@ module _ (filter : Filter) (lawful : IsLawful filter) (input : Input) (given : L
       → AreTaken input given lines → Begins (filter.so_far lines).output written → IsFirst written
   first-taken lines written (inl t) begins =
       inl (begins-more _ (filter.so_far lines).output written (subst (λ (ls : List InputLine).
-      Begins (filter.so_far ls).output (filter.so_far lines).output) (sym t.1) (lawful.grows lines t.0)) begins)
+      Begins (filter.so_far ls).output (filter.so_far lines).output) (sym t.1) (lawful.grows lines t.0))
+        begins)
   first-taken lines written (inr t) begins =
       inr (
         t.reported,
@@ -122,11 +126,13 @@ module _ (filter : Filter) (lawful : IsLawful filter) (input : Input) (given : L
       )
 
   pub first-whole : (written : List ℕ)
-      → AreAll input given (lines_of given) → Begins (filter.whole (lines_of given)).output written → IsFirst written
+      → AreAll input given (lines_of given) → Begins (filter.whole (lines_of given)).output written
+        → IsFirst written
   first-whole written t begins = inr (t.reported, begins)
 
   pub first-before : (lines : List InputLine) (line : InputLine) (written : List ℕ)
-      → AreTaken input given (with_next lines line) → Begins (filter.so_far lines).output written → IsFirst written
+      → AreTaken input given (with_next lines line) → Begins (filter.so_far lines).output written
+        → IsFirst written
   first-before lines line written t begins =
       first-taken (with_next lines line) written t
       (begins-more _ (filter.so_far lines).output written (lawful.grows lines (line ∷ [])) begins)
@@ -143,11 +149,14 @@ module _ (filter : Filter) (lawful : IsLawful filter) (input : Input) (given : L
   pub first-before-turn : (before after : Course) (last : ℕ) (written : List ℕ)
       → IsTurn filter input given before after last → Begins before.output written → IsFirst written
   first-before-turn before after last written (inl t) begins =
-      first-before t.lines t.line written t.taken (subst (λ (c : Course). Begins c.output written) t.before_is begins)
+      first-before t.lines t.line written t.taken
+        (subst (λ (c : Course). Begins c.output written) t.before_is begins)
   first-before-turn before after last written (inr t) begins =
       first-taken (lines_of given) written
       (inr t.all) (subst (λ (c : Course). Begins c.output written) t.before_is begins)
 
-  pub first-complete : (lines : List InputLine) → lines ≡ complete_lines given → IsFirst (filter.so_far lines).output
+  pub first-complete : (lines : List InputLine) → lines ≡ complete_lines given
+    → IsFirst (filter.so_far lines).output
   first-complete lines same = inl (subst (λ (ls : List InputLine).
-      Begins (filter.so_far ls).output (filter.so_far lines).output) same (begins-itself (filter.so_far lines).output))
+      Begins (filter.so_far ls).output (filter.so_far lines).output) same
+        (begins-itself (filter.so_far lines).output))

@@ -12,7 +12,8 @@ use Rattle.crx_runs.proofs.StepReading.{ReadsLine}
 use Rattle.crx_runs.proofs.RunningSteps.{ends-at, more-written, more-reported}
 
 module _ (filter : Filter) (input then : Input)
-    (old new : ReaderState) (lines : List InputLine) (writer1 writer2 writer messages1 messages2 messages : Device)
+    (old new : ReaderState) (lines : List InputLine)
+      (writer1 writer2 writer messages1 messages2 messages : Device)
     (wsame : writer2.before ≡ writer1.after)
     (wstart : writer.before ≡ writer1.before) (wend : writer.after ≡ writer2.after)
     (wjoined : (xs ys : List ℕ) → writer1.took xs → writer2.took ys → writer.took (xs ++ ys))
@@ -36,11 +37,14 @@ module _ (filter : Filter) (input then : Input)
           read = read.read;
           going = read.going;
           good = done.adds.good;
-          wrote = more-written before after writer1 writer2 writer messages1 messages2 messages wsame wstart wend
-              wjoined msame mstart mend mjoined running.wrote running.reported done.text done.wrote done.adds.output;
+          wrote = more-written before after writer1 writer2 writer messages1 messages2 messages wsame wstart
+            wend
+              wjoined msame mstart mend mjoined running.wrote running.reported done.text done.wrote
+                done.adds.output;
           reported = more-reported before
               after writer1 writer2 writer messages1 messages2 messages wsame wstart wend wjoined msame mstart
-              mend mjoined running.wrote running.reported done.notices after.warnings done.reported done.adds.warnings;
+              mend mjoined running.wrote running.reported done.notices after.warnings done.reported
+                done.adds.warnings;
         };
         notices = done.notices;
         added = done.adds.warnings;
@@ -48,14 +52,17 @@ module _ (filter : Filter) (input then : Input)
       }
 
   pub ends-by : (halt : Halt) → IsCut (filter.so_far lines)
-      (filter.so_far (with_next lines line)) (filter.memory_after lines line) (length lines + 1) writer2 messages2 halt
+      (filter.so_far (with_next lines line)) (filter.memory_after lines line)
+        (length lines + 1) writer2 messages2 halt
       → EndsBy filter then writer messages new lines halt
   ends-by halt cut =
       record {
         line = line;
         read = read.read;
         going = read.going;
-        ends = ends-at (filter.so_far lines) (filter.so_far (with_next lines line)) writer1 writer2 writer messages1
-            messages2 messages wsame wstart wend wjoined msame mstart mend mjoined running.wrote running.reported
+        ends = ends-at (filter.so_far lines) (filter.so_far (with_next lines line)) writer1 writer2 writer
+          messages1
+            messages2 messages wsame wstart wend wjoined msame mstart mend mjoined running.wrote
+              running.reported
             (filter.memory_after lines line) (length lines + 1) halt cut;
       }

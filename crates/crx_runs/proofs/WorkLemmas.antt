@@ -1,5 +1,6 @@
 -- The work of a run, from line to line and at its end.
-use Rattle.std.proofs.Common.{◌≡◌, inl, inr, ℕ, Bool, ◌||◌, List, [], ◌∷◌, ◌++◌, length, Some, None, refl, sym, ap, ◌∙◌}
+use Rattle.std.proofs.Common.{◌≡◌, inl, inr, ℕ, Bool, ◌||◌, List, [], ◌∷◌, ◌++◌, length, Some, None, refl}
+use Rattle.std.proofs.Common.{sym, ap, ◌∙◌}
 use Rattle.std.proofs.Common.{arith, length-append}
 use Rattle.crx_base.specs.meaning.Lines.{InputLine}
 use Rattle.crx_lines.specs.Reading.{ReaderState}
@@ -24,11 +25,13 @@ flag-after before notices after warned warning w n is =
 
 -- the run goes on
 pub go-on : (filter : Filter) (shows : List InputLine → List Awaited → Type 0)
-    (input : Input) (writer messages : Device) (now : ReaderState) (lines : List InputLine) (warned warning both : Bool)
+    (input : Input) (writer messages : Device) (now : ReaderState) (lines : List InputLine)
+      (warned warning both : Bool)
     → warned ≡ are_some (filter.so_far lines).warnings
     → GoesOnBy filter shows input writer messages now lines warning → both ≡ (warned || warning)
     → (ls : List InputLine) × shows ls []
-    × IsRunning input writer messages now ls (filter.so_far ls) × (both ≡ are_some (filter.so_far ls).warnings)
+    × IsRunning input writer messages now ls (filter.so_far ls)
+      × (both ≡ are_some (filter.so_far ls).warnings)
 go-on filter shows input writer messages now lines warned warning both flag by is = (
   lines ++ by.line ∷ [],
   by.shown,
@@ -38,14 +41,16 @@ go-on filter shows input writer messages now lines warned warning both flag by i
 )
 
 module _ (filter : Filter) (shows : List InputLine → List Awaited → Type 0) (input : Input)
-    (now : ReaderState) (lines : List InputLine) (writer1 writer2 writer messages1 messages2 messages : Device)
+    (now : ReaderState) (lines : List InputLine)
+      (writer1 writer2 writer messages1 messages2 messages : Device)
     (wsame : writer2.before ≡ writer1.after)
     (wstart : writer.before ≡ writer1.before) (wend : writer.after ≡ writer2.after)
     (wjoined : (xs ys : List ℕ) → writer1.took xs → writer2.took ys → writer.took (xs ++ ys))
     (msame : messages2.before ≡ messages1.after)
     (mstart : messages.before ≡ messages1.before) (mend : messages.after ≡ messages2.after)
     (mjoined : (xs ys : List ℕ) → messages1.took xs → messages2.took ys → messages.took (xs ++ ys))
-    (comes : ComesToEnd filter shows input writer1 messages1 now lines) (last : ℕ) (last_is : last ≡ now.number) where
+    (comes : ComesToEnd filter shows input writer1 messages1 now lines) (last : ℕ)
+      (last_is : last ≡ now.number) where
   last-line : last ≡ length lines
   last-line = last_is ∙ comes.running.read.number
 
@@ -61,13 +66,18 @@ module _ (filter : Filter) (shows : List InputLine → List Awaited → Type 0) 
         read = comes.running.read;
         ended = comes.ended;
         good = done.adds.good;
-        wrote = more-written before after writer1 writer2 writer messages1 messages2 messages wsame wstart wend wjoined
-            msame mstart mend mjoined comes.running.wrote comes.running.reported done.text done.wrote done.adds.output;
+        wrote = more-written before after writer1 writer2 writer messages1 messages2 messages wsame wstart
+          wend wjoined
+            msame mstart mend mjoined comes.running.wrote comes.running.reported done.text done.wrote
+              done.adds.output;
         reported = more-reported before after
-            writer1 writer2 writer messages1 messages2 messages wsame wstart wend wjoined msame mstart mend mjoined
-            comes.running.wrote comes.running.reported done.notices after.warnings done.reported done.adds.warnings;
+            writer1 writer2 writer messages1 messages2 messages wsame wstart wend wjoined msame mstart mend
+              mjoined
+            comes.running.wrote comes.running.reported done.notices after.warnings done.reported
+              done.adds.warnings;
         flag = is
-            ∙ flag-after before.warnings done.notices after.warnings warned warning flag done.flag done.adds.warnings;
+            ∙ flag-after before.warnings done.notices after.warnings warned warning flag done.flag
+              done.adds.warnings;
         engine_ended = done.is_shown;
         last_is = last-line;
       }
@@ -82,13 +92,15 @@ module _ (filter : Filter) (shows : List InputLine → List Awaited → Type 0) 
         read = comes.running.read;
         ended = comes.ended;
         ends = ends-at before after writer1 writer2 writer messages1 messages2 messages wsame wstart
-            wend wjoined msame mstart mend mjoined comes.running.wrote comes.running.reported None (length lines) halt
+            wend wjoined msame mstart mend mjoined comes.running.wrote comes.running.reported None
+              (length lines) halt
             ([], h);
         last_is = last-line;
       }
 
 -- a line or the reader ended it
-pub stopped-on : (filter : Filter) (has_ended : List InputLine → Type 0) (input : Input) (writer messages : Device)
+pub stopped-on : (filter : Filter) (has_ended : List InputLine → Type 0) (input : Input)
+  (writer messages : Device)
     (now : ReaderState) (lines : List InputLine) (last : ℕ) (warned : Bool) (halt : Halt) → last ≡ now.number
     → StopsAt filter input writer messages now lines halt
     → WorkEnds filter has_ended input writer messages now last warned (Some halt)

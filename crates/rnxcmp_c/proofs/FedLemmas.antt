@@ -1,5 +1,6 @@
 -- What became of a run by some bytes, of which it may have as many as an input may have.
-use Rattle.std.proofs.Common.{◌≡◌, ⊎_elim, ℕ, ◌-◌, ◌<◌, ◌≤◌, true, false, List, length, take, Option, Some, None, is_some}
+use Rattle.std.proofs.Common.{◌≡◌, ⊎_elim, ℕ, ◌-◌, ◌<◌, ◌≤◌, true, false, List, length, take, Option, Some}
+use Rattle.std.proofs.Common.{None, is_some}
 use Rattle.std.proofs.Common.{refl, sym, ap, ◌∙◌, subst, arith, length-take}
 use Rattle.std.proofs.lemmas.List.{take-take}
 use Rattle.crx_base.specs.declared.limits.TheConstants.{INPUT_LIMIT}
@@ -15,8 +16,10 @@ use Rattle.rnxcmp_c.specs.declared.answer.TheConstants.{MISUSED}
 use Rattle.rnxcmp_c.specs.declared.reader.Reader.{Reader}
 use Rattle.rnxcmp_c.proofs.PieceLemmas.{none-or}
 
-module _ (task : Task) (old new : Reader) (past : HandlePast) (bytes allowed : List ℕ) (used : ℕ) (answer : Answer) where
-  pub fed-bytes : allowed ≡ take (INPUT_LIMIT - old.fed) bytes → answer ≡ answer_now new → ReaderRuns task old past
+module _ (task : Task) (old new : Reader) (past : HandlePast) (bytes allowed : List ℕ) (used : ℕ)
+  (answer : Answer) where
+  pub fed-bytes : allowed ≡ take (INPUT_LIMIT - old.fed) bytes → answer ≡ answer_now new
+    → ReaderRuns task old past
       → (length allowed ≡ 0 → 0 < length bytes → (used ≡ 0) × ReaderHasPassed task new past)
       → ((0 < length bytes → 0 < length allowed) → HasFed past.fed task new (fed_with past
       (take used allowed)))
@@ -44,14 +47,16 @@ module _ (task : Task) (old new : Reader) (past : HandlePast) (bytes allowed : L
             (omega (arith, within, ap length same, length-take left bytes)))
             (fed (λ b. subst (λ (l : List ℕ). 0 < length l) (sym same) (h b)));
         some = λ h. (count (some h)).some (subst (λ (l : List ℕ). 0 < length l) (sym same) h);
-        all = λ none h. (count (λ _. omega (arith, h, ap length same))).all none (omega (arith, h, ap length same));
+        all = λ none h. (count (λ _. omega (arith, h, ap length same))).all none
+          (omega (arith, h, ap length same));
         soon = λ none h. subst (λ (l : List ℕ). StopsSoon (filter_for task) past l used) same
             (soon (λ _. omega (arith, h, within)) none h);
         still = λ h. (count (some h)).still;
         ended = λ h is. (count (some h)).ended is ∙ ap length same;
       }
 
-  pub fed-by : allowed ≡ take (INPUT_LIMIT - old.fed) bytes → answer ≡ answer_now new → (outcome : Option Outcome)
+  pub fed-by : allowed ≡ take (INPUT_LIMIT - old.fed) bytes → answer ≡ answer_now new
+    → (outcome : Option Outcome)
       → is_some outcome ≡ false → StandsBy task old past outcome
       → (ReaderRuns task old past → length allowed ≡ 0 → 0 < length bytes
       → (used ≡ 0) × ReaderHasPassed task new past)

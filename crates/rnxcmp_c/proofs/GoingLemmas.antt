@@ -1,6 +1,8 @@
 -- A run goes on by the bytes that are fed.
-use Rattle.std.proofs.Common.{◌≡◌, ◌≢◌, ◌⊎◌, inl, inr, ℕ, ◌+◌, ◌-◌, ◌<◌, ◌≤◌, true, false, ◌||◌, List, [], ◌∷◌, ◌++◌, ⊎_elim}
-use Rattle.std.proofs.Common.{length, take, drop, slice_index, None, refl, sym, ap, ◌∙◌, subst, arith, append-nil}
+use Rattle.std.proofs.Common.{◌≡◌, ◌≢◌, ◌⊎◌, inl, inr, ℕ, ◌+◌, ◌-◌, ◌<◌, ◌≤◌, true, false, ◌||◌, List, []}
+use Rattle.std.proofs.Common.{◌∷◌, ◌++◌, ⊎_elim}
+use Rattle.std.proofs.Common.{length, take, drop, slice_index, None, refl, sym, ap, ◌∙◌, subst, arith}
+use Rattle.std.proofs.Common.{append-nil}
 use Rattle.std.proofs.Common.{Option, append_assoc, is_some, length-append, length-take}
 use Rattle.std.proofs.Math.Seq.{take-append-add}
 use Rattle.std.proofs.lemmas.List.{drop_more, get_or-take, take-append-drop, take-append-le}
@@ -31,7 +33,8 @@ use Rattle.rnxcmp_c.specs.declared.stop.Stop.TheVariants.{Fault, Limit}
 use Rattle.rnxcmp_c.proofs.PieceLemmas.{none-where_none}
 
 -- lines that were ended are no more, where the bytes that follow have no LF
-ended-still : (filter : Filter) (shows : List InputLine → List Awaited → Type 0) (held : Held) (past : HandlePast)
+ended-still : (filter : Filter) (shows : List InputLine → List Awaited → Type 0) (held : Held)
+  (past : HandlePast)
     (more : List ℕ) → IsGoing filter shows held past → HasNoFeed more
     → ended_lines_of (past.fed ++ more) ≡ ended_lines_of past.fed
 ended-still filter shows held past more going none =
@@ -54,7 +57,8 @@ soon-by filter shows past bytes done some rest old all going none more low =
     ∙ ap (take (length done + (length some - 1))) all
     ∙ take-append-add done (some ++ rest) (length some - 1)
     ∙ ap (λ (l : List ℕ). done ++ l) (take-append-le (length some - 1) some rest (omega arith)) in
-    let lines : ended_lines_of (past.fed ++ take (length (done ++ some) - 1) bytes) ≡ ended_lines_of (past.fed ++ done) =
+    let lines : ended_lines_of (past.fed ++ take (length (done ++ some) - 1) bytes)
+      ≡ ended_lines_of (past.fed ++ done) =
     ap (λ (l : List ℕ). ended_lines_of (past.fed ++ l)) first
     ∙ ap ended_lines_of (sym (append_assoc past.fed done most))
     ∙ ended-still filter shows old (fed_with past done) most going none in
@@ -76,7 +80,8 @@ pub no_feed-before : (bytes : List ℕ) (n : ℕ) → n ≤ length bytes
     → ((k : ℕ) → k < n → slice_index bytes k ≢ 10) → HasNoFeed (take n bytes)
 no_feed-before bytes n within none =
     All-from_get_or (λ b. b ≢ 10) (take n bytes) 0
-    (λ k h. let inside : k < n = omega (arith, h, length-take n bytes) in rw (get_or-take n bytes k 0) (none k inside))
+    (λ k h. let inside : k < n = omega (arith, h, length-take n bytes)
+      in rw (get_or-take n bytes k 0) (none k inside))
 
 -- the bytes up to an LF, and those after it
 pub cut-at : (bytes : List ℕ) (n : ℕ) → n < length bytes → slice_index bytes n ≡ 10
@@ -96,7 +101,8 @@ some-both [] ys = refl
 some-both (x ∷ xs) ys = refl
 
 -- texts grow at their ends
-more-text : (whole taken kept more then : List ℕ) (after : List ℕ) → after ≡ whole ++ more → whole ≡ taken ++ kept
+more-text : (whole taken kept more then : List ℕ) (after : List ℕ) → after ≡ whole ++ more
+  → whole ≡ taken ++ kept
     → then ≡ kept ++ more → after ≡ taken ++ then
 more-text whole taken kept more then after grows is was =
     grows ∙ ap (λ t. t ++ more) is ∙ append_assoc taken kept more ∙ ap (λ t. taken ++ t) (sym was)
@@ -137,7 +143,9 @@ begins-then all mid first a b = record {
 
 -- what was added within the limit leaves all within it
 pub adds-kept : (course : Course) (old new : Held) (past : HandlePast)
-    → course.output ≡ past.output ++ waiting old.output → (0 < old.limit → old.left + length course.output ≡ old.limit) → AddsWithin old new → IsKeptWithin new past
+    → course.output ≡ past.output ++ waiting old.output
+      → (0 < old.limit → old.left + length course.output ≡ old.limit) → AddsWithin old new
+      → IsKeptWithin new past
 adds-kept course old new past wrote left adds limited =
     let before : 0 < old.limit = subst (λ (n : ℕ). 0 < n) adds.limit limited in
     omega (
@@ -229,7 +237,8 @@ module _ (filter : Filter) (shows : List InputLine → List Awaited → Type 0)
 
   -- a line's bytes, and its LF
   module _ (mid : Held) (piece : List ℕ) (same : IsSame held mid)
-      (tail : mid.tail.bytes.items ≡ take LINE_ROOM (held.tail.bytes.items ++ piece)) (none : HasNoFeed piece) where
+      (tail : mid.tail.bytes.items ≡ take LINE_ROOM (held.tail.bytes.items ++ piece))
+        (none : HasNoFeed piece) where
     abbrev bytes_all : List ℕ
     bytes_all = is.tail ++ piece
 
@@ -247,7 +256,8 @@ module _ (filter : Filter) (shows : List InputLine → List Awaited → Type 0)
 
     joined : (more : List ℕ) → is.tail ++ (fed ++ more) ≡ bytes_all ++ 10 ∷ more
     joined more =
-        ap (λ t. is.tail ++ t) (append_assoc piece (10 ∷ []) more) ∙ sym (append_assoc is.tail piece (10 ∷ more))
+        ap (λ t. is.tail ++ t) (append_assoc piece (10 ∷ []) more)
+          ∙ sym (append_assoc is.tail piece (10 ∷ more))
 
     one-more : ended_lines_of (past.fed ++ fed) ≡ with_next (ended_lines_of past.fed) line
     one-more =
@@ -263,7 +273,8 @@ module _ (filter : Filter) (shows : List InputLine → List Awaited → Type 0)
         ∙ sym (append_assoc (ended_lines_of past.fed) (line ∷ []) (lines_of more))
 
     ended-first : (more : List ℕ)
-        → ended_lines_of (past.fed ++ (fed ++ more)) ≡ with_next (ended_lines_of past.fed) line ++ ended_lines_of more
+        → ended_lines_of (past.fed ++ (fed ++ more)) ≡ with_next (ended_lines_of past.fed) line
+          ++ ended_lines_of more
     ended-first more =
         is.cut_ended (fed ++ more) ∙ ap (λ t. ended_lines_of past.fed ++ ended_lines_of t) (joined more)
         ∙ ap (λ ls. ended_lines_of past.fed ++ ls) (ended_lines-first bytes_all more whole)
@@ -273,7 +284,8 @@ module _ (filter : Filter) (shows : List InputLine → List Awaited → Type 0)
         → MovesWithin (filter.so_far (ended_lines_of past.fed)) (filter.so_far (with_next
         (ended_lines_of past.fed) line))
         (then (with_next (ended_lines_of past.fed) line) []) mid new
-        → new.number ≡ mid.number + 1 → new.tail.bytes.items ≡ [] → IsGoing filter then new (fed_with past fed)
+        → new.number ≡ mid.number + 1 → new.tail.bytes.items ≡ []
+          → IsGoing filter then new (fed_with past fed)
     goes-on then new within number empty =
         let moved = within.moved in
         let kept = moved.kept in
@@ -281,7 +293,8 @@ module _ (filter : Filter) (shows : List InputLine → List Awaited → Type 0)
         let over : (F : List ℕ → List InputLine) (more : List ℕ)
         → F (past.fed ++ (fed ++ more)) ≡ with_next (ended_lines_of past.fed) line ++ F more
         → F ((past.fed ++ fed) ++ more) ≡ ended_lines_of (past.fed ++ fed) ++ F more =
-        λ F more first. ap F (append_assoc past.fed fed more) ∙ first ∙ ap (λ ls. ls ++ F more) (sym one-more) in
+        λ F more first. ap F (append_assoc past.fed fed more) ∙ first ∙ ap (λ ls. ls ++ F more) (sym one-more)
+          in
         record {
           shown = subst (λ ls. then ls []) (sym one-more) kept.is_shown;
           good = subst (λ ls. (filter.so_far ls).fault ≡ None) (sym one-more) kept.good;
@@ -297,8 +310,10 @@ module _ (filter : Filter) (shows : List InputLine → List Awaited → Type 0)
                 is.text.reported (kept.reported ∙ ap (λ t. t ++ notices_text kept.notices) same.messages);
           };
           flag = moved.flag ∙ ap (λ b. b || moved.warned) (same.warned ∙ is.flag)
-              ∙ ap (λ b. are_some before.warnings || b) kept.flag ∙ sym (some-both before.warnings kept.notices)
-              ∙ ap are_some (sym kept.warnings_are) ∙ ap (λ ls. are_some (filter.so_far ls).warnings) (sym one-more);
+              ∙ ap (λ b. are_some before.warnings || b) kept.flag
+                ∙ sym (some-both before.warnings kept.notices)
+              ∙ ap are_some (sym kept.warnings_are) ∙ ap (λ ls. are_some (filter.so_far ls).warnings)
+                (sym one-more);
           number = number ∙ ap (λ n. n + 1) (same.number ∙ is.number)
               ∙ sym (length-append (ended_lines_of past.fed) (line ∷ [])) ∙ ap length (sym one-more);
           tail = [];
@@ -333,7 +348,8 @@ module _ (filter : Filter) (shows : List InputLine → List Awaited → Type 0)
         }
 
     line-then : (rest more : List ℕ) → (others : List InputLine)
-        × (lines_of ((past.fed ++ (piece ++ 10 ∷ rest)) ++ more) ≡ with_next (ended_lines_of past.fed) line ++ others)
+        × (lines_of ((past.fed ++ (piece ++ 10 ∷ rest)) ++ more) ≡ with_next (ended_lines_of past.fed) line
+          ++ others)
     line-then rest more = (
       lines_of (rest ++ more),
       ap lines_of (append_assoc past.fed (piece ++ 10 ∷ rest) more
@@ -366,12 +382,14 @@ module _ (filter : Filter) (shows : List InputLine → List Awaited → Type 0)
           over = omega (arith, all, passes.over, passes.limit, same.limit, same.left);
           text = record {
             wrote = is.text.wrote ∙ ap (λ t. past.output ++ t) (sym (passes.output_is ∙ same.output));
-            reported = is.text.reported ∙ ap (λ t. past.messages ++ t) (sym (passes.messages_are ∙ same.messages));
+            reported = is.text.reported
+              ∙ ap (λ t. past.messages ++ t) (sym (passes.messages_are ∙ same.messages));
           };
         }
 
     breaks-there : (new : Held) (rest : List ℕ) (at : At)
-        → EndsThere (filter.so_far (ended_lines_of past.fed)) (filter.so_far (with_next (ended_lines_of past.fed) line))
+        → EndsThere (filter.so_far (ended_lines_of past.fed))
+          (filter.so_far (with_next (ended_lines_of past.fed) line))
         mid.output new.output mid.messages new.messages at
         → IsBroken filter new (fed_with past (piece ++ 10 ∷ rest)) at
     breaks-there new rest at ends =
@@ -381,17 +399,20 @@ module _ (filter : Filter) (shows : List InputLine → List Awaited → Type 0)
           first = λ more. line-then rest more;
           fault = ends.fault;
           text = record {
-            wrote = ends.output_is ∙ is.text.wrote ∙ ap (λ t. past.output ++ t) (sym (ends.wrote ∙ same.output));
+            wrote = ends.output_is ∙ is.text.wrote
+              ∙ ap (λ t. past.output ++ t) (sym (ends.wrote ∙ same.output));
             reported = more-text (notices_text before.warnings) past.messages (waiting held.messages)
                 (notices_text ends.notices) (waiting new.messages) _
-                (ap notices_text ends.warnings_are ∙ notices-both before.warnings ends.notices) is.text.reported
+                (ap notices_text ends.warnings_are ∙ notices-both before.warnings ends.notices)
+                  is.text.reported
                 (ends.reported ∙ ap (λ t. t ++ notices_text ends.notices) same.messages);
           };
         }
 
     breaks-short : (new : Held) (rest : List ℕ) (at : At) → RanOutAt (length (ended_lines_of past.fed) + 1) at
         → StopsShort (filter.memory_after (ended_lines_of past.fed) line)
-        (filter.so_far (ended_lines_of past.fed)) (filter.so_far (with_next (ended_lines_of past.fed) line)) mid new
+        (filter.so_far (ended_lines_of past.fed)) (filter.so_far (with_next (ended_lines_of past.fed) line))
+          mid new
         → RunsShort past.fed filter new (fed_with past (piece ++ 10 ∷ rest)) at
     breaks-short new rest at memory short =
         let lines : List InputLine = ended_lines_of past.fed in
@@ -432,7 +453,8 @@ module _ (filter : Filter) (shows : List InputLine → List Awaited → Type 0)
     breaks-kept : (new : Held) → AddsWithin mid new → IsKeptWithin new past
     breaks-kept new adds = adds-kept (filter.so_far (ended_lines_of past.fed)) mid new past
         (is.text.wrote ∙ ap (λ t. past.output ++ t) (sym same.output))
-        (λ limited. omega (arith, is.left (subst (λ (n : ℕ). 0 < n) same.limit limited), same.left, same.limit)) adds
+        (λ limited. omega (arith, is.left (subst (λ (n : ℕ). 0 < n) same.limit limited), same.left,
+          same.limit)) adds
 
     pub breaks : (new : Held) (rest : List ℕ) (stop : Stop)
         → StepStops (length (ended_lines_of past.fed) + 1)
@@ -486,12 +508,14 @@ text-grows before after shown old new past text moved =
           kept.output_is text.wrote kept.wrote;
       reported = more-text (notices_text before.warnings) past.messages (waiting old.messages)
           (notices_text kept.notices)
-          (waiting new.messages) _ (ap notices_text kept.warnings_are ∙ notices-both before.warnings kept.notices)
+          (waiting new.messages) _
+            (ap notices_text kept.warnings_are ∙ notices-both before.warnings kept.notices)
           text.reported kept.reported;
     }
 
 flag-grows : (before after : Course) (shown : Type 0) (old new : Held)
-    → old.warned ≡ are_some before.warnings → MovesOn before after shown old new → new.warned ≡ are_some after.warnings
+    → old.warned ≡ are_some before.warnings → MovesOn before after shown old new
+      → new.warned ≡ are_some after.warnings
 flag-grows before after shown old new flag moved =
     moved.flag ∙ ap (λ b. b || moved.warned) flag ∙ ap (λ b. are_some before.warnings || b) moved.kept.flag
     ∙ sym (some-both before.warnings moved.kept.notices) ∙ ap are_some (sym moved.kept.warnings_are)
@@ -500,7 +524,8 @@ text-ends : (before after : Course) (old new : Held) (past : HandlePast) (at : A
     → EndsThere before after old.output new.output old.messages new.messages at → IsText after new past
 text-ends before after old new past at text ends = record {
   wrote = ends.output_is ∙ text.wrote ∙ ap (λ t. past.output ++ t) (sym ends.wrote);
-  reported = more-text (notices_text before.warnings) past.messages (waiting old.messages) (notices_text ends.notices)
+  reported = more-text (notices_text before.warnings) past.messages (waiting old.messages)
+    (notices_text ends.notices)
       (waiting new.messages) _ (ap notices_text ends.warnings_are ∙ notices-both before.warnings ends.notices)
       text.reported ends.reported;
 }
@@ -516,7 +541,8 @@ IsLeft filter lines held = 0 < held.limit → held.left + length (filter.so_far 
 
 -- the end after some lines
 module _ (filter : Filter) (mid : Held) (past : HandlePast) (lines : List InputLine)
-    (text : IsText (filter.so_far lines) mid past) (flag : mid.warned ≡ are_some (filter.so_far lines).warnings)
+    (text : IsText (filter.so_far lines) mid past)
+      (flag : mid.warned ≡ are_some (filter.so_far lines).warnings)
     (good : AreUnfailed mid) (whole : lines_of past.fed ≡ lines) (new : Held) where
   pub ends-well : (shown : Type 0) → IsLeft filter lines mid
       → MovesWithin (filter.so_far lines) (filter.whole lines) shown mid new
@@ -558,7 +584,8 @@ module _ (filter : Filter) (mid : Held) (past : HandlePast) (lines : List InputL
     (text : IsText (filter.so_far lines) mid past) (left : IsLeft filter lines mid) (new : Held)
     (sound : (filter.so_far lines).fault ≡ None) where
   pub passes-after : (others : List InputLine) → lines_of past.fed ≡ lines ++ others
-      → PassesLimit (filter.so_far lines) (with_one_more filter lines others) mid new → EndsPastLimit filter new past
+      → PassesLimit (filter.so_far lines) (with_one_more filter lines others) mid new
+        → EndsPastLimit filter new past
   passes-after others first passes = record {
     lines = lines;
     others = others;
@@ -612,7 +639,8 @@ module _ (filter : Filter) (shows : List InputLine → List Awaited → Type 0)
     module _ (shown : Type 0)
         (moved : MovesOn (filter.so_far (ended_lines_of past.fed)) (filter.so_far last) shown held mid) where
       pub last-text : IsText (filter.so_far last) mid past
-      last-text = text-grows (filter.so_far (ended_lines_of past.fed)) (filter.so_far last) shown held mid past is.text
+      last-text = text-grows (filter.so_far (ended_lines_of past.fed))
+        (filter.so_far last) shown held mid past is.text
           moved
 
       pub last-sound : (filter.so_far last).fault ≡ None
@@ -625,7 +653,8 @@ module _ (filter : Filter) (shows : List InputLine → List Awaited → Type 0)
       }
 
       pub last-flag : mid.warned ≡ are_some (filter.so_far last).warnings
-      last-flag = flag-grows (filter.so_far (ended_lines_of past.fed)) (filter.so_far last) shown held mid is.flag moved
+      last-flag = flag-grows (filter.so_far (ended_lines_of past.fed))
+        (filter.so_far last) shown held mid is.flag moved
 
     -- it ended the run
     pub last-fails : IsLawful filter → (at : At)
@@ -653,7 +682,8 @@ module _ (filter : Filter) (shows : List InputLine → List Awaited → Type 0)
         ap filter.whole (all-but_last some ∙ sym (append-nil last)) ∙ lawful.decided last [] at ends.fault in
         inr (subst (λ c. IsFailed c mid past at) (sym decided) (record {
           fault = ends.fault;
-          text = text-ends (filter.so_far (ended_lines_of past.fed)) (filter.so_far last) held mid past at is.text ends;
+          text = text-ends (filter.so_far (ended_lines_of past.fed))
+            (filter.so_far last) held mid past at is.text ends;
         }))
 
     pub last-left : (shown : Type 0)

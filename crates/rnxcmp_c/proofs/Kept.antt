@@ -1,5 +1,6 @@
 -- What the answers of calls bring back, save and judge follows from what they are, by the laws.
-use Rattle.std.proofs.Common.{inl, inr, ℕ, ◌≡◌, ◌≤◌, List, length, Option, Some, None, refl, ap, sym, subst, ◌∙◌, cond}
+use Rattle.std.proofs.Common.{inl, inr, ℕ, ◌≡◌, ◌≤◌, List, length, Option, Some, None, refl, ap, sym, subst}
+use Rattle.std.proofs.Common.{◌∙◌, cond}
 use Rattle.std.specs.Prelude.{◌↔◌, true}
 use Rattle.std.proofs.lemmas.Bool.{le-leb}
 use Rattle.crx_base.specs.meaning.Lines.{lines_of}
@@ -17,7 +18,8 @@ use Rattle.rnxcmp_c.specs.Collecting.{HasNone, IsRun}
 use Rattle.rnxcmp_c.specs.declared.runs.Run.{Run}
 use Rattle.rnxcmp_c.specs.meaning.Answers.{AnswersWithin, BothTexts, ExceedsLimit, HasNoMemory, IsAnswer}
 use Rattle.rnxcmp_c.specs.meaning.Answers.{status_in}
-use Rattle.rnxcmp_c.specs.meaning.Promises.{CallBringsBackWhatWasCompacted, CallJudgesStandard, CallSavesAllElse}
+use Rattle.rnxcmp_c.specs.meaning.Promises.{CallBringsBackWhatWasCompacted, CallJudgesStandard}
+use Rattle.rnxcmp_c.specs.meaning.Promises.{CallSavesAllElse}
 use Rattle.rnxcmp_c.specs.declared.answer.Answer.{Answer}
 use Rattle.rnxcmp_c.specs.declared.answer.TheConstants.{NO_ROOM}
 
@@ -54,9 +56,11 @@ none-where_0 (Some number) = (λ e. absurd (cc), λ e. absurd (cc))
 -- where the output fits, the status is the result's
 pub status-where_it_fits : (result : FilterResult) (room : ℕ)
     → length result.output ≤ room → status_in result room ≡ result.status
-status-where_it_fits result room fits = ap (λ b. cond b result.status NO_ROOM) (le-leb (length result.output) room fits)
+status-where_it_fits result room fits =
+  ap (λ b. cond b result.status NO_ROOM) (le-leb (length result.output) room fits)
 
-pub judges-status : (file : List ℕ) (status : ℕ) → status ≡ (checked file).status → CallJudgesStandard status file
+pub judges-status : (file : List ℕ) (status : ℕ) → status ≡ (checked file).status
+  → CallJudgesStandard status file
 judges-status file status is good =
     let found : Findings = findings_of (lines_of file) in
     let same : status ≡ report_status found.not_standard =

@@ -15,7 +15,8 @@ use Rattle.rnxcmp_c.specs.declared.answer.Answer.{Answer}
 pub brings-back_passed : (holds : FilterResult → Type 0) (expanding : Choices) (text : List ℕ)
     → holds (expanded text expanding) → CallBringsBackWhatPasses holds text
 brings-back_passed holds expanding text answered file compacting dated passed same =
-    subst holds (ap (λ t. expanded t expanding) same ∙ what-passes file passed compacting expanding dated) answered
+    subst holds (ap (λ t. expanded t expanding) same ∙ what-passes file passed compacting expanding dated)
+      answered
 
 -- an output that doesn't fit has a status of its own, which isn't 0
 zero-status : (result : FilterResult) (room : ℕ) → status_in result room ≡ 0 → result.status ≡ 0

@@ -1,5 +1,6 @@
 -- What is kept of a line says of the whole line all that counts: whether it is too long, and else its bytes.
-use Rattle.std.proofs.Common.{◌≡◌, ◌⊎◌, inl, inr, ⊎_elim, ℕ, ◌<◌, ◌≤◌, Bool, true, false, nat_lt, List, [], ◌++◌, length, take}
+use Rattle.std.proofs.Common.{◌≡◌, ◌⊎◌, inl, inr, ⊎_elim, ℕ, ◌<◌, ◌≤◌, Bool, true, false, nat_lt, List, []}
+use Rattle.std.proofs.Common.{◌++◌, length, take}
 use Rattle.std.proofs.Common.{refl, sym, ap, ◌∙◌, subst, arith, length-take}
 use Rattle.std.proofs.lemmas.Bool.{ltb-true, ltb-false}
 use Rattle.std.proofs.lemmas.List.{take_all}
@@ -34,7 +35,8 @@ none-where_none whole none =
     sym (whole-where_short LINE_ROOM whole (omega (arith, ap length none))) ∙ none
 
 -- what is too long in what is kept is too long
-pub long-where_long : (bytes whole : List ℕ) → bytes ≡ take LINE_ROOM whole → LINE_LIMIT < length (without_return bytes)
+pub long-where_long : (bytes whole : List ℕ) → bytes ≡ take LINE_ROOM whole
+  → LINE_LIMIT < length (without_return bytes)
     → LINE_LIMIT < length (without_return whole)
 long-where_long bytes whole kept long =
     ⊎_elim (λ within. subst (λ (l : List ℕ). LINE_LIMIT < length (without_return l))

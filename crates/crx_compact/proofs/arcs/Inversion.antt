@@ -1,5 +1,7 @@
--- From the codes of an arc come its values: an induction on the order and on the arc, by one recurrence of the sums.
-use Rattle.std.specs.Prelude.{◌≡◌, refl, ℕ, zero, suc, ◌+◌, ◌-◌, ◌<◌, ◌≤◌, min, ℤ, pos, ◌+ℤ◌, ◌-ℤ◌, ◌*ℤ◌, List, [], ◌∷◌}
+-- From the codes of an arc come its values: an induction on the order and on the arc, by one recurrence of
+-- the sums.
+use Rattle.std.specs.Prelude.{◌≡◌, refl, ℕ, zero, suc, ◌+◌, ◌-◌, ◌<◌, ◌≤◌, min, ℤ, pos, ◌+ℤ◌, ◌-ℤ◌, ◌*ℤ◌}
+use Rattle.std.specs.Prelude.{List, [], ◌∷◌}
 use Rattle.std.specs.Prelude.{◌++◌, length, take, reverse, Option, Some}
 use Rattle.std.specs.Option.{option_map}
 use Rattle.std.proofs.Common.{sym, ◌∙◌, ap, subst, arith, le_of_suc-le-suc, not-suc-le-zero}
@@ -70,7 +72,8 @@ numbers-steps n (x ∷ y ∷ ys) =
     ∙ difference-steps (min (length ys) n) x y ys (omega arith)
     ∙ ap (λ k. difference k (steps (x ∷ y ∷ ys))) (sym same) in
     ap (λ d. d ∷ without_oldest (numbers_of (suc n) (y ∷ ys))) head
-    ∙ ap (λ r. difference (min (length (steps (y ∷ ys))) n) (steps (x ∷ y ∷ ys)) ∷ r) (numbers-steps n (y ∷ ys))
+    ∙ ap (λ r. difference (min (length (steps (y ∷ ys))) n) (steps (x ∷ y ∷ ys)) ∷ r)
+      (numbers-steps n (y ∷ ys))
 
 -- ---- the recurrence of the values
 
@@ -109,7 +112,8 @@ firsts u count numbers = weighted (λ k. pos (binomial u k)) (take count numbers
 abbrev laters : ℕ → ℕ → List ℤ → ℤ
 laters m count numbers = weighted (λ i. pos (binomial (i + m) m)) (take count numbers)
 
-value_parts : (m : ℕ) (c : List ℤ) (u d : ℕ) (o : List ℤ) → length c - 1 ≡ u → length c - suc m ≡ d → reverse c ≡ o
+value_parts : (m : ℕ) (c : List ℤ) (u d : ℕ) (o : List ℤ) → length c - 1 ≡ u → length c - suc m ≡ d
+  → reverse c ≡ o
     → value_at (suc m) c ≡ firsts u (suc m) o +ℤ laters m d c
 value_parts m c u d o eu ed eo =
     ap (λ n. firsts n (suc m) (reverse c) +ℤ laters m (length c - suc m) c) eu
@@ -117,7 +121,8 @@ value_parts m c u d o eu ed eo =
     ∙ ap (λ r. firsts u (suc m) r +ℤ laters m d c) eo
 
 -- one step of the later sum: Pascal's law
-laters-step : (m d : ℕ) (x : ℤ) (c : List ℤ) → laters (suc m) d (x ∷ c) ≡ laters (suc m) (d - 1) c +ℤ laters m d (x ∷ c)
+laters-step : (m d : ℕ) (x : ℤ) (c : List ℤ)
+  → laters (suc m) d (x ∷ c) ≡ laters (suc m) (d - 1) c +ℤ laters m d (x ∷ c)
 laters-step m zero x c = refl
 laters-step m (suc e) x c =
     let split : weighted (λ i. pos (binomial (i + suc m) (suc m))) (x ∷ take e c)
@@ -127,7 +132,8 @@ laters-step m (suc e) x c =
     let sum : weighted (λ i. pos (binomial (i + m) m) +ℤ pos (binomial (i + m) (suc m))) (x ∷ take e c)
     ≡ laters m (suc e) (x ∷ c) +ℤ weighted (λ i. pos (binomial (i + m) (suc m))) (x ∷ take e c) =
     weighted-add (λ i. pos (binomial (i + m) m)) (λ i. pos (binomial (i + m) (suc m))) (x ∷ take e c) in
-    let none : pos (binomial (0 + m) (suc m)) ≡ pos 0 = ap pos (binomial-past (0 + m) (suc m) (omega arith)) in
+    let none : pos (binomial (0 + m) (suc m)) ≡ pos 0 = ap pos (binomial-past (0 + m) (suc m) (omega arith))
+      in
     let shift : weighted (λ i. pos (binomial (suc i + m) (suc m))) (take e c) ≡ laters (suc m) e c =
     weighted-same (λ i. pos (binomial (suc i + m) (suc m)))
     (λ i. pos (binomial (i + suc m) (suc m))) (moved m) (take e c) in
@@ -136,10 +142,12 @@ laters-step m (suc e) x c =
     ∙ ap (λ v. (pos 0 *ℤ x) +ℤ v) shift
     ∙ zero_times x (laters (suc m) e c) in
     let less : suc e - 1 ≡ e = omega arith in
-    split ∙ sum ∙ ap (λ v. laters m (suc e) (x ∷ c) +ℤ v) rest ∙ turn (laters m (suc e) (x ∷ c)) (laters (suc m) e c)
+    split ∙ sum ∙ ap (λ v. laters m (suc e) (x ∷ c) +ℤ v) rest
+      ∙ turn (laters m (suc e) (x ∷ c)) (laters (suc m) e c)
     ∙ ap (λ n. laters (suc m) n c +ℤ laters m (suc e) (x ∷ c)) (sym less)
   where
-    pascal : (m i : ℕ) → pos (binomial (i + suc m) (suc m)) ≡ pos (binomial (i + m) m) +ℤ pos (binomial (i + m) (suc m))
+    pascal : (m i : ℕ) → pos (binomial (i + suc m) (suc m)) ≡ pos (binomial (i + m) m) +ℤ pos
+      (binomial (i + m) (suc m))
     pascal m i =
         let next : i + suc m ≡ suc (i + m) = omega arith in
         ap (λ n. pos (binomial n (suc m))) next ∙ pos-add (binomial (i + m) m) (binomial (i + m) (suc m))
@@ -190,7 +198,8 @@ reverse-last b z = reverse-append b (z ∷ [])
 length-last : (b : List ℤ) (z : ℤ) → length (b ++ z ∷ []) ≡ suc (length b)
 length-last b z = length-append b (z ∷ []) ∙ (omega arith)
 
--- the value one epoch later, of an order above 0: the value before it, and the value, of the order below, of all
+-- the value one epoch later, of an order above 0: the value before it, and the value, of the order below, of
+-- all
 -- numbers but the oldest
 pub value-recurs : (n : ℕ) (x : ℤ) (b : List ℤ) (z : ℤ)
     → value_at (suc n) (x ∷ (b ++ z ∷ [])) ≡ value_at (suc n) (b ++ z ∷ []) +ℤ value_at n (x ∷ b)
@@ -199,8 +208,10 @@ value-recurs zero x b z =
     let left : value_at 1 (x ∷ (b ++ z ∷ []))
     ≡ firsts (suc (length b)) 1 (z ∷ reverse (x ∷ b)) +ℤ laters 0 (suc (length b)) (x ∷ (b ++ z ∷ [])) =
     value_parts 0 (x ∷ (b ++ z ∷ [])) (suc (length b))
-    (suc (length b)) (z ∷ reverse (x ∷ b)) (omega (arith, long)) (omega (arith, long)) (reverse-last (x ∷ b) z) in
-    let right : value_at 1 (b ++ z ∷ []) ≡ firsts (length b) 1 (z ∷ reverse b) +ℤ laters 0 (length b) (b ++ z ∷ []) =
+    (suc (length b)) (z ∷ reverse (x ∷ b)) (omega (arith, long)) (omega (arith, long))
+      (reverse-last (x ∷ b) z) in
+    let right : value_at 1 (b ++ z ∷ []) ≡ firsts (length b) 1 (z ∷ reverse b) +ℤ laters 0 (length b)
+      (b ++ z ∷ []) =
     value_parts 0 (b ++ z ∷ []) (length b)
     (length b) (z ∷ reverse b) (omega (arith, long)) (omega (arith, long)) (reverse-last b z) in
     left ∙ regroup (pos 1 *ℤ z) x (laters 0 (length b) (b ++ z ∷ [])) ∙ ap (λ v. v +ℤ x) (sym right)
@@ -219,7 +230,8 @@ value-recurs (suc m) x b z =
     value_parts (suc m) (x ∷ (b ++ z ∷ [])) (suc (length (reverse b)))
     (length b - m) (z ∷ (reverse b ++ x ∷ [])) (omega (arith, long, same)) (omega (arith, long)) turned in
     let right : value_at (suc (suc m)) (b ++ z ∷ [])
-    ≡ firsts (length (reverse b)) (suc (suc m)) (z ∷ reverse b) +ℤ laters (suc m) (length b - m - 1) (b ++ z ∷ []) =
+    ≡ firsts (length (reverse b)) (suc (suc m)) (z ∷ reverse b) +ℤ laters (suc m) (length b - m - 1)
+      (b ++ z ∷ []) =
     value_parts (suc m) (b ++ z ∷ []) (length (reverse b))
     (length b - m - 1) (z ∷ reverse b) (omega (arith, long, same)) (omega (arith, long)) (reverse-last b z) in
     let below : value_at (suc m) (x ∷ b)
@@ -242,7 +254,8 @@ value-recurs (suc m) x b z =
     ∙ four (firsts (length (reverse b)) (suc (suc m)) (z ∷ reverse b))
     (firsts (length (reverse b)) (suc m) (reverse b ++ x ∷ []))
     (laters (suc m) (length b - m - 1) (b ++ z ∷ [])) (laters m (length b - m) (x ∷ b))
-    ∙ ap (λ v. v +ℤ (firsts (length (reverse b)) (suc m) (reverse b ++ x ∷ []) +ℤ laters m (length b - m) (x ∷ b)))
+    ∙ ap (λ v. v +ℤ (firsts (length (reverse b)) (suc m) (reverse b ++ x ∷ []) +ℤ laters m (length b - m)
+      (x ∷ b)))
     (sym right)
     ∙ ap (λ v. value_at (suc (suc m)) (b ++ z ∷ []) +ℤ v) (sym below)
   where
@@ -254,7 +267,8 @@ pub value-step : (n : ℕ) (x y : ℤ) (ys : List ℤ)
     → value_at (suc n) (x ∷ y ∷ ys) ≡ value_at (suc n) (y ∷ ys) +ℤ value_at n (without_oldest (x ∷ y ∷ ys))
 value-step n x y ys =
     let P : List ℤ
-    → Type 0 = λ c. value_at (suc n) (x ∷ c) ≡ value_at (suc n) c +ℤ value_at n (x ∷ without_oldest (y ∷ ys)) in
+    → Type 0 = λ c. value_at (suc n) (x ∷ c) ≡ value_at (suc n) c +ℤ value_at n (x ∷ without_oldest (y ∷ ys))
+      in
     subst P (without_oldest-append y ys) (value-recurs n x (without_oldest (y ∷ ys)) (oldest y ys))
 
 -- ---- inversion
@@ -276,11 +290,13 @@ value-numbers zero xs x =
     ap (λ k. difference k (x ∷ xs)) none ∙ difference-zero x xs
 value-numbers (suc n) [] x =
     let none : min 0 (suc n) ≡ 0 = omega arith in
-    value-first n (difference (min 0 (suc n)) (x ∷ [])) ∙ ap (λ k. difference k (x ∷ [])) none ∙ difference-zero x []
+    value-first n (difference (min 0 (suc n)) (x ∷ [])) ∙ ap (λ k. difference k (x ∷ [])) none
+      ∙ difference-zero x []
 value-numbers (suc n) (y ∷ ys) x =
     value-step n (difference (min (length (y ∷ ys)) (suc n)) (x ∷ y ∷ ys))
     (difference (min (length ys) (suc n)) (y ∷ ys)) (numbers_of (suc n) ys)
-    ∙ ap (λ v. v +ℤ value_at n (without_oldest (numbers_of (suc n) (x ∷ y ∷ ys)))) (value-numbers (suc n) ys y)
+    ∙ ap (λ v. v +ℤ value_at n (without_oldest (numbers_of (suc n) (x ∷ y ∷ ys))))
+      (value-numbers (suc n) ys y)
     ∙ ap (λ c. y +ℤ value_at n c) (numbers-steps n (x ∷ y ∷ ys))
     ∙ ap (λ v. y +ℤ v) (value-numbers n (steps (y ∷ ys)) (x -ℤ y))
     ∙ back x y
@@ -293,7 +309,8 @@ pub started-codes : (n : ℕ) (xs : List ℤ) (x : ℤ)
     → since_start (codes_of_arc n (x ∷ xs)) ≡ Some (record { order = n; numbers = numbers_of n (x ∷ xs) })
 started-codes n [] x =
     let none : min 0 n ≡ 0 = omega arith in
-    let first : x ≡ difference (min 0 n) (x ∷ []) = sym (ap (λ k. difference k (x ∷ [])) none ∙ difference-zero x []) in
+    let first : x ≡ difference (min 0 n) (x ∷ []) =
+      sym (ap (λ k. difference k (x ∷ [])) none ∙ difference-zero x []) in
     ap {B = Option Started} (λ v. Some (record { order = n; numbers = v ∷ [] })) first
 started-codes n (y ∷ ys) x =
     ap (option_map (onto_started (difference (min (length (y ∷ ys)) n) (x ∷ y ∷ ys)))) (started-codes n ys y)

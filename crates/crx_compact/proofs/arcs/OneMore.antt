@@ -5,7 +5,8 @@ use Rattle.std.proofs.Common.{◌∙◌, ap, arith, not-suc-le-zero}
 use Rattle.crx_text.specs.declared.code.Code.{Code}
 use Rattle.crx_text.specs.declared.code.Code.TheVariants.{Missing, Start, Step}
 use Rattle.crx_compact.specs.meaning.Differences.{value_at, code_at}
-use Rattle.crx_compact.specs.meaning.ArcValues.{Started, onto_started, since_start, in_range, value_since, value_of}
+use Rattle.crx_compact.specs.meaning.ArcValues.{Started, onto_started, since_start, in_range, value_since}
+use Rattle.crx_compact.specs.meaning.ArcValues.{value_of}
 use Rattle.crx_compact.specs.ArcTails.{ArcTail, started_tail, arc_tail}
 use Rattle.crx_compact.specs.ArcSteps.{value_of_code, arc_of_code, code_of_value, arc_of_value}
 use Rattle.crx_compact.proofs.arcs.Inversion.{value-first}
@@ -45,7 +46,8 @@ step-arc d n [] h = absurd (not-suc-le-zero h)
 step-arc d n (b ∷ bs) h = ap {B = Option ArcTail} Some (values-by_tail n d b bs).tail
 
 step-value_of : (width : ℕ) (d : ℤ) (o : Option Started)
-    → HasNumbers o → value_since width (option_map (onto_started d) o) ≡ value_of_code width (Step d) (started_tail o)
+    → HasNumbers o → value_since width (option_map (onto_started d) o) ≡ value_of_code width (Step d)
+      (started_tail o)
 step-value_of width d None h = refl
 step-value_of width d (Some arc) h = step-value width d arc.order arc.numbers h
 

@@ -1,7 +1,8 @@
 -- Sums of weighted numbers, and differences as such sums.
 use Rattle.std.specs.Prelude.{◌≡◌, refl, ℕ, zero, suc, ◌+◌, ℤ, pos, neg_ℤ, ◌+ℤ◌, ◌-ℤ◌, ◌*ℤ◌, List, [], ◌∷◌}
 use Rattle.std.proofs.Common.{sym, ◌∙◌, ap, arith}
-use lib.IntN.{suc_ℤ, pred_ℤ, ℤ_ind, +ℤ_one, -ℤ_one, +ℤ-suc_ℤ, +ℤ-pred_ℤ, suc_ℤ-*ℤ, pred_ℤ-*ℤ, +ℤ_idr, +ℤ_invl, zero-*ℤ}
+use lib.IntN.{suc_ℤ, pred_ℤ, ℤ_ind, +ℤ_one, -ℤ_one, +ℤ-suc_ℤ, +ℤ-pred_ℤ, suc_ℤ-*ℤ, pred_ℤ-*ℤ, +ℤ_idr, +ℤ_invl}
+use lib.IntN.{zero-*ℤ}
 use Rattle.std.proofs.lemmas.Int.{ints}
 use Rattle.crx_compact.specs.meaning.Differences.{binomial, alternating, weighted, difference}
 
@@ -18,7 +19,8 @@ mul-add_up : (a b x : ℤ) → (a +ℤ b) *ℤ x ≡ (a *ℤ x) +ℤ (b *ℤ x)
     → (a +ℤ (b +ℤ pos 1)) *ℤ x ≡ (a *ℤ x) +ℤ ((b +ℤ pos 1) *ℤ x)
 mul-add_up a b x h =
     let more : a +ℤ (b +ℤ pos 1) ≡ suc_ℤ (a +ℤ b) = ap (λ n. a +ℤ n) (+ℤ_one b) ∙ +ℤ-suc_ℤ a b in
-    let left : (a +ℤ (b +ℤ pos 1)) *ℤ x ≡ ((a +ℤ b) *ℤ x) +ℤ x = ap (λ n. n *ℤ x) more ∙ suc_ℤ-*ℤ (a +ℤ b) x in
+    let left : (a +ℤ (b +ℤ pos 1)) *ℤ x ≡ ((a +ℤ b) *ℤ x) +ℤ x = ap (λ n. n *ℤ x) more ∙ suc_ℤ-*ℤ (a +ℤ b) x
+      in
     let right : (b +ℤ pos 1) *ℤ x ≡ (b *ℤ x) +ℤ x = ap (λ n. n *ℤ x) (+ℤ_one b) ∙ suc_ℤ-*ℤ b x in
     omega (arith, ints, left, right, h)
 
@@ -26,7 +28,8 @@ mul-add_down : (a b x : ℤ) → (a +ℤ b) *ℤ x ≡ (a *ℤ x) +ℤ (b *ℤ x
     → (a +ℤ (b +ℤ neg_ℤ (pos 1))) *ℤ x ≡ (a *ℤ x) +ℤ ((b +ℤ neg_ℤ (pos 1)) *ℤ x)
 mul-add_down a b x h =
     let less : a +ℤ (b +ℤ neg_ℤ (pos 1)) ≡ pred_ℤ (a +ℤ b) = ap (λ n. a +ℤ n) (-ℤ_one b) ∙ +ℤ-pred_ℤ a b in
-    let left : (a +ℤ (b +ℤ neg_ℤ (pos 1))) *ℤ x ≡ ((a +ℤ b) *ℤ x) -ℤ x = ap (λ n. n *ℤ x) less ∙ pred_ℤ-*ℤ (a +ℤ b) x in
+    let left : (a +ℤ (b +ℤ neg_ℤ (pos 1))) *ℤ x ≡ ((a +ℤ b) *ℤ x) -ℤ x = ap (λ n. n *ℤ x) less
+      ∙ pred_ℤ-*ℤ (a +ℤ b) x in
     let right : (b +ℤ neg_ℤ (pos 1)) *ℤ x ≡ (b *ℤ x) -ℤ x = ap (λ n. n *ℤ x) (-ℤ_one b) ∙ pred_ℤ-*ℤ b x in
     omega (arith, ints, left, right, h)
 
@@ -47,11 +50,13 @@ mul-neg a x =
 four : (a b c d : ℤ) → (a +ℤ b) +ℤ (c +ℤ d) ≡ (a +ℤ c) +ℤ (b +ℤ d)
 four a b c d = omega (arith, ints)
 
-pub weighted-add : (v w : ℕ → ℤ) (xs : List ℤ) → weighted (λ i. v i +ℤ w i) xs ≡ weighted v xs +ℤ weighted w xs
+pub weighted-add : (v w : ℕ → ℤ) (xs : List ℤ)
+  → weighted (λ i. v i +ℤ w i) xs ≡ weighted v xs +ℤ weighted w xs
 weighted-add v w [] = refl
 weighted-add v w (x ∷ xs) =
     ap (λ n. ((v zero +ℤ w zero) *ℤ x) +ℤ n) (weighted-add (λ i. v (suc i)) (λ i. w (suc i)) xs)
-    ∙ ap (λ n. n +ℤ (weighted (λ i. v (suc i)) xs +ℤ weighted (λ i. w (suc i)) xs)) (mul-add (v zero) (w zero) x)
+    ∙ ap (λ n. n +ℤ (weighted (λ i. v (suc i)) xs +ℤ weighted (λ i. w (suc i)) xs))
+      (mul-add (v zero) (w zero) x)
     ∙ four (v zero *ℤ x) (w zero *ℤ x) (weighted (λ i. v (suc i)) xs) (weighted (λ i. w (suc i)) xs)
 
 pub weighted-neg : (w : ℕ → ℤ) (xs : List ℤ) → weighted (λ i. neg_ℤ (w i)) xs ≡ neg_ℤ (weighted w xs)
@@ -121,7 +126,8 @@ difference-suc k x xs =
 
 pub difference-zero : (x : ℤ) (xs : List ℤ) → difference 0 (x ∷ xs) ≡ x
 difference-zero x xs =
-    ap (λ n. (pos 1 *ℤ x) +ℤ n) (weighted-zero (λ i. alternating (suc i) (pos 0)) (λ i. alternating-zero (suc i)) xs)
+    ap (λ n. (pos 1 *ℤ x) +ℤ n)
+      (weighted-zero (λ i. alternating (suc i) (pos 0)) (λ i. alternating-zero (suc i)) xs)
     ∙ one (x)
   where
     one : (x : ℤ) → (pos 1 *ℤ x) +ℤ pos 0 ≡ x

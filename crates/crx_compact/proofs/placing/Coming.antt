@@ -1,5 +1,6 @@
 -- A satellite comes: what its map's entries show of the rows that have come, and of those that haven't.
-use Rattle.std.proofs.Common.{◌≡◌, ℕ, zero, suc, ◌+◌, ◌<◌, ◌≤◌, Bool, true, false, List, [], ◌∷◌, ◌++◌, length, map}
+use Rattle.std.proofs.Common.{◌≡◌, ℕ, zero, suc, ◌+◌, ◌<◌, ◌≤◌, Bool, true, false, List, [], ◌∷◌, ◌++◌}
+use Rattle.std.proofs.Common.{length, map}
 use Rattle.std.proofs.Common.{take, drop, slice_get, Some, None, option_map, refl, ap, sym, ◌∙◌, arith}
 use Rattle.std.specs.Prelude.{unwrap_or}
 use Rattle.std.specs.Str.{bytes_eq}
@@ -13,7 +14,8 @@ use Rattle.crx_compact.specs.meaning.Sequences.{named}
 use Rattle.crx_compact.specs.Entries.{Entry, IsFound, IsPutNext, IsRevived, key_of, placed_rows}
 use Rattle.crx_compact.specs.Placing.{HasCome, empty_row, row_tail_named, row_tail_of, row_of_entry}
 use Rattle.crx_compact.specs.Tails.{RowTail}
-use Rattle.crx_compact.proofs.placing.Ranges.{among-up_to, found-in_range, named-map, none-named, not-before, rest-one_more}
+use Rattle.crx_compact.proofs.placing.Ranges.{among-up_to, found-in_range, named-map, none-named, not-before}
+use Rattle.crx_compact.proofs.placing.Ranges.{rest-one_more}
 
 abbrev pub has_row : List ℕ → List RowTail → Bool
 has_row name rows = is_among (λ (row : RowTail). row.name) name rows
@@ -26,7 +28,8 @@ pub unknown-no_row : (name : List ℕ) (count : ℕ) (es : List Entry) → is_am
     → has_row name (map row_of_entry (take count es)) ≡ false
 unknown-no_row name count es h = among-rows name (take count es) ∙ first count es h
   where
-    first : (count : ℕ) (es : List Entry) → is_among key_of name es ≡ false → is_among key_of name (take count es) ≡ false
+    first : (count : ℕ) (es : List Entry) → is_among key_of name es ≡ false
+      → is_among key_of name (take count es) ≡ false
     first zero es h = refl
     first (suc count) [] h = refl
     first (suc count) (e ∷ es) h =
@@ -35,15 +38,19 @@ unknown-no_row name count es h = among-rows name (take count es) ∙ first count
 
 -- those that have come and those that haven't are all that mean something
 pub all-awaited : (placed live : ℕ) (es : List Entry) → placed ≤ live
-    → map row_of_entry (take placed es) ++ map row_of_entry (drop placed (take live es)) ≡ map row_of_entry (take live es)
+    → map row_of_entry (take placed es) ++ map row_of_entry (drop placed (take live es))
+      ≡ map row_of_entry (take live es)
 all-awaited placed live es few =
     sym (map-append row_of_entry (take placed es) (drop placed (take live es)))
-    ∙ ap (λ front. map row_of_entry (front ++ drop placed (take live es))) (sym (take-take placed live es few))
+    ∙ ap (λ front. map row_of_entry (front ++ drop placed (take live es)))
+      (sym (take-take placed live es few))
     ∙ ap (map row_of_entry) (take-append-drop placed (take live es))
 
-module _ (name : List ℕ) (placed live found : ℕ) (old known : List Entry) (is : IsFound name found old known) where
+module _ (name : List ℕ) (placed live found : ℕ) (old known : List Entry)
+  (is : IsFound name found old known) where
   -- it has come already
-  pub repeated : found < placed → placed ≤ length old → has_row name (map row_of_entry (take placed old)) ≡ true
+  pub repeated : found < placed → placed ≤ length old → has_row name (map row_of_entry (take placed old))
+    ≡ true
   repeated before within =
       among-rows name (take placed old) ∙ ap (is_among key_of name) (sym (is.front placed within))
       ∙ among-up_to placed known found (name, is.satellite) is.there before
@@ -56,8 +63,10 @@ module _ (name : List ℕ) (placed live found : ℕ) (old known : List Entry) (i
       ∙ not-before placed known found (name, is.satellite) apart is.there behind
 
   -- the rows, with one more
-  rows-more : (entry : Entry) (new : List Entry) → placed ≤ length old → take (placed + 1) new ≡ take placed known ++ entry ∷ []
-      → map row_of_entry (take (placed + 1) new) ≡ map row_of_entry (take placed old) ++ row_of_entry entry ∷ []
+  rows-more : (entry : Entry) (new : List Entry) → placed ≤ length old
+    → take (placed + 1) new ≡ take placed known ++ entry ∷ []
+      → map row_of_entry (take (placed + 1) new) ≡ map row_of_entry (take placed old)
+        ++ row_of_entry entry ∷ []
   rows-more entry new within e =
       ap (map row_of_entry) e ∙ map-append row_of_entry (take placed known) (entry ∷ [])
       ∙ ap (λ es. map row_of_entry es ++ row_of_entry entry ∷ []) (is.front placed within)
@@ -75,7 +84,8 @@ module _ (name : List ℕ) (placed live found : ℕ) (old known : List Entry) (i
       → HasCome name (placed_rows placed live old) (placed_rows (placed + 1) live new)
   come-awaited new apart behind before within put =
       let front : take live known ≡ take live old = is.front live within in
-      let there : row_tail_named name (map row_of_entry (drop placed (take live old))) ≡ Some (row_tail_of name is.satellite) =
+      let there : row_tail_named name (map row_of_entry (drop placed (take live old)))
+        ≡ Some (row_tail_of name is.satellite) =
       named-map (λ (row : RowTail). row.name) row_of_entry name (drop placed (take live old))
       ∙ ap (λ es. option_map row_of_entry (named key_of name (drop placed es))) (sym front)
       ∙ ap (option_map row_of_entry)
@@ -91,7 +101,8 @@ module _ (name : List ℕ) (placed live found : ℕ) (old known : List Entry) (i
       }
 
   -- any other one comes
-  pub come-anew : (revived new : List Entry) → IsDistinct bytes_eq (keys_of known) → placed ≤ live → live ≤ found
+  pub come-anew : (revived new : List Entry) → IsDistinct bytes_eq (keys_of known) → placed ≤ live
+    → live ≤ found
       → live ≤ length old → IsRevived live found known revived → IsPutNext placed live revived new
       → HasCome name (placed_rows placed live old) (placed_rows (placed + 1) (live + 1) new)
   come-anew revived new apart few behind within anew put =
@@ -101,9 +112,11 @@ module _ (name : List ℕ) (placed live found : ℕ) (old known : List Entry) (i
       let none : row_tail_named name (map row_of_entry (drop placed (take live old))) ≡ None =
       named-map (λ (row : RowTail). row.name) row_of_entry name (drop placed (take live old))
       ∙ ap (option_map row_of_entry) (none-named key_of name placed (take live old)
-      (ap (is_among key_of name) (sym front) ∙ not-before live known found (name, is.satellite) apart is.there behind)) in
+      (ap (is_among key_of name) (sym front)
+        ∙ not-before live known found (name, is.satellite) apart is.there behind)) in
       let first : take placed revived ≡ take placed known =
-      sym (take-take placed live revived few) ∙ ap (take placed) anew.front ∙ take-take placed live known few in
+      sym (take-take placed live revived few) ∙ ap (take placed) anew.front ∙ take-take placed live known few
+        in
       let next : live + 1 ≡ suc live = omega arith in
       record {
         rows =

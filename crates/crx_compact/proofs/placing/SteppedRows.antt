@@ -1,5 +1,6 @@
 -- What is stored of one satellite among those that have come changes: its row, and no other one.
-use Rattle.std.proofs.Common.{◌≡◌, ℕ, zero, suc, ◌-◌, ◌<◌, ◌≤◌, List, [], ◌∷◌, ◌++◌, length, map, take, slice_get}
+use Rattle.std.proofs.Common.{◌≡◌, ℕ, zero, suc, ◌-◌, ◌<◌, ◌≤◌, List, [], ◌∷◌, ◌++◌, length, map, take}
+use Rattle.std.proofs.Common.{slice_get}
 use Rattle.std.proofs.Common.{Option, Some, None, option_map, refl, ap, sym, ◌∙◌}
 use Rattle.std.proofs.Common.{arith, slice_set, slice_index_or}
 use Rattle.std.specs.Prelude.{flat_map}
@@ -43,7 +44,8 @@ row-there placed i es e within there =
     slice_get-map row_of_entry (take placed es) i
     ∙ ap (option_map row_of_entry) (get-take placed i es within ∙ there)
 
-pub row-is : (placed i : ℕ) (es : List Entry) (e : Entry) (row : RowTail) → i < placed → slice_get es i ≡ Some e
+pub row-is : (placed i : ℕ) (es : List Entry) (e : Entry) (row : RowTail) → i < placed
+  → slice_get es i ≡ Some e
     → slice_get (rows_of placed es) i ≡ Some row → row_of_entry e ≡ row
 row-is placed i es e row within there also =
     same_Some (row_of_entry e) row (sym (row-there placed i es e within there) ∙ also)
@@ -91,7 +93,8 @@ pub padded-is : (name : List ℕ) (count : ℕ) (satellite after : SatelliteTail
       cells = cells_for count
           satellite.cells;
     }
-    → row_tail_of name after ≡ padded (record { name = name; count = count }) (Some (row_tail_of name satellite))
+    → row_tail_of name after ≡ padded (record { name = name; count = count })
+      (Some (row_tail_of name satellite))
 padded-is name count satellite after is = ap (row_tail_of name) is
 
 pub ends-same : {X : Type 0} (xs ys : List X) (x y : X) → xs ++ x ∷ [] ≡ ys ++ y ∷ [] → x ≡ y
@@ -109,14 +112,16 @@ has-last (x ∷ (y ∷ ys)) some =
 
 -- ---- a row that is written
 
-each_place-below : {X : Type 0} (n : ℕ) (f g : ℕ → X) → ((k : ℕ) → k < n → f k ≡ g k) → each_place n f ≡ each_place n g
+each_place-below : {X : Type 0} (n : ℕ) (f g : ℕ → X) → ((k : ℕ) → k < n → f k ≡ g k)
+  → each_place n f ≡ each_place n g
 each_place-below zero f g h = refl
 each_place-below (suc n) f g h =
     ap (λ x. x ∷ each_place n (λ i. f (suc i))) (h 0 (omega arith))
     ∙ ap (λ r. g 0 ∷ r)
     (each_place-below n (λ i. f (suc i)) (λ i. g (suc i)) (λ k within. h (suc k) (omega (arith, within))))
 
-cell-there : (n k : ℕ) (cells : List (Option ArcTail)) → k < n → slice_index_or (cells_for n cells) k None ≡ slice_index_or cells k None
+cell-there : (n k : ℕ) (cells : List (Option ArcTail)) → k < n
+  → slice_index_or (cells_for n cells) k None ≡ slice_index_or cells k None
 cell-there n k cells within = index-each_place n k (λ place. slice_index_or cells place None) None
     (λ past. absurd (omega (arith, within, past)))
 
@@ -134,7 +139,8 @@ written-row row satellite marked after marks arcs =
     ap (λ (s : SatelliteTail). arcs_of_cells s.cells row.values) marks
     ∙ each_place-below n (arc_at_place (cells_for n satellite.cells) row.values)
     (arc_at_place satellite.cells row.values)
-    (λ k within. ap (arc_of_value (slice_index_or row.values k None)) (cell-there n k satellite.cells within)) in
+    (λ k within. ap (arc_of_value (slice_index_or row.values k None)) (cell-there n k satellite.cells within))
+      in
     ap (row_tail_of row.name) arcs
     ∙ (λ j. record { name = row.name; flags = (marks j).flags; cells = cells j })
 
@@ -153,5 +159,6 @@ written-line row satellite marked part marks is =
     ap (λ (s : SatelliteTail). codes_of_cells s.cells row.values) marks
     ∙ each_place-below n (code_at_place (cells_for n satellite.cells) row.values)
     (code_at_place satellite.cells row.values)
-    (λ k within. ap (code_of_value (slice_index_or row.values k None)) (cell-there n k satellite.cells within)) in
+    (λ k within. ap (code_of_value (slice_index_or row.values k None))
+      (cell-there n k satellite.cells within)) in
     (λ j. without_end_blanks (flat_map cell_text (codes j) ++ is j))

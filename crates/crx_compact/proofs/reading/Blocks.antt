@@ -40,12 +40,15 @@ placed-here f Wanted thing count e = cc
 
 -- ---- the epoch line
 
-begun-reading : (types : List Count) (older : List RawEpoch) (tail : Option Tail) (line : List ℕ) (after : ColumnsState)
+begun-reading : (types : List Count) (older : List RawEpoch) (tail : Option Tail) (line : List ℕ)
+  (after : ColumnsState)
     → tail ≡ tail_left older
-    → HasMade (first_step types tail (Content line)) after None → IsReading types older (Content line ∷ []) after
+    → HasMade (first_step types tail (Content line)) after None
+      → IsReading types older (Content line ∷ []) after
 begun-reading types older tail line after e h = grind arith
 
-begun-wrong : (types : List Count) (older : List RawEpoch) (tail : Option Tail) (line : List ℕ) (fault : Fault)
+begun-wrong : (types : List Count) (older : List RawEpoch) (tail : Option Tail) (line : List ℕ)
+  (fault : Fault)
     → tail ≡ tail_left older
     → (first_step types tail (Content line) ≡ Faulty fault) ⊎ (fault ≡ OutOfMemory)
     → (epoch_at types older (Content line ∷ []) ≡ Wrong 0 fault) ⊎ (fault ≡ OutOfMemory)
@@ -64,7 +67,8 @@ begun-wrong types older tail line fault e (inl h) =
     first_place (Faulty q) = Wrong 0 q
 
 pub begun-block : (result : Result (Unit {0}) Fault) (types : List Count)
-    (older : List RawEpoch) (tail : Option Tail) (line : List ℕ) (after : ColumnsState) → tail ≡ tail_left older
+    (older : List RawEpoch) (tail : Option Tail) (line : List ℕ) (after : ColumnsState)
+      → tail ≡ tail_left older
     → IfOk result (λ u. HasMade (first_step types tail (Content line)) after None)
     → IfOk result (λ u. IsReading types older (Content line ∷ []) after)
 begun-block (Ok u) types older tail line after e h = begun-reading types older tail line after e h
@@ -73,7 +77,8 @@ begun-block (Err fault) types older tail line after e h = h
 pub begun-refused : (result : Result (Unit {0}) Fault)
     (types : List Count) (older : List RawEpoch) (tail : Option Tail) (line : List ℕ) → tail ≡ tail_left older
     → IfErr result (λ fault. (first_step types tail (Content line) ≡ Faulty fault) ⊎ (fault ≡ OutOfMemory))
-    → IfErr result (λ fault. (epoch_at types older (Content line ∷ []) ≡ Wrong 0 fault) ⊎ (fault ≡ OutOfMemory))
+    → IfErr result (λ fault. (epoch_at types older (Content line ∷ []) ≡ Wrong 0 fault)
+      ⊎ (fault ≡ OutOfMemory))
 begun-refused (Ok u) types older tail line e h = h
 begun-refused (Err fault) types older tail line e h = begun-wrong types older tail line fault e h
 
@@ -82,7 +87,8 @@ begun-refused (Err fault) types older tail line e h = begun-wrong types older ta
 step-by_lines : (types : List Count) (older : List RawEpoch)
     (lines : List ReadLine) (line : List ℕ) (state : ColumnsState) (r : IsReading types older lines state)
     → step_in state (Content line) ≡ next_step r.0 (Content line)
-step-by_lines types older lines line state r = ap {B = RawStep} (λ (s : ColumnsState). step_in s (Content line)) r.2
+step-by_lines types older lines line state r =
+  ap {B = RawStep} (λ (s : ColumnsState). step_in s (Content line)) r.2
 
 more-lines : (types : List Count) (older : List RawEpoch) (lines : List ReadLine)
     (line : List ℕ) (state after : ColumnsState) (given : Option Epoch) → IsReading types older lines state
@@ -112,7 +118,8 @@ more-lines types older lines line state after (Some epoch) r h =
     )
 
 more-wrong : (types : List Count) (older : List RawEpoch)
-    (lines : List ReadLine) (line : List ℕ) (state : ColumnsState) (fault : Fault) → IsReading types older lines state
+    (lines : List ReadLine) (line : List ℕ) (state : ColumnsState) (fault : Fault)
+      → IsReading types older lines state
     → (step_in state (Content line) ≡ Faulty fault) ⊎ (fault ≡ OutOfMemory)
     → (epoch_at types older (lines ++ Content line ∷ []) ≡ Wrong (length lines) fault) ⊎ (fault ≡ OutOfMemory)
 more-wrong types older lines line state fault r (inr h) = inr h
@@ -129,7 +136,8 @@ pub more-block : (result : Result (Option Epoch) Fault) (types : List Count) (ol
     (lines : List ReadLine) (line : List ℕ) (state after : ColumnsState) → IsReading types older lines state
     → IfOk result (λ given. HasMade (step_in state (Content line)) after given)
     → IfOk result (λ given. HasReadTo types older (lines ++ Content line ∷ []) after given)
-more-block (Ok given) types older lines line state after r h = more-lines types older lines line state after given r h
+more-block (Ok given) types older lines line state after r h =
+  more-lines types older lines line state after given r h
 more-block (Err fault) types older lines line state after r h = h
 
 pub more-refused : (result : Result (Option Epoch) Fault) (types : List Count) (older : List RawEpoch)

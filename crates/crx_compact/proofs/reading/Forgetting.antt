@@ -1,5 +1,6 @@
 -- A line that begins with > forgets what was read before it.
-use Rattle.std.specs.Prelude.{◌≡◌, ℕ, true, List, [], ◌∷◌, drop, Option, Some, None, Result, Ok, Err, if◌then◌else◌}
+use Rattle.std.specs.Prelude.{◌≡◌, ℕ, true, List, [], ◌∷◌, drop, Option, Some, None, Result, Ok, Err}
+use Rattle.std.specs.Prelude.{if◌then◌else◌}
 use Rattle.std.proofs.Common.{sym, ◌∙◌, ap}
 use Rattle.crx_base.specs.meaning.Seen.{ReadLine, Content}
 use Rattle.crx_base.specs.declared.fault.Fault.{Fault}
@@ -51,8 +52,10 @@ read-line : (types : List Count)
     → epoch_at types older (Content line ∷ lines) ≡ Here read count → read.raw.line ≡ line
 read-line types older line lines read count e =
     let r : Result BegunEpoch Fault = epoch_begun types line (past_of_line older line) in
-    let one : Comes (one_line r) (Content line ∷ lines) (λ begun others. epoch_after_line begun others) read count =
-    then-comes (one_line r) (Content line ∷ lines) (λ begun others. epoch_after_line begun others) read count e in
+    let one : Comes (one_line r) (Content line ∷ lines) (λ begun others. epoch_after_line begun others) read
+      count =
+    then-comes (one_line r) (Content line ∷ lines) (λ begun others. epoch_after_line begun others) read count
+      e in
     after-line one.from (drop one.count (Content line ∷ lines)) read one.more one.later
     ∙ begun-line types line (past_of_line older line) one.from (one-ok r one.from one.count one.first)
 

@@ -1,5 +1,6 @@
 -- The steps of a reader, line by line, agree with what is at all lines so far.
-use Rattle.std.specs.Prelude.{◌≡◌, refl, ℕ, suc, ◌+◌, List, [], ◌∷◌, ◌++◌, map, length, Option, Some, None, Result}
+use Rattle.std.specs.Prelude.{◌≡◌, refl, ℕ, suc, ◌+◌, List, [], ◌∷◌, ◌++◌, map, length, Option, Some, None}
+use Rattle.std.specs.Prelude.{Result}
 use Rattle.std.specs.Prelude.{Ok, Err, slice_get, unwrap_or, ℤ}
 use Rattle.std.specs.Option.{option_map, is_some}
 use Rattle.std.proofs.Common.{sym, ◌∙◌, ap, arith, true≢false}
@@ -30,9 +31,12 @@ use Rattle.crx_compact.specs.Steps.{no_tail, raw_row_tail_after, raw_tail_after,
 use Rattle.crx_compact.specs.HeldRows.{held_row, HeldRow, past_of_tail}
 use Rattle.crx_compact.specs.Placing.{padded}
 use Rattle.crx_compact.specs.ShownRows.{shown_row}
-use Rattle.crx_compact.specs.OpenEpochs.{tail_for_line, epoch_after, HeldEpoch, OpenRawEpoch, RawStep, before_clock}
-use Rattle.crx_compact.specs.OpenEpochs.{with_rows, opened_raw, opening, first_step, whole_epoch, whole_or_awaiting}
-use Rattle.crx_compact.specs.OpenEpochs.{rows_before, tail_opened, raw_step_with_clock, raw_step_with_row, row_step}
+use Rattle.crx_compact.specs.OpenEpochs.{tail_for_line, epoch_after, HeldEpoch, OpenRawEpoch, RawStep}
+use Rattle.crx_compact.specs.OpenEpochs.{before_clock}
+use Rattle.crx_compact.specs.OpenEpochs.{with_rows, opened_raw, opening, first_step, whole_epoch}
+use Rattle.crx_compact.specs.OpenEpochs.{whole_or_awaiting}
+use Rattle.crx_compact.specs.OpenEpochs.{rows_before, tail_opened, raw_step_with_clock, raw_step_with_row}
+use Rattle.crx_compact.specs.OpenEpochs.{row_step}
 use Rattle.crx_compact.specs.OpenEpochs.{step_with_rows, next_step, placed_as, held_after, place_of_step}
 use Rattle.crx_compact.specs.OpenEpochs.{place_of_steps, open_raw_after}
 use Rattle.crx_compact.specs.OpenEpochs.RawStep.{Going, Whole, Faulty}
@@ -68,7 +72,8 @@ one-more : (before : Tail) (text : List ℕ) (arc : Option ArcTail)
     ≡ after_lines (suc count) (rows_placed before text arc rows (after_lines 1 (row_onto read lines p)))
 one-more before text arc rows read lines count (Here more n) =
     grind (arith, append_assoc rows ((held_row before read).tail ∷ []) (rows_left before more))
-one-more before text arc rows read lines count (Wrong n q) = ap {B = Place HeldEpoch} (λ k. Wrong k q) (omega arith)
+one-more before text arc rows read lines count (Wrong n q) =
+  ap {B = Place HeldEpoch} (λ k. Wrong k q) (omega arith)
 one-more before text arc rows read lines count Wanted = refl
 
 -- what is behind the first rows
@@ -83,9 +88,11 @@ none-left (x ∷ xs) = none-left xs
 -- the awaited satellites' lines, one step each
 rows-steps : (before : Tail) (text : List ℕ) (arc : Option ArcTail)
     (rows : List RowTail) (awaited : List Satellite) (count : ℕ) (lines : List ReadLine)
-    → place_of_steps count (step_with_rows (tail_with text arc (rows ++ rows_before before awaited)) (length rows))
+    → place_of_steps count
+      (step_with_rows (tail_with text arc (rows ++ rows_before before awaited)) (length rows))
     lines
-    ≡ after_lines (suc count) (rows_placed before text arc rows (rows_read (past_of_tail before) awaited lines))
+    ≡ after_lines (suc count)
+      (rows_placed before text arc rows (rows_read (past_of_tail before) awaited lines))
 rows-steps before text arc rows [] count lines =
     ap {B = Place HeldEpoch} (λ (o : Option RowTail).
     place_of_steps count (whole_or_awaiting (tail_with text arc (rows ++ [])) (length rows) o) lines)
@@ -98,7 +105,8 @@ rows-steps before text arc rows (s ∷ ss) count [] =
     (get-next rows (rows_before before ss) (padded s (tail_named s.name before)))
 rows-steps before text arc rows (s ∷ ss) count (Overlong ∷ lines) =
     ap {B = Place HeldEpoch} (λ (o : Option RowTail).
-    place_of_steps count (whole_or_awaiting (tail_with text arc (rows ++ rows_before before (s ∷ ss))) (length rows) o)
+    place_of_steps count (whole_or_awaiting (tail_with text arc (rows ++ rows_before before (s ∷ ss)))
+      (length rows) o)
     (Overlong ∷ lines)) (get-next rows (rows_before before ss) (padded s (tail_named s.name before)))
     ∙ grind arith
 rows-steps before text arc rows (s ∷ ss) count (Content line ∷ lines) =
@@ -110,7 +118,8 @@ rows-steps before text arc rows (s ∷ ss) count (Content line ∷ lines) =
     ∙ ap {B = Place HeldEpoch} (λ (o : Option RowTail).
     place_of_steps (suc count) (row_step (with_rows tail (length rows)) o line) lines) there
     ∙ ap {B = Place HeldEpoch} (λ (r : Result HeldRow Fault).
-    place_of_steps (suc count) (raw_step_with_row (with_rows tail (length rows)) r) lines) (row-opened before s line)
+    place_of_steps (suc count) (raw_step_with_row (with_rows tail (length rows)) r) lines)
+      (row-opened before s line)
     ∙ step (satellite_line_read (past_of_tail before) s line) (λ read.
     rows-steps before text arc (rows ++ (held_row before read).tail ∷ []) ss (suc count) lines)
   where
@@ -122,9 +131,11 @@ rows-steps before text arc rows (s ∷ ss) count (Content line ∷ lines) =
 
     step : (r : Result ReadRow Fault)
         → ((read : ReadRow) → place_of_steps (suc count) (step_with_rows (tail_with text arc
-        ((rows ++ (held_row before read).tail ∷ []) ++ opened)) (length (rows ++ (held_row before read).tail ∷ [])))
+        ((rows ++ (held_row before read).tail ∷ []) ++ opened))
+          (length (rows ++ (held_row before read).tail ∷ [])))
         lines
-        ≡ after_lines (suc (suc count)) (rows_placed before text arc (rows ++ (held_row before read).tail ∷ [])
+        ≡ after_lines (suc (suc count))
+          (rows_placed before text arc (rows ++ (held_row before read).tail ∷ [])
         (rows_read (past_of_tail before) ss lines)))
         → place_of_steps (suc count) (raw_step_with_row so_far
         (and_then r (λ (read : ReadRow). Ok (held_row before read)))) lines
@@ -140,13 +151,15 @@ rows-steps before text arc rows (s ∷ ss) count (Content line ∷ lines) =
         (set-next rows opened (padded s (tail_named s.name before)) left)
         ∙ ap {B = Place HeldEpoch} (λ n. place_of_steps (suc count)
         (step_with_rows (tail_with text arc ((rows ++ left ∷ []) ++ opened)) n) lines) many
-        ∙ next read ∙ one-more before text arc rows read lines count (rows_read (past_of_tail before) ss lines)
+        ∙ next read ∙ one-more before text arc rows read lines count
+          (rows_read (past_of_tail before) ss lines)
 
 -- ---- the clock line and the epoch line
 
 -- an epoch whose line was read
 abbrev read_begun : Tail → List ℕ → List Satellite → BegunEpoch
-read_begun before line satellites = record { line = line; past = past_of_tail before; satellites = satellites }
+read_begun before line satellites =
+  record { line = line; past = past_of_tail before; satellites = satellites }
 
 -- rows are shown by what they leave
 rows-shown : (before : Tail) (satellites : List Satellite) (rows : List ReadRow)
@@ -172,7 +185,8 @@ held-same : (before : Tail) (line : List ℕ) (satellites : List Satellite)
     → shown_value (arc_of_code cell.code before.clock) ≡ cell.value
     → map (λ (r : ReadRow). r.row) rows ≡ map shown_row (rows_left before rows)
     → held_after tail (epoch_of_rows (read_begun before line satellites) cell rows)
-    ≡ whole_epoch (tail_with (patched before.text line) (arc_of_code cell.code before.clock) (rows_left before rows))
+    ≡ whole_epoch (tail_with (patched before.text line) (arc_of_code cell.code before.clock)
+      (rows_left before rows))
 held-same before line satellites cell rows tail h clock shown =
     let raw : RawEpoch = (epoch_of_rows (read_begun before line satellites) cell rows).raw in
     let text : List ℕ = patched before.text line in
@@ -187,7 +201,8 @@ held-same before line satellites cell rows tail h clock shown =
     ∙ ap {B = HeldEpoch} (λ (rs : List RowTail). record {
       epoch = record { head = head; clock = cell.value; rows = read };
       tail = tail_with text arc rs;
-    }) (map-map (λ (r : RawRow). raw_row_tail_after (tail_named r.name before) r) (λ (r : ReadRow). r.raw) rows)
+    }) (map-map (λ (r : RawRow). raw_row_tail_after (tail_named r.name before) r)
+      (λ (r : ReadRow). r.raw) rows)
     ∙ ap {B = HeldEpoch} (λ (value : Option ℤ). record {
       epoch = record { head = head; clock = value; rows = read };
       tail = tail_with text arc left;
@@ -216,7 +231,8 @@ read_rows-held before line satellites cell tail lines (Wrong n q) h clock e =
     ap {B = Place HeldEpoch} (λ k. Wrong k q) (omega arith)
 read_rows-held before line satellites cell tail lines Wanted h clock e = refl
 
-clock-steps : (before : Tail) (line : List ℕ) (satellites : List Satellite) (tail : Option Tail) (lines : List ReadLine)
+clock-steps : (before : Tail) (line : List ℕ) (satellites : List Satellite) (tail : Option Tail)
+  (lines : List ReadLine)
     → tail_for_line tail line ≡ Some before
     → placed_as (held_after tail) (after_lines 1 (epoch_after_line (read_begun before line satellites) lines))
     ≡ place_of_steps 0 (Going (before_clock (tail_opened before line satellites))) lines
@@ -238,20 +254,23 @@ clock-steps before line satellites tail (Content text ∷ lines) h =
         (clock-shown before text cell e) refl
         ∙ sym (rows-steps before (patched before.text line) arc [] satellites 1 lines)
 
-pub steps-agree : (types : List Count) (tail : Option Tail) (lines : List ReadLine) → StepsAgree types tail lines
+pub steps-agree : (types : List Count) (tail : Option Tail) (lines : List ReadLine)
+  → StepsAgree types tail lines
 steps-agree types tail [] = refl
 steps-agree types tail (Overlong ∷ lines) = refl
 steps-agree types tail (Content line ∷ lines) = by_tail (tail_for_line tail line) refl
   where
     by_line : (before : Tail) (r : Result (List Satellite) Fault) → tail_for_line tail line ≡ Some before
-        → placed_as (held_after tail) (then_place (one_line (and_then r (λ ss. Ok (read_begun before line ss))))
+        → placed_as (held_after tail)
+          (then_place (one_line (and_then r (λ ss. Ok (read_begun before line ss))))
         (Content line ∷ lines) (λ b others. epoch_after_line b others))
         ≡ place_of_steps 0 (opening (and_then r (λ ss. Ok (before_clock (tail_opened before line ss))))) lines
     by_line before (Err q) h = refl
     by_line before (Ok satellites) h = clock-steps before line satellites tail lines h
 
     by_tail : (t : Option Tail) → tail_for_line tail line ≡ t
-        → placed_as (held_after tail) (then_place (one_line (epoch_begun types line (option_map past_of_tail t)))
+        → placed_as (held_after tail)
+          (then_place (one_line (epoch_begun types line (option_map past_of_tail t)))
         (Content line ∷ lines) (λ b others. epoch_after_line b others))
         ≡ place_of_steps 0 (opening (opened_raw types line t)) lines
     by_tail None h = refl
@@ -282,7 +301,8 @@ wanted-where_open types tail (line ∷ lines) =
 -- a step more, where the lines so far make an open epoch
 step-more : (count : ℕ) (s : RawStep) (lines : List ReadLine) (line : ReadLine) (begun : OpenRawEpoch)
     → open_raw_after s lines ≡ Some begun
-    → place_of_steps count s (lines ++ line ∷ []) ≡ place_of_step (suc (count + length lines)) (next_step begun line)
+    → place_of_steps count s (lines ++ line ∷ []) ≡ place_of_step (suc (count + length lines))
+      (next_step begun line)
 step-more count (Going so_far) [] line begun h = grind arith
 step-more count (Going so_far) (l ∷ ls) line begun h =
     step-more (suc count) (next_step so_far l) ls line begun h
@@ -301,7 +321,8 @@ open-more (Faulty q) lines line begun h = absurd (true≢false (sym (ap is_some 
 pub steps-from_open : StepsFromOpen
 steps-from_open types tail [] line begun h = absurd (true≢false (sym (ap is_some h)))
 steps-from_open types tail (l ∷ ls) line begun h = record {
-  place = steps-agree types tail (l ∷ (ls ++ line ∷ [])) ∙ step-more 0 (first_step types tail l) ls line begun h
+  place = steps-agree types tail (l ∷ (ls ++ line ∷ []))
+    ∙ step-more 0 (first_step types tail l) ls line begun h
       ∙ ap (λ n. place_of_step n (next_step begun line)) (omega arith);
   open_epoch = open-more (first_step types tail l) ls line begun h;
 }

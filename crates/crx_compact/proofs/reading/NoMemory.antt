@@ -1,5 +1,6 @@
 -- That memory ran out is no fault of a clock line or a satellite's line.
-use Rattle.std.specs.Prelude.{◌≡◌, ℕ, suc, ℤ, List, [], ◌∷◌, Bool, true, false, Option, None, Some, Result, Ok, Err}
+use Rattle.std.specs.Prelude.{◌≡◌, ℕ, suc, ℤ, List, [], ◌∷◌, Bool, true, false, Option, None, Some, Result}
+use Rattle.std.specs.Prelude.{Ok, Err}
 use Rattle.std.specs.Prelude.{not, if◌then◌else◌, slice_index_or}
 use Rattle.std.proofs.Common.{◌∙◌, ap}
 use Rattle.crx_text.specs.declared.code.Code.{Code}
@@ -54,10 +55,12 @@ value-none width (Step number) None = λ e. cc
 value-none width (Step number) (Some arc) = range-none width _
 
 cell-none : (malformed : Fault) (value : Code → Result (Option ℤ) Fault) → (malformed ≡ OutOfMemory → ⊥)
-    → ((code : Code) → NoMemory (value code)) → (code : Option Code) → NoMemory (cell_read malformed value code)
+    → ((code : Code) → NoMemory (value code)) → (code : Option Code)
+      → NoMemory (cell_read malformed value code)
 cell-none malformed value m h None = m
 cell-none malformed value m h (Some code) =
-    and-then-none {Y = ReadCell} (value code) (λ v. Ok (record { code = code; value = v })) (h code) (λ v e. cc)
+    and-then-none {Y = ReadCell} (value code) (λ v. Ok (record { code = code; value = v })) (h code)
+      (λ v e. cc)
 
 cells-none : (value : ℕ → Code → Result (Option ℤ) Fault)
     → ((place : ℕ) (code : Code) → NoMemory (value place code)) → (texts : List (List ℕ))
@@ -78,7 +81,8 @@ pub no-memory-at-row : (kept : Option RowTail) (s : Satellite) (line : List ℕ)
     → row_held kept s line ≡ Err fault → fault ≡ OutOfMemory → ⊥
 no-memory-at-row kept s line fault e out =
     and-then-none {Y = HeldRow} (satellite_line_read past s line)
-    (λ read. Ok (held_from arcs flags read)) (by_start (begins_epoch line)) (λ read h. cc) (ap fault_in e ∙ out)
+    (λ read. Ok (held_from arcs flags read)) (by_start (begins_epoch line)) (λ read h. cc)
+      (ap fault_in e ∙ out)
   where
     arcs : List (Option ArcTail)
     arcs = arcs_of_tail kept

@@ -1,6 +1,8 @@
--- The rows of an open epoch: a satellite's line is read after the row that the epoch line leaves of it as after what is
+-- The rows of an open epoch: a satellite's line is read after the row that the epoch line leaves of it as
+-- after what is
 -- kept of the satellite, and what it leaves shows its row.
-use Rattle.std.specs.Prelude.{◌≡◌, refl, ℕ, zero, suc, ◌<◌, ◌≤◌, ◌*◌, ◌⊎◌, Bool, true, false, List, [], ◌∷◌, length, map}
+use Rattle.std.specs.Prelude.{◌≡◌, refl, ℕ, zero, suc, ◌<◌, ◌≤◌, ◌*◌, ◌⊎◌, Bool, true, false, List, [], ◌∷◌}
+use Rattle.std.specs.Prelude.{length, map}
 use Rattle.std.specs.Prelude.{take, slice_index_or, Option, None, Some, Result, Ok, Err, if◌then◌else◌}
 use Rattle.std.proofs.Common.{sym, ◌∙◌, ap, subst, arith, inl, inr}
 use Rattle.std.proofs.lemmas.List.{length-map}
@@ -26,13 +28,15 @@ use Rattle.crx_compact.specs.ArcSteps.{arc_of_code, shown_value, value_of_code}
 use Rattle.crx_compact.specs.Tails.{RowTail, Tail}
 use Rattle.crx_compact.specs.Steps.{cell_of_tail, flags_held, flags_of_tail, tail_named}
 use Rattle.crx_compact.specs.Cells.{arcs_of_codes, value_at_place}
-use Rattle.crx_compact.specs.HeldRows.{HeldRow, arcs_of_tail, held_from, held_row, past_of_row, past_of_tail, row_after}
+use Rattle.crx_compact.specs.HeldRows.{HeldRow, arcs_of_tail, held_from, held_row, past_of_row, past_of_tail}
+use Rattle.crx_compact.specs.HeldRows.{row_after}
 use Rattle.crx_compact.specs.HeldRows.{row_held}
 use Rattle.crx_compact.specs.Placing.{padded, satellite_of}
 use Rattle.crx_compact.specs.ShownRows.{shown_row}
 use Rattle.crx_compact.proofs.CellsRead.{cells-within, shown-code}
 use Rattle.crx_compact.proofs.Characters.{at-by_position, at-take_past, same_characters, within-or_past}
-use Rattle.crx_compact.proofs.Marks.{cell-by_kept, cells-count, columns-held, row-by_tail, row_with_marks, texts-count}
+use Rattle.crx_compact.proofs.Marks.{cell-by_kept, cells-count, columns-held, row-by_tail, row_with_marks}
+use Rattle.crx_compact.proofs.Marks.{texts-count}
 use Rattle.crx_compact.proofs.PlaceByPlace.{at-take}
 use Rattle.crx_compact.proofs.soundness.Soundness.{AreReadCells, RowFacts}
 
@@ -63,7 +67,8 @@ flags-padded count flags marks =
     marked : (old : List ℕ) (p : ℕ) → p < 2 * count → at (take (2 * count) (patched old marks)) p
         ≡ character_of (at old p) (at marks p)
     marked old p h = at-take (2 * count) (patched old marks) p h
-        ∙ at-without_end_blanks (by_position character_of old marks) p ∙ at-by_position character_of refl old marks p
+        ∙ at-without_end_blanks (by_position character_of old marks) p
+          ∙ at-by_position character_of refl old marks p
 
     by_place : (p : ℕ) → (p < 2 * count) ⊎ (2 * count ≤ p)
         → at (take (2 * count) (patched (flags_held count flags) marks)) p
@@ -75,7 +80,8 @@ flags-padded count flags marks =
         ∙ sym (at-take_past (2 * count) (patched flags marks) p h)
 
 columns-padded : (count : ℕ) (flags marks : List ℕ)
-    → columns (patched (flags_held count flags) marks) 1 (2 * count) ≡ columns (patched flags marks) 1 (2 * count)
+    → columns (patched (flags_held count flags) marks) 1 (2 * count) ≡ columns (patched flags marks) 1
+      (2 * count)
 columns-padded count flags marks =
     sym (columns-held count (patched (flags_held count flags) marks))
     ∙ ap (λ (t : List ℕ). columns t 1 (2 * count)) (flags-padded count flags marks)
@@ -93,7 +99,8 @@ cells-padded s kept marks cells many =
     let coded : length codes ≡ s.count = length-map cells (λ (c : ReadCell). c.code) ∙ many in
     let old : List ℕ = flags_of_tail kept in
     let new : List ℕ = flags_held s.count old in
-    let shown : columns (patched new marks) 1 (2 * length cells) ≡ columns (patched old marks) 1 (2 * length cells) =
+    let shown : columns (patched new marks) 1 (2 * length cells) ≡ columns (patched old marks) 1
+      (2 * length cells) =
     ap (λ n. columns (patched new marks) 1 (2 * n)) many
     ∙ columns-padded s.count old marks ∙ sym (ap (λ n. columns (patched old marks) 1 (2 * n)) many) in
     let held : flags_held (length codes) (patched new marks) ≡ flags_held (length codes) (patched old marks) =
@@ -119,7 +126,8 @@ row-padded s kept line =
     (cells-within (value_at_place row.cells) (value_at_place (arcs_of_tail kept)) texts (λ place code less.
     ap (value_of_code OBSERVATION_WIDTH code)
     (padded-cell s kept place (omega (arith, less, texts-count s.count line)))))
-    ∙ decided (begins_epoch line) (are_marks s.count marks) (cells_read (value_at_place (arcs_of_tail kept)) texts)
+    ∙ decided (begins_epoch line) (are_marks s.count marks)
+      (cells_read (value_at_place (arcs_of_tail kept)) texts)
     (λ cells e. cells-count (value_at_place (arcs_of_tail kept)) texts cells e ∙ texts-count s.count line)
   where
     marked : List ℕ
@@ -149,11 +157,13 @@ satellite-padded s kept = ap {B = Satellite} (λ n. record { name = s.name; coun
 
 -- a satellite's line after the row that the epoch line leaves is one after all of the history
 pub row-opened : (before : Tail) (s : Satellite) (line : List ℕ)
-    → row_held (Some (padded s (tail_named s.name before))) (satellite_of (padded s (tail_named s.name before))) line
+    → row_held (Some (padded s (tail_named s.name before)))
+      (satellite_of (padded s (tail_named s.name before))) line
     ≡ row_after before s line
 row-opened before s line =
     let kept : Option RowTail = tail_named s.name before in
-    ap {B = Result HeldRow Fault} (λ (q : Satellite). row_held (Some (padded s kept)) q line) (satellite-padded s kept)
+    ap {B = Result HeldRow Fault} (λ (q : Satellite). row_held (Some (padded s kept)) q line)
+      (satellite-padded s kept)
     ∙ row-padded s kept line ∙ row-by_tail before s line
 
 -- ---- the row that a line leaves
@@ -187,7 +197,8 @@ row-shows before s read h =
     arcs = each_place (length codes) (λ k. arc_of_code (slice_index_or codes k Missing) (cell_of_tail k kept))
 
     many : length arcs ≡ length h.cells
-    many = length-each_place (length codes) (λ k. arc_of_code (slice_index_or codes k Missing) (cell_of_tail k kept))
+    many = length-each_place (length codes)
+      (λ k. arc_of_code (slice_index_or codes k Missing) (cell_of_tail k kept))
         ∙ length-map h.cells (λ (c : ReadCell). c.code)
 
     flags : columns text 1 (2 * length h.cells) ≡ columns (flags_held (length codes) text) 1 (2 * length arcs)

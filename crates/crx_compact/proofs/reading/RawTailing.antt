@@ -1,5 +1,6 @@
 -- The tail of a block of raw epochs decides what the next one stands for, and the next tail.
-use Rattle.std.specs.Prelude.{◌≡◌, refl, ℕ, Bool, true, false, List, [], ◌∷◌, ◌*◌, map, length, Option, Some, None}
+use Rattle.std.specs.Prelude.{◌≡◌, refl, ℕ, Bool, true, false, List, [], ◌∷◌, ◌*◌, map, length, Option, Some}
+use Rattle.std.specs.Prelude.{None}
 use Rattle.std.specs.Prelude.{if◌then◌else◌, unwrap_or}
 use Rattle.std.specs.Option.{option_map}
 use Rattle.std.proofs.Common.{sym, ◌∙◌, ap}
@@ -14,14 +15,16 @@ use Rattle.crx_header.specs.meaning.ObservationTypes.{Count}
 use Rattle.crx_text.specs.meaning.EachPlace.{each_place}
 use Rattle.crx_compact.specs.meaning.Sequences.{stretch}
 use Rattle.crx_header.specs.meaning.EpochColumns.{begins_epoch}
-use Rattle.crx_compact.specs.meaning.Expansion.{RawRow, RawEpoch, block_of, overlaid, raw_row_named, raw_run_of}
+use Rattle.crx_compact.specs.meaning.Expansion.{RawRow, RawEpoch, block_of, overlaid, raw_row_named}
+use Rattle.crx_compact.specs.meaning.Expansion.{raw_run_of}
 use Rattle.crx_compact.specs.meaning.Expansion.{marks_of, code_in}
 use Rattle.crx_compact.specs.meaning.ArcValues.{since_start, value_of}
 use Rattle.crx_compact.specs.meaning.Past.{Past, past_of_block, past_of_epochs, past_of_line}
 use Rattle.crx_compact.specs.meaning.CompactPlaces.{epoch_against, epoch_at}
 use Rattle.crx_compact.specs.Tails.{RowTail, Tail, raw_row_tail, tail_of_block, tail_left}
 use Rattle.crx_compact.specs.ArcTails.{started_tail}
-use Rattle.crx_compact.specs.Steps.{no_tail, tail_named, cell_of_tail, flags_of_tail, flags_held, raw_row_tail_after}
+use Rattle.crx_compact.specs.Steps.{no_tail, tail_named, cell_of_tail, flags_of_tail, flags_held}
+use Rattle.crx_compact.specs.Steps.{raw_row_tail_after}
 use Rattle.crx_compact.specs.Steps.{raw_tail_after}
 use Rattle.crx_compact.specs.ArcSteps.{value_of_code, arc_of_code}
 use Rattle.crx_compact.specs.HeldRows.{past_of_tail}
@@ -43,7 +46,8 @@ cell-found rest None j = refl
 cell-found rest (Some r) j =
     index-each_place (length r.codes) j
     (λ i. started_tail (since_start (map (code_in i) (r ∷ stretch rest)))) None (λ le.
-    ap (λ c. started_tail (since_start (c ∷ map (code_in j) (stretch rest)))) (get_or_past r.codes j Missing le))
+    ap (λ c. started_tail (since_start (c ∷ map (code_in j) (stretch rest))))
+      (get_or_past r.codes j Missing le))
 
 flags-found : (rest : List (Option RawRow)) (found : Option RawRow)
     → flags_of_tail (option_map (raw_row_tail (stretch (found ∷ rest))) found)
@@ -71,7 +75,8 @@ flags-left name (e ∷ es) =
 -- ---- one line more
 
 row-tail : (raw : RawEpoch) (block : List RawEpoch) (r : RawRow) → raw_row_named r.name raw.rows ≡ Some r
-    → raw_row_tail (raw_run_of r.name (raw ∷ block)) r ≡ raw_row_tail_after (tail_named r.name (tail_of_block block)) r
+    → raw_row_tail (raw_run_of r.name (raw ∷ block)) r
+      ≡ raw_row_tail_after (tail_named r.name (tail_of_block block)) r
 row-tail raw block r own =
     let n = length r.codes in
     let rs = raw_run_of r.name block in
@@ -148,11 +153,13 @@ line-left older line = step (begins_epoch line)
 -- the tail decides what is at the next lines
 pub place-by_tail : (types : List Count) (older : List RawEpoch) (lines : List ReadLine)
     → epoch_at types older lines ≡ epoch_after types (tail_left older) lines
-place-by_tail types older lines = ap (λ f. epoch_against types f lines) (fun_ext (λ line. line-left older line))
+place-by_tail types older lines =
+  ap (λ f. epoch_against types f lines) (fun_ext (λ line. line-left older line))
 
 -- what a raw epoch leaves
 pub left-by_tail : (raw : RawEpoch) (older : List RawEpoch) → HasSingleLines raw
-    → tail_left (raw ∷ older) ≡ Some (raw_tail_after (unwrap_or (tail_for_line (tail_left older) raw.line) no_tail) raw)
+    → tail_left (raw ∷ older)
+      ≡ Some (raw_tail_after (unwrap_or (tail_for_line (tail_left older) raw.line) no_tail) raw)
 left-by_tail raw older own = step (begins_epoch raw.line) older
   where
     step : (b : Bool) (os : List RawEpoch)

@@ -6,7 +6,8 @@ use Rattle.crx_rinex.specs.Steady.{IsSteady}
 use Rattle.crx_rinex.proofs.Steady.{steady-here, steady-first_line, steady-then}
 use Rattle.crx_compact.specs.meaning.EpochText.{Satellite}
 use Rattle.crx_compact.specs.meaning.Past.{Past}
-use Rattle.crx_compact.specs.meaning.CompactPlaces.{BegunEpoch, epoch_begun, clock_line_read, satellite_line_read}
+use Rattle.crx_compact.specs.meaning.CompactPlaces.{BegunEpoch, epoch_begun, clock_line_read}
+use Rattle.crx_compact.specs.meaning.CompactPlaces.{satellite_line_read}
 use Rattle.crx_compact.specs.meaning.CompactPlaces.{rows_read, epoch_of_rows, epoch_after_line, epoch_against}
 
 pub steady-rows_read : (past : Past) (satellites : List Satellite) → IsSteady (rows_read past satellites)
@@ -21,10 +22,12 @@ steady-rows_read past (s ∷ ss) =
 pub steady-after_line : (begun : BegunEpoch) → IsSteady (epoch_after_line begun)
 steady-after_line begun =
     steady-then (λ lines. first_line lines (clock_line_read begun.past)) (λ clock others. then_place
-    (rows_read begun.past begun.satellites others) others (λ rows rest. Here (epoch_of_rows begun clock rows) 0))
+    (rows_read begun.past begun.satellites others) others
+      (λ rows rest. Here (epoch_of_rows begun clock rows) 0))
     (steady-first_line (clock_line_read begun.past)) (λ clock.
     steady-then (rows_read begun.past begun.satellites)
-    (λ rows rest. Here (epoch_of_rows begun clock rows) 0) (steady-rows_read begun.past begun.satellites) (λ rows.
+    (λ rows rest. Here (epoch_of_rows begun clock rows) 0) (steady-rows_read begun.past begun.satellites)
+      (λ rows.
     steady-here (epoch_of_rows begun clock rows)))
 
 pub steady-epoch_against : (types : List Count) (past_of : List ℕ → Option Past)

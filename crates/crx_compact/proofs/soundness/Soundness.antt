@@ -1,6 +1,7 @@
 -- What follows of an epoch from its having been read.
 use Rattle.std.specs.Prelude.{◌≡◌, refl, ℕ, suc, ◌+◌, ◌*◌, Bool, true, false, ℤ, List, [], ◌∷◌, map, length}
-use Rattle.std.specs.Prelude.{slice_index_or, drop, Option, Some, None, Result, Ok, Err, ⊤, not, if◌then◌else◌}
+use Rattle.std.specs.Prelude.{slice_index_or, drop, Option, Some, None, Result, Ok, Err, ⊤, not}
+use Rattle.std.specs.Prelude.{if◌then◌else◌}
 use Rattle.std.specs.List.{AllByRecursion}
 use Rattle.std.proofs.Common.{sym, ◌∙◌, ap, subst, arith}
 use Rattle.std.proofs.lemmas.List.{length-map}
@@ -10,7 +11,8 @@ use Rattle.crx_base.specs.meaning.Seen.{ReadLine, Content, Overlong}
 use Rattle.crx_rinex.specs.meaning.Observations.{Row, Epoch}
 use Rattle.crx_header.specs.meaning.ObservationTypes.{Count}
 use Rattle.crx_header.proofs.Apart.{apart-map}
-use Rattle.crx_rinex.specs.meaning.Places.{Place, Here, Wrong, Wanted, then_place, after_lines, first_line, one_line}
+use Rattle.crx_rinex.specs.meaning.Places.{Place, Here, Wrong, Wanted, then_place, after_lines, first_line}
+use Rattle.crx_rinex.specs.meaning.Places.{one_line}
 use Rattle.crx_text.specs.declared.code.Code.{Code}
 use Rattle.crx_text.specs.declared.code.Code.TheVariants.{Missing}
 use Rattle.crx_base.specs.declared.fault.Fault.{Fault}
@@ -21,10 +23,12 @@ use Rattle.crx_compact.specs.meaning.Sequences.{and_then, before_all}
 use Rattle.crx_compact.specs.Expansion.{all_ok, text_of, row_from, rows_from, epoch_of_block, epoch_from}
 use Rattle.crx_header.specs.meaning.EpochColumns.{begins_epoch}
 use Rattle.crx_compact.specs.meaning.EpochText.{Satellite}
-use Rattle.crx_compact.specs.meaning.Expansion.{RawRow, RawEpoch, block_of, raw_row_named, raw_run_of, marks_of}
+use Rattle.crx_compact.specs.meaning.Expansion.{RawRow, RawEpoch, block_of, raw_row_named, raw_run_of}
+use Rattle.crx_compact.specs.meaning.Expansion.{marks_of}
 use Rattle.crx_compact.specs.meaning.Past.{Past, past_of_block, past_of_epochs, past_of_line}
 use Rattle.crx_compact.proofs.wayback.Cuts.{columns-cut}
-use Rattle.crx_compact.specs.meaning.CompactPlaces.{satellites_of_line, BegunEpoch, epoch_begun, clock_line_read}
+use Rattle.crx_compact.specs.meaning.CompactPlaces.{satellites_of_line, BegunEpoch, epoch_begun}
+use Rattle.crx_compact.specs.meaning.CompactPlaces.{clock_line_read}
 use Rattle.crx_compact.specs.meaning.CompactPlaces.{are_marks, ReadRow, row_of_cells}
 use Rattle.crx_compact.specs.meaning.CompactPlaces.{satellite_line_read, rows_read, ReadEpoch, epoch_of_rows}
 use Rattle.crx_compact.specs.meaning.CompactPlaces.{epoch_after_line, epoch_at}
@@ -72,7 +76,8 @@ then-comes (Wrong k f) lines next y n e = cc
 then-comes Wanted lines next y n e = cc
 
 -- what a first line is read as
-pub record Reads {X : Type 0} (lines : List ReadLine) (read : List ℕ → Result X Fault) (x : X) (n : ℕ) : Type 0 where
+pub record Reads {X : Type 0} (lines : List ReadLine) (read : List ℕ → Result X Fault) (x : X)
+  (n : ℕ) : Type 0 where
   pub line : List ℕ
   pub ok : read line ≡ Ok x
   pub one : n ≡ 1
@@ -87,7 +92,8 @@ pub line-reads : {X : Type 0} (lines : List ReadLine) (read : List ℕ → Resul
     → first_line lines read ≡ Here x n → Reads lines read x n
 line-reads [] read x n e = cc
 line-reads (Overlong ∷ lines) read x n e = cc
-line-reads (Content line ∷ lines) read x n e = result-reads (Content line ∷ lines) read line (read line) x n refl e
+line-reads (Content line ∷ lines) read x n e =
+  result-reads (Content line ∷ lines) read line (read line) x n refl e
 
 -- ---- cells
 
@@ -123,7 +129,8 @@ cells-meant : (value : ℕ → Code → Result (Option ℤ) Fault) (cells : List
     (λ j. value j (slice_index_or (map (λ (c : ReadCell). c.code) cells) j Missing)))
     ≡ Ok (map (λ (c : ReadCell). c.value) cells)
 cells-meant value [] h = refl
-cells-meant value (c ∷ cs) h = rw h.0.meant (ap (before_all c.value) (cells-meant (λ j. value (suc j)) cs h.1))
+cells-meant value (c ∷ cs) h =
+  rw h.0.meant (ap (before_all c.value) (cells-meant (λ j. value (suc j)) cs h.1))
 
 -- ---- a satellite's line
 
@@ -225,7 +232,8 @@ abbrev pub block_for : List ℕ → List RawEpoch → List RawEpoch
 block_for line older = if begins_epoch line then [] else block_of older
 
 -- what is known of an epoch that was read
-pub record EpochFacts (types : List Count) (older : List RawEpoch) (read : ReadEpoch) (count : ℕ) : Type 0 where
+pub record EpochFacts (types : List Count) (older : List RawEpoch) (read : ReadEpoch)
+  (count : ℕ) : Type 0 where
   pub satellites : List Satellite
   pub clock : ReadCell
   pub rows : List ReadRow
@@ -240,7 +248,8 @@ pub record EpochFacts (types : List Count) (older : List RawEpoch) (read : ReadE
   }) clock rows ≡ read
 
 record Begun (types : List Count) (older : List RawEpoch) (begun : BegunEpoch) : Type 0 where
-  satellites_ok : satellites_of_line types (past_of_block (block_for begun.line older)) begun.line ≡ Ok begun.satellites
+  satellites_ok : satellites_of_line types (past_of_block (block_for begun.line older)) begun.line
+    ≡ Ok begun.satellites
   past_is : past_of_block (block_for begun.line older) ≡ begun.past
 
 -- a past, if there is one, is that of a block
@@ -257,7 +266,8 @@ past-found_if false (o ∷ os) = refl
 begun-facts : (types : List Count) (older : List RawEpoch) (line : List ℕ) (begun : BegunEpoch)
     → epoch_begun types line (past_of_line older line) ≡ Ok begun
     → Begun types older begun
-begun-facts types older line begun e = by_past (past_of_line older line) (past-found_if (begins_epoch line) older) e
+begun-facts types older line begun e =
+  by_past (past_of_line older line) (past-found_if (begins_epoch line) older) e
   where
     by_past : (o : Option Past) → IsOfBlock (block_for line older) o
         → epoch_begun types line o ≡ Ok begun → Begun types older begun
@@ -268,7 +278,8 @@ begun-facts types older line begun e = by_past (past_of_line older line) (past-f
         and_then-ok (satellites_of_line types past line)
         (λ ss. Ok (record { line = line; past = past; satellites = ss })) begun e in
         let P : BegunEpoch → Type 0 = λ b. Begun types older b in
-        subst P (ok-same (record { line = line; past = past; satellites = step.from }) begun step.next) (record {
+        subst P (ok-same (record { line = line; past = past; satellites = step.from }) begun step.next)
+          (record {
           satellites_ok = ap (λ p. satellites_of_line types p line) (sym h) ∙ step.first;
           past_is = sym h;
         })
@@ -300,7 +311,8 @@ epoch-made types older begun lines read count h e =
       clock_ok = ap (λ p. p.clock one.from.code) past
           ∙ (read-cell BadClock begun.past.clock (without_end_blanks line.line) one.from
           (if-err (begins_epoch line.line) Truncated
-          (cell_read BadClock begun.past.clock (code_of (without_end_blanks line.line))) one.from line.ok)).meant;
+          (cell_read BadClock begun.past.clock (code_of (without_end_blanks line.line))) one.from
+            line.ok)).meant;
       rows_ok = subst (λ p. Paired (RowFacts p) begun.satellites two.from) (sym past) rows.each;
       counted = omega (arith, one.counted, line.one, two.counted, rows.counted, none);
       is_read = ap {B = ReadEpoch} (λ p. epoch_of_rows (record {
@@ -310,7 +322,8 @@ epoch-made types older begun lines read count h e =
       }) one.from two.from) past;
     })
 
-pub epoch-facts : (types : List Count) (older : List RawEpoch) (lines : List ReadLine) (read : ReadEpoch) (count : ℕ)
+pub epoch-facts : (types : List Count) (older : List RawEpoch) (lines : List ReadLine) (read : ReadEpoch)
+  (count : ℕ)
     → epoch_at types older lines ≡ Here read count
     → EpochFacts types older read count
 epoch-facts types older lines read count e =
@@ -339,7 +352,8 @@ rows-single types older read count h =
 
 rows-meant : (block : List RawEpoch) (raw : RawEpoch) (satellites : List Satellite) (rows : List ReadRow)
     → Paired (RowFacts (past_of_block block)) satellites rows
-    → AllByRecursion (λ (r : RawRow). raw_row_named r.name raw.rows ≡ Some r) (map (λ (r : ReadRow). r.raw) rows)
+    → AllByRecursion (λ (r : RawRow). raw_row_named r.name raw.rows ≡ Some r)
+      (map (λ (r : ReadRow). r.raw) rows)
     → rows_from (raw ∷ block) (map (λ (r : ReadRow). r.raw) rows) ≡ Ok (map (λ (r : ReadRow). r.row) rows)
 rows-meant block raw [] [] h own = refl
 rows-meant block raw [] (r ∷ rs) h own = absurd h
@@ -363,7 +377,8 @@ epoch-meant types older read count h =
     let raw : RawEpoch = record { line = line; clock = h.clock.code; rows = raws } in
     let single : HasSingleLines read.raw = rows-single types older read count h in
     let same : raw ≡ read.raw = ap (λ (r : ReadEpoch). r.raw) h.is_read in
-    let own : HasSingleLines raw = let Q : RawEpoch → Type 0 = λ x. HasSingleLines x in subst Q (sym same) single in
+    let own : HasSingleLines raw = let Q : RawEpoch → Type 0 = λ x. HasSingleLines x
+      in subst Q (sym same) single in
     let meant : epoch_of_block (raw ∷ block) raw
     ≡ Ok (record { head = columns (text_of (raw ∷ block)) 1 41; clock = h.clock.value; rows = rows }) =
     ap {B = Result Epoch Fault} (λ res. and_then res (λ clock. and_then (rows_from (raw ∷ block) raws)
@@ -380,7 +395,8 @@ pub reads-soundly : ReadsSoundly
 reads-soundly types older lines read count e =
     let facts : EpochFacts types older read count = epoch-facts types older lines read count e in
     let rows : length read.epoch.rows ≡ length facts.rows = sym
-    (ap (λ (r : ReadEpoch). length r.epoch.rows) facts.is_read) ∙ length-map facts.rows (λ (r : ReadRow). r.row) in
+    (ap (λ (r : ReadEpoch). length r.epoch.rows) facts.is_read)
+      ∙ length-map facts.rows (λ (r : ReadRow). r.row) in
     record {
       single = rows-single types older read count facts;
       meant = epoch-meant types older read count facts;

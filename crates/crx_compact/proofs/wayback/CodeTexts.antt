@@ -1,5 +1,6 @@
 -- The texts of codes hold no blank and no >.
-use Rattle.std.specs.Prelude.{◌≡◌, refl, ℕ, suc, ◌+◌, ◌^◌, ◌<◌, ◌≤◌, Bool, true, not, ◌&&◌, ◌==◌, ℤ, pos, negsuc, List}
+use Rattle.std.specs.Prelude.{◌≡◌, refl, ℕ, suc, ◌+◌, ◌^◌, ◌<◌, ◌≤◌, Bool, true, not, ◌&&◌, ◌==◌, ℤ, pos}
+use Rattle.std.specs.Prelude.{negsuc, List}
 use Rattle.std.specs.Prelude.{[], ◌∷◌, decimal}
 use Rattle.std.specs.Fmt.{signed_decimal}
 use Rattle.std.specs.List.{list_all}
@@ -37,7 +38,8 @@ small n h = omega (arith, h)
 
 pub signed-characters : (z : ℤ) → IsShort z → list_all is_code_character (signed_decimal z) ≡ true
 signed-characters (pos n) h = digits-characters (decimal n) (decimal_is_digits n (small n h))
-signed-characters (negsuc n) h = digits-characters (decimal (suc n)) (decimal_is_digits (suc n) (small (suc n) h))
+signed-characters (negsuc n) h =
+  digits-characters (decimal (suc n)) (decimal_is_digits (suc n) (small (suc n) h))
 
 pub order-text : (n : ℕ) → n ≤ ORDER_LIMIT → decimal n ≡ (48 + n) ∷ []
 order-text n h = decimal_digit n (omega (arith, h))

@@ -1,5 +1,6 @@
 -- Texts and marks that are cut at a width.
-use Rattle.std.specs.Prelude.{◌≡◌, refl, ℕ, ◌+◌, ◌-◌, ◌<◌, ◌≤◌, ◌⊎◌, List, [], ◌∷◌, ◌++◌, length, map, take, replicate}
+use Rattle.std.specs.Prelude.{◌≡◌, refl, ℕ, ◌+◌, ◌-◌, ◌<◌, ◌≤◌, ◌⊎◌, List, [], ◌∷◌, ◌++◌, length, map, take}
+use Rattle.std.specs.Prelude.{replicate}
 use Rattle.std.proofs.Common.{sym, ◌∙◌, ap, arith, inl, inr}
 use Rattle.crx_text.proofs.Characters.{length-columns, at, at-without_end_blanks, columns-are}
 use Rattle.crx_text.specs.meaning.Columns.{columns, without_end_blanks}
@@ -11,7 +12,8 @@ use Rattle.crx_compact.proofs.PlaceByPlace.{at-take, at-padded}
 
 -- ---- marks that are cut
 
-latest-take : (n : ℕ) (marks : List (List ℕ)) (p : ℕ) → p < n → latest_mark (map (take n) marks) p ≡ latest_mark marks p
+latest-take : (n : ℕ) (marks : List (List ℕ)) (p : ℕ) → p < n
+  → latest_mark (map (take n) marks) p ≡ latest_mark marks p
 latest-take n [] p h = refl
 latest-take n (w ∷ ws) p h = cc (at-take n w p h, latest-take n ws p h)
 
@@ -23,11 +25,13 @@ latest-take_past n (w ∷ ws) p h = cc (at-take_past n w p h, latest-take_past n
 pub overlaid-take : (n : ℕ) (marks : List (List ℕ))
     → overlaid (map (take n) marks) ≡ without_end_blanks (take n (overlaid marks))
 overlaid-take n marks =
-    same_characters (each_place (longest (map (take n) marks)) (λ q. shown (latest_mark (map (take n) marks) q)))
+    same_characters (each_place (longest (map (take n) marks))
+      (λ q. shown (latest_mark (map (take n) marks) q)))
     (take n (overlaid marks)) (λ p.
     at-longest (map (take n) marks) p ∙ cut p (within-or_past n p))
   where
-    cut : (p : ℕ) → (p < n) ⊎ (n ≤ p) → shown (latest_mark (map (take n) marks) p) ≡ at (take n (overlaid marks)) p
+    cut : (p : ℕ) → (p < n) ⊎ (n ≤ p)
+      → shown (latest_mark (map (take n) marks) p) ≡ at (take n (overlaid marks)) p
     cut p (inl h) = ap shown (latest-take n marks p h)
         ∙ sym (at-overlaid marks p) ∙ sym (at-take n (overlaid marks) p h)
     cut p (inr h) = ap shown (latest-take_past n marks p h) ∙ sym (at-take_past n (overlaid marks) p h)
@@ -35,11 +39,13 @@ overlaid-take n marks =
 -- a cut doesn't shorten what is no longer
 pub trimmed-within : (n : ℕ) (text : List ℕ)
     → length text ≤ n → without_end_blanks (take n (without_end_blanks text)) ≡ without_end_blanks text
-trimmed-within n text few = same_characters (take n (without_end_blanks text)) text (λ p. cut p (within-or_past n p))
+trimmed-within n text few = same_characters (take n (without_end_blanks text)) text
+  (λ p. cut p (within-or_past n p))
   where
     cut : (p : ℕ) → (p < n) ⊎ (n ≤ p) → at (take n (without_end_blanks text)) p ≡ at text p
     cut p (inl h) = at-take n (without_end_blanks text) p h ∙ at-without_end_blanks text p
-    cut p (inr h) = at-take_past n (without_end_blanks text) p h ∙ sym (at_past text p (omega (arith, few, h)))
+    cut p (inr h) = at-take_past n (without_end_blanks text) p h
+      ∙ sym (at_past text p (omega (arith, few, h)))
 
 -- ---- columns
 

@@ -1,5 +1,6 @@
 -- What follows of an epoch and its rows from their being ones that can be written.
-use Rattle.std.specs.Prelude.{◌≡◌, refl, ◌≢◌, ℕ, suc, ◌+◌, ◌-◌, ◌*◌, ◌<◌, true, false, not, ◌&&◌, ◌==◌, nat_eq}
+use Rattle.std.specs.Prelude.{◌≡◌, refl, ◌≢◌, ℕ, suc, ◌+◌, ◌-◌, ◌*◌, ◌<◌, true, false, not, ◌&&◌, ◌==◌}
+use Rattle.std.specs.Prelude.{nat_eq}
 use Rattle.std.specs.Prelude.{nat_le, List, [], ◌∷◌, length, map, flat_map, Result, Ok}
 use Rattle.std.specs.List.{list_all, AllByRecursion}
 use Rattle.std.proofs.Common.{sym, ◌∙◌, ap, arith, true≢false}
@@ -19,7 +20,8 @@ use Rattle.crx_compact.specs.meaning.Compaction.{epoch_text}
 use Rattle.crx_text.proofs.EachPlace.{each_place-same}
 use Rattle.crx_compact.proofs.Identifiers.{AreNew, new-after}
 use Rattle.crx_compact.proofs.wayback.Writable.{IsTypedRow, head-counted, sound-name_kept, typed-rows}
-use Rattle.crx_compact.proofs.Characters.{at-by_position, same_characters, list_all-at, list_all-append, if_some}
+use Rattle.crx_compact.proofs.Characters.{at-by_position, same_characters, list_all-at, list_all-append}
+use Rattle.crx_compact.proofs.Characters.{if_some}
 use Rattle.crx_compact.proofs.wayback.Runs.{IsUnmarked}
 use Rattle.crx_text.proofs.Characters.{at, at-without_end_blanks, at-append, at-append_past, columns-are}
 use Rattle.crx_text.proofs.Characters.{list_all-from_at}
@@ -41,8 +43,10 @@ kept-printable c h = (and_parts (nat_le 32 c && nat_le c 126) (not (c == 38)) h)
 mark-printable : (a b : ℕ) → is_printable b ≡ true → is_printable (mark_of a b) ≡ true
 mark-printable a b h = grind (arith, h)
 
-pub at-difference : (old new : List ℕ) (p : ℕ) → at (text_difference old new) p ≡ mark_of (at old p) (at new p)
-at-difference old new p = at-without_end_blanks (by_position mark_of old new) p ∙ at-by_position mark_of refl old new p
+pub at-difference : (old new : List ℕ) (p : ℕ)
+  → at (text_difference old new) p ≡ mark_of (at old p) (at new p)
+at-difference old new p = at-without_end_blanks (by_position mark_of old new) p
+  ∙ at-by_position mark_of refl old new p
 
 -- the marks of a text that may be written are printable
 pub difference-printable : (old new : List ℕ)
@@ -75,9 +79,11 @@ names-kept types [] h = refl
 names-kept types (r ∷ rs) h = list_all-append is_kept r.name
     (flat_map (λ (q : Row). q.name) rs) (sound-name_kept r h.0.0) (names-kept types rs h.1)
 
-pub text-kept : (types : List Count) (e : Epoch) → IsWholeEpoch types e → list_all is_kept (epoch_text e) ≡ true
+pub text-kept : (types : List Count) (e : Epoch) → IsWholeEpoch types e
+  → list_all is_kept (epoch_text e) ≡ true
 text-kept types e h = list_all-append is_kept e.head
-    (flat_map (λ (r : Row). r.name) e.rows) (head-kept types e h) (names-kept types e.rows (typed-rows types e h))
+    (flat_map (λ (r : Row). r.name) e.rows) (head-kept types e h)
+      (names-kept types e.rows (typed-rows types e h))
 
 pub text-head : (types : List Count) (e : Epoch)
     → IsWholeEpoch types e → (p : ℕ) → p < 41 → at (epoch_text e) p ≡ at e.head p
@@ -109,8 +115,10 @@ length-text types e h =
     )
 
 pub text-names : (types : List Count) (e : Epoch)
-    → IsWholeEpoch types e → (p : ℕ) → at (epoch_text e) (41 + p) ≡ at (flat_map (λ (r : Row). r.name) e.rows) p
-text-names types e h p = at-append_past e.head (flat_map (λ (r : Row). r.name) e.rows) 41 p h.sound.head_sound.width
+    → IsWholeEpoch types e → (p : ℕ)
+      → at (epoch_text e) (41 + p) ≡ at (flat_map (λ (r : Row). r.name) e.rows) p
+text-names types e h p =
+  at-append_past e.head (flat_map (λ (r : Row). r.name) e.rows) 41 p h.sound.head_sound.width
 
 pub trimmed-again : (text : List ℕ) → without_end_blanks (without_end_blanks text) ≡ without_end_blanks text
 trimmed-again text = same_characters (without_end_blanks text) text (λ p. at-without_end_blanks text p)
@@ -146,7 +154,8 @@ abbrev pub satellites_of_rows : List Row → List Satellite
 satellites_of_rows rows = map (λ (r : Row). record { name = r.name; count = length r.values }) rows
 
 pub satellites-good : (types : List Count) (earlier : List (List ℕ)) (rows : List Row)
-    → AllByRecursion (IsTypedRow types) rows → AreNew (λ (r : Row). r.name) earlier rows → are_different rows ≡ true
+    → AllByRecursion (IsTypedRow types) rows → AreNew (λ (r : Row). r.name) earlier rows
+      → are_different rows ≡ true
     → satellites_named types earlier (map (λ (r : Row). r.name) rows) ≡ Ok (satellites_of_rows rows)
 satellites-good types earlier [] h new k = refl
 satellites-good types earlier (r ∷ rs) h new k =

@@ -1,5 +1,6 @@
 -- No line that is written for an epoch is too long.
-use Rattle.std.specs.Prelude.{◌≡◌, ℕ, zero, suc, ◌+◌, ◌-◌, ◌*◌, ◌^◌, ◌<◌, ◌≤◌, min, ℤ, pos, negsuc, neg_ℤ, ◌<ℤ◌}
+use Rattle.std.specs.Prelude.{◌≡◌, ℕ, zero, suc, ◌+◌, ◌-◌, ◌*◌, ◌^◌, ◌<◌, ◌≤◌, min, ℤ, pos, negsuc, neg_ℤ}
+use Rattle.std.specs.Prelude.{◌<ℤ◌}
 use Rattle.std.specs.Prelude.{Bool, true, false, List, [], ◌∷◌, ◌++◌, length, map, flat_map, decimal}
 use Rattle.std.specs.Prelude.{if◌then◌else◌}
 use Rattle.std.specs.Fmt.{signed_decimal}
@@ -13,7 +14,8 @@ use Rattle.crx_text.specs.meaning.Texts.{by_position, mark_of, text_difference}
 use Rattle.crx_text.specs.meaning.Codes.{code_text}
 use Rattle.crx_rinex.specs.meaning.Observations.{Row, Epoch, value_in}
 use Rattle.crx_text.specs.declared.code.Code.{Code}
-use Rattle.crx_base.specs.declared.limits.TheConstants.{WRITTEN_ORDER, DIGITS_LIMIT, TYPES_LIMIT, SATELLITES_LIMIT}
+use Rattle.crx_base.specs.declared.limits.TheConstants.{WRITTEN_ORDER, DIGITS_LIMIT, TYPES_LIMIT}
+use Rattle.crx_base.specs.declared.limits.TheConstants.{SATELLITES_LIMIT}
 use Rattle.crx_base.specs.declared.limits.TheConstants.{OBSERVATION_WIDTH, CLOCK_WIDTH}
 use Rattle.crx_compact.specs.meaning.Differences.{difference, code_at}
 use Rattle.crx_compact.specs.meaning.Compaction.{Marked, epoch_text, since_full, arc_of, clock_arc}
@@ -30,7 +32,8 @@ use Rattle.crx_compact.proofs.wayback.CodeTexts.{order-text}
 use Rattle.crx_compact.proofs.arcs.Bounds.{IsNear, doubled, doubled-more, difference-near, near-more}
 use Rattle.crx_compact.proofs.arcs.Bounds.{ten-more}
 use Rattle.crx_compact.proofs.wayback.Runs.{marked}
-use Rattle.crx_compact.proofs.wayback.Rows.{IsRowOf, clocks-fit, lines-each, near-all, stretch-within, values-fit}
+use Rattle.crx_compact.proofs.wayback.Rows.{IsRowOf, clocks-fit, lines-each, near-all, stretch-within}
+use Rattle.crx_compact.proofs.wayback.Rows.{values-fit}
 use Rattle.crx_compact.proofs.wayback.Facts.{length-text}
 use Rattle.crx_text.proofs.EndBlanks.{few_kept}
 
@@ -46,11 +49,13 @@ signed-length k b (pos n) some few h near =
 signed-length k b (negsuc n) some few h near =
     let less : suc n < 10 ^ k = omega (arith, ints, near.low, h) in
     let wide : 10 ^ k ≤ 10 ^ DIGITS_LIMIT = pow-le-pow_right (omega arith) few in
-    let len : length (decimal (suc n)) ≤ k = length-decimal-le k (suc n) some less (omega (arith, less, wide)) in
+    let len : length (decimal (suc n)) ≤ k = length-decimal-le k (suc n) some less (omega (arith, less, wide))
+      in
     omega (arith, len)
 
 -- a number that fits its columns: a minus takes the place of a digit
-within-length : (j : ℕ) (z : ℤ) → 0 < j → j + 1 ≤ DIGITS_LIMIT → IsWithin (j + 2) z → length (signed_decimal z) ≤ j + 1
+within-length : (j : ℕ) (z : ℤ) → 0 < j → j + 1 ≤ DIGITS_LIMIT → IsWithin (j + 2) z
+  → length (signed_decimal z) ≤ j + 1
 within-length j (pos n) some few h =
     let same : j + 2 - 1 ≡ j + 1 = omega arith in
     let P : ℕ → Type 0 = λ m. pos n <ℤ pos (10 ^ m) in
@@ -65,10 +70,12 @@ within-length j (negsuc n) some few h =
     let less : suc n < 10 ^ j = omega (arith, ints, low) in
     let fewer : j ≤ DIGITS_LIMIT = omega (arith, few) in
     let wide : 10 ^ j ≤ 10 ^ DIGITS_LIMIT = ten-more j DIGITS_LIMIT fewer in
-    let len : length (decimal (suc n)) ≤ j = length-decimal-le j (suc n) some less (omega (arith, less, wide)) in
+    let len : length (decimal (suc n)) ≤ j = length-decimal-le j (suc n) some less (omega (arith, less, wide))
+      in
     omega (arith, len)
 
--- a code of an arc whose values fit so many columns: a first value has two characters before it, and a difference one
+-- a code of an arc whose values fit so many columns: a first value has two characters before it, and a
+-- difference one
 -- digit more than a value
 pub code-length : (j : ℕ) (xs : List ℤ)
     → 0 < j → j + 2 ≤ DIGITS_LIMIT → doubled WRITTEN_ORDER (10 ^ (j + 1)) < 10 ^ (j + 2)
@@ -86,13 +93,15 @@ code-length j (x ∷ y ∷ ys) some few h all =
     let b : ℕ = 10 ^ (j + 1) in
     let same : j + 2 - 1 ≡ j + 1 = omega arith in
     let P : ℕ → Type 0 = λ m. AllByRecursion (IsNear (10 ^ m)) (x ∷ y ∷ ys) in
-    let near : AllByRecursion (IsNear (10 ^ (j + 1))) (x ∷ y ∷ ys) = subst P same (near-all (j + 2) (x ∷ y ∷ ys) all) in
+    let near : AllByRecursion (IsNear (10 ^ (j + 1))) (x ∷ y ∷ ys) =
+      subst P same (near-all (j + 2) (x ∷ y ∷ ys) all) in
     let le : doubled order b ≤ doubled WRITTEN_ORDER b = doubled-more order WRITTEN_ORDER b (omega arith) in
     let step : IsNear (doubled WRITTEN_ORDER b) (difference order (x ∷ y ∷ ys)) =
     near-more (doubled order b) (doubled WRITTEN_ORDER b)
     (difference order (x ∷ y ∷ ys)) le (difference-near order b (x ∷ y ∷ ys) near) in
     let number : length (signed_decimal (difference order (x ∷ y ∷ ys))) ≤ j + 2 + 1 =
-    signed-length (j + 2) (doubled WRITTEN_ORDER b) (difference order (x ∷ y ∷ ys)) (omega arith) few h step in
+    signed-length (j + 2) (doubled WRITTEN_ORDER b) (difference order (x ∷ y ∷ ys)) (omega arith) few h step
+      in
     omega (arith, number)
 
 -- ---- texts
@@ -127,7 +136,8 @@ cells-length n (c ∷ cs) h =
 
 -- ---- counts of satellites
 
-pub few-satellites : (types : List Count) (e : Epoch) → IsWholeEpoch types e → length e.rows ≤ SATELLITES_LIMIT
+pub few-satellites : (types : List Count) (e : Epoch) → IsWholeEpoch types e
+  → length e.rows ≤ SATELLITES_LIMIT
 few-satellites types e h = grind arith
 
 pub text-short : (types : List Count) (e : Epoch)
@@ -168,7 +178,8 @@ clock-short : (types : List Count) (ms : List Marked) → AreWhole types (since_
     → length (code_text (code_at WRITTEN_ORDER (clock_arc ms))) ≤ 16
 clock-short types ms h =
     code-length 13 (clock_arc ms) (omega arith) (omega arith) (omega arith)
-    (stretch-within CLOCK_WIDTH (map (λ (e : Epoch). e.clock) (since_full ms)) (clocks-fit types (since_full ms) h))
+    (stretch-within CLOCK_WIDTH (map (λ (e : Epoch). e.clock) (since_full ms))
+      (clocks-fit types (since_full ms) h))
 
 old-short : (types : List Count) (full : Bool) (e : Epoch) (older : List Marked)
     → AreWhole types (since_full (marked full e ∷ older))
@@ -180,11 +191,13 @@ old-short types false e (m ∷ older) h = text-short types m.epoch h.1.0
 -- none of the compact lines of an epoch is too long
 pub lines-short : (types : List Count) (full : Bool) (e : Epoch) (older : List Marked)
     → AreWhole types (since_full (marked full e ∷ older))
-    → AllByRecursion (λ (line : List ℕ). length line ≤ 18 * TYPES_LIMIT) (compact_epoch (marked full e ∷ older))
+    → AllByRecursion (λ (line : List ℕ). length line ≤ 18 * TYPES_LIMIT)
+      (compact_epoch (marked full e ∷ older))
 lines-short types full e older h =
     let ms = marked full e ∷ older in
     let line = difference-length (41 + 3 * SATELLITES_LIMIT) (if full then [] else newest_text older)
     (epoch_text e) (old-short types full e older h) (text-short types e h.0) in
     let clock = clock-short types ms h in
-    let rows = lines-each (λ l. length l ≤ most) types ms (row-short types) h e.rows (typed-rows types e h.0) in
+    let rows = lines-each (λ l. length l ≤ most) types ms (row-short types) h e.rows (typed-rows types e h.0)
+      in
     (omega (arith, line), (omega (arith, clock), rows))

@@ -1,4 +1,5 @@
--- Texts by their characters: what a difference marks comes back, and marks laid over one another are patches in turn.
+-- Texts by their characters: what a difference marks comes back, and marks laid over one another are patches
+-- in turn.
 use Rattle.std.specs.Prelude.{◌≡◌, refl, ◌≢◌, ℕ, zero, suc, ◌≤◌, if◌then◌else◌, List, [], ◌∷◌, length, All}
 use Rattle.std.proofs.Common.{sym, ◌∙◌, ap, arith, not-suc-le-zero, le_of_suc-le-suc}
 use Rattle.crx_text.specs.meaning.Columns.{is_blank, without_end_blanks}

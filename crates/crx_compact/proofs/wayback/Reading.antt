@@ -30,11 +30,13 @@ use Rattle.crx_compact.specs.meaning.Past.{Past, past_of_block, past_of_epochs, 
 use Rattle.crx_compact.specs.meaning.CompactPlaces.{satellites_of_text, satellites_of_line}
 use Rattle.crx_compact.specs.meaning.CompactPlaces.{BegunEpoch, epoch_begun, clock_line_read}
 use Rattle.crx_compact.specs.meaning.Cells.{ReadCell}
-use Rattle.crx_compact.specs.meaning.CompactPlaces.{ReadRow, satellite_line_read, rows_read, ReadEpoch, epoch_of_rows}
+use Rattle.crx_compact.specs.meaning.CompactPlaces.{ReadRow, satellite_line_read, rows_read, ReadEpoch}
+use Rattle.crx_compact.specs.meaning.CompactPlaces.{epoch_of_rows}
 use Rattle.crx_compact.specs.meaning.CompactPlaces.{epoch_at}
 use Rattle.crx_rinex.specs.meaning.Epochs.{IsWholeEpoch}
 use Rattle.crx_compact.specs.ReadingLaws.{EpochReadsBack, raw_row, raw_of, raws_of, read_of, lines_of_epoch}
-use Rattle.crx_compact.specs.ReadingLaws.{EachReadsBack, text_lines, epochs_at, marked_of, counts_of, reads_of}
+use Rattle.crx_compact.specs.ReadingLaws.{EachReadsBack, text_lines, epochs_at, marked_of, counts_of}
+use Rattle.crx_compact.specs.ReadingLaws.{reads_of}
 use Rattle.crx_compact.specs.ReadingLaws.{ReadsBack}
 use Rattle.crx_compact.specs.Laws.{AreWhole}
 use Rattle.crx_compact.proofs.Lists.{all-from}
@@ -42,10 +44,13 @@ use Rattle.crx_compact.proofs.wayback.Writable.{head-counted, typed-rows}
 use Rattle.crx_text.proofs.CodeTexts.{code_of-code_text}
 use Rattle.crx_text.proofs.EndBlanks.{few_kept}
 use Rattle.crx_compact.proofs.wayback.CodeTexts.{is_code_character, code-characters}
-use Rattle.crx_compact.proofs.wayback.Runs.{raw_block, marked, Begins, begins_full, begins_later, block-raws, raw_run}
+use Rattle.crx_compact.proofs.wayback.Runs.{raw_block, marked, Begins, begins_full, begins_later, block-raws}
+use Rattle.crx_compact.proofs.wayback.Runs.{raw_run}
 use Rattle.crx_compact.proofs.wayback.Runs.{runs-read, clocks-read, value-back, text-read, rows_before}
-use Rattle.crx_compact.proofs.wayback.Facts.{text-kept, text-head, text-begins, length-text, text-names, names-read}
-use Rattle.crx_compact.proofs.wayback.Facts.{satellites_of_rows, satellites-good, unmarked, difference-printable}
+use Rattle.crx_compact.proofs.wayback.Facts.{text-kept, text-head, text-begins, length-text, text-names}
+use Rattle.crx_compact.proofs.wayback.Facts.{names-read}
+use Rattle.crx_compact.proofs.wayback.Facts.{satellites_of_rows, satellites-good, unmarked}
+use Rattle.crx_compact.proofs.wayback.Facts.{difference-printable}
 use Rattle.crx_compact.proofs.wayback.Rows.{run-begins, rows-of_run, clock-printable, satellite_of, row-read}
 use Rattle.crx_compact.proofs.Identifiers.{each-own, none-earlier}
 use Rattle.crx_compact.proofs.EpochLines.{satellites_counted}
@@ -73,7 +78,8 @@ not-empty [] raw block e = cc
 not-empty (x ∷ xs) raw block e = refl
 
 -- what the lines of an epoch are read against
-past-found : (full : Bool) (e : Epoch) (older : List Marked) (raws : List RawEpoch) → Begins (marked full e ∷ older)
+past-found : (full : Bool) (e : Epoch) (older : List Marked) (raws : List RawEpoch)
+  → Begins (marked full e ∷ older)
     → (full ≡ false → block_of raws ≡ block_of (raws_of older))
     → past_of_line raws (epoch_line (marked full e) older) ≡ Some (past_of_block (before full older))
 past-found true e older raws h k = cc (begins_full (epoch_text e) h.0)
@@ -86,7 +92,8 @@ past-found false e (m ∷ older) raws h k =
       block,
     )
 
-block-found : (full : Bool) (e : Epoch) (older : List Marked) (raws : List RawEpoch) → Begins (marked full e ∷ older)
+block-found : (full : Bool) (e : Epoch) (older : List Marked) (raws : List RawEpoch)
+  → Begins (marked full e ∷ older)
     → (full ≡ false → block_of raws ≡ block_of (raws_of older))
     → block_of (raw_of (marked full e) older ∷ raws) ≡ block_of (raws_of (marked full e ∷ older))
 block-found true e older raws h k = cc (begins_full (epoch_text e) h.0)
@@ -239,7 +246,8 @@ epoch-good types full e older raws rest h k =
       satellites = satellites;
     }))) (line-good types full e older h) in
     let reads : AllByRecursion (RowReads past ms) e.rows = all-from (RowReads past ms)
-    (λ r own. row-reads types full e older h r own) e.rows (each-own (λ (r : Row). r.name) e.rows h.0.sound.apart) in
+    (λ r own. row-reads types full e older h r own) e.rows
+      (each-own (λ (r : Row). r.name) e.rows h.0.sound.apart) in
     let same : epoch_of_rows begun clock (map (read_in ms) e.rows) ≡ read_of (marked full e) older =
     rw (
       map-map (λ (r : ReadRow). r.raw) (read_in ms) e.rows,
@@ -284,7 +292,8 @@ reads-back (t ∷ older) rest h =
     let lines : List (List ℕ) = compact_epoch (m ∷ ms) in
     let all : List ReadLine = map Content (text ++ lines) ++ rest in
     let split : map Content (text ++ lines) ++ rest ≡ map Content text ++ (map Content lines ++ rest) =
-    ap (λ l. l ++ rest) (map-append Content text lines) ∙ append_assoc (map Content text) (map Content lines) rest in
+    ap (λ l. l ++ rest) (map-append Content text lines)
+      ∙ append_assoc (map Content text) (map Content lines) rest in
     let first : epochs_at (counts_of older) all ≡ Here (reads_of ms) (length text) =
     ap (epochs_at (counts_of older)) split ∙ reads-back older (map Content lines ++ rest) h.1 in
     let left : drop (length text) all ≡ map Content lines ++ rest =

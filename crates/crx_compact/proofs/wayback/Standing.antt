@@ -1,5 +1,6 @@
 -- The compact lines of an epoch can be in a file.
-use Rattle.std.specs.Prelude.{◌≡◌, refl, ℕ, Bool, true, false, ◌&&◌, ◌||◌, List, [], ◌∷◌, ◌++◌, length, map, flat_map}
+use Rattle.std.specs.Prelude.{◌≡◌, refl, ℕ, Bool, true, false, ◌&&◌, ◌||◌, List, [], ◌∷◌, ◌++◌, length, map}
+use Rattle.std.specs.Prelude.{flat_map}
 use Rattle.std.specs.Prelude.{if◌then◌else◌}
 use Rattle.std.specs.List.{list_all, AllByRecursion}
 use Rattle.std.proofs.Common.{◌∙◌, ap, arith}
@@ -12,8 +13,10 @@ use Rattle.crx_text.specs.declared.code.Code.{Code}
 use Rattle.crx_base.specs.declared.limits.TheConstants.{WRITTEN_ORDER}
 use Rattle.crx_rinex.specs.meaning.Observations.{Row, Epoch}
 use Rattle.crx_header.specs.meaning.ObservationTypes.{Count}
-use Rattle.crx_header.specs.meaning.EpochColumns.{begins_epoch, is_event_flag, is_event_line, is_observation_flag}
-use Rattle.crx_compact.specs.meaning.Compaction.{Marked, epoch_text, since_full, run_of, arc_of, clock_arc, newest_text}
+use Rattle.crx_header.specs.meaning.EpochColumns.{begins_epoch, is_event_flag, is_event_line}
+use Rattle.crx_header.specs.meaning.EpochColumns.{is_observation_flag}
+use Rattle.crx_compact.specs.meaning.Compaction.{Marked, epoch_text, since_full, run_of, arc_of, clock_arc}
+use Rattle.crx_compact.specs.meaning.Compaction.{newest_text}
 use Rattle.crx_compact.specs.meaning.Compaction.{indicators_before, codes_of, satellite_line, epoch_line}
 use Rattle.crx_compact.specs.meaning.Cells.{cell_text}
 use Rattle.crx_compact.specs.meaning.Differences.{code_at}
@@ -43,7 +46,8 @@ code-printable (c ∷ cs) h =
       code-printable cs (and_parts (is_code_character c) (list_all is_code_character cs) h).1,
     )
 
-cells-printable : (codes : List Code) → AreWritten codes → list_all is_printable (flat_map cell_text codes) ≡ true
+cells-printable : (codes : List Code) → AreWritten codes → list_all is_printable (flat_map cell_text codes)
+  ≡ true
 cells-printable [] h = refl
 cells-printable (c ∷ cs) h =
     list_all-append is_printable (code_text c ++ 32 ∷ []) (flat_map cell_text cs)
@@ -85,7 +89,8 @@ line-begins_epoch : (types : List Count) (full : Bool) (e : Epoch) (older : List
 line-begins_epoch types true e older h = begins_full (epoch_text e) (text-begins types e h.0)
 line-begins_epoch types false e [] h = begins_full (epoch_text e) (text-begins types e h.0)
 line-begins_epoch types false e (m ∷ older) h =
-    begins_later (epoch_text m.epoch) (epoch_text e) (text-begins types m.epoch h.1.0) (text-begins types e h.0)
+    begins_later (epoch_text m.epoch) (epoch_text e) (text-begins types m.epoch h.1.0)
+      (text-begins types e h.0)
 
 -- the flag of an epoch's text is one of observations, and so is its mark in a line from the empty text
 flag-mark : (c : ℕ) → is_observation_flag c ≡ true → is_event_flag (mark_of 32 c) ≡ false
@@ -100,7 +105,8 @@ full-no_event types e h =
     (and_parts (begins_epoch e.head && is_observation_flag (character_at e.head 32))
     (list_all is_kept e.head) (head_tests types e h)).0).1 in
     let none : is_event_flag (at line 31) ≡ false =
-    ap is_event_flag (at-difference [] (epoch_text e) 31 ∙ ap (mark_of 32) (text-head types e h 31 (omega arith)))
+    ap is_event_flag (at-difference [] (epoch_text e) 31
+      ∙ ap (mark_of 32) (text-head types e h 31 (omega arith)))
     ∙ flag-mark (at e.head 31) flag in
     ap (λ b. begins_epoch line && b) none ∙ false-right (begins_epoch line)
   where
@@ -125,10 +131,13 @@ lines-stand types full e older h =
     let text = code_text (code_at WRITTEN_ORDER (clock_arc ms)) in
     let lines = map (λ (r : Row). satellite_line (run_of r.name ms) r) e.rows in
     let rows = typed-rows types e h.0 in
-    let clock = code-characters (code_at WRITTEN_ORDER (clock_arc ms)) (clock-printable types (since_full ms) h) in
+    let clock = code-characters (code_at WRITTEN_ORDER (clock_arc ms))
+      (clock-printable types (since_full ms) h) in
     let others : AllByRecursion (λ (line : List ℕ). begins_epoch line ≡ false) (text ∷ lines) =
-    (text-other text clock, lines-each (λ line. begins_epoch line ≡ false) types ms (row-begins types) h e.rows rows) in
-    let first = difference-printable (if full then [] else newest_text older) (epoch_text e) (text-kept types e h.0) in
+    (text-other text clock, lines-each (λ line. begins_epoch line ≡ false) types ms
+      (row-begins types) h e.rows rows) in
+    let first = difference-printable (if full then [] else newest_text older) (epoch_text e)
+      (text-kept types e h.0) in
     let printable = lines-each (λ line. list_all is_printable line ≡ true) types ms
     (row-printable types) h e.rows rows in
     let no_event = all-from (λ (line : List ℕ). is_event_line line ≡ false)

@@ -14,7 +14,8 @@ use Rattle.crx_compact.specs.meaning.Compaction.{Marked, epoch_text, row_named, 
 use Rattle.crx_compact.specs.meaning.Compaction.{indicators_before, satellite_line}
 use Rattle.crx_compact.specs.Tails.{RowTail, Tail, row_tail, tail_of}
 use Rattle.crx_compact.specs.ArcTails.{arc_tail}
-use Rattle.crx_compact.specs.Steps.{no_tail, tail_named, cell_of_tail, flags_of_tail, row_line_in, row_tail_in}
+use Rattle.crx_compact.specs.Steps.{no_tail, tail_named, cell_of_tail, flags_of_tail, row_line_in}
+use Rattle.crx_compact.specs.Steps.{row_tail_in}
 use Rattle.crx_compact.specs.ArcSteps.{code_of_value, arc_of_value}
 use Rattle.crx_compact.specs.Laws.{EpochByTail}
 use Rattle.crx_text.proofs.EachPlace.{each_place-same, index-each_place}
@@ -41,12 +42,14 @@ cell-found : (name : List ℕ) (rest : List (Option Row)) (found : Option Row) (
     ≡ arc_tail WRITTEN_ORDER (arc_of j (stretch (found ∷ rest)))
 cell-found name rest None j = refl
 cell-found name rest (Some r) j =
-    index-each_place (length r.values) j (λ i. arc_tail WRITTEN_ORDER (arc_of i (r ∷ stretch rest))) None (λ le.
+    index-each_place (length r.values) j (λ i. arc_tail WRITTEN_ORDER (arc_of i (r ∷ stretch rest))) None
+      (λ le.
     ap (λ (o : Option ℤ). arc_tail WRITTEN_ORDER (stretch (o ∷ map (value_in j) (stretch rest))))
     (get_or_past r.values j None le))
 
 flags-found : (rest : List (Option Row)) (found : Option Row)
-    → flags_of_tail (option_map (row_tail (stretch (found ∷ rest))) found) ≡ head_flags (stretch (found ∷ rest))
+    → flags_of_tail (option_map (row_tail (stretch (found ∷ rest))) found)
+      ≡ head_flags (stretch (found ∷ rest))
 flags-found rest None = refl
 flags-found rest (Some r) = refl
 
@@ -115,7 +118,8 @@ clock-left true older = refl
 clock-left false older = refl
 
 text-left : (full : Bool) (older : List Marked) (new : List ℕ)
-    → text_difference (if full then [] else newest_text older) new ≡ text_difference (start full older).text new
+    → text_difference (if full then [] else newest_text older) new
+      ≡ text_difference (start full older).text new
 text-left true older new = refl
 text-left false older new = sym (before-trimmed (newest_text older) new)
 
@@ -135,5 +139,6 @@ epoch-by full e older h =
     let text = text-left full older (epoch_text e) in
     record { lines = cc; tail = cc }
 
-pub epoch-by_tail : (m : Marked) (older : List Marked) → are_different m.epoch.rows ≡ true → EpochByTail m older
+pub epoch-by_tail : (m : Marked) (older : List Marked) → are_different m.epoch.rows ≡ true
+  → EpochByTail m older
 epoch-by_tail m older h = epoch-by m.in_full m.epoch older h

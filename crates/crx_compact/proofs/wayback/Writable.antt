@@ -1,4 +1,5 @@
--- Whole epochs and their rows in the form that the proofs of this crate use: row by row, with the count of the epoch's
+-- Whole epochs and their rows in the form that the proofs of this crate use: row by row, with the count of
+-- the epoch's
 -- rows.
 use Rattle.std.specs.Prelude.{◌≡◌, true, List, [], ◌∷◌, length, All, Some}
 use Rattle.std.specs.List.{list_all, AllByRecursion}

@@ -1,4 +1,5 @@
--- The reading of a block of compact text whose lines but the first don't begin with >: some epochs, and then it ends
+-- The reading of a block of compact text whose lines but the first don't begin with >: some epochs, and then
+-- it ends
 -- between two units, inside an epoch, or, after a warning, looking for a line that begins with >.
 use Rattle.crx_filter.proofs.Words.{ℕ, zero, suc, ◌≡◌, ◌+◌, ◌-◌, ◌<◌, max, ◌⊎◌, inl, inr, true, false, cond}
 use Rattle.crx_filter.proofs.Words.{List, [], ◌∷◌, ◌++◌, length, drop, refl, ap, sym, ◌∙◌, subst, arith}
@@ -121,7 +122,8 @@ pub reads-types : (items : List (Item ReadEpoch)) (reads : List ReadEpoch)
 reads-types items [] = refl
 reads-types items (read ∷ later) = reads-types (Accepted (Observation read) ∷ items) later
 
--- a reading has stopped where more lines could make an epoch, or looks for a line that begins with > after a warning
+-- a reading has stopped where more lines could make an epoch, or looks for a line that begins with > after a
+-- warning
 abbrev pub EndsBlock : List (Item ReadEpoch) → Reading ReadEpoch → Type 0
 EndsBlock items r = ((number : ℕ) × (rest : List ReadLine) × IsBlockText rest
     × (compact_place items rest ≡ Wanted) × (r ≡ record { items = items; stop = AtLines number rest }))

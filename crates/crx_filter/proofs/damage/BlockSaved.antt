@@ -86,7 +86,8 @@ up_to every items more h =
 
 -- ---- after the block
 
--- a reading that ended well, after these items and at most one warning, with what an undamaged reading has after the
+-- a reading that ended well, after these items and at most one warning, with what an undamaged reading has
+-- after the
 -- block
 pub record IsSaved (items block all : List (Item ReadEpoch)) (whole : WholeReading ReadEpoch) : Type 0 where
   pub warnings : List At

@@ -1,4 +1,5 @@
--- Damage to compact text stays in its block: what an expansion writes and reports, from the lines of the damaged text
+-- Damage to compact text stays in its block: what an expansion writes and reports, from the lines of the
+-- damaged text
 -- on.
 use Rattle.crx_filter.proofs.Words.{ℕ, suc, ◌≡◌, ◌+◌, ◌⊎◌, inl, inr, true, List, [], ◌∷◌, ◌++◌, map, length}
 use Rattle.crx_filter.proofs.Words.{drop, take, reverse, Option, None, refl, ap, sym, ◌∙◌, subst}

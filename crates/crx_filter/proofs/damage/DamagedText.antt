@@ -1,4 +1,5 @@
--- Damaged compact text, cut into lines: those that the compaction wrote before the block and after it, and the lines in
+-- Damaged compact text, cut into lines: those that the compaction wrote before the block and after it, and
+-- the lines in
 -- place of the block's.
 use Rattle.crx_filter.proofs.Words.{ℕ, ◌≡◌, ◌≢◌, ◌⊎◌, inl, inr, Bool, true, false, not, cond, List, [], ◌∷◌}
 use Rattle.crx_filter.proofs.Words.{◌++◌, map, refl, ap, sym, ◌∙◌, subst, append_assoc, append-nil, ◌==◌}

@@ -1,4 +1,5 @@
--- After a damaged block: reading goes on at the next line that begins with >, with at most one warning before it.
+-- After a damaged block: reading goes on at the next line that begins with >, with at most one warning before
+-- it.
 use Rattle.crx_filter.proofs.Words.{ℕ, suc, ◌≡◌, ◌+◌, ◌≤◌, max, inl, inr, true, false, List, [], ◌∷◌, ◌++◌}
 use Rattle.crx_filter.proofs.Words.{length, drop, Some, None, refl, ap, sym, ◌∙◌, subst, arith, length-append}
 use Rattle.crx_filter.proofs.Words.{drop-append_seam, ReadLine, Content, Overlong, At, Truncated}

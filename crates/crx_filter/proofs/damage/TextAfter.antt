@@ -1,4 +1,5 @@
--- The compact text that a compaction writes after a block: it is read, whatever the line numbers are, as its units; and
+-- The compact text that a compaction writes after a block: it is read, whatever the line numbers are, as its
+-- units; and
 -- all starts anew at its first line.
 use Rattle.crx_filter.proofs.Words.{ℕ, zero, suc, ◌≡◌, ◌+◌, ◌-◌, ◌<◌, Bool, true, false, cond, List, [], ◌∷◌}
 use Rattle.crx_filter.proofs.Words.{◌++◌, map, length, Option, refl, ap, sym, ◌∙◌, arith, length-append}

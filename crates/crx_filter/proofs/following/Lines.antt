@@ -136,7 +136,8 @@ module _ {E U O K : Type 0} {beginning : List (Item E) → List ReadLine → Pla
     failed = f.failed;
   }
 
-  -- the next line where an epoch or an event may begin or in an epoch, given a second time where it is to come again
+  -- the next line where an epoch or an event may begin or in an epoch, given a second time where it is to
+  -- come again
   body-line : (units : ℕ) (items : List (Item E))
       (number count : ℕ) (rest : List ReadLine) (line : ReadLine) (phase : Phase O) (kept : K)
       (made : Made U O)

@@ -65,7 +65,8 @@ record-takes {E = E} takes items line h =
 
 -- ---- a direction that takes memory by what is at its lines
 
--- where a line may take memory by what is kept, it does by what is at the lines: where an epoch or an event may begin, and in
+-- where a line may take memory by what is kept, it does by what is at the lines: where an epoch or an event
+-- may begin, and in
 -- an epoch
 pub record TakesAsItStands {E U O K : Type 0} (beginning : List (Item E) → List ReadLine → Place (FileUnit E))
     (direction : Direction U O K) (open_with : List (Item E) → List ReadLine → Option O)

@@ -1,4 +1,5 @@
--- Lines of a RINEX file one by one: what the last of some lines makes is what is at them. Every direction that
+-- Lines of a RINEX file one by one: what the last of some lines makes is what is at them. Every direction
+-- that
 -- reads RINEX goes this way.
 use Rattle.crx_filter.proofs.Words.{ℕ, zero, suc, ◌≡◌, ◌⊎◌, List, [], ◌∷◌, ◌++◌, length, Some, None, Result}
 use Rattle.crx_filter.proofs.Words.{Ok, Err, inl, inr, refl, sym, ◌∙◌, none-some, ReadLine, Content, Overlong}

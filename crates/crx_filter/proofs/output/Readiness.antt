@@ -6,7 +6,8 @@ use Rattle.crx_rinex.specs.meaning.Units.{Unit as FileUnit, HeaderLine, EventLin
 use Rattle.crx_compact.specs.OpenEpochs.{HeldEpoch, OpenRawEpoch}
 use Rattle.crx_compact.specs.Tails.{Tail}
 use Rattle.crx_rinex.specs.meaning.EpochPlaces.{OpenEpoch}
-use Rattle.crx_filter.specs.LineByLine.{Seen, Made, Completes, Moves, Fails, Repeats, Direction, Step, is_skipped_in}
+use Rattle.crx_filter.specs.LineByLine.{Seen, Made, Completes, Moves, Fails, Repeats, Direction, Step}
+use Rattle.crx_filter.specs.LineByLine.{is_skipped_in}
 use Rattle.crx_filter.specs.LineByLine.{made_in, step_of_made}
 use Rattle.crx_header.specs.meaning.CompactHeader.{lines_before_header}
 use Rattle.crx_filter.specs.CompactionByLine.{Written, compaction, is_before_header}
@@ -29,11 +30,13 @@ step-ready direction some seen line (Fails fault) = by_bool (is_skipped_in seen 
     (λ off. ap (λ (s : Step _ _). is_ready s.answer) (failed-ends direction seen line fault off)
     ∙ sym (ap (λ (s : Step _ _). has_lines s.handed_out) (failed-ends direction seen line fault off)))
 
-first-lines : (date line : List ℕ) (is_first : Bool) → has_lines (lines_before_header date is_first ++ line ∷ []) ≡ true
+first-lines : (date line : List ℕ) (is_first : Bool)
+  → has_lines (lines_before_header date is_first ++ line ∷ []) ≡ true
 first-lines date line true = refl
 first-lines date line false = refl
 
-compact-some : (seen : Seen OpenEpoch Written) (unit : FileUnit Epoch) → has_lines (compaction.written seen unit) ≡ true
+compact-some : (seen : Seen OpenEpoch Written) (unit : FileUnit Epoch)
+  → has_lines (compaction.written seen unit) ≡ true
 compact-some seen (HeaderLine line) = first-lines seen.choices.date line (is_before_header seen.phase)
 compact-some seen (EventLine line) = refl
 compact-some seen (EventRecord line) = refl

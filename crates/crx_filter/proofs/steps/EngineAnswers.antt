@@ -1,4 +1,5 @@
--- From the steps of an engine of either direction to what every engine answers, and to the lines it has taken.
+-- From the steps of an engine of either direction to what every engine answers, and to the lines it has
+-- taken.
 use Rattle.crx_filter.proofs.Words.{ℕ, ◌≡◌, inl, inr, ◌+◌, Bool, true, false, cond, List, [], ◌∷◌, ◌++◌, map}
 use Rattle.crx_filter.proofs.Words.{length, Some, None, Result, Ok, Err, refl, ap, sym, subst, ◌∙◌}
 use Rattle.crx_filter.proofs.Words.{append-nil, ◌≤◌, rules, and_parts, reverse, ◌&&◌, reverse-append}

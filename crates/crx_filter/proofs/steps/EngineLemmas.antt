@@ -1,4 +1,5 @@
--- Facts of an engine's steps in either direction: held epochs, faults that count, memory that ran out, a fault that is answered again.
+-- Facts of an engine's steps in either direction: held epochs, faults that count, memory that ran out, a
+-- fault that is answered again.
 use Rattle.crx_filter.proofs.Words.{◌≡◌, inl, inr, ℕ, ◌+◌, Bool, true, false, List, Option, Some, None}
 use Rattle.crx_filter.proofs.Words.{Result, Ok, Err, refl, ap, subst, ◌∙◌, ◌&&◌, ReadLine, Content, Overlong}
 use Rattle.crx_filter.proofs.Words.{At, Fault, OutOfMemory, ObservationHead, Row, Count, Phase, SeenEnded}

@@ -1,4 +1,5 @@
--- What was accepted of a RINEX file, written again and read again: the units without the warnings between them, with
+-- What was accepted of a RINEX file, written again and read again: the units without the warnings between
+-- them, with
 -- the same header, events and types in force.
 use Rattle.crx_filter.proofs.Words.{ℕ, zero, suc, ◌≡◌, ◌+◌, ◌-◌, ◌<◌, Bool, true, false, cond, List, [], ◌∷◌}
 use Rattle.crx_filter.proofs.Words.{◌++◌, map, length, drop, None, refl, ap, sym, ◌∙◌, arith, length-append}

@@ -1,4 +1,5 @@
--- Lines that are written and cut again are these lines; and what is read of an input holds no LF and isn't too long.
+-- Lines that are written and cut again are these lines; and what is read of an input holds no LF and isn't
+-- too long.
 use Rattle.crx_filter.proofs.Words.{ℕ, ◌≡◌, ◌≢◌, ◌≤◌, true, false, cond, ◌⊎◌, inl, inr, List, [], ◌∷◌, map}
 use Rattle.crx_filter.proofs.Words.{length, refl, ap, sym, ◌∙◌, subst, append_assoc, ⊤, ◌==◌, nat_lt}
 use Rattle.crx_filter.proofs.Words.{AllByRecursion, All-head, All-tail, All-cons, All-nil, ltb-false}

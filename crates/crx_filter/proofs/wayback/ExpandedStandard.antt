@@ -1,4 +1,5 @@
--- What an expansion writes is standard: what was read of compact text is in place, as units of RINEX, and what is
+-- What an expansion writes is standard: what was read of compact text is in place, as units of RINEX, and
+-- what is
 -- copied is a line.
 use Rattle.crx_filter.proofs.Words.{ℕ, zero, suc, ◌≡◌, ◌+◌, Bool, true, false, cond, List, [], ◌∷◌, ◌++◌, map}
 use Rattle.crx_filter.proofs.Words.{length, drop, Option, Some, None, refl, ap, sym, ◌∙◌, subst, arith, ◌||◌}

@@ -1,4 +1,5 @@
--- What was accepted by a compaction, and how its compact text is read: the same header, events and types in force.
+-- What was accepted by a compaction, and how its compact text is read: the same header, events and types in
+-- force.
 use Rattle.crx_filter.proofs.Words.{ℕ, ◌≡◌, ◌+◌, Bool, true, false, cond, List, [], ◌∷◌, ◌++◌, map, length}
 use Rattle.crx_filter.proofs.Words.{Option, Some, None, Ok, refl, ap, sym, ◌∙◌, arith, append-nil, ◌||◌, drop}
 use Rattle.crx_filter.proofs.Words.{is_some, length-map, ReadLine, Content, Row, Epoch, Here, FileUnit}

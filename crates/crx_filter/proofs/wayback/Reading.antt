@@ -1,4 +1,5 @@
--- The lines that a compaction wrote, read one unit after another; and what an input's lines give to the lines that are
+-- The lines that a compaction wrote, read one unit after another; and what an input's lines give to the lines
+-- that are
 -- copied.
 use Rattle.crx_filter.proofs.Words.{ℕ, ◌+◌, Bool, cond, List, [], ◌∷◌, length, drop, Option, None, Result, Ok}
 use Rattle.crx_filter.proofs.Words.{Err, subst, AllByRecursion, ReadLine, Content, Overlong, Fault, Epoch}

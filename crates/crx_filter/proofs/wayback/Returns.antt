@@ -1,4 +1,5 @@
--- The bytes 13 of a file on the way to compact text and back: they never become more, and fewer where a copied line
+-- The bytes 13 of a file on the way to compact text and back: they never become more, and fewer where a
+-- copied line
 -- ends in CR. So a file that comes back has no such line.
 use Rattle.crx_filter.proofs.Words.{ℕ, zero, suc, ◌≡◌, ◌+◌, ◌<◌, ◌≤◌, true, cond, List, [], ◌∷◌, ◌++◌, map}
 use Rattle.crx_filter.proofs.Words.{take, drop, refl, arith, ◌==◌, AllByRecursion, list_all, ne_eqb}

@@ -1,4 +1,5 @@
--- A file comes back byte for byte only where no copied line ends in CR: else it comes back with fewer bytes 13. So it
+-- A file comes back byte for byte only where no copied line ends in CR: else it comes back with fewer bytes
+-- 13. So it
 -- is standard.
 use Rattle.crx_filter.proofs.Words.{ℕ, ◌≡◌, ◌+◌, ◌<◌, ◌≤◌, Bool, true, false, List, [], ◌∷◌, ◌++◌, map}
 use Rattle.crx_filter.proofs.Words.{length, drop, Option, Some, None, refl, ap, sym, ◌∙◌, arith, ◌⊎◌, inl}
@@ -151,7 +152,8 @@ copied-back lines line n h b =
     let all : returns_left (lines ++ line ∷ []) ≡ returns_left lines + returns_left (line ∷ []) =
     left-append lines (line ∷ []) in
     let rest = b.left in
-    record { no_feed = all-append HasNoFeed lines (line ∷ []) b.no_feed (h, tt); left = omega (arith, all, rest) }
+    record { no_feed = all-append HasNoFeed lines (line ∷ []) b.no_feed (h, tt); left =
+      omega (arith, all, rest) }
 
 epoch-back : (lines more : List (List ℕ)) (n : ℕ) → AllByRecursion
     (λ (line : List ℕ). list_all is_printable line ≡ true) more → AreBack lines n → AreBack (lines ++ more) n

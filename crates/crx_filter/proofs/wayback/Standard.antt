@@ -1,4 +1,5 @@
--- A standard file comes back byte for byte: nothing of it is skipped, no line of it ends in CR, and printing gives back
+-- A standard file comes back byte for byte: nothing of it is skipped, no line of it ends in CR, and printing
+-- gives back
 -- its lines.
 use Rattle.crx_filter.proofs.Words.{ℕ, zero, suc, ◌≡◌, ◌≢◌, ◌+◌, Bool, true, false, cond, ◌⊎◌, inl, inr, List}
 use Rattle.crx_filter.proofs.Words.{[], ◌∷◌, map, length, drop, Option, Some, None, refl, ap, sym, ◌∙◌, subst}

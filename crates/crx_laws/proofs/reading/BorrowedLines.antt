@@ -15,7 +15,8 @@ use Rattle.crx_laws.proofs.wayback.BackByLines.{steps-read_back}
 use Rattle.crx_compact.proofs.wayback.Lengths.{lines-short}
 use Rattle.crx_compact.proofs.wayback.Standing.{lines-stand}
 
--- an epoch is open, and what is at all lines is what those that are left make of it; these may be read where all
+-- an epoch is open, and what is at all lines is what those that are left make of it; these may be read where
+-- all
 -- lines may
 pub record IsMidway (place : Place HeldEpoch) (state : ColumnsState)
     (all lines : List (List ℕ)) : Type 0 where

@@ -22,7 +22,8 @@ one-written all written line lines whole is =
     ∙ ap (λ (t : List ℕ). t ++ lines_text (drop 1 lines)) (sym (append_assoc written line (10 ∷ [])))
 
 -- a part of a text, after what was written of it before
-pub part-written : (all written text rest : List ℕ) (n : ℕ) → all ≡ written ++ (text ++ rest) → n < length text
+pub part-written : (all written text rest : List ℕ) (n : ℕ) → all ≡ written ++ (text ++ rest)
+  → n < length text
     → (length written + n < length all) × (take (length written + n) all ≡ written ++ take n text)
 part-written all written text rest n whole less = (
   omega (arith, ap length whole, length-append written (text ++ rest), length-append text rest),

@@ -1,4 +1,5 @@
-use Rattle.std.proofs.Common.{◌≡◌, ◌∙◌, ap, codes, count_by, find, map, List, ℕ, Option, Some, None, unwrap_or, [], Bor}
+use Rattle.std.proofs.Common.{◌≡◌, ◌∙◌, ap, codes, count_by, find, map, List, ℕ, Option, Some, None}
+use Rattle.std.proofs.Common.{unwrap_or, [], Bor}
 use Rattle.std.proofs.Common.{option_map, refl}
 use Rattle.clap.specs.Matches.{found_of}
 use Rattle.clap.specs.Walk.{rows_of}

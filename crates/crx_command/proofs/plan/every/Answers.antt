@@ -14,5 +14,6 @@ returns c = go (one_text (found_of c.args.found.now) (codes "every")) refl
         → c.get_one.result ≡ option_and_then counted_argument o
     go None e = c.get_one.ensures.none e
     go (Some text) e =
-        number_read (λ bs r. ParsesUnsigned 32 10 bs r × ExplainsUnsignedError 10 bs r × HasUnsignedDigitsIfOk bs r)
+        number_read (λ bs r. ParsesUnsigned 32 10 bs r × ExplainsUnsignedError 10 bs r
+          × HasUnsignedDigitsIfOk bs r)
         (λ t r h. h.0) text c.get_one.result (c.get_one.ensures.value text e)

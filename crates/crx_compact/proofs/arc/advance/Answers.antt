@@ -10,7 +10,8 @@ overflow_sub-next c =
     first-fits c.loop-order.order c.loop-order.differences here few c.loop-order.invariant.rest_below in
     rw (same-bits _ fits)
     (difference-fits c.loop-order.order c.loop-order.differences
-    (to_z w64 c.loop-order.next-bits) here few c.loop-order.invariant.next_below c.loop-order.invariant.rest_below)
+    (to_z w64 c.loop-order.next-bits) here few c.loop-order.invariant.next_below
+      c.loop-order.invariant.rest_below)
 
 pub loop-order-preserved : goal.loop-order-preserved
 loop-order-preserved c =

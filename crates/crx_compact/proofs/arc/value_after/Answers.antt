@@ -18,7 +18,8 @@ pub overflow_add-value : goal.overflow_add-value
 overflow_add-value c =
     let few : c.loop-difference.difference-index ≤ 9 = omega arith in
     let here : c.loop-difference.difference-index < length c.args.differences.now = omega arith in
-    let fits : FitsSigned w64 (slice_index_or c.args.differences.now c.loop-difference.difference-index (pos 0)) =
+    let fits : FitsSigned w64
+      (slice_index_or c.args.differences.now c.loop-difference.difference-index (pos 0)) =
     first-fits c.loop-difference.difference-index
     c.args.differences.now here few c.loop-difference.invariant.rest_below in
     rw (same-bits _ fits)
@@ -29,7 +30,8 @@ pub loop-difference-preserved : goal.loop-difference-preserved
 loop-difference-preserved c =
     let few : c.loop-difference.difference-index ≤ 9 = omega arith in
     let here : c.loop-difference.difference-index < length c.args.differences.now = omega arith in
-    let fits : FitsSigned w64 (slice_index_or c.args.differences.now c.loop-difference.difference-index (pos 0)) =
+    let fits : FitsSigned w64
+      (slice_index_or c.args.differences.now c.loop-difference.difference-index (pos 0)) =
     first-fits c.loop-difference.difference-index
     c.args.differences.now here few c.loop-difference.invariant.rest_below in
     let more : FitsSigned w64 (to_z w64 c.loop-difference.value-bits

@@ -12,7 +12,8 @@ use Rattle.crx_filter.specs.meaning.Standard.{whole_of}
 use Rattle.crx_filter.proofs.following.CheckLawful.{check-lawful}
 use Rattle.crx_filter.proofs.checks.check_by.Goals as goal
 
--- a run of the filter is a check once its status is judged: by what there is to find where there is no fault, and
+-- a run of the filter is a check once its status is judged: by what there is to find where there is no fault,
+-- and
 -- else it is as it was
 module _ (writer messages : Device) (status judged : ℕ) (fault : Option At)
     (bad : (at : At) → fault ≡ Some at → judged ≡ status) where

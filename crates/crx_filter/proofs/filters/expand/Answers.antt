@@ -74,7 +74,8 @@ returns g c =
       damage = (
         ran.0,
         ran.1,
-        kept expansion (expansion_filter choices) (KeepsUndamaged choices writer messages status fault) input ran.0
+        kept expansion (expansion_filter choices) (KeepsUndamaged choices writer messages status fault) input
+          ran.0
             writer messages status fault (keeps-undamaged choices writer messages status fault) ran.2,
       );
       whole_units = (

@@ -2,7 +2,8 @@ use Rattle.std.proofs.Common.{◌≡◌, None, if◌then◌else◌}
 use Rattle.crx_header.specs.meaning.Header.{first_header_fault}
 use Rattle.crx_filter.proofs.TypesLines.{Bad, RefusedFirst, refused-types, refused-first, if-none}
 use Rattle.crx_compact.proofs.Marks.{if-err}
-use Rattle.crx_filter.proofs.types_lines.accept_header_line.Goals.{then-is_first+in_ok-header_first, else-is_first}
+use Rattle.crx_filter.proofs.types_lines.accept_header_line.Goals.{then-is_first+in_ok-header_first}
+use Rattle.crx_filter.proofs.types_lines.accept_header_line.Goals.{else-is_first}
 use Rattle.crx_filter.proofs.types_lines.accept_header_line.Goals as goal
 
 pub returns-clause-refused : goal.returns-clause-refused

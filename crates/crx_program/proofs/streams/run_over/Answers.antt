@@ -9,7 +9,8 @@ returns-clause-refused g c = λ refusal e.
     let refused = c.run_with_files-ended.ensures.refused refusal e in (
       (
         c.new-messages.result,
-        (fresh c.args.stderr c.new-3.result c.new-messages.result c.new-messages.ensures.inner c.new-messages.ensures.log
+        (fresh c.args.stderr c.new-3.result c.new-messages.result c.new-messages.ensures.inner
+          c.new-messages.ensures.log
             c.new-3.ensures.inner c.new-3.ensures.failures c.new-3.ensures.ends c.new-3.ensures.flushes),
         refused.0,
       ),
@@ -24,11 +25,13 @@ returns-clause-help g c = λ e.
     let helped = c.run_with_files-ended.ensures.help e in (
       (
         c.new-output.result,
-        (fresh c.args.stdout c.new-2.result c.new-output.result c.new-output.ensures.inner c.new-output.ensures.log
+        (fresh c.args.stdout c.new-2.result c.new-output.result c.new-output.ensures.inner
+          c.new-output.ensures.log
             c.new-2.ensures.inner c.new-2.ensures.failures c.new-2.ensures.ends c.new-2.ensures.flushes),
         (
           c.new-messages.result,
-          (fresh c.args.stderr c.new-3.result c.new-messages.result c.new-messages.ensures.inner c.new-messages.ensures.log
+          (fresh c.args.stderr c.new-3.result c.new-messages.result c.new-messages.ensures.inner
+            c.new-messages.ensures.log
               c.new-3.ensures.inner c.new-3.ensures.failures c.new-3.ensures.ends c.new-3.ensures.flushes),
           helped.0,
         ),
@@ -45,11 +48,13 @@ returns-clause-done g c = λ job e. (
       c.new.ensures.inner c.new.ensures.failures c.new.ensures.ends c.new.ensures.flushes),
   (
     c.new-output.result,
-    (fresh c.args.stdout c.new-2.result c.new-output.result c.new-output.ensures.inner c.new-output.ensures.log
+    (fresh c.args.stdout c.new-2.result c.new-output.result c.new-output.ensures.inner
+      c.new-output.ensures.log
         c.new-2.ensures.inner c.new-2.ensures.failures c.new-2.ensures.ends c.new-2.ensures.flushes),
     (
       c.new-messages.result,
-      (fresh c.args.stderr c.new-3.result c.new-messages.result c.new-messages.ensures.inner c.new-messages.ensures.log
+      (fresh c.args.stderr c.new-3.result c.new-messages.result c.new-messages.ensures.inner
+        c.new-messages.ensures.log
           c.new-3.ensures.inner c.new-3.ensures.failures c.new-3.ensures.ends c.new-3.ensures.flushes),
       c.run_with_files-ended.ensures.done job e,
     ),
@@ -59,7 +64,8 @@ returns-clause-done g c = λ job e. (
 pub returns-clause-exact : goal.returns-clause-exact
 returns-clause-exact g c = λ job e well.
     exact_run (λ (r : Uninterrupted g.row.H-File.Denot). g.H.File.Read.remaining r.inner)
-    (writer_contents (λ (w : UntilFailure (Uninterrupted g.row.H-File.Denot)). g.H.File.Write.contents w.inner.inner))
+    (writer_contents (λ (w : UntilFailure (Uninterrupted g.row.H-File.Denot)). g.H.File.Write.contents
+      w.inner.inner))
     (λ (r : Uninterrupted g.row.I.Denot). g.I.Read.remaining r.inner)
     (writer_contents (λ (w : UntilFailure (Uninterrupted g.row.O.Denot)). g.O.Write.contents w.inner.inner))
     (λ (w : Uninterrupted g.row.E.Denot). g.E.Write.contents w.inner)
@@ -67,13 +73,15 @@ returns-clause-exact g c = λ job e well.
     c.new-input.result c.run_with_files-ended.new.input c.new-output.result c.run_with_files-ended.new.output
     c.new-messages.result c.run_with_files-ended.new.messages
     c.new-input.ensures.log c.new-output.ensures.log c.new-messages.ensures.log
-    (c.run_with_files-ended.ensures.input job e) (c.run_with_files-ended.ensures.output job e) c.run_with_files-ended.result.status
+    (c.run_with_files-ended.ensures.input job e)
+      (c.run_with_files-ended.ensures.output job e) c.run_with_files-ended.result.status
     _ (c.run_with_files-ended.ensures.done job e) well
 
 pub returns-clause-front : goal.returns-clause-front
 returns-clause-front g c = λ job e.
     front_run (λ (r : Uninterrupted g.row.H-File.Denot). g.H.File.Read.remaining r.inner)
-    (writer_contents (λ (w : UntilFailure (Uninterrupted g.row.H-File.Denot)). g.H.File.Write.contents w.inner.inner))
+    (writer_contents (λ (w : UntilFailure (Uninterrupted g.row.H-File.Denot)). g.H.File.Write.contents
+      w.inner.inner))
     (λ (r : Uninterrupted g.row.I.Denot). g.I.Read.remaining r.inner)
     (writer_contents (λ (w : UntilFailure (Uninterrupted g.row.O.Denot)). g.O.Write.contents w.inner.inner))
     (λ (w : Uninterrupted g.row.E.Denot). g.E.Write.contents w.inner)
@@ -81,5 +89,6 @@ returns-clause-front g c = λ job e.
     c.new-input.result c.run_with_files-ended.new.input c.new-output.result c.run_with_files-ended.new.output
     c.new-messages.result c.run_with_files-ended.new.messages
     c.new-input.ensures.log c.new-output.ensures.log c.new-messages.ensures.log
-    (c.run_with_files-ended.ensures.input job e) (c.run_with_files-ended.ensures.output job e) c.run_with_files-ended.result.status
+    (c.run_with_files-ended.ensures.input job e)
+      (c.run_with_files-ended.ensures.output job e) c.run_with_files-ended.result.status
     (c.run_with_files-ended.ensures.done job e)

@@ -1,4 +1,5 @@
-use Rattle.std.proofs.Common.{◌≡◌, ◌<◌, ℕ, ◌+◌, List, [], ◌∷◌, ◌++◌, length, take, drop, sym, ap, subst, ◌∙◌, append_assoc, rules}
+use Rattle.std.proofs.Common.{◌≡◌, ◌<◌, ℕ, ◌+◌, List, [], ◌∷◌, ◌++◌, length, take, drop, sym, ap, subst, ◌∙◌}
+use Rattle.std.proofs.Common.{append_assoc, rules}
 use Rattle.crx_base.specs.meaning.Lines.{InputLine}
 use Rattle.crx_runs.specs.Engines.{Awaited}
 use Rattle.crx_base.specs.meaning.Lines.{lines_text}
@@ -80,7 +81,8 @@ loop-line-preserved g c =
     let kept = c.next_line.follows.holds-at-none in
     let i = c.loop-line.invariant in
     let so_far = i.0 in
-    let took = g.met.W.Sink.took_both old now mid so_far.0 line so_far.1 c.in_default-write_all_counted.ensures.all in
+    let took = g.met.W.Sink.took_both old now mid so_far.0 line so_far.1
+      c.in_default-write_all_counted.ensures.all in
     let took_both = g.met.W.Sink.took_both old mid
     then (so_far.0 ++ line) (10 ∷ []) took c.in_default-write_all_counted-2.ensures.all in
     let whole = one-written all so_far.0 line lines so_far.2

@@ -23,7 +23,8 @@ returns-in-Ok g c = record {
         ran.0,
         ran.1,
         subst (λ (f : Filter).
-            RunsAs (result_by f) f input ran.0 writer messages c.run.result.status c.run.result.fault) is ran.2,
+            RunsAs (result_by f) f input ran.0 writer messages c.run.result.status c.run.result.fault) is
+              ran.2,
       );
 }
 

@@ -25,7 +25,8 @@ pub returns-in-Ok-clause-lossless : goal.returns-in-Ok-clause-lossless
 returns-in-Ok-clause-lossless c within memory =
     let before = rooms c.args.output.now c.args.messages.now in
     let after = rooms c.answer.new.output c.answer.new.messages in
-    brings-back_passed (λ (whole : FilterResult). AnswersWithin c.args.max_output whole c.answer.result before after)
+    brings-back_passed (λ (whole : FilterResult). AnswersWithin c.args.max_output whole c.answer.result before
+      after)
     c.expansion_options.result c.args.input.now
     (answers-run (expanded c.args.input.now c.expansion_options.result) _ _ c.args.max_output c.in-Ok.run'
     c.answer.result before after c.in-Ok.ensures.run (c.answer.ensures.result _ _ c.in-Ok.ensures.run))
@@ -43,7 +44,8 @@ pub returns-in-Ok-clause-salvage : goal.returns-in-Ok-clause-salvage
 returns-in-Ok-clause-salvage c within memory skips =
     let before = rooms c.args.output.now c.args.messages.now in
     let after = rooms c.answer.new.output c.answer.new.messages in
-    saves-all_else (λ (whole : FilterResult). AnswersWithin c.args.max_output whole c.answer.result before after)
+    saves-all_else (λ (whole : FilterResult). AnswersWithin c.args.max_output whole c.answer.result before
+      after)
     c.expansion_options.result c.args.input.now (c.expansion_options.ensures ∙ skips)
     (answers-run (expanded c.args.input.now c.expansion_options.result) _ _ c.args.max_output c.in-Ok.run'
     c.answer.result before after c.in-Ok.ensures.run (c.answer.ensures.result _ _ c.in-Ok.ensures.run))
@@ -72,7 +74,8 @@ pub returns-in-Err-clause-salvage : goal.returns-in-Err-clause-salvage
 returns-in-Err-clause-salvage c within memory skips =
     let before = rooms c.args.output.now c.args.messages.now in
     let after = rooms c.args.output.now c.args.messages.now in
-    saves-all_else (λ (whole : FilterResult). AnswersWithin c.args.max_output whole c.in-Err.answer before after)
+    saves-all_else (λ (whole : FilterResult). AnswersWithin c.args.max_output whole c.in-Err.answer before
+      after)
     c.expansion_options.result c.args.input.now (c.expansion_options.ensures ∙ skips)
     (answers-none (expanded c.args.input.now c.expansion_options.result) c.args.max_output c.in-Err.answer
     before c.in-Err.ensures.none memory)
@@ -82,7 +85,8 @@ returns-in-Ok-clause-damage c within memory skips file compacting dated damage =
     let before = rooms c.args.output.now c.args.messages.now in
     let after = rooms c.answer.new.output c.answer.new.messages in (
       expanded c.args.input.now c.expansion_options.result,
-      rest-kept file compacting c.expansion_options.result c.args.input.now dated (c.expansion_options.ensures ∙ skips)
+      rest-kept file compacting c.expansion_options.result c.args.input.now dated
+        (c.expansion_options.ensures ∙ skips)
           damage,
       (answers-run (expanded c.args.input.now c.expansion_options.result) _ _ c.args.max_output c.in-Ok.run'
           c.answer.result before after c.in-Ok.ensures.run (c.answer.ensures.result _ _ c.in-Ok.ensures.run)),
@@ -102,7 +106,8 @@ pub returns-in-Err-clause-damage : goal.returns-in-Err-clause-damage
 returns-in-Err-clause-damage c within memory skips file compacting dated damage =
     let before = rooms c.args.output.now c.args.messages.now in (
       expanded c.args.input.now c.expansion_options.result,
-      rest-kept file compacting c.expansion_options.result c.args.input.now dated (c.expansion_options.ensures ∙ skips)
+      rest-kept file compacting c.expansion_options.result c.args.input.now dated
+        (c.expansion_options.ensures ∙ skips)
           damage,
       (answers-none (expanded c.args.input.now c.expansion_options.result) c.args.max_output c.in-Err.answer
           before c.in-Err.ensures.none memory),
@@ -120,7 +125,8 @@ returns-in-Err-clause-whole_units c within memory file compacting dated whole =
 pub returns-in-Err-clause-lossless : goal.returns-in-Err-clause-lossless
 returns-in-Err-clause-lossless c within memory =
     let before = rooms c.args.output.now c.args.messages.now in
-    brings-back_passed (λ (whole : FilterResult). AnswersWithin c.args.max_output whole c.in-Err.answer before before)
+    brings-back_passed (λ (whole : FilterResult). AnswersWithin c.args.max_output whole c.in-Err.answer before
+      before)
     c.expansion_options.result c.args.input.now
     (answers-none (expanded c.args.input.now c.expansion_options.result) c.args.max_output c.in-Err.answer
     before c.in-Err.ensures.none memory)

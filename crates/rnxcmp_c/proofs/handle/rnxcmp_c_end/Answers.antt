@@ -36,7 +36,8 @@ returns-clause-ends c = λ (task : Task) (fed : List ℕ) (taken : BothTexts) st
       held = c.take_out-reader.ensures.reader ∙ ap (λ (r : Reader). r ∷ []) (sym c.deref_mut.ensures.value);
       holds = c.put_in.ensures.reader;
       is_open = c.put_in.ensures.opened;
-      ends = c.take_end-answer.ensures task past (subst (λ (r : Reader). ReaderStands task r past) same stands.stands);
+      ends = c.take_end-answer.ensures task past
+        (subst (λ (r : Reader). ReaderStands task r past) same stands.stands);
     }
 
 pub returns-clause-sound : goal.returns-clause-sound
@@ -47,7 +48,8 @@ returns-clause-sound c = λ is_open.
     let same = one-held c.args.handle.now.place.held sound.3.reader c.deref_mut.result.now sound.3.holds
     (c.take_out-reader.ensures.reader ∙ ap (λ (r : Reader). r ∷ []) (sym c.deref_mut.ensures.value)) in
     let stands = subst (λ (r : Reader). ReaderStands task r past) same sound.3.stands in
-    let then = ends-stands task c.deref_mut.result.now c.take_end-answer.new.self past c.take_end-answer.result
+    let then = ends-stands task c.deref_mut.result.now c.take_end-answer.new.self past
+      c.take_end-answer.result
     c.deref_mut.result.now.outcome stands (c.take_end-answer.ensures task past stands) in (
       task,
       _,
@@ -63,22 +65,27 @@ returns-clause-sound c = λ is_open.
 pub returns-clause-stands : goal.returns-clause-stands
 returns-clause-stands c = λ (task : Task) (fed : List ℕ) (taken : BothTexts) stands.
     let past : HandlePast = past_of fed taken in
-    let holds = c.take_out-reader.ensures.reader ∙ ap (λ (r : Reader). r ∷ []) (sym c.deref_mut.ensures.value) in
-    let same = one-held c.args.handle.now.place.held stands.reader c.deref_mut.result.now stands.holds holds in
+    let holds = c.take_out-reader.ensures.reader ∙ ap (λ (r : Reader). r ∷ []) (sym c.deref_mut.ensures.value)
+      in
+    let same = one-held c.args.handle.now.place.held stands.reader c.deref_mut.result.now stands.holds holds
+      in
     let before = subst (λ (r : Reader). ReaderStands task r past) same stands.stands in
     record {
       reader = c.take_end-answer.new.self;
       is_open = c.put_in.ensures.opened;
       holds = c.put_in.ensures.reader;
-      stands = ends-stands task c.deref_mut.result.now c.take_end-answer.new.self past c.take_end-answer.result
+      stands = ends-stands task c.deref_mut.result.now c.take_end-answer.new.self past
+        c.take_end-answer.result
           c.deref_mut.result.now.outcome before (c.take_end-answer.ensures task past before);
     }
 
 pub returns-clause-promise : goal.returns-clause-promise
 returns-clause-promise c = λ (task : Task) (fed : List ℕ) (taken : BothTexts) stands runs.
     let past : HandlePast = past_of fed taken in
-    let holds = c.take_out-reader.ensures.reader ∙ ap (λ (r : Reader). r ∷ []) (sym c.deref_mut.ensures.value) in
-    let same = one-held c.args.handle.now.place.held stands.reader c.deref_mut.result.now stands.holds holds in
+    let holds = c.take_out-reader.ensures.reader ∙ ap (λ (r : Reader). r ∷ []) (sym c.deref_mut.ensures.value)
+      in
+    let same = one-held c.args.handle.now.place.held stands.reader c.deref_mut.result.now stands.holds holds
+      in
     let before = subst (λ (r : Reader). ReaderStands task r past) same stands.stands in
     let ends = c.take_end-answer.ensures task past before in
     handle-promise task _ c.take_end-answer.new.self fed taken c.take_end-answer.result
@@ -91,22 +98,30 @@ returns-clause-promise c = λ (task : Task) (fed : List ℕ) (taken : BothTexts)
 pub returns-clause-ended : goal.returns-clause-ended
 returns-clause-ended c = λ (task : Task) (fed : List ℕ) (taken : BothTexts) stands runs.
     let past : HandlePast = past_of fed taken in
-    let holds = c.take_out-reader.ensures.reader ∙ ap (λ (r : Reader). r ∷ []) (sym c.deref_mut.ensures.value) in
-    let same = one-held c.args.handle.now.place.held stands.reader c.deref_mut.result.now stands.holds holds in
+    let holds = c.take_out-reader.ensures.reader ∙ ap (λ (r : Reader). r ∷ []) (sym c.deref_mut.ensures.value)
+      in
+    let same = one-held c.args.handle.now.place.held stands.reader c.deref_mut.result.now stands.holds holds
+      in
     let before = subst (λ (r : Reader). ReaderStands task r past) same stands.stands in
-    let ends = ends-answer task c.deref_mut.result.now c.take_end-answer.new.self past c.take_end-answer.result
-    c.deref_mut.result.now.outcome (sym (ap have_ended holds) ∙ runs) (c.take_end-answer.ensures task past before) in
+    let ends = ends-answer task c.deref_mut.result.now c.take_end-answer.new.self past
+      c.take_end-answer.result
+    c.deref_mut.result.now.outcome (sym (ap have_ended holds) ∙ runs)
+      (c.take_end-answer.ensures task past before) in
     handle-ended task _ c.take_end-answer.new.self fed taken c.take_end-answer.result c.put_in.ensures.reader
     ends.1 ends.0
 
 pub returns-clause-misused : goal.returns-clause-misused
 returns-clause-misused c = λ (task : Task) (fed : List ℕ) (taken : BothTexts) stands ended.
     let past : HandlePast = past_of fed taken in
-    let holds = c.take_out-reader.ensures.reader ∙ ap (λ (r : Reader). r ∷ []) (sym c.deref_mut.ensures.value) in
-    let same = one-held c.args.handle.now.place.held stands.reader c.deref_mut.result.now stands.holds holds in
+    let holds = c.take_out-reader.ensures.reader ∙ ap (λ (r : Reader). r ∷ []) (sym c.deref_mut.ensures.value)
+      in
+    let same = one-held c.args.handle.now.place.held stands.reader c.deref_mut.result.now stands.holds holds
+      in
     let before = subst (λ (r : Reader). ReaderStands task r past) same stands.stands in
-    let misused = ends-misused task c.deref_mut.result.now c.take_end-answer.new.self past c.take_end-answer.result
-    c.deref_mut.result.now.outcome (sym (ap have_ended holds) ∙ ended) (c.take_end-answer.ensures task past before) in
+    let misused = ends-misused task c.deref_mut.result.now c.take_end-answer.new.self past
+      c.take_end-answer.result
+    c.deref_mut.result.now.outcome (sym (ap have_ended holds) ∙ ended)
+      (c.take_end-answer.ensures task past before) in
     (misused.0, c.put_in.ensures.reader ∙ ap (λ (r : Reader). r ∷ []) misused.1 ∙ sym holds)
 
 pub returns-clause-expansion : goal.returns-clause-expansion

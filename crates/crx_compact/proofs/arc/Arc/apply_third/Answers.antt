@@ -1,4 +1,5 @@
-use Rattle.std.proofs.Common.{rules, ◌≡◌, [], ◌∷◌, ℕ, ℤ, true, take, sym, ap, subst, ◌∙◌, arith, FitsSigned, w64}
+use Rattle.std.proofs.Common.{rules, ◌≡◌, [], ◌∷◌, ℕ, ℤ, true, take, sym, ap, subst, ◌∙◌, arith, FitsSigned}
+use Rattle.std.proofs.Common.{w64}
 use Rattle.std.proofs.Common.{Some, Result, Ok, Err, Option}
 use Rattle.std.specs.Prelude.{if◌then◌else◌}
 use Rattle.crx_base.specs.declared.fault.Fault.{Fault}
@@ -8,7 +9,8 @@ use Rattle.crx_compact.specs.meaning.ArcValues.{is_within, in_range}
 use Rattle.crx_compact.specs.ArcSteps.{differences_after, differences_by}
 use Rattle.crx_compact.specs.Arcs.{kept_tail, IsArcInRange}
 use Rattle.crx_compact.proofs.arcs.Bounds.{within-is}
-use Rattle.crx_compact.proofs.arcs.Running.{StepsOn, accepted, refused, by-after, four-put, same-bits, lower-below}
+use Rattle.crx_compact.proofs.arcs.Running.{StepsOn, accepted, refused, by-after, four-put, same-bits}
+use Rattle.crx_compact.proofs.arcs.Running.{lower-below}
 use Rattle.crx_compact.proofs.arcs.Running.{goes-on-kept, stepped}
 use Rattle.crx_compact.proofs.arc.Arc.apply_third.Goals as goal
 
@@ -26,7 +28,8 @@ invariant_of-self g c =
     let is : is_within g.row.WIDTH c.sums_from_third-value.result.0 ≡ true =
     accepted g.row.WIDTH _ _ c.is_within.ensures c.if-not-is_within.false fits0 in
     let sums : c.sums_from_third-value.result.0 ∷ c.sums_from_third-value.result.1
-    ∷ c.sums_from_third-value.result.2 ∷ c.args.number ∷ [] ≡ differences_by c.args.number (take 3 c.self.inside.differences) =
+    ∷ c.sums_from_third-value.result.2 ∷ c.args.number ∷ [] ≡ differences_by c.args.number
+      (take 3 c.self.inside.differences) =
     rw (same-bits _ fits) at c.sums_from_third-value.ensures in
     let after : take 4 c.put_four.new.differences
     ≡ differences_after c.sums_from_third-value.result.0 (take 3 c.self.inside.differences) =
@@ -77,7 +80,8 @@ returns-clause-arc g c =
     stepped _ _ _ _ _ _ _ (omega (arith, third.0, third.1))
     (omega (arith, third.1)) c.self.told (ap newest c.sums_from_third-value.ensures) fits in
     let sums : c.sums_from_third-value.result.0 ∷ c.sums_from_third-value.result.1
-    ∷ c.sums_from_third-value.result.2 ∷ c.args.number ∷ [] ≡ differences_by c.args.number (take 3 c.self.inside.differences) =
+    ∷ c.sums_from_third-value.result.2 ∷ c.args.number ∷ [] ≡ differences_by c.args.number
+      (take 3 c.self.inside.differences) =
     rw (same-bits _ fits) at c.sums_from_third-value.ensures in
     let after : take 4 c.put_four.new.differences
     ≡ differences_after c.sums_from_third-value.result.0 (take 3 c.self.inside.differences) =

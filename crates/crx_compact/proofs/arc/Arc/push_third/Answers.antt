@@ -3,7 +3,8 @@ use Rattle.crx_text.specs.Codes.{IsShort}
 use Rattle.crx_text.specs.declared.code.Code.TheVariants.{Step}
 use Rattle.crx_compact.specs.ArcSteps.{differences_after, highest}
 use Rattle.crx_compact.specs.Arcs.{kept_tail, IsArcInRange}
-use Rattle.crx_compact.proofs.arcs.Running.{GoesOn, same-bits, lower-below, within-below, goes-on-kept, goes-on}
+use Rattle.crx_compact.proofs.arcs.Running.{GoesOn, same-bits, lower-below, within-below, goes-on-kept}
+use Rattle.crx_compact.proofs.arcs.Running.{goes-on}
 use Rattle.crx_compact.proofs.arcs.Running.{four-put, highest-short}
 use Rattle.crx_compact.proofs.arc.Arc.push_third.Goals as goal
 

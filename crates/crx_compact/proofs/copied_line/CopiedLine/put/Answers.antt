@@ -34,5 +34,6 @@ returns c =
     let bytes = c.put_line.new.bytes in
     let a = c.put_line.auto.bytes in
     let b = c.deref_mut.ensures.len in
-    let kept = take_at bytes (drop (length bytes) inside.bytes.items) inside.bytes.len (omega (arith, a, b)) in
+    let kept = take_at bytes (drop (length bytes) inside.bytes.items) inside.bytes.len (omega (arith, a, b))
+      in
     record { line = rw kept (line-put bytes c.args.line.now c.put_line.ensures.put).there }

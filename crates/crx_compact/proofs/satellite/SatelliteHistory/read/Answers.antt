@@ -3,7 +3,8 @@ use Rattle.std.proofs.lemmas.List.{length-take-le, take_at, take_rest}
 use Rattle.std.proofs.lemmas.Result.{err_from_is_err_and}
 use Rattle.crx_compact.specs.meaning.CompactPlaces.{are_marks}
 use Rattle.crx_compact.proofs.Marks.{if-err, none-there, on-both}
-use Rattle.crx_compact.proofs.SatelliteLines.{cells-refused, flags-refused, indicators-left, no-marks, stored-read}
+use Rattle.crx_compact.proofs.SatelliteLines.{cells-refused, flags-refused, indicators-left, no-marks}
+use Rattle.crx_compact.proofs.SatelliteLines.{stored-read}
 use Rattle.crx_compact.proofs.satellite.SatelliteHistory.read.Goals as goal
 
 pub returns-in_err-at-clause-err : goal.returns-in_err-at-clause-err

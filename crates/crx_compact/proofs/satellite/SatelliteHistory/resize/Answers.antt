@@ -1,4 +1,5 @@
-use Rattle.std.proofs.Common.{◌-◌, ◌*◌, ◌++◌, List, ℕ, Option, None, drop, length, replicate, take, ap, arith, ◌∙◌}
+use Rattle.std.proofs.Common.{◌-◌, ◌*◌, ◌++◌, List, ℕ, Option, None, drop, length, replicate, take, ap, arith}
+use Rattle.std.proofs.Common.{◌∙◌}
 use Rattle.std.proofs.lemmas.List.{length-take, take_at}
 use Rattle.crx_compact.specs.ArcTails.{ArcTail}
 use Rattle.crx_compact.specs.Placing.{SatelliteTail}

@@ -42,7 +42,8 @@ returns-then-print_report_line c =
             ∙ sym c.if-print_report_line.ensures.line
             ∙ ap {B = Option (List ℕ)} (λ (types : List Count).
             slice_get (report_lines (found_held self.totals types self.not_standard)) n) c.types.ensures.value
-            ∙ first-left n report ∙ ap {B = Option (List ℕ)} (λ (ls : List (List ℕ)). slice_get ls 0) (sym pending);
+            ∙ first-left n report ∙ ap {B = Option (List ℕ)} (λ (ls : List (List ℕ)). slice_get ls 0)
+              (sym pending);
         after_borrow = tt;
       },
     )
@@ -54,7 +55,8 @@ returns c =
     let report : List (List ℕ) = report_lines (found_held self.totals self.reader.types self.not_standard) in
     let pending = ap {B = List (List ℕ)} (λ (h : Option ℕ).
     report_left h (found_held self.totals self.reader.types self.not_standard)) c.in_ok-handed_out.was in
-    let none = ap {B = Option (List ℕ)} (λ (ls : List (List ℕ)). slice_get ls 0) pending ∙ sym (first-left n report)
+    let none = ap {B = Option (List ℕ)} (λ (ls : List (List ℕ)). slice_get ls 0) pending
+      ∙ sym (first-left n report)
     ∙ ap {B = Option (List ℕ)} (λ (types : List Count).
     slice_get (report_lines (found_held self.totals types self.not_standard)) n) (sym c.types.ensures.value)
     ∙ c.if-print_report_line.ensures.line in (

@@ -1,14 +1,11 @@
-use Rattle.std.proofs.Common.{◌≡◌, ◌<◌, ◌+◌, ℕ, Option, inl, true, refl, sym, ap, subst, ◌∙◌, arith, rules}
+use Rattle.std.proofs.Common.{◌≡◌, ◌<◌, ◌+◌, Option, inl, true, sym, ap, subst, ◌∙◌, arith}
 use Rattle.crx_base.specs.declared.limits.TheConstants.{INPUT_LIMIT}
 use Rattle.crx_base.specs.meaning.Seen.{Content}
 use Rattle.crx_compact.specs.Encoding.{EncoderState}
 use Rattle.crx_compact.specs.Tails.{Tail}
-use Rattle.crx_rinex.specs.meaning.EpochPlaces.{OpenEpoch}
 use Rattle.crx_filter.specs.CompactionByLine.{Written, compaction}
-use Rattle.crx_filter.specs.LineByLine.{Seen}
-use Rattle.crx_filter.specs.RinexReaders.{CompletedEpoch, TakesRinexLine, made_at, reader_phase}
+use Rattle.crx_filter.specs.RinexReaders.{TakesRinexLine, made_at, reader_phase}
 use Rattle.crx_filter.specs.RinexStages.{is_open_stage}
-use Rattle.crx_filter.specs.declared.rinex_reader.RinexReader.{RinexReader}
 use Rattle.crx_filter.specs.declared.rinex_reader.RinexStep.{RinexStep}
 use Rattle.crx_filter.specs.CompactionParts.{CompactionParts}
 use Rattle.crx_filter.specs.CompactionState.{compaction_ready, compaction_state}
@@ -16,8 +13,10 @@ use Rattle.crx_filter.specs.EngineSteps.{Steps}
 use Rattle.crx_filter.specs.contracts.compaction.Compaction.{the_view}
 use Rattle.crx_filter.proofs.following.Following.{seen_in}
 use Rattle.crx_filter.proofs.steps.CompactionSteps.{concluded-step, refused-step, seen-again}
-use Rattle.crx_filter.proofs.steps.Together.{closed-together, due-there, head-counted, is-repeated, open-together}
-use Rattle.crx_filter.proofs.steps.Together.{both-ok, epoch-come, row-come, rows-come, rows-there, written-lines}
+use Rattle.crx_filter.proofs.steps.Together.{closed-together, due-there, head-counted, is-repeated}
+use Rattle.crx_filter.proofs.steps.Together.{open-together}
+use Rattle.crx_filter.proofs.steps.Together.{both-ok, epoch-come, row-come, rows-come, rows-there}
+use Rattle.crx_filter.proofs.steps.Together.{written-lines}
 use Rattle.crx_filter.proofs.steps.Together.{written-tail}
 use Rattle.crx_filter.proofs.compaction.Compaction.row.Goals as goal
 
@@ -38,7 +37,8 @@ returns-in-Err-clause-steps c =
     (compaction_ready c.fail.new.self) (compaction_state c.fail.new.self)) c.self.view_is
     (refused-step (compaction_state self) _ (Content line) c.fail.new.answer _
     (compaction_state c.fail.new.self)
-    c.in-Err.fault (seen-again self.options self.number kept self.reader c.read_row.new.self c.in-Err.ensures.same)
+    c.in-Err.fault (seen-again self.options self.number kept self.reader c.read_row.new.self
+      c.in-Err.ensures.same)
     (c.fail.ensures.fails (Content line) (sym c.begins_epoch.ensures.value))
     (inl (c.in-Err.ensures.refused kept)) c.fail.ensures.fatal)
 
@@ -49,8 +49,10 @@ returns-in-Ok-false-clause-steps c =
     let line = c.args.line.now in
     let mid = c.read_row.new.self in
     let fail = c.fail-in-Ok-false in
-    let there = rows-there self c.self.invariant (opened c.args.self.now self c.self.view_is c.requires.open) in
-    let repeated = is-repeated c.in-Ok-false.field-0 c.row.result.now mid.row self.encoder.rows self.reader.rows.rows
+    let there = rows-there self c.self.invariant (opened c.args.self.now self c.self.view_is c.requires.open)
+      in
+    let repeated = is-repeated c.in-Ok-false.field-0 c.row.result.now mid.row self.encoder.rows
+      self.reader.rows.rows
     c.in-Ok-false.ensures.answer c.row.ensures.value there c.in-Ok-false.field-0-test in
     subst (λ (p : CompactionParts). Steps compaction (compaction_state p) (Content line) fail.new.answer
     (compaction_ready fail.new.self) (compaction_state fail.new.self)) c.self.view_is
@@ -69,7 +71,8 @@ invariant_of-self-in-Row c =
     let open_ = opened c.args.self.now self c.self.view_is c.requires.open in
     let written = c.in-Ok-true.ensures.written c.in-Ok-true.field-0-test in
     let takes = row-come self c.self.invariant open_ c.read_row.new.self c.take_row.new.self c.args.line.now
-    (compaction_state self).kept c.take_row.result c.in-Ok-true.field-0 c.row.result.now c.in_default.ensures.same
+    (compaction_state self).kept c.take_row.result c.in-Ok-true.field-0 c.row.result.now
+      c.in_default.ensures.same
     c.in_default.ensures.ok c.in_default.ensures.row c.in-Ok-true.ensures.answer c.row.ensures.value
     c.in-Ok-true.field-0-test c.take_row.ensures.takes c.take_row.ensures.steps in
     let going = subst (λ (s : RinexStep). TakesRinexLine (made_at self.reader c.args.line.now
@@ -88,10 +91,13 @@ end_epoch-ended-requires c =
     let open_ = opened c.args.self.now self c.self.view_is c.requires.open in
     let written = c.in-Ok-true.ensures.written c.in-Ok-true.field-0-test in
     let done = epoch-come self c.self.invariant open_ c.read_row.new.self c.take_row.new.self c.args.line.now
-    (compaction_state self).kept c.take_row.result c.in-Ok-true.field-0 c.row.result.now c.in_default.ensures.same
+    (compaction_state self).kept c.take_row.result c.in-Ok-true.field-0 c.row.result.now
+      c.in_default.ensures.same
     c.in_default.ensures.ok c.in_default.ensures.row c.in-Ok-true.ensures.answer c.row.ensures.value
-    c.in-Ok-true.field-0-test c.take_row.ensures.takes c.take_row.ensures.steps c.in_default-take_row.not-Row in
-    let rows = rows-come self c.self.invariant open_ c.read_row.new.self c.take_row.new.self c.encode_row.new.self
+    c.in-Ok-true.field-0-test c.take_row.ensures.takes c.take_row.ensures.steps c.in_default-take_row.not-Row
+      in
+    let rows = rows-come self c.self.invariant open_ c.read_row.new.self c.take_row.new.self
+      c.encode_row.new.self
     c.row.result.now c.in_default.ensures.same c.row.ensures.value written c.take_row.ensures.rows in
     let counted = head-counted c.take_row.new.self.head done.head c.encode_row.new.self.rows
     c.take_row.new.self.rows.rows done.held done.counted rows in
@@ -107,9 +113,11 @@ invariant_of-self-2 c =
     let open_ = opened c.args.self.now self c.self.view_is c.requires.open in
     let written = c.in-Ok-true.ensures.written c.in-Ok-true.field-0-test in
     let done = epoch-come self c.self.invariant open_ c.read_row.new.self c.take_row.new.self c.args.line.now
-    (compaction_state self).kept c.take_row.result c.in-Ok-true.field-0 c.row.result.now c.in_default.ensures.same
+    (compaction_state self).kept c.take_row.result c.in-Ok-true.field-0 c.row.result.now
+      c.in_default.ensures.same
     c.in_default.ensures.ok c.in_default.ensures.row c.in-Ok-true.ensures.answer c.row.ensures.value
-    c.in-Ok-true.field-0-test c.take_row.ensures.takes c.take_row.ensures.steps c.in_default-take_row.not-Row in
+    c.in-Ok-true.field-0-test c.take_row.ensures.takes c.take_row.ensures.steps c.in_default-take_row.not-Row
+      in
     closed-together _ done.is.closed c.end_epoch-ended.ensures.closed c.end_epoch-ended.ensures.rows
     c.self.invariant.counted c.self.invariant.within
 
@@ -119,9 +127,11 @@ conclude-requires c =
     let open_ = opened c.args.self.now self c.self.view_is c.requires.open in
     let written = c.in-Ok-true.ensures.written c.in-Ok-true.field-0-test in
     let done = epoch-come self c.self.invariant open_ c.read_row.new.self c.take_row.new.self c.args.line.now
-    (compaction_state self).kept c.take_row.result c.in-Ok-true.field-0 c.row.result.now c.in_default.ensures.same
+    (compaction_state self).kept c.take_row.result c.in-Ok-true.field-0 c.row.result.now
+      c.in_default.ensures.same
     c.in_default.ensures.ok c.in_default.ensures.row c.in-Ok-true.ensures.answer c.row.ensures.value
-    c.in-Ok-true.field-0-test c.take_row.ensures.takes c.take_row.ensures.steps c.in_default-take_row.not-Row in
+    c.in-Ok-true.field-0-test c.take_row.ensures.takes c.take_row.ensures.steps c.in_default-take_row.not-Row
+      in
     record {
       within = within c.args.self.now self c.self.view_is c.requires.within;
       closed = done.is.closed;
@@ -139,10 +149,13 @@ returns c =
     let open_ = opened c.args.self.now self c.self.view_is c.requires.open in
     let written = c.in-Ok-true.ensures.written c.in-Ok-true.field-0-test in
     let done = epoch-come self c.self.invariant open_ c.read_row.new.self c.take_row.new.self c.args.line.now
-    (compaction_state self).kept c.take_row.result c.in-Ok-true.field-0 c.row.result.now c.in_default.ensures.same
+    (compaction_state self).kept c.take_row.result c.in-Ok-true.field-0 c.row.result.now
+      c.in_default.ensures.same
     c.in_default.ensures.ok c.in_default.ensures.row c.in-Ok-true.ensures.answer c.row.ensures.value
-    c.in-Ok-true.field-0-test c.take_row.ensures.takes c.take_row.ensures.steps c.in_default-take_row.not-Row in
-    let rows = rows-come self c.self.invariant open_ c.read_row.new.self c.take_row.new.self c.encode_row.new.self
+    c.in-Ok-true.field-0-test c.take_row.ensures.takes c.take_row.ensures.steps c.in_default-take_row.not-Row
+      in
+    let rows = rows-come self c.self.invariant open_ c.read_row.new.self c.take_row.new.self
+      c.encode_row.new.self
     c.row.result.now c.in_default.ensures.same c.row.ensures.value written c.take_row.ensures.rows in
     let due = ap (λ (e : EncoderState). e.in_full) written ∙ due-there self c.self.invariant open_ in
     let before = ap (λ (e : EncoderState). e.before) written in

@@ -1,4 +1,5 @@
-use Rattle.std.proofs.Common.{◌≡◌, ◌<◌, ◌+◌, [], ℕ, Option, false, true, refl, sym, ap, subst, ◌∙◌, arith, rules}
+use Rattle.std.proofs.Common.{◌≡◌, ◌<◌, ◌+◌, [], ℕ, Option, false, true, refl, sym, ap, subst, ◌∙◌, arith}
+use Rattle.std.proofs.Common.{rules}
 use Rattle.crx_base.specs.declared.limits.TheConstants.{INPUT_LIMIT}
 use Rattle.crx_base.specs.meaning.Seen.{Content}
 use Rattle.crx_compact.specs.Encoding.{EncoderState}
@@ -17,8 +18,10 @@ use Rattle.crx_filter.specs.contracts.compaction.Compaction.{the_view}
 use Rattle.crx_filter.proofs.following.Following.{seen_in}
 use Rattle.crx_filter.proofs.steps.CompactionSteps.{concluded-step, copied-closed, copied-step, others-copied}
 use Rattle.crx_filter.proofs.steps.CompactionSteps.{quiet-step, refused-step, seen-again}
-use Rattle.crx_filter.proofs.steps.Together.{begun-open, begun-whole, both-ok, closed-together, head-counted, none-there}
-use Rattle.crx_filter.proofs.steps.Together.{open-together, wants-more, wants-none, written-lines, written-tail}
+use Rattle.crx_filter.proofs.steps.Together.{begun-open, begun-whole, both-ok, closed-together, head-counted}
+use Rattle.crx_filter.proofs.steps.Together.{none-there}
+use Rattle.crx_filter.proofs.steps.Together.{open-together, wants-more, wants-none, written-lines}
+use Rattle.crx_filter.proofs.steps.Together.{written-tail}
 use Rattle.crx_filter.proofs.compaction.Compaction.unit.Goals as goal
 
 -- before the line no epoch is open, and there is room for a line more
@@ -34,7 +37,8 @@ invariant_of-self-in-Nothing c =
     let self = the_view c.self.inside in
     let kept = (compaction_state self).kept in
     let closed = closed-before c.args.self.now self c.self.view_is c.requires.closed in
-    let takes = subst (λ (s : RinexStep). TakesRinexLine (made_at self.reader c.args.line.now kept) self.reader
+    let takes = subst (λ (s : RinexStep). TakesRinexLine
+      (made_at self.reader c.args.line.now kept) self.reader
     c.args.line.now s c.take.new.self) c.in-Nothing.is (c.in-Ok.ensures.takes kept) in
     closed-together _ takes.1 (c.self.invariant.opened ∙ closed) (none-there self c.self.invariant closed)
     (omega (arith, c.self.invariant.counted))
@@ -65,10 +69,12 @@ returns-in-Err c =
     let line = c.args.line.now in
     record {
       steps = subst (λ (p : CompactionParts). Steps compaction (compaction_state p) (Content line)
-          c.fail.new.answer (compaction_ready c.fail.new.self) (compaction_state c.fail.new.self)) c.self.view_is
+          c.fail.new.answer (compaction_ready c.fail.new.self) (compaction_state c.fail.new.self))
+            c.self.view_is
           (refused-step (compaction_state self) _ (Content line) c.fail.new.answer _
           (compaction_state c.fail.new.self)
-          c.in-Err.fault (seen-again self.options self.number kept self.reader c.take.new.self c.in-Err.ensures.same)
+          c.in-Err.fault (seen-again self.options self.number kept self.reader c.take.new.self
+            c.in-Err.ensures.same)
           (c.fail.ensures.fails (Content line) (sym c.begins_epoch.ensures.value))
           (c.in-Err.ensures.refuses kept) c.fail.ensures.fatal);
       ended = c.fail.ensures.ended;
@@ -80,7 +86,8 @@ pub invariant_of-self-then-not-is_whole : goal.invariant_of-self-then-not-is_who
 invariant_of-self-then-not-is_whole c =
     let self = the_view c.self.inside in
     let kept = (compaction_state self).kept in
-    let begins = subst (λ (s : RinexStep). TakesRinexLine (made_at self.reader c.args.line.now kept) self.reader
+    let begins = subst (λ (s : RinexStep). TakesRinexLine
+      (made_at self.reader c.args.line.now kept) self.reader
     c.args.line.now s c.take.new.self) c.in-Begun.is (c.in-Ok.ensures.takes kept) in
     open-together _ (wants-more c.is_whole.result _ c.is_whole.ensures.value c.if-not-is_whole.true)
     (ap (λ (e : EncoderState). e.is_open) c.begin.ensures.begun)
@@ -123,7 +130,8 @@ end_epoch-ended-requires c =
     line s after) c.in-Begun.is (c.in-Ok.ensures.takes kept) in
     let done = begun-whole (made_at self.reader line kept) line self.reader after begins
     (wants-none c.is_whole.result _ c.is_whole.ensures.value c.if-not-is_whole.false) in
-    let counted = head-counted after.head done.head c.begin.new.self.rows after.rows.rows done.held done.counted
+    let counted = head-counted after.head done.head c.begin.new.self.rows after.rows.rows done.held
+      done.counted
     (ap (λ (e : EncoderState). e.rows) c.begin.ensures.begun ∙ sym begins.0) in
     record {
       «open» = ap (λ (e : EncoderState). e.is_open) c.begin.ensures.begun;
@@ -173,8 +181,10 @@ invariant_of-self-in_default-step c =
     let kept = (compaction_state self).kept in
     let line = c.args.line.now in
     let closed = closed-before c.args.self.now self c.self.view_is c.requires.closed in
-    closed-together _ (copied-closed (made_at self.reader line kept) self.reader c.take.new.self line c.in-Ok.step
-    (others-copied c.in-Ok.step c.in-Ok.ensures.steps c.in_default-step.not-Nothing c.in_default-step.not-Begun)
+    closed-together _ (copied-closed (made_at self.reader line kept) self.reader c.take.new.self line
+      c.in-Ok.step
+    (others-copied c.in-Ok.step c.in-Ok.ensures.steps c.in_default-step.not-Nothing
+      c.in_default-step.not-Begun)
     (c.in-Ok.ensures.takes kept)) (c.self.invariant.opened ∙ closed) (none-there self c.self.invariant closed)
     c.self.invariant.counted c.self.invariant.within
 
@@ -188,7 +198,8 @@ copy-requires c =
       within = within c.args.self.now self c.self.view_is c.requires.within;
       short = c.requires.short;
       closed = copied-closed (made_at self.reader line kept) self.reader after line c.in-Ok.step
-          (others-copied c.in-Ok.step c.in-Ok.ensures.steps c.in_default-step.not-Nothing c.in_default-step.not-Begun)
+          (others-copied c.in-Ok.step c.in-Ok.ensures.steps c.in_default-step.not-Nothing
+            c.in_default-step.not-Begun)
           (c.in-Ok.ensures.takes kept);
     }
 
@@ -203,9 +214,11 @@ returns-in_default-step c =
           (compaction_ready c.copy.new.self) (compaction_state c.copy.new.self)) c.self.view_is
           (copied-step self.options self.number kept self.reader after line c.in-Ok.step
           (compaction_ready c.copy.new.self) (compaction_state c.copy.new.self)
-          (others-copied c.in-Ok.step c.in-Ok.ensures.steps c.in_default-step.not-Nothing c.in_default-step.not-Begun)
+          (others-copied c.in-Ok.step c.in-Ok.ensures.steps c.in_default-step.not-Nothing
+            c.in_default-step.not-Begun)
           (c.in-Ok.ensures.takes kept) c.copy.ensures.ready c.copy.ensures.seen);
       ended = tt;
       nothing = tt;
-      choices = ap (λ s. s.choices) c.copy.ensures.seen ∙ ap (λ (p : CompactionParts). p.options) c.self.view_is;
+      choices = ap (λ s. s.choices) c.copy.ensures.seen
+        ∙ ap (λ (p : CompactionParts). p.options) c.self.view_is;
     }

@@ -28,8 +28,10 @@ returns-clause-value c =
     let within : w.end ≤ length w.bytes.items = omega arith in
     elim c.else-len-gt0.branch [
       | else-len-gt0-via-then-len-gt0+else-bytes-to-eq13 v ↦ (content-other
-          w.bytes.items w.start w.end c.args.len v.if-len-gt0.true inside within (λ e. v.if-bytes-to-eq13.false
-          (ap (λ (xs : List ℕ). get_or xs (w.start + c.args.len - 1) 0) c.as_slice-bytes.ensures.value ∙ e))).0
+          w.bytes.items w.start w.end c.args.len v.if-len-gt0.true inside within
+            (λ e. v.if-bytes-to-eq13.false
+          (ap (λ (xs : List ℕ). get_or xs (w.start + c.args.len - 1) 0) c.as_slice-bytes.ensures.value
+            ∙ e))).0
       | else-len-gt0-via-else-len-gt0 v ↦
           (content-none w.bytes.items w.start w.end c.args.len (omega (arith, v.if-len-gt0.false))).0
     ]
@@ -41,8 +43,10 @@ returns-clause-has_return c =
     let within : w.end ≤ length w.bytes.items = omega arith in
     elim c.else-len-gt0.branch [
       | else-len-gt0-via-then-len-gt0+else-bytes-to-eq13 v ↦ (content-other
-          w.bytes.items w.start w.end c.args.len v.if-len-gt0.true inside within (λ e. v.if-bytes-to-eq13.false
-          (ap (λ (xs : List ℕ). get_or xs (w.start + c.args.len - 1) 0) c.as_slice-bytes.ensures.value ∙ e))).1
+          w.bytes.items w.start w.end c.args.len v.if-len-gt0.true inside within
+            (λ e. v.if-bytes-to-eq13.false
+          (ap (λ (xs : List ℕ). get_or xs (w.start + c.args.len - 1) 0) c.as_slice-bytes.ensures.value
+            ∙ e))).1
       | else-len-gt0-via-else-len-gt0 v ↦
           (content-none w.bytes.items w.start w.end c.args.len (omega (arith, v.if-len-gt0.false))).1
     ]
