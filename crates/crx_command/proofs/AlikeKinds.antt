@@ -53,7 +53,7 @@ alike_if true a b h g = h
 alike_if false a b h g = g
 
 alike_option : {X : Type 0} (f : X → Kinds) (o : Option X) → ((x : X) → Alike (f x))
-  → Alike (option_map_or f o [])
+    → Alike (option_map_or f o [])
 alike_option f None h = alike_none
 alike_option f (Some x) h = h x
 
@@ -65,7 +65,7 @@ alike_value i p text = alike_if (accepts i p text) _ _ alike_none (alike_one _)
 alike_values : (i : Bool) (p : ValueParser) (texts : List Text) → Alike (values_kinds i p texts)
 alike_values i p [] = alike_none
 alike_values i p (text ∷ rest) = alike_or (value_kinds i p text) _ (alike_value i p text)
-  (alike_values i p rest)
+    (alike_values i p rest)
 
 alike_range : (least most n : ℕ) → Alike (range_kinds least most n)
 alike_range least most n = alike_if (nat_lt 0 least && n == 0) _ _ (alike_one _)
@@ -89,10 +89,10 @@ alike_count a [] rows = alike_value a.ignore_case
 alike_count a (v ∷ vs) rows = alike_values _ _ (v ∷ vs)
 
 alike_set : (again : Bool) (a : Rule) (values : List Text) (rows : List Row)
-  → Alike (set_fault again a values rows)
+    → Alike (set_fault again a values rows)
 alike_set again a values rows =
     alike_or (repeat_fault again a.id rows) _ (alike_if _ _ _ (alike_one _) alike_none)
-      (alike_values _ _ values)
+    (alike_values _ _ values)
 
 alike_action : (x : ArgAction) (again : Bool) (a : Rule) (values : List Text) (rows : List Row)
     → Alike (action_fault x again a values rows)
@@ -107,7 +107,7 @@ alike_action action.HelpLong again a values rows = alike_one _
 alike_action action.Version again a values rows = alike_one _
 
 alike_use : (again : Bool) (a : Rule) (values : List Text) (rows : List Row)
-  → Alike (use_fault again a values rows)
+    → Alike (use_fault again a values rows)
 alike_use again a values rows =
     alike_or (range_kinds (unwrap_or_range a.range).start_inclusive (most_values a) (length values)) _
     (alike_range (unwrap_or_range a.range).start_inclusive (most_values a) (length values))
@@ -137,7 +137,7 @@ alike_long c again (Some a) v h =
     (alike_if (is_some v) _ _ (alike_one _) (alike_react c again a [] h))
 
 alike_short : (c : List Rule) (again : Bool) (found : Option Rule) (rest : Text) (h : Held)
-  (more : Held → Kinds)
+    (more : Held → Kinds)
     → ((g : Held) → Alike (more g))
     → Alike (short_fault c again found rest h more)
 alike_short c again None rest h more each = alike_one _
@@ -148,7 +148,7 @@ alike_short c again (Some a) rest h more each =
 alike_bundle_step : (c : List Rule)
     (again : Bool) (x : Option ℕ) (flags : Text) (skip : ℕ) (h : Held) (more : Text → ℕ → Held → Kinds)
     → ((t : Text) (n : ℕ) (g : Held) → Alike (more t n g))
-      → Alike (bundle_step_fault c again x flags skip h more)
+    → Alike (bundle_step_fault c again x flags skip h more)
 alike_bundle_step c again None flags skip h more each = alike_none
 alike_bundle_step c again (Some x) flags zero h more each =
     alike_short c again (arg_by_short c x) _ h _ (λ g. each _ 0 g)
@@ -160,19 +160,19 @@ unfolding flags_fault
 alike_flags c again zero flags skip h = alike_none
 alike_flags c again (suc k) flags skip h =
     alike_bundle_step c again (slice_get (chars flags) 0) flags skip h (flags_fault c again k)
-      (alike_flags c again k)
+    (alike_flags c again k)
 
 alike_flag_word : (c : List Rule) (again : Bool) (long : Option (Text × Option Text)) (word : Text) (h : Held)
     → Alike (flag_word_fault c again long word h)
 alike_flag_word c again (Some p) word h = alike_long c again (arg_by_long c p.0) p.1 h
 alike_flag_word c again None word h =
     alike_option _ (short_of word)
-      (λ flags. alike_flags c again (length flags) flags h.skip (record h { skip = 0 }))
+    (λ flags. alike_flags c again (length flags) flags h.skip (record h { skip = 0 }))
 
 alike_plain_word : (s : Shape) (word : Text) (h : Held) → Alike (other_fault s None word h)
 alike_plain_word s word h = alike_if
     (bytes_eq word (45 ∷ 45 ∷ [])) _ _ alike_none
-      (alike_flag_word s.rules s.args_override_self (long_of word) word h)
+    (alike_flag_word s.rules s.args_override_self (long_of word) word h)
 
 -- no subcommand is called `help`, or there is none
 abbrev NoHelp : Shape → Names → Type 0
@@ -219,7 +219,7 @@ alike_step s position h (trailing n) = alike_none
 alike_step s position h (subcommand name) = alike_none
 
 alike_turn : (s : Shape) (names : Names) (w : Walk) (word : Text) → NoHelp s names
-  → Alike (turn_fault s names w word)
+    → Alike (turn_fault s names w word)
 alike_turn s names w word off = alike_if (is_some w.stopped) _ _ alike_none
     (alike_or (word_fault s names w.is_trailing w.waiting word w.held)
     _ (alike_word s names w.is_trailing w.waiting word w.held off)
@@ -231,7 +231,7 @@ alike_walk : (s : Shape) (names : Names) (w : Walk) (words : List Text)
 unfolding walk_fault
 alike_walk s names w [] off = alike_none
 alike_walk s names w (word ∷ rest) off =
-  alike_or (turn_fault s names w word) _ (alike_turn s names w word off)
+    alike_or (turn_fault s names w word) _ (alike_turn s names w word off)
     (alike_walk s names (walked s.rules names w word) rest off)
 
 -- ---- after the words
@@ -263,7 +263,7 @@ alike_level s names h words has below off under =
 
 alike_entered : (a : App) (stop : Option (Text × List Text)) → Alike (entered_fault a stop)
 alike_entered a stop =
-  alike_option _ stop (λ p. alike_option _ (find (λ s. answers_to p.0 (label_of s)) a.subs)
+    alike_option _ stop (λ p. alike_option _ (find (λ s. answers_to p.0 (label_of s)) a.subs)
     (λ s. alike_level s [] nothing_held p.1 false [] (no_names s) alike_none))
 
 alike_built : (a : App) (h : Held) (words : List Text)
@@ -271,7 +271,7 @@ alike_built : (a : App) (h : Held) (words : List Text)
 alike_built a h words off =
     alike_level a.top (names_of a) h words
     _ _ (λ waiting word g. disabled a.top (subcommand_met (names_of a) waiting word) word g off)
-      (alike_entered a _)
+    (alike_entered a _)
 
 pub program_alike : (words : List Text) → Alike (fault_of program words)
 program_alike words = alike_built (built program) nothing_held (argument_words program words) refl

@@ -17,12 +17,12 @@ one_more old new a app rule h local is ruled = h.shape local ∙ ap₂ with_rule
 -- a command with two more flags
 pub flags_more : (old new : Command) (app : App)
     → app_of new ≡ with_rule (with_rule (app_of old) (flag_rule (codes "skip") 115))
-      (flag_rule (codes "force") 102)
+    (flag_rule (codes "force") 102)
     → app_of old ≡ app
     → app_of new ≡ with_rule (with_rule app (flag_rule (codes "skip") 115)) (flag_rule (codes "force") 102)
 flags_more old new app h is =
     h ∙ ap (λ (a : App). with_rule (with_rule a (flag_rule (codes "skip") 115))
-      (flag_rule (codes "force") 102)) is
+    (flag_rule (codes "force") 102)) is
 
 -- a command with one more subcommand, which is plain
 pub subcommand_more : (old sub new : Command) (app : App) (shape : Shape)
@@ -30,4 +30,4 @@ pub subcommand_more : (old sub new : Command) (app : App) (shape : Shape)
     → app_of new ≡ with_subcommand app shape
 subcommand_more old sub new app shape h is shaped plain =
     h.shape (plain_fields sub (ap (λ (s : Shape). s.is_plain) shaped ∙ plain)).globals
-      ∙ ap₂ with_subcommand is shaped
+    ∙ ap₂ with_subcommand is shaped

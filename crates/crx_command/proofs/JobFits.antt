@@ -65,10 +65,10 @@ source_fits : (tool : Tool) (given : Given) (source : Option (List ℕ))
 source_fits tool given None h = h
 source_fits tool given (Some source) h =
     either_fits (writes_file tool given.dashes) _ _
-      (target_fits tool given source (output_name tool source) h) h
+    (target_fits tool given source (output_name tool source) h) h
 
 unless_bad : (b : Bool) (p q : Plan) → fits p ≡ true → (b ≡ true → fits q ≡ true)
-  → fits (cond (not b) p q) ≡ true
+    → fits (cond (not b) p q) ≡ true
 unless_bad true p q h g = g refl
 unless_bad false p q h g = h
 

@@ -25,7 +25,7 @@ fits ds = is_numeral ds && nat_lt (digits_value 10 ds) (2 ^ 32)
 
 module _ {E : Type 0} (G : List ℕ
     → Result ℕ E → Type 0)
-      (parses : (text : List ℕ) (r : Result ℕ E) → G text r → ParsesUnsigned 32 10 text r) where
+    (parses : (text : List ℕ) (r : Result ℕ E) → G text r → ParsesUnsigned 32 10 text r) where
   pub number_read : (text : List ℕ) (o : Option ℕ) → ReadsOne G text o → o ≡ counted_argument text
   number_read text (Some n) h =
       let ds = without_leading_plus text in

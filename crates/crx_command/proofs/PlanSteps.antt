@@ -35,7 +35,7 @@ module _ {X A B : Type 0} (f : X → A) (g : X → B) where
 
 -- an answer's plan is another, where the two are one
 pub same_plan : (o : Option Plan) (p q : Plan) → p ≡ q → IfSome o (λ plan. plan ≡ p)
-  → IfSome o (λ plan. plan ≡ q)
+    → IfSome o (λ plan. plan ≡ q)
 same_plan o p q same h = subst (λ (r : Plan). IfSome o (λ plan. plan ≡ r)) same h
 
 -- the plan of an error of the parser, whose kind is among those that it may have

@@ -54,7 +54,7 @@ cell-same f g h (Some code) = ap {B = Result ReadCell Fault}
 -- the same values at each place of some texts
 pub cells-within : (f g : Values) (texts : List (List ℕ))
     → ((place : ℕ) (c : Code) → place < length texts → f place c ≡ g place c)
-      → cells_read f texts ≡ cells_read g texts
+    → cells_read f texts ≡ cells_read g texts
 cells-within f g [] h = refl
 cells-within f g (text ∷ texts) h =
     ap {B = Result (List ReadCell) Fault}
@@ -76,9 +76,9 @@ arcs-more : (before : List (Option ArcTail)) (codes : List Code) (code : Code)
     ≡ arcs_of_codes before codes ++ arc_of_code code (slice_index_or before (length codes) None) ∷ []
 arcs-more before [] code = refl
 arcs-more [] (c ∷ cs) code = ap {B = List (Option ArcTail)} (λ r. arc_of_code c None ∷ r)
-  (arcs-more [] cs code)
+    (arcs-more [] cs code)
 arcs-more (b ∷ bs) (c ∷ cs) code = ap {B = List (Option ArcTail)} (λ r. arc_of_code c b ∷ r)
-  (arcs-more bs cs code)
+    (arcs-more bs cs code)
 
 -- the value that a code gives is the one that the arc after it shows
 abbrev ok-value : Result (Option ℤ) Fault → Option ℤ
@@ -90,7 +90,7 @@ is-ok-value (Ok value) = true
 is-ok-value (Err fault) = false
 
 in-columns : (width : ℕ) (number : ℤ) (value : Option ℤ) → in_range width number ≡ Ok value
-  → Some number ≡ value
+    → Some number ≡ value
 in-columns width number value e = by_range (is_within width number) refl
   where
     by_range : (b : Bool) → is_within width number ≡ b → Some number ≡ value
@@ -140,10 +140,10 @@ at-next before count line k at arcs s h code e =
     let rest : List (List ℕ) = cells_of n (after_cell (drop at line)) in
     s.so_far
     ∙ ap (λ m. onto s.cells (cells_read (λ p. value_at_place before (k + p)) (cells_of m (drop at line))))
-      more
+    more
     ∙ ap (λ m. onto s.cells (and_then (cell_read BadField (value_at_place before m) (code_of (first_cell
     (drop at line)))) (λ cell. before_all cell (cells_read (λ p. value_at_place before (k + suc p)) rest))))
-      here
+    here
     ∙ ap (λ (r : Result (List ReadCell) Fault). onto s.cells (and_then (cell_read BadField
     (value_at_place before k) (code_of (first_cell (drop at line)))) (λ cell. before_all cell r)))
     (cells-same (λ p. value_at_place before (k + suc p))
@@ -155,12 +155,12 @@ read-refused : (before : List (Option ArcTail))
     (count : ℕ) (line : List ℕ) (k at : ℕ) (arcs : List (Option ArcTail)) (fault : Fault)
     → ReadSoFar before count line k at arcs
     → k < count → cell_read BadField (value_at_place before k) (code_of (first_cell (drop at line)))
-      ≡ Err fault
+    ≡ Err fault
     → cells_read (value_at_place before) (cells_of count line) ≡ Err fault
 read-refused before count line k at arcs fault s h e =
     let rest : Result (List ReadCell) Fault =
     cells_read (λ p. value_at_place before (k + 1 + p))
-      (cells_of (count - (k + 1)) (after_cell (drop at line))) in
+    (cells_of (count - (k + 1)) (after_cell (drop at line))) in
     at-next before count line k at arcs s h (code_of (first_cell (drop at line))) refl
     ∙ ap (λ (r : Result ReadCell Fault). onto s.cells (and_then r (λ cell. before_all cell rest))) e
     ∙ onto-err s.cells fault
@@ -181,12 +181,12 @@ read-more before count line k at at' arcs arcs' code value arc s h e v t w a l =
     record {
       cells = s.cells ++ c ∷ [];
       counted = let count' : length s.cells ≡ k = s.counted
-        in omega (arith, length-append s.cells (c ∷ []), count');
+          in omega (arith, length-append s.cells (c ∷ []), count');
       so_far =
           at-next before count line k at arcs s h (Some code) e
           ∙ ap (λ (q : Result (Option ℤ) Fault). onto s.cells
           (and_then (and_then q (λ x. Ok (record { code = code; value = x })))
-            (λ cell. before_all cell rest))) v
+          (λ cell. before_all cell rest))) v
           ∙ sym (onto-more s.cells c rest)
           ∙ ap (λ text. onto (s.cells ++ c ∷ [])
           (cells_read (λ p. value_at_place before (k + 1 + p)) (cells_of n text))) t;

@@ -61,7 +61,7 @@ all_blank (c ∷ cs) h = before-blank c (without_end_blanks cs) (h 0) (all_blank
 
 -- texts with the same characters are the same without the blanks at their ends
 pub same_characters : (xs ys : List ℕ) → ((p : ℕ) → at xs p ≡ at ys p)
-  → without_end_blanks xs ≡ without_end_blanks ys
+    → without_end_blanks xs ≡ without_end_blanks ys
 same_characters [] ys h = sym (all_blank ys (λ p. sym (h p)))
 same_characters (x ∷ xs) [] h = all_blank (x ∷ xs) h
 same_characters (x ∷ xs) (y ∷ ys) h =

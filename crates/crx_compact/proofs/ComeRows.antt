@@ -36,18 +36,18 @@ padded-blank None name satellite = refl
 padded-blank (Some k) name satellite = refl
 
 pub come-tail : (rest before : List RowTail) (row : Row)
-  → row_tail_named row.name rest ≡ row_tail_named row.name before
+    → row_tail_named row.name rest ≡ row_tail_named row.name before
     → row_tail_after (Some (row_or_blank row.name rest)) row ≡ row_tail_in before row
 come-tail rest before row same =
     tail-blank (row_tail_named row.name rest) row.name row
-      ∙ ap (λ (k : Option RowTail). row_tail_after k row) same
+    ∙ ap (λ (k : Option RowTail). row_tail_after k row) same
 
 pub come-line : (rest before : List RowTail) (row : Row)
-  → row_tail_named row.name rest ≡ row_tail_named row.name before
+    → row_tail_named row.name rest ≡ row_tail_named row.name before
     → row_line_after (Some (row_or_blank row.name rest)) row ≡ row_line_in before row
 come-line rest before row same =
     line-blank (row_tail_named row.name rest) row.name row
-      ∙ ap (λ (k : Option RowTail). row_line_after k row) same
+    ∙ ap (λ (k : Option RowTail). row_line_after k row) same
 
 pub come-padded : (rest before : List RowTail) (satellite : Satellite)
     → row_tail_named satellite.name rest ≡ row_tail_named satellite.name before

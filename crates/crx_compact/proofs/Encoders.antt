@@ -9,7 +9,7 @@ use Rattle.crx_compact.specs.declared.lines.TheConstants.{FIRST_LINES}
 
 -- while an epoch is open, no line changes; where none is, what holds doesn't speak of lines
 still-encoding : (was : Bool) (before : Option Tail) (is_kept in_full : Bool) (rows : List Row)
-  (history : OpenHistory)
+    (history : OpenHistory)
     (old new : PendingLines) → (was ≡ true → new ≡ old)
     → IsEncoding was before is_kept in_full rows history old.lines old.front
     → IsEncoding was before is_kept in_full rows history new.lines new.front
@@ -18,7 +18,7 @@ still-encoding true before is_kept in_full rows history old new same holds = rw 
 
 -- the parts once lines were lent, by what lending says of them
 pub lent : (was now : Bool) (before : Option Tail) (is_kept in_full : Bool) (rows : List Row)
-  (history : OpenHistory)
+    (history : OpenHistory)
     (old new : PendingLines) → now ≡ was → (was ≡ true → new ≡ old) → new.reserved ≡ old.reserved
     → IsEncoding was before is_kept in_full rows history old.lines old.front × (old.reserved ≡ FIRST_LINES)
     → IsEncoding now before is_kept in_full rows history new.lines new.front × (new.reserved ≡ FIRST_LINES)

@@ -46,7 +46,7 @@ pub record SatellitesFacts (types : List Count)
 
 -- what is known of an epoch line that was read
 pub record LineFacts (types : List Count) (past : Past) (line : List ℕ)
-  (satellites : List Satellite) : Type 0 where
+    (satellites : List Satellite) : Type 0 where
   pub count : ℕ
   pub counted : epoch_count (columns (past.text line) 1 41) ≡ Some count
   pub printable : list_all is_printable line ≡ true
@@ -110,7 +110,7 @@ satellites_counted types text found =
     satellites_named types [] (names_in text count)
 
 text-facts : (types : List Count) (past : Past) (line : List ℕ) (found : Option ℕ)
-  (satellites : List Satellite)
+    (satellites : List Satellite)
     → epoch_count (columns (past.text line) 1 41) ≡ found → list_all is_printable line ≡ true
     → satellites_counted types (past.text line) found ≡ Ok satellites → LineFacts types past line satellites
 text-facts types past line None satellites h p e = absurd (no-err BadEpoch satellites e)

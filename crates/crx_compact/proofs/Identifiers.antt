@@ -11,7 +11,7 @@ use Rattle.crx_compact.proofs.Characters.{bytes_eq-same}
 -- those that are found among some items are found with one more before them, of another identifier
 found-later : {X : Type 0} (f : X → List ℕ) (x : X) (xs ys : List X) → is_among f (f x) ys ≡ false
     → AllByRecursion (λ y. named f (f y) xs ≡ Some y) ys
-      → AllByRecursion (λ y. named f (f y) (x ∷ xs) ≡ Some y) ys
+    → AllByRecursion (λ y. named f (f y) (x ∷ xs) ≡ Some y) ys
 found-later f x xs [] new h = tt
 found-later f x xs (y ∷ ys) new h =
     let parts = or_parts (bytes_eq (f y) (f x)) (is_among f (f x) ys) new in
@@ -50,14 +50,15 @@ new-after f name earlier (x ∷ xs) h k =
 pub new-before : {X : Type 0} (f : X → List ℕ) (name : List ℕ) (earlier : List (List ℕ)) (xs : List X)
     → AreNew f (name ∷ earlier) xs → AreNew f earlier xs
 new-before f name earlier [] h = tt
-new-before f name earlier (x ∷ xs) h =
-    ((or_parts (bytes_eq (f x) name) (list_any (bytes_eq (f x)) earlier) h.0).1,
-      new-before f name earlier xs h.1)
+new-before f name earlier (x ∷ xs) h = (
+  (or_parts (bytes_eq (f x) name) (list_any (bytes_eq (f x)) earlier) h.0).1,
+  new-before f name earlier xs h.1,
+)
 
 pub not-among : {X : Type 0} (f : X → List ℕ) (name : List ℕ) (earlier : List (List ℕ)) (xs : List X)
     → AreNew f (name ∷ earlier) xs → is_among f name xs ≡ false
 not-among f name earlier [] h = refl
 not-among f name earlier (x ∷ xs) h =
     ap (λ b. b || is_among f name xs)
-      (or_parts (bytes_eq (f x) name) (list_any (bytes_eq (f x)) earlier) h.0).0
+    (or_parts (bytes_eq (f x) name) (list_any (bytes_eq (f x)) earlier) h.0).0
     ∙ not-among f name earlier xs h.1

@@ -33,7 +33,7 @@ taken_all (y ∷ ys) (suc i) h = ap (λ zs. y ∷ zs) (taken_all ys i h)
 
 -- the text of one item more
 pub texts_more : {X : Type 0} (f : X → List ℕ) (before : List ℕ) (xs : List X) (i : ℕ) (x : X)
-  (old new : List ℕ)
+    (old new : List ℕ)
     → old ≡ before ++ flat_map f (take i xs)
     → slice_get xs i ≡ Some x → new ≡ old ++ f x → new ≡ before ++ flat_map f (take (i + 1) xs)
 texts_more f before xs i x old new so_far here more =

@@ -50,7 +50,7 @@ patched-character a b h k = grind (arith, h, k)
 
 pub patched-kept : (old marks : List ℕ)
     → list_all is_kept old ≡ true → list_all is_printable marks ≡ true
-      → list_all is_kept (patched old marks) ≡ true
+    → list_all is_kept (patched old marks) ≡ true
 patched-kept old marks h k =
     list_all-from_at is_kept (patched old marks) (λ p.
     ap is_kept (at-without_end_blanks (by_position character_of old marks) p
@@ -70,7 +70,7 @@ none-there (m ∷ marks) e = absurd (grind (arith, e))
 
 -- the columns of indicators that no marks change
 pub columns-left : (count : ℕ) (flags : List ℕ)
-  → columns flags 1 (2 * count) ≡ columns (patched flags []) 1 (2 * count)
+    → columns flags 1 (2 * count) ≡ columns (patched flags []) 1 (2 * count)
 columns-left count flags =
     columns-are flags 1 (2 * count)
     (columns (patched flags []) 1 (2 * count)) (length-columns (patched flags []) 1 (2 * count)) (λ p less.
@@ -108,7 +108,7 @@ row_of_line past satellite line =
 line-cells : (arcs : List (Option ArcTail)) (flags : List ℕ) (satellite : Satellite) (line : List ℕ)
     → begins_epoch line ≡ false
     → (r : Result (List ReadCell) Fault) → cells_read (value_at_place arcs) (cells_of satellite.count line)
-      ≡ r
+    ≡ r
     → row_held_from arcs flags satellite line
     ≡ and_then (and_then r (λ cells. row_with_marks (past_of_row arcs flags) satellite
     (after_cells satellite.count line) cells)) (λ read. Ok (held_from arcs flags read))
@@ -120,7 +120,7 @@ line-cells arcs flags satellite line h r e =
     (λ read. Ok (held_from arcs flags read))) e
 
 pub line-fault : (arcs : List (Option ArcTail)) (flags : List ℕ) (satellite : Satellite) (line : List ℕ)
-  (fault : Fault)
+    (fault : Fault)
     → begins_epoch line ≡ false
     → cells_read (value_at_place arcs) (cells_of satellite.count line) ≡ Err fault
     → row_held_from arcs flags satellite line ≡ Err fault
@@ -129,18 +129,18 @@ line-fault arcs flags satellite line fault h e = line-cells arcs flags satellite
 -- the marks decide after the cells
 line-marks : (arcs : List (Option ArcTail)) (flags : List ℕ)
     (satellite : Satellite) (line : List ℕ) (at : ℕ) (cells : List ReadCell) (b : Bool)
-      → begins_epoch line ≡ false
+    → begins_epoch line ≡ false
     → cells_read (value_at_place arcs) (cells_of satellite.count line) ≡ Ok cells
     → after_cells satellite.count line ≡ drop at line → are_marks satellite.count (drop at line) ≡ b
     → row_held_from arcs flags satellite line
     ≡ and_then (b otherwise Err BadFlags next
     Ok (row_of_cells (past_of_row arcs flags) satellite.name (drop at line) cells))
-      (λ read. Ok (held_from arcs flags read))
+    (λ read. Ok (held_from arcs flags read))
 line-marks arcs flags satellite line at cells b h good marks e =
     line-cells arcs flags satellite line h (Ok cells) good
     ∙ ap {B = Result HeldRow Fault} (λ text. and_then
     (row_with_marks (past_of_row arcs flags) satellite text cells) (λ read. Ok (held_from arcs flags read)))
-      marks
+    marks
     ∙ ap {B = Result HeldRow Fault} (λ q. and_then (q otherwise Err BadFlags next Ok (row_of_cells
     (past_of_row arcs flags) satellite.name (drop at line) cells)) (λ read. Ok (held_from arcs flags read))) e
 
@@ -172,7 +172,7 @@ texts-count (suc count) line = ap suc (texts-count count (after_cell line))
 -- ---- a satellite's line
 
 cells-many : (arcs : List (Option ArcTail)) (count : ℕ) (line : List ℕ) (left : List (Option ArcTail))
-  (at : ℕ)
+    (at : ℕ)
     → (read : CellsAreRead arcs count line left at) → length read.cells ≡ count
 cells-many arcs count line left at read =
     cells-count (value_at_place arcs) (cells_of count line) read.cells read.good ∙ texts-count count line
@@ -276,7 +276,7 @@ row-decided tail satellite marks false true (Ok cells) =
         name = satellite.name;
         flags = flags_held (length codes) (patched (flags_of_tail kept) marks);
         cells = each_place (length codes)
-          (λ place. arc_of_code (slice_index_or codes place Missing) (cell place));
+            (λ place. arc_of_code (slice_index_or codes place Missing) (cell place));
       };
     })) (fun_ext (λ place. cell-by_kept kept place))
 
@@ -302,7 +302,7 @@ if-ok (Ok x) P Q f h = f x h
 if-ok (Err e) P Q f h = h
 
 pub if-err : {X E : Type 0} (r : Result X E) (P Q : E → Type 0) → ((e : E) → P e → Q e) → IfErr r P
-  → IfErr r Q
+    → IfErr r Q
 if-err (Ok x) P Q f h = h
 if-err (Err e) P Q f h = f e h
 

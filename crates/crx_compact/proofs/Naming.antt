@@ -80,14 +80,14 @@ any-after name (s ∷ ss) earlier =
     ∙ regroup (bytes_eq name s.name)
     (list_any (bytes_eq name) earlier) (list_any (λ (q : Satellite). bytes_eq q.name name) ss)
     ∙ ap (λ b. list_any (bytes_eq name) earlier ||
-      (b || list_any (λ (q : Satellite). bytes_eq q.name name) ss))
+    (b || list_any (λ (q : Satellite). bytes_eq q.name name) ss))
     (either-way name s.name)
 
 -- ---- one identifier more
 
 -- the identifiers up to a place are read
 pub record NamedSoFar (types : List Count) (all : List (List ℕ)) (place : ℕ)
-  (found : List Satellite) : Type 0 where
+    (found : List Satellite) : Type 0 where
   pub so_far : satellites_named types [] all
       ≡ onto found (satellites_named types (names_after found []) (drop place all))
 
@@ -95,12 +95,12 @@ at-next : (types : List Count) (all : List (List ℕ)) (place : ℕ) (found : Li
     → NamedSoFar types all place found → drop place all ≡ name ∷ drop (place + 1) all
     → satellites_named types [] all ≡ onto found (satellite_before (names_after found []) name
     (types_of_satellite types name)
-      (satellites_named types (name ∷ names_after found []) (drop (place + 1) all)))
+    (satellites_named types (name ∷ names_after found []) (drop (place + 1) all)))
 at-next types all place found name n e = n.so_far
     ∙ ap (λ names. onto found (satellites_named types (names_after found []) names)) e
 
 pub named-bad : (types : List Count) (all : List (List ℕ)) (place : ℕ) (found : List Satellite)
-  (name : List ℕ)
+    (name : List ℕ)
     → NamedSoFar types all place found
     → drop place all ≡ name ∷ drop (place + 1) all → types_of_satellite types name ≡ None
     → satellites_named types [] all ≡ Err BadSatellite
@@ -177,7 +177,7 @@ any-append : (P : List ℕ → Bool) (xs : List (List ℕ)) (x : List ℕ)
     → list_any P xs ≡ false → P x ≡ false → list_any P (xs ++ x ∷ []) ≡ false
 any-append P [] x h e = ap (λ b. b || false) e
 any-append P (y ∷ ys) x h e = both (P y) (list_any P ys) (list_any P (ys ++ x ∷ [])) h
-  (λ k. any-append P ys x k e)
+    (λ k. any-append P ys x k e)
   where
     both : (a b c : Bool) → (a || b) ≡ false → (b ≡ false → c ≡ false) → (a || c) ≡ false
     both true b c h k = h

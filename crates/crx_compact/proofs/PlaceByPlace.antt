@@ -18,7 +18,7 @@ use Rattle.crx_text.specs.meaning.PrintedCells.{printed_cells}
 use Rattle.crx_text.proofs.Characters.{at, length-columns}
 
 pub value-there : {X : Type 0} (xs : List X) (k : ℕ) (x d : X) → slice_get xs k ≡ Some x
-  → slice_index_or xs k d ≡ x
+    → slice_index_or xs k d ≡ x
 value-there [] k x d h = absurd (cc)
 value-there (y ∷ ys) zero x d h = same_Some y x h
 value-there (y ∷ ys) (suc k) x d h = value-there ys k x d h
@@ -35,7 +35,7 @@ pub record CellsMade (before : List (Option ArcTail))
 
 pub cells-more : (before : List (Option ArcTail))
     (values : List (Option ℤ)) (place : ℕ) (line line' : List ℕ) (arcs : List (Option ArcTail))
-      (value : Option ℤ)
+    (value : Option ℤ)
     (code : Code) (arc : Option ArcTail) (newer : List ℕ) (more : List (Option ArcTail))
     → CellsMade before values place line line' arcs → slice_get values place ≡ Some value
     → code ≡ code_of_value value (slice_index_or before place None)
@@ -59,7 +59,7 @@ cells-more before values place line line' arcs value code arc newer more m here 
           ∙ flat_map_more cell_text line (each_place place (code_at_place before values))
           (code_at_place before values place)
           ∙ ap (λ ks. line ++ flat_map cell_text ks)
-            (sym (each_place-more place (code_at_place before values)));
+          (sym (each_place-more place (code_at_place before values)));
       within = omega arith;
     }
 
@@ -114,21 +114,21 @@ print-next values flags n k count h =
 
 -- the cells that are left complete a text, also after the next of them
 pub print-on : (arcs : List (Option ArcTail)) (flags before text whole : List ℕ) (k : ℕ)
-  (arc : Option ArcTail)
+    (arc : Option ArcTail)
     → k < length arcs → arc ≡ slice_index_or arcs k arc
     → text ≡ before ++ (observation_text (shown_value arc) ++ at flags (2 * k) ∷ at flags (2 * k + 1) ∷ [])
     → before ++ printed_cells (drop k (map shown_value arcs))
-      (drop (2 * k) (columns flags 1 (2 * length arcs))) ≡ whole
+    (drop (2 * k) (columns flags 1 (2 * length arcs))) ≡ whole
     → text ++ printed_cells (drop (k + 1) (map shown_value arcs))
     (drop (2 * (k + 1)) (columns flags 1 (2 * length arcs)))
     ≡ whole
 print-on arcs flags before text whole k arc h is made left =
     let values : List (Option ℤ) = map shown_value arcs in
     let rest : List ℕ = printed_cells (drop (k + 1) values)
-      (drop (2 * (k + 1)) (columns flags 1 (2 * length arcs))) in
+    (drop (2 * (k + 1)) (columns flags 1 (2 * length arcs))) in
     let cell : observation_text (shown_value arc) ≡ observation_text (slice_index_or values k None) =
     ap (λ a. observation_text (shown_value a)) is
-      ∙ sym (ap observation_text (at-map shown_value arc None k arcs h)) in
+    ∙ sym (ap observation_text (at-map shown_value arc None k arcs h)) in
     ap (λ t. t ++ rest) made
     ∙ append_assoc before _ rest
     ∙ ap (λ t. before ++ ((t ++ at flags (2 * k) ∷ at flags (2 * k + 1) ∷ []) ++ rest)) cell

@@ -75,7 +75,7 @@ pub record IsOpened (types : List Count) (line : List ℕ) (before : Tail) (begu
   pub rows : begun.rows ≡ rows_before before satellites
 
 pub opened-from : (types : List Count) (line : List ℕ) (tail : Option Tail) (before : Tail)
-  (begun : OpenRawEpoch)
+    (begun : OpenRawEpoch)
     → tail_for_line tail line ≡ Some before → first_step types tail (Content line) ≡ Going begun
     → IsOpened types line before begun
 opened-from types line tail before begun e step =
@@ -100,7 +100,7 @@ pub none-opened : (types : List Count) (line : List ℕ) (tail : Option Tail) (b
     → tail_for_line tail line ≡ None → first_step types tail (Content line) ≡ Going begun → ⊥
 none-opened types line tail begun e step =
     true≢false (sym (ap (λ (o : Option Tail). is_faulty (opening (opened_raw types line o))) e)
-      ∙ ap is_faulty step)
+    ∙ ap is_faulty step)
 
 -- the satellites that a line was found to have are those of the epoch
 pub rows-opened : (types : List Count) (line : List ℕ) (before : Tail) (begun : OpenRawEpoch)
@@ -109,12 +109,12 @@ pub rows-opened : (types : List Count) (line : List ℕ) (before : Tail) (begun 
     → rows ≡ begun.rows
 rows-opened types line before begun found rows opened read made =
     made ∙ ap (rows_before before) (ok-same found opened.satellites (sym read ∙ opened.read))
-      ∙ sym opened.rows
+    ∙ sym opened.rows
 
 -- ---- what the lines need is there
 
 pub satellites-known : (types : List Count) (line : List ℕ) (before : Tail) (begun : OpenRawEpoch)
-  (room : ReadingRoom)
+    (room : ReadingRoom)
     (rooms : List (List ℕ × ℕ)) (opened : IsOpened types line before begun) → HasRoomFor begun room
     → room.rooms ≡ rooms → HaveTypesRoom opened.satellites rooms
 satellites-known types line before begun room rooms opened has same =
@@ -123,7 +123,7 @@ satellites-known types line before begun room rooms opened has same =
     (subst (HaveCellsRoom begun.rows) same has.rows))
 
 pub text-known : (types : List Count) (line : List ℕ) (before : Tail) (begun : OpenRawEpoch)
-  (room : ReadingRoom)
+    (room : ReadingRoom)
     (held : ℕ) → IsOpened types line before begun → HasRoomFor begun room → room.text ≡ held
     → length (patched before.text line) ≤ held
 text-known types line before begun room held opened has same =
@@ -160,7 +160,7 @@ room-for types line before begun opened new after made fits known rows lines byt
           (cells-room before opened.satellites new.satellites.rooms known);
       lines = subst (λ (rs : List RowTail). length rs < after.lines.all_lines) rows lines;
       bytes = subst (λ (rs : List RowTail). LINE_LIMIT + 1 + sum (map printed_room rs)
-        ≤ after.lines.all_bytes)
+          ≤ after.lines.all_bytes)
           rows bytes;
     }
 

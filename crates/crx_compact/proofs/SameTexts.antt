@@ -64,7 +64,7 @@ same_ends n xs ys narrow some few long first last =
     let two : length (chunk m n ys) ≡ n = length-chunk m n ys (omega (arith, some, long)) in
     let back : chunk m n xs ≡ chunk m n ys =
     same_rows (chunk m n xs) (chunk m n ys) (two ∙ sym one) (omega (arith, one, narrow))
-      ((Decides-eqb _ 0).0 last) in
+    ((Decides-eqb _ 0).0 last) in
     let rest : drop m xs ≡ drop m ys = sym (take_all n (drop m xs) (omega (arith, length-drop m xs)))
     ∙ (back ∙ take_all n (drop m ys) (omega (arith, length-drop m ys, long))) in
     let begin : take m xs ≡ take m ys = sym (take-take m n xs (omega (arith, few, some)))
@@ -80,11 +80,11 @@ matched false P where_true where_false = where_false refl
 pub last-ends_decide : (n : ℕ) (xs ys : List ℕ) → n ≤ 64 → n ≤ length xs → length xs ≤ n + n
     → length ys ≡ length xs → others (take n xs) (take n ys) ≡ 0
     → MatchBool (nat_eq (others (chunk (length xs - n) n xs) (chunk (length xs - n) n ys)) 0) (xs ≡ ys)
-      (xs ≢ ys)
+    (xs ≢ ys)
 last-ends_decide n xs ys narrow some few long first = matched _ _
     (λ last. same_ends n xs ys narrow some few long first last)
     (λ last same. true≢false
-      (sym ((Decides-eqb _ 0).1 (alike _ _ (ap (chunk (length xs - n) n) same))) ∙ last))
+    (sym ((Decides-eqb _ 0).1 (alike _ _ (ap (chunk (length xs - n) n) same))) ∙ last))
 
 -- where they aren't, the texts are others
 pub first-ends_decide : (n : ℕ) (xs ys : List ℕ) → (others (take n xs) (take n ys) ≡ 0 → ⊥)

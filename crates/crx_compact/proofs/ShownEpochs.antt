@@ -39,7 +39,7 @@ pub line-made : (line : Result ObservationHead Fault) (head : List ℕ) (clock :
     → is_some (epoch_count head) ≡ true → is_ok line ≡ true
 line-made (Ok l) head clock h e = refl
 line-made (Err fault) head clock h e =
-  absurd (true≢false (sym e ∙ ap {B = Bool} (λ (n : Option ℕ). is_some n) h.0))
+    absurd (true≢false (sym e ∙ ap {B = Bool} (λ (n : Option ℕ). is_some n) h.0))
 
 pub made-line : (line : Result ObservationHead Fault) (head : List ℕ) (clock : Option ℤ) (l : ObservationHead)
     → MatchResult line (λ (l : ObservationHead). (epoch_count head ≡ Some l.count)
@@ -63,11 +63,11 @@ next-new next count satellites epoch s h e =
     take_all (length satellites) satellites (omega arith) in
     let there : get_or satellites count s ≡ s = value-there satellites count s s e in
     among-names (λ (r : Row). r.name) (λ (q : Satellite). q.name) s.name epoch.rows
-      (take count satellites) h.named
+    (take count satellites) h.named
     ∙ ap (λ (q : Satellite). is_among (λ (w : Satellite). w.name) q.name (take count satellites)) (sym there)
     ∙ new_at (λ (q : Satellite). q.name) (length satellites) satellites count s
     (ap (λ (ss : List Satellite). are_apart (λ (q : Satellite). q.name) ss) all ∙ h.announced.apart) inside
-      inside
+    inside
 
 -- an epoch whose satellites haven't all come isn't full
 pub not-full : (next : Tail) (count : ℕ) (satellites : List Satellite) (epoch : Epoch) (s : Satellite)
@@ -99,7 +99,7 @@ get-taken (x ∷ xs) (suc k) (suc n) h = get-taken xs k n (omega (arith, h))
 
 same-there : {X Y Z : Type 0} (f : X → Z) (g : Y → Z) (xs : List X) (ys : List Y) (n k : ℕ) (x : X) (y : Y)
     → map f (take n xs) ≡ map g (take n ys) → k < n → slice_get xs k ≡ Some x → slice_get ys k ≡ Some y
-      → f x ≡ g y
+    → f x ≡ g y
 same-there f g xs ys n k x y e h here there =
     same_Some (f x) (g y) (
     ap (option_map f) (sym here)
@@ -112,7 +112,7 @@ same-there f g xs ys n k x y e h here there =
 -- the first of the rows that a history shows
 pub first-rows : (next : Tail) (satellites : List Satellite) (m n : ℕ)
     → AreRowsSoFar (shown_epoch next n) next n satellites → m ≤ n
-      → AreRowsSoFar (shown_epoch next m) next m satellites
+    → AreRowsSoFar (shown_epoch next m) next m satellites
 first-rows next satellites m n h few =
     let left : n ≤ length next.rows = h.left in
     let within : n ≤ length satellites = h.within in
@@ -120,7 +120,7 @@ first-rows next satellites m n h few =
       head = refl;
       announced = h.announced;
       counted = length-map (take m next.rows) shown_row
-        ∙ length-take-le m next.rows (omega (arith, left, few));
+          ∙ length-take-le m next.rows (omega (arith, left, few));
       named = map-map (λ (r : Row). r.name) shown_row (take m next.rows)
           ∙ first-same (λ (t : RowTail). t.name) (λ (s : Satellite). s.name) next.rows satellites m n few
           (sym (map-map (λ (r : Row). r.name) shown_row (take n next.rows)) ∙ h.named);
@@ -141,7 +141,7 @@ pub record IsRowShown (next : Tail) (place : ℕ) (tail : RowTail) (satellite : 
   pub with : with_row (shown_epoch next place) (shown_row tail) ≡ shown_epoch next (place + 1)
 
 pub row-at : (next : Tail) (satellites : List Satellite) (n place : ℕ) (tail : RowTail)
-  (satellite : Satellite)
+    (satellite : Satellite)
     → AreRowsSoFar (shown_epoch next n) next n satellites → place < n
     → tail ≡ slice_index_or next.rows place tail → satellite ≡ slice_index_or satellites place satellite
     → IsRowShown next place tail satellite
@@ -156,7 +156,7 @@ row-at next satellites n place tail satellite h less here there =
     first-rows next satellites place n h (omega (arith, less)) in
     let named : tail.name ≡ satellite.name =
     same-there (λ (t : RowTail). t.name) (λ (s : Satellite). s.name) next.rows satellites n place tail
-      satellite
+    satellite
     (sym (map-map (λ (r : Row). r.name) shown_row (take n next.rows)) ∙ h.named) less rows sats in
     record {
       named = named;
@@ -164,7 +164,7 @@ row-at next satellites n place tail satellite h less here there =
           ∙ same-there (λ (t : RowTail). length (shown_row t).values) (λ (s : Satellite). s.count)
           next.rows satellites n place tail satellite
           (sym (map-map (λ (r : Row). length r.values) shown_row (take n next.rows)) ∙ h.sized) less rows
-            sats;
+          sats;
       new = ap (λ (name : List ℕ). has_satellite name (shown_epoch next place).rows) named
           ∙ next-new next place satellites (shown_epoch next place) satellite before sats;
       wanted = not-full next place satellites (shown_epoch next place) satellite before sats;

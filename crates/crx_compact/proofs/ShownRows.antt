@@ -18,7 +18,7 @@ use Rattle.crx_text.specs.meaning.Columns.{columns}
 
 -- the next of some values
 pub set-next : {X : Type 0} (xs ys : List X) (d v : X)
-  → slice_set (xs ++ d ∷ ys) (length xs) v ≡ (xs ++ v ∷ []) ++ ys
+    → slice_set (xs ++ d ∷ ys) (length xs) v ≡ (xs ++ v ∷ []) ++ ys
 set-next [] ys d v = refl
 set-next (x ∷ xs) ys d v = ap (λ r. x ∷ r) (set-next xs ys d v)
 
@@ -32,7 +32,7 @@ get-there (y ∷ ys) (suc k) x h e = get-there ys k x (omega (arith, h)) e
 
 -- the next value is put into the row
 pub row-more : (name flags : List ℕ) (cells : List (Option ArcTail)) (count k : ℕ) (row : Row)
-  (arc : Option ArcTail)
+    (arc : Option ArcTail)
     → row ≡ record {
       name = name;
       values = map shown_value (take k cells) ++ replicate (count - k) None;

@@ -22,7 +22,7 @@ use Rattle.crx_text.proofs.EndBlanks.{few_kept}
 
 -- a difference doesn't see the blanks at the end of the new text
 pub difference-trimmed : (old new : List ℕ)
-  → text_difference old (without_end_blanks new) ≡ text_difference old new
+    → text_difference old (without_end_blanks new) ≡ text_difference old new
 difference-trimmed old new =
     same_characters (by_position mark_of old (without_end_blanks new)) (by_position mark_of old new) (λ p.
     at-by_position mark_of refl old (without_end_blanks new) p
@@ -38,7 +38,7 @@ pub same-text : (text : List ℕ) → text_difference text text ≡ []
 same-text [] = refl
 same-text (c ∷ cs) =
     ap (λ m. before_end_blanks m (text_difference cs cs)) (mark-same c)
-      ∙ ap (before_end_blanks 32) (same-text cs)
+    ∙ ap (before_end_blanks 32) (same-text cs)
 
 -- ---- what is held of indicators by so many types
 
@@ -60,7 +60,7 @@ held-columns count flags =
     by_place : (p : ℕ) → (p < 2 * count) ⊎ (2 * count ≤ p) → at (columns flags 1 (2 * count)) p
         ≡ at (take (2 * count) flags) p
     by_place p (inl h) = at-take (2 * count) (flags ++ replicate (2 * count) 32) p h
-      ∙ at-padded (2 * count) flags p
+        ∙ at-padded (2 * count) flags p
         ∙ sym (at-take (2 * count) flags p h)
     by_place p (inr h) = at-take_past (2 * count) (flags ++ replicate (2 * count) 32) p h
         ∙ sym (at-take_past (2 * count) flags p h)
@@ -72,11 +72,11 @@ columns-held count flags few h =
     record {
       within = omega (arith, length-columns flags 1 (2 * count), most);
       kept = list_all-from_at is_kept (columns flags 1 (2 * count))
-        (λ k. by_place k (within-or_past (2 * count) k));
+          (λ k. by_place k (within-or_past (2 * count) k));
     }
   where
     by_place : (p : ℕ) → (p < 2 * count) ⊎ (2 * count ≤ p)
-      → is_kept (at (columns flags 1 (2 * count)) p) ≡ true
+        → is_kept (at (columns flags 1 (2 * count)) p) ≡ true
     by_place p (inl k) = ap is_kept (at-take (2 * count) (flags ++ replicate (2 * count) 32) p k
         ∙ at-padded (2 * count) flags p) ∙ list_all-at is_kept refl flags h.kept p
     by_place p (inr k) = ap is_kept (at-take_past (2 * count) (flags ++ replicate (2 * count) 32) p k)
@@ -84,7 +84,7 @@ columns-held count flags few h =
 -- blanks at the end of indicators don't count
 
 pub columns-trimmed : (width : ℕ) (flags : List ℕ)
-  → columns (without_end_blanks flags) 1 width ≡ columns flags 1 width
+    → columns (without_end_blanks flags) 1 width ≡ columns flags 1 width
 columns-trimmed width flags =
     columns-are (without_end_blanks flags) 1 width
     (columns flags 1 width) (length-columns flags 1 width) (λ p less.
@@ -101,9 +101,9 @@ patched-trimmed flags marks =
     ∙ sym (at-by_position character_of refl flags marks p))
 
 pub before-trimmed : (old new : List ℕ)
-  → text_difference (without_end_blanks old) new ≡ text_difference old new
+    → text_difference (without_end_blanks old) new ≡ text_difference old new
 before-trimmed old new =
     same_characters (by_position mark_of (without_end_blanks old) new) (by_position mark_of old new) (λ p.
     at-by_position mark_of refl (without_end_blanks old) new p
     ∙ ap (λ c. mark_of c (at new p)) (at-without_end_blanks old p)
-      ∙ sym (at-by_position mark_of refl old new p))
+    ∙ sym (at-by_position mark_of refl old new p))

@@ -31,7 +31,7 @@ use Rattle.crx_filter.specs.declared.stage.Stage.TheVariants.{Ended}
 -- a stage that RINEX can be in with no epoch is one in which none is open
 pub idle-stage : (stage : Stage) (columns : ColumnsState)
     → is_consistent_in_rinex stage None 0 [] ≡ true → is_idle columns ≡ true
-      → is_compact_stage stage columns ≡ true
+    → is_compact_stage stage columns ≡ true
 idle-stage (FirstLines count) columns can idle = idle
 idle-stage (Header is_first) columns can idle = idle
 idle-stage Between columns can idle = idle
@@ -75,7 +75,7 @@ pub look-refused : (types : List Count) (tail : Option Tail) (line : List ℕ) (
 look-refused types tail line (Ok step) begins refused = tt
 look-refused types tail line (Err fault) begins (inl fails) =
     let same : made_in expansion LookingOn types tail (Content line) ≡ compact_begins types tail
-      (Content line) =
+    (Content line) =
     if-true (begins_epoch line) (compact_begins types tail (Content line)) (Moves LookingOn) begins in
     inl (same ∙ fails)
   where

@@ -34,7 +34,7 @@ kept result_of filter promise input given writer messages status fault keeps r =
 -- ---- the way back
 
 pub brings-back : (expanding : Choices) (writer messages : Device) (status : ℕ) (fault : Option At)
-  (text : List ℕ)
+    (text : List ℕ)
     → IsResult (expanded text expanding) writer messages status fault
     → BringsBackWhatWasCompacted writer messages status fault text
 brings-back expanding writer messages status fault text ran file compacting dated same =
@@ -85,6 +85,6 @@ judges-standard writer messages status fault file ran good =
       says_yes = yes;
       standard = both-ways yes (named-where_not file good);
       comes_back = λ compacting expanding dated. both-ways
-        (same-number status (checked file).status ran.status_is)
+          (same-number status (checked file).status ran.status_is)
           (standard-exactly_where_same file compacting expanding dated good);
     }

@@ -12,7 +12,7 @@ use Rattle.crx_header.specs.meaning.Satellites.{is_among, are_apart}
 pub other_way : (xs ys : List ℕ) → bytes_eq xs ys ≡ false → bytes_eq ys xs ≡ false
 other_way xs ys h = false_from_ne_true
     (bytes_eq ys xs) (λ t. false≢true
-      (sym h ∙ (bytes_eq-Decides xs ys).1 (sym ((bytes_eq-Decides ys xs).0 t))))
+    (sym h ∙ (bytes_eq-Decides xs ys).1 (sym ((bytes_eq-Decides ys xs).0 t))))
 
 -- one more at the end, of another identifier than those before it
 pub apart-push : {X : Type 0} (f : X → List ℕ) (xs : List X) (x : X)
@@ -24,20 +24,20 @@ apart-push f (y ∷ xs) x h new =
     let old : is_among f (f y) xs ≡ false = not-true (is_among f (f y) xs) apart.0 in
     let other : bytes_eq (f x) (f y) ≡ false = other_way (f y) (f x) differs.0 in
     rw (list_any-append (λ k. bytes_eq (f k) (f y)) xs (x ∷ []), old, other)
-      (apart-push f xs x apart.1 differs.1)
+    (apart-push f xs x apart.1 differs.1)
 
 not-at : {X : Type 0} (f : X → List ℕ) (name : List ℕ) (n : ℕ) (xs : List X) (k : ℕ) (d : X)
     → is_among f name (take n xs) ≡ false → k < n → k < length xs → bytes_eq (f (get_or xs k d)) name ≡ false
 not-at f name zero xs k d h a b = absurd (omega (arith, a))
 not-at f name (suc n) [] k d h a b = absurd (omega (arith, b))
 not-at f name (suc n) (x ∷ xs) zero d h a b =
-  (or_parts (bytes_eq (f x) name) (is_among f name (take n xs)) h).0
+    (or_parts (bytes_eq (f x) name) (is_among f name (take n xs)) h).0
 not-at f name (suc n) (x ∷ xs) (suc k) d h a b = not-at f name n xs k d
     (or_parts (bytes_eq (f x) name) (is_among f name (take n xs)) h).1 (omega (arith, a)) (omega (arith, b))
 
 pub new_at : {X : Type 0} (f : X → List ℕ) (n : ℕ) (xs : List X) (k : ℕ) (d : X)
     → are_apart f (take n xs) ≡ true → k < n → k < length xs
-      → is_among f (f (get_or xs k d)) (take k xs) ≡ false
+    → is_among f (f (get_or xs k d)) (take k xs) ≡ false
 new_at f zero xs k d h a b = absurd (omega (arith, a))
 new_at f (suc n) [] k d h a b = absurd (omega (arith, b))
 new_at f (suc n) (x ∷ xs) zero d h a b = refl
@@ -46,7 +46,7 @@ new_at f (suc n) (x ∷ xs) (suc k) d h a b =
     let differs = not-at f (f x) n xs k d
     (not-true (is_among f (f x) (take n xs)) apart.0) (omega (arith, a)) (omega (arith, b)) in
     rw (other_way (f (get_or xs k d)) (f x) differs)
-      (new_at f n xs k d apart.1 (omega (arith, a)) (omega (arith, b)))
+    (new_at f n xs k d apart.1 (omega (arith, a)) (omega (arith, b)))
 
 pub among-map : {X Y : Type 0} (f : Y → List ℕ) (g : X → Y) (name : List ℕ) (xs : List X)
     → is_among f name (map g xs) ≡ is_among (λ x. f (g x)) name xs

@@ -43,7 +43,7 @@ last_count-push letter count [] c = refl
 last_count-push letter count (d ∷ ds) c =
     elim (eqb d.0 letter) as (λ b. cond b (last_count letter d.1 (ds ++ c ∷ [])) (last_count letter count
     (ds ++ c ∷ [])) ≡ cond (eqb c.0 letter) c.1
-      (cond b (last_count letter d.1 ds) (last_count letter count ds)))
+    (cond b (last_count letter d.1 ds) (last_count letter count ds)))
     [ true ↦ last_count-push letter d.1 ds c | false ↦ last_count-push letter count ds c ]
 
 -- what is left of the others is the same after a letter's own count
@@ -71,7 +71,7 @@ without-with_other a letter count (e ∷ es) n =
     ]
 
 last_counts-push : (cs : List Count) (c : Count)
-  → last_counts (cs ++ c ∷ []) ≡ with_count (last_counts cs) c.0 c.1
+    → last_counts (cs ++ c ∷ []) ≡ with_count (last_counts cs) c.0 c.1
 last_counts-push [] c = refl
 last_counts-push (d ∷ ds) c =
     let others = ap (without d.0) (last_counts-push ds c) in
@@ -85,7 +85,7 @@ last_counts-push (d ∷ ds) c =
       | inr f ↦
           let same : without d.0 (with_count (last_counts ds) c.0 c.1)
           ≡ with_count (without d.0 (last_counts ds)) c.0 c.1 =
-            without-with_other d.0 c.0 c.1 (last_counts ds) f in
+          without-with_other d.0 c.0 c.1 (last_counts ds) f in
           rw (last, others, same, f) refl
     ]
 
@@ -101,22 +101,21 @@ types_of-push lines line =
 -- counts stay allowed
 allowed-with_count : (es : List Count) (letter count : ℕ)
     → All IsCount es → is_system letter ≡ true → IsAllowedCount count
-      → All IsCount (with_count es letter count)
+    → All IsCount (with_count es letter count)
 allowed-with_count [] letter count h s a = All-cons IsCount (letter, count) [] (s, a) h
 allowed-with_count (e ∷ es) letter count h s a =
     let first : IsCount e = All-head IsCount e es h in
     let rest : All IsCount es = All-tail IsCount e es h in
-    elim (eqb letter e.0) as (λ b. All IsCount (cond b ((e.0, count) ∷ es) (e ∷ with_count es letter count)))
-      [
+    elim (eqb letter e.0) as (λ b. All IsCount (cond b ((e.0, count) ∷ es) (e ∷ with_count es letter count))) [
       | true ↦ All-cons IsCount (e.0, count) es (first.0, a) rest
       | false ↦ All-cons IsCount e (with_count es letter count) first
-        (allowed-with_count es letter count rest s a)
+          (allowed-with_count es letter count rest s a)
     ]
 
 -- another letter's count leaves a letter absent
 absent-with_count : (es : List Count) (a letter count : ℕ)
     → eqb letter a ≡ false → is_none (count_of es a) ≡ true
-      → is_none (count_of (with_count es letter count) a) ≡ true
+    → is_none (count_of (with_count es letter count) a) ≡ true
 absent-with_count [] a letter count n h = rw n refl
 absent-with_count (e ∷ es) a letter count n h =
     elim (cases_Bool (eqb e.0 a)) [
@@ -136,9 +135,9 @@ apart-with_count (e ∷ es) letter count h =
     elim (cases_Bool (eqb letter e.0)) [
       | inl t ↦ rw t h
       | inr f ↦ rw f (and_from (is_none (count_of (with_count es letter count) e.0))
-        (letters_differ (with_count es
+          (letters_differ (with_count es
           letter count)) (absent-with_count es e.0 letter count f parts.0)
-            (apart-with_count es letter count parts.1))
+          (apart-with_count es letter count parts.1))
     ]
 
 pub AreCounts-with_count : (es : List Count) (letter count : ℕ)
@@ -185,7 +184,7 @@ count_in_allowed line letter count h =
 
 -- a letter that has a count is that of a system
 system_in : (es : List Count) (letter : ℕ) → All IsCount es
-  → OnSome (count_of es letter) (is_system letter ≡ true)
+    → OnSome (count_of es letter) (is_system letter ≡ true)
 system_in [] letter h = tt
 system_in (e ∷ es) letter h =
     elim (cases_Bool (eqb e.0 letter)) [
@@ -194,7 +193,7 @@ system_in (e ∷ es) letter h =
     ]
 
 pub system_of : (es : List Count) (letter : ℕ) → AreCounts es
-  → OnSome (count_of es letter) (is_system letter ≡ true)
+    → OnSome (count_of es letter) (is_system letter ≡ true)
 system_of es letter h = system_in es letter h.allowed
 
 -- ---- counts by letter
@@ -204,7 +203,7 @@ count_with : (es : List Count) (letter count a : ℕ) → unwrap_or (count_of (w
     ≡ cond (eqb letter a) count (unwrap_or (count_of es a) 0)
 count_with [] letter count a =
     elim (eqb letter a) as (λ b. unwrap_or (cond b (Some count) None) 0 ≡ cond b count 0)
-      [ true ↦ refl | false ↦ refl ]
+    [ true ↦ refl | false ↦ refl ]
 count_with (e ∷ es) letter count a =
     elim (cases_Bool (eqb letter e.0)) [
       | inl t ↦
@@ -228,7 +227,7 @@ AreByLetter-with_count table es letter count h within = λ a few.
           ∙ get_or-set_same table letter count 0 within)
       | inr f ↦ rw (count_with es letter count a, f)
           (get_or-set_other table letter a count 0 (λ e. false≢true (sym f ∙ eq-eqb letter a (sym e)))
-            ∙ h a few)
+          ∙ h a few)
     ]
 
 -- a letter without a count at its place has none, and one with a count has that
@@ -283,12 +282,12 @@ times_of_any [] cs = 0
 times_of_any (l ∷ ls) cs = times l cs + times_of_any ls cs
 
 few_times : (letters : List ℕ) (cs : List Count) → letters_differ cs ≡ true
-  → times_of_any letters cs ≤ length letters
+    → times_of_any letters cs ≤ length letters
 few_times [] cs h = omega arith
 few_times (l ∷ ls) cs h = let a = once l cs h in let b = few_times ls cs h in omega (arith, a, b)
 
 more_times : (letters : List ℕ) (c : Count) (cs : List Count)
-  → times_of_any letters cs ≤ times_of_any letters (c ∷ cs)
+    → times_of_any letters cs ≤ times_of_any letters (c ∷ cs)
 more_times [] c cs = omega arith
 more_times (l ∷ ls) c cs =
     let rest = more_times ls c cs in
@@ -306,7 +305,7 @@ one_time_more (l ∷ ls) c cs h =
           let more = one_time_more ls c cs (rw f at h) in
           elim (eqb c.0 l) as (λ b. times l cs + times_of_any ls cs < cond b (suc (times l cs))
           (times l cs) + times_of_any ls (c ∷ cs))
-            [ true ↦ omega (arith, rest) | false ↦ omega (arith, more) ]
+          [ true ↦ omega (arith, rest) | false ↦ omega (arith, more) ]
     ]
 
 all_times : (cs : List Count) → All IsCount cs → length cs ≤ times_of_any system_letters cs
@@ -318,7 +317,7 @@ all_times (c ∷ cs) h =
 
 pub systems_few : (counts : List Count) → AreCounts counts → length counts ≤ length system_letters
 systems_few counts h = let a = all_times counts h.allowed in let b = few_times system_letters counts h.apart
-  in
+    in
     omega (arith, a, b)
 
 some_none : (n : ℕ) → Some n ≡ None → ⊥

@@ -48,7 +48,7 @@ Splits pieces before = (rest : List ℕ)
     × HasNoFeed rest × ((more : List ℕ) → pieces more ≡ before ++ pieces_of (rest ++ more))
 
 splits-onto : (b : ℕ) → b ≢ 10
-  → (F : List ℕ → List Piece) (bytes : List ℕ) (is_ended : Bool) (ps : List Piece)
+    → (F : List ℕ → List Piece) (bytes : List ℕ) (is_ended : Bool) (ps : List Piece)
     → Splits F (ended_pieces (record { bytes = bytes; is_ended = is_ended } ∷ ps))
     → Splits (λ more. onto_first b (F more))
     (ended_pieces (onto_first b (record { bytes = bytes; is_ended = is_ended } ∷ ps)))
@@ -77,16 +77,16 @@ by-byte b bs s (inl is) =
     let P : Bool → Type 0 = λ t. Splits (λ more. cond t
     (record { bytes = []; is_ended = true } ∷ pieces_of (bs ++ more)) (onto_first b (pieces_of (bs ++ more))))
     (ended_pieces (cond t (record { bytes = []; is_ended = true } ∷ pieces_of bs)
-      (onto_first b (pieces_of bs)))) in
+    (onto_first b (pieces_of bs)))) in
     subst P (sym is.0) (s.0, s.1, λ more. ap (λ l. record { bytes = []; is_ended = true } ∷ l) (s.2 more))
 by-byte b bs s (inr is) =
     let P : Bool → Type 0 = λ t. Splits (λ more. cond t
     (record { bytes = []; is_ended = true } ∷ pieces_of (bs ++ more)) (onto_first b (pieces_of (bs ++ more))))
     (ended_pieces (cond t (record { bytes = []; is_ended = true } ∷ pieces_of bs)
-      (onto_first b (pieces_of bs)))) in
+    (onto_first b (pieces_of bs)))) in
     subst P (sym is.0) (splits-other b is.1 (λ more. pieces_of (bs ++ more)) (pieces_of bs) s)
 
 pub pieces-split : (given : List ℕ)
-  → Splits (λ more. pieces_of (given ++ more)) (ended_pieces (pieces_of given))
+    → Splits (λ more. pieces_of (given ++ more)) (ended_pieces (pieces_of given))
 pieces-split [] = ([], λ k d h. absurd (omega (arith, h)), λ more. refl)
 pieces-split (b ∷ bs) = by-byte b bs (pieces-split bs) (eqb_tells b 10)

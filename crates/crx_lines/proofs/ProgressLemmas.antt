@@ -37,7 +37,7 @@ lines-first piece rest none = ap (map line_of) (pieces-first piece rest none)
 
 pub ended_lines-first : (piece rest : List ℕ)
     → HasNoFeed piece → ended_lines_of (piece ++ 10 ∷ rest)
-      ≡ line_of (ended_piece piece) ∷ ended_lines_of rest
+    ≡ line_of (ended_piece piece) ∷ ended_lines_of rest
 ended_lines-first piece rest none = ap (λ ps. map line_of (ended_pieces ps)) (pieces-first piece rest none)
 
 -- an input that no LF ends
@@ -85,24 +85,36 @@ module _ (at_end : Type 0) (start counted counted' : Tally) (given more : List �
       → IsOpen start counted' (given ++ more) new (lines ++ line_of (ended_piece bytes) ∷ [])
   line-ended bytes t same = record {
     bytes = omega (arith, length-append given more, length-append old.rest more, t.passed, o.bytes);
-    within = omega (arith, length-append given more, length-append old.rest more, t.passed, o.bytes,
-      t.within);
+    within = omega (
+      arith,
+      length-append given more,
+      length-append old.rest more,
+      t.passed,
+      o.bytes,
+      t.within,
+    );
     first = λ x. over-piece lines_of (line_of (ended_piece bytes)) given
         more old.rest bytes new.rest x lines o.first t.first.cut
-          (lines-first bytes (new.rest ++ x) t.first.no_feed);
+        (lines-first bytes (new.rest ++ x) t.first.no_feed);
     ended = λ x. over-piece ended_lines_of (line_of (ended_piece bytes)) given more
         old.rest bytes new.rest x lines o.ended t.first.cut
-          (ended_lines-first bytes (new.rest ++ x) t.first.no_feed);
+        (ended_lines-first bytes (new.rest ++ x) t.first.no_feed);
     counts = same ∙ o.counts;
   }
 
   line-last : (bytes : List ℕ) → TakesPiece old more at_end (last_piece bytes) new
-    → counted' ≡ with_end counted
+      → counted' ≡ with_end counted
       → IsOver at_end start counted' (given ++ more) (lines ++ line_of (last_piece bytes) ∷ [])
   line-last bytes t same = record {
     reported = t.first.cut.3;
-    within = omega (arith, length-append given more, length-append old.rest more, t.passed, o.bytes,
-      t.within);
+    within = omega (
+      arith,
+      length-append given more,
+      length-append old.rest more,
+      t.passed,
+      o.bytes,
+      t.within,
+    );
     all = sym (o.first more ∙ ap (λ l. lines ++ lines_of l) t.first.cut.0
         ∙ ap (λ l. lines ++ l) (lines-last bytes t.first.no_feed t.first.cut.2));
     counts = same ∙ ap with_end o.counts;
@@ -115,11 +127,11 @@ module _ (at_end : Type 0) (start counted counted' : Tally) (given more : List �
       (given ++ more) new (lines ++ line_of (record { bytes = bytes; is_ended = is_ended }) ∷ [])
   line-stands bytes true t same =
       subst (λ f. StandsAt f at_end start counted' (given ++ more) new
-        (lines ++ line_of (ended_piece bytes) ∷ []))
+      (lines ++ line_of (ended_piece bytes) ∷ []))
       (sym t.phase) (line-ended bytes t same)
   line-stands bytes false t same =
       subst (λ f. StandsAt f at_end start counted' (given ++ more) new
-        (lines ++ line_of (last_piece bytes) ∷ []))
+      (lines ++ line_of (last_piece bytes) ∷ []))
       (sym t.phase) (line-last bytes t same)
 
   none-over : old.rest ++ more ≡ []
@@ -135,7 +147,7 @@ module _ (at_end : Type 0) (start counted counted' : Tally) (given more : List �
   ended-so-far : (front : List ℕ) → HasNoFeed (old.rest ++ front) → lines ≡ ended_lines_of (given ++ front)
   ended-so-far front none =
       sym (o.ended front ∙ ap (λ l. lines ++ l) (ended_lines-none (old.rest ++ front) none)
-        ∙ append-nil lines)
+      ∙ append-nil lines)
 
   failed-stops : old.passed + length (old.rest ++ more) ≤ INPUT_LIMIT
       → HasNoFeed (old.rest ++ more) → counted' ≡ with_failure counted
@@ -163,7 +175,7 @@ module _ (at_end : Type 0) (start counted counted' : Tally) (given more : List �
 -- a line has a byte
 passed-more : (old new : ReaderState) (given : List ℕ) (at_end : Type 0) (bytes : List ℕ) (is_ended : Bool)
     → TakesPiece old given at_end (record { bytes = bytes; is_ended = is_ended }) new
-      → old.passed < new.passed
+    → old.passed < new.passed
 passed-more old new given at_end bytes true t =
     omega (arith, t.passed, ap length t.first.cut, length-append bytes (10 ∷ new.rest))
 passed-more old new given at_end bytes false t =
@@ -171,7 +183,7 @@ passed-more old new given at_end bytes false t =
 
 module _ (gave gives step : List ℕ → Type 0)
     (at_end at_end' : Type 0) (start counted counted' : Tally) (old new : ReaderState)
-      (lines : List InputLine)
+    (lines : List InputLine)
     (h : HasRead gave at_end start counted old lines) (goes : (given more : List ℕ)
     → gave given → step more → gives (given ++ more)) where
   is-open : old.phase ≡ Open → IsOpen start counted h.given old lines
@@ -189,7 +201,7 @@ module _ (gave gives step : List ℕ → Type 0)
 
   read-line : old.phase ≡ Open → (more : List ℕ)
       → step more → (p : Piece) → TakesPiece old more at_end' p new
-        → counted' ≡ tally_after_line p.is_ended counted
+      → counted' ≡ tally_after_line p.is_ended counted
       → HasRead gives at_end' start counted' new (lines ++ line_of p ∷ [])
   read-line e more lead p t same = record {
     given = h.given ++ more;
@@ -202,7 +214,7 @@ module _ (gave gives step : List ℕ → Type 0)
   read-stop : (more : List ℕ) → step more
       → (at : At) → at.line ≡ old.number + 1 → new.number ≡ old.number → new.phase ≡ Stopped at
       → IsStopped at.fault start counted' (h.given ++ more) lines
-        → HasRead gives at_end' start counted' new lines
+      → HasRead gives at_end' start counted' new lines
   read-stop more lead at line number phase stopped = record {
     given = h.given ++ more;
     lead = goes h.given more h.lead lead;
@@ -213,9 +225,9 @@ module _ (gave gives step : List ℕ → Type 0)
 
   at-fault : (f : Fault) (at : At) → at.fault ≡ f
       → old.phase ≡ Open → (more : List ℕ) → step more
-        → AnswersFault old more at_end' counted counted' at f new
+      → AnswersFault old more at_end' counted counted' at f new
       → (then : List InputLine) × AtFault f at old new lines then
-        × HasRead gives at_end' start counted' new then
+      × HasRead gives at_end' start counted' new then
   at-fault LineTooLong at is e more lead a = (
     lines ++ line_of a.0 ∷ [],
     (line_of a.0, a.2, one-more more a.0 (line_of a.0) at.line a.1 refl a.3),
@@ -223,7 +235,7 @@ module _ (gave gives step : List ℕ → Type 0)
   )
   at-fault InputTooLong at is e more lead a =
       let stopped = over-stops at_end' start counted counted' h.given more old new lines
-        (is-open e) a.0 a.1 a.3 in (
+      (is-open e) a.0 a.1 a.3 in (
         lines,
         (refl, a.2.phase),
         read-stop more lead at a.2.line a.2.number a.2.phase
@@ -231,7 +243,7 @@ module _ (gave gives step : List ℕ → Type 0)
       )
   at-fault ReadFailed at is e more lead a =
       let stopped = failed-stops at_end' start counted counted' h.given more old new lines
-        (is-open e) a.0 a.1 a.3 in (
+      (is-open e) a.0 a.1 a.3 in (
         lines,
         (refl, a.2.phase),
         read-stop more lead at a.2.line a.2.number a.2.phase
@@ -243,7 +255,7 @@ module _ (gave gives step : List ℕ → Type 0)
   pub HasRead-next : old.phase ≡ Open → (more : List ℕ)
       → step more → (r : Result (Option Line) At) → ReaderAnswers old more at_end' counted counted' r new
       → (then : List InputLine) × AtAnswer r old new lines then
-        × HasRead gives at_end' start counted' new then
+      × HasRead gives at_end' start counted' new then
   HasRead-next e more lead (Ok (Some line)) a = (
     lines ++ line_of a.0 ∷ [],
     one-more more a.0 (line_shown line) (line_number line) a.1 a.2 a.3,
@@ -259,7 +271,7 @@ module _ (gave gives step : List ℕ → Type 0)
           number = ap (λ (r : ReaderState). r.number) a.2 ∙ h.number;
           stands = subst (λ f. StandsAt f at_end' start counted' (h.given ++ more) new lines)
               (sym phase) (none-over at_end' start counted counted' h.given more old new lines
-                (is-open e) a.0 a.1 a.3);
+              (is-open e) a.0 a.1 a.3);
         },
       )
   HasRead-next e more lead (Err at) a = at-fault at.fault at refl e more lead a
@@ -323,63 +335,63 @@ stopped-again _ at start counted given old new lines s e = absurd s
 -- one call, whatever the phase: after the end and after a fault nothing changes, and the answer is repeated
 module _ (gave gives step : List ℕ → Type 0)
     (at_end at_end' : Type 0) (start counted counted' : Tally) (old new : ReaderState)
-      (lines : List InputLine)
+    (lines : List InputLine)
     (h : HasRead gave at_end start counted old lines) (goes : (given more : List ℕ)
     → gave given → step more → gives (given ++ more))
     (r : Result (Option Line) At) (still : old.phase ≢ Open
     → (new ≡ old) × ((given : List ℕ) → gave given → gives given) × (at_end → at_end') × (counted' ≡ counted))
-      where
-  still-ended : old.phase ≡ Ended → r ≡ Ok None
-      → (then : List InputLine) × AtAnswer r old new lines then
+  where
+    still-ended : old.phase ≡ Ended → r ≡ Ok None
+        → (then : List InputLine) × AtAnswer r old new lines then
         × HasRead gives at_end' start counted' new then
-  still-ended e is =
-      let same = still (ended-not-open old.phase e) in
-      let over = HasRead-ended gave at_end start counted old lines h e in
-      let phase : new.phase ≡ Ended = ap (λ (x : ReaderState). x.phase) same.0 ∙ e in
-      let now : IsOver at_end' start counted' h.given lines = record {
-        reported = same.2 over.reported;
-        within = over.within;
-        all = over.all;
-        counts = same.3 ∙ over.counts;
-      } in (
-        lines,
-        subst (λ a. AtAnswer a old new lines lines) (sym is) (refl, phase),
-        record {
-          given = h.given;
-          lead = same.1 h.given h.lead;
-          number = ap (λ (x : ReaderState). x.number) same.0 ∙ h.number;
-          stands = subst (λ f. StandsAt f at_end' start counted' h.given new lines) (sym phase) now;
-        },
-      )
+    still-ended e is =
+        let same = still (ended-not-open old.phase e) in
+        let over = HasRead-ended gave at_end start counted old lines h e in
+        let phase : new.phase ≡ Ended = ap (λ (x : ReaderState). x.phase) same.0 ∙ e in
+        let now : IsOver at_end' start counted' h.given lines = record {
+          reported = same.2 over.reported;
+          within = over.within;
+          all = over.all;
+          counts = same.3 ∙ over.counts;
+        } in (
+          lines,
+          subst (λ a. AtAnswer a old new lines lines) (sym is) (refl, phase),
+          record {
+            given = h.given;
+            lead = same.1 h.given h.lead;
+            number = ap (λ (x : ReaderState). x.number) same.0 ∙ h.number;
+            stands = subst (λ f. StandsAt f at_end' start counted' h.given new lines) (sym phase) now;
+          },
+        )
 
-  still-stopped : (at : At) → old.phase ≡ Stopped at → r ≡ Err at → (then : List InputLine)
-      × AtAnswer r old new lines then × HasRead gives at_end' start counted' new then
-  still-stopped at e is =
-      let same = still (stopped-not-open old.phase at e) in
-      let stopped = HasRead-stopped gave at_end start counted old lines h at e in
-      let phase : new.phase ≡ Stopped at = ap (λ (x : ReaderState). x.phase) same.0 ∙ e in
-      let now = subst (λ t. IsStopped at.fault start t h.given lines) (sym same.3) stopped.0 in (
-        lines,
-        subst (λ a. AtAnswer a old new lines lines)
-            (sym is) (stopped-again at.fault at start counted h.given old new lines stopped.0 phase),
-        record {
-          given = h.given;
-          lead = same.1 h.given h.lead;
-          number = ap (λ (x : ReaderState). x.number) same.0 ∙ h.number;
-          stands = subst (λ f. StandsAt f at_end' start counted' h.given new lines) (sym phase)
-            (now, stopped.1);
-        },
-      )
+    still-stopped : (at : At) → old.phase ≡ Stopped at → r ≡ Err at → (then : List InputLine)
+        × AtAnswer r old new lines then × HasRead gives at_end' start counted' new then
+    still-stopped at e is =
+        let same = still (stopped-not-open old.phase at e) in
+        let stopped = HasRead-stopped gave at_end start counted old lines h at e in
+        let phase : new.phase ≡ Stopped at = ap (λ (x : ReaderState). x.phase) same.0 ∙ e in
+        let now = subst (λ t. IsStopped at.fault start t h.given lines) (sym same.3) stopped.0 in (
+          lines,
+          subst (λ a. AtAnswer a old new lines lines)
+              (sym is) (stopped-again at.fault at start counted h.given old new lines stopped.0 phase),
+          record {
+            given = h.given;
+            lead = same.1 h.given h.lead;
+            number = ap (λ (x : ReaderState). x.number) same.0 ∙ h.number;
+            stands = subst (λ f. StandsAt f at_end' start counted' h.given new lines) (sym phase)
+                (now, stopped.1);
+          },
+        )
 
-  pub HasRead-call : (old.phase ≡ Open
-      → (more : List ℕ) × step more × ReaderAnswers old more at_end' counted counted' r new)
-      → (old.phase ≡ Ended → r ≡ Ok None) → ((at : At) → old.phase ≡ Stopped at → r ≡ Err at)
-      → (then : List InputLine) × AtAnswer r old new lines then
+    pub HasRead-call : (old.phase ≡ Open
+        → (more : List ℕ) × step more × ReaderAnswers old more at_end' counted counted' r new)
+        → (old.phase ≡ Ended → r ≡ Ok None) → ((at : At) → old.phase ≡ Stopped at → r ≡ Err at)
+        → (then : List InputLine) × AtAnswer r old new lines then
         × HasRead gives at_end' start counted' new then
-  HasRead-call at-open at-ended at-stopped =
-      ⊎_elim
-      (λ e. let a = at-open e in
-      HasRead-next gave gives step at_end at_end' start counted counted' old new lines h goes e a.0 a.1 r a.2)
-      (λ other. ⊎_elim (λ e. still-ended e (at-ended e)) (λ s. still-stopped s.0 s.1 (at-stopped s.0 s.1))
+    HasRead-call at-open at-ended at-stopped =
+        ⊎_elim
+        (λ e. let a = at-open e in
+        HasRead-next gave gives step at_end at_end' start counted counted' old new lines h goes e a.0 a.1 r a.2)
+        (λ other. ⊎_elim (λ e. still-ended e (at-ended e)) (λ s. still-stopped s.0 s.1 (at-stopped s.0 s.1))
         other)
-      (phase-cases old.phase)
+        (phase-cases old.phase)

@@ -14,7 +14,7 @@ without_return-cr (y ∷ []) x e = rw e refl
 without_return-cr (y ∷ z ∷ zs) x e = ap (λ l. y ∷ l) (without_return-cr (z ∷ zs) x e)
 
 pub without_return-other : (xs : List ℕ) (x : ℕ) → (x == 13) ≡ false
-  → without_return (xs ++ x ∷ []) ≡ xs ++ x ∷ []
+    → without_return (xs ++ x ∷ []) ≡ xs ++ x ∷ []
 without_return-other [] x e = rw e refl
 without_return-other (y ∷ []) x e = rw e refl
 without_return-other (y ∷ z ∷ zs) x e = ap (λ l. y ∷ l) (without_return-other (z ∷ zs) x e)
@@ -49,18 +49,18 @@ part-get_or xs start end n d inside =
 -- the first bytes of a part are those before the last of them, and that one
 pub part-last : (xs : List ℕ) (start end n : ℕ) → 0 < n → start + n ≤ end → end ≤ length xs
     → take n (slice_range xs start end) ≡ slice_range xs start (start + n - 1) ++ get_or xs
-      (start + n - 1) 0 ∷ []
+    (start + n - 1) 0 ∷ []
 part-last xs start end n some inside within =
     let held = slice_range xs start end in
     let one : n ≡ (n - 1) + 1 = omega arith in
     let at : start + (n - 1) ≡ start + n - 1 = omega arith in
     let len : n - 1 < length held =
-      omega (arith, length-take (end - start) (drop start xs), length-drop start xs) in
+    omega (arith, length-take (end - start) (drop start xs), length-drop start xs) in
     ap (λ k. take k held) one ∙ take_more held (n - 1) 0 len
     ∙ ap (λ l. l ++ get_or held (n - 1) 0 ∷ []) (sym (part-front xs start end (n - 1) (omega arith))
     ∙ ap (λ k. slice_range xs start k) at)
     ∙ ap (λ b. slice_range xs start (start + n - 1) ++ b ∷ [])
-      (part-get_or xs start end (n - 1) 0 (omega arith)
+    (part-get_or xs start end (n - 1) 0 (omega arith)
     ∙ ap (λ k. get_or xs k 0) at)
 
 -- the first bytes of a part without the CR that ends them

@@ -12,7 +12,7 @@ use Rattle.crx_base.specs.declared.limits.TheConstants.{LINE_LIMIT}
 use Rattle.crx_lines.proofs.PieceLemmas.{NoFeed}
 
 pub Seeking-start : (gave : List ℕ → Type 0) (old : List ℕ) (room : ℕ) → gave []
-  → Seeking gave old old room 0 0 0
+    → Seeking gave old old room 0 0 0
 Seeking-start gave old room lead = record {
   given = [];
   front = [];
@@ -41,7 +41,7 @@ Seeking-searched gave old held room taken passed searched n s within none = reco
   far = s.far;
   none_passed = s.none_passed;
   none_searched = λ k h. ⊎_elim (λ below. s.none_searched k below) (λ above. none k above h)
-    (cases_lt k searched);
+      (cases_lt k searched);
   within = s.within;
   searched_within = within;
 }
@@ -111,21 +111,21 @@ pub Seeking-filled : (gave then : List ℕ → Type 0) (old held after more : Li
     → ((given : List ℕ) → gave given → then (given ++ more)) → length more ≡ n → taken + n ≤ room
     → after ≡ held ++ more → m ≡ length held → Seeking then old after room (taken + n) passed m
 Seeking-filled gave then old held after more room taken passed n m s goes count within same searched =
-  record {
-  given = s.given ++ more;
-  front = s.front;
-  lead = goes s.given s.lead;
-  input = sym (append_assoc old s.given more)
-      ∙ ap (λ l. l ++ more) s.input ∙ append_assoc s.front held more ∙ ap (λ l. s.front ++ l) (sym same);
-  taken_is = omega (arith, length-append s.given more, s.taken_is, count);
-  passed_is = s.passed_is;
-  far = s.far;
-  none_passed = s.none_passed;
-  none_searched = λ k h. let inside : k < length held = omega (arith, h, searched) in
-      rw (same, get_or_append_left held more 0 k) (s.none_searched k inside);
-  within = within;
-  searched_within = omega (arith, length-append held more, ap length same, searched);
-}
+    record {
+      given = s.given ++ more;
+      front = s.front;
+      lead = goes s.given s.lead;
+      input = sym (append_assoc old s.given more)
+          ∙ ap (λ l. l ++ more) s.input ∙ append_assoc s.front held more ∙ ap (λ l. s.front ++ l) (sym same);
+      taken_is = omega (arith, length-append s.given more, s.taken_is, count);
+      passed_is = s.passed_is;
+      far = s.far;
+      none_passed = s.none_passed;
+      none_searched = λ k h. let inside : k < length held = omega (arith, h, searched) in
+          rw (same, get_or_append_left held more 0 k) (s.none_searched k inside);
+      within = within;
+      searched_within = omega (arith, length-append held more, ap length same, searched);
+    }
 
 -- nothing more was given
 pub Seeking-same : (gave then : List ℕ → Type 0) (old held after : List ℕ) (room taken passed m : ℕ)
@@ -136,12 +136,18 @@ Seeking-same gave then old held after room taken passed m s goes same searched =
     let sum : taken + 0 ≡ taken = omega arith in
     subst (λ k. Seeking then old after room k passed m) sum
     (Seeking-filled gave then old held after [] room taken passed 0 m s goes refl (omega (arith, s.within))
-      (same
+    (same
     ∙ sym (append-nil held)) searched)
 
 -- every byte was discarded or is held
 pub Seeking-sum : (gave : List ℕ → Type 0) (old held : List ℕ) (room taken passed searched : ℕ)
     → Seeking gave old held room taken passed searched → passed + length held ≡ length old + taken
 Seeking-sum gave old held room taken passed searched s =
-    omega (arith, ap length s.input, length-append old s.given, length-append s.front held, s.taken_is,
-      s.passed_is)
+    omega (
+      arith,
+      ap length s.input,
+      length-append old s.given,
+      length-append s.front held,
+      s.taken_is,
+      s.passed_is,
+    )

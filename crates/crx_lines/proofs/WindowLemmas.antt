@@ -22,8 +22,12 @@ grown xs ys start end k n ordered within fits =
     let after = ys ++ post_of end k xs in
     ap (take (end + n - start)) (drop-append-le start (take end xs) after (omega arith))
     ∙ ap (λ j. take j (held ++ after)) sum ∙ take-add (end - start) n (held ++ after)
-    ∙ (rw (take_at held after _ len, drop_at held after _ len, take-append-le n ys (post_of end k xs) fits,
-      same) refl)
+    ∙ (rw (
+      take_at held after _ len,
+      drop_at held after _ len,
+      take-append-le n ys (post_of end k xs) fits,
+      same,
+    ) refl)
 
 -- the first bytes are discarded
 pub passed : (xs : List ℕ) (start end count : ℕ) → start + count ≤ end

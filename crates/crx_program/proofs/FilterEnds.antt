@@ -14,17 +14,17 @@ use Rattle.crx_command.specs.declared.job.Tool.{Tool}
 -- a filter that ran from a file, into another or into the output
 pub from_file : {F G : Type 0} (sources : SourceGhosts (Logged (Std F))) (sinks : SinkGhosts (Logged G))
     (name target_name : Option (List ℕ)) (force : Bool) (source : Option (Logged (Std F)))
-      (target : Option (Logged G))
+    (target : Option (Logged G))
     (opened_by : List ℕ) → name ≡ Some opened_by
     → (tool : Tool) (choices : Choices) (input : Input) (output messages : Device) (status : ℕ)
     (first last : Logged (Std F)) → source ≡ Some last → IsOpened opened_by first
     → sources.failures first ≡ 0 → sources.ends first ≡ 0
     → IsFilteredInto sinks target_name force target tool choices
-      (reader_span sources first last) output messages status
+    (reader_span sources first last) output messages status
     → IsFilteredFrom sources sinks name source target_name force target tool choices input output messages
-      status
+    status
 from_file sources sinks name target_name force source target opened_by e tool choices input output messages
-  status
+    status
     first last is opened failures ends h =
     rw e (first, last, is, opened, failures, ends, h)
 

@@ -25,7 +25,7 @@ module _ (p : Plan) (refusal : Refusal) (messages : Device) (status : ℕ) where
   -- words are refused by the line of their fault, or by that of the memory that ran out
   pub refused_by : (fault : UsageFault)
       → p ≡ Refused refusal → status ≡ 1
-        → (fault ≡ usage_fault.Memory → IsShown messages (at_start OutOfMemory))
+      → (fault ≡ usage_fault.Memory → IsShown messages (at_start OutOfMemory))
       → (plan_in (Err fault) ≡ Some (Refused refusal) → IsRefused messages refusal status)
       → IfSome (plan_in (Err fault)) (λ plan. plan ≡ p) → IsRefused messages refusal status
   refused_by (usage_fault.Parse text) e one memory by h = by (ap Some (h ∙ e))

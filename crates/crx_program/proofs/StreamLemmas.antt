@@ -20,7 +20,7 @@ use Rattle.crx_program.specs.meaning.Streams.{IsUnused, IsPrefixOf}
 
 -- a good run of a filter
 record Good (tool : Tool) (choices : Choices) (input : Input) (writer messages : Device)
-  (status : ℕ) : Type 0 where
+    (status : ℕ) : Type 0 where
   pub given : List ℕ
   pub gave : input.gave given
   pub ended : input.at_end
@@ -84,7 +84,7 @@ made_still name force a b c p q made = subst (IsMadeBy name force) (sym (p ∙ q
 -- the run of a filter, where its writer is by the logs
 record Writing {G O : Type 0} (name : Option (List ℕ)) (force : Bool) (target : Option (Logged (Std G)))
     (output : Logged (Std O)) (tool : Tool) (choices : Choices) (input : Input) (messages : Device)
-      (status : ℕ)
+    (status : ℕ)
     : Type 1 where
   pub writer : Device
   pub ran : IsFiltered tool choices input writer messages status
@@ -93,7 +93,7 @@ record Writing {G O : Type 0} (name : Option (List ℕ)) (force : Bool) (target 
 
 -- and where its reader is
 record Placed {F G I O : Type 0} (job : Job) (source : Option (Logged (Std F)))
-  (target : Option (Logged (Std G)))
+    (target : Option (Logged (Std G)))
     (input : Logged (Std I)) (output : Logged (Std O)) (choices : Choices) (messages : Device) (status : ℕ)
     : Type 1 where
   pub reader : Input
@@ -105,7 +105,7 @@ module _ {G O : Type 0} (sinks : SinkGhosts (Logged (Std G))) (outputs : SinkGho
     (sink_takes : Takes sinks) (output_takes : Takes outputs)
     (sink_flushes : Flushes sinks) (output_flushes : Flushes outputs) where
   writing : (name : Option (List ℕ)) (force : Bool) (target : Option (Logged (Std G)))
-    (before after : Logged (Std O))
+      (before after : Logged (Std O))
       → before.log.bytes ≡ [] → (is_some name ≡ true → after ≡ before)
       → (tool : Tool) (choices : Choices) (input : Input) (messages : Device) (status : ℕ)
       → IsFilteredInto sinks name force target tool choices input (span outputs before after) messages status
@@ -143,26 +143,28 @@ module _ {G O : Type 0} (sinks : SinkGhosts (Logged (Std G))) (outputs : SinkGho
     placed : (job : Job) (source_name : Option (List ℕ)) → job.source ≡ source_name
         → (source : Option (Logged (Std F))) (target : Option (Logged (Std G)))
         (first last : Logged (Std I)) (before after : Logged (Std O)) → first.log.bytes ≡ []
-          → before.log.bytes ≡ []
+        → before.log.bytes ≡ []
         → (is_some source_name ≡ true → last ≡ first) → (is_some job.target ≡ true → after ≡ before)
         → (choices : Choices) (messages : Device) (status : ℕ)
         → IsFilteredFrom sources sinks source_name source job.target job.force target job.tool choices
         (reader_span inputs first last) (span outputs before after) messages status
         → Placed job source target last after choices messages status
     placed job None e source target first last before after none empty same_input same choices messages status
-      h =
+        h =
         record {
           reader = reader_span inputs first last;
           writing = writing job.target job.force target before after empty same job.tool choices
               (reader_span inputs first last) messages status h.1;
-          gave = λ bytes gave. subst (λ (name : Option (List ℕ)). ReadsGave name source last bytes) (sym e)
-              (h.0, from_empty first.log.bytes last.log.bytes bytes none
-                (input_gives first last bytes gave).0);
+          gave = λ bytes gave. subst (λ (name : Option (List ℕ)). ReadsGave name source last bytes) (sym e) (
+            h.0,
+            from_empty first.log.bytes last.log.bytes bytes none
+                (input_gives first last bytes gave).0,
+          );
           ended = λ ended. subst (λ (s : Option (Logged (Std F))). IsEndTold s last) (sym h.0)
-            (input_tells last ended);
+              (input_tells last ended);
         }
     placed job (Some name) e source target first last before after none empty same_input same choices messages
-      status
+        status
         h =
         let file = h.1 in record {
           reader = reader_span sources h.0 file;
@@ -176,22 +178,22 @@ module _ {G O : Type 0} (sinks : SinkGhosts (Logged (Std G))) (outputs : SinkGho
             same_log first last (same_input refl) none,
           );
           ended = λ ended. subst (λ (s : Option (Logged (Std F))). IsEndTold s last) (sym h.2)
-            (source_tells file ended);
+              (source_tells file ended);
         }
 
     module _ {E : Type 0} (reports : SinkGhosts (Logged (Std E))) (report_takes : Takes reports)
         (moment : Option Timestamp) (job : Job) (source : Option (Logged (Std F)))
-          (target : Option (Logged (Std G)))
+        (target : Option (Logged (Std G)))
         (first last : Logged (Std I)) (before after : Logged (Std O)) (quiet spoken : Logged (Std E))
         (none : first.log.bytes ≡ []) (empty : before.log.bytes ≡ []) (silent : quiet.log.bytes ≡ [])
         (same_input : is_some job.source ≡ true → last ≡ first)
-          (same : is_some job.target ≡ true → after ≡ before)
+        (same : is_some job.target ≡ true → after ≡ before)
         (status : ℕ) where
       -- a run without a fault is exact
       exact_of : (choices : Choices) → IsChosen moment job.tool job.date job.every job.skip choices
           → Placed job source target last after choices (span reports quiet spoken) status → (status ≡ 1 → ⊥)
           → (given : List ℕ) × (written : List ℕ) × ReadsGave job.source source last given
-            × IsEndTold source last
+          × IsEndTold source last
           × WritesTook job.target job.force target after written × IsFlushedLast target after
           × IsAllOf moment job given written spoken.log.bytes status
       exact_of choices chosen place well =
@@ -231,9 +233,9 @@ module _ {G O : Type 0} (sinks : SinkGhosts (Logged (Std G))) (outputs : SinkGho
 
       -- a job that was begun has a reader and a writer
       place_of : (choices : Choices)
-        → IsFilteredFrom sources sinks job.source source job.target job.force target
+          → IsFilteredFrom sources sinks job.source source job.target job.force target
           job.tool choices (reader_span inputs first last) (span outputs before after)
-            (span reports quiet spoken) status
+          (span reports quiet spoken) status
           → Placed job source target last after choices (span reports quiet spoken) status
       place_of choices h =
           placed job job.source refl source target first last before after none empty same_input same choices
@@ -242,7 +244,7 @@ module _ {G O : Type 0} (sinks : SinkGhosts (Logged (Std G))) (outputs : SinkGho
       exact : (P : Type 0) → IsJobDone sources sinks moment job source target (reader_span inputs first last)
           (span outputs before after) (span reports quiet spoken) status P → (status ≡ 1 → ⊥)
           → (given : List ℕ) × (written : List ℕ) × ReadsGave job.source source last given
-            × IsEndTold source last
+          × IsEndTold source last
           × WritesTook job.target job.force target after written × IsFlushedLast target after
           × IsAllOf moment job given written spoken.log.bytes status
       exact P (inl begun) well = exact_of begun.0 begun.1 (place_of begun.0 begun.2) well
@@ -282,7 +284,7 @@ std_sink contents = record {
 abbrev pub logged_source : {D : Type 0} → SourceGhosts D → SourceGhosts (Logged D)
 logged_source inner = record {
   gave = λ a bytes b. (b.log.bytes ≡ a.log.bytes ++ bytes) × (b.opening ≡ a.opening)
-    × inner.gave a.inner bytes b.inner;
+      × inner.gave a.inner bytes b.inner;
   at_end = λ s. inner.at_end s.inner × (0 < inner.ends s.inner);
   failures = λ s. inner.failures s.inner;
   ends = λ s. inner.ends s.inner;
@@ -291,7 +293,7 @@ logged_source inner = record {
 abbrev pub logged_sink : {D : Type 0} → SinkGhosts D → SinkGhosts (Logged D)
 logged_sink inner = record {
   took = λ a bytes b. (b.log.bytes ≡ a.log.bytes ++ bytes) × (b.opening ≡ a.opening)
-    × inner.took a.inner bytes b.inner;
+      × inner.took a.inner bytes b.inner;
   failures = λ s. inner.failures s.inner;
   is_flushed = λ s. inner.is_flushed s.inner;
   flushes = λ s. inner.flushes s.inner;
@@ -316,14 +318,14 @@ flushes : {D : Type 0} (contents : D → Option (List ℕ)) → Flushes (writer_
 flushes contents a flushed = flushed
 
 module _ {F G I O E : Type 0} (file : F → Option (List ℕ)) (made : G → Option (List ℕ))
-  (stdin : I → Option (List ℕ))
+    (stdin : I → Option (List ℕ))
     (stdout : O → Option (List ℕ)) (stderr : E → Option (List ℕ))
     (moment : Option Timestamp) (job : Job) (source : Option (Logged (Std F)))
-      (target : Option (Logged (Std G)))
+    (target : Option (Logged (Std G)))
     (first last : Logged (Std I)) (before after : Logged (Std O)) (quiet spoken : Logged (Std E))
     (none : first.log.bytes ≡ []) (empty : before.log.bytes ≡ []) (silent : quiet.log.bytes ≡ [])
     (same_input : is_some job.source ≡ true → last ≡ first)
-      (same : is_some job.target ≡ true → after ≡ before)
+    (same : is_some job.target ≡ true → after ≡ before)
     (status : ℕ) where
   pub exact_run : (P : Type 0) → IsJobDone (reader_of file) (writer_of made) moment job source target
       (reader_span (reader_of stdin) first last) (span (writer_of stdout) before after)

@@ -38,7 +38,7 @@ all_some-push (Some x ∷ xs) vs v h =
 
 -- one that is missing a spelling
 pub all_some_at : (xs : List (Option (Option ℤ))) (k : ℕ) → k < length xs → get_or xs k None ≡ None
-  → all_some xs ≡ None
+    → all_some xs ≡ None
 all_some_at [] k h e = absurd (omega arith)
 all_some_at (None ∷ xs) k h e = refl
 all_some_at (Some x ∷ xs) zero h e = absurd (none-some x (sym e))
@@ -46,19 +46,19 @@ all_some_at (Some x ∷ xs) (suc k) h e = rw (all_some_at xs k (omega arith) e) 
 
 pub values_in_more : (line : List ℕ) (k : ℕ) (vs : List (Option ℤ)) (v : Option ℤ)
     → values_in k line ≡ Some vs → observation_of (field line k) ≡ Some v
-      → values_in (k + 1) line ≡ Some (vs ++ v ∷ [])
+    → values_in (k + 1) line ≡ Some (vs ++ v ∷ [])
 values_in_more line k vs v h e =
     ap all_some (each_place-more k (λ j. observation_of (field line j)))
     ∙ ap (λ (o : Option (Option ℤ)). all_some (each_place k (λ j. observation_of (field line j)) ++ o ∷ [])) e
     ∙ all_some-push (each_place k (λ j. observation_of (field line j))) vs v h
 
 pub values_in_none : (line : List ℕ) (k m : ℕ) → k < m → observation_of (field line k) ≡ None
-  → values_in m line ≡ None
+    → values_in m line ≡ None
 values_in_none line k m h e =
     all_some_at (each_place m (λ j. observation_of (field line j))) k
     (omega (arith, length-each_place m (λ j. observation_of (field line j))))
     (index-each_place m k (λ j. observation_of (field line j)) None (λ past. absurd (omega (arith, past)))
-      ∙ e)
+    ∙ e)
 
 pub flags_in_more : (line : List ℕ) (k : ℕ) → flags_in (k + 1) line ≡ flags_in k line ++ flags_at line k
 flags_in_more line k = ap concat (each_place-more k (flags_at line))
@@ -66,7 +66,7 @@ flags_in_more line k = ap concat (each_place-more k (flags_at line))
 
 -- a field past the line's end is blank, and so missing
 pub field_past : (line : List ℕ) (k : ℕ) → length line ≤ 16 * k + 3
-  → observation_of (field line k) ≡ Some None
+    → observation_of (field line k) ≡ Some None
 unfolding number_of
 field_past line k h =
     let e : drop (16 * k + 3 + 1 - 1) line ≡ [] = drop_all (16 * k + 3 + 1 - 1) line (omega arith) in
@@ -74,11 +74,11 @@ field_past line k h =
 
 -- a field inside the line
 pub field_inside : (line : List ℕ) (k : ℕ) → 16 * k + 17 ≤ length line
-  → field line k ≡ take 14 (drop (16 * k + 3) line)
+    → field line k ≡ take 14 (drop (16 * k + 3) line)
 field_inside line k h =
     let e : 16 * k + 3 + 1 - 1 ≡ 16 * k + 3 = omega arith in
     rw e (take-append-le 14 (drop (16 * k + 3) line) (replicate 14 32)
-      (omega (arith, length-drop (16 * k + 3) line)))
+    (omega (arith, length-drop (16 * k + 3) line)))
 
 -- what is read of a line begins with that field
 pub read_inside : (line : List ℕ) (k n : ℕ) → 14 ≤ n → 16 * k + 3 + 14 ≤ length line
@@ -91,7 +91,7 @@ read_inside line k n long h =
 -- two indicators more
 pub pair_pushed : (line : List ℕ) (k : ℕ) (flags : List ℕ) (a b : ℕ) → 2 * k + 1 < length flags
     → take (2 * k) flags ≡ flags_in k line → a ≡ character_at line (16 * k + 18)
-      → b ≡ character_at line (16 * k + 19)
+    → b ≡ character_at line (16 * k + 19)
     → take (2 * (k + 1)) (slice_set (slice_set flags (2 * k) a) (2 * k + 1) b) ≡ flags_in (k + 1) line
 pair_pushed line k flags a b room h ha hb =
     let one = slice_set flags (2 * k) a in
@@ -125,9 +125,9 @@ sound-cells name values flags m named allowed long pairs ranged kept =
 
 -- the same where each list was written through a slice of so many elements
 pub sound-written : (name : List ℕ) (values old_values : List (Option ℤ)) (flags old_flags : List ℕ)
-  (m n k : ℕ)
+    (m n k : ℕ)
     → is_identifier name ≡ true → IsAllowedCount m → length values ≡ m → length flags ≡ 2 * m → n ≡ m
-      → k ≡ 2 * m
+    → k ≡ 2 * m
     → All IsValue values → list_all is_kept flags ≡ true
     → IsSoundRow (record {
       name = name;
@@ -144,7 +144,7 @@ sound-written name values old_values flags old_flags m n k named allowed long pa
 
 -- rows stay sound
 pub sound-blank : (name : List ℕ) (m : ℕ) → is_identifier name ≡ true → IsAllowedCount m
-  → IsSoundRow (blank_row name m)
+    → IsSoundRow (blank_row name m)
 sound-blank name m named small =
     record {
       named = named;
@@ -152,7 +152,7 @@ sound-blank name m named small =
           (omega (arith, e, small.0), omega (arith, e, small.1));
       ranged = All-replicate IsValue m None tt;
       paired = length-replicate (2 * m) 32
-        ∙ ap (λ (n : ℕ). 2 * n) (sym (length-replicate {A = Option ℤ} m None));
+          ∙ ap (λ (n : ℕ). 2 * n) (sym (length-replicate {A = Option ℤ} m None));
       kept = all_kept_blanks (2 * m);
     }
 
@@ -203,6 +203,6 @@ sound-with_flags row flags h small kept =
       );
       kept = list_all-append is_kept flags (replicate (2 * length row.values - length flags) 32)
           ∙ and_from (list_all is_kept flags)
-            (list_all is_kept (replicate (2 * length row.values - length flags) 32))
+          (list_all is_kept (replicate (2 * length row.values - length flags) 32))
           kept (all_kept_blanks (2 * length row.values - length flags));
     }

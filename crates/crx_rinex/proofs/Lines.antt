@@ -7,7 +7,7 @@ use Rattle.std.proofs.Common.{false, true≢false, arith, suc, zero}
 use Rattle.std.proofs.lemmas.Option.{none-some}
 
 pub after_first : {X : Type 0} (x : X) (xs : List X) (n : ℕ) → n ≢ 0
-  → slice_get (x ∷ xs) n ≡ slice_get xs (n - 1)
+    → slice_get (x ∷ xs) n ≡ slice_get xs (n - 1)
 after_first x xs zero h = absurd (h refl)
 after_first x xs (suc n) h = let e : n ≡ suc n - 1 = omega arith in ap (slice_get xs) e
 
@@ -41,7 +41,7 @@ none-copied false (Some x) is = ((λ t. absurd (true≢false (sym t))), (λ t. a
 
 -- lines that are a first one and others are all borrowed where no other is at the last place
 pub all-handed_out : {A B : Type 0} (f : A → B) (first : B) (xs : List A) (n : ℕ) (b : Bool)
-  (o : Option (Bor A))
+    (o : Option (Bor A))
     → 0 < n → is_some o ≡ not b → option_copied o ≡ slice_get xs (n - 1)
     → IsTrue b ↔ (drop n (first ∷ map f xs) ≡ [])
 all-handed_out f first xs zero b o less is at = absurd (omega (arith, less))

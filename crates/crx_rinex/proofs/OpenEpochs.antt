@@ -44,7 +44,7 @@ steady-begun types (EpochBegins head) = steady-then (rest_at (opened types head)
 pub steady-epoch_place : (types : List Count) → IsSteady (epoch_place types)
 steady-epoch_place types = steady-then
     (λ lines. first_line lines beginning_of) (unit_begun types) (steady-first_line beginning_of)
-      (steady-begun types)
+    (steady-begun types)
 
 -- ---- one line of an open epoch
 
@@ -55,15 +55,15 @@ after_step (Faulty fault) lines = Wrong 0 fault
 
 rest_when : (n : ℕ) (so_far : OpenEpoch) (lines : List ReadLine)
     → rows_wanted so_far ≡ n
-      → after_lines 1 (rows_at so_far n lines) ≡ after_step (when_wanted n so_far) lines
+    → after_lines 1 (rows_at so_far n lines) ≡ after_step (when_wanted n so_far) lines
 rest_when zero so_far lines h = refl
 rest_when (suc n) so_far lines h = ap (λ m. after_lines 1 (rows_at so_far m lines)) (sym h)
 
 whole_or_rest : (n : ℕ) (so_far : OpenEpoch) (lines : List ReadLine)
     → rows_wanted so_far ≡ n
-      → after_lines 1 (rows_at so_far n lines) ≡ after_step (whole_or_going so_far) lines
+    → after_lines 1 (rows_at so_far n lines) ≡ after_step (whole_or_going so_far) lines
 whole_or_rest n so_far lines h = rest_when n so_far lines h
-  ∙ ap (λ m. after_step (when_wanted m so_far) lines) (sym h)
+    ∙ ap (λ m. after_step (when_wanted m so_far) lines) (sym h)
 
 row_then_rest : (n : ℕ) (so_far : OpenEpoch) (line : List ℕ) (lines : List ReadLine) (r : Result Row Fault)
     → rows_wanted so_far ≡ suc n
@@ -77,7 +77,7 @@ rest_by_step : (n : ℕ) (so_far : OpenEpoch) (line : ReadLine) (lines : List Re
     → rows_wanted so_far ≡ suc n → rest_at so_far (line ∷ lines) ≡ after_step (epoch_step so_far line) lines
 rest_by_step n so_far Overlong lines h = rw h refl
 rest_by_step n so_far (Content line) lines h =
-  rw h (row_then_rest n so_far line lines (next_row so_far line) h)
+    rw h (row_then_rest n so_far line lines (next_row so_far line) h)
 
 -- ---- line after line
 
@@ -127,11 +127,11 @@ one_more_before count Wanted = refl
 record GoesOn (so_far later : OpenEpoch) (lines : List ReadLine) : Type 0 where
   wants : 0 < rows_wanted later
   rest : (more : List ReadLine)
-    → rest_at so_far (lines ++ more) ≡ after_lines (length lines) (rest_at later more)
+      → rest_at so_far (lines ++ more) ≡ after_lines (length lines) (rest_at later more)
 
 goes_on_after : (so_far later : OpenEpoch) (line : ReadLine) (lines : List ReadLine) (step : EpochStep)
     → ((next : OpenEpoch) → 0 < rows_wanted next → open_after (Some next) lines ≡ Some later
-      → GoesOn next later lines)
+    → GoesOn next later lines)
     → 0 < rows_wanted so_far → epoch_step so_far line ≡ step
     → IsGoing step → open_after (still_open step) lines ≡ Some later → GoesOn so_far later (line ∷ lines)
 goes_on_after so_far later line lines (Going next) ih h e wants left =
@@ -139,7 +139,7 @@ goes_on_after so_far later line lines (Going next) ih h e wants left =
     record {
       wants = on.wants;
       rest = λ more. step_at so_far line (lines ++ more) h
-        ∙ ap (λ (s : EpochStep). after_step s (lines ++ more)) e
+          ∙ ap (λ (s : EpochStep). after_step s (lines ++ more)) e
           ∙ ap (after_lines 1) (on.rest more) ∙ one_more_before (length lines) (rest_at later more);
     }
 goes_on_after so_far later line lines (Whole epoch) ih h e wants left = absurd (none-some later left)
@@ -187,7 +187,7 @@ open_where_wanted [] so_far wants h = (so_far, refl)
 open_where_wanted (line ∷ lines) so_far wants h =
     open_by so_far line lines (epoch_step so_far line)
     (λ next. open_where_wanted lines next) (step_wants so_far line)
-      (sym (step_at so_far line lines wants) ∙ h)
+    (sym (step_at so_far line lines wants) ∙ h)
 
 -- one line more
 pub open_none : (begun : Option OpenEpoch) → open_after begun [] ≡ begun
@@ -224,7 +224,7 @@ unit_is Wanted lines = refl
 record Begins (types : List Count) (line : ReadLine) (so_far : OpenEpoch) : Type 0 where
   wants : 0 < rows_wanted so_far
   place : (lines : List ReadLine)
-    → epoch_place types (line ∷ lines) ≡ after_lines 1 (as_unit (rest_at so_far lines))
+      → epoch_place types (line ∷ lines) ≡ after_lines 1 (as_unit (rest_at so_far lines))
 
 begins_when : (n : ℕ) (begun so_far : OpenEpoch) → rows_wanted begun ≡ n
     → still_open (when_wanted n begun) ≡ Some so_far → (0 < rows_wanted so_far) × (begun ≡ so_far)
@@ -234,9 +234,9 @@ begins_when (suc n) begun so_far e h = let same : begun ≡ so_far = same_Some b
 
 begins_going : (types : List Count) (head : ObservationHead) (so_far : OpenEpoch) → still_open
     (whole_or_going (opened types head)) ≡ Some so_far → (0 < rows_wanted so_far)
-      × (opened types head ≡ so_far)
+    × (opened types head ≡ so_far)
 begins_going types head so_far h =
-  begins_when (rows_wanted (opened types head)) (opened types head) so_far refl h
+    begins_when (rows_wanted (opened types head)) (opened types head) so_far refl h
 
 begins_by : (types : List Count) (line : List ℕ) (r : Result Beginning Fault) (so_far : OpenEpoch)
     → opened_by types r ≡ Some so_far
@@ -268,7 +268,7 @@ whole_decides : (types : List Count) (head : ObservationHead) (lines : List Read
     → still_open (whole_or_going (opened types head)) ≡ None
     → after_lines 1 (as_unit (rest_at (opened types head) lines)) ≡ Wanted → ⊥
 whole_decides types head lines h w =
-  whole_when (rows_wanted (opened types head)) (opened types head) lines h w
+    whole_when (rows_wanted (opened types head)) (opened types head) lines h w
 
 decided_by : (types : List Count) (line : List ℕ) (r : Result Beginning Fault) (lines : List ReadLine)
     → opened_by types r ≡ None
@@ -277,7 +277,7 @@ decided_by types line (Err fault) lines h w = not_wrong 0 fault w
 decided_by types line (Ok (EventBegins event)) lines h w = not_here _ _ w
 decided_by types line (Ok (EpochBegins head)) lines h w =
     whole_decides types head lines h
-      (sym (ap (after_lines 1) (unit_is (rest_at (opened types head) lines) lines)) ∙ w)
+    (sym (ap (after_lines 1) (unit_is (rest_at (opened types head) lines) lines)) ∙ w)
 
 decided : (types : List Count) (line : ReadLine) (lines : List ReadLine)
     → opened_at types line ≡ None → epoch_place types (line ∷ lines) ≡ Wanted → ⊥
@@ -301,7 +301,7 @@ wanted_from types line lines (Some so_far) e w =
 open_from : (types : List Count) (line : ReadLine)
     (lines : List ReadLine) (begun : Option OpenEpoch) (later : OpenEpoch) → opened_at types line ≡ begun
     → open_after begun lines ≡ Some later → (so_far : OpenEpoch) × Begins types line so_far
-      × GoesOn so_far later lines
+    × GoesOn so_far later lines
 open_from types line lines None later e h = absurd (none-some later h)
 open_from types line lines (Some so_far) later e h =
     let b = begins types line so_far e in (so_far, b, goes_on so_far later lines b.wants h)
@@ -314,9 +314,11 @@ place_by_open : (types : List Count) (line : ReadLine) (lines : List ReadLine) (
 place_by_open types line lines later h =
     let from = open_from types line lines (opened_at types line) later refl h in
     let b = from.1 in
-    let on = from.2 in
-    (on.wants, λ more. b.place (lines ++ more) ∙ ap (λ (p : Place Epoch). after_lines 1 (as_unit p))
-      (on.rest more))
+    let on = from.2 in (
+      on.wants,
+      λ more. b.place (lines ++ more) ∙ ap (λ (p : Place Epoch). after_lines 1 (as_unit p))
+          (on.rest more),
+    )
 
 wanted_by_open : (types : List Count) (lines : List ReadLine) (later : OpenEpoch)
     → open_with types lines ≡ Some later → epoch_place types lines ≡ Wanted
@@ -325,7 +327,7 @@ wanted_by_open types (line ∷ lines) later h =
     let by = place_by_open types line lines later h in
     ap (λ (ls : List ReadLine). epoch_place types (line ∷ ls)) (sym (append-nil lines)) ∙ by.1 []
     ∙ ap (λ (p : Place Epoch). after_lines 1 (as_unit (after_lines (length lines) p)))
-      (nothing_yet later by.0)
+    (nothing_yet later by.0)
 
 abbrev HasLines : List ReadLine → Type 0
 HasLines [] = ⊥
@@ -338,17 +340,20 @@ pub wanted-open : (types : List Count) (lines : List ReadLine) → IsWantedWhere
 wanted-open types [] = (λ w. inl refl, λ o. refl)
 wanted-open types (line ∷ lines) = (
   λ w. inr (wanted_from types line lines (opened_at types line) refl w),
-  λ o. elim o [ inl e ↦ absurd (some_lines line lines e) | inr s ↦ wanted_by_open types
-    (line ∷ lines) s.0 s.1 ],
+  λ o. elim o [
+    | inl e ↦ absurd (some_lines line lines e)
+    | inr s ↦ wanted_by_open types
+        (line ∷ lines) s.0 s.1
+  ],
 )
 
 -- what a step makes, so many lines after the epoch line
 step_place : (count : ℕ) (step : EpochStep)
     → IsGoing step → after_lines 1 (as_unit (after_lines count (after_step step [])))
-      ≡ place_after (suc count) step
+    ≡ place_after (suc count) step
 step_place count (Going so_far) wants =
     ap (λ (p : Place Epoch). after_lines 1 (as_unit (after_lines count (after_lines 1 p))))
-      (nothing_yet so_far wants)
+    (nothing_yet so_far wants)
 step_place count (Whole epoch) wants = ap (λ m. Here (Observation epoch) m) (omega arith)
 step_place count (Faulty fault) wants = ap (λ m. Wrong m fault) (omega arith)
 
@@ -359,7 +364,7 @@ next-by_open types (first ∷ lines) line so_far h =
     let by = place_by_open types first lines so_far h in
     record {
       place = by.1 (line ∷ [])
-        ∙ ap (λ (p : Place Epoch). after_lines 1 (as_unit (after_lines (length lines) p)))
+          ∙ ap (λ (p : Place Epoch). after_lines 1 (as_unit (after_lines (length lines) p)))
           (step_at so_far line [] by.0)
           ∙ step_place (length lines) (epoch_step so_far line) (step_wants so_far line);
       left_open = open_next lines (opened_at types first) line so_far h;

@@ -30,7 +30,7 @@ digits-append (x ∷ xs) ys h k =
 
 -- the digits of a text with a point are one fewer than its characters
 size_small : (decimals : ℕ) (text : List ℕ) (n : ℕ) → size_of decimals text ≡ Some n
-  → n < 10 ^ (length text - 1)
+    → n < 10 ^ (length text - 1)
 unfolding size_of
 size_small decimals text n h =
     let point = length text - (decimals + 1) in
@@ -45,7 +45,7 @@ size_small decimals text n h =
     let within : length (whole ++ fraction) ≤ length text - 1 =
     omega (arith, length-append whole fraction, length-take point text, length-drop (point + 1) text) in
     let small = digits_value_short
-      (numerals_by_value (λ ds. all_ascii_digits ds ≡ true) tells_all_ascii_digits)
+    (numerals_by_value (λ ds. all_ascii_digits ds ≡ true) tells_all_ascii_digits)
     (whole ++ fraction) (length text - 1) (digits-append whole fraction b.1 a.1) within in
     subst (λ m. m < 10 ^ (length text - 1)) s.1 small
 
@@ -83,13 +83,13 @@ found_within : (decimals : ℕ) (text : List ℕ) (s : Option ℤ) (o : Option �
 found_within decimals text None o e h = absurd (none-some o h)
 found_within decimals text (Some v) o e h = subst
     (λ (p : Option ℤ). IsMissingOrWithin (length text) p) (same_Some (Some v) o h)
-      (decimal_within decimals text v e)
+    (decimal_within decimals text v e)
 
 missing_within : (decimals : ℕ) (text : List ℕ) (o : Option ℤ)
     → missing_or_number decimals text ≡ Some o → IsMissingOrWithin (length text) o
 missing_within decimals [] o h = subst (λ (p : Option ℤ). IsMissingOrWithin 0 p) (same_Some None o h) tt
 missing_within decimals (c ∷ cs) o h =
-  found_within decimals (c ∷ cs) (decimal_number decimals (c ∷ cs)) o refl h
+    found_within decimals (c ∷ cs) (decimal_number decimals (c ∷ cs)) o refl h
 
 within_more : (columns width : ℕ) (o : Option ℤ)
     → columns ≤ width → IsMissingOrWithin columns o → IsMissingOrWithin width o
@@ -97,7 +97,7 @@ within_more columns width None fewer h = tt
 within_more columns width (Some v) fewer h = IsWithin_more columns width v fewer h
 
 pub tested : {A : Type 0} (b : Bool) (o : Option A) (y : A) → cond b o None ≡ Some y
-  → (b ≡ true) × (o ≡ Some y)
+    → (b ≡ true) × (o ≡ Some y)
 tested true o y h = (refl, h)
 tested false o y h = absurd (none-some y h)
 
@@ -106,7 +106,7 @@ number_within : (width decimals : ℕ) (text : List ℕ) (o : Option ℤ)
 unfolding number_of
 number_within width decimals text o h =
     let parts = tested (eqb (length text) width) (missing_or_number decimals (without_first_blanks text)) o h
-      in
+    in
     let same : length text ≡ width = eqb-true (length text) width parts.0 in
     let shorter : length (without_first_blanks text) ≤ width = let e = first_blanks_shorter text in
     omega (arith, e, same) in

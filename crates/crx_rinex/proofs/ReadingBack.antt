@@ -70,7 +70,7 @@ decimal-width : (width decimals : ℕ) (text : List ℕ) (o : Option ℤ)
 unfolding number_of
 decimal-width width decimals text o h = eqb-true
     (length text) width (tested (eqb (length text) width)
-      (missing_or_number decimals (without_first_blanks text)) o h)
+    (missing_or_number decimals (without_first_blanks text)) o h)
 
 pub value-back : (value : Option ℤ) → IsValue value → observation_of (observation_text value) ≡ Some value
 value-back value h = number_of-number_text OBSERVATION_WIDTH OBSERVATION_DECIMALS value
@@ -97,7 +97,7 @@ first-cell line rest k value a b fits same =
     columns-are line (16 * k + 3 + 1) 14 (observation_text value) width (λ p less.
     let place : 16 * k + 3 + 1 - 1 + p ≡ 16 * k + 3 + p = omega arith in
     ap (at line) place ∙ same p ∙ at-append (observation_text value) (a ∷ b ∷ rest) p
-      (omega (arith, less, width))) in
+    (omega (arith, less, width))) in
     let one : 16 * k + 18 - 1 ≡ 16 * k + 3 + (14 + 0) = omega arith in
     let two : 16 * k + 19 - 1 ≡ 16 * k + 3 + (14 + 1) = omega arith in (
       ap observation_of found ∙ value-back value fits,
@@ -108,9 +108,9 @@ first-cell line rest k value a b fits same =
 -- the first cell, and those after it
 cells-are : (values : List (Option ℤ)) (flags : List ℕ) (value : Option ℤ) (a b : ℕ)
     → printed_cells (value ∷ values) (a ∷ b ∷ flags) ≡ observation_text value
-      ++ a ∷ b ∷ printed_cells values flags
+    ++ a ∷ b ∷ printed_cells values flags
 cells-are values flags value a b = append_assoc (observation_text value) (a ∷ b ∷ [])
-  (printed_cells values flags)
+    (printed_cells values flags)
 
 -- the place that is counted from, and those after it
 from-next : {X : Type 0} (n k : ℕ) (f : ℕ → X)
@@ -120,7 +120,7 @@ from-next n k f =
     ap (λ p. f p ∷ each_place n (λ i. f (k + suc i))) here
     ∙ ap (λ xs. f k ∷ xs) (each_place-same n
     (λ i. f (k + suc i)) (λ i. f (k + 1 + i))
-      (λ i. let next : k + suc i ≡ k + 1 + i = omega arith in ap f next))
+    (λ i. let next : k + suc i ≡ k + 1 + i = omega arith in ap f next))
 
 -- places that are counted from 0
 from-none : {X : Type 0} (n : ℕ) (f : ℕ → X) → each_place n f ≡ each_place n (λ j. f (0 + j))
@@ -137,7 +137,7 @@ cells-read line k (value ∷ values) (a ∷ b ∷ flags) same pairs fit =
     let fits : IsValue value = All-head IsValue value values fit in
     let width : length (observation_text value) ≡ 14 = value-width value fits in
     let now : (p : ℕ) → at line (16 * k + 3 + p)
-      ≡ at (observation_text value ++ a ∷ b ∷ printed_cells values flags) p =
+    ≡ at (observation_text value ++ a ∷ b ∷ printed_cells values flags) p =
     λ p. same p ∙ ap (λ t. at t p) (cells-are values flags value a b) in
     let first = first-cell line (printed_cells values flags) k value a b fits now in
     let rest : AreCells line (k + 1) values flags =
@@ -149,7 +149,7 @@ cells-read line k (value ∷ values) (a ∷ b ∷ flags) same pairs fit =
     record {
       values_read = ap all_some (from-next (length values) k (λ j. observation_of (field line j)))
           ∙ ap (λ o. all_some (o ∷ each_place (length values) (λ j. observation_of (field line (k + 1 + j)))))
-            first.0
+          first.0
           ∙ ap (option_and_then (λ (vs : List (Option ℤ)). Some (value ∷ vs))) rest.values_read;
       flags_read = ap concat (from-next (length values) k (flags_at line))
           ∙ ap (λ c. c ∷ character_at line (16 * k + 19)
@@ -160,17 +160,17 @@ cells-read line k (value ∷ values) (a ∷ b ∷ flags) same pairs fit =
 
 length-cells : (values : List (Option ℤ)) (flags : List ℕ)
     → length flags ≡ 2 * length values → All IsValue values
-      → length (printed_cells values flags) ≡ 16 * length values
+    → length (printed_cells values flags) ≡ 16 * length values
 length-cells [] flags pairs fit = refl
 length-cells (value ∷ values) [] pairs fit = absurd (omega (arith, pairs))
 length-cells (value ∷ values) (a ∷ []) pairs fit = absurd (omega (arith, pairs))
 length-cells (value ∷ values) (a ∷ b ∷ flags) pairs fit =
     let width : length (observation_text value) ≡ 14 = value-width value (All-head IsValue value values fit)
-      in
+    in
     let rest : length (printed_cells values flags) ≡ 16 * length values =
     length-cells values flags (omega (arith, pairs)) (All-tail IsValue value values fit) in
     let all : length (printed_cells (value ∷ values) (a ∷ b ∷ flags)) ≡ length (observation_text value)
-      + length
+    + length
     (a ∷ b ∷ printed_cells values flags) = ap (λ (t : List ℕ). length t) (cells-are values flags value a b)
     ∙ length-append (observation_text value) (a ∷ b ∷ printed_cells values flags) in
     omega (arith, width, rest, all)
@@ -180,7 +180,7 @@ length-cells (value ∷ values) (a ∷ b ∷ flags) pairs fit =
 pub name-length : (row : Row) → IsSoundRow row → length row.name ≡ 3
 name-length row h = eqb-true (length row.name) 3
     ((and_parts (length row.name == 3) (is_system (character_at row.name 1) && has_number row.name)
-      h.named).0)
+    h.named).0)
 
 -- a row's columns
 pub length-row : (row : Row) → IsSoundRow row
@@ -197,20 +197,20 @@ after-text : (line text : List ℕ) (n : ℕ)
     → length text ≡ n → ((p : ℕ) → at line p ≡ at text p) → list_all is_blank (drop n line) ≡ true
 after-text line text n e same =
     list_all-from_at is_blank (drop n line)
-      (λ k. ap is_blank (at-drop n line k ∙ same (n + k) ∙ past text n k e))
+    (λ k. ap is_blank (at-drop n line k ∙ same (n + k) ∙ past text n k e))
   where
     past : (text : List ℕ) (n k : ℕ) → length text ≡ n → at text (n + k) ≡ 32
     past text n k e = ap (λ t. at t (n + k)) (sym (append-nil text)) ∙ at-append_past text [] n k e
 
 row-chosen : (m : ℕ) (line name flags : List ℕ) (values : List (Option ℤ))
-  → list_all is_blank (drop (16 * m + 3) line)
+    → list_all is_blank (drop (16 * m + 3) line)
     ≡ true → flags_in m line ≡ flags → list_all is_kept flags ≡ true → columns line 1 3 ≡ name
     → row_with m line (Some values) ≡ Ok (record { name = name; values = values; flags = flags })
 row-chosen m line name flags values blank found kept named = rw (blank, found, kept, named) refl
 
 row-of_text : (types : List Count) (row : Row) (line : List ℕ) → IsSoundRow row → HasItsTypes types row
     → ((p : ℕ) → at line p ≡ at (row.name ++ printed_cells row.values row.flags) p)
-      → row_of types line ≡ Ok row
+    → row_of types line ≡ Ok row
 row-of_text types row line h typed same =
     let three : length row.name ≡ 3 = name-length row h in
     let named : columns line 1 3 ≡ row.name = columns-are line 1 3 row.name three (λ p less.
@@ -263,10 +263,10 @@ clock-width clock h = decimal-width CLOCK_WIDTH CLOCK_DECIMALS (clock_text clock
 
 -- an epoch line's columns
 pub length-head : (head : ObservationHead) → IsObservationHead head
-  → length (head.head ++ clock_text head.clock) ≡ 56
+    → length (head.head ++ clock_text head.clock) ≡ 56
 length-head head h =
     let all : length (head.head ++ clock_text head.clock) ≡ length head.head + length (clock_text head.clock)
-      =
+    =
     length-append head.head (clock_text head.clock) in
     let wide : length head.head ≡ 41 = h.width in
     let reads : length (clock_text head.clock) ≡ 15 = clock-width head.clock h.ranged in
@@ -318,7 +318,7 @@ row-begins row h =
     let three : length row.name ≡ 3 = name-length row h in
     let rest =
     (and_parts (length row.name == 3) (is_system (character_at row.name 1) && has_number row.name) h.named).1
-      in
+    in
     let system : is_system (character_at row.name 1) ≡ true =
     (and_parts (is_system (character_at row.name 1)) (has_number row.name) rest).0 in
     ap (λ c. c == 62) (at-without_end_blanks (row.name ++ printed_cells row.values row.flags) 0
@@ -331,7 +331,7 @@ row-new : (rows : List Row) (row : Row) (rest : List Row)
 row-new [] row rest h = refl
 row-new (r ∷ rows) row rest h =
     let parts = and_parts (not (has_satellite r.name (rows ++ row ∷ rest)))
-      (are_different (rows ++ row ∷ rest)) h in
+    (are_different (rows ++ row ∷ rest)) h in
     let none : has_satellite r.name (rows ++ row ∷ rest) ≡ false =
     not-true (has_satellite r.name (rows ++ row ∷ rest)) parts.0 in
     let apart = or_parts (has_satellite r.name rows) (has_satellite r.name (row ∷ rest))
@@ -351,10 +351,10 @@ next-read so_far row h typed new =
 row-then : (so_far : OpenEpoch) (row : Row) (count : ℕ) (line : List ℕ) (lines : List ReadLine)
     → next_row so_far line ≡ Ok row
     → rows_at so_far (suc count) (Content line ∷ lines)
-      ≡ after_lines 1 (rows_at (with_next_row so_far row) count lines)
+    ≡ after_lines 1 (rows_at (with_next_row so_far row) count lines)
 row-then so_far row count line lines e = ap (λ r.
     then_place (one_line r) (Content line ∷ lines)
-      (λ next rest. rows_at (with_next_row so_far next) count rest)) e
+    (λ next rest. rows_at (with_next_row so_far next) count rest)) e
 
 -- the epoch with more rows
 abbrev with_rows : OpenEpoch → List Row → OpenEpoch
@@ -387,20 +387,20 @@ epoch-begun : (types : List Count) (line : List ℕ) (head : ObservationHead) (l
     → epoch_place types (Content line ∷ lines) ≡ after_lines 1
     (then_place (rest_at (opened types head) lines) lines (λ epoch rest. Here (Observation epoch) 0))
 epoch-begun types line head lines e =
-  ap (λ r. then_place (one_line r) (Content line ∷ lines) (unit_begun types)) e
+    ap (λ r. then_place (one_line r) (Content line ∷ lines) (unit_begun types)) e
 
 pub epoch-back : (types : List Count) (epoch : Epoch) (lines : List ReadLine) → IsWholeEpoch types epoch
     → epoch_place types (map Content (printed_epoch epoch) ++ lines) ≡ Here (Observation epoch)
-      (length epoch.rows + 1)
+    (length epoch.rows + 1)
 epoch-back types epoch lines h =
     let head : ObservationHead =
-      record { head = epoch.head; count = satellites_of epoch.head; clock = epoch.clock } in
+    record { head = epoch.head; count = satellites_of epoch.head; clock = epoch.clock } in
     let line : List ℕ = printed_head epoch.head epoch.clock in
     let rest : List ReadLine = map Content (map printed_row epoch.rows) ++ lines in
     let begins : beginning_of (printed_head epoch.head epoch.clock) ≡ Ok (EpochBegins head) =
     ap (begun_by (printed_head epoch.head epoch.clock)) (head-back head h.sound.head_sound) in
     let wanted : rows_wanted (opened types head) ≡ length epoch.rows =
-      (let full = h.full in omega (arith, full)) in
+    (let full = h.full in omega (arith, full)) in
     let read : rest_at (opened types head) (map Content (map printed_row epoch.rows) ++ lines)
     ≡ Here epoch (length epoch.rows) =
     ap (λ n. rows_at (opened types head) n (map Content (map printed_row epoch.rows) ++ lines)) wanted

@@ -24,7 +24,7 @@ use Rattle.crx_header.proofs.Apart.{among-map, apart-push}
 -- an epoch that isn't full stays sound with a new satellite's row
 pub sound-with_row : (epoch : Epoch) (row : Row) → IsSoundEpoch epoch → IsSoundRow row
     → is_full_epoch epoch ≡ false → has_satellite row.name epoch.rows ≡ false
-      → IsSoundEpoch (with_row epoch row)
+    → IsSoundEpoch (with_row epoch row)
 sound-with_row epoch row h sound room new =
     let full : length epoch.rows ≡ satellites_of epoch.head
     → ⊥ = eqb-false (length epoch.rows) (satellites_of epoch.head) room in
@@ -37,7 +37,7 @@ sound-with_row epoch row h sound room new =
     }
 
 few : (b : Bool) (o : Option ℕ)
-  → unwrap_or (cond b (option_and_then count_within_limit o) None) 0 ≤ SATELLITES_LIMIT
+    → unwrap_or (cond b (option_and_then count_within_limit o) None) 0 ≤ SATELLITES_LIMIT
 few true None = omega arith
 few true (Some n) =
     elim (cases_Bool (leb n SATELLITES_LIMIT)) [
@@ -49,7 +49,7 @@ few false o = omega arith
 -- columns announce no more satellites than the limit
 pub satellites_few : (head : List ℕ) → satellites_of head ≤ SATELLITES_LIMIT
 satellites_few head = few
-  (begins_epoch head && is_observation_flag (character_at head 32) && list_all is_kept head)
+    (begins_epoch head && is_observation_flag (character_at head 32) && list_all is_kept head)
     (number_in (columns head 33 3))
 
 -- an epoch that isn't full has fewer rows than the limit

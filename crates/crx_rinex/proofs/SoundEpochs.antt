@@ -71,7 +71,7 @@ record AreValues (count : ℕ) (values : List (Option ℤ)) : Type 0 where
 
 values_sound : (xs : List (Option (Option ℤ))) (values : List (Option ℤ)) → AllByRecursion
     (λ (o : Option (Option ℤ)). IfSome o IsValue) xs → all_some xs ≡ Some values
-      → AreValues (length xs) values
+    → AreValues (length xs) values
 values_sound [] values h e = subst
     (AreValues 0) (same_Some [] values e) (record { long = refl; ranged = All-nil IsValue })
 values_sound (None ∷ xs) values h e = absurd (none-some values e)
@@ -89,7 +89,7 @@ flags_long line (suc m) =
     let one : suc m ≡ m + 1 = omega arith in
     let more : length (flags_in (m + 1) line) ≡ length (flags_in m line) + 2 =
     ap (λ (fs : List ℕ). length fs) (flags_in_more line m) ∙ length-append (flags_in m line) (flags_at line m)
-      in
+    in
     let same = ap (λ n. length (flags_in n line)) one in
     omega (arith, ih, more, same)
 
@@ -109,10 +109,10 @@ typed types line m counts h =
     let parts = tested (has_number line) (count_of types (character_at line 1)) m h in
     let system : is_system (character_at line 1) ≡ true = subst (λ (o : Option ℕ).
     OnSome o (is_system (character_at line 1) ≡ true)) parts.1 (system_of types (character_at line 1) counts)
-      in
+    in
     record {
       named = identifier_columns line
-        ∙ and_from (is_system (character_at line 1)) (has_number line) system parts.0;
+          ∙ and_from (is_system (character_at line 1)) (has_number line) system parts.0;
       counted = subst (λ (o : Option ℕ). IfSome o IsAllowedCount) parts.1
           (allowed_of types (character_at line 1) counts);
     }
@@ -121,7 +121,7 @@ flags_case : (types : List Count) (line : List ℕ) (m : ℕ) (values : List (Op
     → types_of_satellite types line ≡ Some m → IsTyped line m → AreValues m values
     → (b : Bool) → list_all is_kept (flags_in m line) ≡ b → IsSoundRead types (cond
     (not b) (Err BadFlags)
-      (Ok (record { name = columns line 1 3; values = values; flags = flags_in m line })))
+    (Ok (record { name = columns line 1 3; values = values; flags = flags_in m line })))
 flags_case types line m values e t v false k = tt
 flags_case types line m values e t v true k =
     let pairs = flags_long line m in
@@ -138,7 +138,7 @@ flags_case types line m values e t v true k =
 
 values_case : (types : List Count) (line : List ℕ) (m : ℕ) → types_of_satellite types line ≡ Some m
     → IsTyped line m → (o : Option (List (Option ℤ))) → values_in m line ≡ o
-      → IsSoundRead types (row_with m line o)
+    → IsSoundRead types (row_with m line o)
 values_case types line m e t None h = tt
 values_case types line m e t (Some values) h =
     let f : ℕ → Option (Option ℤ) = λ k. observation_of (field line k) in
@@ -154,13 +154,13 @@ values_case types line m e t (Some values) h =
 
 types_case : (types : List Count) (line : List ℕ)
     → AreCounts types → (o : Option ℕ) → types_of_satellite types line ≡ o
-      → IsSoundRead types (row_of_types line o)
+    → IsSoundRead types (row_of_types line o)
 types_case types line counts None e = tt
 types_case types line counts (Some m) e =
     values_case types line m e (typed types line m counts e) (values_in m line) refl
 
 pub sound-row_of : (types : List Count) (line : List ℕ) → AreCounts types
-  → IsSoundRead types (row_of types line)
+    → IsSoundRead types (row_of types line)
 sound-row_of types line counts = types_case types line counts (types_of_satellite types line) refl
 
 -- ---- an epoch line
@@ -169,7 +169,7 @@ abbrev pub IsSoundHead : Result HeadLine Fault → Type 0
 IsSoundHead (Err fault) = ⊤
 IsSoundHead (Ok (EventHead flag count)) = ⊤
 IsSoundHead (Ok (EpochHead head count clock)) =
-  IsObservationHead (record { head = head; count = count; clock = clock })
+    IsObservationHead (record { head = head; count = count; clock = clock })
 
 -- the clock of an observation epoch's line, or its fault
 abbrev pub with_clock : List ℕ → ℕ → Option (Option ℤ) → Result HeadLine Fault
@@ -177,19 +177,19 @@ with_clock head count found = found or_else Err BadClock with λ clock. Ok (Epoc
 
 clock_case : (line : List ℕ) (count : ℕ) → epoch_count (columns line 1 41) ≡ Some count
     → (o : Option (Option ℤ)) → clock_of (columns line 42 15) ≡ o
-      → IsSoundHead (with_clock (columns line 1 41) count o)
+    → IsSoundHead (with_clock (columns line 1 41) count o)
 clock_case line count e None c = tt
 clock_case line count e (Some clock) c =
     record {
       width = length-columns line 1 41;
       counted = e;
       within = subst (λ (o : Option ℕ). unwrap_or o 0 ≤ SATELLITES_LIMIT) e
-        (satellites_few (columns line 1 41));
+          (satellites_few (columns line 1 41));
       ranged = clock_fits (columns line 42 15) clock c;
     }
 
 count_case : (line : List ℕ) (o : Option ℕ) → epoch_count (columns line 1 41) ≡ o
-  → IsSoundHead (epoch_head line o)
+    → IsSoundHead (epoch_head line o)
 count_case line None e = tt
 count_case line (Some count) e =
     elim (list_all is_blank (drop 56 line)) as (λ b.
@@ -208,10 +208,10 @@ sound-head_of line =
     elim (begins_epoch line) as (λ b.
     IsSoundHead (cond (not b) (Err NotAnEpoch) (cond (is_event_flag (character_at line 32))
     (event_head (character_at line 32) (records_in line))
-      (epoch_head line (epoch_count (columns line 1 41)))))) [
+    (epoch_head line (epoch_count (columns line 1 41)))))) [
       | true ↦ elim (is_event_flag (character_at line 32)) as (λ b. IsSoundHead (cond b
           (event_head (character_at line 32) (records_in line))
-            (epoch_head line (epoch_count (columns line 1 41))))) [
+          (epoch_head line (epoch_count (columns line 1 41))))) [
             | true ↦ event_case (character_at line 32) (records_in line)
             | false ↦ count_case line (epoch_count (columns line 1 41)) refl
           ]
@@ -239,11 +239,11 @@ sound-opened types head h = record {
 abbrev pub IsNext : OpenEpoch → Result Row Fault → Type 0
 IsNext so_far (Err fault) = ⊤
 IsNext so_far (Ok row) = IsSoundRow row × HasItsTypes so_far.types row
-  × (has_satellite row.name so_far.rows ≡ false)
+    × (has_satellite row.name so_far.rows ≡ false)
 
 new_case : (so_far : OpenEpoch) (row : Row) → IsSoundRow row → HasItsTypes so_far.types row
     → (b : Bool) → has_satellite row.name so_far.rows ≡ b
-      → IsNext so_far (cond b (Err RepeatedSatellite) (Ok row))
+    → IsNext so_far (cond b (Err RepeatedSatellite) (Ok row))
 new_case so_far row s t true h = tt
 new_case so_far row s t false h = (s, t, h)
 
@@ -253,7 +253,7 @@ new_row so_far (Err fault) h = tt
 new_row so_far (Ok row) h = new_case so_far row h.0 h.1 (has_satellite row.name so_far.rows) refl
 
 pub next_sound : (so_far : OpenEpoch) (line : List ℕ) → AreCounts so_far.types
-  → IsNext so_far (next_row so_far line)
+    → IsNext so_far (next_row so_far line)
 next_sound so_far line counts =
     elim (begins_epoch line) as (λ b.
     IsNext so_far (cond b (Err Truncated) (row_if_new so_far.rows (row_of so_far.types line)))) [
@@ -276,7 +276,7 @@ whole : (so_far : OpenEpoch) → IsSoundSoFar so_far
 whole so_far h full =
     let head = h.head in
     let same : satellites_of so_far.head.head ≡ so_far.head.count =
-      ap (λ (o : Option ℕ). unwrap_or o 0) head.counted in
+    ap (λ (o : Option ℕ). unwrap_or o 0) head.counted in
     record {
       sound = record {
         head_sound = record {
@@ -296,7 +296,7 @@ whole so_far h full =
 -- the epoch that is read, and how many lines it took
 abbrev AreGood : List Count → ℕ → ℕ → Place Epoch → Type 0
 AreGood types total count (Here epoch n) = IsWholeEpoch types epoch × (n ≡ count)
-  × (length epoch.rows ≡ total)
+    × (length epoch.rows ≡ total)
 AreGood types total count (Wrong k fault) = ⊤
 AreGood types total count Wanted = ⊤
 
@@ -312,17 +312,17 @@ good_row : (count : ℕ) (so_far : OpenEpoch) (line : List ℕ) (lines : List Re
     → (r : Result Row Fault) → IsNext so_far r
     → AreGood so_far.types so_far.head.count (suc count)
     (then_place (one_line r) (Content line ∷ lines)
-      (λ row rest. rows_at (with_next_row so_far row) count rest))
+    (λ row rest. rows_at (with_next_row so_far row) count rest))
 good_row count so_far line lines ih (Err fault) n = tt
 good_row count so_far line lines ih (Ok row) n =
     good_after so_far.types so_far.head.count count (rows_at (with_next_row so_far row) count lines)
-      (ih row n)
+    (ih row n)
 
 good_rows : (count : ℕ) (so_far : OpenEpoch) (lines : List ReadLine)
     → AreCounts so_far.types → IsSoundSoFar so_far → length so_far.rows + count ≡ so_far.head.count
     → AreGood so_far.types so_far.head.count count (rows_at so_far count lines)
 good_rows zero so_far lines counts h sum = let full : length so_far.rows ≡ so_far.head.count =
-  omega (arith, sum) in
+    omega (arith, sum) in
     (whole so_far h full, refl, full)
 good_rows (suc count) so_far [] counts h sum = tt
 good_rows (suc count) so_far (Overlong ∷ lines) counts h sum = tt
@@ -339,7 +339,7 @@ IsReadWell types (Here (Observation epoch) n) = IsWholeEpoch types epoch × (n �
 IsReadWell types _ = ⊤
 
 good_unit : (types : List Count) (count : ℕ) (p : Place Epoch) (lines : List ReadLine)
-  → AreGood types count count p
+    → AreGood types count count p
     → IsReadWell types (after_lines 1 (then_place p lines (λ epoch rest. Here (Observation epoch) 0)))
 good_unit types count (Here epoch n) lines h = let e = h.1 in let long = h.2 in (h.0, omega (arith, e, long))
 good_unit types count (Wrong j fault) lines h = tt
@@ -352,7 +352,7 @@ IsSoundBeginning (Ok (EventBegins line)) = ⊤
 IsSoundBeginning (Ok (EpochBegins head)) = IsObservationHead head
 
 pub begun_sound : (line : List ℕ) (r : Result HeadLine Fault) → IsSoundHead r
-  → IsSoundBeginning (begun_by line r)
+    → IsSoundBeginning (begun_by line r)
 begun_sound line (Err fault) h = tt
 begun_sound line (Ok (EventHead flag count)) h = tt
 begun_sound line (Ok (EpochHead head count clock)) h = h
@@ -366,17 +366,17 @@ good_begun types line lines (Ok (EpochBegins head)) counts h =
     good_unit types head.count (rest_at (opened types head) lines) lines
     (let all : rows_wanted (opened types head) ≡ head.count = omega arith in
     subst (λ n. AreGood types head.count n
-      (rows_at (opened types head) (rows_wanted (opened types head)) lines)) all
+    (rows_at (opened types head) (rows_wanted (opened types head)) lines)) all
     (good_rows (rows_wanted (opened types head))
     (opened types head) lines counts (sound-opened types head h) (omega arith)))
 
 read_well : (types : List Count) (lines : List ReadLine) → AreCounts types
-  → IsReadWell types (epoch_place types lines)
+    → IsReadWell types (epoch_place types lines)
 read_well types [] counts = tt
 read_well types (Overlong ∷ lines) counts = tt
 read_well types (Content line ∷ lines) counts =
     good_begun types line lines (beginning_of line) counts
-      (begun_sound line (head_of line) (sound-head_of line))
+    (begun_sound line (head_of line) (sound-head_of line))
 
 pub sound-epoch_place : (types : List Count) (lines : List ReadLine) (epoch : Epoch) (count : ℕ)
     → AreCounts types → epoch_place types lines ≡ Here (Observation epoch) count

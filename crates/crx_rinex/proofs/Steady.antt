@@ -26,7 +26,7 @@ one_remains count (Err fault) = (omega arith, refl)
 
 -- the first of some lines
 pub steady-first_line : {X : Type 0} (read : List ℕ → Result X Fault)
-  → IsSteady (λ lines. first_line lines read)
+    → IsSteady (λ lines. first_line lines read)
 steady-first_line read [] more = first_decided read more
 steady-first_line read (Overlong ∷ lines) more = (omega arith, refl)
 steady-first_line read (Content line ∷ lines) more = one_remains (length lines) (read line)
@@ -42,18 +42,18 @@ remains_after : {X : Type 0} (count lines : ℕ) (now later : Place X)
     → Remains count now later → Remains (lines + count) (after_lines lines now) (after_lines lines later)
 remains_after count lines (Here x n) later h = (let e = h.0 in omega (arith, e), ap (after_lines lines) h.1)
 remains_after count lines (Wrong k fault) later h =
-  (let e = h.0 in omega (arith, e), ap (after_lines lines) h.1)
+    (let e = h.0 in omega (arith, e), ap (after_lines lines) h.1)
 remains_after count lines Wanted later h = decided_after count lines later h
 
 decided_at : {X : Type 0} (count lines : ℕ) (p : Place X) → count < lines
-  → IsDecidedAfter count (after_lines lines p)
+    → IsDecidedAfter count (after_lines lines p)
 decided_at count lines (Here x n) h = omega (arith, h)
 decided_at count lines (Wrong k fault) h = omega (arith, h)
 decided_at count lines Wanted h = tt
 
 then_remains : {X Y : Type 0} (next : X
     → List ReadLine → Place Y) (steady : (x : X) → IsSteady (next x)) (lines more : List ReadLine)
-      (now later : Place X)
+    (now later : Place X)
     → Remains (length lines) now later
     → Remains (length lines) (then_place now lines next) (then_place later (lines ++ more) next)
 then_remains next steady lines more (Here x n) later h =

@@ -41,7 +41,7 @@ module _ (first second both : Device) (joined : (xs ys : List ℕ)
 -- the lines of what was read come first in every input that begins with what was given
 pub first-lines : (input : Input) (now : ReaderState) (lines : List InputLine)
     (h : HasRead input.gave input.at_end input.start input.counted now lines)
-      → (now.phase ≡ Open) ⊎ (now.phase ≡ Ended)
+    → (now.phase ≡ Open) ⊎ (now.phase ≡ Ended)
     → (rest : List ℕ) → (input.at_end → rest ≡ [])
     → (more : List InputLine) × (lines_of (h.given ++ rest) ≡ lines ++ more)
 first-lines input now lines h (inl e) rest none =
@@ -61,14 +61,14 @@ pub all-lines : (input : Input) (now : ReaderState) (lines : List InputLine)
 all-lines input now lines h e rest none =
     let o = HasRead-ended input.gave input.at_end input.start input.counted now lines h e in
     ap (λ (x : List ℕ). lines_of (h.given ++ x)) (none o.reported) ∙ ap lines_of (append-nil h.given)
-      ∙ sym o.all
+    ∙ sym o.all
 
 status-good : (course : Course)
     → course.fault ≡ None → status_after course.warnings course.fault ≡ good_status (are_some course.warnings)
 status-good course is = ap (status_after course.warnings) is
 
 status-bad : (course : Course) (at : At) → course.fault ≡ Some at
-  → status_after course.warnings course.fault ≡ 1
+    → status_after course.warnings course.fault ≡ 1
 status-bad course at is = ap (status_after course.warnings) is
 
 -- ---- a whole run
@@ -85,7 +85,7 @@ module _ (filter : Filter) (lawful : IsLawful filter)
   -- a course with a fault that was written, flushed and reported
   whole-bad : (course : Course) (at : At) (status : ℕ) (fault : Option At)
       → course.fault ≡ Some at → TookAll writer1 course.output
-        → TookAll messages1 (notices_text course.warnings)
+      → TookAll messages1 (notices_text course.warnings)
       → writer2.took [] → TookAll messages2 (error_text (Some at))
       → fault ≡ Some at → status ≡ 1 → IsResult (result_of_course course) writer messages status fault
   whole-bad course at status fault bad wrote warned flushed reported is one = record {
@@ -145,7 +145,7 @@ module _ (filter : Filter) (lawful : IsLawful filter)
   ends-whole : (can : Option (List At)) (number : ℕ)
       (before course all : Course) (halt : Halt) (last : ℕ) (warned : Bool) (status : ℕ) (fault : Option At)
       → ((at : At) → course.fault ≡ Some at → all ≡ course)
-        → EndsAt can number writer1 messages1 before course halt
+      → EndsAt can number writer1 messages1 before course halt
       → Finishes writer2 messages2 last warned (Some halt) status fault
       → NoneFailed writer.before.failures writer.after.failures
       → NoneFailed messages.before.failures messages.after.failures
@@ -187,7 +187,7 @@ module _ (filter : Filter) (lawful : IsLawful filter)
       → IsStopped f input.start input.counted given lines → length (given ++ rest) ≤ INPUT_LIMIT
       → NoneFailed input.start.failures input.counted.failures → ⊥
   stopped-none InputTooLong given lines rest s within none =
-    omega (arith, s.0, within, length-append given rest)
+      omega (arith, s.0, within, length-append given rest)
   stopped-none ReadFailed given lines rest s within none =
       omega (arith, ap (λ (t : Tally). t.failures) s.2, none.0, none.1)
   stopped-none _ given lines rest s within none = s
@@ -213,7 +213,7 @@ module _ (filter : Filter) (lawful : IsLawful filter)
   -- a fault of the reader is the run's
   reader-fault : (at : At) (stop : Halt) (last : ℕ) (warned : Bool) (status : ℕ) (fault : Option At)
       → stop ≡ halt.Fault at → Finishes writer2 messages2 last warned (Some stop) status fault
-        → fault ≡ Some at
+      → fault ≡ Some at
   reader-fault at stop last warned status fault is finished =
       let f : Finishes writer2 messages2 last warned (Some (halt.Fault at)) status fault =
       subst (λ (h : Halt). Finishes writer2 messages2 last warned (Some h) status fault) is finished in
@@ -229,33 +229,33 @@ module _ (filter : Filter) (lawful : IsLawful filter)
 
   pub runs-as : (has_ended : List InputLine
       → Type 0) (now : ReaderState) (last : ℕ) (warned : Bool) (halt : Option Halt) (status : ℕ)
-        (fault : Option At)
+      (fault : Option At)
       → WorkEnds filter has_ended input writer1 messages1 now last warned halt
       → Finishes writer2 messages2 last warned halt status fault
       → (given : List ℕ) × input.gave given
-        × RunsAs (result_by filter) filter input given writer messages status fault
+      × RunsAs (result_by filter) filter input given writer messages status fault
       × (fault ≡ None → has_ended (lines_of given))
   runs-as has_ended now last warned None status None done finished =
       let h = done.read in
       let over = HasRead-ended input.gave input.at_end input.start input.counted now done.lines h done.ended
-        in
+      in
       let course = filter.whole done.lines in
       let whole = whole-good course status None done.good done.wrote done.reported finished.0.0 finished.1.0
-        refl
+      refl
       (finished.2 ∙ ap good_status done.flag) in (
         h.given,
         h.lead,
         record {
           whole = λ rn wn mn memory (rest : List ℕ) none within.
               subst (λ (ls : List InputLine). IsResult (result_of_course (filter.whole ls)) writer messages
-                status None)
+              status None)
               (sym (all-lines input now done.lines h done.ended rest none)) whole;
           ended = λ at is. absurd (no-fault at None is refl);
           asked = inr (ap (λ (t : Tally). t.ends) over.counts);
           read = λ other. ap (λ (t : Tally). t.failures) over.counts;
           front = well-front filter lawful input writer1 writer2 writer messages1 messages2 messages
               wsame wstart wend wjoined wflushed msame mstart mend mjoined has_ended now last warned done
-                finished.0.0;
+              finished.0.0;
           flushed = λ e. wflushed finished.0.2;
           good = λ e. (
             over.reported,
@@ -272,7 +272,7 @@ module _ (filter : Filter) (lawful : IsLawful filter)
   runs-as has_ended now last warned None status (Some at) done finished =
       let h = done.read in
       let over = HasRead-ended input.gave input.at_end input.start input.counted now done.lines h done.ended
-        in (
+      in (
         h.given,
         h.lead,
         record {
@@ -291,12 +291,12 @@ module _ (filter : Filter) (lawful : IsLawful filter)
           flushed = λ e. absurd (no-fault at (Some at) refl e);
           ended = flush-stands filter lawful input writer1 writer2 writer messages1 messages2 messages wsame
               wstart wend wjoined wflushed msame mstart mend mjoined has_ended now last warned status at done
-                finished;
+              finished;
           asked = inr (ap (λ (t : Tally). t.ends) over.counts);
           read = λ other. ap (λ (t : Tally). t.failures) over.counts;
           front = well-front filter lawful input writer1 writer2 writer messages1 messages2 messages
               wsame wstart wend wjoined wflushed msame mstart mend mjoined has_ended now last warned done
-                finished.0.0;
+              finished.0.0;
         },
         (λ e. absurd (no-fault at (Some at) refl e)),
       )
@@ -304,7 +304,7 @@ module _ (filter : Filter) (lawful : IsLawful filter)
       let h = s.stopped.read in
       let stopped =
       HasRead-stopped input.gave input.at_end input.start input.counted now s.lines h s.at s.stopped.stopped
-        in (
+      in (
         h.given,
         h.lead,
         record {
@@ -314,14 +314,14 @@ module _ (filter : Filter) (lawful : IsLawful filter)
           flushed = λ e. absurd (never-good halt last warned status fault finished e);
           ended = (reader-stands filter lawful input writer1 writer2 writer messages1 messages2 messages wsame
               wstart wend wjoined wflushed msame mstart mend mjoined now last warned halt status fault s
-                finished).0;
+              finished).0;
           asked = asked-stopped input s.at.fault h.given s.lines stopped.0;
           read = λ other. reader-none s.at.fault h.given s.lines stopped.0 (λ f. other (subst
               (FaultIs ReadFailed) (sym (reader-fault s.at halt last warned status fault s.halt_is finished))
-                f));
+              f));
           front = (reader-stands filter lawful input writer1 writer2 writer messages1 messages2 messages wsame
               wstart wend wjoined wflushed msame mstart mend mjoined now last warned halt status fault s
-                finished).1;
+              finished).1;
         },
         (λ e. absurd (never-good halt last warned status fault finished e)),
       )
@@ -334,7 +334,7 @@ module _ (filter : Filter) (lawful : IsLawful filter)
           whole = λ rn wn mn memory (rest : List ℕ) none within.
               let first = first-lines input now next h s.ends.going rest none in
               ends-whole (filter.memory_after s.lines s.ends.line) (length s.lines + 1)
-                (filter.so_far s.lines)
+              (filter.so_far s.lines)
               (filter.so_far next) (filter.whole (lines_of (h.given ++ rest))) halt last warned status fault
               (λ (at : At) bad. ap filter.whole first.1
               ∙ lawful.decided next first.0 at bad) s.ends.ends finished wn mn memory;
@@ -342,12 +342,12 @@ module _ (filter : Filter) (lawful : IsLawful filter)
           flushed = λ e. absurd (never-good halt last warned status fault finished e);
           ended = (line-stands filter lawful input writer1 writer2 writer messages1 messages2 messages wsame
               wstart wend wjoined wflushed msame mstart mend mjoined now last warned halt status fault s
-                finished).0;
+              finished).0;
           asked = asked-once input now next h s.ends.going;
           read = λ other. none-failed input now next h s.ends.going;
           front = (line-stands filter lawful input writer1 writer2 writer messages1 messages2 messages wsame
               wstart wend wjoined wflushed msame mstart mend mjoined now last warned halt status fault s
-                finished).1;
+              finished).1;
         },
         (λ e. absurd (never-good halt last warned status fault finished e)),
       )
@@ -365,12 +365,12 @@ module _ (filter : Filter) (lawful : IsLawful filter)
           flushed = λ e. absurd (never-good halt last warned status fault finished e);
           ended = (end-stands filter lawful input writer1 writer2 writer messages1 messages2 messages wsame
               wstart wend wjoined wflushed msame mstart mend mjoined now last warned halt status fault s
-                finished).0;
+              finished).0;
           asked = asked-once input now s.lines h (inr s.ended);
           read = λ other. none-failed input now s.lines h (inr s.ended);
           front = (end-stands filter lawful input writer1 writer2 writer messages1 messages2 messages wsame
               wstart wend wjoined wflushed msame mstart mend mjoined now last warned halt status fault s
-                finished).1;
+              finished).1;
         },
         (λ e. absurd (never-good halt last warned status fault finished e)),
       )
@@ -384,12 +384,12 @@ module _ (filter : Filter) (lawful : IsLawful filter)
       flushed = λ e. absurd (never-good halt last warned status fault finished e);
       ended = (start-stands filter lawful input writer1 writer2 writer messages1 messages2 messages
           wsame wstart wend wjoined wflushed msame mstart mend mjoined last warned halt status fault s
-            finished).0;
+          finished).0;
       asked = inl (ap (λ (t : Tally). t.ends) s.counts);
       read = λ other. ap (λ (t : Tally). t.failures) s.counts;
       front = (start-stands filter lawful input writer1 writer2 writer messages1 messages2 messages
           wsame wstart wend wjoined wflushed msame mstart mend mjoined last warned halt status fault s
-            finished).1;
+          finished).1;
     },
     (λ e. absurd (never-good halt last warned status fault finished e)),
   )
@@ -401,11 +401,11 @@ module _ (filter : Filter) (lawful : IsLawful filter)
       → last ≡ 0 → input.gave [] → input.counted ≡ input.start
       → TookAll writer1 [] → TookAll messages1 [] → Finishes writer2 messages2 last warned stop status fault
       → (given : List ℕ) × input.gave given
-        × RunsAs (result_by filter) filter input given writer messages status fault
+      × RunsAs (result_by filter) filter input given writer messages status fault
       × (fault ≡ None → has_ended (lines_of given))
   runs-nothing has_ended last warned stop status fault is none gave counts wrote reported finished =
       runs-as has_ended (record { rest = []; passed = 0; number = 0; phase = Open }) last warned stop status
-        fault
+      fault
       (subst (λ (h : Option Halt). WorkEnds filter has_ended input writer1 messages1
       (record { rest = []; passed = 0; number = 0; phase = Open }) last warned h) (sym is)
       (inr (inr (inr (record {

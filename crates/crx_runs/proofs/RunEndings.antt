@@ -33,7 +33,7 @@ use Rattle.crx_runs.proofs.Salvaged.{first-whole, first-after-turn, first-before
 -- a part that was taken, and nothing after it
 pub part-still : (first second both : Device)
     (same : second.before ≡ first.after) (start : both.before ≡ first.before)
-      (end : both.after ≡ second.after)
+    (end : both.after ≡ second.after)
     (joined : (xs ys : List ℕ) → first.took xs → second.took ys → both.took (xs ++ ys))
     (xs all : List ℕ) → IsPart first xs all → TookAll second [] → IsPart both xs all
 part-still first second both same start end joined xs all a b = record {
@@ -68,7 +68,7 @@ module _ (filter : Filter) (lawful : IsLawful filter)
   -- ---- devices
 
   written : (text : List ℕ) → TookAll writer1 text → IsFlushed writer2 ⊎ FlushFailed writer2
-    → IsWritten writer text
+      → IsWritten writer text
   written text a (inl b) = (
     subst writer.took (append-nil text) (wjoined text [] a.0 b.0),
     inl (wend ∙ b.1 ∙ ap with_flush (wsame ∙ a.1 ∙ sym wstart), wflushed b.2),
@@ -94,7 +94,7 @@ module _ (filter : Filter) (lawful : IsLawful filter)
 
   module _ (given : List ℕ) (before after : Course)
       (last : ℕ) (turn : IsTurn filter input given before after last) (can : Option (List At))
-        (number : ℕ) where
+      (number : ℕ) where
     found-stands : (f : Fault) (at : At) → is_of_lines f ≡ true
         → FaultFound filter input given writer messages at → Stands filter input given writer messages at f
     found-stands InputTooLong at e r = absurd (cc)
@@ -106,7 +106,7 @@ module _ (filter : Filter) (lawful : IsLawful filter)
     pub turn-stands : (halt : Halt) (warned : Bool) (status : ℕ) (fault : Option At)
         → ((at : At) (notices : List At) → can ≡ Some notices → at.line ≡ number → (notices ≡ []) ⊎ AreNext
         before after notices → IsWritten writer before.output
-          → AreReported messages (before.warnings ++ notices) at
+        → AreReported messages (before.warnings ++ notices) at
         → NoMemoryAtLine filter input given writer messages at)
         → ((at : At) → after.fault ≡ Some at → is_of_lines at.fault ≡ true)
         → EndsAt can number writer1 messages1 before after halt
@@ -116,7 +116,7 @@ module _ (filter : Filter) (lawful : IsLawful filter)
       one-fault (λ (a : At). Stands filter input given writer messages a a.fault) at other fault finished.2
           (subst (λ f. Stands filter input given writer messages at f) (sym ran.fault)
           (inr (memory at ran.notices ran.allowed ran.place ran.next
-            (written before.output ran.wrote finished.0)
+          (written before.output ran.wrote finished.0)
           (reported (before.warnings ++ ran.notices) at ran.reported finished.1))))
           is,
     )
@@ -169,7 +169,7 @@ module _ (filter : Filter) (lawful : IsLawful filter)
     pub turn-front : (halt : Halt) (warned : Bool) (status : ℕ) (fault : Option At)
         → EndsAt can number writer1 messages1 before after halt
         → Finishes writer2 messages2 last warned (Some halt) status fault
-          → IsFrontPart filter input given writer
+        → IsFrontPart filter input given writer
     turn-front (halt.Fault at) warned status fault (inl ran) finished = record {
       written = before.output;
       wrote = was-taken before.output (written before.output ran.wrote finished.0);
@@ -185,7 +185,7 @@ module _ (filter : Filter) (lawful : IsLawful filter)
     turn-front halt.Unwritten warned status fault r finished =
         let part =
         part-still writer1 writer2 writer wsame wstart wend wjoined before.output after.output r.wrote
-          finished.0 in
+        finished.0 in
         record {
           written = take part.count after.output;
           wrote = part.took;
@@ -204,7 +204,7 @@ module _ (filter : Filter) (lawful : IsLawful filter)
 
   pub line-stands : (now : ReaderState) (last : ℕ) (warned : Bool)
       (halt : Halt) (status : ℕ) (fault : Option At)
-        (s : StoppedByLine filter input writer1 messages1 now last halt)
+      (s : StoppedByLine filter input writer1 messages1 now last halt)
       → Finishes writer2 messages2 last warned (Some halt) status fault
       → StandsAfter s.ends.read.given status fault × IsFrontPart filter input s.ends.read.given writer
   line-stands now last warned halt status fault s finished =
@@ -241,7 +241,7 @@ module _ (filter : Filter) (lawful : IsLawful filter)
 
   pub end-stands : (now : ReaderState) (last : ℕ) (warned : Bool)
       (halt : Halt) (status : ℕ) (fault : Option At)
-        (s : StoppedByEnd filter input writer1 messages1 now last halt)
+      (s : StoppedByEnd filter input writer1 messages1 now last halt)
       → Finishes writer2 messages2 last warned (Some halt) status fault
       → StandsAfter s.read.given status fault × IsFrontPart filter input s.read.given writer
   end-stands now last warned halt status fault s finished =
@@ -260,7 +260,7 @@ module _ (filter : Filter) (lawful : IsLawful filter)
             (λ at notices allowed place next-ones wrote reported. absurd (cc))
             (λ at bad. lawful.found_at_end s.lines at bad) s.ends finished,
         turn-front h.given before after last turn None
-          (length s.lines) halt warned status fault s.ends finished,
+            (length s.lines) halt warned status fault s.ends finished,
       )
 
   -- the reading stopped
@@ -268,7 +268,7 @@ module _ (filter : Filter) (lawful : IsLawful filter)
       → IsStopped f input.start input.counted given lines → at.line ≡ length lines + 1
       → (filter.so_far lines).fault ≡ None → IsWritten writer (filter.so_far lines).output
       → AreReported messages (filter.so_far lines).warnings at
-        → Stands filter input given writer messages at f
+      → Stands filter input given writer messages at f
   stopped-stands given lines InputTooLong at s line good wrote reported =
       let same : lines ≡ complete_lines given = s.1 in
       record {
@@ -279,12 +279,12 @@ module _ (filter : Filter) (lawful : IsLawful filter)
           good = subst (λ (ls : List InputLine). (filter.so_far ls).fault ≡ None) same good;
           wrote = subst (λ (ls : List InputLine). IsWritten writer (filter.so_far ls).output) same wrote;
           reported = subst (λ (ls : List InputLine). AreReported messages (filter.so_far ls).warnings at) same
-            reported;
+              reported;
         };
       }
   stopped-stands given lines ReadFailed at s line good wrote reported =
       let same : lines ≡ complete_lines given =
-        complete-stopped given lines ReadFailed input.start input.counted s in
+      complete-stopped given lines ReadFailed input.start input.counted s in
       record {
         counted = s.2;
         within = s.0;
@@ -293,14 +293,14 @@ module _ (filter : Filter) (lawful : IsLawful filter)
           good = subst (λ (ls : List InputLine). (filter.so_far ls).fault ≡ None) same good;
           wrote = subst (λ (ls : List InputLine). IsWritten writer (filter.so_far ls).output) same wrote;
           reported = subst (λ (ls : List InputLine). AreReported messages (filter.so_far ls).warnings at) same
-            reported;
+              reported;
         };
       }
   stopped-stands given lines _ at s line good wrote reported = absurd s
 
   pub reader-stands : (now : ReaderState) (last : ℕ) (warned : Bool)
       (stop : Halt) (status : ℕ) (fault : Option At)
-        (s : StoppedByReader filter input writer1 messages1 now last stop)
+      (s : StoppedByReader filter input writer1 messages1 now last stop)
       → Finishes writer2 messages2 last warned (Some stop) status fault
       → StandsAfter s.stopped.read.given status fault × IsFrontPart filter input s.stopped.read.given writer
   reader-stands now last warned stop status fault s finishes =
@@ -310,16 +310,16 @@ module _ (filter : Filter) (lawful : IsLawful filter)
       let course = filter.so_far s.lines in
       let stopped =
       HasRead-stopped input.gave input.at_end input.start input.counted now s.lines h s.at s.stopped.stopped
-        in
+      in
       let wrote = written course.output s.stopped.wrote finished.0 in
       let reported = reported course.warnings s.at s.stopped.reported finished.1 in
       let same = complete-stopped h.given s.lines s.at.fault input.start input.counted stopped.0 in (
         (λ (other : At) is. (
           finished.3,
           one-fault (λ (a : At). Stands filter input h.given writer messages a a.fault) s.at other fault
-            finished.2
+              finished.2
               (stopped-stands h.given s.lines s.at.fault s.at stopped.0 stopped.1 s.stopped.good wrote
-                reported) is,
+              reported) is,
         )),
         record {
           written = course.output;
@@ -357,9 +357,9 @@ module _ (filter : Filter) (lawful : IsLawful filter)
   -- the flush alone failed
   pub flush-stands : (has_ended : List InputLine → Type 0) (now : ReaderState) (last : ℕ)
       (warned : Bool) (status : ℕ) (at : At)
-        (done : WellDone filter has_ended input writer1 messages1 now last warned)
+      (done : WellDone filter has_ended input writer1 messages1 now last warned)
       → Finishes writer2 messages2 last warned None status (Some at)
-        → StandsAfter done.read.given status (Some at)
+      → StandsAfter done.read.given status (Some at)
   flush-stands has_ended now last warned status at done finished other is =
       let h = done.read in
       let all = all-read input now done.lines h done.ended in
@@ -377,7 +377,7 @@ module _ (filter : Filter) (lawful : IsLawful filter)
               good = ap (λ (ls : List InputLine). (filter.whole ls).fault) (sym same) ∙ done.good;
               wrote = subst (λ (ls : List InputLine). writer.took (filter.whole ls).output) same
                   (subst writer.took (append-nil course.output)
-                    (wjoined course.output [] done.wrote.0 flushed.0));
+                  (wjoined course.output [] done.wrote.0 flushed.0));
               counted = wend ∙ flushed.1 ∙ ap with_failed_flush (wsame ∙ done.wrote.1 ∙ sym wstart);
               reported = subst (λ (ls : List InputLine).
                   AreReported messages (filter.whole ls).warnings (write_failed_at last)) same reported;

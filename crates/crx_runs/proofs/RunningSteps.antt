@@ -19,12 +19,12 @@ use Rattle.crx_runs.proofs.TakingTwice.{notices-append, all-all}
 -- a device before a line (first), over the line (second), and over both
 module _ (first second both : Device)
     (same : second.before ≡ first.after) (start : both.before ≡ first.before)
-      (end : both.after ≡ second.after)
+    (end : both.after ≡ second.after)
     (joined : (xs ys : List ℕ) → first.took xs → second.took ys → both.took (xs ++ ys)) where
   pub took-more : (xs ys all : List ℕ) → TookAll first xs → TookAll second ys → all ≡ xs ++ ys
-    → TookAll both all
+      → TookAll both all
   took-more xs ys all a b is =
-    subst (TookAll both) (sym is) (all-all first second both same start end joined xs ys a b)
+      subst (TookAll both) (sym is) (all-all first second both same start end joined xs ys a b)
 
   pub took-same : (xs all : List ℕ) → TookAll first xs → TookAll second [] → all ≡ xs → TookAll both all
   took-same xs all a b is = took-more xs [] all a b (is ∙ sym (append-nil xs))
@@ -56,59 +56,59 @@ module _ (before after : Course) (writer1 writer2 writer messages1 messages2 mes
     (mstart : messages.before ≡ messages1.before) (mend : messages.after ≡ messages2.after)
     (mjoined : (xs ys : List ℕ) → messages1.took xs → messages2.took ys → messages.took (xs ++ ys))
     (wrote : TookAll writer1 before.output) (reported : TookAll messages1 (notices_text before.warnings))
-      where
-  pub more-written : (text : List ℕ)
-      → TookAll writer2 text → after.output ≡ before.output ++ text → TookAll writer after.output
-  more-written text wrote2 is =
-      took-more writer1 writer2 writer wsame wstart wend wjoined before.output text after.output wrote wrote2
+  where
+    pub more-written : (text : List ℕ)
+        → TookAll writer2 text → after.output ≡ before.output ++ text → TookAll writer after.output
+    more-written text wrote2 is =
+        took-more writer1 writer2 writer wsame wstart wend wjoined before.output text after.output wrote wrote2
         is
 
-  same-written : (output : List ℕ) → TookAll writer2 [] → output ≡ before.output → TookAll writer output
-  same-written output wrote2 is =
-      took-same writer1 writer2 writer wsame wstart wend wjoined before.output output wrote wrote2 is
+    same-written : (output : List ℕ) → TookAll writer2 [] → output ≡ before.output → TookAll writer output
+    same-written output wrote2 is =
+        took-same writer1 writer2 writer wsame wstart wend wjoined before.output output wrote wrote2 is
 
-  pub more-reported : (notices all : List At) → TookAll messages2 (notices_text notices)
-      → all ≡ before.warnings ++ notices → TookAll messages (notices_text all)
-  more-reported notices all told2 is =
-      took-more messages1 messages2 messages msame mstart mend mjoined (notices_text before.warnings)
-      (notices_text notices) (notices_text all) reported told2 (warnings-text before.warnings notices all is)
+    pub more-reported : (notices all : List At) → TookAll messages2 (notices_text notices)
+        → all ≡ before.warnings ++ notices → TookAll messages (notices_text all)
+    more-reported notices all told2 is =
+        took-more messages1 messages2 messages msame mstart mend mjoined (notices_text before.warnings)
+        (notices_text notices) (notices_text all) reported told2 (warnings-text before.warnings notices all is)
 
-  pub ends-at : (memory : Option (List At)) (number : ℕ) (halt : Halt)
-      → IsCut before after memory number writer2 messages2 halt
+    pub ends-at : (memory : Option (List At)) (number : ℕ) (halt : Halt)
+        → IsCut before after memory number writer2 messages2 halt
         → EndsAt memory number writer messages before after halt
-  ends-at memory number (Fault at) (notices, inl r) =
-      inl (record {
-        allowed = r.allowed;
-        fault = r.fault;
-        place = r.place;
-        notices = notices;
-        next = r.next;
-        wrote = same-written before.output r.wrote refl;
-        reported = more-reported notices (before.warnings ++ notices) r.reported refl;
-      })
-  ends-at memory number (Fault at) (notices, inr r) =
-      inr (record {
-        fault = r.ends.fault;
-        wrote = same-written after.output r.wrote r.ends.output;
-        reported = more-reported notices after.warnings r.reported r.ends.warnings;
-      })
-  ends-at memory number Unwritten (notices, r) =
-      record {
-        good = r.adds.good;
-        wrote = took-part writer1 writer2 writer wsame wstart wend wjoined before.output r.text
-            [] after.output wrote r.wrote (r.adds.output ∙ sym (append-nil (before.output ++ r.text)));
-        reported = more-reported notices after.warnings r.reported r.adds.warnings;
-      }
-  ends-at memory number Unreported (here, r) =
-      let notices = here ++ r.notice ∷ [] in
-      let whole : notices_text after.warnings
-      ≡ (notices_text before.warnings ++ notices_text notices) ++ notices_text r.next.0 =
-      ap notices_text r.next.1 ∙ notices-append (before.warnings ++ notices) r.next.0
-      ∙ ap (λ (t : List ℕ). t ++ notices_text r.next.0) (notices-append before.warnings notices) in
-      record {
-        wrote = same-written before.output r.wrote refl;
-        reported = took-part messages1 messages2 messages msame mstart mend mjoined
-          (notices_text before.warnings)
-            (notices_text notices) (notices_text r.next.0)
+    ends-at memory number (Fault at) (notices, inl r) =
+        inl (record {
+          allowed = r.allowed;
+          fault = r.fault;
+          place = r.place;
+          notices = notices;
+          next = r.next;
+          wrote = same-written before.output r.wrote refl;
+          reported = more-reported notices (before.warnings ++ notices) r.reported refl;
+        })
+    ends-at memory number (Fault at) (notices, inr r) =
+        inr (record {
+          fault = r.ends.fault;
+          wrote = same-written after.output r.wrote r.ends.output;
+          reported = more-reported notices after.warnings r.reported r.ends.warnings;
+        })
+    ends-at memory number Unwritten (notices, r) =
+        record {
+          good = r.adds.good;
+          wrote = took-part writer1 writer2 writer wsame wstart wend wjoined before.output r.text
+              [] after.output wrote r.wrote (r.adds.output ∙ sym (append-nil (before.output ++ r.text)));
+          reported = more-reported notices after.warnings r.reported r.adds.warnings;
+        }
+    ends-at memory number Unreported (here, r) =
+        let notices = here ++ r.notice ∷ [] in
+        let whole : notices_text after.warnings
+        ≡ (notices_text before.warnings ++ notices_text notices) ++ notices_text r.next.0 =
+        ap notices_text r.next.1 ∙ notices-append (before.warnings ++ notices) r.next.0
+        ∙ ap (λ (t : List ℕ). t ++ notices_text r.next.0) (notices-append before.warnings notices) in
+        record {
+          wrote = same-written before.output r.wrote refl;
+          reported = took-part messages1 messages2 messages msame mstart mend mjoined
+              (notices_text before.warnings)
+              (notices_text notices) (notices_text r.next.0)
               (notices_text after.warnings) reported r.reported whole;
-      }
+        }

@@ -35,7 +35,7 @@ all-read input now lines h e =
 
 pub taken-read : (input : Input) (now : ReaderState) (lines : List InputLine)
     (h : HasRead input.gave input.at_end input.start input.counted now lines)
-      → (now.phase ≡ Open) ⊎ (now.phase ≡ Ended)
+    → (now.phase ≡ Open) ⊎ (now.phase ≡ Ended)
     → AreTaken input h.given lines
 taken-read input now lines h (inl e) =
     let o : IsOpen input.start input.counted h.given now lines =
@@ -49,7 +49,7 @@ taken-read input now lines h (inr e) = inr (all-read input now lines h e)
 
 pub none-failed : (input : Input) (now : ReaderState) (lines : List InputLine)
     (h : HasRead input.gave input.at_end input.start input.counted now lines)
-      → (now.phase ≡ Open) ⊎ (now.phase ≡ Ended)
+    → (now.phase ≡ Open) ⊎ (now.phase ≡ Ended)
     → input.counted.failures ≡ input.start.failures
 none-failed input now lines h (inl e) =
     let o : IsOpen input.start input.counted h.given now lines =
@@ -116,7 +116,7 @@ module _ (filter : Filter) (lawful : IsLawful filter) (input : Input) (given : L
   first-taken lines written (inl t) begins =
       inl (begins-more _ (filter.so_far lines).output written (subst (λ (ls : List InputLine).
       Begins (filter.so_far ls).output (filter.so_far lines).output) (sym t.1) (lawful.grows lines t.0))
-        begins)
+      begins)
   first-taken lines written (inr t) begins =
       inr (
         t.reported,
@@ -127,12 +127,12 @@ module _ (filter : Filter) (lawful : IsLawful filter) (input : Input) (given : L
 
   pub first-whole : (written : List ℕ)
       → AreAll input given (lines_of given) → Begins (filter.whole (lines_of given)).output written
-        → IsFirst written
+      → IsFirst written
   first-whole written t begins = inr (t.reported, begins)
 
   pub first-before : (lines : List InputLine) (line : InputLine) (written : List ℕ)
       → AreTaken input given (with_next lines line) → Begins (filter.so_far lines).output written
-        → IsFirst written
+      → IsFirst written
   first-before lines line written t begins =
       first-taken (with_next lines line) written t
       (begins-more _ (filter.so_far lines).output written (lawful.grows lines (line ∷ [])) begins)
@@ -150,13 +150,13 @@ module _ (filter : Filter) (lawful : IsLawful filter) (input : Input) (given : L
       → IsTurn filter input given before after last → Begins before.output written → IsFirst written
   first-before-turn before after last written (inl t) begins =
       first-before t.lines t.line written t.taken
-        (subst (λ (c : Course). Begins c.output written) t.before_is begins)
+      (subst (λ (c : Course). Begins c.output written) t.before_is begins)
   first-before-turn before after last written (inr t) begins =
       first-taken (lines_of given) written
       (inr t.all) (subst (λ (c : Course). Begins c.output written) t.before_is begins)
 
   pub first-complete : (lines : List InputLine) → lines ≡ complete_lines given
-    → IsFirst (filter.so_far lines).output
+      → IsFirst (filter.so_far lines).output
   first-complete lines same = inl (subst (λ (ls : List InputLine).
       Begins (filter.so_far ls).output (filter.so_far lines).output) same
-        (begins-itself (filter.so_far lines).output))
+      (begins-itself (filter.so_far lines).output))

@@ -13,7 +13,7 @@ use Rattle.crx_runs.proofs.RunningSteps.{ends-at, more-written, more-reported}
 
 module _ (filter : Filter) (input then : Input)
     (old new : ReaderState) (lines : List InputLine)
-      (writer1 writer2 writer messages1 messages2 messages : Device)
+    (writer1 writer2 writer messages1 messages2 messages : Device)
     (wsame : writer2.before ≡ writer1.after)
     (wstart : writer.before ≡ writer1.before) (wend : writer.after ≡ writer2.after)
     (wjoined : (xs ys : List ℕ) → writer1.took xs → writer2.took ys → writer.took (xs ++ ys))
@@ -38,13 +38,13 @@ module _ (filter : Filter) (input then : Input)
           going = read.going;
           good = done.adds.good;
           wrote = more-written before after writer1 writer2 writer messages1 messages2 messages wsame wstart
-            wend
+              wend
               wjoined msame mstart mend mjoined running.wrote running.reported done.text done.wrote
-                done.adds.output;
+              done.adds.output;
           reported = more-reported before
               after writer1 writer2 writer messages1 messages2 messages wsame wstart wend wjoined msame mstart
               mend mjoined running.wrote running.reported done.notices after.warnings done.reported
-                done.adds.warnings;
+              done.adds.warnings;
         };
         notices = done.notices;
         added = done.adds.warnings;
@@ -53,7 +53,7 @@ module _ (filter : Filter) (input then : Input)
 
   pub ends-by : (halt : Halt) → IsCut (filter.so_far lines)
       (filter.so_far (with_next lines line)) (filter.memory_after lines line)
-        (length lines + 1) writer2 messages2 halt
+      (length lines + 1) writer2 messages2 halt
       → EndsBy filter then writer messages new lines halt
   ends-by halt cut =
       record {
@@ -61,8 +61,8 @@ module _ (filter : Filter) (input then : Input)
         read = read.read;
         going = read.going;
         ends = ends-at (filter.so_far lines) (filter.so_far (with_next lines line)) writer1 writer2 writer
-          messages1
+            messages1
             messages2 messages wsame wstart wend wjoined msame mstart mend mjoined running.wrote
-              running.reported
+            running.reported
             (filter.memory_after lines line) (length lines + 1) halt cut;
       }

@@ -22,7 +22,7 @@ use Rattle.crx_runs.specs.meaning.Filters.{with_next}
 -- a line was read: these lines and it
 pub record ReadsLine (gives : List ℕ → Type 0) (at_end : Type 0)
     (start counted : Tally) (new : ReaderState) (lines : List InputLine) (line : InputLine)
-      (number : ℕ) : Type 0 where
+    (number : ℕ) : Type 0 where
   pub read : HasRead gives at_end start counted new (with_next lines line)
   pub going : (new.phase ≡ Open) ⊎ (new.phase ≡ Ended)
   pub number_is : number ≡ length lines + 1
@@ -42,12 +42,12 @@ phase-going false f is = inr is
 
 module _ (gave gives step : List ℕ → Type 0)
     (at_end at_end' : Type 0) (start counted counted' : Tally) (old new : ReaderState)
-      (lines : List InputLine)
+    (lines : List InputLine)
     (h : HasRead gave at_end start counted old lines) (goes : (given more : List ℕ)
     → gave given → step more → gives (given ++ more))
     (r : Result (Option Line) At) (going : (old.phase ≡ Open) ⊎ (old.phase ≡ Ended))
     (at-open : old.phase ≡ Open → (more : List ℕ) × step more
-      × ReaderAnswers old more at_end' counted counted' r new)
+    × ReaderAnswers old more at_end' counted counted' r new)
     (at-ended : old.phase ≡ Ended → r ≡ Ok None) where
   open-if : (r ≡ Ok None → ⊥) → old.phase ≡ Open
   open-if some = ⊎_elim (λ e. e) (λ e. absurd (some (at-ended e))) going
@@ -64,13 +64,17 @@ module _ (gave gives step : List ℕ → Type 0)
       record {
         read = subst (λ l. HasRead gives at_end' start counted' new l) n.1.lines_are n.2;
         going = phase-going a.0.is_ended new.phase a.1.phase;
-        number_is = omega (arith, n.1.number_is, ap length n.1.lines_are,
-          length_push lines (line_shown line));
+        number_is = omega (
+          arith,
+          n.1.number_is,
+          ap length n.1.lines_are,
+          length_push lines (line_shown line),
+        );
       }
 
   pub overlong-read : (at : At) → r ≡ Err at → at.fault ≡ LineTooLong
       → (line : InputLine) × (is_long line ≡ true)
-        × ReadsLine gives at_end' start counted' new lines line at.line
+      × ReadsLine gives at_end' start counted' new lines line at.line
   overlong-read at is long =
       let e = open-if (λ none. err-not-none at (sym is ∙ none)) in
       let found = at-open e in
@@ -78,10 +82,10 @@ module _ (gave gives step : List ℕ → Type 0)
       subst (λ f. AnswersFault old found.0 at_end' counted counted' at f new) long
       (subst (λ x. ReaderAnswers old found.0 at_end' counted counted' x new) is found.2) in
       let n = HasRead-next gave gives step at_end at_end' start counted counted' old new lines h goes e
-        found.0 found.1
+      found.0 found.1
       (Err at) (subst (λ x. ReaderAnswers old found.0 at_end' counted counted' x new) is found.2) in
       let one : AtFault LineTooLong at old new lines n.0 =
-        subst (λ f. AtFault f at old new lines n.0) long n.1 in (
+      subst (λ f. AtFault f at old new lines n.0) long n.1 in (
         one.0,
         one.1,
         record {
@@ -104,7 +108,7 @@ module _ (gave gives step : List ℕ → Type 0)
       let e = open-if (λ none. err-not-none at (sym is ∙ none)) in
       let found = at-open e in
       let n = HasRead-next gave gives step at_end at_end' start counted counted' old new lines h goes e
-        found.0 found.1
+      found.0 found.1
       (Err at) (subst (λ x. ReaderAnswers old found.0 at_end' counted counted' x new) is found.2) in
       let stopped = stop-by at.fault at other n.0 n.1 in
       (subst (λ l. HasRead gives at_end' start counted' new l) stopped.0 n.2, stopped.1)
@@ -116,7 +120,7 @@ module _ (gave gives step : List ℕ → Type 0)
       let opened : old.phase ≡ Open → Claim = λ e.
       let found = at-open e in
       let n = HasRead-next gave gives step at_end at_end' start counted counted' old new lines h goes e
-        found.0 found.1
+      found.0 found.1
       (Ok None) (subst (λ x. ReaderAnswers old found.0 at_end' counted counted' x new) is found.2) in
       (subst (λ l. HasRead gives at_end' start counted' new l) n.1.0 n.2, n.1.1) in
       ⊎_elim opened kept going
@@ -124,11 +128,11 @@ module _ (gave gives step : List ℕ → Type 0)
 -- the number of a line that is too long
 pub overlong-number : (step : List ℕ
     → Type 0) (at_end' : Type 0) (counted counted' : Tally) (old new : ReaderState)
-      (r : Result (Option Line) At)
+    (r : Result (Option Line) At)
     → (old.phase ≡ Open) ⊎ (old.phase ≡ Ended)
     → (old.phase ≡ Open → (more : List ℕ) × step more × ReaderAnswers old more at_end' counted counted' r new)
     → (old.phase ≡ Ended → r ≡ Ok None) → (at : At) → r ≡ Err at → at.fault ≡ LineTooLong
-      → at.line ≡ old.number + 1
+    → at.line ≡ old.number + 1
 overlong-number step at_end' counted counted' old new r going at-open at-ended at is long =
     let e : old.phase ≡ Open = ⊎_elim (λ e. e) (λ e. absurd (err-not-none at (sym is ∙ at-ended e))) going in
     let found = at-open e in
@@ -139,7 +143,7 @@ overlong-number step at_end' counted counted' old new r going at-open at-ended a
 
 passed-more : (old new : ReaderState) (given : List ℕ) (at_end : Type 0) (bytes : List ℕ) (is_ended : Bool)
     → TakesPiece old given at_end (record { bytes = bytes; is_ended = is_ended }) new
-      → old.passed < new.passed
+    → old.passed < new.passed
 passed-more old new given at_end bytes true t =
     omega (arith, t.passed, ap length t.first.cut, length-append bytes (10 ∷ new.rest))
 passed-more old new given at_end bytes false t =
@@ -152,10 +156,10 @@ module _ (step : List ℕ → Type 0)
     → (more : List ℕ) × step more × ReaderAnswers old more at_end' counted counted' r new)
     (at-ended : old.phase ≡ Ended → r ≡ Ok None) where
   pub line-passed : (line : Line) → r ≡ Ok (Some line) → (old.passed < new.passed)
-    × (new.passed ≤ INPUT_LIMIT)
+      × (new.passed ≤ INPUT_LIMIT)
   line-passed line is =
       let e : old.phase ≡ Open =
-        ⊎_elim (λ e. e) (λ e. absurd (some-not-none line (sym is ∙ at-ended e))) going in
+      ⊎_elim (λ e. e) (λ e. absurd (some-not-none line (sym is ∙ at-ended e))) going in
       let found = at-open e in
       let a : ReaderAnswers old found.0 at_end' counted counted' (Ok (Some line)) new =
       subst (λ x. ReaderAnswers old found.0 at_end' counted counted' x new) is found.2 in
@@ -165,7 +169,7 @@ module _ (step : List ℕ → Type 0)
       × (new.passed ≤ INPUT_LIMIT)
   overlong-passed at is long =
       let e : old.phase ≡ Open = ⊎_elim (λ e. e) (λ e. absurd (err-not-none at (sym is ∙ at-ended e))) going
-        in
+      in
       let found = at-open e in
       let a : AnswersFault old found.0 at_end' counted counted' at LineTooLong new =
       subst (λ f. AnswersFault old found.0 at_end' counted counted' at f new) long

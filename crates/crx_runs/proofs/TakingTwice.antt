@@ -26,7 +26,7 @@ notices-append (x ∷ xs) ys = ap (λ (t : List ℕ). warning_text x ++ t) (noti
 -- two texts that a device took one after another
 module _ (first second both : Device)
     (same : second.before ≡ first.after) (start : both.before ≡ first.before)
-      (end : both.after ≡ second.after)
+    (end : both.after ≡ second.after)
     (joined : (xs ys : List ℕ) → first.took xs → second.took ys → both.took (xs ++ ys)) where
   pub all-all : (xs ys : List ℕ) → TookAll first xs → TookAll second ys → TookAll both (xs ++ ys)
   all-all xs ys a b = (joined xs ys a.0 b.0, end ∙ b.1 ∙ same ∙ a.1 ∙ sym start)
@@ -53,10 +53,10 @@ module _ (before after : Course) (writer1 writer2 writer messages1 messages2 mes
     (notice : At) (next : AreNext before after (notice ∷ []))
     (wrote1 : TookAll writer1 []) (told1 : TookAll messages1 (notices_text (notice ∷ []))) where
   reported-all : (ns : List At) → TookAll messages2 (notices_text ns)
-    → TookAll messages (notices_text (notice ∷ ns))
+      → TookAll messages (notices_text (notice ∷ ns))
   reported-all ns told2 = subst (TookAll messages) (sym (notices-append (notice ∷ []) ns)) (all-all
       messages1 messages2 messages msame mstart mend mjoined (notices_text (notice ∷ []))
-        (notices_text ns) told1 told2)
+      (notices_text ns) told1 told2)
 
   reported-none : TookAll messages2 [] → TookAll messages (notices_text (notice ∷ []))
   reported-none told2 = reported-all [] told2
@@ -65,7 +65,7 @@ module _ (before after : Course) (writer1 writer2 writer messages1 messages2 mes
   wrote-none wrote2 = all-all writer1 writer2 writer wsame wstart wend wjoined [] [] wrote1 wrote2
 
   pub done-twice : (shown : Type 0) (warned : Bool)
-    → IsDone before after shown writer2 messages2 (notice ∷ []) warned
+      → IsDone before after shown writer2 messages2 (notice ∷ []) warned
       → IsDone before after shown writer messages [] true
   done-twice shown warned r = record {
     is_shown = r.is_shown;
@@ -138,13 +138,13 @@ module _ (filter then : Filter) (is : then ≡ filter)
 
   pub halted-twice : (number : ℕ) (halt : Halt) → IsHalted (then.so_far lines)
       (then.so_far (with_next lines line)) (then.memory_after lines line) number writer2 messages2
-        (notice ∷ []) [] halt
+      (notice ∷ []) [] halt
       → IsCut before after (filter.memory_after lines line) number writer messages halt
   halted-twice number halt r = (
     notice ∷ [],
     cut-twice before after writer1 writer2 writer messages1 messages2 messages wsame wstart
         wend wjoined msame mstart mend mjoined notice next wrote1 told1
-          (filter.memory_after lines line) number halt
+        (filter.memory_after lines line) number halt
         (subst (λ (f : Filter). IsHalted (f.so_far lines) (f.so_far (with_next lines line))
         (f.memory_after lines line) number writer2 messages2 (notice ∷ []) [] halt) is r),
   )

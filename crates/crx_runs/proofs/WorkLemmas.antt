@@ -26,12 +26,12 @@ flag-after before notices after warned warning w n is =
 -- the run goes on
 pub go-on : (filter : Filter) (shows : List InputLine → List Awaited → Type 0)
     (input : Input) (writer messages : Device) (now : ReaderState) (lines : List InputLine)
-      (warned warning both : Bool)
+    (warned warning both : Bool)
     → warned ≡ are_some (filter.so_far lines).warnings
     → GoesOnBy filter shows input writer messages now lines warning → both ≡ (warned || warning)
     → (ls : List InputLine) × shows ls []
     × IsRunning input writer messages now ls (filter.so_far ls)
-      × (both ≡ are_some (filter.so_far ls).warnings)
+    × (both ≡ are_some (filter.so_far ls).warnings)
 go-on filter shows input writer messages now lines warned warning both flag by is = (
   lines ++ by.line ∷ [],
   by.shown,
@@ -42,7 +42,7 @@ go-on filter shows input writer messages now lines warned warning both flag by i
 
 module _ (filter : Filter) (shows : List InputLine → List Awaited → Type 0) (input : Input)
     (now : ReaderState) (lines : List InputLine)
-      (writer1 writer2 writer messages1 messages2 messages : Device)
+    (writer1 writer2 writer messages1 messages2 messages : Device)
     (wsame : writer2.before ≡ writer1.after)
     (wstart : writer.before ≡ writer1.before) (wend : writer.after ≡ writer2.after)
     (wjoined : (xs ys : List ℕ) → writer1.took xs → writer2.took ys → writer.took (xs ++ ys))
@@ -50,7 +50,7 @@ module _ (filter : Filter) (shows : List InputLine → List Awaited → Type 0) 
     (mstart : messages.before ≡ messages1.before) (mend : messages.after ≡ messages2.after)
     (mjoined : (xs ys : List ℕ) → messages1.took xs → messages2.took ys → messages.took (xs ++ ys))
     (comes : ComesToEnd filter shows input writer1 messages1 now lines) (last : ℕ)
-      (last_is : last ≡ now.number) where
+    (last_is : last ≡ now.number) where
   last-line : last ≡ length lines
   last-line = last_is ∙ comes.running.read.number
 
@@ -67,17 +67,17 @@ module _ (filter : Filter) (shows : List InputLine → List Awaited → Type 0) 
         ended = comes.ended;
         good = done.adds.good;
         wrote = more-written before after writer1 writer2 writer messages1 messages2 messages wsame wstart
-          wend wjoined
+            wend wjoined
             msame mstart mend mjoined comes.running.wrote comes.running.reported done.text done.wrote
-              done.adds.output;
+            done.adds.output;
         reported = more-reported before after
             writer1 writer2 writer messages1 messages2 messages wsame wstart wend wjoined msame mstart mend
-              mjoined
+            mjoined
             comes.running.wrote comes.running.reported done.notices after.warnings done.reported
-              done.adds.warnings;
+            done.adds.warnings;
         flag = is
             ∙ flag-after before.warnings done.notices after.warnings warned warning flag done.flag
-              done.adds.warnings;
+            done.adds.warnings;
         engine_ended = done.is_shown;
         last_is = last-line;
       }
@@ -93,14 +93,14 @@ module _ (filter : Filter) (shows : List InputLine → List Awaited → Type 0) 
         ended = comes.ended;
         ends = ends-at before after writer1 writer2 writer messages1 messages2 messages wsame wstart
             wend wjoined msame mstart mend mjoined comes.running.wrote comes.running.reported None
-              (length lines) halt
+            (length lines) halt
             ([], h);
         last_is = last-line;
       }
 
 -- a line or the reader ended it
 pub stopped-on : (filter : Filter) (has_ended : List InputLine → Type 0) (input : Input)
-  (writer messages : Device)
+    (writer messages : Device)
     (now : ReaderState) (lines : List InputLine) (last : ℕ) (warned : Bool) (halt : Halt) → last ≡ now.number
     → StopsAt filter input writer messages now lines halt
     → WorkEnds filter has_ended input writer messages now last warned (Some halt)

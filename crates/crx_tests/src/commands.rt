@@ -154,7 +154,11 @@ fn is_refused(fault: &UsageFault, wanted: Refused) -> bool {
 #[test]
 fn dates_of_moments(rt: HostRuntime) {
     for (seconds, nanoseconds, wanted) in MOMENTS {
-        expect(&rt, is_date_of(rt.alloc(), *seconds, *nanoseconds, wanted), wanted);
+        expect(
+            &rt,
+            is_date_of(rt.alloc(), *seconds, *nanoseconds, wanted),
+            wanted,
+        );
     }
 }
 

@@ -6,9 +6,9 @@
 #[cfg(test)]
 mod codes;
 #[cfg(test)]
-mod commands;
-#[cfg(test)]
 mod columns;
+#[cfg(test)]
+mod commands;
 #[cfg(test)]
 mod devices;
 #[cfg(test)]

@@ -72,7 +72,7 @@ digits_of_words groups long small =
     let whole = pick_l_whole 0 groups 4 long in
     subst (λ (w : List ℕ). digits_l 256 16 (number_l (2 ^ 32) (words_of w)) ≡ group_digits w) whole
     (digits_of_groups (pick_l 0 groups (range_with_len 0 4))
-      (subst (Each1 (λ g. g < 1000)) (sym whole) small))
+    (subst (Each1 (λ g. g < 1000)) (sym whole) small))
 
 -- ---- where the number begins
 

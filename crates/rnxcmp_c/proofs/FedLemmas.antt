@@ -17,9 +17,9 @@ use Rattle.rnxcmp_c.specs.declared.reader.Reader.{Reader}
 use Rattle.rnxcmp_c.proofs.PieceLemmas.{none-or}
 
 module _ (task : Task) (old new : Reader) (past : HandlePast) (bytes allowed : List ℕ) (used : ℕ)
-  (answer : Answer) where
+    (answer : Answer) where
   pub fed-bytes : allowed ≡ take (INPUT_LIMIT - old.fed) bytes → answer ≡ answer_now new
-    → ReaderRuns task old past
+      → ReaderRuns task old past
       → (length allowed ≡ 0 → 0 < length bytes → (used ≡ 0) × ReaderHasPassed task new past)
       → ((0 < length bytes → 0 < length allowed) → HasFed past.fed task new (fed_with past
       (take used allowed)))
@@ -48,7 +48,7 @@ module _ (task : Task) (old new : Reader) (past : HandlePast) (bytes allowed : L
             (fed (λ b. subst (λ (l : List ℕ). 0 < length l) (sym same) (h b)));
         some = λ h. (count (some h)).some (subst (λ (l : List ℕ). 0 < length l) (sym same) h);
         all = λ none h. (count (λ _. omega (arith, h, ap length same))).all none
-          (omega (arith, h, ap length same));
+            (omega (arith, h, ap length same));
         soon = λ none h. subst (λ (l : List ℕ). StopsSoon (filter_for task) past l used) same
             (soon (λ _. omega (arith, h, within)) none h);
         still = λ h. (count (some h)).still;
@@ -56,7 +56,7 @@ module _ (task : Task) (old new : Reader) (past : HandlePast) (bytes allowed : L
       }
 
   pub fed-by : allowed ≡ take (INPUT_LIMIT - old.fed) bytes → answer ≡ answer_now new
-    → (outcome : Option Outcome)
+      → (outcome : Option Outcome)
       → is_some outcome ≡ false → StandsBy task old past outcome
       → (ReaderRuns task old past → length allowed ≡ 0 → 0 < length bytes
       → (used ≡ 0) × ReaderHasPassed task new past)

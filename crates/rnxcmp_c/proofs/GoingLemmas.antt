@@ -34,7 +34,7 @@ use Rattle.rnxcmp_c.proofs.PieceLemmas.{none-where_none}
 
 -- lines that were ended are no more, where the bytes that follow have no LF
 ended-still : (filter : Filter) (shows : List InputLine → List Awaited → Type 0) (held : Held)
-  (past : HandlePast)
+    (past : HandlePast)
     (more : List ℕ) → IsGoing filter shows held past → HasNoFeed more
     → ended_lines_of (past.fed ++ more) ≡ ended_lines_of past.fed
 ended-still filter shows held past more going none =
@@ -58,7 +58,7 @@ soon-by filter shows past bytes done some rest old all going none more low =
     ∙ take-append-add done (some ++ rest) (length some - 1)
     ∙ ap (λ (l : List ℕ). done ++ l) (take-append-le (length some - 1) some rest (omega arith)) in
     let lines : ended_lines_of (past.fed ++ take (length (done ++ some) - 1) bytes)
-      ≡ ended_lines_of (past.fed ++ done) =
+    ≡ ended_lines_of (past.fed ++ done) =
     ap (λ (l : List ℕ). ended_lines_of (past.fed ++ l)) first
     ∙ ap ended_lines_of (sym (append_assoc past.fed done most))
     ∙ ended-still filter shows old (fed_with past done) most going none in
@@ -81,7 +81,7 @@ pub no_feed-before : (bytes : List ℕ) (n : ℕ) → n ≤ length bytes
 no_feed-before bytes n within none =
     All-from_get_or (λ b. b ≢ 10) (take n bytes) 0
     (λ k h. let inside : k < n = omega (arith, h, length-take n bytes)
-      in rw (get_or-take n bytes k 0) (none k inside))
+    in rw (get_or-take n bytes k 0) (none k inside))
 
 -- the bytes up to an LF, and those after it
 pub cut-at : (bytes : List ℕ) (n : ℕ) → n < length bytes → slice_index bytes n ≡ 10
@@ -102,7 +102,7 @@ some-both (x ∷ xs) ys = refl
 
 -- texts grow at their ends
 more-text : (whole taken kept more then : List ℕ) (after : List ℕ) → after ≡ whole ++ more
-  → whole ≡ taken ++ kept
+    → whole ≡ taken ++ kept
     → then ≡ kept ++ more → after ≡ taken ++ then
 more-text whole taken kept more then after grows is was =
     grows ∙ ap (λ t. t ++ more) is ∙ append_assoc taken kept more ∙ ap (λ t. taken ++ t) (sym was)
@@ -144,8 +144,8 @@ begins-then all mid first a b = record {
 -- what was added within the limit leaves all within it
 pub adds-kept : (course : Course) (old new : Held) (past : HandlePast)
     → course.output ≡ past.output ++ waiting old.output
-      → (0 < old.limit → old.left + length course.output ≡ old.limit) → AddsWithin old new
-      → IsKeptWithin new past
+    → (0 < old.limit → old.left + length course.output ≡ old.limit) → AddsWithin old new
+    → IsKeptWithin new past
 adds-kept course old new past wrote left adds limited =
     let before : 0 < old.limit = subst (λ (n : ℕ). 0 < n) adds.limit limited in
     omega (
@@ -238,7 +238,7 @@ module _ (filter : Filter) (shows : List InputLine → List Awaited → Type 0)
   -- a line's bytes, and its LF
   module _ (mid : Held) (piece : List ℕ) (same : IsSame held mid)
       (tail : mid.tail.bytes.items ≡ take LINE_ROOM (held.tail.bytes.items ++ piece))
-        (none : HasNoFeed piece) where
+      (none : HasNoFeed piece) where
     abbrev bytes_all : List ℕ
     bytes_all = is.tail ++ piece
 
@@ -257,7 +257,7 @@ module _ (filter : Filter) (shows : List InputLine → List Awaited → Type 0)
     joined : (more : List ℕ) → is.tail ++ (fed ++ more) ≡ bytes_all ++ 10 ∷ more
     joined more =
         ap (λ t. is.tail ++ t) (append_assoc piece (10 ∷ []) more)
-          ∙ sym (append_assoc is.tail piece (10 ∷ more))
+        ∙ sym (append_assoc is.tail piece (10 ∷ more))
 
     one-more : ended_lines_of (past.fed ++ fed) ≡ with_next (ended_lines_of past.fed) line
     one-more =
@@ -274,7 +274,7 @@ module _ (filter : Filter) (shows : List InputLine → List Awaited → Type 0)
 
     ended-first : (more : List ℕ)
         → ended_lines_of (past.fed ++ (fed ++ more)) ≡ with_next (ended_lines_of past.fed) line
-          ++ ended_lines_of more
+        ++ ended_lines_of more
     ended-first more =
         is.cut_ended (fed ++ more) ∙ ap (λ t. ended_lines_of past.fed ++ ended_lines_of t) (joined more)
         ∙ ap (λ ls. ended_lines_of past.fed ++ ls) (ended_lines-first bytes_all more whole)
@@ -285,7 +285,7 @@ module _ (filter : Filter) (shows : List InputLine → List Awaited → Type 0)
         (ended_lines_of past.fed) line))
         (then (with_next (ended_lines_of past.fed) line) []) mid new
         → new.number ≡ mid.number + 1 → new.tail.bytes.items ≡ []
-          → IsGoing filter then new (fed_with past fed)
+        → IsGoing filter then new (fed_with past fed)
     goes-on then new within number empty =
         let moved = within.moved in
         let kept = moved.kept in
@@ -294,7 +294,7 @@ module _ (filter : Filter) (shows : List InputLine → List Awaited → Type 0)
         → F (past.fed ++ (fed ++ more)) ≡ with_next (ended_lines_of past.fed) line ++ F more
         → F ((past.fed ++ fed) ++ more) ≡ ended_lines_of (past.fed ++ fed) ++ F more =
         λ F more first. ap F (append_assoc past.fed fed more) ∙ first ∙ ap (λ ls. ls ++ F more) (sym one-more)
-          in
+        in
         record {
           shown = subst (λ ls. then ls []) (sym one-more) kept.is_shown;
           good = subst (λ ls. (filter.so_far ls).fault ≡ None) (sym one-more) kept.good;
@@ -311,9 +311,9 @@ module _ (filter : Filter) (shows : List InputLine → List Awaited → Type 0)
           };
           flag = moved.flag ∙ ap (λ b. b || moved.warned) (same.warned ∙ is.flag)
               ∙ ap (λ b. are_some before.warnings || b) kept.flag
-                ∙ sym (some-both before.warnings kept.notices)
+              ∙ sym (some-both before.warnings kept.notices)
               ∙ ap are_some (sym kept.warnings_are) ∙ ap (λ ls. are_some (filter.so_far ls).warnings)
-                (sym one-more);
+              (sym one-more);
           number = number ∙ ap (λ n. n + 1) (same.number ∙ is.number)
               ∙ sym (length-append (ended_lines_of past.fed) (line ∷ [])) ∙ ap length (sym one-more);
           tail = [];
@@ -349,7 +349,7 @@ module _ (filter : Filter) (shows : List InputLine → List Awaited → Type 0)
 
     line-then : (rest more : List ℕ) → (others : List InputLine)
         × (lines_of ((past.fed ++ (piece ++ 10 ∷ rest)) ++ more) ≡ with_next (ended_lines_of past.fed) line
-          ++ others)
+        ++ others)
     line-then rest more = (
       lines_of (rest ++ more),
       ap lines_of (append_assoc past.fed (piece ++ 10 ∷ rest) more
@@ -383,13 +383,13 @@ module _ (filter : Filter) (shows : List InputLine → List Awaited → Type 0)
           text = record {
             wrote = is.text.wrote ∙ ap (λ t. past.output ++ t) (sym (passes.output_is ∙ same.output));
             reported = is.text.reported
-              ∙ ap (λ t. past.messages ++ t) (sym (passes.messages_are ∙ same.messages));
+                ∙ ap (λ t. past.messages ++ t) (sym (passes.messages_are ∙ same.messages));
           };
         }
 
     breaks-there : (new : Held) (rest : List ℕ) (at : At)
         → EndsThere (filter.so_far (ended_lines_of past.fed))
-          (filter.so_far (with_next (ended_lines_of past.fed) line))
+        (filter.so_far (with_next (ended_lines_of past.fed) line))
         mid.output new.output mid.messages new.messages at
         → IsBroken filter new (fed_with past (piece ++ 10 ∷ rest)) at
     breaks-there new rest at ends =
@@ -400,11 +400,11 @@ module _ (filter : Filter) (shows : List InputLine → List Awaited → Type 0)
           fault = ends.fault;
           text = record {
             wrote = ends.output_is ∙ is.text.wrote
-              ∙ ap (λ t. past.output ++ t) (sym (ends.wrote ∙ same.output));
+                ∙ ap (λ t. past.output ++ t) (sym (ends.wrote ∙ same.output));
             reported = more-text (notices_text before.warnings) past.messages (waiting held.messages)
                 (notices_text ends.notices) (waiting new.messages) _
                 (ap notices_text ends.warnings_are ∙ notices-both before.warnings ends.notices)
-                  is.text.reported
+                is.text.reported
                 (ends.reported ∙ ap (λ t. t ++ notices_text ends.notices) same.messages);
           };
         }
@@ -412,7 +412,7 @@ module _ (filter : Filter) (shows : List InputLine → List Awaited → Type 0)
     breaks-short : (new : Held) (rest : List ℕ) (at : At) → RanOutAt (length (ended_lines_of past.fed) + 1) at
         → StopsShort (filter.memory_after (ended_lines_of past.fed) line)
         (filter.so_far (ended_lines_of past.fed)) (filter.so_far (with_next (ended_lines_of past.fed) line))
-          mid new
+        mid new
         → RunsShort past.fed filter new (fed_with past (piece ++ 10 ∷ rest)) at
     breaks-short new rest at memory short =
         let lines : List InputLine = ended_lines_of past.fed in
@@ -453,8 +453,12 @@ module _ (filter : Filter) (shows : List InputLine → List Awaited → Type 0)
     breaks-kept : (new : Held) → AddsWithin mid new → IsKeptWithin new past
     breaks-kept new adds = adds-kept (filter.so_far (ended_lines_of past.fed)) mid new past
         (is.text.wrote ∙ ap (λ t. past.output ++ t) (sym same.output))
-        (λ limited. omega (arith, is.left (subst (λ (n : ℕ). 0 < n) same.limit limited), same.left,
-          same.limit)) adds
+        (λ limited. omega (
+          arith,
+          is.left (subst (λ (n : ℕ). 0 < n) same.limit limited),
+          same.left,
+          same.limit,
+        )) adds
 
     pub breaks : (new : Held) (rest : List ℕ) (stop : Stop)
         → StepStops (length (ended_lines_of past.fed) + 1)
@@ -509,13 +513,13 @@ text-grows before after shown old new past text moved =
       reported = more-text (notices_text before.warnings) past.messages (waiting old.messages)
           (notices_text kept.notices)
           (waiting new.messages) _
-            (ap notices_text kept.warnings_are ∙ notices-both before.warnings kept.notices)
+          (ap notices_text kept.warnings_are ∙ notices-both before.warnings kept.notices)
           text.reported kept.reported;
     }
 
 flag-grows : (before after : Course) (shown : Type 0) (old new : Held)
     → old.warned ≡ are_some before.warnings → MovesOn before after shown old new
-      → new.warned ≡ are_some after.warnings
+    → new.warned ≡ are_some after.warnings
 flag-grows before after shown old new flag moved =
     moved.flag ∙ ap (λ b. b || moved.warned) flag ∙ ap (λ b. are_some before.warnings || b) moved.kept.flag
     ∙ sym (some-both before.warnings moved.kept.notices) ∙ ap are_some (sym moved.kept.warnings_are)
@@ -525,7 +529,7 @@ text-ends : (before after : Course) (old new : Held) (past : HandlePast) (at : A
 text-ends before after old new past at text ends = record {
   wrote = ends.output_is ∙ text.wrote ∙ ap (λ t. past.output ++ t) (sym ends.wrote);
   reported = more-text (notices_text before.warnings) past.messages (waiting old.messages)
-    (notices_text ends.notices)
+      (notices_text ends.notices)
       (waiting new.messages) _ (ap notices_text ends.warnings_are ∙ notices-both before.warnings ends.notices)
       text.reported ends.reported;
 }
@@ -542,7 +546,7 @@ IsLeft filter lines held = 0 < held.limit → held.left + length (filter.so_far 
 -- the end after some lines
 module _ (filter : Filter) (mid : Held) (past : HandlePast) (lines : List InputLine)
     (text : IsText (filter.so_far lines) mid past)
-      (flag : mid.warned ≡ are_some (filter.so_far lines).warnings)
+    (flag : mid.warned ≡ are_some (filter.so_far lines).warnings)
     (good : AreUnfailed mid) (whole : lines_of past.fed ≡ lines) (new : Held) where
   pub ends-well : (shown : Type 0) → IsLeft filter lines mid
       → MovesWithin (filter.so_far lines) (filter.whole lines) shown mid new
@@ -585,7 +589,7 @@ module _ (filter : Filter) (mid : Held) (past : HandlePast) (lines : List InputL
     (sound : (filter.so_far lines).fault ≡ None) where
   pub passes-after : (others : List InputLine) → lines_of past.fed ≡ lines ++ others
       → PassesLimit (filter.so_far lines) (with_one_more filter lines others) mid new
-        → EndsPastLimit filter new past
+      → EndsPastLimit filter new past
   passes-after others first passes = record {
     lines = lines;
     others = others;
@@ -640,7 +644,7 @@ module _ (filter : Filter) (shows : List InputLine → List Awaited → Type 0)
         (moved : MovesOn (filter.so_far (ended_lines_of past.fed)) (filter.so_far last) shown held mid) where
       pub last-text : IsText (filter.so_far last) mid past
       last-text = text-grows (filter.so_far (ended_lines_of past.fed))
-        (filter.so_far last) shown held mid past is.text
+          (filter.so_far last) shown held mid past is.text
           moved
 
       pub last-sound : (filter.so_far last).fault ≡ None
@@ -654,7 +658,7 @@ module _ (filter : Filter) (shows : List InputLine → List Awaited → Type 0)
 
       pub last-flag : mid.warned ≡ are_some (filter.so_far last).warnings
       last-flag = flag-grows (filter.so_far (ended_lines_of past.fed))
-        (filter.so_far last) shown held mid is.flag moved
+          (filter.so_far last) shown held mid is.flag moved
 
     -- it ended the run
     pub last-fails : IsLawful filter → (at : At)
@@ -683,7 +687,7 @@ module _ (filter : Filter) (shows : List InputLine → List Awaited → Type 0)
         inr (subst (λ c. IsFailed c mid past at) (sym decided) (record {
           fault = ends.fault;
           text = text-ends (filter.so_far (ended_lines_of past.fed))
-            (filter.so_far last) held mid past at is.text ends;
+              (filter.so_far last) held mid past at is.text ends;
         }))
 
     pub last-left : (shown : Type 0)

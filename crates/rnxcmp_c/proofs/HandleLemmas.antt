@@ -82,7 +82,7 @@ fed-stands before task reader past (Some outcome) (inr (inl limit)) =
     (result_for task bytes) reader outcome past) (append-nil past.fed) (limit [])))
 fed-stands before task reader past (Some outcome) (inr (inr over)) =
     inr (inr (inr (subst (λ (bytes : List ℕ). ReaderIsOver (limit_for task)
-      (result_for task bytes) reader outcome past)
+    (result_for task bytes) reader outcome past)
     (append-nil past.fed) (over.1 []))))
 
 ended-stands : (task : Task) (reader : Reader) (past : HandlePast) (outcome : Option Outcome)
@@ -103,15 +103,15 @@ passed-stands task reader past (Some outcome) long = inr (inr (inl long))
 
 -- where nothing was taken, nothing more was fed
 pub none-fed : (past : HandlePast) (bytes : List ℕ) (used : ℕ) → used ≡ 0
-  → past ≡ fed_with past (take used bytes)
+    → past ≡ fed_with past (take used bytes)
 none-fed past bytes used none =
     sym (ap (λ (n : ℕ). fed_with past (take n bytes)) none
     ∙ ap (λ (fed : List ℕ). let then : HandlePast = record past { fed = fed } in then) (append-nil past.fed))
 
 pub feeds-stands : (task : Task) (old new : Reader) (past : HandlePast) (bytes : List ℕ) (used : ℕ)
-  (answer : Answer)
+    (answer : Answer)
     (outcome : Option Outcome) → ReaderStands task old past
-      → FeedsBy task old new past bytes used answer outcome
+    → FeedsBy task old new past bytes used answer outcome
     → ReaderStands task new (fed_with past (take used bytes))
 feeds-stands task old new past bytes used answer None stands feeds =
     let goes_on : (0 < length bytes → 0 < length (allowed_after past bytes))
@@ -149,7 +149,7 @@ module _ (task : Task) (old new : Reader) (past : HandlePast) (answer : Answer) 
 
   pub ends-answer : (outcome : Option Outcome) → is_some outcome ≡ false
       → ReaderEndsBy task old new past answer outcome → ReaderHasEnded task new past
-        × (answer ≡ answer_now new)
+      × (answer ≡ answer_now new)
   ends-answer None runs ends = ends
   ends-answer (Some outcome) runs ends = absurd (cc)
 
@@ -164,7 +164,7 @@ pub fresh-stands : (task : Task) (engine : AnyEngine) (held : Held) (limit : ℕ
     → ReaderRuns task (record { engine = engine; held = held; fed = 0; outcome = None }) nothing_fed
 fresh-stands task engine held limit fresh limited nothing_held =
     let nothing = IsLawful.nothing
-      (subst IsLawful (sym (filter-is task engine fresh.is_of)) (lawful-for task)) in
+    (subst IsLawful (sym (filter-is task engine fresh.is_of)) (lawful-for task)) in
     record {
       is_of = fresh.is_of;
       drained = fresh.drained;

@@ -57,10 +57,10 @@ none-where_0 (Some number) = (λ e. absurd (cc), λ e. absurd (cc))
 pub status-where_it_fits : (result : FilterResult) (room : ℕ)
     → length result.output ≤ room → status_in result room ≡ result.status
 status-where_it_fits result room fits =
-  ap (λ b. cond b result.status NO_ROOM) (le-leb (length result.output) room fits)
+    ap (λ b. cond b result.status NO_ROOM) (le-leb (length result.output) room fits)
 
 pub judges-status : (file : List ℕ) (status : ℕ) → status ≡ (checked file).status
-  → CallJudgesStandard status file
+    → CallJudgesStandard status file
 judges-status file status is good =
     let found : Findings = findings_of (lines_of file) in
     let same : status ≡ report_status found.not_standard =

@@ -16,7 +16,7 @@ pub brings-back_passed : (holds : FilterResult → Type 0) (expanding : Choices)
     → holds (expanded text expanding) → CallBringsBackWhatPasses holds text
 brings-back_passed holds expanding text answered file compacting dated passed same =
     subst holds (ap (λ t. expanded t expanding) same ∙ what-passes file passed compacting expanding dated)
-      answered
+    answered
 
 -- an output that doesn't fit has a status of its own, which isn't 0
 zero-status : (result : FilterResult) (room : ℕ) → status_in result room ≡ 0 → result.status ≡ 0

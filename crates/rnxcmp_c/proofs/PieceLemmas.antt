@@ -36,7 +36,7 @@ none-where_none whole none =
 
 -- what is too long in what is kept is too long
 pub long-where_long : (bytes whole : List ℕ) → bytes ≡ take LINE_ROOM whole
-  → LINE_LIMIT < length (without_return bytes)
+    → LINE_LIMIT < length (without_return bytes)
     → LINE_LIMIT < length (without_return whole)
 long-where_long bytes whole kept long =
     ⊎_elim (λ within. subst (λ (l : List ℕ). LINE_LIMIT < length (without_return l))

@@ -70,13 +70,13 @@ pub warned-first : (task : Task) (lines more : List InputLine)
     (notices_text ((filter_for task).so_far lines).warnings)
 warned-first (Compact choices limit) lines more =
     subst (λ (ls : List ReadLine). Begins
-      (notices_text (reverse (warnings_in (whole_rinex choices.skip ls).items)))
+    (notices_text (reverse (warnings_in (whole_rinex choices.skip ls).items)))
     (notices_text (reverse (warnings_in (rinex_reading choices.skip (map seen lines)).items))))
     (sym (map-append seen lines more))
     (items-warned _ _ (whole-items rinex_place rinex-forward choices.skip 1 (map seen lines) (map seen more)))
 warned-first (Expand choices limit) lines more =
     subst (λ (ls : List ReadLine). Begins
-      (notices_text (reverse (warnings_in (whole_compact choices.skip ls).items)))
+    (notices_text (reverse (warnings_in (whole_compact choices.skip ls).items)))
     (notices_text (reverse (warnings_in (compact_reading choices.skip (map seen lines)).items))))
     (sym (map-append seen lines more))
     (items-warned _ _ (whole-more choices.skip (map seen lines) (map seen more) _ refl))
@@ -85,14 +85,14 @@ warned-first Check lines more = record { rest = []; same = refl }
 -- the messages of a result begin with the warnings
 pub messages-for : (task : Task) (input : List ℕ)
     → Begins (result_for task input).messages
-      (notices_text ((filter_for task).whole (lines_of input)).warnings)
+    (notices_text ((filter_for task).whole (lines_of input)).warnings)
 messages-for (Compact choices limit) input = record { rest = _; same = refl }
 messages-for (Expand choices limit) input = record { rest = _; same = refl }
 messages-for Check input = record { rest = _; same = refl }
 
 -- what some of the first lines make is first in both texts of the result
 module _ (task : Task) (input : List ℕ) (lines others : List InputLine)
-  (first : lines_of input ≡ lines ++ others) where
+    (first : lines_of input ≡ lines ++ others) where
   pub output-first : Begins (result_for task input).output ((filter_for task).so_far lines).output
   output-first =
       subst (λ t. Begins t ((filter_for task).so_far lines).output)

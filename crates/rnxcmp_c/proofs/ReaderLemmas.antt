@@ -60,13 +60,13 @@ lawful-for Check = check-lawful
 
 checked-faulty : (fault : Option At) (found : Findings) (at : At) → fault ≡ Some at
     → result_of_course (record { output = report_unless fault found; warnings = []; fault = fault })
-      ≡ checked_by fault
+    ≡ checked_by fault
     found
 checked-faulty (Some other) found at is = refl
 checked-faulty None found at is = absurd (cc)
 
 result-faulty : (task : Task) (input : List ℕ) (at : At) → ((filter_for task).whole (lines_of input)).fault
-  ≡ Some at
+    ≡ Some at
     → result_of_course ((filter_for task).whole (lines_of input)) ≡ result_for task input
 result-faulty (Compact choices limit) input at is = refl
 result-faulty (Expand choices limit) input at is = refl
@@ -87,7 +87,7 @@ faulty-status (Expand choices limit) input at is =
 faulty-status Check input at is = checked-status (whole_of input).fault (findings_of (lines_of input)) at is
 
 course-over : (limit : ℕ) (course : Course) (reader : Reader) (mid : Held) (outcome : Outcome)
-  (past : HandlePast)
+    (past : HandlePast)
     (at : At) → course.fault ≡ Some at → IsText course mid past
     → KeepsToLimit limit (past.output ++ waiting mid.output)
     → IsPutDown mid reader.held outcome at → ReaderIsOver limit (result_of_course course) reader outcome past
@@ -105,7 +105,7 @@ course-over limit course reader mid outcome past at fault text within put = reco
 -- ---- memory
 
 checked-output : (fault : Option At) (found : Findings)
-  → (checked_by fault found).output ≡ report_unless fault found
+    → (checked_by fault found).output ≡ report_unless fault found
 checked-output (Some at) found = refl
 checked-output None found = refl
 
@@ -239,7 +239,7 @@ module _ (task : Task) (engine : AnyEngine) (is : IsOf task engine)
   fault-hidden is_line input course whole fault text put =
       let same : result_of_course course ≡ result_for task input =
       sym (ap result_of_course whole)
-        ∙ result-faulty task input at (ap (λ (c : Course). c.fault) whole ∙ fault) in
+      ∙ result-faulty task input at (ap (λ (c : Course). c.fault) whole ∙ fault) in
       subst (λ r. RunIsOutOfMemory (filter_for task)
       (limit_for task) is_line input r reader outcome past) same (record {
         memory = subst (FaultIs OutOfMemory) (sym put.fault) refl;
@@ -267,14 +267,14 @@ module _ (task : Task) (engine : AnyEngine) (is : IsOf task engine)
       let filter = filter_for task in
       let fault : (filter.so_far broken.lines).fault ≡ Some at =
       subst (λ (f : Filter). (f.so_far broken.lines).fault ≡ Some at) (filter-is task engine is) broken.fault
-        in
+      in
       let text : IsText (filter.so_far broken.lines) mid past =
       subst (λ (f : Filter). IsText (f.so_far broken.lines) mid past) (filter-is task engine is) broken.text
-        in
+      in
       let whole : (more : List ℕ) → filter.whole (lines_of (past.fed ++ more)) ≡ filter.so_far broken.lines =
-        λ more.
+      λ more.
       ap filter.whole (broken.first more).1
-        ∙ (lawful-for task).decided broken.lines (broken.first more).0 at fault in
+      ∙ (lawful-for task).decided broken.lines (broken.first more).0 at fault in
       ⊎_elim (λ silently. inl (λ more.
       fault-hidden _ (past.fed ++ more) (filter.so_far broken.lines) (whole more) fault text silently))
       (λ down. inr (inr (
@@ -284,7 +284,7 @@ module _ (task : Task) (engine : AnyEngine) (is : IsOf task engine)
             (sym (ap result_of_course (whole more))
             ∙ result-faulty task (past.fed ++ more) at (ap (λ (c : Course). c.fault) (whole more) ∙ fault))
             (course-over (limit_for task) (filter.so_far broken.lines) reader mid outcome past at fault text
-              few down),
+            few down),
       )))
       put
 
@@ -321,7 +321,7 @@ pub one_more-first : (filter : Filter) → IsLawful filter → (lines others : L
 one_more-first filter lawful lines [] = record {
   rest = [];
   same = ap (λ ls. (filter.whole ls).output) (append-nil lines)
-    ∙ sym (append-nil (filter.whole lines).output);
+      ∙ sym (append-nil (filter.whole lines).output);
 }
 one_more-first filter lawful lines (line ∷ others) =
     subst (λ ls. Begins (filter.whole ls).output (filter.so_far (with_next lines line)).output)
@@ -371,7 +371,7 @@ module _ (task : Task) (reader : Reader) (mid : Held) (outcome : Outcome) (past 
         (omega (arith, passes.over, limit)) passes.good passes.text))
 
     pub passes-at_end : EndsPastLimit (engine_filter engine) mid past
-      → HasEndedBy task reader past (Some outcome)
+        → HasEndedBy task reader past (Some outcome)
     passes-at_end before =
         let passes = subst (λ (f : Filter). EndsPastLimit f mid past) (filter-is task engine is) before in
         inr (inl (is-over_limit past.fed passes.lines passes.others passes.first (limited-by passes.limited)
@@ -404,7 +404,7 @@ stops-at_end task engine is reader mid limit outcome past Limit fails stopped =
 pub passed-over : (task : Task) (before reader : Reader) (outcome : Outcome) (past : HandlePast)
     → ReaderRuns task before past → length past.fed ≡ INPUT_LIMIT
     → IsPut before.held reader.held (record { line = before.held.number + 1; fault = InputTooLong })
-      (Some outcome)
+    (Some outcome)
     → HasPassedBy task reader past (Some outcome)
 passed-over task before reader outcome past runs full put =
     let filter = filter_for task in
@@ -462,7 +462,7 @@ course-well limit course reader outcome past limited none status all = record {
 }
 
 checked-well : (fault : Option At) (found : Findings) (reader : Reader) (outcome : Outcome)
-  (past : HandlePast)
+    (past : HandlePast)
     → fault ≡ None → outcome.fault ≡ None → outcome.status ≡ report_status found.not_standard
     → IsText (record { output = report_unless fault found; warnings = []; fault = fault }) reader.held past
     → ReaderIsOver 0 (checked_by fault found) reader outcome past
@@ -479,24 +479,24 @@ pub all-over : (task : Task) (engine then : AnyEngine) → IsOf task engine → 
     → (reader : Reader) (outcome : Outcome) (past : HandlePast) → reader.held.limit ≡ limit_for task
     → outcome.fault ≡ None → outcome.status ≡ status_at_end then reader.held.warned
     → IsAll ((engine_filter engine).whole (lines_of past.fed)) reader.held past
-      → has_ended_of then (lines_of past.fed)
+    → has_ended_of then (lines_of past.fed)
     → ReaderIsOver (limit_for task) (result_for task past.fed) reader outcome past
 all-over (Compact choices limit) engine (Compacting c) is now reader outcome past limited none status all
-  ended =
+    ended =
     course-well limit _ reader outcome past limited none status
     (subst (λ (f : Filter). IsAll (f.whole (lines_of past.fed)) reader.held past) (filter-is
     (Compact choices limit) engine is) all)
 all-over (Compact choices limit) engine (Expanding c) is now reader outcome past limited none status all ended
-  =
+    =
     absurd now
 all-over (Compact choices limit) engine (Checking c) is now reader outcome past limited none status all ended
-  =
+    =
     absurd now
 all-over (Expand choices limit) engine (Compacting c) is now reader outcome past limited none status all ended
-  =
+    =
     absurd now
 all-over (Expand choices limit) engine (Expanding c) is now reader outcome past limited none status all ended
-  =
+    =
     course-well limit _ reader outcome past limited none status
     (subst (λ (f : Filter). IsAll (f.whole (lines_of past.fed)) reader.held past) (filter-is
     (Expand choices limit) engine is) all)
@@ -509,7 +509,7 @@ all-over Check engine (Expanding c) is now reader outcome past limited none stat
 all-over Check engine (Checking c) is now reader outcome past limited none status all ended =
     let whole : IsAll (check_filter.whole (lines_of past.fed)) reader.held past =
     subst (λ (f : Filter). IsAll (f.whole (lines_of past.fed)) reader.held past)
-      (filter-is Check engine is) all in
+    (filter-is Check engine is) all in
     checked-well (whole_of past.fed).fault (findings_of (lines_of past.fed)) reader outcome past whole.good
-      none
+    none
     (status ∙ ap report_status ended) whole.text

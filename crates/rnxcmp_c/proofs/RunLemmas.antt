@@ -25,7 +25,7 @@ use Rattle.rnxcmp_c.specs.meaning.Answers.{ExceedsLimit, fault_code_in}
 use Rattle.rnxcmp_c.proofs.GoingLemmas.{begins-then}
 
 not-memory : (fault : Option At) → (fault_code_in fault ≡ code_of_fault OutOfMemory → ⊥)
-  → FaultIs OutOfMemory fault → ⊥
+    → FaultIs OutOfMemory fault → ⊥
 not-memory None other is = is
 not-memory (Some at) other is = other (ap code_of_fault is)
 
@@ -45,7 +45,7 @@ module _ (result_of : List ℕ → FilterResult) (filter : Filter) (lawful : IsL
     (within : length text ≤ INPUT_LIMIT) (writer messages : Device) (outcome : Outcome)
     (runs : RunsAs result_of filter input given writer messages outcome.status outcome.fault)
     (room told most counted_most told_most : ℕ)
-      (output_before output_after messages_before messages_after : Counted)
+    (output_before output_after messages_before messages_after : Counted)
     (empty : IsEmpty room counted_most output_before) (none_told : IsEmpty told told_most messages_before)
     (wrote : (t : List ℕ) → writer.took t → Took output_before t output_after)
     (reported : (t : List ℕ) → messages.took t → Took messages_before t messages_after) where
@@ -53,11 +53,11 @@ module _ (result_of : List ℕ → FilterResult) (filter : Filter) (lawful : IsL
       → (output_after.failures ≡ 0 → NoneFailed writer.before.failures writer.after.failures)
       → (messages_after.failures ≡ 0 → NoneFailed messages.before.failures messages.after.failures)
       → (run : Run) → IsCollected outcome output_after messages_after most run
-        → IsRun (result_of text) room told most run
+      → IsRun (result_of text) room told most run
   run-of read unfailed unfailed_told run is =
       let memory = not-memory outcome.fault
       (subst (λ (o : Outcome). fault_code_in o.fault ≡ code_of_fault OutOfMemory → ⊥) is.outcome_is is.memory)
-        in
+      in
       let made : IsResult (result_of text) writer messages outcome.status outcome.fault =
       subst (λ (l : List ℕ). IsResult (result_of l) writer messages outcome.status outcome.fault) (sym same)
       (runs.whole read (unfailed is.output_good) (unfailed_told is.messages_good) memory rest ends
@@ -65,7 +65,7 @@ module _ (result_of : List ℕ → FilterResult) (filter : Filter) (lawful : IsL
       let output = wrote (result_of text).output made.output in
       let messages_all = reported (result_of text).messages made.messages_are in
       let count = count-is room counted_most output_before output_after empty (result_of text).output output
-        in
+      in
       record {
         within = λ over. ⊎_elim (λ none. absurd (omega (arith, none, over.0)))
             (λ few. absurd (omega (arith, few, over.1, count))) is.within;
@@ -74,10 +74,10 @@ module _ (result_of : List ℕ → FilterResult) (filter : Filter) (lawful : IsL
         output_length = is.output_count ∙ count;
         messages_kept = is.messages_are
             ∙ kept-is told told_most messages_before messages_after none_told
-              (result_of text).messages messages_all;
+            (result_of text).messages messages_all;
         messages_length = is.messages_count
             ∙ count-is told told_most messages_before messages_after none_told
-              (result_of text).messages messages_all;
+            (result_of text).messages messages_all;
         status = ap (λ (o : Outcome). o.status) is.outcome_is ∙ made.status_is;
         fault = ap (λ (o : Outcome). o.fault) is.outcome_is ∙ made.fault_is;
       }
@@ -89,21 +89,21 @@ module _ (result_of : List ℕ → FilterResult) (filter : Filter) (lawful : IsL
       let written : List ℕ = front.written in
       let first = ended_lines-come_first given in
       let short : length given ≤ INPUT_LIMIT = omega (arith, within, ap length same, length-append given rest)
-        in
+      in
       let complete : complete_lines given ≡ ended_lines_of given =
-        ap ended_lines_of (take_all INPUT_LIMIT given short) in
+      ap ended_lines_of (take_all INPUT_LIMIT given short) in
       let all : lines_of text ≡ ended_lines_of given ++ lines_of (first.0 ++ rest) = ap lines_of same
-        ∙ first.2 rest in
+      ∙ first.2 rest in
       let to : (t : List ℕ) → Begins (filter.whole (lines_of text)).output t
-        → Begins (result_of text).output t =
+      → Begins (result_of text).output t =
       λ t begins. subst (λ (l : List ℕ). Begins l t) (sym (written_by text)) begins in (
         written,
         wrote written front.wrote,
         ⊎_elim
             (λ (b : Begins (filter.so_far (complete_lines given)).output written). to written
-              (begins-then _ _ _
+            (begins-then _ _ _
             (subst (λ ls. Begins (filter.whole ls).output (filter.so_far (ended_lines_of given)).output)
-              (sym all)
+            (sym all)
             (lawful.goes_on (ended_lines_of given) (lines_of (first.0 ++ rest))))
             (subst (λ ls. Begins (filter.so_far ls).output written) complete b)))
             (λ e. to written (subst (λ (l : List ℕ). Begins (filter.whole (lines_of l)).output written)
@@ -133,7 +133,7 @@ module _ (result_of : List ℕ → FilterResult) (filter : Filter) (lawful : IsL
 
 -- where there is no limit, no output is longer than it may be
 pub none-over : (output : List ℕ) (answer : Answer) {most : ℕ} → most ≡ 0
-  → HasNone (ExceedsLimit most output) answer
+    → HasNone (ExceedsLimit most output) answer
     → HasNone ⊥ answer
 none-over output answer none (inl over) = absurd (omega (arith, none, over.1.0))
 none-over output answer none (inr memory) = inr memory

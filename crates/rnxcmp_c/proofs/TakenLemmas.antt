@@ -17,7 +17,7 @@ use Rattle.rnxcmp_c.specs.declared.reader.Reader.{Reader}
 
 -- what was taken, and then what is kept
 regrouped : (taken given kept before : List ℕ) → before ≡ given ++ kept
-  → (taken ++ given) ++ kept ≡ taken ++ before
+    → (taken ++ given) ++ kept ≡ taken ++ before
 regrouped taken given kept before is = append_assoc taken given kept ∙ ap (λ t. taken ++ t) (sym is)
 
 module _ (task : Task) (old : Reader) (past : HandlePast) (output messages : Pending) (text told : List ℕ)
@@ -38,7 +38,7 @@ module _ (task : Task) (old : Reader) (past : HandlePast) (output messages : Pen
   same-messages = sym (regrouped past.messages told (waiting messages) (waiting old.held.messages) reported)
 
   same-made : (course : Course) (after : List ℕ)
-    → IsMadeByLines course after (texts_made past (texts_of_held old.held))
+      → IsMadeByLines course after (texts_made past (texts_of_held old.held))
       → IsMadeByLines course after (texts_made then (texts_of_held new.held))
   same-made course after made = record {
     good = made.good;
@@ -72,9 +72,9 @@ module _ (task : Task) (old : Reader) (past : HandlePast) (output messages : Pen
 
   hidden : (outcome : Outcome)
       → HidesFault (result_for task past.fed) (line_in outcome.fault)
-        (texts_made past (texts_of_held old.held))
+      (texts_made past (texts_of_held old.held))
       → HidesFault (result_for task past.fed) (line_in outcome.fault)
-        (texts_made then (texts_of_held new.held))
+      (texts_made then (texts_of_held new.held))
   hidden outcome hides = record {
     faulty = hides.faulty;
     line_is = hides.line_is;

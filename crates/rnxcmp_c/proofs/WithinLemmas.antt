@@ -269,16 +269,16 @@ module _ (number : ℕ) (memory : Option (List At)) (before after : Course) (sho
     step-stops (Err halt) kept stopped (Fault at) (inl stays) =
         stops-within number memory before after old mid new mark marked told limit left at
         (IfErr-at_err (λ h. StopsBy number memory before after old.output mid.output old.messages mid.messages
-          h)
+        h)
         stays.0 stopped) stays.1
     step-stops (Err halt) kept stopped (Fault at) (inr lost) =
         stops-lost number memory before after old mid new mark marked told limit left at lost.1
         (⊎_elim
         (λ e. IfErr-at_err (λ h. StopsBy number memory before after old.output mid.output old.messages
-          mid.messages h)
+        mid.messages h)
         e stopped)
         (λ e. IfErr-at_err (λ h. StopsBy number memory before after old.output mid.output old.messages
-          mid.messages h)
+        mid.messages h)
         e stopped) lost.0)
         lost.2.0 lost.2.1 lost.2.2
     step-stops (Err halt) kept stopped Limit back =

@@ -27,9 +27,9 @@ codes-left : (width : ℕ) (codes : List Code)
 codes-left width [] = refl
 codes-left width (c ∷ cs) =
     ap {B = Option ArcTail} (λ a. if is_ok (value_of_code width c a) then arc_of_code c a else a)
-      (codes-left width cs)
+    (codes-left width cs)
     ∙ ap {B = Option ArcTail}
-      (λ r. if is_ok r then arc_of_code c (started_tail (since_start (accepted width cs)))
+    (λ r. if is_ok r then arc_of_code c (started_tail (since_start (accepted width cs)))
     else started_tail (since_start (accepted width cs))) (sym (value-next width c (accepted width cs)))
     ∙ choose (is_ok (value_of width (c ∷ accepted width cs)))
   where
@@ -44,5 +44,5 @@ pub values-of_codes : (width : ℕ) (code : Code) (older : List Code) → Values
 values-of_codes width code older = record {
   tail = codes-left width older;
   value = ap (value_of_code width code) (codes-left width older)
-    ∙ sym (value-next width code (accepted width older));
+      ∙ sym (value-next width code (accepted width older));
 }

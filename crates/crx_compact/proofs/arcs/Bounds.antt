@@ -39,7 +39,7 @@ near-along : (b : ℕ) (x y : ℤ) → x ≡ y → IsNear b x → IsNear b y
 near-along b x y e h = let P : ℤ → Type 0 = λ z. IsNear b z in subst P e h
 
 pub difference-near : (k b : ℕ) (xs : List ℤ) → AllByRecursion (IsNear b) xs
-  → IsNear (doubled k b) (difference k xs)
+    → IsNear (doubled k b) (difference k xs)
 difference-near zero b [] h = near-zero b
 difference-near zero b (x ∷ xs) h = near-along b x (difference 0 (x ∷ xs)) (sym (difference-zero x xs)) h.0
 difference-near (suc k) b [] h = near-zero (doubled k b + doubled k b)
@@ -52,10 +52,10 @@ difference-near (suc k) b (x ∷ xs) h =
 pub doubled-more : (k n b : ℕ) → k ≤ n → doubled k b ≤ doubled n b
 doubled-more zero zero b h = omega arith
 doubled-more zero (suc n) b h = let le : b ≤ doubled n b = doubled-more zero n b (omega arith)
-  in omega (arith, le)
+    in omega (arith, le)
 doubled-more (suc k) zero b h = absurd (omega (arith, h))
 doubled-more (suc k) (suc n) b h = let le : doubled k b ≤ doubled n b = doubled-more k n b (omega (arith, h))
-  in
+    in
     omega (arith, le)
 
 short : (b : ℕ) (z : ℤ) → b < 10 ^ DIGITS_LIMIT → IsNear b z → IsShort z

@@ -73,7 +73,7 @@ numbers-steps n (x ∷ y ∷ ys) =
     ∙ ap (λ k. difference k (steps (x ∷ y ∷ ys))) (sym same) in
     ap (λ d. d ∷ without_oldest (numbers_of (suc n) (y ∷ ys))) head
     ∙ ap (λ r. difference (min (length (steps (y ∷ ys))) n) (steps (x ∷ y ∷ ys)) ∷ r)
-      (numbers-steps n (y ∷ ys))
+    (numbers-steps n (y ∷ ys))
 
 -- ---- the recurrence of the values
 
@@ -113,7 +113,7 @@ abbrev laters : ℕ → ℕ → List ℤ → ℤ
 laters m count numbers = weighted (λ i. pos (binomial (i + m) m)) (take count numbers)
 
 value_parts : (m : ℕ) (c : List ℤ) (u d : ℕ) (o : List ℤ) → length c - 1 ≡ u → length c - suc m ≡ d
-  → reverse c ≡ o
+    → reverse c ≡ o
     → value_at (suc m) c ≡ firsts u (suc m) o +ℤ laters m d c
 value_parts m c u d o eu ed eo =
     ap (λ n. firsts n (suc m) (reverse c) +ℤ laters m (length c - suc m) c) eu
@@ -122,7 +122,7 @@ value_parts m c u d o eu ed eo =
 
 -- one step of the later sum: Pascal's law
 laters-step : (m d : ℕ) (x : ℤ) (c : List ℤ)
-  → laters (suc m) d (x ∷ c) ≡ laters (suc m) (d - 1) c +ℤ laters m d (x ∷ c)
+    → laters (suc m) d (x ∷ c) ≡ laters (suc m) (d - 1) c +ℤ laters m d (x ∷ c)
 laters-step m zero x c = refl
 laters-step m (suc e) x c =
     let split : weighted (λ i. pos (binomial (i + suc m) (suc m))) (x ∷ take e c)
@@ -133,7 +133,7 @@ laters-step m (suc e) x c =
     ≡ laters m (suc e) (x ∷ c) +ℤ weighted (λ i. pos (binomial (i + m) (suc m))) (x ∷ take e c) =
     weighted-add (λ i. pos (binomial (i + m) m)) (λ i. pos (binomial (i + m) (suc m))) (x ∷ take e c) in
     let none : pos (binomial (0 + m) (suc m)) ≡ pos 0 = ap pos (binomial-past (0 + m) (suc m) (omega arith))
-      in
+    in
     let shift : weighted (λ i. pos (binomial (suc i + m) (suc m))) (take e c) ≡ laters (suc m) e c =
     weighted-same (λ i. pos (binomial (suc i + m) (suc m)))
     (λ i. pos (binomial (i + suc m) (suc m))) (moved m) (take e c) in
@@ -143,11 +143,11 @@ laters-step m (suc e) x c =
     ∙ zero_times x (laters (suc m) e c) in
     let less : suc e - 1 ≡ e = omega arith in
     split ∙ sum ∙ ap (λ v. laters m (suc e) (x ∷ c) +ℤ v) rest
-      ∙ turn (laters m (suc e) (x ∷ c)) (laters (suc m) e c)
+    ∙ turn (laters m (suc e) (x ∷ c)) (laters (suc m) e c)
     ∙ ap (λ n. laters (suc m) n c +ℤ laters m (suc e) (x ∷ c)) (sym less)
   where
     pascal : (m i : ℕ) → pos (binomial (i + suc m) (suc m)) ≡ pos (binomial (i + m) m) +ℤ pos
-      (binomial (i + m) (suc m))
+        (binomial (i + m) (suc m))
     pascal m i =
         let next : i + suc m ≡ suc (i + m) = omega arith in
         ap (λ n. pos (binomial n (suc m))) next ∙ pos-add (binomial (i + m) m) (binomial (i + m) (suc m))
@@ -209,9 +209,9 @@ value-recurs zero x b z =
     ≡ firsts (suc (length b)) 1 (z ∷ reverse (x ∷ b)) +ℤ laters 0 (suc (length b)) (x ∷ (b ++ z ∷ [])) =
     value_parts 0 (x ∷ (b ++ z ∷ [])) (suc (length b))
     (suc (length b)) (z ∷ reverse (x ∷ b)) (omega (arith, long)) (omega (arith, long))
-      (reverse-last (x ∷ b) z) in
+    (reverse-last (x ∷ b) z) in
     let right : value_at 1 (b ++ z ∷ []) ≡ firsts (length b) 1 (z ∷ reverse b) +ℤ laters 0 (length b)
-      (b ++ z ∷ []) =
+    (b ++ z ∷ []) =
     value_parts 0 (b ++ z ∷ []) (length b)
     (length b) (z ∷ reverse b) (omega (arith, long)) (omega (arith, long)) (reverse-last b z) in
     left ∙ regroup (pos 1 *ℤ z) x (laters 0 (length b) (b ++ z ∷ [])) ∙ ap (λ v. v +ℤ x) (sym right)
@@ -231,7 +231,7 @@ value-recurs (suc m) x b z =
     (length b - m) (z ∷ (reverse b ++ x ∷ [])) (omega (arith, long, same)) (omega (arith, long)) turned in
     let right : value_at (suc (suc m)) (b ++ z ∷ [])
     ≡ firsts (length (reverse b)) (suc (suc m)) (z ∷ reverse b) +ℤ laters (suc m) (length b - m - 1)
-      (b ++ z ∷ []) =
+    (b ++ z ∷ []) =
     value_parts (suc m) (b ++ z ∷ []) (length (reverse b))
     (length b - m - 1) (z ∷ reverse b) (omega (arith, long, same)) (omega (arith, long)) (reverse-last b z) in
     let below : value_at (suc m) (x ∷ b)
@@ -255,7 +255,7 @@ value-recurs (suc m) x b z =
     (firsts (length (reverse b)) (suc m) (reverse b ++ x ∷ []))
     (laters (suc m) (length b - m - 1) (b ++ z ∷ [])) (laters m (length b - m) (x ∷ b))
     ∙ ap (λ v. v +ℤ (firsts (length (reverse b)) (suc m) (reverse b ++ x ∷ []) +ℤ laters m (length b - m)
-      (x ∷ b)))
+    (x ∷ b)))
     (sym right)
     ∙ ap (λ v. value_at (suc (suc m)) (b ++ z ∷ []) +ℤ v) (sym below)
   where
@@ -268,7 +268,7 @@ pub value-step : (n : ℕ) (x y : ℤ) (ys : List ℤ)
 value-step n x y ys =
     let P : List ℤ
     → Type 0 = λ c. value_at (suc n) (x ∷ c) ≡ value_at (suc n) c +ℤ value_at n (x ∷ without_oldest (y ∷ ys))
-      in
+    in
     subst P (without_oldest-append y ys) (value-recurs n x (without_oldest (y ∷ ys)) (oldest y ys))
 
 -- ---- inversion
@@ -291,12 +291,12 @@ value-numbers zero xs x =
 value-numbers (suc n) [] x =
     let none : min 0 (suc n) ≡ 0 = omega arith in
     value-first n (difference (min 0 (suc n)) (x ∷ [])) ∙ ap (λ k. difference k (x ∷ [])) none
-      ∙ difference-zero x []
+    ∙ difference-zero x []
 value-numbers (suc n) (y ∷ ys) x =
     value-step n (difference (min (length (y ∷ ys)) (suc n)) (x ∷ y ∷ ys))
     (difference (min (length ys) (suc n)) (y ∷ ys)) (numbers_of (suc n) ys)
     ∙ ap (λ v. v +ℤ value_at n (without_oldest (numbers_of (suc n) (x ∷ y ∷ ys))))
-      (value-numbers (suc n) ys y)
+    (value-numbers (suc n) ys y)
     ∙ ap (λ c. y +ℤ value_at n c) (numbers-steps n (x ∷ y ∷ ys))
     ∙ ap (λ v. y +ℤ v) (value-numbers n (steps (y ∷ ys)) (x -ℤ y))
     ∙ back x y
@@ -310,7 +310,7 @@ pub started-codes : (n : ℕ) (xs : List ℤ) (x : ℤ)
 started-codes n [] x =
     let none : min 0 n ≡ 0 = omega arith in
     let first : x ≡ difference (min 0 n) (x ∷ []) =
-      sym (ap (λ k. difference k (x ∷ [])) none ∙ difference-zero x []) in
+    sym (ap (λ k. difference k (x ∷ [])) none ∙ difference-zero x []) in
     ap {B = Option Started} (λ v. Some (record { order = n; numbers = v ∷ [] })) first
 started-codes n (y ∷ ys) x =
     ap (option_map (onto_started (difference (min (length (y ∷ ys)) n) (x ∷ y ∷ ys)))) (started-codes n ys y)

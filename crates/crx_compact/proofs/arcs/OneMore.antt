@@ -47,7 +47,7 @@ step-arc d n (b ∷ bs) h = ap {B = Option ArcTail} Some (values-by_tail n d b b
 
 step-value_of : (width : ℕ) (d : ℤ) (o : Option Started)
     → HasNumbers o → value_since width (option_map (onto_started d) o) ≡ value_of_code width (Step d)
-      (started_tail o)
+    (started_tail o)
 step-value_of width d None h = refl
 step-value_of width d (Some arc) h = step-value width d arc.order arc.numbers h
 

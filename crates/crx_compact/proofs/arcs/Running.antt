@@ -58,8 +58,11 @@ after-below bound value (d ∷ ds) h hs =
     (h, after-below (bound + bound) (value -ℤ d) ds (less bound value d h hs.0) hs.1)
   where
     less : (b : ℕ) (x y : ℤ) → IsBelow b x → IsBelow b y → IsBelow (b + b) (x -ℤ y)
-    less b x y f g = record { low = omega (arith, ints, f.low, g.high); high =
-      omega (arith, ints, f.high, g.low) }
+    less b x y f g = record {
+      low = omega (arith, ints, f.low, g.high);
+      high =
+          omega (arith, ints, f.high, g.low);
+    }
 
 pub take-below : (bound n : ℕ) (ds : List ℤ) → AreBelow bound ds → AreBelow bound (take n ds)
 take-below bound zero ds h = tt
@@ -88,12 +91,12 @@ newest-by number (d ∷ ds) =
 
 some-by : (number : ℤ) (ds : List ℤ) → (onto : ℤ)
     → onto_sum onto (differences_by number ds)
-      ≡ (onto +ℤ newest (differences_by number ds)) ∷ differences_by number ds
+    ≡ (onto +ℤ newest (differences_by number ds)) ∷ differences_by number ds
 some-by number [] onto = refl
 some-by number (d ∷ ds) onto = some-sum onto d (differences_by number ds)
   where
     some-sum : (o d : ℤ) (es : List ℤ)
-      → onto_sum o (onto_sum d es) ≡ (o +ℤ newest (onto_sum d es)) ∷ onto_sum d es
+        → onto_sum o (onto_sum d es) ≡ (o +ℤ newest (onto_sum d es)) ∷ onto_sum d es
     some-sum o d [] = refl
     some-sum o d (e ∷ es) = refl
 
@@ -121,7 +124,7 @@ take-after (suc n) value (d ∷ ds) = ap (λ r. value ∷ r) (take-after n (valu
 -- ---- the same place by place, as a loop goes
 
 pub drop-index : (ds : List ℤ) (k : ℕ) → k < length ds
-  → drop k ds ≡ slice_index_or ds k (pos 0) ∷ drop (k + 1) ds
+    → drop k ds ≡ slice_index_or ds k (pos 0) ∷ drop (k + 1) ds
 drop-index ds k h = grind (arith, common_steps)
 
 pub below-fits : (bound : ℕ) (value : ℤ) → bound ≤ 2 ^ 63 → IsBelow bound value → FitsSigned w64 value
@@ -146,7 +149,7 @@ same-bits value h = to_z-of_z w64 value h
 
 pub first-fits : (k : ℕ) (ds : List ℤ)
     → k < length ds → k ≤ 9 → AreBelow (order_bound k) (drop k ds)
-      → FitsSigned w64 (slice_index_or ds k (pos 0))
+    → FitsSigned w64 (slice_index_or ds k (pos 0))
 first-fits k ds h few hs =
     let room : order_bound k ≤ 51200000000000000 = order-bound-within k few in
     below-fits (order_bound k) (slice_index_or ds k (pos 0)) (omega arith) (next-below k ds h hs).first
@@ -173,7 +176,7 @@ advance-step k target ds next h a =
     let g : IsBelow (order_bound k) (slice_index_or ds k (pos 0)) = b.first in
     let more : k + 1 ≡ suc k = omega arith in
     let later : drop (k + 1) (slice_set ds k next) ≡ drop (k + 1) ds =
-      drop-set-lt (k + 1) ds k next (omega arith) in
+    drop-set-lt (k + 1) ds k next (omega arith) in
     let P : List ℤ → Type 0 = λ xs. AreBelow (order_bound (k + 1)) xs in
     let Q : ℕ → Type 0 = λ n. IsBelow (order_bound n) (next -ℤ slice_index_or ds k (pos 0)) in
     let small : IsBelow (order_bound (suc k)) (next -ℤ slice_index_or ds k (pos 0)) =
@@ -181,10 +184,10 @@ advance-step k target ds next h a =
     record {
       done =
           ap (λ xs. xs ++ differences_after (next -ℤ slice_index_or ds k (pos 0))
-            (drop (k + 1) (slice_set ds k next)))
+          (drop (k + 1) (slice_set ds k next)))
           (take_more_set ds k next h)
           ∙ ap (λ xs. (take k ds ++ next ∷ []) ++ differences_after (next -ℤ slice_index_or ds k (pos 0)) xs)
-            later
+          later
           ∙ append_assoc (take k ds) (next ∷ [])
           (differences_after (next -ℤ slice_index_or ds k (pos 0)) (drop (k + 1) ds))
           ∙ ap (λ xs. take k ds ++ differences_after next xs) (sym (drop-index ds k h))
@@ -227,7 +230,7 @@ to-third value (a ∷ b ∷ c ∷ ds) h f hs =
 -- the first four of some numbers, put in place one after another
 pub set-four : (ds : List ℤ) (v a b c : ℤ)
     → 3 < length ds → take 4 (slice_set (slice_set (slice_set (slice_set ds 0 v) 1 a) 2 b) 3 c)
-      ≡ v ∷ a ∷ b ∷ c ∷ []
+    ≡ v ∷ a ∷ b ∷ c ∷ []
 set-four [] v a b c h = absurd (omega (arith, h))
 set-four (d ∷ []) v a b c h = absurd (omega (arith, h))
 set-four (d ∷ e ∷ []) v a b c h = absurd (omega (arith, h))
@@ -238,17 +241,17 @@ set-four (d ∷ e ∷ f ∷ g ∷ ds) v a b c h = refl
 pub four-put : (ds : List ℤ) (v a b c : ℤ)
     → FitsSigned w64 v → FitsSigned w64 a → FitsSigned w64 b → FitsSigned w64 c
     → take 4 ds ≡ to_z w64 (of_z w64 v) ∷ to_z w64 (of_z w64 a) ∷ to_z w64 (of_z w64 b) ∷ to_z w64
-      (of_z w64 c) ∷ []
+    (of_z w64 c) ∷ []
     → take 4 ds ≡ v ∷ a ∷ b ∷ c ∷ []
 four-put ds v a b c fv fa fb fc put =
-  rw (same-bits v fv, same-bits a fa, same-bits b fb, same-bits c fc) at put
+    rw (same-bits v fv, same-bits a fa, same-bits b fb, same-bits c fc) at put
 
 pub after-three : (ds : List ℤ) (value : ℤ) → 3 < length ds
     → differences_after value (take 3 ds) ≡ value
     ∷ (value -ℤ slice_index_or ds 0 (pos 0)) ∷
-      (value -ℤ slice_index_or ds 0 (pos 0) -ℤ slice_index_or ds 1 (pos 0))
+    (value -ℤ slice_index_or ds 0 (pos 0) -ℤ slice_index_or ds 1 (pos 0))
     ∷ (value -ℤ slice_index_or ds 0 (pos 0) -ℤ slice_index_or ds 1 (pos 0) -ℤ slice_index_or ds 2 (pos 0))
-      ∷ []
+    ∷ []
 after-three [] value h = absurd (omega (arith, h))
 after-three (d ∷ []) value h = absurd (omega (arith, h))
 after-three (d ∷ e ∷ []) value h = absurd (omega (arith, h))
@@ -265,7 +268,7 @@ pub record OntoThird (number : ℤ) (ds : List ℤ) : Type 0 where
       (pos 0) +ℤ (slice_index_or ds 1 (pos 0) +ℤ (slice_index_or ds 2 (pos 0) +ℤ number)))
   pub sums :
       (slice_index_or ds 0 (pos 0) +ℤ
-        (slice_index_or ds 1 (pos 0) +ℤ (slice_index_or ds 2 (pos 0) +ℤ number)))
+      (slice_index_or ds 1 (pos 0) +ℤ (slice_index_or ds 2 (pos 0) +ℤ number)))
       ∷ (slice_index_or ds 1 (pos 0) +ℤ (slice_index_or ds 2 (pos 0) +ℤ number))
       ∷ (slice_index_or ds 2 (pos 0) +ℤ number) ∷ number ∷ []
       ≡ differences_by number (take 3 ds)
@@ -306,7 +309,7 @@ sum-fits k target value ds h few s =
 
 pub sum-step : (k : ℕ) (target value : ℤ) (ds : List ℤ)
     → k < length ds → Summed k target value ds
-      → Summed (k + 1) target (value +ℤ slice_index_or ds k (pos 0)) ds
+    → Summed (k + 1) target (value +ℤ slice_index_or ds k (pos 0)) ds
 sum-step k target value ds h s =
     let b : NextBelow k ds = next-below k ds h s.rest_below in
     let f : IsBelow (10 ^ 18 + order_bound k) value = s.value_below in
@@ -351,9 +354,9 @@ take-take (suc n) (suc m) (d ∷ ds) =
 pub within-below : (width : ℕ) (value : ℤ) → width ≤ 15 → IsWithin width value → IsBelow value_bound value
 within-below width value few h =
     let low : 10 ^ (width - 2) ≤ 10 ^ 13 = pow-le-pow_right (lit< tt) {i = width - 2} {j = 13} (omega arith)
-      in
+    in
     let high : 10 ^ (width - 1) ≤ 10 ^ 14 = pow-le-pow_right (lit< tt) {i = width - 1} {j = 14} (omega arith)
-      in
+    in
     record { low = omega (arith, ints, h.low); high = omega (arith, ints, h.high) }
 
 pub below-short : (bound : ℕ) (value : ℤ) → bound ≤ 10 ^ 18 → IsBelow bound value → IsShort value
@@ -369,7 +372,7 @@ pub record IsLast (order count last : ℕ) : Type 0 where
   pub least : last ≡ min order count
 
 lower-taken : (order count last : ℕ) (ds : List ℤ) → IsLast order count last
-  → take order (take count ds) ≡ take last ds
+    → take order (take count ds) ≡ take last ds
 lower-taken order count last ds e = take-take order count ds ∙ ap (λ k. take k ds) (sym e.least)
 
 -- the differences that a next one needs are as small
@@ -381,7 +384,7 @@ lower-below order count last ds e h =
 
 some-kept : (order : ℕ) (value : ℤ) (ds : List ℤ) → Some
     (record { order = order; differences = differences_after value ds })
-      ≡ kept_tail order (differences_after value ds)
+    ≡ kept_tail order (differences_after value ds)
 some-kept order value [] = refl
 some-kept order value (d ∷ ds) = refl
 
@@ -426,7 +429,7 @@ goes-on-kept width order count last ds ds' value e k h after =
       counted = omega arith;
       below = subst P (sym after) (after-below value_bound value
           (take last ds) (within-below width value k.few_columns h)
-            (lower-below order count last ds e k.below));
+          (lower-below order count last ds e k.below));
       newest = subst (IsNewestWithin width) (sym after) (newest-after width value (take last ds) h);
     }
 
@@ -444,7 +447,7 @@ begun-tail order count ds ds' value l e =
 
 pub begun-kept : (width order : ℕ) (ds : List ℤ) (value : ℤ) → 0 < length ds
     → width ≤ 15 → order ≤ 9 → IsWithin width value
-      → IsArcInRange width order 1 (take 1 (slice_set ds 0 value))
+    → IsArcInRange width order 1 (take 1 (slice_set ds 0 value))
 begun-kept width order ds value l few o h =
     let P : List ℤ → Type 0 = λ xs. IsArcInRange width order 1 xs in
     subst P (sym (begun-list ds value l)) (record {
@@ -491,7 +494,7 @@ stepped width order count last number value ds e h l v f =
 -- a value that the code's test lets through
 pub accepted : (width : ℕ) (value : ℤ) (b : Bool)
     → b ≡ is_within width (to_z w64 (of_z w64 value)) → b ≡ true → FitsSigned w64 value
-      → is_within width value ≡ true
+    → is_within width value ≡ true
 accepted width value b e h f = ap (is_within width) (sym (same-bits value f)) ∙ sym e ∙ h
 
 -- a value that the code's test refuses
@@ -503,7 +506,7 @@ refused width value b e h f =
 
 -- the highest difference at a next value in range is a number that a code may have
 highest-below : (k : ℕ) (ds : List ℤ) → length ds + k ≤ 10 → AreBelow (order_bound k) ds
-  → IsShort (highest ds)
+    → IsShort (highest ds)
 highest-below k [] few h = omega arith
 highest-below k (d ∷ []) few h =
     let room : order_bound k ≤ 51200000000000000 = order-bound-within k (omega arith) in

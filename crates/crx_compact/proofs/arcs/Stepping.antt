@@ -48,13 +48,13 @@ pub first-differences : (n : ℕ) (x : ℤ) → differences_of n (x ∷ []) ≡ 
 first-differences n x =
     let none : min (1 - 1) n ≡ 0 = omega arith in
     ap (λ k. each_place (suc k) (λ i. difference i (x ∷ []))) none
-      ∙ ap (λ (d : ℤ). d ∷ []) (difference-zero x [])
+    ∙ ap (λ (d : ℤ). d ∷ []) (difference-zero x [])
 
 pub codes-by_tail : (n : ℕ) (x : ℤ) (older : List ℤ) → CodesByTail n x older
 codes-by_tail n x [] = record {
   code = refl;
   tail = ap {B = Option ArcTail} (λ ds. Some (record { order = n; differences = ds }))
-    (first-differences n x);
+      (first-differences n x);
 }
 codes-by_tail n x (y ∷ ys) = record {
   code =
@@ -92,9 +92,9 @@ numbers-values n (c ∷ older) =
     let v : ℤ = value_at n (c ∷ older) in
     let c' : ℤ = difference (min (length (values_of n older)) n) (v ∷ values_of n older) in
     let again : value_at n (c' ∷ numbers_of n (values_of n older)) ≡ v = value-numbers n (values_of n older) v
-      in
+    in
     let again' : value_at n (c' ∷ older) ≡ v = ap (λ r. value_at n (c' ∷ r)) (sym (numbers-values n older))
-      ∙ again in
+    ∙ again in
     let left : value_at n (c' ∷ older) ≡ c' +ℤ value_at n (pos 0 ∷ older) = value-newest n older c' in
     let right : v ≡ c +ℤ value_at n (pos 0 ∷ older) = value-newest n older c in
     let same : c' ≡ c = cancel c' c (value_at n (pos 0 ∷ older)) (sym left ∙ again' ∙ right) in
@@ -129,7 +129,7 @@ values-differences n c b older =
     let k : ℕ = min (length (w ∷ vs)) n in
     let number : difference k (v ∷ w ∷ vs) ≡ c =
     head-numbers (difference k (v ∷ w ∷ vs)) c (numbers_of n (w ∷ vs)) (b ∷ older)
-      (numbers-values n (c ∷ b ∷ older)) in
+    (numbers-values n (c ∷ b ∷ older)) in
     let all : differences_by (difference k (v ∷ w ∷ vs)) (each_place k (λ i. difference i (w ∷ vs)))
     ≡ each_place (suc k) (λ i. difference i (v ∷ w ∷ vs)) =
     differences-by_each k (λ i. difference i (v ∷ w ∷ vs))
@@ -141,13 +141,13 @@ values-differences n c b older =
     ∙ ap (λ d. differences_by d (each_place k (λ i. difference i (w ∷ vs)))) number
     ∙ ap (λ m. differences_by c (each_place m (λ i. difference i (w ∷ vs)))) (sym count')
     ∙ ap (differences_by c)
-      (sym (take-each_place n (suc (min (length (w ∷ vs) - 1) n)) (λ i. difference i (w ∷ vs))))
+    (sym (take-each_place n (suc (min (length (w ∷ vs) - 1) n)) (λ i. difference i (w ∷ vs))))
 
 pub values-by_tail : (n : ℕ) (c b : ℤ) (older : List ℤ) → ValuesByTail n c b older
 values-by_tail n c b older =
     let ds : differences_of n (values_of n (c ∷ b ∷ older))
     ≡ differences_by c (take n (differences_of n (values_of n (b ∷ older)))) = values-differences n c b older
-      in
+    in
     record {
       value = sym (difference-zero (value_at n (c ∷ b ∷ older)) (values_of n (b ∷ older))) ∙ ap newest ds;
       tail = ap {B = ArcTail} (λ d. record { order = n; differences = d }) ds;

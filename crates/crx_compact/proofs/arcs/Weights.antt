@@ -20,7 +20,7 @@ mul-add_up : (a b x : ℤ) → (a +ℤ b) *ℤ x ≡ (a *ℤ x) +ℤ (b *ℤ x)
 mul-add_up a b x h =
     let more : a +ℤ (b +ℤ pos 1) ≡ suc_ℤ (a +ℤ b) = ap (λ n. a +ℤ n) (+ℤ_one b) ∙ +ℤ-suc_ℤ a b in
     let left : (a +ℤ (b +ℤ pos 1)) *ℤ x ≡ ((a +ℤ b) *ℤ x) +ℤ x = ap (λ n. n *ℤ x) more ∙ suc_ℤ-*ℤ (a +ℤ b) x
-      in
+    in
     let right : (b +ℤ pos 1) *ℤ x ≡ (b *ℤ x) +ℤ x = ap (λ n. n *ℤ x) (+ℤ_one b) ∙ suc_ℤ-*ℤ b x in
     omega (arith, ints, left, right, h)
 
@@ -29,7 +29,7 @@ mul-add_down : (a b x : ℤ) → (a +ℤ b) *ℤ x ≡ (a *ℤ x) +ℤ (b *ℤ x
 mul-add_down a b x h =
     let less : a +ℤ (b +ℤ neg_ℤ (pos 1)) ≡ pred_ℤ (a +ℤ b) = ap (λ n. a +ℤ n) (-ℤ_one b) ∙ +ℤ-pred_ℤ a b in
     let left : (a +ℤ (b +ℤ neg_ℤ (pos 1))) *ℤ x ≡ ((a +ℤ b) *ℤ x) -ℤ x = ap (λ n. n *ℤ x) less
-      ∙ pred_ℤ-*ℤ (a +ℤ b) x in
+    ∙ pred_ℤ-*ℤ (a +ℤ b) x in
     let right : (b +ℤ neg_ℤ (pos 1)) *ℤ x ≡ (b *ℤ x) -ℤ x = ap (λ n. n *ℤ x) (-ℤ_one b) ∙ pred_ℤ-*ℤ b x in
     omega (arith, ints, left, right, h)
 
@@ -51,12 +51,12 @@ four : (a b c d : ℤ) → (a +ℤ b) +ℤ (c +ℤ d) ≡ (a +ℤ c) +ℤ (b +�
 four a b c d = omega (arith, ints)
 
 pub weighted-add : (v w : ℕ → ℤ) (xs : List ℤ)
-  → weighted (λ i. v i +ℤ w i) xs ≡ weighted v xs +ℤ weighted w xs
+    → weighted (λ i. v i +ℤ w i) xs ≡ weighted v xs +ℤ weighted w xs
 weighted-add v w [] = refl
 weighted-add v w (x ∷ xs) =
     ap (λ n. ((v zero +ℤ w zero) *ℤ x) +ℤ n) (weighted-add (λ i. v (suc i)) (λ i. w (suc i)) xs)
     ∙ ap (λ n. n +ℤ (weighted (λ i. v (suc i)) xs +ℤ weighted (λ i. w (suc i)) xs))
-      (mul-add (v zero) (w zero) x)
+    (mul-add (v zero) (w zero) x)
     ∙ four (v zero *ℤ x) (w zero *ℤ x) (weighted (λ i. v (suc i)) xs) (weighted (λ i. w (suc i)) xs)
 
 pub weighted-neg : (w : ℕ → ℤ) (xs : List ℤ) → weighted (λ i. neg_ℤ (w i)) xs ≡ neg_ℤ (weighted w xs)
@@ -127,7 +127,7 @@ difference-suc k x xs =
 pub difference-zero : (x : ℤ) (xs : List ℤ) → difference 0 (x ∷ xs) ≡ x
 difference-zero x xs =
     ap (λ n. (pos 1 *ℤ x) +ℤ n)
-      (weighted-zero (λ i. alternating (suc i) (pos 0)) (λ i. alternating-zero (suc i)) xs)
+    (weighted-zero (λ i. alternating (suc i) (pos 0)) (λ i. alternating-zero (suc i)) xs)
     ∙ one (x)
   where
     one : (x : ℤ) → (pos 1 *ℤ x) +ℤ pos 0 ≡ x

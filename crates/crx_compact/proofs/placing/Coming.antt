@@ -29,7 +29,7 @@ pub unknown-no_row : (name : List ℕ) (count : ℕ) (es : List Entry) → is_am
 unknown-no_row name count es h = among-rows name (take count es) ∙ first count es h
   where
     first : (count : ℕ) (es : List Entry) → is_among key_of name es ≡ false
-      → is_among key_of name (take count es) ≡ false
+        → is_among key_of name (take count es) ≡ false
     first zero es h = refl
     first (suc count) [] h = refl
     first (suc count) (e ∷ es) h =
@@ -39,18 +39,18 @@ unknown-no_row name count es h = among-rows name (take count es) ∙ first count
 -- those that have come and those that haven't are all that mean something
 pub all-awaited : (placed live : ℕ) (es : List Entry) → placed ≤ live
     → map row_of_entry (take placed es) ++ map row_of_entry (drop placed (take live es))
-      ≡ map row_of_entry (take live es)
+    ≡ map row_of_entry (take live es)
 all-awaited placed live es few =
     sym (map-append row_of_entry (take placed es) (drop placed (take live es)))
     ∙ ap (λ front. map row_of_entry (front ++ drop placed (take live es)))
-      (sym (take-take placed live es few))
+    (sym (take-take placed live es few))
     ∙ ap (map row_of_entry) (take-append-drop placed (take live es))
 
 module _ (name : List ℕ) (placed live found : ℕ) (old known : List Entry)
-  (is : IsFound name found old known) where
+    (is : IsFound name found old known) where
   -- it has come already
   pub repeated : found < placed → placed ≤ length old → has_row name (map row_of_entry (take placed old))
-    ≡ true
+      ≡ true
   repeated before within =
       among-rows name (take placed old) ∙ ap (is_among key_of name) (sym (is.front placed within))
       ∙ among-up_to placed known found (name, is.satellite) is.there before
@@ -64,9 +64,9 @@ module _ (name : List ℕ) (placed live found : ℕ) (old known : List Entry)
 
   -- the rows, with one more
   rows-more : (entry : Entry) (new : List Entry) → placed ≤ length old
-    → take (placed + 1) new ≡ take placed known ++ entry ∷ []
+      → take (placed + 1) new ≡ take placed known ++ entry ∷ []
       → map row_of_entry (take (placed + 1) new) ≡ map row_of_entry (take placed old)
-        ++ row_of_entry entry ∷ []
+      ++ row_of_entry entry ∷ []
   rows-more entry new within e =
       ap (map row_of_entry) e ∙ map-append row_of_entry (take placed known) (entry ∷ [])
       ∙ ap (λ es. map row_of_entry es ++ row_of_entry entry ∷ []) (is.front placed within)
@@ -85,7 +85,7 @@ module _ (name : List ℕ) (placed live found : ℕ) (old known : List Entry)
   come-awaited new apart behind before within put =
       let front : take live known ≡ take live old = is.front live within in
       let there : row_tail_named name (map row_of_entry (drop placed (take live old)))
-        ≡ Some (row_tail_of name is.satellite) =
+      ≡ Some (row_tail_of name is.satellite) =
       named-map (λ (row : RowTail). row.name) row_of_entry name (drop placed (take live old))
       ∙ ap (λ es. option_map row_of_entry (named key_of name (drop placed es))) (sym front)
       ∙ ap (option_map row_of_entry)
@@ -102,7 +102,7 @@ module _ (name : List ℕ) (placed live found : ℕ) (old known : List Entry)
 
   -- any other one comes
   pub come-anew : (revived new : List Entry) → IsDistinct bytes_eq (keys_of known) → placed ≤ live
-    → live ≤ found
+      → live ≤ found
       → live ≤ length old → IsRevived live found known revived → IsPutNext placed live revived new
       → HasCome name (placed_rows placed live old) (placed_rows (placed + 1) (live + 1) new)
   come-anew revived new apart few behind within anew put =
@@ -113,10 +113,10 @@ module _ (name : List ℕ) (placed live found : ℕ) (old known : List Entry)
       named-map (λ (row : RowTail). row.name) row_of_entry name (drop placed (take live old))
       ∙ ap (option_map row_of_entry) (none-named key_of name placed (take live old)
       (ap (is_among key_of name) (sym front)
-        ∙ not-before live known found (name, is.satellite) apart is.there behind)) in
+      ∙ not-before live known found (name, is.satellite) apart is.there behind)) in
       let first : take placed revived ≡ take placed known =
       sym (take-take placed live revived few) ∙ ap (take placed) anew.front ∙ take-take placed live known few
-        in
+      in
       let next : live + 1 ≡ suc live = omega arith in
       record {
         rows =

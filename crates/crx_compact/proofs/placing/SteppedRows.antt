@@ -45,7 +45,7 @@ row-there placed i es e within there =
     ∙ ap (option_map row_of_entry) (get-take placed i es within ∙ there)
 
 pub row-is : (placed i : ℕ) (es : List Entry) (e : Entry) (row : RowTail) → i < placed
-  → slice_get es i ≡ Some e
+    → slice_get es i ≡ Some e
     → slice_get (rows_of placed es) i ≡ Some row → row_of_entry e ≡ row
 row-is placed i es e row within there also =
     same_Some (row_of_entry e) row (sym (row-there placed i es e within there) ∙ also)
@@ -94,7 +94,7 @@ pub padded-is : (name : List ℕ) (count : ℕ) (satellite after : SatelliteTail
           satellite.cells;
     }
     → row_tail_of name after ≡ padded (record { name = name; count = count })
-      (Some (row_tail_of name satellite))
+    (Some (row_tail_of name satellite))
 padded-is name count satellite after is = ap (row_tail_of name) is
 
 pub ends-same : {X : Type 0} (xs ys : List X) (x y : X) → xs ++ x ∷ [] ≡ ys ++ y ∷ [] → x ≡ y
@@ -113,7 +113,7 @@ has-last (x ∷ (y ∷ ys)) some =
 -- ---- a row that is written
 
 each_place-below : {X : Type 0} (n : ℕ) (f g : ℕ → X) → ((k : ℕ) → k < n → f k ≡ g k)
-  → each_place n f ≡ each_place n g
+    → each_place n f ≡ each_place n g
 each_place-below zero f g h = refl
 each_place-below (suc n) f g h =
     ap (λ x. x ∷ each_place n (λ i. f (suc i))) (h 0 (omega arith))
@@ -121,7 +121,7 @@ each_place-below (suc n) f g h =
     (each_place-below n (λ i. f (suc i)) (λ i. g (suc i)) (λ k within. h (suc k) (omega (arith, within))))
 
 cell-there : (n k : ℕ) (cells : List (Option ArcTail)) → k < n
-  → slice_index_or (cells_for n cells) k None ≡ slice_index_or cells k None
+    → slice_index_or (cells_for n cells) k None ≡ slice_index_or cells k None
 cell-there n k cells within = index-each_place n k (λ place. slice_index_or cells place None) None
     (λ past. absurd (omega (arith, within, past)))
 
@@ -140,7 +140,7 @@ written-row row satellite marked after marks arcs =
     ∙ each_place-below n (arc_at_place (cells_for n satellite.cells) row.values)
     (arc_at_place satellite.cells row.values)
     (λ k within. ap (arc_of_value (slice_index_or row.values k None)) (cell-there n k satellite.cells within))
-      in
+    in
     ap (row_tail_of row.name) arcs
     ∙ (λ j. record { name = row.name; flags = (marks j).flags; cells = cells j })
 
@@ -160,5 +160,5 @@ written-line row satellite marked part marks is =
     ∙ each_place-below n (code_at_place (cells_for n satellite.cells) row.values)
     (code_at_place satellite.cells row.values)
     (λ k within. ap (code_of_value (slice_index_or row.values k None))
-      (cell-there n k satellite.cells within)) in
+    (cell-there n k satellite.cells within)) in
     (λ j. without_end_blanks (flat_map cell_text (codes j) ++ is j))

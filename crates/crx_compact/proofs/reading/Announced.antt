@@ -31,7 +31,7 @@ satellites-set (r ∷ rs) (suc place) row left there name sized =
 
 announced-same : (old new : OpenHistory) → new.text ≡ old.text
     → map satellite_of new.satellites.rows ≡ map satellite_of old.satellites.rows → IsAnnounced old
-      → IsAnnounced new
+    → IsAnnounced new
 announced-same old new text satellites h = record {
   announced =
       let P : List ℕ → Type 0 = λ t. AreAnnounced t (map satellite_of new.satellites.rows) in
@@ -57,12 +57,12 @@ rows-allowed history h = each history.satellites.rows h.satellites
     each (row ∷ rows) k =
         All-cons HasAllowedCount row rows
         (IsAwaitedSatellite.counted
-          (All-head IsAwaitedSatellite (satellite_of row) (map satellite_of rows) k))
+        (All-head IsAwaitedSatellite (satellite_of row) (map satellite_of rows) k))
         (each rows (All-tail IsAwaitedSatellite (satellite_of row) (map satellite_of rows) k))
 
 -- they are as few as an epoch may have
 pub rows-few : (history : OpenHistory) → IsAnnounced history
-  → length history.satellites.rows ≤ SATELLITES_LIMIT
+    → length history.satellites.rows ≤ SATELLITES_LIMIT
 rows-few history h =
     let few = subst (λ (o : Option ℕ). unwrap_or o 0 ≤ SATELLITES_LIMIT) h.announced.counted
     (satellites_few (columns history.text 1 HEAD_WIDTH)) in

@@ -41,14 +41,14 @@ placed-here f Wanted thing count e = cc
 -- ---- the epoch line
 
 begun-reading : (types : List Count) (older : List RawEpoch) (tail : Option Tail) (line : List ℕ)
-  (after : ColumnsState)
+    (after : ColumnsState)
     → tail ≡ tail_left older
     → HasMade (first_step types tail (Content line)) after None
-      → IsReading types older (Content line ∷ []) after
+    → IsReading types older (Content line ∷ []) after
 begun-reading types older tail line after e h = grind arith
 
 begun-wrong : (types : List Count) (older : List RawEpoch) (tail : Option Tail) (line : List ℕ)
-  (fault : Fault)
+    (fault : Fault)
     → tail ≡ tail_left older
     → (first_step types tail (Content line) ≡ Faulty fault) ⊎ (fault ≡ OutOfMemory)
     → (epoch_at types older (Content line ∷ []) ≡ Wrong 0 fault) ⊎ (fault ≡ OutOfMemory)
@@ -68,7 +68,7 @@ begun-wrong types older tail line fault e (inl h) =
 
 pub begun-block : (result : Result (Unit {0}) Fault) (types : List Count)
     (older : List RawEpoch) (tail : Option Tail) (line : List ℕ) (after : ColumnsState)
-      → tail ≡ tail_left older
+    → tail ≡ tail_left older
     → IfOk result (λ u. HasMade (first_step types tail (Content line)) after None)
     → IfOk result (λ u. IsReading types older (Content line ∷ []) after)
 begun-block (Ok u) types older tail line after e h = begun-reading types older tail line after e h
@@ -78,7 +78,7 @@ pub begun-refused : (result : Result (Unit {0}) Fault)
     (types : List Count) (older : List RawEpoch) (tail : Option Tail) (line : List ℕ) → tail ≡ tail_left older
     → IfErr result (λ fault. (first_step types tail (Content line) ≡ Faulty fault) ⊎ (fault ≡ OutOfMemory))
     → IfErr result (λ fault. (epoch_at types older (Content line ∷ []) ≡ Wrong 0 fault)
-      ⊎ (fault ≡ OutOfMemory))
+    ⊎ (fault ≡ OutOfMemory))
 begun-refused (Ok u) types older tail line e h = h
 begun-refused (Err fault) types older tail line e h = begun-wrong types older tail line fault e h
 
@@ -88,7 +88,7 @@ step-by_lines : (types : List Count) (older : List RawEpoch)
     (lines : List ReadLine) (line : List ℕ) (state : ColumnsState) (r : IsReading types older lines state)
     → step_in state (Content line) ≡ next_step r.0 (Content line)
 step-by_lines types older lines line state r =
-  ap {B = RawStep} (λ (s : ColumnsState). step_in s (Content line)) r.2
+    ap {B = RawStep} (λ (s : ColumnsState). step_in s (Content line)) r.2
 
 more-lines : (types : List Count) (older : List RawEpoch) (lines : List ReadLine)
     (line : List ℕ) (state after : ColumnsState) (given : Option Epoch) → IsReading types older lines state
@@ -119,7 +119,7 @@ more-lines types older lines line state after (Some epoch) r h =
 
 more-wrong : (types : List Count) (older : List RawEpoch)
     (lines : List ReadLine) (line : List ℕ) (state : ColumnsState) (fault : Fault)
-      → IsReading types older lines state
+    → IsReading types older lines state
     → (step_in state (Content line) ≡ Faulty fault) ⊎ (fault ≡ OutOfMemory)
     → (epoch_at types older (lines ++ Content line ∷ []) ≡ Wrong (length lines) fault) ⊎ (fault ≡ OutOfMemory)
 more-wrong types older lines line state fault r (inr h) = inr h
@@ -137,7 +137,7 @@ pub more-block : (result : Result (Option Epoch) Fault) (types : List Count) (ol
     → IfOk result (λ given. HasMade (step_in state (Content line)) after given)
     → IfOk result (λ given. HasReadTo types older (lines ++ Content line ∷ []) after given)
 more-block (Ok given) types older lines line state after r h =
-  more-lines types older lines line state after given r h
+    more-lines types older lines line state after given r h
 more-block (Err fault) types older lines line state after r h = h
 
 pub more-refused : (result : Result (Option Epoch) Fault) (types : List Count) (older : List RawEpoch)

@@ -53,9 +53,9 @@ read-line : (types : List Count)
 read-line types older line lines read count e =
     let r : Result BegunEpoch Fault = epoch_begun types line (past_of_line older line) in
     let one : Comes (one_line r) (Content line ∷ lines) (λ begun others. epoch_after_line begun others) read
-      count =
+    count =
     then-comes (one_line r) (Content line ∷ lines) (λ begun others. epoch_after_line begun others) read count
-      e in
+    e in
     after-line one.from (drop one.count (Content line ∷ lines)) read one.more one.later
     ∙ begun-line types line (past_of_line older line) one.from (one-ok r one.from one.count one.first)
 

@@ -73,7 +73,7 @@ one-more : (before : Tail) (text : List ℕ) (arc : Option ArcTail)
 one-more before text arc rows read lines count (Here more n) =
     grind (arith, append_assoc rows ((held_row before read).tail ∷ []) (rows_left before more))
 one-more before text arc rows read lines count (Wrong n q) =
-  ap {B = Place HeldEpoch} (λ k. Wrong k q) (omega arith)
+    ap {B = Place HeldEpoch} (λ k. Wrong k q) (omega arith)
 one-more before text arc rows read lines count Wanted = refl
 
 -- what is behind the first rows
@@ -89,10 +89,10 @@ none-left (x ∷ xs) = none-left xs
 rows-steps : (before : Tail) (text : List ℕ) (arc : Option ArcTail)
     (rows : List RowTail) (awaited : List Satellite) (count : ℕ) (lines : List ReadLine)
     → place_of_steps count
-      (step_with_rows (tail_with text arc (rows ++ rows_before before awaited)) (length rows))
+    (step_with_rows (tail_with text arc (rows ++ rows_before before awaited)) (length rows))
     lines
     ≡ after_lines (suc count)
-      (rows_placed before text arc rows (rows_read (past_of_tail before) awaited lines))
+    (rows_placed before text arc rows (rows_read (past_of_tail before) awaited lines))
 rows-steps before text arc rows [] count lines =
     ap {B = Place HeldEpoch} (λ (o : Option RowTail).
     place_of_steps count (whole_or_awaiting (tail_with text arc (rows ++ [])) (length rows) o) lines)
@@ -106,7 +106,7 @@ rows-steps before text arc rows (s ∷ ss) count [] =
 rows-steps before text arc rows (s ∷ ss) count (Overlong ∷ lines) =
     ap {B = Place HeldEpoch} (λ (o : Option RowTail).
     place_of_steps count (whole_or_awaiting (tail_with text arc (rows ++ rows_before before (s ∷ ss)))
-      (length rows) o)
+    (length rows) o)
     (Overlong ∷ lines)) (get-next rows (rows_before before ss) (padded s (tail_named s.name before)))
     ∙ grind arith
 rows-steps before text arc rows (s ∷ ss) count (Content line ∷ lines) =
@@ -119,7 +119,7 @@ rows-steps before text arc rows (s ∷ ss) count (Content line ∷ lines) =
     place_of_steps (suc count) (row_step (with_rows tail (length rows)) o line) lines) there
     ∙ ap {B = Place HeldEpoch} (λ (r : Result HeldRow Fault).
     place_of_steps (suc count) (raw_step_with_row (with_rows tail (length rows)) r) lines)
-      (row-opened before s line)
+    (row-opened before s line)
     ∙ step (satellite_line_read (past_of_tail before) s line) (λ read.
     rows-steps before text arc (rows ++ (held_row before read).tail ∷ []) ss (suc count) lines)
   where
@@ -132,10 +132,10 @@ rows-steps before text arc rows (s ∷ ss) count (Content line ∷ lines) =
     step : (r : Result ReadRow Fault)
         → ((read : ReadRow) → place_of_steps (suc count) (step_with_rows (tail_with text arc
         ((rows ++ (held_row before read).tail ∷ []) ++ opened))
-          (length (rows ++ (held_row before read).tail ∷ [])))
+        (length (rows ++ (held_row before read).tail ∷ [])))
         lines
         ≡ after_lines (suc (suc count))
-          (rows_placed before text arc (rows ++ (held_row before read).tail ∷ [])
+        (rows_placed before text arc (rows ++ (held_row before read).tail ∷ [])
         (rows_read (past_of_tail before) ss lines)))
         → place_of_steps (suc count) (raw_step_with_row so_far
         (and_then r (λ (read : ReadRow). Ok (held_row before read)))) lines
@@ -152,14 +152,14 @@ rows-steps before text arc rows (s ∷ ss) count (Content line ∷ lines) =
         ∙ ap {B = Place HeldEpoch} (λ n. place_of_steps (suc count)
         (step_with_rows (tail_with text arc ((rows ++ left ∷ []) ++ opened)) n) lines) many
         ∙ next read ∙ one-more before text arc rows read lines count
-          (rows_read (past_of_tail before) ss lines)
+        (rows_read (past_of_tail before) ss lines)
 
 -- ---- the clock line and the epoch line
 
 -- an epoch whose line was read
 abbrev read_begun : Tail → List ℕ → List Satellite → BegunEpoch
 read_begun before line satellites =
-  record { line = line; past = past_of_tail before; satellites = satellites }
+    record { line = line; past = past_of_tail before; satellites = satellites }
 
 -- rows are shown by what they leave
 rows-shown : (before : Tail) (satellites : List Satellite) (rows : List ReadRow)
@@ -186,7 +186,7 @@ held-same : (before : Tail) (line : List ℕ) (satellites : List Satellite)
     → map (λ (r : ReadRow). r.row) rows ≡ map shown_row (rows_left before rows)
     → held_after tail (epoch_of_rows (read_begun before line satellites) cell rows)
     ≡ whole_epoch (tail_with (patched before.text line) (arc_of_code cell.code before.clock)
-      (rows_left before rows))
+    (rows_left before rows))
 held-same before line satellites cell rows tail h clock shown =
     let raw : RawEpoch = (epoch_of_rows (read_begun before line satellites) cell rows).raw in
     let text : List ℕ = patched before.text line in
@@ -202,7 +202,7 @@ held-same before line satellites cell rows tail h clock shown =
       epoch = record { head = head; clock = cell.value; rows = read };
       tail = tail_with text arc rs;
     }) (map-map (λ (r : RawRow). raw_row_tail_after (tail_named r.name before) r)
-      (λ (r : ReadRow). r.raw) rows)
+    (λ (r : ReadRow). r.raw) rows)
     ∙ ap {B = HeldEpoch} (λ (value : Option ℤ). record {
       epoch = record { head = head; clock = value; rows = read };
       tail = tail_with text arc left;
@@ -232,7 +232,7 @@ read_rows-held before line satellites cell tail lines (Wrong n q) h clock e =
 read_rows-held before line satellites cell tail lines Wanted h clock e = refl
 
 clock-steps : (before : Tail) (line : List ℕ) (satellites : List Satellite) (tail : Option Tail)
-  (lines : List ReadLine)
+    (lines : List ReadLine)
     → tail_for_line tail line ≡ Some before
     → placed_as (held_after tail) (after_lines 1 (epoch_after_line (read_begun before line satellites) lines))
     ≡ place_of_steps 0 (Going (before_clock (tail_opened before line satellites))) lines
@@ -255,14 +255,14 @@ clock-steps before line satellites tail (Content text ∷ lines) h =
         ∙ sym (rows-steps before (patched before.text line) arc [] satellites 1 lines)
 
 pub steps-agree : (types : List Count) (tail : Option Tail) (lines : List ReadLine)
-  → StepsAgree types tail lines
+    → StepsAgree types tail lines
 steps-agree types tail [] = refl
 steps-agree types tail (Overlong ∷ lines) = refl
 steps-agree types tail (Content line ∷ lines) = by_tail (tail_for_line tail line) refl
   where
     by_line : (before : Tail) (r : Result (List Satellite) Fault) → tail_for_line tail line ≡ Some before
         → placed_as (held_after tail)
-          (then_place (one_line (and_then r (λ ss. Ok (read_begun before line ss))))
+        (then_place (one_line (and_then r (λ ss. Ok (read_begun before line ss))))
         (Content line ∷ lines) (λ b others. epoch_after_line b others))
         ≡ place_of_steps 0 (opening (and_then r (λ ss. Ok (before_clock (tail_opened before line ss))))) lines
     by_line before (Err q) h = refl
@@ -270,7 +270,7 @@ steps-agree types tail (Content line ∷ lines) = by_tail (tail_for_line tail li
 
     by_tail : (t : Option Tail) → tail_for_line tail line ≡ t
         → placed_as (held_after tail)
-          (then_place (one_line (epoch_begun types line (option_map past_of_tail t)))
+        (then_place (one_line (epoch_begun types line (option_map past_of_tail t)))
         (Content line ∷ lines) (λ b others. epoch_after_line b others))
         ≡ place_of_steps 0 (opening (opened_raw types line t)) lines
     by_tail None h = refl
@@ -302,7 +302,7 @@ wanted-where_open types tail (line ∷ lines) =
 step-more : (count : ℕ) (s : RawStep) (lines : List ReadLine) (line : ReadLine) (begun : OpenRawEpoch)
     → open_raw_after s lines ≡ Some begun
     → place_of_steps count s (lines ++ line ∷ []) ≡ place_of_step (suc (count + length lines))
-      (next_step begun line)
+    (next_step begun line)
 step-more count (Going so_far) [] line begun h = grind arith
 step-more count (Going so_far) (l ∷ ls) line begun h =
     step-more (suc count) (next_step so_far l) ls line begun h
@@ -322,7 +322,7 @@ pub steps-from_open : StepsFromOpen
 steps-from_open types tail [] line begun h = absurd (true≢false (sym (ap is_some h)))
 steps-from_open types tail (l ∷ ls) line begun h = record {
   place = steps-agree types tail (l ∷ (ls ++ line ∷ []))
-    ∙ step-more 0 (first_step types tail l) ls line begun h
+      ∙ step-more 0 (first_step types tail l) ls line begun h
       ∙ ap (λ n. place_of_step n (next_step begun line)) (omega arith);
   open_epoch = open-more (first_step types tail l) ls line begun h;
 }

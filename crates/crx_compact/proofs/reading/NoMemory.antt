@@ -56,11 +56,11 @@ value-none width (Step number) (Some arc) = range-none width _
 
 cell-none : (malformed : Fault) (value : Code → Result (Option ℤ) Fault) → (malformed ≡ OutOfMemory → ⊥)
     → ((code : Code) → NoMemory (value code)) → (code : Option Code)
-      → NoMemory (cell_read malformed value code)
+    → NoMemory (cell_read malformed value code)
 cell-none malformed value m h None = m
 cell-none malformed value m h (Some code) =
     and-then-none {Y = ReadCell} (value code) (λ v. Ok (record { code = code; value = v })) (h code)
-      (λ v e. cc)
+    (λ v e. cc)
 
 cells-none : (value : ℕ → Code → Result (Option ℤ) Fault)
     → ((place : ℕ) (code : Code) → NoMemory (value place code)) → (texts : List (List ℕ))
@@ -82,7 +82,7 @@ pub no-memory-at-row : (kept : Option RowTail) (s : Satellite) (line : List ℕ)
 no-memory-at-row kept s line fault e out =
     and-then-none {Y = HeldRow} (satellite_line_read past s line)
     (λ read. Ok (held_from arcs flags read)) (by_start (begins_epoch line)) (λ read h. cc)
-      (ap fault_in e ∙ out)
+    (ap fault_in e ∙ out)
   where
     arcs : List (Option ArcTail)
     arcs = arcs_of_tail kept

@@ -68,7 +68,7 @@ flags-padded count flags marks =
         ≡ character_of (at old p) (at marks p)
     marked old p h = at-take (2 * count) (patched old marks) p h
         ∙ at-without_end_blanks (by_position character_of old marks) p
-          ∙ at-by_position character_of refl old marks p
+        ∙ at-by_position character_of refl old marks p
 
     by_place : (p : ℕ) → (p < 2 * count) ⊎ (2 * count ≤ p)
         → at (take (2 * count) (patched (flags_held count flags) marks)) p
@@ -81,7 +81,7 @@ flags-padded count flags marks =
 
 columns-padded : (count : ℕ) (flags marks : List ℕ)
     → columns (patched (flags_held count flags) marks) 1 (2 * count) ≡ columns (patched flags marks) 1
-      (2 * count)
+    (2 * count)
 columns-padded count flags marks =
     sym (columns-held count (patched (flags_held count flags) marks))
     ∙ ap (λ (t : List ℕ). columns t 1 (2 * count)) (flags-padded count flags marks)
@@ -100,7 +100,7 @@ cells-padded s kept marks cells many =
     let old : List ℕ = flags_of_tail kept in
     let new : List ℕ = flags_held s.count old in
     let shown : columns (patched new marks) 1 (2 * length cells) ≡ columns (patched old marks) 1
-      (2 * length cells) =
+    (2 * length cells) =
     ap (λ n. columns (patched new marks) 1 (2 * n)) many
     ∙ columns-padded s.count old marks ∙ sym (ap (λ n. columns (patched old marks) 1 (2 * n)) many) in
     let held : flags_held (length codes) (patched new marks) ≡ flags_held (length codes) (patched old marks) =
@@ -127,7 +127,7 @@ row-padded s kept line =
     ap (value_of_code OBSERVATION_WIDTH code)
     (padded-cell s kept place (omega (arith, less, texts-count s.count line)))))
     ∙ decided (begins_epoch line) (are_marks s.count marks)
-      (cells_read (value_at_place (arcs_of_tail kept)) texts)
+    (cells_read (value_at_place (arcs_of_tail kept)) texts)
     (λ cells e. cells-count (value_at_place (arcs_of_tail kept)) texts cells e ∙ texts-count s.count line)
   where
     marked : List ℕ
@@ -158,12 +158,12 @@ satellite-padded s kept = ap {B = Satellite} (λ n. record { name = s.name; coun
 -- a satellite's line after the row that the epoch line leaves is one after all of the history
 pub row-opened : (before : Tail) (s : Satellite) (line : List ℕ)
     → row_held (Some (padded s (tail_named s.name before)))
-      (satellite_of (padded s (tail_named s.name before))) line
+    (satellite_of (padded s (tail_named s.name before))) line
     ≡ row_after before s line
 row-opened before s line =
     let kept : Option RowTail = tail_named s.name before in
     ap {B = Result HeldRow Fault} (λ (q : Satellite). row_held (Some (padded s kept)) q line)
-      (satellite-padded s kept)
+    (satellite-padded s kept)
     ∙ row-padded s kept line ∙ row-by_tail before s line
 
 -- ---- the row that a line leaves
@@ -198,7 +198,7 @@ row-shows before s read h =
 
     many : length arcs ≡ length h.cells
     many = length-each_place (length codes)
-      (λ k. arc_of_code (slice_index_or codes k Missing) (cell_of_tail k kept))
+        (λ k. arc_of_code (slice_index_or codes k Missing) (cell_of_tail k kept))
         ∙ length-map h.cells (λ (c : ReadCell). c.code)
 
     flags : columns text 1 (2 * length h.cells) ≡ columns (flags_held (length codes) text) 1 (2 * length arcs)

@@ -47,7 +47,7 @@ cell-found rest (Some r) j =
     index-each_place (length r.codes) j
     (λ i. started_tail (since_start (map (code_in i) (r ∷ stretch rest)))) None (λ le.
     ap (λ c. started_tail (since_start (c ∷ map (code_in j) (stretch rest))))
-      (get_or_past r.codes j Missing le))
+    (get_or_past r.codes j Missing le))
 
 flags-found : (rest : List (Option RawRow)) (found : Option RawRow)
     → flags_of_tail (option_map (raw_row_tail (stretch (found ∷ rest))) found)
@@ -76,7 +76,7 @@ flags-left name (e ∷ es) =
 
 row-tail : (raw : RawEpoch) (block : List RawEpoch) (r : RawRow) → raw_row_named r.name raw.rows ≡ Some r
     → raw_row_tail (raw_run_of r.name (raw ∷ block)) r
-      ≡ raw_row_tail_after (tail_named r.name (tail_of_block block)) r
+    ≡ raw_row_tail_after (tail_named r.name (tail_of_block block)) r
 row-tail raw block r own =
     let n = length r.codes in
     let rs = raw_run_of r.name block in
@@ -154,12 +154,12 @@ line-left older line = step (begins_epoch line)
 pub place-by_tail : (types : List Count) (older : List RawEpoch) (lines : List ReadLine)
     → epoch_at types older lines ≡ epoch_after types (tail_left older) lines
 place-by_tail types older lines =
-  ap (λ f. epoch_against types f lines) (fun_ext (λ line. line-left older line))
+    ap (λ f. epoch_against types f lines) (fun_ext (λ line. line-left older line))
 
 -- what a raw epoch leaves
 pub left-by_tail : (raw : RawEpoch) (older : List RawEpoch) → HasSingleLines raw
     → tail_left (raw ∷ older)
-      ≡ Some (raw_tail_after (unwrap_or (tail_for_line (tail_left older) raw.line) no_tail) raw)
+    ≡ Some (raw_tail_after (unwrap_or (tail_for_line (tail_left older) raw.line) no_tail) raw)
 left-by_tail raw older own = step (begins_epoch raw.line) older
   where
     step : (b : Bool) (os : List RawEpoch)

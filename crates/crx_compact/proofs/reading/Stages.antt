@@ -97,7 +97,7 @@ rows-come stage count history at all =
 -- a satellite's line was awaited
 pub row-was_awaited : (is_kept : Bool) (stage : Stage) (count : ℕ) (history : OpenHistory)
     (state : ColumnsState) → columns_state is_kept stage count history ≡ state → stage ≡ Rows
-      → awaits_row state ≡ true
+    → awaits_row state ≡ true
 row-was_awaited is_kept stage count history state e at =
     sym (ap awaits_row e) ∙ ap (λ (s : Stage). awaits_row (columns_state is_kept s count history)) at
 

@@ -23,11 +23,11 @@ pub steady-after_line : (begun : BegunEpoch) → IsSteady (epoch_after_line begu
 steady-after_line begun =
     steady-then (λ lines. first_line lines (clock_line_read begun.past)) (λ clock others. then_place
     (rows_read begun.past begun.satellites others) others
-      (λ rows rest. Here (epoch_of_rows begun clock rows) 0))
+    (λ rows rest. Here (epoch_of_rows begun clock rows) 0))
     (steady-first_line (clock_line_read begun.past)) (λ clock.
     steady-then (rows_read begun.past begun.satellites)
     (λ rows rest. Here (epoch_of_rows begun clock rows) 0) (steady-rows_read begun.past begun.satellites)
-      (λ rows.
+    (λ rows.
     steady-here (epoch_of_rows begun clock rows)))
 
 pub steady-epoch_against : (types : List Count) (past_of : List ℕ → Option Past)

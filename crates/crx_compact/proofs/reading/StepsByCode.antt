@@ -64,7 +64,7 @@ pub row-awaited : (rows : List RowTail) (count : ℕ)
 row-awaited rows count h = by_place (slice_get rows count) refl
   where
     by_place : (o : Option RowTail) → slice_get rows count ≡ o
-      → (row : RowTail) × (slice_get rows count ≡ Some row)
+        → (row : RowTail) × (slice_get rows count ≡ Some row)
     by_place None e = absurd (cc (slice_get-get_or rows count (empty_row []) h, e))
     by_place (Some row) e = (row, e)
 
@@ -82,13 +82,13 @@ rows-awaited : (tail : Tail) (count : ℕ)
     → count < length tail.rows → step_with_rows tail count ≡ Going (with_rows tail count)
 rows-awaited tail count h =
     ap {B = RawStep} (λ (o : Option RowTail). whole_or_awaiting tail count o)
-      (row-awaited tail.rows count h).1
+    (row-awaited tail.rows count h).1
 
 pub rows-whole : (tail : Tail) (count : ℕ)
     → length tail.rows ≤ count → step_with_rows tail count ≡ Whole (whole_epoch tail)
 rows-whole tail count h =
     ap {B = RawStep} (λ (o : Option RowTail). whole_or_awaiting tail count o)
-      (slice_get_past tail.rows count h)
+    (slice_get_past tail.rows count h)
 
 pub made-more : (step : RawStep) (tail : Tail) (count : ℕ) → step ≡ step_with_rows tail count
     → count < length tail.rows → HasMade step (Reading (with_rows tail count)) None
@@ -104,7 +104,7 @@ made-whole step tail count epoch e h shown = (whole_epoch tail, e ∙ rows-whole
 -- the lines of the epoch that a tail shows
 pub printed-shown : (tail : Tail) → printed_epoch (shown_epoch tail (length tail.rows))
     ≡ printed_head (columns tail.text 1 HEAD_WIDTH) (shown_value tail.clock) ∷ map printed_row
-      (map shown_row tail.rows)
+    (map shown_row tail.rows)
 printed-shown tail =
     ap (λ (rs : List RowTail). printed_head (columns tail.text 1 HEAD_WIDTH) (shown_value tail.clock)
     ∷ map printed_row (map shown_row rs)) (take_all (length tail.rows) tail.rows (omega arith))
@@ -114,4 +114,4 @@ pub printed-whole : (step : RawStep) (tail : Tail) (count : ℕ) (lines : List (
     → lines ≡ printed_epoch (shown_epoch tail (length tail.rows))
     → HasPrintedLines step (Idle (Some tail)) true lines
 printed-whole step tail count lines e h printed =
-  (whole_epoch tail, e ∙ rows-whole tail count h, printed, refl)
+    (whole_epoch tail, e ∙ rows-whole tail count h, printed, refl)

@@ -72,7 +72,7 @@ abbrev ArePrintable : List (List ℕ) → Type 0
 ArePrintable marks = AllByRecursion (λ (w : List ℕ). list_all is_printable w ≡ true) marks
 
 latest-printable : (marks : List (List ℕ)) (p : ℕ) → ArePrintable marks
-  → is_printable (latest_mark marks p) ≡ true
+    → is_printable (latest_mark marks p) ≡ true
 latest-printable [] p h = refl
 latest-printable (w ∷ ws) p h =
     grind (arith, list_all-at is_printable refl w h.0 p, latest-printable ws p h.1)
@@ -121,17 +121,17 @@ raw_run-printable name (e ∷ es) h =
         → ArePrintable (marks_of (stretch (o ∷ map (λ (q : RawEpoch). raw_row_named name q.rows) es)))
     choose None k next = tt
     choose (Some r) k next = marks-cut (2 * length r.codes) (r.marks ∷ marks_of (raw_run_of name es))
-      (k, next)
+        (k, next)
 
 -- ---- values
 
 since-fits : (width : ℕ) (o : Option Started) (v : Option ℤ) → value_since width o ≡ Ok v
-  → IsMissingOrWithin width v
+    → IsMissingOrWithin width v
 since-fits width None v e = absurd (no-err NoArc v e)
 since-fits width (Some arc) v e = grind arith
 
 value_of-fits : (width : ℕ) (codes : List Code) (v : Option ℤ) → value_of width codes ≡ Ok v
-  → IsMissingOrWithin width v
+    → IsMissingOrWithin width v
 value_of-fits width [] v e = subst (IsMissingOrWithin width) (ok-same None v e) tt
 value_of-fits width (Missing ∷ cs) v e = subst (IsMissingOrWithin width) (ok-same None v e) tt
 value_of-fits width (Start n x ∷ cs) v e = since-fits width (since_start (Start n x ∷ cs)) v e
@@ -192,11 +192,11 @@ row-sound types block satellite read counts printable known h =
         ranged = All-from_recursion IsValue values
             (cells-fit ((past_of_block block).value name)
             (λ j c v e. value_of-fits OBSERVATION_WIDTH (c ∷ map (code_in j) (raw_run_of name block)) v e)
-              h.cells
+            h.cells
             h.are_read);
         paired = omega (arith, wide, many);
         kept = all-columns is_kept ((past_of_block block).flags name read.raw.marks) 1
-          (2 * length h.cells) refl
+            (2 * length h.cells) refl
             (overlaid-kept (read.raw.marks ∷ marks_of (raw_run_of name block))
             (marks, raw_run-printable name block printable));
       },
@@ -219,14 +219,15 @@ rows-sound : (types : List Count) (block : List RawEpoch) (satellites : List Sat
 rows-sound types block [] [] counts printable known h = tt
 rows-sound types block [] (r ∷ rs) counts printable known h = absurd h
 rows-sound types block (s ∷ ss) [] counts printable known h = absurd h
-rows-sound types block (s ∷ ss) (r ∷ rs) counts printable known h =
-    (row-sound types block s r counts printable known.0 h.0,
-      rows-sound types block ss rs counts printable known.1 h.1)
+rows-sound types block (s ∷ ss) (r ∷ rs) counts printable known h = (
+  row-sound types block s r counts printable known.0 h.0,
+  rows-sound types block ss rs counts printable known.1 h.1,
+)
 
 rows-marks : (past : Past) (satellites : List Satellite) (rows : List ReadRow)
     → Paired (RowFacts past) satellites rows
     → AllByRecursion (λ (r : RawRow). list_all is_printable r.marks ≡ true)
-      (map (λ (r : ReadRow). r.raw) rows)
+    (map (λ (r : ReadRow). r.raw) rows)
 rows-marks past [] [] h = tt
 rows-marks past [] (r ∷ rs) h = absurd h
 rows-marks past (s ∷ ss) [] h = absurd h
@@ -285,7 +286,7 @@ reads-whole types older lines read count counts printable e =
         };
         full = many ∙ sym announced;
         typed = All-from_recursion (HasItsTypes types) rows
-          (all-from (HasItsTypes types) (λ r both. both.1) rows all);
+            (all-from (HasItsTypes types) (λ r both. both.1) rows all);
       };
       marks = rows-marks (past_of_block block) facts.satellites facts.rows facts.rows_ok;
     })

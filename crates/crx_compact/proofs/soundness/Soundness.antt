@@ -77,7 +77,7 @@ then-comes Wanted lines next y n e = cc
 
 -- what a first line is read as
 pub record Reads {X : Type 0} (lines : List ReadLine) (read : List ℕ → Result X Fault) (x : X)
-  (n : ℕ) : Type 0 where
+    (n : ℕ) : Type 0 where
   pub line : List ℕ
   pub ok : read line ≡ Ok x
   pub one : n ≡ 1
@@ -93,7 +93,7 @@ pub line-reads : {X : Type 0} (lines : List ReadLine) (read : List ℕ → Resul
 line-reads [] read x n e = cc
 line-reads (Overlong ∷ lines) read x n e = cc
 line-reads (Content line ∷ lines) read x n e =
-  result-reads (Content line ∷ lines) read line (read line) x n refl e
+    result-reads (Content line ∷ lines) read line (read line) x n refl e
 
 -- ---- cells
 
@@ -130,7 +130,7 @@ cells-meant : (value : ℕ → Code → Result (Option ℤ) Fault) (cells : List
     ≡ Ok (map (λ (c : ReadCell). c.value) cells)
 cells-meant value [] h = refl
 cells-meant value (c ∷ cs) h =
-  rw h.0.meant (ap (before_all c.value) (cells-meant (λ j. value (suc j)) cs h.1))
+    rw h.0.meant (ap (before_all c.value) (cells-meant (λ j. value (suc j)) cs h.1))
 
 -- ---- a satellite's line
 
@@ -233,7 +233,7 @@ block_for line older = if begins_epoch line then [] else block_of older
 
 -- what is known of an epoch that was read
 pub record EpochFacts (types : List Count) (older : List RawEpoch) (read : ReadEpoch)
-  (count : ℕ) : Type 0 where
+    (count : ℕ) : Type 0 where
   pub satellites : List Satellite
   pub clock : ReadCell
   pub rows : List ReadRow
@@ -249,7 +249,7 @@ pub record EpochFacts (types : List Count) (older : List RawEpoch) (read : ReadE
 
 record Begun (types : List Count) (older : List RawEpoch) (begun : BegunEpoch) : Type 0 where
   satellites_ok : satellites_of_line types (past_of_block (block_for begun.line older)) begun.line
-    ≡ Ok begun.satellites
+      ≡ Ok begun.satellites
   past_is : past_of_block (block_for begun.line older) ≡ begun.past
 
 -- a past, if there is one, is that of a block
@@ -267,7 +267,7 @@ begun-facts : (types : List Count) (older : List RawEpoch) (line : List ℕ) (be
     → epoch_begun types line (past_of_line older line) ≡ Ok begun
     → Begun types older begun
 begun-facts types older line begun e =
-  by_past (past_of_line older line) (past-found_if (begins_epoch line) older) e
+    by_past (past_of_line older line) (past-found_if (begins_epoch line) older) e
   where
     by_past : (o : Option Past) → IsOfBlock (block_for line older) o
         → epoch_begun types line o ≡ Ok begun → Begun types older begun
@@ -279,7 +279,7 @@ begun-facts types older line begun e =
         (λ ss. Ok (record { line = line; past = past; satellites = ss })) begun e in
         let P : BegunEpoch → Type 0 = λ b. Begun types older b in
         subst P (ok-same (record { line = line; past = past; satellites = step.from }) begun step.next)
-          (record {
+        (record {
           satellites_ok = ap (λ p. satellites_of_line types p line) (sym h) ∙ step.first;
           past_is = sym h;
         })
@@ -312,7 +312,7 @@ epoch-made types older begun lines read count h e =
           ∙ (read-cell BadClock begun.past.clock (without_end_blanks line.line) one.from
           (if-err (begins_epoch line.line) Truncated
           (cell_read BadClock begun.past.clock (code_of (without_end_blanks line.line))) one.from
-            line.ok)).meant;
+          line.ok)).meant;
       rows_ok = subst (λ p. Paired (RowFacts p) begun.satellites two.from) (sym past) rows.each;
       counted = omega (arith, one.counted, line.one, two.counted, rows.counted, none);
       is_read = ap {B = ReadEpoch} (λ p. epoch_of_rows (record {
@@ -323,7 +323,7 @@ epoch-made types older begun lines read count h e =
     })
 
 pub epoch-facts : (types : List Count) (older : List RawEpoch) (lines : List ReadLine) (read : ReadEpoch)
-  (count : ℕ)
+    (count : ℕ)
     → epoch_at types older lines ≡ Here read count
     → EpochFacts types older read count
 epoch-facts types older lines read count e =
@@ -353,7 +353,7 @@ rows-single types older read count h =
 rows-meant : (block : List RawEpoch) (raw : RawEpoch) (satellites : List Satellite) (rows : List ReadRow)
     → Paired (RowFacts (past_of_block block)) satellites rows
     → AllByRecursion (λ (r : RawRow). raw_row_named r.name raw.rows ≡ Some r)
-      (map (λ (r : ReadRow). r.raw) rows)
+    (map (λ (r : ReadRow). r.raw) rows)
     → rows_from (raw ∷ block) (map (λ (r : ReadRow). r.raw) rows) ≡ Ok (map (λ (r : ReadRow). r.row) rows)
 rows-meant block raw [] [] h own = refl
 rows-meant block raw [] (r ∷ rs) h own = absurd h
@@ -378,7 +378,7 @@ epoch-meant types older read count h =
     let single : HasSingleLines read.raw = rows-single types older read count h in
     let same : raw ≡ read.raw = ap (λ (r : ReadEpoch). r.raw) h.is_read in
     let own : HasSingleLines raw = let Q : RawEpoch → Type 0 = λ x. HasSingleLines x
-      in subst Q (sym same) single in
+    in subst Q (sym same) single in
     let meant : epoch_of_block (raw ∷ block) raw
     ≡ Ok (record { head = columns (text_of (raw ∷ block)) 1 41; clock = h.clock.value; rows = rows }) =
     ap {B = Result Epoch Fault} (λ res. and_then res (λ clock. and_then (rows_from (raw ∷ block) raws)
@@ -396,7 +396,7 @@ reads-soundly types older lines read count e =
     let facts : EpochFacts types older read count = epoch-facts types older lines read count e in
     let rows : length read.epoch.rows ≡ length facts.rows = sym
     (ap (λ (r : ReadEpoch). length r.epoch.rows) facts.is_read)
-      ∙ length-map facts.rows (λ (r : ReadRow). r.row) in
+    ∙ length-map facts.rows (λ (r : ReadRow). r.row) in
     record {
       single = rows-single types older read count facts;
       meant = epoch-meant types older read count facts;

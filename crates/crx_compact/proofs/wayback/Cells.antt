@@ -17,19 +17,19 @@ first_cell-trimmed [] = refl
 first_cell-trimmed (c ∷ cs) = grind (arith, first_cell-trimmed cs)
 
 pub after_cell-trimmed : (line : List ℕ)
-  → after_cell (without_end_blanks line) ≡ without_end_blanks (after_cell line)
+    → after_cell (without_end_blanks line) ≡ without_end_blanks (after_cell line)
 after_cell-trimmed [] = refl
 after_cell-trimmed (c ∷ cs) = grind (arith, after_cell-trimmed cs)
 
 -- ---- the cells of written codes
 
 first_cell-text : (text rest : List ℕ) → list_all is_code_character text ≡ true
-  → first_cell (text ++ 32 ∷ rest) ≡ text
+    → first_cell (text ++ 32 ∷ rest) ≡ text
 first_cell-text [] rest h = refl
 first_cell-text (c ∷ cs) rest h = grind (arith, first_cell-text cs rest)
 
 after_cell-text : (text rest : List ℕ) → list_all is_code_character text ≡ true
-  → after_cell (text ++ 32 ∷ rest) ≡ rest
+    → after_cell (text ++ 32 ∷ rest) ≡ rest
 after_cell-text [] rest h = refl
 after_cell-text (c ∷ cs) rest h = grind (arith, after_cell-text cs rest)
 
@@ -59,7 +59,7 @@ cells-written (c ∷ cs) marks h =
 
 pub marks-written : (codes : List Code) (marks : List ℕ) → AreWritten codes
     → after_cells (length codes) (without_end_blanks (flat_map cell_text codes ++ marks))
-      ≡ without_end_blanks marks
+    ≡ without_end_blanks marks
 marks-written [] marks h = refl
 marks-written (c ∷ cs) marks h =
     let line : List ℕ = flat_map cell_text (c ∷ cs) ++ marks in

@@ -39,7 +39,7 @@ small n h = omega (arith, h)
 pub signed-characters : (z : ℤ) → IsShort z → list_all is_code_character (signed_decimal z) ≡ true
 signed-characters (pos n) h = digits-characters (decimal n) (decimal_is_digits n (small n h))
 signed-characters (negsuc n) h =
-  digits-characters (decimal (suc n)) (decimal_is_digits (suc n) (small (suc n) h))
+    digits-characters (decimal (suc n)) (decimal_is_digits (suc n) (small (suc n) h))
 
 pub order-text : (n : ℕ) → n ≤ ORDER_LIMIT → decimal n ≡ (48 + n) ∷ []
 order-text n h = decimal_digit n (omega (arith, h))

@@ -13,7 +13,7 @@ use Rattle.crx_compact.proofs.PlaceByPlace.{at-take, at-padded}
 -- ---- marks that are cut
 
 latest-take : (n : ℕ) (marks : List (List ℕ)) (p : ℕ) → p < n
-  → latest_mark (map (take n) marks) p ≡ latest_mark marks p
+    → latest_mark (map (take n) marks) p ≡ latest_mark marks p
 latest-take n [] p h = refl
 latest-take n (w ∷ ws) p h = cc (at-take n w p h, latest-take n ws p h)
 
@@ -26,12 +26,12 @@ pub overlaid-take : (n : ℕ) (marks : List (List ℕ))
     → overlaid (map (take n) marks) ≡ without_end_blanks (take n (overlaid marks))
 overlaid-take n marks =
     same_characters (each_place (longest (map (take n) marks))
-      (λ q. shown (latest_mark (map (take n) marks) q)))
+    (λ q. shown (latest_mark (map (take n) marks) q)))
     (take n (overlaid marks)) (λ p.
     at-longest (map (take n) marks) p ∙ cut p (within-or_past n p))
   where
     cut : (p : ℕ) → (p < n) ⊎ (n ≤ p)
-      → shown (latest_mark (map (take n) marks) p) ≡ at (take n (overlaid marks)) p
+        → shown (latest_mark (map (take n) marks) p) ≡ at (take n (overlaid marks)) p
     cut p (inl h) = ap shown (latest-take n marks p h)
         ∙ sym (at-overlaid marks p) ∙ sym (at-take n (overlaid marks) p h)
     cut p (inr h) = ap shown (latest-take_past n marks p h) ∙ sym (at-take_past n (overlaid marks) p h)
@@ -40,12 +40,12 @@ overlaid-take n marks =
 pub trimmed-within : (n : ℕ) (text : List ℕ)
     → length text ≤ n → without_end_blanks (take n (without_end_blanks text)) ≡ without_end_blanks text
 trimmed-within n text few = same_characters (take n (without_end_blanks text)) text
-  (λ p. cut p (within-or_past n p))
+    (λ p. cut p (within-or_past n p))
   where
     cut : (p : ℕ) → (p < n) ⊎ (n ≤ p) → at (take n (without_end_blanks text)) p ≡ at text p
     cut p (inl h) = at-take n (without_end_blanks text) p h ∙ at-without_end_blanks text p
     cut p (inr h) = at-take_past n (without_end_blanks text) p h
-      ∙ sym (at_past text p (omega (arith, few, h)))
+        ∙ sym (at_past text p (omega (arith, few, h)))
 
 -- ---- columns
 

@@ -44,9 +44,9 @@ mark-printable : (a b : ℕ) → is_printable b ≡ true → is_printable (mark_
 mark-printable a b h = grind (arith, h)
 
 pub at-difference : (old new : List ℕ) (p : ℕ)
-  → at (text_difference old new) p ≡ mark_of (at old p) (at new p)
+    → at (text_difference old new) p ≡ mark_of (at old p) (at new p)
 at-difference old new p = at-without_end_blanks (by_position mark_of old new) p
-  ∙ at-by_position mark_of refl old new p
+    ∙ at-by_position mark_of refl old new p
 
 -- the marks of a text that may be written are printable
 pub difference-printable : (old new : List ℕ)
@@ -80,10 +80,10 @@ names-kept types (r ∷ rs) h = list_all-append is_kept r.name
     (flat_map (λ (q : Row). q.name) rs) (sound-name_kept r h.0.0) (names-kept types rs h.1)
 
 pub text-kept : (types : List Count) (e : Epoch) → IsWholeEpoch types e
-  → list_all is_kept (epoch_text e) ≡ true
+    → list_all is_kept (epoch_text e) ≡ true
 text-kept types e h = list_all-append is_kept e.head
     (flat_map (λ (r : Row). r.name) e.rows) (head-kept types e h)
-      (names-kept types e.rows (typed-rows types e h))
+    (names-kept types e.rows (typed-rows types e h))
 
 pub text-head : (types : List Count) (e : Epoch)
     → IsWholeEpoch types e → (p : ℕ) → p < 41 → at (epoch_text e) p ≡ at e.head p
@@ -116,9 +116,9 @@ length-text types e h =
 
 pub text-names : (types : List Count) (e : Epoch)
     → IsWholeEpoch types e → (p : ℕ)
-      → at (epoch_text e) (41 + p) ≡ at (flat_map (λ (r : Row). r.name) e.rows) p
+    → at (epoch_text e) (41 + p) ≡ at (flat_map (λ (r : Row). r.name) e.rows) p
 text-names types e h p =
-  at-append_past e.head (flat_map (λ (r : Row). r.name) e.rows) 41 p h.sound.head_sound.width
+    at-append_past e.head (flat_map (λ (r : Row). r.name) e.rows) 41 p h.sound.head_sound.width
 
 pub trimmed-again : (text : List ℕ) → without_end_blanks (without_end_blanks text) ≡ without_end_blanks text
 trimmed-again text = same_characters (without_end_blanks text) text (λ p. at-without_end_blanks text p)
@@ -155,7 +155,7 @@ satellites_of_rows rows = map (λ (r : Row). record { name = r.name; count = len
 
 pub satellites-good : (types : List Count) (earlier : List (List ℕ)) (rows : List Row)
     → AllByRecursion (IsTypedRow types) rows → AreNew (λ (r : Row). r.name) earlier rows
-      → are_different rows ≡ true
+    → are_different rows ≡ true
     → satellites_named types earlier (map (λ (r : Row). r.name) rows) ≡ Ok (satellites_of_rows rows)
 satellites-good types earlier [] h new k = refl
 satellites-good types earlier (r ∷ rs) h new k =

@@ -50,12 +50,12 @@ signed-length k b (negsuc n) some few h near =
     let less : suc n < 10 ^ k = omega (arith, ints, near.low, h) in
     let wide : 10 ^ k ≤ 10 ^ DIGITS_LIMIT = pow-le-pow_right (omega arith) few in
     let len : length (decimal (suc n)) ≤ k = length-decimal-le k (suc n) some less (omega (arith, less, wide))
-      in
+    in
     omega (arith, len)
 
 -- a number that fits its columns: a minus takes the place of a digit
 within-length : (j : ℕ) (z : ℤ) → 0 < j → j + 1 ≤ DIGITS_LIMIT → IsWithin (j + 2) z
-  → length (signed_decimal z) ≤ j + 1
+    → length (signed_decimal z) ≤ j + 1
 within-length j (pos n) some few h =
     let same : j + 2 - 1 ≡ j + 1 = omega arith in
     let P : ℕ → Type 0 = λ m. pos n <ℤ pos (10 ^ m) in
@@ -71,7 +71,7 @@ within-length j (negsuc n) some few h =
     let fewer : j ≤ DIGITS_LIMIT = omega (arith, few) in
     let wide : 10 ^ j ≤ 10 ^ DIGITS_LIMIT = ten-more j DIGITS_LIMIT fewer in
     let len : length (decimal (suc n)) ≤ j = length-decimal-le j (suc n) some less (omega (arith, less, wide))
-      in
+    in
     omega (arith, len)
 
 -- a code of an arc whose values fit so many columns: a first value has two characters before it, and a
@@ -94,14 +94,14 @@ code-length j (x ∷ y ∷ ys) some few h all =
     let same : j + 2 - 1 ≡ j + 1 = omega arith in
     let P : ℕ → Type 0 = λ m. AllByRecursion (IsNear (10 ^ m)) (x ∷ y ∷ ys) in
     let near : AllByRecursion (IsNear (10 ^ (j + 1))) (x ∷ y ∷ ys) =
-      subst P same (near-all (j + 2) (x ∷ y ∷ ys) all) in
+    subst P same (near-all (j + 2) (x ∷ y ∷ ys) all) in
     let le : doubled order b ≤ doubled WRITTEN_ORDER b = doubled-more order WRITTEN_ORDER b (omega arith) in
     let step : IsNear (doubled WRITTEN_ORDER b) (difference order (x ∷ y ∷ ys)) =
     near-more (doubled order b) (doubled WRITTEN_ORDER b)
     (difference order (x ∷ y ∷ ys)) le (difference-near order b (x ∷ y ∷ ys) near) in
     let number : length (signed_decimal (difference order (x ∷ y ∷ ys))) ≤ j + 2 + 1 =
     signed-length (j + 2) (doubled WRITTEN_ORDER b) (difference order (x ∷ y ∷ ys)) (omega arith) few h step
-      in
+    in
     omega (arith, number)
 
 -- ---- texts
@@ -137,7 +137,7 @@ cells-length n (c ∷ cs) h =
 -- ---- counts of satellites
 
 pub few-satellites : (types : List Count) (e : Epoch) → IsWholeEpoch types e
-  → length e.rows ≤ SATELLITES_LIMIT
+    → length e.rows ≤ SATELLITES_LIMIT
 few-satellites types e h = grind arith
 
 pub text-short : (types : List Count) (e : Epoch)
@@ -179,7 +179,7 @@ clock-short : (types : List Count) (ms : List Marked) → AreWhole types (since_
 clock-short types ms h =
     code-length 13 (clock_arc ms) (omega arith) (omega arith) (omega arith)
     (stretch-within CLOCK_WIDTH (map (λ (e : Epoch). e.clock) (since_full ms))
-      (clocks-fit types (since_full ms) h))
+    (clocks-fit types (since_full ms) h))
 
 old-short : (types : List Count) (full : Bool) (e : Epoch) (older : List Marked)
     → AreWhole types (since_full (marked full e ∷ older))
@@ -192,12 +192,12 @@ old-short types false e (m ∷ older) h = text-short types m.epoch h.1.0
 pub lines-short : (types : List Count) (full : Bool) (e : Epoch) (older : List Marked)
     → AreWhole types (since_full (marked full e ∷ older))
     → AllByRecursion (λ (line : List ℕ). length line ≤ 18 * TYPES_LIMIT)
-      (compact_epoch (marked full e ∷ older))
+    (compact_epoch (marked full e ∷ older))
 lines-short types full e older h =
     let ms = marked full e ∷ older in
     let line = difference-length (41 + 3 * SATELLITES_LIMIT) (if full then [] else newest_text older)
     (epoch_text e) (old-short types full e older h) (text-short types e h.0) in
     let clock = clock-short types ms h in
     let rows = lines-each (λ l. length l ≤ most) types ms (row-short types) h e.rows (typed-rows types e h.0)
-      in
+    in
     (omega (arith, line), (omega (arith, clock), rows))

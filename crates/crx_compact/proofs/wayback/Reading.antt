@@ -79,7 +79,7 @@ not-empty (x ∷ xs) raw block e = refl
 
 -- what the lines of an epoch are read against
 past-found : (full : Bool) (e : Epoch) (older : List Marked) (raws : List RawEpoch)
-  → Begins (marked full e ∷ older)
+    → Begins (marked full e ∷ older)
     → (full ≡ false → block_of raws ≡ block_of (raws_of older))
     → past_of_line raws (epoch_line (marked full e) older) ≡ Some (past_of_block (before full older))
 past-found true e older raws h k = cc (begins_full (epoch_text e) h.0)
@@ -93,7 +93,7 @@ past-found false e (m ∷ older) raws h k =
     )
 
 block-found : (full : Bool) (e : Epoch) (older : List Marked) (raws : List RawEpoch)
-  → Begins (marked full e ∷ older)
+    → Begins (marked full e ∷ older)
     → (full ≡ false → block_of raws ≡ block_of (raws_of older))
     → block_of (raw_of (marked full e) older ∷ raws) ≡ block_of (raws_of (marked full e ∷ older))
 block-found true e older raws h k = cc (begins_full (epoch_text e) h.0)
@@ -247,7 +247,7 @@ epoch-good types full e older raws rest h k =
     }))) (line-good types full e older h) in
     let reads : AllByRecursion (RowReads past ms) e.rows = all-from (RowReads past ms)
     (λ r own. row-reads types full e older h r own) e.rows
-      (each-own (λ (r : Row). r.name) e.rows h.0.sound.apart) in
+    (each-own (λ (r : Row). r.name) e.rows h.0.sound.apart) in
     let same : epoch_of_rows begun clock (map (read_in ms) e.rows) ≡ read_of (marked full e) older =
     rw (
       map-map (λ (r : ReadRow). r.raw) (read_in ms) e.rows,
@@ -293,7 +293,7 @@ reads-back (t ∷ older) rest h =
     let all : List ReadLine = map Content (text ++ lines) ++ rest in
     let split : map Content (text ++ lines) ++ rest ≡ map Content text ++ (map Content lines ++ rest) =
     ap (λ l. l ++ rest) (map-append Content text lines)
-      ∙ append_assoc (map Content text) (map Content lines) rest in
+    ∙ append_assoc (map Content text) (map Content lines) rest in
     let first : epochs_at (counts_of older) all ≡ Here (reads_of ms) (length text) =
     ap (epochs_at (counts_of older)) split ∙ reads-back older (map Content lines ++ rest) h.1 in
     let left : drop (length text) all ≡ map Content lines ++ rest =

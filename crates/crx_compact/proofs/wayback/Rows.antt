@@ -73,7 +73,7 @@ found-row : (types : List Count) (name : List ℕ) (rows : List Row)
 found-row types name [] h r found = cc
 found-row types name (q ∷ qs) h r found =
     found-step types name q r (row_named name qs) (bytes_eq q.name name) refl h.0
-      (found-row types name qs h.1 r) found
+    (found-row types name qs h.1 r) found
 
 run-rows_step : (types : List Count) (name : List ℕ) (o : Option Row) (os : List (Option Row))
     → ((r : Row) → o ≡ Some r → IsRowOf types name r) → AllByRecursion (IsRowOf types name) (stretch os)
@@ -104,7 +104,7 @@ rows-of_run types full e older h r own = subst (λ q. AllByRecursion (IsRowOf ty
 -- a property of the line that any row has after any run of its satellite holds of the lines of some rows
 pub lines-each : (P : List ℕ → Type 0) (types : List Count) (ms : List Marked)
     → ((name : List ℕ) (run : List Row) (r : Row) → AllByRecursion (IsRowOf types name) run
-      → IsTypedRow types r
+    → IsTypedRow types r
     → P (satellite_line run r)) → AreWhole types (since_full ms)
     → (rows : List Row) → AllByRecursion (IsTypedRow types) rows
     → AllByRecursion P (map (λ (r : Row). satellite_line (run_of r.name ms) r) rows)
@@ -131,11 +131,11 @@ value-fits (v ∷ vs) zero h = All-head IsValue v vs h
 value-fits (v ∷ vs) (suc j) h = value-fits vs j (All-tail IsValue v vs h)
 
 pub values-fit : (types : List Count) (name : List ℕ) (j : ℕ) (run : List Row)
-  → AllByRecursion (IsRowOf types name) run
+    → AllByRecursion (IsRowOf types name) run
     → AllByRecursion IsValue (map (value_in j) run)
 values-fit types name j [] h = tt
 values-fit types name j (r ∷ rs) h =
-  (value-fits r.values j h.0.is_row.0.ranged, values-fit types name j rs h.1)
+    (value-fits r.values j h.0.is_row.0.ranged, values-fit types name j rs h.1)
 
 pub clocks-fit : (types : List Count) (epochs : List Epoch)
     → AreWhole types epochs → AllByRecursion IsClockOffset (map (λ (e : Epoch). e.clock) epochs)
@@ -143,7 +143,7 @@ clocks-fit types [] h = tt
 clocks-fit types (e ∷ es) h = (h.0.sound.head_sound.ranged, clocks-fit types es h.1)
 
 pub run-printable : (types : List Count) (name : List ℕ) (run : List Row)
-  → AllByRecursion (IsRowOf types name) run
+    → AllByRecursion (IsRowOf types name) run
     → (j : ℕ) → IsPrintable (code_at WRITTEN_ORDER (arc_of j run))
 run-printable types name run h j =
     let within = stretch-within OBSERVATION_WIDTH (map (value_in j) run) (values-fit types name j run h) in
@@ -155,7 +155,7 @@ pub clock-printable : (types : List Count) (epochs : List Epoch) → AreWhole ty
 clock-printable types epochs h =
     let arc = stretch (map (λ (e : Epoch). e.clock) epochs) in
     let within = stretch-within CLOCK_WIDTH (map (λ (e : Epoch). e.clock) epochs) (clocks-fit types epochs h)
-      in
+    in
     code-printable (10 ^ (CLOCK_WIDTH - 1)) arc (omega arith) (near-all CLOCK_WIDTH arc within)
 
 pub are-printable : (types : List Count) (m : Marked) (older : List Marked)
@@ -172,7 +172,7 @@ cells-good : (value : ℕ → Code → Result (Option ℤ) Fault) (n : ℕ) (f :
     → ((i : ℕ) → IsPrintable (f i))
     → ((i : ℕ) → value i (f i) ≡ Ok (v i))
     → cells_read value (map code_text (each_place n f))
-      ≡ Ok (each_place n (λ i. record { code = f i; value = v i }))
+    ≡ Ok (each_place n (λ i. record { code = f i; value = v i }))
 cells-good value zero f v p h = refl
 cells-good value (suc n) f v p h =
     cc (
@@ -243,13 +243,13 @@ value-good : (types : List Count) (name : List ℕ) (r : Row) (rs : List Row)
 value-good types name r rs h j =
     ap (value_of OBSERVATION_WIDTH) (codes-read j (r ∷ rs))
     ∙ value-back OBSERVATION_WIDTH (value_in j r) (map (value_in j) rs)
-      (value-fits r.values j h.0.is_row.0.ranged)
+    (value-fits r.values j h.0.is_row.0.ranged)
 
 first-code : (r : Row) (rs : List Row) (i : ℕ) → code_in i (raw_row (r ∷ rs) r) ≡ codes_at (r ∷ rs) i
 first-code r rs i =
     index-each_place (length r.values) i (codes_at (r ∷ rs)) Missing (λ le.
     ap (λ (o : Option ℤ). code_at WRITTEN_ORDER (stretch (o ∷ map (value_in i) rs)))
-      (get_or_past r.values i None le))
+    (get_or_past r.values i None le))
 
 values-again : (vs : List (Option ℤ)) → each_place (length vs) (λ j. slice_index_or vs j None) ≡ vs
 values-again [] = refl
@@ -258,8 +258,11 @@ values-again (v ∷ vs) = ap (λ r. v ∷ r) (values-again vs)
 pub flags-run : (types : List Count) (name : List ℕ) (run : List Row)
     → AllByRecursion (IsRowOf types name) run → AllByRecursion HasFlags run
 flags-run types name run h =
-    all-from HasFlags (λ r q. record { unmarked = unmarked r.flags q.is_row.0.kept; counted =
-      q.is_row.0.paired }) run h
+    all-from HasFlags (λ r q. record {
+      unmarked = unmarked r.flags q.is_row.0.kept;
+      counted =
+          q.is_row.0.paired;
+    }) run h
 
 abbrev pub satellite_of : Row → Satellite
 satellite_of r = record { name = r.name; count = length r.values }

@@ -49,7 +49,7 @@ Begins ms = AllByRecursion (λ (e : Epoch). at (epoch_text e) 0 ≡ 62) (since_f
 
 first_mark : (old new : List ℕ) → at (text_difference old new) 0 ≡ mark_of (at old 0) (at new 0)
 first_mark old new = at-without_end_blanks (by_position mark_of old new) 0
-  ∙ at-by_position mark_of refl old new 0
+    ∙ at-by_position mark_of refl old new 0
 
 -- whether an epoch's line begins with >, where its text does and the one before does
 pub begins_full : (text : List ℕ) → at text 0 ≡ 62 → nat_eq (at (text_difference [] text) 0) 62 ≡ true
@@ -62,7 +62,7 @@ begins_later old new h k = cc (first_mark old new, h, k)
 block-step : (full : Bool) (e : Epoch) (older : List Marked)
     → (Begins older → block_of (raws_of older) ≡ raw_block older)
     → Begins (marked full e ∷ older)
-      → block_of (raws_of (marked full e ∷ older)) ≡ raw_block (marked full e ∷ older)
+    → block_of (raws_of (marked full e ∷ older)) ≡ raw_block (marked full e ∷ older)
 block-step true e older next h = cc (begins_full (epoch_text e) h.0)
 block-step false e [] next h = grind arith
 block-step false e (m ∷ older) next h =
@@ -127,22 +127,22 @@ codes_of_values [] = []
 codes_of_values (o ∷ os) = code_at WRITTEN_ORDER (stretch (o ∷ os)) ∷ codes_of_values os
 
 clock-step : (full : Bool) (e : Epoch) (older : List Marked)
-  → map (λ (q : RawEpoch). q.clock) (raw_block older)
+    → map (λ (q : RawEpoch). q.clock) (raw_block older)
     ≡ codes_of_values (map (λ (q : Epoch). q.clock) (since_full older))
     → map (λ (q : RawEpoch). q.clock) (raw_block (marked full e ∷ older))
     ≡ codes_of_values (map (λ (q : Epoch). q.clock) (since_full (marked full e ∷ older)))
 clock-step true e older next = refl
 clock-step false e older next =
-  ap (λ cs. code_at WRITTEN_ORDER (clock_arc (marked false e ∷ older)) ∷ cs) next
+    ap (λ cs. code_at WRITTEN_ORDER (clock_arc (marked false e ∷ older)) ∷ cs) next
 
 pub clocks-read : (ms : List Marked)
     → map (λ (q : RawEpoch). q.clock) (raw_block ms)
-      ≡ codes_of_values (map (λ (q : Epoch). q.clock) (since_full ms))
+    ≡ codes_of_values (map (λ (q : Epoch). q.clock) (since_full ms))
 clocks-read [] = refl
 clocks-read (m ∷ older) = clock-step m.in_full m.epoch older (clocks-read older)
 
 pub codes-read : (j : ℕ) (run : List Row)
-  → map (code_in j) (raw_run run) ≡ codes_of_values (map (value_in j) run)
+    → map (code_in j) (raw_run run) ≡ codes_of_values (map (value_in j) run)
 codes-read j [] = refl
 codes-read j (r ∷ rs) =
     cc (
@@ -196,11 +196,11 @@ patched-back old new h =
     ∙ character-mark (at old p) (at new p) (h p))
 
 first_overlay : (new : List ℕ) → IsUnmarked new
-  → overlaid (text_difference [] new ∷ []) ≡ without_end_blanks new
+    → overlaid (text_difference [] new ∷ []) ≡ without_end_blanks new
 first_overlay new h = overlaid-patched (text_difference [] new) [] ∙ patched-back [] new h
 
 next_overlay : (old new : List ℕ) (marks : List (List ℕ)) → IsUnmarked new
-  → overlaid marks ≡ without_end_blanks old
+    → overlaid marks ≡ without_end_blanks old
     → overlaid (text_difference old new ∷ marks) ≡ without_end_blanks new
 next_overlay old new marks h e =
     overlaid-patched (text_difference old new) marks
@@ -235,7 +235,7 @@ pub record HasFlags (row : Row) : Type 0 where
 -- nothing of them is past the types of the row's line
 marks-cut : (r : Row) (rs : List Row) → HasFlags r → overlaid
     (text_difference (indicators_before (r ∷ rs)) r.flags ∷ marks_of (raw_run rs))
-      ≡ without_end_blanks r.flags
+    ≡ without_end_blanks r.flags
     → overlaid (marks_of (raw_run (r ∷ rs))) ≡ without_end_blanks r.flags
 marks-cut r rs h e =
     let n = 2 * length (codes_of (length r.values) (r ∷ rs)) in

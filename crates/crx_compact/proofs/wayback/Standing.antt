@@ -47,7 +47,7 @@ code-printable (c ∷ cs) h =
     )
 
 cells-printable : (codes : List Code) → AreWritten codes → list_all is_printable (flat_map cell_text codes)
-  ≡ true
+    ≡ true
 cells-printable [] h = refl
 cells-printable (c ∷ cs) h =
     list_all-append is_printable (code_text c ++ 32 ∷ []) (flat_map cell_text cs)
@@ -90,7 +90,7 @@ line-begins_epoch types true e older h = begins_full (epoch_text e) (text-begins
 line-begins_epoch types false e [] h = begins_full (epoch_text e) (text-begins types e h.0)
 line-begins_epoch types false e (m ∷ older) h =
     begins_later (epoch_text m.epoch) (epoch_text e) (text-begins types m.epoch h.1.0)
-      (text-begins types e h.0)
+    (text-begins types e h.0)
 
 -- the flag of an epoch's text is one of observations, and so is its mark in a line from the empty text
 flag-mark : (c : ℕ) → is_observation_flag c ≡ true → is_event_flag (mark_of 32 c) ≡ false
@@ -106,7 +106,7 @@ full-no_event types e h =
     (list_all is_kept e.head) (head_tests types e h)).0).1 in
     let none : is_event_flag (at line 31) ≡ false =
     ap is_event_flag (at-difference [] (epoch_text e) 31
-      ∙ ap (mark_of 32) (text-head types e h 31 (omega arith)))
+    ∙ ap (mark_of 32) (text-head types e h 31 (omega arith)))
     ∙ flag-mark (at e.head 31) flag in
     ap (λ b. begins_epoch line && b) none ∙ false-right (begins_epoch line)
   where
@@ -132,12 +132,14 @@ lines-stand types full e older h =
     let lines = map (λ (r : Row). satellite_line (run_of r.name ms) r) e.rows in
     let rows = typed-rows types e h.0 in
     let clock = code-characters (code_at WRITTEN_ORDER (clock_arc ms))
-      (clock-printable types (since_full ms) h) in
-    let others : AllByRecursion (λ (line : List ℕ). begins_epoch line ≡ false) (text ∷ lines) =
-    (text-other text clock, lines-each (λ line. begins_epoch line ≡ false) types ms
-      (row-begins types) h e.rows rows) in
+    (clock-printable types (since_full ms) h) in
+    let others : AllByRecursion (λ (line : List ℕ). begins_epoch line ≡ false) (text ∷ lines) = (
+      text-other text clock,
+      lines-each (λ line. begins_epoch line ≡ false) types ms
+          (row-begins types) h e.rows rows,
+    ) in
     let first = difference-printable (if full then [] else newest_text older) (epoch_text e)
-      (text-kept types e h.0) in
+    (text-kept types e h.0) in
     let printable = lines-each (λ line. list_all is_printable line ≡ true) types ms
     (row-printable types) h e.rows rows in
     let no_event = all-from (λ (line : List ℕ). is_event_line line ≡ false)

@@ -43,13 +43,13 @@ cell-found : (name : List ℕ) (rest : List (Option Row)) (found : Option Row) (
 cell-found name rest None j = refl
 cell-found name rest (Some r) j =
     index-each_place (length r.values) j (λ i. arc_tail WRITTEN_ORDER (arc_of i (r ∷ stretch rest))) None
-      (λ le.
+    (λ le.
     ap (λ (o : Option ℤ). arc_tail WRITTEN_ORDER (stretch (o ∷ map (value_in j) (stretch rest))))
     (get_or_past r.values j None le))
 
 flags-found : (rest : List (Option Row)) (found : Option Row)
     → flags_of_tail (option_map (row_tail (stretch (found ∷ rest))) found)
-      ≡ head_flags (stretch (found ∷ rest))
+    ≡ head_flags (stretch (found ∷ rest))
 flags-found rest None = refl
 flags-found rest (Some r) = refl
 
@@ -119,7 +119,7 @@ clock-left false older = refl
 
 text-left : (full : Bool) (older : List Marked) (new : List ℕ)
     → text_difference (if full then [] else newest_text older) new
-      ≡ text_difference (start full older).text new
+    ≡ text_difference (start full older).text new
 text-left true older new = refl
 text-left false older new = sym (before-trimmed (newest_text older) new)
 
@@ -140,5 +140,5 @@ epoch-by full e older h =
     record { lines = cc; tail = cc }
 
 pub epoch-by_tail : (m : Marked) (older : List Marked) → are_different m.epoch.rows ≡ true
-  → EpochByTail m older
+    → EpochByTail m older
 epoch-by_tail m older h = epoch-by m.in_full m.epoch older h

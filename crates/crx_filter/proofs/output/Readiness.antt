@@ -31,12 +31,12 @@ step-ready direction some seen line (Fails fault) = by_bool (is_skipped_in seen 
     ∙ sym (ap (λ (s : Step _ _). has_lines s.handed_out) (failed-ends direction seen line fault off)))
 
 first-lines : (date line : List ℕ) (is_first : Bool)
-  → has_lines (lines_before_header date is_first ++ line ∷ []) ≡ true
+    → has_lines (lines_before_header date is_first ++ line ∷ []) ≡ true
 first-lines date line true = refl
 first-lines date line false = refl
 
 compact-some : (seen : Seen OpenEpoch Written) (unit : FileUnit Epoch)
-  → has_lines (compaction.written seen unit) ≡ true
+    → has_lines (compaction.written seen unit) ≡ true
 compact-some seen (HeaderLine line) = first-lines seen.choices.date line (is_before_header seen.phase)
 compact-some seen (EventLine line) = refl
 compact-some seen (EventRecord line) = refl

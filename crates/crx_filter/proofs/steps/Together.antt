@@ -121,7 +121,7 @@ row-come self t opened mid after line kept step answer row same read other said 
 -- the encoder has the rows that the reader has then
 pub rows-come : (self : CompactionParts) → BelongTogether self → is_open_stage self.reader.stage ≡ true
     → (mid after : RinexReader) (new : EncoderState) (row : ObservationRow) → IsSameReader self.reader mid
-      → row ≡ mid.row
+    → row ≡ mid.row
     → new ≡ record self.encoder { rows = self.encoder.rows ++ row ∷ []; room = new.room }
     → after.rows.rows ≡ mid.rows.rows ++ mid.row ∷ [] → new.rows ≡ after.rows.rows
 rows-come self t opened mid after new row same same_row is added = ap (λ (e : EncoderState). e.rows) is

@@ -152,8 +152,11 @@ copied-back lines line n h b =
     let all : returns_left (lines ++ line ∷ []) ≡ returns_left lines + returns_left (line ∷ []) =
     left-append lines (line ∷ []) in
     let rest = b.left in
-    record { no_feed = all-append HasNoFeed lines (line ∷ []) b.no_feed (h, tt); left =
-      omega (arith, all, rest) }
+    record {
+      no_feed = all-append HasNoFeed lines (line ∷ []) b.no_feed (h, tt);
+      left =
+          omega (arith, all, rest);
+    }
 
 epoch-back : (lines more : List (List ℕ)) (n : ℕ) → AllByRecursion
     (λ (line : List ℕ). list_all is_printable line ≡ true) more → AreBack lines n → AreBack (lines ++ more) n

@@ -169,7 +169,7 @@ pub result-well : (items : List (Item ReadEpoch)) (lines : List (List ℕ))
     → result_of expanded_unit (record { items = items; fault = None }) ≡ written_well (lines_text lines)
 result-well items lines e f = ap (λ (w : List At). result_of_course
     (record { output = lines_text (written_lines expanded_unit items); warnings = reverse w; fault = None }))
-      f
+    f
     ∙ ap (λ ls. written_well (lines_text ls)) e
 
 -- the two first lines, and then the reading of the rest

@@ -56,9 +56,10 @@ units-ready_to_hand_out : (choices : Choices) (items : List (Item Epoch))
     → is_date choices.date ≡ true → AreInPlace items → OfCopiedLines IsShort items
     → OfUnits (λ before unit. AreReadyToHandOut (longest_of unit) (compact_unit choices before unit)) items
 units-ready_to_hand_out choices [] dated h k = tt
-units-ready_to_hand_out choices (Accepted unit ∷ before) dated h k =
-    (unit-ready_to_hand_out choices before unit dated h k.0,
-      units-ready_to_hand_out choices before dated h.1 k.1)
+units-ready_to_hand_out choices (Accepted unit ∷ before) dated h k = (
+  unit-ready_to_hand_out choices before unit dated h k.0,
+  units-ready_to_hand_out choices before dated h.1 k.1,
+)
 units-ready_to_hand_out choices (Warned at ∷ before) dated h k =
     units-ready_to_hand_out choices before dated h.1 k
 

@@ -23,7 +23,7 @@ one-written all written line lines whole is =
 
 -- a part of a text, after what was written of it before
 pub part-written : (all written text rest : List ℕ) (n : ℕ) → all ≡ written ++ (text ++ rest)
-  → n < length text
+    → n < length text
     → (length written + n < length all) × (take (length written + n) all ≡ written ++ take n text)
 part-written all written text rest n whole less = (
   omega (arith, ap length whole, length-append written (text ++ rest), length-append text rest),

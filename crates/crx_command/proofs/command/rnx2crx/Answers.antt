@@ -11,6 +11,6 @@ returns c =
     c.every_option.ensures.rule in
     let flags = flags_more _ _ _ c.in_ok-with_flags.ensures every in
     let date = one_more _ _ _ _ _ c.in_ok-arg.ensures c.date_option.ensures.local flags
-      c.date_option.ensures.rule in
+    c.date_option.ensures.rule in
     IfOk-weaker c.arg-3.result _ _ (λ r h. ap (λ (a : App). a.top)
     (one_more _ r _ _ _ h c.names_of_files.ensures.local date c.names_of_files.ensures.rule)) c.arg-3.ensures

@@ -12,7 +12,7 @@ record Adds (old new piece : List ℕ) : Type 0 where
 -- two pieces that were added one after another
 joined : {s t u a b : List ℕ} → Adds s t a → Adds t u b → Adds s u (a ++ b)
 joined {s} {t} {u} {a} {b} first second =
-  record { is = second.is ∙ ap (λ x. x ++ b) first.is ∙ append_assoc s a b }
+    record { is = second.is ∙ ap (λ x. x ++ b) first.is ∙ append_assoc s a b }
 
 pub returns : goal.returns
 returns c =
@@ -30,17 +30,17 @@ returns c =
     let year : Adds (string_bytes c.push_str-3.new.self) (string_bytes c.push_two_digits-2.new.text)
     (two_digits (unsigned_abs c.args.at.date.year % 100)) = record { is = search rules } in
     let blank : Adds (string_bytes c.push_two_digits-2.new.text) (string_bytes c.push_str-4.new.self)
-      (codes " ") =
+    (codes " ") =
     record { is = search rules } in
     let hour : Adds (string_bytes c.push_str-4.new.self)
     (string_bytes c.push_two_digits-3.new.text) (two_digits c.args.at.time.hour) =
-      record { is = search rules } in
+    record { is = search rules } in
     let colon : Adds (string_bytes c.push_two_digits-3.new.text) (string_bytes c.push_str-5.new.self)
-      (codes ":") =
+    (codes ":") =
     record { is = search rules } in
     let minute : Adds (string_bytes c.push_str-5.new.self)
     (string_bytes c.push_two_digits-4.new.text) (two_digits c.args.at.time.minute) =
-      record { is = search rules } in
+    record { is = search rules } in
     let all = joined day (joined dash
     (joined month (joined dash2 (joined year (joined blank (joined hour (joined colon minute))))))) in
     all.is

@@ -15,5 +15,5 @@ returns c = go (one_text (found_of c.args.found.now) (codes "every")) refl
     go None e = c.get_one.ensures.none e
     go (Some text) e =
         number_read (λ bs r. ParsesUnsigned 32 10 bs r × ExplainsUnsignedError 10 bs r
-          × HasUnsignedDigitsIfOk bs r)
+        × HasUnsignedDigitsIfOk bs r)
         (λ t r h. h.0) text c.get_one.result (c.get_one.ensures.value text e)

@@ -11,7 +11,7 @@ overflow_sub-next c =
     rw (same-bits _ fits)
     (difference-fits c.loop-order.order c.loop-order.differences
     (to_z w64 c.loop-order.next-bits) here few c.loop-order.invariant.next_below
-      c.loop-order.invariant.rest_below)
+    c.loop-order.invariant.rest_below)
 
 pub loop-order-preserved : goal.loop-order-preserved
 loop-order-preserved c =

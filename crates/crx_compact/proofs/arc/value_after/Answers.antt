@@ -19,7 +19,7 @@ overflow_add-value c =
     let few : c.loop-difference.difference-index ≤ 9 = omega arith in
     let here : c.loop-difference.difference-index < length c.args.differences.now = omega arith in
     let fits : FitsSigned w64
-      (slice_index_or c.args.differences.now c.loop-difference.difference-index (pos 0)) =
+    (slice_index_or c.args.differences.now c.loop-difference.difference-index (pos 0)) =
     first-fits c.loop-difference.difference-index
     c.args.differences.now here few c.loop-difference.invariant.rest_below in
     rw (same-bits _ fits)
@@ -31,7 +31,7 @@ loop-difference-preserved c =
     let few : c.loop-difference.difference-index ≤ 9 = omega arith in
     let here : c.loop-difference.difference-index < length c.args.differences.now = omega arith in
     let fits : FitsSigned w64
-      (slice_index_or c.args.differences.now c.loop-difference.difference-index (pos 0)) =
+    (slice_index_or c.args.differences.now c.loop-difference.difference-index (pos 0)) =
     first-fits c.loop-difference.difference-index
     c.args.differences.now here few c.loop-difference.invariant.rest_below in
     let more : FitsSigned w64 (to_z w64 c.loop-difference.value-bits

@@ -10,7 +10,7 @@ invariant-loop-place l = record {
   cells : take l.end l.bytes ++ printed_cells (drop l.place (map shown_value l.arcs))
       (drop (2 * l.place) (columns l.flags 1 (2 * length l.arcs)))
       ≡ take l.at l.initial.bytes ++ printed_cells (map shown_value l.arcs)
-        (columns l.flags 1 (2 * length l.arcs));
+      (columns l.flags 1 (2 * length l.arcs));
   end : l.end ≡ l.at + 16 * l.place;
   long : length l.bytes ≡ length l.initial.bytes;
 }

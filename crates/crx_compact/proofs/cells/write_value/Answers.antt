@@ -5,7 +5,7 @@ use Rattle.crx_compact.proofs.arcs.Running.{same-bits}
 use Rattle.crx_compact.proofs.cells.write_value.Goals as goal
 
 pub write_cell-requires-in-Some-push_third-clause-room :
-  goal.write_cell-requires-in-Some-push_third-clause-room
+    goal.write_cell-requires-in-Some-push_third-clause-room
 write_cell-requires-in-Some-push_third-clause-room c =
     let fits : FitsSigned w64 c.in-Some-push_third.difference = search rules in
     let short = code_text_length (Step c.in-Some-push_third.difference) c.in-Some-push_third.ensures.short in

@@ -206,7 +206,7 @@ returns-clause-room c named is =
     let found = c.loop-place.invariant in
     let end : c.loop-place.place ≡ c.args.count = omega arith in
     let all = named-all c.args.types.now (names_in c.args.text.now c.args.count) c.loop-place.place found.0
-      found.1
+    found.1
     (ap (λ n. drop n (names_in c.args.text.now c.args.count)) end
     ∙ drop_all-each_place c.args.count (λ k. columns c.args.text.now (42 + 3 * k) 3)) in
     subst (λ (ss : List Satellite). HaveTypesRoom ss c.loop-place.satellites.rooms)

@@ -6,7 +6,7 @@ use Rattle.crx_compact.proofs.ready_lines.write_program_line.Goals as goal
 
 in-parts : (date columns none one two three : List ℕ) → columns ≡ left_justified 20 date → none ≡ [] → one
     ≡ none ++ CRINEX_PROGRAM → two ≡ one ++ columns → three ≡ two ++ CRINEX_PROGRAM_LABEL
-      → three ≡ program_line date
+    → three ≡ program_line date
 in-parts date columns none one two three is empty first second third =
     third ∙ ap (λ (t : List ℕ). t ++ CRINEX_PROGRAM_LABEL) (second ∙ ap (λ (t : List ℕ). t ++ columns) (first
     ∙ ap (λ (t : List ℕ). t ++ CRINEX_PROGRAM) empty) ∙ ap (λ (t : List ℕ). CRINEX_PROGRAM ++ t) is)

@@ -65,7 +65,7 @@ loop-place-preserved c =
     let satellite : Satellite = record { name = name; count = count.0 } in (
       found.0 ++ satellite ∷ [],
       named-more c.args.types.now (names_in text c.args.count) place found.0
-        (found.0 ++ satellite ∷ []) name count.0
+          (found.0 ++ satellite ∷ []) name count.0
           found.1 (next-name text c.args.count place name c.loop-place-test.true
           c.identifier-name.ensures.value)
           (sym c.types_of_satellite.ensures.value ∙ count.1)
@@ -83,6 +83,6 @@ returns-clause-none c = λ out.
     let found = c.loop-place.invariant in
     let end : c.loop-place.place ≡ c.args.count = omega arith in
     ap is_ok (named-all c.args.types.now (names_in c.args.text.now c.args.count) c.loop-place.place found.0
-      found.1
+    found.1
     (ap (λ n. drop n (names_in c.args.text.now c.args.count)) end
     ∙ drop_all-each_place c.args.count (λ k. columns c.args.text.now (42 + 3 * k) 3)))

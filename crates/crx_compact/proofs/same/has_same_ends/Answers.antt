@@ -7,4 +7,4 @@ returns-then-text-other-eq0 g c = last-ends_decide g.row.N c.args.text.now c.arg
 
 pub returns-else-text-other-eq0 : goal.returns-else-text-other-eq0
 returns-else-text-other-eq0 g c =
-  first-ends_decide g.row.N c.args.text.now c.args.other.now c.if-text-other-eq0.false
+    first-ends_decide g.row.N c.args.text.now c.args.other.now c.if-text-other-eq0.false

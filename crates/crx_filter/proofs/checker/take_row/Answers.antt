@@ -15,7 +15,7 @@ use Rattle.crx_filter.proofs.checker.take_row.Goals as goal
 
 -- once a row was read, the identifiers of those before it say whether its satellite has come already
 has-come : (names : List (List ℕ)) (before between : RinexReader) (row : Row) (count : ℕ) (name : List ℕ)
-  (b : Bool)
+    (b : Bool)
     → AreNamed names before.rows.rows → is_open_stage before.stage ≡ true → IsSameReader before between
     → (is_open_stage between.stage ≡ true → count ≡ length between.rows.rows) → name ≡ row.name
     → row ≡ between.row → is_among (λ (n : List ℕ). n) name (take count names) ≡ b
@@ -36,7 +36,7 @@ returns-in-Ok-true-clause-takes c kept =
     c.requires.named c.requires.open read.same c.count.ensures.rows c.name.ensures.value c.row.ensures.value
     (c.in-Ok-true.ensures.new ∙ ap not c.in-Ok-true.field-0-test) in
     taken-from before between c.take_row.new.self line kept c.take_row.result c.take_row.ensures.steps
-      read.same
+    read.same
     (c.take_row.ensures.takes line kept (ap (λ (ts : List Count). row_of ts line) read.same.types ∙ read.ok)
     read.row (ap (λ (rs : List Row). has_satellite between.row.name rs) read.same.rows ∙ new))
 
@@ -56,6 +56,6 @@ returns-in-Err-clause-refuses c kept =
       read.memory (has-come c.args.names.now c.args.reader.now c.read_row.new.self
           c.row.result.now c.count.result c.name.result false
           c.requires.named c.requires.open read.same c.count.ensures.rows c.name.ensures.value
-            c.row.ensures.value
+          c.row.ensures.value
           c.in-Err.ensures.err),
     )

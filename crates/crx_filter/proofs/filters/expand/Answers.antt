@@ -75,7 +75,7 @@ returns g c =
         ran.0,
         ran.1,
         kept expansion (expansion_filter choices) (KeepsUndamaged choices writer messages status fault) input
-          ran.0
+            ran.0
             writer messages status fault (keeps-undamaged choices writer messages status fault) ran.2,
       );
       whole_units = (

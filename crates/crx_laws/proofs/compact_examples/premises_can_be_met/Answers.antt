@@ -25,7 +25,7 @@ row-sound value h = record {
 
 rows-typed : (value : ℤ) → All (HasItsTypes one_type) (row_of_g01 (Some value) ∷ [])
 rows-typed value = All-cons (HasItsTypes one_type) (row_of_g01 (Some value)) [] refl
-  (All-nil (HasItsTypes one_type))
+    (All-nil (HasItsTypes one_type))
 
 first : IsWholeEpoch one_type (epoch_of_one 0 (Some (pos 1000)))
 first = record {
@@ -33,7 +33,7 @@ first = record {
     head_sound = record { width = refl; counted = refl; within = omega arith; ranged = tt };
     rows_sound = All-cons IsSoundRow (row_of_g01 (Some (pos 1000))) []
         (row-sound (pos 1000) (record { low = omega (arith, ints); high = omega (arith, ints) }))
-          (All-nil IsSoundRow);
+        (All-nil IsSoundRow);
     apart = refl;
     within = omega arith;
   };
@@ -47,7 +47,7 @@ second = record {
     head_sound = record { width = refl; counted = refl; within = omega arith; ranged = tt };
     rows_sound = All-cons IsSoundRow (row_of_g01 (Some (pos 2000))) []
         (row-sound (pos 2000) (record { low = omega (arith, ints); high = omega (arith, ints) }))
-          (All-nil IsSoundRow);
+        (All-nil IsSoundRow);
     apart = refl;
     within = omega arith;
   };

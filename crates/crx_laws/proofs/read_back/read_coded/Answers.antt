@@ -19,7 +19,7 @@ pub returns-in-Some-2-clause-given : goal.returns-in-Some-2-clause-given
 returns-in-Some-2-clause-given c =
     let P : Option Epoch → Type 0 =
     λ given. HasMade (step_in c.loop-line.columns.state (Content c.in-Some-next_line.line.now))
-      c.feed.new.self.state given in
+    c.feed.new.self.state given in
     midway-whole _ c.loop-line.columns.state c.feed.new.self.state _ c.loop-line.coded.lines
     c.in-Some-next_line.line.now c.in-Some-2.epoch c.loop-line.invariant c.in-Some-next_line.ensures.value
     (subst P c.in-Some-2.is c.in_ok-epoch.ensures.made)
@@ -28,10 +28,10 @@ pub loop-line-preserved : goal.loop-line-preserved
 loop-line-preserved c =
     let P : Option Epoch → Type 0 =
     λ given. HasMade (step_in c.loop-line.columns.state (Content c.in-Some-next_line.line.now))
-      c.feed.new.self.state given in
+    c.feed.new.self.state given in
     midway-more _ c.loop-line.columns.state c.feed.new.self.state
     _ c.loop-line.coded.lines _ c.in-Some-next_line.line.now c.loop-line.invariant
-      c.in-Some-next_line.ensures.value
+    c.in-Some-next_line.ensures.value
     (subst P c.in_default-2.is c.in_ok-epoch.ensures.made)
     (ap (λ (q : CodedEpoch). q.lines) c.next_line-in-loop-line.follows.holds-at-none)
 
@@ -45,4 +45,4 @@ returns-in_err-epoch-clause-refused c = λ h.
 pub returns-clause-given : goal.returns-clause-given
 returns-clause-given c = midway-over
     _ c.loop-line.columns.state _ c.loop-line.coded.lines c.loop-line.invariant
-      c.in_default-next_line.ensures.value
+    c.in_default-next_line.ensures.value

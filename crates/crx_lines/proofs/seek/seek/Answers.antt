@@ -31,7 +31,7 @@ overflow_add-passed g c =
     let old = c.args.window.now in
     let sum = Seeking-sum (λ given. g.R.Source.gave c.args.reader.now given c.seeking.reader) (kept old)
     (kept c.seeking.window) c.args.room c.seeking.taken c.seeking.passed c.seeking.searched
-      c.seeking.invariant.0 in
+    c.seeking.invariant.0 in
     let most : c.discarded.result ≤ length (kept c.seeking.window) =
     ⊎_elim (λ e. omega (arith, e.0)) (λ e. omega (arith, e.0)) c.discarded.ensures.count in
     omega (arith, sum, most, length-kept old.bytes.items old.start old.end, c.seeking.invariant.0.within)
@@ -46,9 +46,9 @@ returns-in-Ok-true-clause-over g c =
     let more = c.in-Ok-true.ensures.some (ap Ok c.in-Ok-true.field-0-test) in
     let then = λ (given : List ℕ). g.R.Source.gave old (given ++ more.0 ∷ []) new in
     let goes = λ (given : List ℕ) (lead : g.R.Source.gave old given now). subst
-      (λ l. g.R.Source.gave old (l ++ more.0
+    (λ l. g.R.Source.gave old (l ++ more.0
     ∷ []) new) (sym (append-nil given)) (g.met.R.Source.gave_both old now new given (more.0 ∷ []) lead more.1)
-      in
+    in
     λ _. (
       more.0,
       _,
@@ -68,7 +68,7 @@ returns-in-Ok-false-clause-ok g c =
       c.seeking.taken,
       Seeking-same _ (λ given. g.R.Source.gave old given new) _ _ _ _ _ _ _ s (λ given lead.
           g.met.R.Source.gave_both old now new given [] lead none.0) refl
-            (ap length c.as_slice-searched.ensures.value),
+          (ap length c.as_slice-searched.ensures.value),
     )
 
 pub returns-in-Ok-false-clause-end : goal.returns-in-Ok-false-clause-end
@@ -94,7 +94,7 @@ returns-in-Err-clause-failed g c =
       _,
       Seeking-same _ (λ given. g.R.Source.gave old given new) _ _ _ _ _ _ _ s
           (λ given lead. g.met.R.Source.gave_both old now new given [] lead c.in-Err.ensures.none_lost) refl
-            refl,
+          refl,
     )
 
 pub returns-in-Ok-eq0-clause-ok : goal.returns-in-Ok-eq0-clause-ok
@@ -109,7 +109,7 @@ returns-in-Ok-eq0-clause-ok g c =
       Seeking-filled _ (λ given. g.R.Source.gave old given new) _ _ _ more.0 _ _ _ 0 _ s
           (λ given lead. g.met.R.Source.gave_both old now new given more.0 lead more.3) (more.1
           ∙ c.in-Ok-eq0.field-0-test) (omega (arith, s.within)) more.2
-            (ap length c.as_slice-searched.ensures.value),
+          (ap length c.as_slice-searched.ensures.value),
     )
 
 pub returns-in-Ok-eq0-clause-end : goal.returns-in-Ok-eq0-clause-end

@@ -6,7 +6,7 @@ use Rattle.crx_lines.proofs.write.write_all_counted.Goals as goal
 
 -- what went out so far, and the next bytes after it
 take-rest : (bytes : List ℕ) (n k m : ℕ) → m ≤ k
-  → take n bytes ++ take m (take k (drop n bytes)) ≡ take (n + m) bytes
+    → take n bytes ++ take m (take k (drop n bytes)) ≡ take (n + m) bytes
 take-rest bytes n k m few =
     ap (λ l. take n bytes ++ l) (take-take m k (drop n bytes) few) ∙ sym (take-add n m bytes)
 

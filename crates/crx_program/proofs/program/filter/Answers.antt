@@ -28,5 +28,9 @@ returns-in-Check g c =
     (reader_span g.R.Source c.args.reader.now c.check.new.reader)
     (span g.W.Sink c.args.writer.now c.check.new.writer)
     (span g.M.Sink c.args.messages.now c.check.new.messages) c.check.result.status)
-    (sym c.in-Check.is) (c.check.result.fault, c.check.ensures.runs.0, c.check.ensures.runs.1,
-      c.check.ensures.runs.2)
+    (sym c.in-Check.is) (
+      c.check.result.fault,
+      c.check.ensures.runs.0,
+      c.check.ensures.runs.1,
+      c.check.ensures.runs.2,
+    )

@@ -19,13 +19,13 @@ pub options_with-requires-in-None-Compact : goal.options_with-requires-in-None-C
 options_with-requires-in-None-Compact c =
     ap is_date c.as_str.ensures.value
     ∙ default_fits c.args.moment
-      (string_bytes c.in_ok-date-in-None-Compact.date) c.in_ok-date-in-None-Compact.ensures.date
+    (string_bytes c.in_ok-date-in-None-Compact.date) c.in_ok-date-in-None-Compact.ensures.date
 
 pub returns-in_ok-date-in-None-Compact : goal.returns-in_ok-date-in-None-Compact
 returns-in_ok-date-in-None-Compact c =
     chosen_at c.args.moment c.args.job.now.tool c.args.job.now.date c.args.job.now.every
     c.args.job.now.skip c.options_with-in-None-Compact.result
-      (string_bytes c.in_ok-date-in-None-Compact.date) c.as_str.result.now
+    (string_bytes c.in_ok-date-in-None-Compact.date) c.as_str.result.now
     c.in-None-Compact.is-1 c.in-None-Compact.is-0 c.in_ok-date-in-None-Compact.ensures.date
-      c.as_str.ensures.value
+    c.as_str.ensures.value
     c.options_with-in-None-Compact.ensures

@@ -11,15 +11,15 @@ returns-in-Ok-clause-done g c =
       | inl begun ↦
           inl (from_file _ _ c.args.job.now.source c.args.job.now.target c.args.job.now.force _ _
           c.text.result.now (c.in-Some.is ∙ ap Some (sym c.text.ensures.value)) c.args.job.now.tool
-            c.args.options
+          c.args.options
           (reader_span g.R.Source c.args.input.now c.args.input.now)
           (span g.W.Sink c.args.output.now c.run_to_target-ended.new.output) messages
-            c.run_to_target-ended.result.status
+          c.run_to_target-ended.result.status
           c.in-Ok.opened c.run_to_target-ended.new.reader refl
           (c.in-Ok.ensures.name, c.in-Ok.ensures.log, c.in-Ok.ensures.unread)
           c.in-Ok.ensures.failures c.in-Ok.ensures.ends begun)
       | inr not_begun ↦ inr (still_not_begun c.args.job.now messages c.run_to_target-ended.result.status _ _
-        not_begun
+          not_begun
           (λ same. (refl, same.1, same.2)))
     ]
 

@@ -5,7 +5,7 @@ pub returns-clause-shown : goal.returns-clause-shown
 returns-clause-shown g c = (
   c.new-messages.result,
   fresh c.args.stderr c.new.result c.new-messages.result c.new-messages.ensures.inner
-    c.new-messages.ensures.log
+      c.new-messages.ensures.log
       c.new.ensures.inner c.new.ensures.failures c.new.ensures.ends c.new.ensures.flushes,
   c.report_at_start-status.ensures.shown,
 )

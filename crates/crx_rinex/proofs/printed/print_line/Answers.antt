@@ -9,7 +9,7 @@ pub returns-clause-line : goal.returns-clause-line
 returns-clause-line c =
     let epoch = c.args.epoch.now in
     after_first (printed_head epoch.head epoch.clock)
-      (map printed_row epoch.rows) c.args.index c.if-index-eq0.false
+    (map printed_row epoch.rows) c.args.index c.if-index-eq0.false
     ∙ slice_get-map printed_row epoch.rows (c.args.index - 1)
     ∙ ap (λ (o : Option Row). option_map printed_row o) (sym c.in-Some.ensures.value)
     ∙ ap (λ (l : List ℕ). Some l) (sym c.print.ensures.value)

@@ -8,7 +8,7 @@ returns c = record {
   value =
       sym (append-nil c.loop-k.text)
       ∙ ap (λ (vs : List (Option ℤ)). c.loop-k.text ++ printed_cells vs
-        (drop (2 * c.loop-k.k) c.args.flags.now))
+      (drop (2 * c.loop-k.k) c.args.flags.now))
       (sym (drop_all c.loop-k.k c.args.values.now c.loop-k-test.false))
       ∙ c.loop-k.invariant.0;
 }

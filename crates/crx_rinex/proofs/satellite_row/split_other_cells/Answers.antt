@@ -24,10 +24,10 @@ loop-k-preserved c =
     let inv = c.loop-k.invariant in
     let value = c.read_cell.new.value in
     let within : k < length values = let test = c.loop-k-test.true in let same = inv.3
-      in omega (arith, test, same) in
+    in omega (arith, test, same) in
     let more = take_more_set values k value within in
     let room : 2 * k + 1 < length flags = let pairs = c.requires.paired in let long = inv.4
-      in let same = inv.3 in
+    in let same = inv.3 in
     omega (arith, within, pairs, long, same) in (
       values_in_more line k (take k values) value inv.0 c.if-not-read_cell.ensures.value
           ∙ ap (λ (vs : List (Option ℤ)). Some vs) (sym more),
@@ -47,7 +47,7 @@ loop-k-preserved c =
 
 whole : (c : goal.After-loop-k) → c.loop-k.k ≡ length c.args.values.now
 whole c = let few = c.loop-k.invariant.5 in let same = c.loop-k.invariant.3 in let test = c.loop-k-test.false
-  in
+    in
     omega (arith, few, same, test)
 
 pub returns-clause-values : goal.returns-clause-values

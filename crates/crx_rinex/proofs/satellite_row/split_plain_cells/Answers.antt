@@ -24,7 +24,7 @@ loop-k-preserved c =
     omega (arith, test, same, c.cells_within-count.ensures.few) in
     let more = take_more_set values k value within in
     let room : 2 * k + 1 < length flags = let pairs = c.requires.paired in let long = inv.4
-      in let same = inv.3 in
+    in let same = inv.3 in
     omega (arith, within, pairs, long, same) in (
       values_in_more line k (take k values) value inv.0 (ap observation_of (sym field_is) ∙ read)
           ∙ ap (λ (vs : List (Option ℤ)). Some vs) (sym more),

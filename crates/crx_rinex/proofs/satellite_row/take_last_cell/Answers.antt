@@ -18,7 +18,7 @@ all_values : (values : List (Option ℤ)) (first : ℕ) (value : Option ℤ) →
     → slice_set values first value ≡ take first values ++ value ∷ []
 all_values values first value last =
     sym (take_all (first + 1) (slice_set values first value)
-      (omega (arith, last, length-set values first value)))
+    (omega (arith, last, length-set values first value)))
     ∙ take_more_set values first value (omega (arith, last))
 
 pub returns-clause-values : goal.returns-clause-values
@@ -56,7 +56,7 @@ returns-clause-flags c =
     let one = slice_set flags (2 * first) 32 in
     let long : length (slice_set one (2 * first + 1) 32) ≡ 2 * (first + 1) =
     omega (arith, length-set one (2 * first + 1) 32, length-set flags (2 * first) 32, last, c.requires.paired)
-      in
+    in
     let past = c.if-line-start.false in
     sym (take_all (2 * (first + 1)) (slice_set one (2 * first + 1) 32) (omega (arith, long)))
     ∙ pair_pushed line first flags 32 32 room c.requires.read.2
@@ -87,7 +87,7 @@ returns-then-first-values-clause-flags c =
     let first : ℕ = c.args.first in
     let same = c.if-first-values.true in
     on-true _ _ (λ _. sym (take_all (2 * first) flags (omega (arith, same, c.requires.paired)))
-      ∙ c.requires.read.2
+    ∙ c.requires.read.2
     ∙ ap (λ (m : ℕ). flags_in m c.args.line.now) same)
 
 pub returns-then-first-values-clause-ranged : goal.returns-then-first-values-clause-ranged
@@ -111,7 +111,7 @@ pub returns-then-not-obs_read_into-clause-same : goal.returns-then-not-obs_read_
 returns-then-not-obs_read_into-clause-same c =
     let values = c.args.values.now in (
       ap (slice_set values c.args.first) c.if-not-obs_read_into.ensures.same
-        ∙ set-get_or values c.args.first _,
+          ∙ set-get_or values c.args.first _,
       refl,
     )
 
@@ -119,4 +119,4 @@ pub returns-clause-ended : goal.returns-clause-ended
 returns-clause-ended c =
     let last : c.args.first + 1 ≡ length c.args.values.now = omega (arith, c.if-first-values-2.false) in
     nothing-after c.args.line.now (16 * length c.args.values.now + 3)
-      (omega (arith, last, c.if-line-start.false))
+    (omega (arith, last, c.if-line-start.false))

@@ -12,7 +12,7 @@ returns-in-Err-clause-reported g c =
         subst (λ (t : List ℕ). n < length t) same c.in-Err.ensures.short,
         subst (λ (t : List ℕ).
             g.M.Sink.took c.args.messages.now (take n t) c.write_all_counted.new.writer) same
-              c.in-Err.ensures.part,
+            c.in-Err.ensures.part,
       ),
       ap₂ sink_tally_of c.in-Err.ensures.counted c.in-Err.ensures.unasked,
     )

@@ -82,7 +82,7 @@ loop-line-preserved g c =
     let i = c.loop-line.invariant in
     let so_far = i.0 in
     let took = g.met.W.Sink.took_both old now mid so_far.0 line so_far.1
-      c.in_default-write_all_counted.ensures.all in
+    c.in_default-write_all_counted.ensures.all in
     let took_both = g.met.W.Sink.took_both old mid
     then (so_far.0 ++ line) (10 ∷ []) took c.in_default-write_all_counted-2.ensures.all in
     let whole = one-written all so_far.0 line lines so_far.2

@@ -15,7 +15,7 @@ invariant-loop-line g l =
     → g.E.Engine.shows l.initial.engine lines notices → g.E.Engine.shows l.engine lines notices)
     × (g.E.Engine.is_open l.initial.engine → g.E.Engine.is_open l.engine)
     × ((lines : List InputLine) → g.E.Engine.has_ended l.initial.engine lines
-      → g.E.Engine.has_ended l.engine lines)
+    → g.E.Engine.has_ended l.engine lines)
 
 abbrev pub decreases-loop-line : goal.decreases-loop-line
 decreases-loop-line g l = length (g.E.Engine.ready l.engine)

@@ -50,10 +50,10 @@ returns-in-Ok g c =
       runs = runs-as (g.E.Engine.filter c.args.engine.now)
           c.requires.lawful input writer1 writer2 writer3 messages1 messages2 messages3
           refl refl refl (λ xs ys a b. g.met.W.Sink.took_both w0 w c.finish-in-Ok.new.writer xs ys a b)
-            (λ f. f)
+          (λ f. f)
           refl refl refl (λ xs ys a b. g.met.M.Sink.took_both m0 m c.finish-in-Ok.new.messages xs ys a b)
           (g.E.Engine.has_ended c.take_all-work.new.engine)
           (reading c.take_all-work.new.input) work.last work.warned work.halt
           c.finish-in-Ok.result.status c.finish-in-Ok.result.fault c.take_all-work.ensures
-            c.finish-in-Ok.ensures;
+          c.finish-in-Ok.ensures;
     }

@@ -24,7 +24,7 @@ returns-in-Ok g c = record {
         ran.1,
         subst (λ (f : Filter).
             RunsAs (result_by f) f input ran.0 writer messages c.run.result.status c.run.result.fault) is
-              ran.2,
+            ran.2,
       );
 }
 

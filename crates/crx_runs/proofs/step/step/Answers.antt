@@ -25,7 +25,7 @@ Read g r0 r state lines = HasRead (λ given. g.R.Source.gave r0 given r) (g.R.So
 
 -- These lines were read from a state of the reader to another, and then this one.
 abbrev Reads : (g : Over) → g.row.R.Denot → g.row.R.Denot → ReaderState → List InputLine → InputLine → ℕ
-  → Type 0
+    → Type 0
 Reads g r0 r state lines line number = ReadsLine (λ given. g.R.Source.gave r0 given r) (g.R.Source.at_end r)
     (counts g r0) (counts g r) state lines line number
 
@@ -44,7 +44,7 @@ read-overlong : (g : Over) (c : In-LineTooLong g) (r0 : g.row.R.Denot) (lines : 
     → Read g r0 c.args.reader.now (reading c.args.input.now) lines
     → (line : InputLine) × (is_long line ≡ true)
     × Reads g r0 c.next_line.new.reader (reading c.next_line.follows.lender-at-none) lines line
-      c.in-Err.at.line
+    c.in-Err.at.line
 read-overlong g c r0 lines h =
     overlong-read _ (λ given. g.R.Source.gave r0 given c.next_line.new.reader)
     (λ given. g.R.Source.gave c.args.reader.now given c.next_line.new.reader) _ _ _ _ _ _ _ lines h
@@ -69,7 +69,7 @@ returns-in_ok-take_line-in-Ok-Some-clause-goes g c = λ r0 w0 m0 (lines : List I
     refl refl refl (g.met.W.Sink.took_both w0 c.args.writer.now c.take_line.new.writer)
     refl refl refl (g.met.M.Sink.took_both m0 c.args.messages.now c.take_line.new.messages)
     running _ _ (read-line g (goal.at.returns-in_ok-take_line-in-Ok-Some-clause-goes g c).In-Ok-Some r0 lines
-      running.read)
+    running.read)
     _ _ (c.in_ok-take_line-in-Ok-Some.ensures.done lines shown)
 
 pub returns-in_err-take_line-in-Ok-Some-clause-stops : goal.returns-in_err-take_line-in-Ok-Some-clause-stops
@@ -80,7 +80,7 @@ returns-in_err-take_line-in-Ok-Some-clause-stops g c = λ r0 w0 m0 (lines : List
     refl refl refl (g.met.M.Sink.took_both m0 c.args.messages.now c.take_line.new.messages)
     running _ _
     (read-line g (goal.at.returns-in_err-take_line-in-Ok-Some-clause-stops g c).In-Ok-Some r0 lines
-      running.read)
+    running.read)
     _ (c.in_err-take_line-in-Ok-Some.ensures.cut lines shown)))
 
 pub returns-in-Ok-None-clause-goes : goal.returns-in-Ok-None-clause-goes
@@ -93,11 +93,11 @@ returns-in-Ok-None-clause-goes g c = λ r0 w0 m0 (lines : List InputLine) shown 
     let still : new ≡ old = c.next_line.follows.holds-at-none.1 (λ o. ended-not-open (sym e ∙ o)) in (
       subst (λ (n : ReaderState). Read g r0 r2 n lines) (sym still)
           (subst (λ (r : g.row.R.Denot). Read g r0 r old lines)
-            (sym (c.next_line.ensures.ended e).1) running.read),
+          (sym (c.next_line.ensures.ended e).1) running.read),
       ap (λ (n : ReaderState). n.phase) still ∙ e,
     ) in
     let over = end-read _ (λ given. g.R.Source.gave r0 given r2)
-      (λ given. g.R.Source.gave r1 given r2) _ _ _ _ _ old new
+    (λ given. g.R.Source.gave r1 given r2) _ _ _ _ _ old new
     lines running.read (g.met.R.Source.gave_both r0 r1 r2) c.next_line.result c.requires.going
     c.next_line.follows.holds-at-none.0 (λ e. (c.next_line.ensures.ended e).0)
     (c.in-Ok-None.is ∙ ap Ok c.in-Ok-None.field-0-is) kept in
@@ -114,9 +114,9 @@ returns-in-Ok-None-clause-goes g c = λ r0 w0 m0 (lines : List InputLine) shown 
     }
 
 pub returns-in_ok-take_overlong-in-LineTooLong-clause-goes :
-  goal.returns-in_ok-take_overlong-in-LineTooLong-clause-goes
+    goal.returns-in_ok-take_overlong-in-LineTooLong-clause-goes
 returns-in_ok-take_overlong-in-LineTooLong-clause-goes g c =
-  λ r0 w0 m0 (lines : List InputLine) shown running.
+    λ r0 w0 m0 (lines : List InputLine) shown running.
     let at = (goal.at.returns-in_ok-take_overlong-in-LineTooLong-clause-goes g c).In-LineTooLong in
     let over = read-overlong g at r0 lines running.read in
     goes-by _ _ _ _ _ _ _ _ _ _ _ _
@@ -127,7 +127,7 @@ returns-in_ok-take_overlong-in-LineTooLong-clause-goes g c =
 pub returns-in_err-take_overlong-in-LineTooLong-clause-stops :
     goal.returns-in_err-take_overlong-in-LineTooLong-clause-stops
 returns-in_err-take_overlong-in-LineTooLong-clause-stops g c =
-  λ r0 w0 m0 (lines : List InputLine) shown running.
+    λ r0 w0 m0 (lines : List InputLine) shown running.
     let at = (goal.at.returns-in_err-take_overlong-in-LineTooLong-clause-stops g c).In-LineTooLong in
     let over = read-overlong g at r0 lines running.read in
     let made = c.from_residual-in_err-take_overlong-in-LineTooLong in
@@ -142,10 +142,10 @@ returns-in_default-clause-stops g c = λ r0 w0 m0 (lines : List InputLine) shown
     let r1 = c.args.reader.now in
     let r2 = c.next_line.new.reader in
     let stopped = stop-read _ (λ given. g.R.Source.gave r0 given r2)
-      (λ given. g.R.Source.gave r1 given r2) _ _ _ _ _
+    (λ given. g.R.Source.gave r1 given r2) _ _ _ _ _
     (reading c.args.input.now) (reading c.next_line.follows.lender-at-none) lines running.read
     (g.met.R.Source.gave_both r0 r1 r2) c.next_line.result c.requires.going
-      c.next_line.follows.holds-at-none.0
+    c.next_line.follows.holds-at-none.0
     (λ e. (c.next_line.ensures.ended e).0) c.in-Err.at c.in-Err.is c.in_default.not-LineTooLong in
     inl (
       c.in-Err.at,
@@ -165,9 +165,9 @@ returns-in_ok-take_line-in-Ok-Some-clause-farther g c =
     line-passed (λ given. g.R.Source.gave c.args.reader.now given c.next_line.new.reader)
     (g.R.Source.at_end c.next_line.new.reader) (counts c.args.reader.now) (counts c.next_line.new.reader)
     (reading c.args.input.now) (reading c.next_line.follows.lender-at-none) c.next_line.result
-      c.requires.going
+    c.requires.going
     c.next_line.follows.holds-at-none.0 (λ e. (c.next_line.ensures.ended e).0) c.in-Ok-Some.line
-      (c.in-Ok-Some.is
+    (c.in-Ok-Some.is
     ∙ ap Ok c.in-Ok-Some.field-0-is)
 
 pub returns-in_ok-take_overlong-in-LineTooLong-clause-farther :

@@ -11,7 +11,7 @@ returns-then-take-clause-done g c = λ (lines : List InputLine) shown.
     let engine = c.take.new.self in
     let line = line_shown c.args.line in
     let goes = subst (λ (b : Bool). EngineAnswers (g.E.Engine.filter c.args.engine.now)
-      (g.E.Engine.shows engine)
+    (g.E.Engine.shows engine)
     (g.E.Engine.ready engine) lines [] line (answer_given b (g.E.Engine.answer engine))) c.if-take.true
     (c.take.ensures.answers lines [] shown tt) in
     record {
@@ -28,13 +28,13 @@ pub take_answered-requires : goal.take_answered-requires
 take_answered-requires g c =
     let engine = c.take.new.self in
     let kept = λ (P : Result Step At → Type 0)
-      (p : P (answer_given c.take.result (g.E.Engine.answer engine))).
+    (p : P (answer_given c.take.result (g.E.Engine.answer engine))).
     subst P (sym c.answer-answer.ensures.value)
     (subst (λ (b : Bool). P (answer_given b (g.E.Engine.answer engine))) c.if-take.false p) in
     record {
       running = kept (λ r. IfOk r (λ _. g.E.Engine.is_open engine)) c.take.ensures.running;
       drained = kept (λ r. IfOk r (λ step. IsDrainedAfter step (g.E.Engine.ready engine)))
-        c.take.ensures.drained;
+          c.take.ensures.drained;
       next = (
         g.E.Engine.taken c.args.engine.now,
         kept (λ r. IfOk r (λ step. g.E.Engine.taken engine
@@ -50,9 +50,9 @@ returns-clause-done g c = λ (lines : List InputLine) shown.
     let filter = g.E.Engine.filter c.args.engine.now in
     let line = line_shown c.args.line in
     let quiet = subst (λ (b : Bool). EngineAnswers filter (g.E.Engine.shows engine)
-      (g.E.Engine.ready engine) lines []
+    (g.E.Engine.ready engine) lines []
     line (answer_given b (g.E.Engine.answer engine))) c.if-take.false
-      (c.take.ensures.answers lines [] shown tt) in
+    (c.take.ensures.answers lines [] shown tt) in
     let answers = subst (λ (r : Result Step At). EngineAnswers filter
     (g.E.Engine.shows engine) (g.E.Engine.ready engine) lines [] line r)
     (sym c.answer-answer.ensures.value) quiet in
@@ -64,9 +64,9 @@ returns-clause-cut g c = λ (lines : List InputLine) shown.
     let filter = g.E.Engine.filter c.args.engine.now in
     let line = line_shown c.args.line in
     let quiet = subst (λ (b : Bool). EngineAnswers filter (g.E.Engine.shows engine)
-      (g.E.Engine.ready engine) lines []
+    (g.E.Engine.ready engine) lines []
     line (answer_given b (g.E.Engine.answer engine))) c.if-take.false
-      (c.take.ensures.answers lines [] shown tt) in
+    (c.take.ensures.answers lines [] shown tt) in
     let answers = subst (λ (r : Result Step At). EngineAnswers filter
     (g.E.Engine.shows engine) (g.E.Engine.ready engine) lines [] line r)
     (sym c.answer-answer.ensures.value) quiet in

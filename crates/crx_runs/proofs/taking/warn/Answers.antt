@@ -6,7 +6,7 @@ pub returns-in-Ok-clause-all : goal.returns-in-Ok-clause-all
 unfolding warning_text
 returns-in-Ok-clause-all g c =
     subst (λ (t : List ℕ). g.M.Sink.took c.args.messages.now t c.write_all_counted.new.writer)
-      (c.bytes.ensures.value
+    (c.bytes.ensures.value
     ∙ c.message.ensures.value) c.in-Ok.ensures.all
 
 pub returns-in-Err-clause-part : goal.returns-in-Err-clause-part
@@ -18,5 +18,5 @@ returns-in-Err-clause-part g c =
       subst (λ (t : List ℕ). n < length t) same c.in-Err.ensures.short,
       subst (λ (t : List ℕ).
           g.M.Sink.took c.args.messages.now (take n t) c.write_all_counted.new.writer) same
-            c.in-Err.ensures.part,
+          c.in-Err.ensures.part,
     )

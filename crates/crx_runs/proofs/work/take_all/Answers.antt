@@ -26,10 +26,10 @@ went-on : (g : Over) (c : In-Ok-Some g)
     → IsRunning (reader_span g.R.Source c.args.reader.now c.lines.reader)
     (span g.W.Sink c.args.writer.now c.lines.writer) (span g.M.Sink c.args.messages.now c.lines.messages)
     (reading c.lines.input) c.lines.invariant.0.0
-      ((g.E.Engine.filter c.lines.engine).so_far c.lines.invariant.0.0)
+    ((g.E.Engine.filter c.lines.engine).so_far c.lines.invariant.0.0)
     → GoesOnBy (g.E.Engine.filter c.args.engine.now) (g.E.Engine.shows c.step.new.engine)
     (reader_span g.R.Source c.args.reader.now c.step.new.reader)
-      (span g.W.Sink c.args.writer.now c.step.new.writer)
+    (span g.W.Sink c.args.writer.now c.step.new.writer)
     (span g.M.Sink c.args.messages.now c.step.new.messages) (reading c.step.new.input) c.lines.invariant.0.0
     c.in-Ok-Some.warning
 went-on g c run =
@@ -40,21 +40,21 @@ went-on g c run =
     let now = reading c.step.new.input in
     let lines = c.lines.invariant.0.0 in
     subst (λ (f : Filter). GoesOnBy f shows input writer messages now lines c.in-Ok-Some.warning)
-      c.lines.invariant.3
+    c.lines.invariant.3
     (subst (λ (p : Option Bool). Goes (g.E.Engine.filter c.lines.engine) shows input writer messages now lines
-      p)
+    p)
     c.in-Ok-Some.field-0-is
-      (c.in-Ok-Some.ensures.goes c.args.reader.now c.args.writer.now c.args.messages.now lines
+    (c.in-Ok-Some.ensures.goes c.args.reader.now c.args.writer.now c.args.messages.now lines
     c.lines.invariant.0.1 run))
 
 came-to-end : (g : Over) (c : In-Ok-None g)
     → IsRunning (reader_span g.R.Source c.args.reader.now c.lines.reader)
     (span g.W.Sink c.args.writer.now c.lines.writer) (span g.M.Sink c.args.messages.now c.lines.messages)
     (reading c.lines.input) c.lines.invariant.0.0
-      ((g.E.Engine.filter c.lines.engine).so_far c.lines.invariant.0.0)
+    ((g.E.Engine.filter c.lines.engine).so_far c.lines.invariant.0.0)
     → ComesToEnd (g.E.Engine.filter c.args.engine.now) (g.E.Engine.shows c.step.new.engine)
     (reader_span g.R.Source c.args.reader.now c.step.new.reader)
-      (span g.W.Sink c.args.writer.now c.step.new.writer)
+    (span g.W.Sink c.args.writer.now c.step.new.writer)
     (span g.M.Sink c.args.messages.now c.step.new.messages) (reading c.step.new.input) c.lines.invariant.0.0
 came-to-end g c run =
     let input : Input = reader_span g.R.Source c.args.reader.now c.step.new.reader in
@@ -65,9 +65,9 @@ came-to-end g c run =
     let lines = c.lines.invariant.0.0 in
     subst (λ (f : Filter). ComesToEnd f shows input writer messages now lines) c.lines.invariant.3
     (subst (λ (p : Option Bool). Goes (g.E.Engine.filter c.lines.engine) shows input writer messages now lines
-      p)
+    p)
     c.in-Ok-None.field-0-is
-      (c.in-Ok-None.ensures.goes c.args.reader.now c.args.writer.now c.args.messages.now lines
+    (c.in-Ok-None.ensures.goes c.args.reader.now c.args.writer.now c.args.messages.now lines
     c.lines.invariant.0.1 run))
 
 pub lines-preserved-then-warned : goal.lines-preserved-then-warned
@@ -97,14 +97,14 @@ lines-preserved g c =
 -- the end of the input was taken, and nothing failed
 end-done : (g : Over) (c : In-Ok g) → g.E.Engine.shows c.step.new.engine c.lines.invariant.0.0 []
     → let filter : Filter = g.E.Engine.filter c.args.engine.now in let lines : List InputLine =
-      c.lines.invariant.0.0 in
+    c.lines.invariant.0.0 in
     IsDone (filter.so_far lines) (filter.whole lines) (g.E.Engine.has_ended c.take_end.new.engine lines)
     (span g.W.Sink c.step.new.writer c.take_end.new.writer)
     (span g.M.Sink c.step.new.messages c.take_end.new.messages) [] c.in-Ok.warning
 end-done g c shown =
     let lines = c.lines.invariant.0.0 in
     subst (λ (f : Filter). IsDone (f.so_far lines) (f.whole lines)
-      (g.E.Engine.has_ended c.take_end.new.engine lines)
+    (g.E.Engine.has_ended c.take_end.new.engine lines)
     (span g.W.Sink c.step.new.writer c.take_end.new.writer)
     (span g.M.Sink c.step.new.messages c.take_end.new.messages) [] c.in-Ok.warning)
     (c.step.ensures.filter ∙ c.lines.invariant.3) (c.in-Ok.ensures.done lines shown)
@@ -117,7 +117,7 @@ returns-then-warned-2 g c =
     refl refl refl (g.met.W.Sink.took_both c.args.writer.now c.step.new.writer c.take_end.new.writer)
     refl refl refl (g.met.M.Sink.took_both c.args.messages.now c.step.new.messages c.take_end.new.messages)
     comes c.number-last.result c.number-last.ensures.value _ c.lines.warned c.in-Ok.warning _
-      c.lines.invariant.0.3
+    c.lines.invariant.0.3
     (c.if-warned-2.true ∙ sym (ap (λ (b : Bool). b || c.in-Ok.warning) c.if-warned-2.true))
     (end-done g at.In-Ok comes.shown)
 
@@ -129,7 +129,7 @@ returns-else-warned-2 g c =
     refl refl refl (g.met.W.Sink.took_both c.args.writer.now c.step.new.writer c.take_end.new.writer)
     refl refl refl (g.met.M.Sink.took_both c.args.messages.now c.step.new.messages c.take_end.new.messages)
     comes c.number-last.result c.number-last.ensures.value _ c.lines.warned c.in-Ok.warning _
-      c.lines.invariant.0.3
+    c.lines.invariant.0.3
     (ap (λ (b : Bool). b || c.in-Ok.warning) (sym c.if-warned-2.false)) (end-done g at.In-Ok comes.shown)
 
 pub take_end-requires-clause-within : goal.take_end-requires-clause-within
@@ -170,7 +170,7 @@ returns-in-Err g c =
     let stops : StopsAt (g.E.Engine.filter c.args.engine.now) input writer messages now lines c.in-Err.halt =
     subst (λ (f : Filter). StopsAt f input writer messages now lines c.in-Err.halt) c.lines.invariant.3
     (c.in-Err.ensures.stops c.args.reader.now c.args.writer.now c.args.messages.now lines
-      c.lines.invariant.0.1
+    c.lines.invariant.0.1
     (running g (goal.at.returns-in-Err g c).After-step)) in
     stopped-on _ (g.E.Engine.has_ended c.step.new.engine) input writer messages now lines c.number.result
     c.lines.warned c.in-Err.halt c.number.ensures.value stops

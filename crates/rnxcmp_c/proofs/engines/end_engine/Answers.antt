@@ -37,7 +37,7 @@ returns-in-Compacting-clause-fails c = λ (past : HandlePast) is.
 pub returns-in-Expanding-clause-done : goal.returns-in-Expanding-clause-done
 returns-in-Expanding-clause-done c = λ (past : HandlePast) is.
     subst (λ (e : AnyEngine). OnOk c.take_last-in-Expanding.result
-      (IsAll ((engine_filter e).whole (lines_of past.fed))
+    (IsAll ((engine_filter e).whole (lines_of past.fed))
     c.take_last-in-Expanding.new.held past)) (sym c.in-Expanding.is)
     (c.take_last-in-Expanding.ensures.done past (subst (λ (e : AnyEngine). IsGoing (engine_filter e)
     (shows_of e) c.args.held.now past) c.in-Expanding.is is))
@@ -45,7 +45,7 @@ returns-in-Expanding-clause-done c = λ (past : HandlePast) is.
 pub returns-in-Expanding-clause-fails : goal.returns-in-Expanding-clause-fails
 returns-in-Expanding-clause-fails c = λ (past : HandlePast) is.
     subst (λ (e : AnyEngine). IfErr c.take_last-in-Expanding.result
-      (RunFails (engine_filter e) c.take_last-in-Expanding.new.held past))
+    (RunFails (engine_filter e) c.take_last-in-Expanding.new.held past))
     (sym c.in-Expanding.is)
     (c.take_last-in-Expanding.ensures.fails past (subst (λ (e : AnyEngine). IsGoing (engine_filter e)
     (shows_of e) c.args.held.now past) c.in-Expanding.is is))
@@ -53,7 +53,7 @@ returns-in-Expanding-clause-fails c = λ (past : HandlePast) is.
 pub returns-in-Checking-clause-done : goal.returns-in-Checking-clause-done
 returns-in-Checking-clause-done c = λ (past : HandlePast) is.
     subst (λ (e : AnyEngine). OnOk c.take_last-in-Checking.result
-      (IsAll ((engine_filter e).whole (lines_of past.fed))
+    (IsAll ((engine_filter e).whole (lines_of past.fed))
     c.take_last-in-Checking.new.held past)) (sym c.in-Checking.is)
     (c.take_last-in-Checking.ensures.done past (subst (λ (e : AnyEngine). IsGoing (engine_filter e)
     (shows_of e) c.args.held.now past) c.in-Checking.is is))
@@ -61,7 +61,7 @@ returns-in-Checking-clause-done c = λ (past : HandlePast) is.
 pub returns-in-Checking-clause-fails : goal.returns-in-Checking-clause-fails
 returns-in-Checking-clause-fails c = λ (past : HandlePast) is.
     subst (λ (e : AnyEngine). IfErr c.take_last-in-Checking.result
-      (RunFails (engine_filter e) c.take_last-in-Checking.new.held past))
+    (RunFails (engine_filter e) c.take_last-in-Checking.new.held past))
     (sym c.in-Checking.is)
     (c.take_last-in-Checking.ensures.fails past (subst (λ (e : AnyEngine). IsGoing (engine_filter e)
     (shows_of e) c.args.held.now past) c.in-Checking.is is))

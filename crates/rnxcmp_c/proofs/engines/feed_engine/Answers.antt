@@ -10,7 +10,7 @@ use Rattle.rnxcmp_c.proofs.engines.feed_engine.Goals as goal
 pub returns-in-Compacting-clause-going : goal.returns-in-Compacting-clause-going
 returns-in-Compacting-clause-going c = λ (past : HandlePast) is.
     subst (λ (f : Filter). IfOk c.take_bytes.result
-      (λ n. IsGoing f (shows_of (Compacting c.take_bytes.new.engine))
+    (λ n. IsGoing f (shows_of (Compacting c.take_bytes.new.engine))
     c.take_bytes.new.held (fed_with past (take n c.args.bytes.now)))) (sym c.take_bytes.ensures.filter)
     (c.take_bytes.ensures.going past (subst (λ (e : AnyEngine). IsGoing (engine_filter e)
     (shows_of e) c.args.held.now past) c.in-Compacting.is is))
@@ -20,7 +20,7 @@ returns-in-Expanding-clause-going c = λ (past : HandlePast) is.
     subst (λ (f : Filter). IfOk c.take_bytes-in-Expanding.result
     (λ n. IsGoing f (shows_of (Expanding c.take_bytes-in-Expanding.new.engine))
     c.take_bytes-in-Expanding.new.held (fed_with past (take n c.args.bytes.now))))
-      (sym c.take_bytes-in-Expanding.ensures.filter)
+    (sym c.take_bytes-in-Expanding.ensures.filter)
     (c.take_bytes-in-Expanding.ensures.going past
     (subst (λ (e : AnyEngine). IsGoing (engine_filter e)
     (shows_of e) c.args.held.now past) c.in-Expanding.is is))

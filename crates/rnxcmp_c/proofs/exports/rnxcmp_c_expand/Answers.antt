@@ -26,7 +26,7 @@ returns-in-Ok-clause-lossless c within memory =
     let before = rooms c.args.output.now c.args.messages.now in
     let after = rooms c.answer.new.output c.answer.new.messages in
     brings-back_passed (λ (whole : FilterResult). AnswersWithin c.args.max_output whole c.answer.result before
-      after)
+    after)
     c.expansion_options.result c.args.input.now
     (answers-run (expanded c.args.input.now c.expansion_options.result) _ _ c.args.max_output c.in-Ok.run'
     c.answer.result before after c.in-Ok.ensures.run (c.answer.ensures.result _ _ c.in-Ok.ensures.run))
@@ -45,7 +45,7 @@ returns-in-Ok-clause-salvage c within memory skips =
     let before = rooms c.args.output.now c.args.messages.now in
     let after = rooms c.answer.new.output c.answer.new.messages in
     saves-all_else (λ (whole : FilterResult). AnswersWithin c.args.max_output whole c.answer.result before
-      after)
+    after)
     c.expansion_options.result c.args.input.now (c.expansion_options.ensures ∙ skips)
     (answers-run (expanded c.args.input.now c.expansion_options.result) _ _ c.args.max_output c.in-Ok.run'
     c.answer.result before after c.in-Ok.ensures.run (c.answer.ensures.result _ _ c.in-Ok.ensures.run))
@@ -75,7 +75,7 @@ returns-in-Err-clause-salvage c within memory skips =
     let before = rooms c.args.output.now c.args.messages.now in
     let after = rooms c.args.output.now c.args.messages.now in
     saves-all_else (λ (whole : FilterResult). AnswersWithin c.args.max_output whole c.in-Err.answer before
-      after)
+    after)
     c.expansion_options.result c.args.input.now (c.expansion_options.ensures ∙ skips)
     (answers-none (expanded c.args.input.now c.expansion_options.result) c.args.max_output c.in-Err.answer
     before c.in-Err.ensures.none memory)
@@ -86,7 +86,7 @@ returns-in-Ok-clause-damage c within memory skips file compacting dated damage =
     let after = rooms c.answer.new.output c.answer.new.messages in (
       expanded c.args.input.now c.expansion_options.result,
       rest-kept file compacting c.expansion_options.result c.args.input.now dated
-        (c.expansion_options.ensures ∙ skips)
+          (c.expansion_options.ensures ∙ skips)
           damage,
       (answers-run (expanded c.args.input.now c.expansion_options.result) _ _ c.args.max_output c.in-Ok.run'
           c.answer.result before after c.in-Ok.ensures.run (c.answer.ensures.result _ _ c.in-Ok.ensures.run)),
@@ -107,7 +107,7 @@ returns-in-Err-clause-damage c within memory skips file compacting dated damage 
     let before = rooms c.args.output.now c.args.messages.now in (
       expanded c.args.input.now c.expansion_options.result,
       rest-kept file compacting c.expansion_options.result c.args.input.now dated
-        (c.expansion_options.ensures ∙ skips)
+          (c.expansion_options.ensures ∙ skips)
           damage,
       (answers-none (expanded c.args.input.now c.expansion_options.result) c.args.max_output c.in-Err.answer
           before c.in-Err.ensures.none memory),
@@ -126,7 +126,7 @@ pub returns-in-Err-clause-lossless : goal.returns-in-Err-clause-lossless
 returns-in-Err-clause-lossless c within memory =
     let before = rooms c.args.output.now c.args.messages.now in
     brings-back_passed (λ (whole : FilterResult). AnswersWithin c.args.max_output whole c.in-Err.answer before
-      before)
+    before)
     c.expansion_options.result c.args.input.now
     (answers-none (expanded c.args.input.now c.expansion_options.result) c.args.max_output c.in-Err.answer
     before c.in-Err.ensures.none memory)

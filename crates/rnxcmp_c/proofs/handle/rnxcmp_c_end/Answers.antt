@@ -37,7 +37,7 @@ returns-clause-ends c = λ (task : Task) (fed : List ℕ) (taken : BothTexts) st
       holds = c.put_in.ensures.reader;
       is_open = c.put_in.ensures.opened;
       ends = c.take_end-answer.ensures task past
-        (subst (λ (r : Reader). ReaderStands task r past) same stands.stands);
+          (subst (λ (r : Reader). ReaderStands task r past) same stands.stands);
     }
 
 pub returns-clause-sound : goal.returns-clause-sound
@@ -49,7 +49,7 @@ returns-clause-sound c = λ is_open.
     (c.take_out-reader.ensures.reader ∙ ap (λ (r : Reader). r ∷ []) (sym c.deref_mut.ensures.value)) in
     let stands = subst (λ (r : Reader). ReaderStands task r past) same sound.3.stands in
     let then = ends-stands task c.deref_mut.result.now c.take_end-answer.new.self past
-      c.take_end-answer.result
+    c.take_end-answer.result
     c.deref_mut.result.now.outcome stands (c.take_end-answer.ensures task past stands) in (
       task,
       _,
@@ -66,16 +66,16 @@ pub returns-clause-stands : goal.returns-clause-stands
 returns-clause-stands c = λ (task : Task) (fed : List ℕ) (taken : BothTexts) stands.
     let past : HandlePast = past_of fed taken in
     let holds = c.take_out-reader.ensures.reader ∙ ap (λ (r : Reader). r ∷ []) (sym c.deref_mut.ensures.value)
-      in
+    in
     let same = one-held c.args.handle.now.place.held stands.reader c.deref_mut.result.now stands.holds holds
-      in
+    in
     let before = subst (λ (r : Reader). ReaderStands task r past) same stands.stands in
     record {
       reader = c.take_end-answer.new.self;
       is_open = c.put_in.ensures.opened;
       holds = c.put_in.ensures.reader;
       stands = ends-stands task c.deref_mut.result.now c.take_end-answer.new.self past
-        c.take_end-answer.result
+          c.take_end-answer.result
           c.deref_mut.result.now.outcome before (c.take_end-answer.ensures task past before);
     }
 
@@ -83,9 +83,9 @@ pub returns-clause-promise : goal.returns-clause-promise
 returns-clause-promise c = λ (task : Task) (fed : List ℕ) (taken : BothTexts) stands runs.
     let past : HandlePast = past_of fed taken in
     let holds = c.take_out-reader.ensures.reader ∙ ap (λ (r : Reader). r ∷ []) (sym c.deref_mut.ensures.value)
-      in
+    in
     let same = one-held c.args.handle.now.place.held stands.reader c.deref_mut.result.now stands.holds holds
-      in
+    in
     let before = subst (λ (r : Reader). ReaderStands task r past) same stands.stands in
     let ends = c.take_end-answer.ensures task past before in
     handle-promise task _ c.take_end-answer.new.self fed taken c.take_end-answer.result
@@ -99,14 +99,14 @@ pub returns-clause-ended : goal.returns-clause-ended
 returns-clause-ended c = λ (task : Task) (fed : List ℕ) (taken : BothTexts) stands runs.
     let past : HandlePast = past_of fed taken in
     let holds = c.take_out-reader.ensures.reader ∙ ap (λ (r : Reader). r ∷ []) (sym c.deref_mut.ensures.value)
-      in
+    in
     let same = one-held c.args.handle.now.place.held stands.reader c.deref_mut.result.now stands.holds holds
-      in
+    in
     let before = subst (λ (r : Reader). ReaderStands task r past) same stands.stands in
     let ends = ends-answer task c.deref_mut.result.now c.take_end-answer.new.self past
-      c.take_end-answer.result
+    c.take_end-answer.result
     c.deref_mut.result.now.outcome (sym (ap have_ended holds) ∙ runs)
-      (c.take_end-answer.ensures task past before) in
+    (c.take_end-answer.ensures task past before) in
     handle-ended task _ c.take_end-answer.new.self fed taken c.take_end-answer.result c.put_in.ensures.reader
     ends.1 ends.0
 
@@ -114,14 +114,14 @@ pub returns-clause-misused : goal.returns-clause-misused
 returns-clause-misused c = λ (task : Task) (fed : List ℕ) (taken : BothTexts) stands ended.
     let past : HandlePast = past_of fed taken in
     let holds = c.take_out-reader.ensures.reader ∙ ap (λ (r : Reader). r ∷ []) (sym c.deref_mut.ensures.value)
-      in
+    in
     let same = one-held c.args.handle.now.place.held stands.reader c.deref_mut.result.now stands.holds holds
-      in
+    in
     let before = subst (λ (r : Reader). ReaderStands task r past) same stands.stands in
     let misused = ends-misused task c.deref_mut.result.now c.take_end-answer.new.self past
-      c.take_end-answer.result
+    c.take_end-answer.result
     c.deref_mut.result.now.outcome (sym (ap have_ended holds) ∙ ended)
-      (c.take_end-answer.ensures task past before) in
+    (c.take_end-answer.ensures task past before) in
     (misused.0, c.put_in.ensures.reader ∙ ap (λ (r : Reader). r ∷ []) misused.1 ∙ sym holds)
 
 pub returns-clause-expansion : goal.returns-clause-expansion

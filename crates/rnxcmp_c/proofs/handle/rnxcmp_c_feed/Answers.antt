@@ -34,7 +34,7 @@ returns-clause-feeds c = λ (task : Task) (fed : List ℕ) (taken : BothTexts) s
       holds = c.put_in.ensures.reader;
       is_open = c.put_in.ensures.opened;
       feeds = c.take_in-count.ensures task past
-        (subst (λ (r : Reader). ReaderStands task r past) same stands.stands);
+          (subst (λ (r : Reader). ReaderStands task r past) same stands.stands);
     }
 
 pub returns-clause-sound : goal.returns-clause-sound
@@ -63,9 +63,9 @@ pub returns-clause-stands : goal.returns-clause-stands
 returns-clause-stands c = λ (task : Task) (fed : List ℕ) (taken : BothTexts) stands.
     let past : HandlePast = past_of fed taken in
     let holds = c.take_out-reader.ensures.reader ∙ ap (λ (r : Reader). r ∷ []) (sym c.deref_mut.ensures.value)
-      in
+    in
     let same = one-held c.args.handle.now.place.held stands.reader c.deref_mut.result.now stands.holds holds
-      in
+    in
     let before = subst (λ (r : Reader). ReaderStands task r past) same stands.stands in
     record {
       reader = c.take_in-count.new.self;
@@ -80,33 +80,33 @@ pub returns-clause-promise : goal.returns-clause-promise
 returns-clause-promise c = λ (task : Task) (fed : List ℕ) (taken : BothTexts) stands runs.
     let past : HandlePast = past_of fed taken in
     let holds = c.take_out-reader.ensures.reader ∙ ap (λ (r : Reader). r ∷ []) (sym c.deref_mut.ensures.value)
-      in
+    in
     let same = one-held c.args.handle.now.place.held stands.reader c.deref_mut.result.now stands.holds holds
-      in
+    in
     let before = subst (λ (r : Reader). ReaderStands task r past) same stands.stands in
     let feeds = c.take_in-count.ensures task past before in
     handle-promise task _ c.take_in-count.new.self
     (fed ++ take c.take_in-count.result.0 c.args.bytes.now) taken
     c.take_in-count.result.1 c.put_in.ensures.reader
     (feeds-answer task c.deref_mut.result.now c.take_in-count.new.self past c.take_in-count.result.1
-      c.args.bytes.now
+    c.args.bytes.now
     c.take_in-count.result.0 c.deref_mut.result.now.outcome (sym (ap have_ended holds) ∙ runs) feeds)
     (feeds-stands task c.deref_mut.result.now c.take_in-count.new.self past c.args.bytes.now
-      c.take_in-count.result.0
+    c.take_in-count.result.0
     c.take_in-count.result.1 c.deref_mut.result.now.outcome before feeds)
 
 pub returns-clause-misused : goal.returns-clause-misused
 returns-clause-misused c = λ (task : Task) (fed : List ℕ) (taken : BothTexts) stands ended.
     let past : HandlePast = past_of fed taken in
     let holds = c.take_out-reader.ensures.reader ∙ ap (λ (r : Reader). r ∷ []) (sym c.deref_mut.ensures.value)
-      in
+    in
     let same = one-held c.args.handle.now.place.held stands.reader c.deref_mut.result.now stands.holds holds
-      in
+    in
     let before = subst (λ (r : Reader). ReaderStands task r past) same stands.stands in
     let misused = feeds-misused task c.deref_mut.result.now c.take_in-count.new.self past
-      c.take_in-count.result.1
+    c.take_in-count.result.1
     c.args.bytes.now c.take_in-count.result.0 c.deref_mut.result.now.outcome
-      (sym (ap have_ended holds) ∙ ended)
+    (sym (ap have_ended holds) ∙ ended)
     (c.take_in-count.ensures task past before) in (
       misused.0,
       misused.1,
@@ -117,9 +117,9 @@ pub returns-clause-ended : goal.returns-clause-ended
 returns-clause-ended c = λ (task : Task) (fed : List ℕ) (taken : BothTexts) stands runs ended.
     let past : HandlePast = past_of fed taken in
     let holds = c.take_out-reader.ensures.reader ∙ ap (λ (r : Reader). r ∷ []) (sym c.deref_mut.ensures.value)
-      in
+    in
     let same = one-held c.args.handle.now.place.held stands.reader c.deref_mut.result.now stands.holds holds
-      in
+    in
     let before = subst (λ (r : Reader). ReaderStands task r past) same stands.stands in
     handle-was_ended task c.deref_mut.result.now c.take_in-count.new.self fed taken c.args.bytes.now
     c.take_in-count.result.0
@@ -130,9 +130,9 @@ pub returns-clause-takes : goal.returns-clause-takes
 returns-clause-takes c = λ (task : Task) (fed : List ℕ) (taken : BothTexts) stands runs.
     let past : HandlePast = past_of fed taken in
     let holds = c.take_out-reader.ensures.reader ∙ ap (λ (r : Reader). r ∷ []) (sym c.deref_mut.ensures.value)
-      in
+    in
     let same = one-held c.args.handle.now.place.held stands.reader c.deref_mut.result.now stands.holds holds
-      in
+    in
     let before = subst (λ (r : Reader). ReaderStands task r past) same stands.stands in
     handle-takes task c.deref_mut.result.now c.take_in-count.new.self fed taken c.args.bytes.now
     c.take_in-count.result.0

@@ -19,28 +19,28 @@ take_out-reader-requires c =
 pub returns-clause-output : goal.returns-clause-output
 returns-clause-output c = λ is_open.
     let holds = c.take_out-reader.ensures.reader ∙ ap (λ (r : Reader). r ∷ []) (sym c.deref_mut.ensures.value)
-      in
+    in
     c.hand_out-answer.ensures.output ∙ ap (λ (l : List Reader). placed (output_kept l) c.args.output.now)
-      (sym holds)
+    (sym holds)
 
 pub returns-clause-messages : goal.returns-clause-messages
 returns-clause-messages c = λ is_open.
     let holds = c.take_out-reader.ensures.reader ∙ ap (λ (r : Reader). r ∷ []) (sym c.deref_mut.ensures.value)
-      in
+    in
     c.hand_out-answer.ensures.messages ∙ ap (λ (l : List Reader). placed
     (messages_kept l) c.args.messages.now) (sym holds)
 
 pub returns-clause-output_left : goal.returns-clause-output_left
 returns-clause-output_left c = λ is_open.
     let holds = c.take_out-reader.ensures.reader ∙ ap (λ (r : Reader). r ∷ []) (sym c.deref_mut.ensures.value)
-      in
+    in
     ap output_kept c.put_in.ensures.reader ∙ c.hand_out-answer.ensures.output_left
     ∙ ap (λ (l : List Reader). drop (length c.args.output.now) (output_kept l)) (sym holds)
 
 pub returns-clause-messages_left : goal.returns-clause-messages_left
 returns-clause-messages_left c = λ is_open.
     let holds = c.take_out-reader.ensures.reader ∙ ap (λ (r : Reader). r ∷ []) (sym c.deref_mut.ensures.value)
-      in
+    in
     ap messages_kept c.put_in.ensures.reader ∙ c.hand_out-answer.ensures.messages_left
     ∙ ap (λ (l : List Reader). drop (length c.args.messages.now) (messages_kept l)) (sym holds)
 
@@ -54,7 +54,7 @@ returns-clause-answer c = λ is_open. record {
 pub returns-clause-same : goal.returns-clause-same
 returns-clause-same c = λ is_open (before : Reader) held.
     let holds = c.take_out-reader.ensures.reader ∙ ap (λ (r : Reader). r ∷ []) (sym c.deref_mut.ensures.value)
-      in
+    in
     record {
       reader = c.hand_out-answer.new.self;
       holds = c.put_in.ensures.reader;
@@ -67,9 +67,9 @@ pub returns-clause-stands : goal.returns-clause-stands
 returns-clause-stands c = λ (task : Task) (fed : List ℕ) (taken : BothTexts) stands.
     let past : HandlePast = past_of fed taken in
     let holds = c.take_out-reader.ensures.reader ∙ ap (λ (r : Reader). r ∷ []) (sym c.deref_mut.ensures.value)
-      in
+    in
     let same = one-held c.args.handle.now.place.held stands.reader c.deref_mut.result.now stands.holds holds
-      in
+    in
     let new = c.hand_out-answer.new.self in
     record {
       reader = new;
@@ -88,7 +88,7 @@ returns-clause-sound c = λ is_open.
     let task = sound.0 in
     let past = past_of sound.1 sound.2 in
     let holds = c.take_out-reader.ensures.reader ∙ ap (λ (r : Reader). r ∷ []) (sym c.deref_mut.ensures.value)
-      in
+    in
     let same =
     one-held c.args.handle.now.place.held sound.3.reader c.deref_mut.result.now sound.3.holds holds in (
       task,
@@ -106,16 +106,16 @@ returns-clause-sound c = λ is_open.
 pub returns-clause-still : goal.returns-clause-still
 returns-clause-still c =
     let holds = c.take_out-reader.ensures.reader ∙ ap (λ (r : Reader). r ∷ []) (sym c.deref_mut.ensures.value)
-      in
+    in
     ap run_in c.put_in.ensures.reader ∙ c.hand_out-answer.ensures.same ∙ sym (ap run_in holds)
 
 pub returns-clause-promise : goal.returns-clause-promise
 returns-clause-promise c = λ (task : Task) (fed : List ℕ) (taken : BothTexts) stands.
     let past : HandlePast = past_of fed taken in
     let holds = c.take_out-reader.ensures.reader ∙ ap (λ (r : Reader). r ∷ []) (sym c.deref_mut.ensures.value)
-      in
+    in
     let same = one-held c.args.handle.now.place.held stands.reader c.deref_mut.result.now stands.holds holds
-      in
+    in
     let new = c.hand_out-answer.new.self in (
       returns-clause-still c,
       handle-promise task _ new fed

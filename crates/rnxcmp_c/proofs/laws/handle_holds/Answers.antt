@@ -22,7 +22,7 @@ engine-is (Checking one) (Checking other) = refl
 pub returns-clause-parts : goal.returns-clause-parts
 returns-clause-parts c = λ (one other : Reader).
     ap (λ (e : AnyEngine). let r : Reader = record other { engine = e } in r)
-      (engine-is one.engine other.engine)
+    (engine-is one.engine other.engine)
 
 pub returns-clause-bounded : goal.returns-clause-bounded
 returns-clause-bounded c = λ (held : Held).

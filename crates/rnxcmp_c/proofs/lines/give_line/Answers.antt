@@ -43,7 +43,7 @@ returns-clause-done g c = λ (lines : List InputLine) (whole : List ℕ) shown k
     let filter = g.E.Engine.filter c.args.engine.now in
     let all : c.args.bytes.now ≡ whole = whole-where_not_long c.args.bytes.now whole kept
     (subst (λ (bs : List ℕ). length bs ≤ LINE_LIMIT) c.content_of-content.ensures
-      c.if-content-gt-LINE_LIMIT.false) in
+    c.if-content-gt-LINE_LIMIT.false) in
     let same : line_shown c.of.result ≡ piece_line c.args.bytes.now c.args.is_ended =
     elim c.if-is_ended.branch [ then-is_ended w ↦ search rules | else-is_ended w ↦ search rules ] in
     subst (λ (line : InputLine). IfOk c.take_line.result (λ warned. IsKept
@@ -62,7 +62,7 @@ returns-clause-stops g c = λ (lines : List InputLine) (whole : List ℕ) shown 
     let filter = g.E.Engine.filter c.args.engine.now in
     let all : c.args.bytes.now ≡ whole = whole-where_not_long c.args.bytes.now whole kept
     (subst (λ (bs : List ℕ). length bs ≤ LINE_LIMIT) c.content_of-content.ensures
-      c.if-content-gt-LINE_LIMIT.false) in
+    c.if-content-gt-LINE_LIMIT.false) in
     let same : line_shown c.of.result ≡ piece_line c.args.bytes.now c.args.is_ended =
     elim c.if-is_ended.branch [ then-is_ended w ↦ search rules | else-is_ended w ↦ search rules ] in
     subst (λ (line : InputLine). IfErr c.take_line.result (λ halt. StopsBy (length lines + 1)

@@ -16,10 +16,10 @@ returns-then-is_blank-clause-ended g c = λ (past : HandlePast) is.
     let none : c.args.held.now.tail.bytes.items ≡ [] = sym c.as_slice.ensures
     ∙ c.is_blank.ensures.none c.if-is_blank.true in
     let whole = all-ended (g.E.Engine.filter c.args.engine.now)
-      (g.E.Engine.shows c.args.engine.now) c.args.held.now
+    (g.E.Engine.shows c.args.engine.now) c.args.held.now
     past is none in
     subst (λ (ls : List InputLine). OnOk c.end_within.result
-      (g.E.Engine.has_ended c.end_within.new.engine ls)) (sym whole)
+    (g.E.Engine.has_ended c.end_within.new.engine ls)) (sym whole)
     (on_ok_weaker c.end_within.result (λ within. within.moved.kept.is_shown) (c.end_within.ensures.done
     (ended_lines_of past.fed) is.shown))
 
@@ -55,13 +55,13 @@ returns-clause-ended g c = λ (past : HandlePast) is.
     let within = c.in_ok-take_within.ensures.done (ended_lines_of past.fed) is.tail is.shown is.kept in
     let moved = within.moved in
     let whole = all-but_last (g.E.Engine.filter c.args.engine.now)
-      (g.E.Engine.shows c.args.engine.now) held past is
+    (g.E.Engine.shows c.args.engine.now) held past is
     some in
     subst (λ (ls : List InputLine). OnOk c.end_within-2.result
-      (g.E.Engine.has_ended c.end_within-2.new.engine ls))
+    (g.E.Engine.has_ended c.end_within-2.new.engine ls))
     (sym whole)
     (on_ok_weaker c.end_within-2.result (λ ended. ended.moved.kept.is_shown)
-      (c.end_within-2.ensures.done lines
+    (c.end_within-2.ensures.done lines
     moved.kept.is_shown))
 
 pub returns-clause-done : goal.returns-clause-done
@@ -78,7 +78,7 @@ returns-clause-done g c = λ (past : HandlePast) is.
     let moved = within.moved in
     let then : Type 0 = g.E.Engine.has_ended c.end_within-2.new.engine lines in
     let ended = subst (λ (f : Filter). OnOk c.end_within-2.result
-      (MovesWithin (f.so_far lines) (f.whole lines) then mid new))
+    (MovesWithin (f.so_far lines) (f.whole lines) then mid new))
     c.in_ok-take_within.ensures.filter (c.end_within-2.ensures.done lines moved.kept.is_shown) in
     on_ok_weaker c.end_within-2.result
     (λ e. ends-well filter mid past lines (last-text filter shows held past is mid some _ moved)
@@ -120,7 +120,7 @@ returns-in_err-take_within-clause-fails g c = λ (past : HandlePast) is.
     (c.is_blank.ensures.some c.if-is_blank.false) in
     let p = err_from_is_err_and c.from_residual.result c.from_residual.ensures.1 in
     rw (p.1, p.2) (last-stopped (g.E.Engine.filter c.args.engine.now)
-      (g.E.Engine.shows c.args.engine.now) held past is
+    (g.E.Engine.shows c.args.engine.now) held past is
     c.take_within.new.held some c.requires.lawful _
     (c.in_err-take_within.ensures.stops (ended_lines_of past.fed) is.tail is.shown is.kept))
 
@@ -130,7 +130,7 @@ end_within-requires-2-clause-shown g c =
     let is = c.requires.going.1 in (
       with_next (ended_lines_of past.fed) (piece_line is.tail false),
       (c.in_ok-take_within.ensures.done
-        (ended_lines_of past.fed) is.tail is.shown is.kept).moved.kept.is_shown,
+          (ended_lines_of past.fed) is.tail is.shown is.kept).moved.kept.is_shown,
     )
 
 pub end_within-requires-2-clause-within : goal.end_within-requires-2-clause-within
@@ -143,7 +143,7 @@ end_within-requires-2-clause-within g c =
     let lines = with_next (ended_lines_of past.fed) (piece_line is.tail false) in
     let counted = g.met.E.Engine.counted c.take_within.new.engine lines []
     (c.in_ok-take_within.ensures.done (ended_lines_of past.fed) is.tail is.shown is.kept).moved.kept.is_shown
-      in
+    in
     omega (
       arith,
       counted,

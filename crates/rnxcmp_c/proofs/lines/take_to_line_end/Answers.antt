@@ -56,11 +56,11 @@ returns-in_ok-take_within-in-Some-clause-going g c = λ (past : HandlePast) is.
       messages_good = refl;
     } in
     let none = no_feed-before bytes end (omega (arith, c.in-Some.ensures.within.1))
-      (λ k h. c.in-Some.ensures.first k
+    (λ k h. c.in-Some.ensures.first k
     (omega arith) h) in
     let all : take (end + 1) bytes ≡ piece ++ 10 ∷ [] =
     take_more bytes end 0 c.in-Some.ensures.within.1 ∙ ap (λ (b : ℕ). piece ++ b ∷ []) c.in-Some.ensures.found
-      in
+    in
     subst (λ (bs : List ℕ). IsGoing filter then new (fed_with past bs)) (sym all)
     (goes-on filter shows c.args.held.now past is mid piece same c.add-in-Some.ensures none then new
     (c.in_ok-take_within-in-Some.ensures.done (ended_lines_of past.fed) (is.tail ++ piece) is.shown
@@ -88,12 +88,12 @@ returns-in_err-take_within-in-Some-clause-breaks g c = λ (past : HandlePast) is
       messages_good = refl;
     } in
     let none = no_feed-before bytes end (omega (arith, c.in-Some.ensures.within.1))
-      (λ k h. c.in-Some.ensures.first k
+    (λ k h. c.in-Some.ensures.first k
     (omega arith) h) in
     let p = err_from_is_err_and c.from_residual.result c.from_residual.ensures.1 in
     rw (p.1, p.2)
     (subst (λ (bs : List ℕ). RunBreaks past.fed filter new
-      (fed_with past bs) c.in_err-take_within-in-Some.field-0.0)
+    (fed_with past bs) c.in_err-take_within-in-Some.field-0.0)
     (sym (cut-at bytes end c.in-Some.ensures.within.1 c.in-Some.ensures.found))
     (breaks filter shows c.args.held.now past is mid piece same c.add-in-Some.ensures none
     new (drop (end + 1) bytes) c.in_err-take_within-in-Some.field-0.0
@@ -104,7 +104,7 @@ pub returns-in-None-clause-piece : goal.returns-in-None-clause-piece
 returns-in-None-clause-piece g c =
     let bytes = c.args.bytes.now in
     no_feed-before bytes (length bytes - 1) (omega arith)
-      (λ k h. c.in-None.ensures.none k (omega arith) (omega (arith, h)))
+    (λ k h. c.in-None.ensures.none k (omega arith) (omega (arith, h)))
 
 pub returns-in_ok-take_within-in-Some-clause-piece : goal.returns-in_ok-take_within-in-Some-clause-piece
 returns-in_ok-take_within-in-Some-clause-piece g c =

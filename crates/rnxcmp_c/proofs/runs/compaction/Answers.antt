@@ -14,13 +14,13 @@ returns-clause-run c =
     let runs = run.ensures.runs.2 in
     IfOk-weaker c.collected.result _ _
     (run-of (λ input. compacted input c.args.options) (compaction_filter c.args.options)
-      (lawful-for (Compact c.args.options 0)) (output-for (Compact c.args.options 0)) _ given
+    (lawful-for (Compact c.args.options 0)) (output-for (Compact c.args.options 0)) _ given
     run.new.reader.left.now c.args.input.now (sym c.new-reader.ensures ∙ run.ensures.runs.1) (λ ended. ended)
     c.requires _ _ run.result runs c.args.bounds.output c.args.bounds.messages c.args.bounds.most _ _
     c.new-output.result run.new.writer c.new-messages.result run.new.messages c.new-output.ensures
     c.new-messages.ensures (λ t took. took) (λ t took. took)
     (refl, omega arith) (λ zero.
-      (zero ∙ sym c.new-output.ensures.good, omega (arith, c.new-output.ensures.good)))
+    (zero ∙ sym c.new-output.ensures.good, omega (arith, c.new-output.ensures.good)))
     (λ zero. (zero ∙ sym c.new-messages.ensures.good, omega (arith, c.new-messages.ensures.good))))
     c.collected.ensures.whole
 
@@ -31,7 +31,7 @@ returns-clause-none c =
     let runs = run.ensures.runs.2 in
     IfErr-weaker c.collected.result _ _
     (none-of (λ input. compacted input c.args.options) (compaction_filter c.args.options)
-      (lawful-for (Compact c.args.options 0)) (output-for (Compact c.args.options 0)) _ given
+    (lawful-for (Compact c.args.options 0)) (output-for (Compact c.args.options 0)) _ given
     run.new.reader.left.now c.args.input.now (sym c.new-reader.ensures ∙ run.ensures.runs.1) (λ ended. ended)
     c.requires _ _ run.result runs c.args.bounds.output c.args.bounds.messages c.args.bounds.most _ _
     c.new-output.result run.new.writer c.new-messages.result run.new.messages c.new-output.ensures

@@ -19,7 +19,7 @@ returns-clause-run c =
     c.new-output.result run.new.writer c.new-messages.result run.new.messages c.new-output.ensures
     c.new-messages.ensures (λ t took. took) (λ t took. took)
     (refl, omega arith) (λ zero.
-      (zero ∙ sym c.new-output.ensures.good, omega (arith, c.new-output.ensures.good)))
+    (zero ∙ sym c.new-output.ensures.good, omega (arith, c.new-output.ensures.good)))
     (λ zero. (zero ∙ sym c.new-messages.ensures.good, omega (arith, c.new-messages.ensures.good))))
     c.collected.ensures.whole
 
@@ -30,7 +30,7 @@ returns-clause-none c =
     let runs = run.ensures.runs.2 in
     IfErr-weaker c.collected.result _ _
     (λ answer ends. none-over _ answer c.requires.unlimited
-      (none-of (λ input. checked input) check_filter (lawful-for Check) (output-for Check) _ given
+    (none-of (λ input. checked input) check_filter (lawful-for Check) (output-for Check) _ given
     run.new.reader.left.now c.args.input.now (sym c.new-reader.ensures ∙ run.ensures.runs.1) (λ ended. ended)
     c.requires.long _ _ run.result runs c.args.bounds.output c.args.bounds.messages c.args.bounds.most _ _
     c.new-output.result run.new.writer c.new-messages.result run.new.messages c.new-output.ensures

@@ -29,7 +29,7 @@ invariant_of-self g c =
     accepted g.row.WIDTH _ _ c.is_within.ensures c.if-not-is_within.false fits0 in
     let sums : c.sums_from_third-value.result.0 ∷ c.sums_from_third-value.result.1
     ∷ c.sums_from_third-value.result.2 ∷ c.args.number ∷ [] ≡ differences_by c.args.number
-      (take 3 c.self.inside.differences) =
+    (take 3 c.self.inside.differences) =
     rw (same-bits _ fits) at c.sums_from_third-value.ensures in
     let after : take 4 c.put_four.new.differences
     ≡ differences_after c.sums_from_third-value.result.0 (take 3 c.self.inside.differences) =
@@ -81,7 +81,7 @@ returns-clause-arc g c =
     (omega (arith, third.1)) c.self.told (ap newest c.sums_from_third-value.ensures) fits in
     let sums : c.sums_from_third-value.result.0 ∷ c.sums_from_third-value.result.1
     ∷ c.sums_from_third-value.result.2 ∷ c.args.number ∷ [] ≡ differences_by c.args.number
-      (take 3 c.self.inside.differences) =
+    (take 3 c.self.inside.differences) =
     rw (same-bits _ fits) at c.sums_from_third-value.ensures in
     let after : take 4 c.put_four.new.differences
     ≡ differences_after c.sums_from_third-value.result.0 (take 3 c.self.inside.differences) =

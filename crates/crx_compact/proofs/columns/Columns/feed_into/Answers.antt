@@ -23,7 +23,7 @@ returns-then-not-is_whole-clause-made c =
     let step : step_in c.args.self.now.state (Content c.args.line.now) ≡ step_with_rows tail new.count =
     rows-made inside.is_kept inside.stage inside.count inside.history c.args.self.now.state c.args.line.now
     new.stage new.count new.history (ap (λ (held : HeldColumns). held.state) c.self.view_is) c.requires.open
-      rows.made rows.rows in
+    rows.made rows.rows in
     let P : ColumnsState → Type 0 = λ s.
     HasMade (step_in c.args.self.now.state (Content c.args.line.now)) s None in (
       subst P (sym (state-rows inside.is_kept new.stage new.count new.history rows.rows))
@@ -43,7 +43,7 @@ returns-else-not-is_whole-clause-made c =
     let step : step_in c.args.self.now.state (Content c.args.line.now) ≡ step_with_rows tail new.count =
     rows-made inside.is_kept inside.stage inside.count inside.history c.args.self.now.state c.args.line.now
     new.stage new.count new.history (ap (λ (held : HeldColumns). held.state) c.self.view_is) c.requires.open
-      rows.made rows.rows in
+    rows.made rows.rows in
     let block = c.print.new.self in
     let lines : AreLinesTo new.count block.lines new.history =
     subst (λ n. AreLinesTo n block.lines new.history) c.print.ensures.rows

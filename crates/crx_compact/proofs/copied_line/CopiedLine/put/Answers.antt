@@ -35,5 +35,5 @@ returns c =
     let a = c.put_line.auto.bytes in
     let b = c.deref_mut.ensures.len in
     let kept = take_at bytes (drop (length bytes) inside.bytes.items) inside.bytes.len (omega (arith, a, b))
-      in
+    in
     record { line = rw kept (line-put bytes c.args.line.now c.put_line.ensures.put).there }

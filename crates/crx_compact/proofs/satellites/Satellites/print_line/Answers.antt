@@ -24,7 +24,7 @@ returns-clause-line c old also =
     let is = row-is c.self.inside.placed c.args.index c.self.inside.known.entries _ old within there
     (rw (← c.self.view_is) at also) in
     c.print_line.ensures.line
-      ∙ ap (λ (row : RowTail). take c.args.at c.args.bytes.now ++ printed_row (shown_row row)) is
+    ∙ ap (λ (row : RowTail). take c.args.at c.args.bytes.now ++ printed_row (shown_row row)) is
 
 pub returns-clause-short : goal.returns-clause-short
 returns-clause-short c old also =

@@ -20,20 +20,22 @@ read-requires-clause-allowed c =
 
 pub invariant_of-self : goal.invariant_of-self
 invariant_of-self c =
-    let all = c.self.invariant.1 in
-    (c.self.invariant.0, omega
-      (arith, all, length-set_value_at c.self.inside.known.entries c.args.index c.read.new.self))
+    let all = c.self.invariant.1 in (
+      c.self.invariant.0,
+      omega
+          (arith, all, length-set_value_at c.self.inside.known.entries c.args.index c.read.new.self),
+    )
 
 pub returns-clause-ok : goal.returns-clause-ok
 returns-clause-ok c =
     let known = c.self.inside.known.entries in
     let within = among-placed c.self.inside.placed c.args.index known
-      (rw (← c.self.view_is) at c.requires.within) in
+    (rw (← c.self.view_is) at c.requires.within) in
     let there = c.pair_mut-satellite.ensures.value in
     let left : RowTail = row_tail_of c.pair_mut-satellite.result.0.now c.read.new.self in
     on_ok_weaker c.read.result (λ held old also.
     let is = row-is c.self.inside.placed c.args.index known _ old within there (rw (← c.self.view_is) at also)
-      in (
+    in (
       left,
       subst (λ (row : RowTail). row_held (Some row) (satellite_of row) c.args.line.now
           ≡ Ok (record { row = shown_row left; tail = left })) is (held c.pair_mut-satellite.result.0.now),
@@ -47,12 +49,12 @@ pub returns-clause-err : goal.returns-clause-err
 returns-clause-err c =
     let known = c.self.inside.known.entries in
     let within = among-placed c.self.inside.placed c.args.index known
-      (rw (← c.self.view_is) at c.requires.within) in
+    (rw (← c.self.view_is) at c.requires.within) in
     let there = c.pair_mut-satellite.ensures.value in
     let satellite = c.pair_mut-satellite.result.1.now in
     IfErr-weaker c.read.result (λ (fault : Fault). (name : List ℕ)
     → row_held (Some (row_tail_of name satellite)) (satellite_of (row_tail_of name satellite)) c.args.line.now
-      ≡ Err fault)
+    ≡ Err fault)
     (λ (fault : Fault). (old : RowTail) → slice_get c.args.self.now.rows c.args.index ≡ Some old
     → row_held (Some old) (satellite_of old) c.args.line.now ≡ Err fault) (λ fault held old also.
     subst (λ (row : RowTail). row_held (Some row) (satellite_of row) c.args.line.now ≡ Err fault)
@@ -63,7 +65,7 @@ pub returns-clause-rest : goal.returns-clause-rest
 returns-clause-rest c =
     let known = c.self.inside.known.entries in
     let within = among-placed c.self.inside.placed c.args.index known
-      (rw (← c.self.view_is) at c.requires.within) in
+    (rw (← c.self.view_is) at c.requires.within) in
     rw (← c.self.view_is)
     (rest-unchanged c.self.inside.placed c.self.inside.live c.args.index known _ _ c.read.new.self within
     c.self.invariant.0 c.pair_mut-satellite.ensures.value)

@@ -30,9 +30,9 @@ returns-clause-ok c =
     let within = among-placed c.self.inside.placed c.args.index c.self.inside.known.entries
     (rw (← c.self.view_is) at c.requires.within) in
     IfOk-weaker c.row.result
-      (λ (row : Row). row ≡ shown_row (row_tail_of c.unwrap.result.0.now c.unwrap.result.1.now))
+    (λ (row : Row). row ≡ shown_row (row_tail_of c.unwrap.result.0.now c.unwrap.result.1.now))
     (λ row. (old : RowTail) → slice_get c.args.self.now.rows c.args.index ≡ Some old → row ≡ shown_row old)
     (λ row is old also. is
     ∙ ap {B = Row} shown_row
-      (row-is c.self.inside.placed c.args.index c.self.inside.known.entries _ old within there
+    (row-is c.self.inside.placed c.args.index c.self.inside.known.entries _ old within there
     (rw (← c.self.view_is) at also))) c.row.ensures.ok

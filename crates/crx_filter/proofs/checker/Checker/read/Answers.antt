@@ -49,10 +49,10 @@ returns-in-Ok-clause-good c lines same =
     (c.count.ensures.totals before made takes) (c.count.ensures.standard before made takes some) same in (
       took.0,
       ap (λ r. checker_state_with r c.count.new.self.number c.count.new.self.totals
-        c.count.new.self.not_standard)
+          c.count.new.self.not_standard)
           c.count.ensures.reader
           ∙ ap (λ n. checker_state_with c.take_line.new.reader n c.count.new.self.totals
-            c.count.new.self.not_standard)
+          c.count.new.self.not_standard)
           c.count.ensures.number
           ∙ took.1,
     )
@@ -64,12 +64,12 @@ returns-in-Err-clause-faulty c lines same =
     let refuses : RefusesRinexLine
     (made_at before line.content (record { index = 0; tail = None })) before line.content c.in-Err.fault =
     subst (λ t. RefusesRinexLine (made_at before t (record { index = 0; tail = None })) before t
-      c.in-Err.fault)
+    c.in-Err.fault)
     c.bytes.ensures.content (c.in-Err.ensures.refuses (record { index = 0; tail = None })) in
     let refused = refused-line before
     c.args.self.now.number c.args.self.now.totals c.args.self.now.not_standard line lines c.in-Err.fault
     (short-line line (subst (λ t. length t ≤ LINE_LIMIT) c.bytes.ensures.content c.bytes.ensures.limit))
-      refuses same in
+    refuses same in
     subst (λ (at : At). RunsOutAt check_filter lines line [] at
-      ⊎ (fault_so_far (with_next lines line) ≡ Some at))
+    ⊎ (fault_so_far (with_next lines line) ≡ Some at))
     (sym c.fail.ensures.value) refused

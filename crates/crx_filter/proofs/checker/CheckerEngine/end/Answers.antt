@@ -13,7 +13,7 @@ returns-in-Ok-clause-concludes c lines taken =
     let good = good-end lines c.after_end.result.answer c.in-Ok.field-0 fault c.in-Ok.is in
     record {
       output = ap (λ o. report_unless o (findings_of lines)) good
-        ∙ ap (λ (f : Findings). lines_text (report_lines f))
+          ∙ ap (λ (f : Findings). lines_text (report_lines f))
           (sym (found-there self.reader self.number self.totals self.not_standard lines taken.1 good));
       warnings = refl;
       good = good;

@@ -43,7 +43,7 @@ returns-then-print_report_line c =
             ∙ ap {B = Option (List ℕ)} (λ (types : List Count).
             slice_get (report_lines (found_held self.totals types self.not_standard)) n) c.types.ensures.value
             ∙ first-left n report ∙ ap {B = Option (List ℕ)} (λ (ls : List (List ℕ)). slice_get ls 0)
-              (sym pending);
+            (sym pending);
         after_borrow = tt;
       },
     )
@@ -56,7 +56,7 @@ returns c =
     let pending = ap {B = List (List ℕ)} (λ (h : Option ℕ).
     report_left h (found_held self.totals self.reader.types self.not_standard)) c.in_ok-handed_out.was in
     let none = ap {B = Option (List ℕ)} (λ (ls : List (List ℕ)). slice_get ls 0) pending
-      ∙ sym (first-left n report)
+    ∙ sym (first-left n report)
     ∙ ap {B = Option (List ℕ)} (λ (types : List Count).
     slice_get (report_lines (found_held self.totals types self.not_standard)) n) (sym c.types.ensures.value)
     ∙ c.if-print_report_line.ensures.line in (

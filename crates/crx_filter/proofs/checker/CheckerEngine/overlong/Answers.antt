@@ -13,7 +13,7 @@ returns-clause-answers c lines notices line taken awaited long =
       output = refl;
       warnings = ap awaited_notices (sym taken.0);
       fault = subst (λ (at : At). fault_so_far (with_next lines line) ≡ Some at) (sym c.fail.ensures.value)
-        (long-line
+          (long-line
           self.reader self.number self.totals self.not_standard line lines long c.requires.running.reading
-            taken.1);
+          taken.1);
     })

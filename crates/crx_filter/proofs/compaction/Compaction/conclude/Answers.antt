@@ -12,8 +12,8 @@ invariant_of-self c =
     let held = c.self.invariant in
     let closed : is_open_stage parts.reader.stage ≡ false =
     subst (λ (p : CompactionParts). is_open_stage p.reader.stage ≡ false)
-      (sym c.self.view_is) c.requires.closed in
+    (sym c.self.view_is) c.requires.closed in
     let within = subst (λ (p : CompactionParts). p.number < INPUT_LIMIT)
-      (sym c.self.view_is) c.requires.within in
+    (sym c.self.view_is) c.requires.within in
     closed-together _ closed (held.opened ∙ closed) (none-there parts held closed)
     (omega (arith, held.counted)) (omega (arith, within))

@@ -18,10 +18,10 @@ returns-clause-steps c =
     (settled_seen compaction (compaction_state before) (epoch_open before.reader) settled)
     c.settle.ensures.value refl c.settle.ensures.seen
     ∙ subst (λ (p : CompactionParts). step_made settled.answer []
-      (settled_seen compaction (compaction_state p)
+    (settled_seen compaction (compaction_state p)
     (epoch_open p.reader) settled) ≡ seen_end compaction (compaction_state p)) c.self.view_is
     (c.after_end-settled.ensures.compaction (compaction_state self) (epoch_open self.reader)
-      (epoch_open self.reader)
+    (epoch_open self.reader)
     (record {
       is_phase = refl;
       is_open = held-by_reader self.reader;

@@ -17,15 +17,15 @@ returns-clause-fails c = λ (line : ReadLine) goes_on.
     let self = the_view c.self.inside in
     let settled = c.after_fault-settled.result in
     same-step c.settle.result settled.answer _ [] (compaction_state c.settle.new.self)
-      (settled_seen compaction
+    (settled_seen compaction
     (compaction_state before) (epoch_open before.reader) settled)
     c.settle.ensures.value c.settle.ensures.drained c.settle.ensures.seen
     ∙ subst (λ (p : CompactionParts). step_made settled.answer []
-      (settled_seen compaction (compaction_state p)
+    (settled_seen compaction (compaction_state p)
     (epoch_open p.reader) settled) ≡ failed_step compaction (compaction_state p) line c.args.fault)
-      c.self.view_is
+    c.self.view_is
     (c.after_fault-settled.ensures.compaction (compaction_state self) (epoch_open self.reader)
-      (epoch_open self.reader)
+    (epoch_open self.reader)
     line (record {
       is_phase = refl;
       is_open = held-by_reader self.reader;

@@ -21,7 +21,7 @@ returns-in_default c =
           (compaction_state p).kept Overlong ≡ Fails LineTooLong) c.self.view_is
           (overlong-made (epoch_open self.reader) self.reader.stage self.reader.types
           (compaction_state self).kept c.in_default.not-Looking c.in_default.not-Closed
-            c.in_default.not-Ended)));
+          c.in_default.not-Ended)));
       ended = c.fail.ensures.ended;
       drained = c.fail.ensures.drained;
       choices = c.fail.ensures.choices;

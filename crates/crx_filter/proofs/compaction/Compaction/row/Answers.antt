@@ -38,7 +38,7 @@ returns-in-Err-clause-steps c =
     (refused-step (compaction_state self) _ (Content line) c.fail.new.answer _
     (compaction_state c.fail.new.self)
     c.in-Err.fault (seen-again self.options self.number kept self.reader c.read_row.new.self
-      c.in-Err.ensures.same)
+    c.in-Err.ensures.same)
     (c.fail.ensures.fails (Content line) (sym c.begins_epoch.ensures.value))
     (inl (c.in-Err.ensures.refused kept)) c.fail.ensures.fatal)
 
@@ -50,9 +50,9 @@ returns-in-Ok-false-clause-steps c =
     let mid = c.read_row.new.self in
     let fail = c.fail-in-Ok-false in
     let there = rows-there self c.self.invariant (opened c.args.self.now self c.self.view_is c.requires.open)
-      in
+    in
     let repeated = is-repeated c.in-Ok-false.field-0 c.row.result.now mid.row self.encoder.rows
-      self.reader.rows.rows
+    self.reader.rows.rows
     c.in-Ok-false.ensures.answer c.row.ensures.value there c.in-Ok-false.field-0-test in
     subst (λ (p : CompactionParts). Steps compaction (compaction_state p) (Content line) fail.new.answer
     (compaction_ready fail.new.self) (compaction_state fail.new.self)) c.self.view_is
@@ -72,7 +72,7 @@ invariant_of-self-in-Row c =
     let written = c.in-Ok-true.ensures.written c.in-Ok-true.field-0-test in
     let takes = row-come self c.self.invariant open_ c.read_row.new.self c.take_row.new.self c.args.line.now
     (compaction_state self).kept c.take_row.result c.in-Ok-true.field-0 c.row.result.now
-      c.in_default.ensures.same
+    c.in_default.ensures.same
     c.in_default.ensures.ok c.in_default.ensures.row c.in-Ok-true.ensures.answer c.row.ensures.value
     c.in-Ok-true.field-0-test c.take_row.ensures.takes c.take_row.ensures.steps in
     let going = subst (λ (s : RinexStep). TakesRinexLine (made_at self.reader c.args.line.now
@@ -92,12 +92,12 @@ end_epoch-ended-requires c =
     let written = c.in-Ok-true.ensures.written c.in-Ok-true.field-0-test in
     let done = epoch-come self c.self.invariant open_ c.read_row.new.self c.take_row.new.self c.args.line.now
     (compaction_state self).kept c.take_row.result c.in-Ok-true.field-0 c.row.result.now
-      c.in_default.ensures.same
+    c.in_default.ensures.same
     c.in_default.ensures.ok c.in_default.ensures.row c.in-Ok-true.ensures.answer c.row.ensures.value
     c.in-Ok-true.field-0-test c.take_row.ensures.takes c.take_row.ensures.steps c.in_default-take_row.not-Row
-      in
+    in
     let rows = rows-come self c.self.invariant open_ c.read_row.new.self c.take_row.new.self
-      c.encode_row.new.self
+    c.encode_row.new.self
     c.row.result.now c.in_default.ensures.same c.row.ensures.value written c.take_row.ensures.rows in
     let counted = head-counted c.take_row.new.self.head done.head c.encode_row.new.self.rows
     c.take_row.new.self.rows.rows done.held done.counted rows in
@@ -114,10 +114,10 @@ invariant_of-self-2 c =
     let written = c.in-Ok-true.ensures.written c.in-Ok-true.field-0-test in
     let done = epoch-come self c.self.invariant open_ c.read_row.new.self c.take_row.new.self c.args.line.now
     (compaction_state self).kept c.take_row.result c.in-Ok-true.field-0 c.row.result.now
-      c.in_default.ensures.same
+    c.in_default.ensures.same
     c.in_default.ensures.ok c.in_default.ensures.row c.in-Ok-true.ensures.answer c.row.ensures.value
     c.in-Ok-true.field-0-test c.take_row.ensures.takes c.take_row.ensures.steps c.in_default-take_row.not-Row
-      in
+    in
     closed-together _ done.is.closed c.end_epoch-ended.ensures.closed c.end_epoch-ended.ensures.rows
     c.self.invariant.counted c.self.invariant.within
 
@@ -128,10 +128,10 @@ conclude-requires c =
     let written = c.in-Ok-true.ensures.written c.in-Ok-true.field-0-test in
     let done = epoch-come self c.self.invariant open_ c.read_row.new.self c.take_row.new.self c.args.line.now
     (compaction_state self).kept c.take_row.result c.in-Ok-true.field-0 c.row.result.now
-      c.in_default.ensures.same
+    c.in_default.ensures.same
     c.in_default.ensures.ok c.in_default.ensures.row c.in-Ok-true.ensures.answer c.row.ensures.value
     c.in-Ok-true.field-0-test c.take_row.ensures.takes c.take_row.ensures.steps c.in_default-take_row.not-Row
-      in
+    in
     record {
       within = within c.args.self.now self c.self.view_is c.requires.within;
       closed = done.is.closed;
@@ -150,12 +150,12 @@ returns c =
     let written = c.in-Ok-true.ensures.written c.in-Ok-true.field-0-test in
     let done = epoch-come self c.self.invariant open_ c.read_row.new.self c.take_row.new.self c.args.line.now
     (compaction_state self).kept c.take_row.result c.in-Ok-true.field-0 c.row.result.now
-      c.in_default.ensures.same
+    c.in_default.ensures.same
     c.in_default.ensures.ok c.in_default.ensures.row c.in-Ok-true.ensures.answer c.row.ensures.value
     c.in-Ok-true.field-0-test c.take_row.ensures.takes c.take_row.ensures.steps c.in_default-take_row.not-Row
-      in
+    in
     let rows = rows-come self c.self.invariant open_ c.read_row.new.self c.take_row.new.self
-      c.encode_row.new.self
+    c.encode_row.new.self
     c.row.result.now c.in_default.ensures.same c.row.ensures.value written c.take_row.ensures.rows in
     let due = ap (λ (e : EncoderState). e.in_full) written ∙ due-there self c.self.invariant open_ in
     let before = ap (λ (e : EncoderState). e.before) written in

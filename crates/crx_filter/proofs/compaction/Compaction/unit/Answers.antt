@@ -38,7 +38,7 @@ invariant_of-self-in-Nothing c =
     let kept = (compaction_state self).kept in
     let closed = closed-before c.args.self.now self c.self.view_is c.requires.closed in
     let takes = subst (λ (s : RinexStep). TakesRinexLine
-      (made_at self.reader c.args.line.now kept) self.reader
+    (made_at self.reader c.args.line.now kept) self.reader
     c.args.line.now s c.take.new.self) c.in-Nothing.is (c.in-Ok.ensures.takes kept) in
     closed-together _ takes.1 (c.self.invariant.opened ∙ closed) (none-there self c.self.invariant closed)
     (omega (arith, c.self.invariant.counted))
@@ -70,11 +70,11 @@ returns-in-Err c =
     record {
       steps = subst (λ (p : CompactionParts). Steps compaction (compaction_state p) (Content line)
           c.fail.new.answer (compaction_ready c.fail.new.self) (compaction_state c.fail.new.self))
-            c.self.view_is
+          c.self.view_is
           (refused-step (compaction_state self) _ (Content line) c.fail.new.answer _
           (compaction_state c.fail.new.self)
           c.in-Err.fault (seen-again self.options self.number kept self.reader c.take.new.self
-            c.in-Err.ensures.same)
+          c.in-Err.ensures.same)
           (c.fail.ensures.fails (Content line) (sym c.begins_epoch.ensures.value))
           (c.in-Err.ensures.refuses kept) c.fail.ensures.fatal);
       ended = c.fail.ensures.ended;
@@ -87,7 +87,7 @@ invariant_of-self-then-not-is_whole c =
     let self = the_view c.self.inside in
     let kept = (compaction_state self).kept in
     let begins = subst (λ (s : RinexStep). TakesRinexLine
-      (made_at self.reader c.args.line.now kept) self.reader
+    (made_at self.reader c.args.line.now kept) self.reader
     c.args.line.now s c.take.new.self) c.in-Begun.is (c.in-Ok.ensures.takes kept) in
     open-together _ (wants-more c.is_whole.result _ c.is_whole.ensures.value c.if-not-is_whole.true)
     (ap (λ (e : EncoderState). e.is_open) c.begin.ensures.begun)
@@ -131,7 +131,7 @@ end_epoch-ended-requires c =
     let done = begun-whole (made_at self.reader line kept) line self.reader after begins
     (wants-none c.is_whole.result _ c.is_whole.ensures.value c.if-not-is_whole.false) in
     let counted = head-counted after.head done.head c.begin.new.self.rows after.rows.rows done.held
-      done.counted
+    done.counted
     (ap (λ (e : EncoderState). e.rows) c.begin.ensures.begun ∙ sym begins.0) in
     record {
       «open» = ap (λ (e : EncoderState). e.is_open) c.begin.ensures.begun;
@@ -182,9 +182,9 @@ invariant_of-self-in_default-step c =
     let line = c.args.line.now in
     let closed = closed-before c.args.self.now self c.self.view_is c.requires.closed in
     closed-together _ (copied-closed (made_at self.reader line kept) self.reader c.take.new.self line
-      c.in-Ok.step
+    c.in-Ok.step
     (others-copied c.in-Ok.step c.in-Ok.ensures.steps c.in_default-step.not-Nothing
-      c.in_default-step.not-Begun)
+    c.in_default-step.not-Begun)
     (c.in-Ok.ensures.takes kept)) (c.self.invariant.opened ∙ closed) (none-there self c.self.invariant closed)
     c.self.invariant.counted c.self.invariant.within
 
@@ -199,7 +199,7 @@ copy-requires c =
       short = c.requires.short;
       closed = copied-closed (made_at self.reader line kept) self.reader after line c.in-Ok.step
           (others-copied c.in-Ok.step c.in-Ok.ensures.steps c.in_default-step.not-Nothing
-            c.in_default-step.not-Begun)
+          c.in_default-step.not-Begun)
           (c.in-Ok.ensures.takes kept);
     }
 
@@ -215,10 +215,10 @@ returns-in_default-step c =
           (copied-step self.options self.number kept self.reader after line c.in-Ok.step
           (compaction_ready c.copy.new.self) (compaction_state c.copy.new.self)
           (others-copied c.in-Ok.step c.in-Ok.ensures.steps c.in_default-step.not-Nothing
-            c.in_default-step.not-Begun)
+          c.in_default-step.not-Begun)
           (c.in-Ok.ensures.takes kept) c.copy.ensures.ready c.copy.ensures.seen);
       ended = tt;
       nothing = tt;
       choices = ap (λ s. s.choices) c.copy.ensures.seen
-        ∙ ap (λ (p : CompactionParts). p.options) c.self.view_is;
+          ∙ ap (λ (p : CompactionParts). p.options) c.self.view_is;
     }

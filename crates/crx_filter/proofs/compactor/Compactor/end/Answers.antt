@@ -14,4 +14,4 @@ returns-clause-concludes c = λ lines taken.
 pub returns-clause-repeated : goal.returns-clause-repeated
 returns-clause-repeated c = λ at is.
     repeats-end compaction (compaction_state c.args.self.now.compaction) _ _ c.end.result at
-      c.end.ensures.steps is
+    c.end.ensures.steps is

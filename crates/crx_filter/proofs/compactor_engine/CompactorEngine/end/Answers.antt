@@ -17,4 +17,4 @@ returns-clause-concludes c = λ lines shown.
     concludes (compaction-goes choices) (compactor_seen self) (compactor_seen new) lines (compactor_ready new)
     c.end.result shown.0
     (ap (λ ready. step_made c.end.result ready (compactor_seen new)) c.end.ensures.drained
-      ∙ c.end.ensures.steps)
+    ∙ c.end.ensures.steps)

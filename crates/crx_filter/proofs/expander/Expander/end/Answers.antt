@@ -38,14 +38,14 @@ returns-clause-repeated c = λ (at : At) (is : c.args.self.now.reader.stage ≡ 
     let self = c.args.self.now in
     let held = open_in self.reader.columns.state in
     let known = at-stage (expander_state self) self.reader.stage self.reader.columns.state
-      c.value-number.result
+    c.value-number.result
     c.skip.result
     refl self.reader.consistent (sym c.value-number.ensures.value) (sym c.skip.ensures.value) in
     let step = c.after_end-settled.ensures.expansion (expander_state self) held None known in
     failed-at c.after_end-settled.result.answer at
     (ap (λ (s : Step OpenRawEpoch (Option Tail)). s.answer) step
     ∙ ap (λ (stage : Stage). (seen_end expansion (seen_in self.options self.number self.reader stage)).answer)
-      is)
+    is)
 
 pub returns-clause-concludes : goal.returns-clause-concludes
 returns-clause-concludes c = λ lines taken.

@@ -12,7 +12,7 @@ use Rattle.crx_filter.proofs.expander.Expander.fail.Goals as goal
 pub returns-clause-fails : goal.returns-clause-fails
 returns-clause-fails c =
     λ (before : Seen OpenRawEpoch (Option Tail)) (held : Option OpenRawEpoch)
-      (line : ReadLine) at chosen typed fits.
+    (line : ReadLine) at chosen typed fits.
     let s = c.after_fault-settled.result in
     let reader = c.settle.new.self in
     let now = open_in reader.columns.state in
@@ -24,6 +24,6 @@ returns-clause-fails c =
     (tail_held reader.columns.state) chosen c.settle.ensures.stage (c.settle.ensures.types ∙ sym typed) kept
     ∙ c.after_fault-settled.ensures.expansion before held now line
     (subst (λ (n : ℕ). IsAt before held c.args.stage n c.skip.result) (sym c.value-number.ensures.value)
-      (subst
+    (subst
     (λ (skips : Bool). IsAt before held c.args.stage c.args.self.now.number skips)
     (sym c.skip.ensures.value) at)) fits

@@ -14,7 +14,7 @@ returns-clause-drained c =
     let new = c.take_line.new.self in
     steps-drained expansion (expander_state self) (expander_state new)
     (Content c.bytes.result.now) new.lines
-      (answer_given c.take_line.result new.answer) c.take_line.ensures.steps
+    (answer_given c.take_line.result new.answer) c.take_line.ensures.steps
 
 pub returns-clause-count : goal.returns-clause-count
 returns-clause-count c =
@@ -22,7 +22,7 @@ returns-clause-count c =
     let new = c.take_line.new.self in
     steps-counted expansion (expander_state self) (expander_state new)
     (Content c.bytes.result.now) new.lines
-      (answer_given c.take_line.result new.answer) c.take_line.ensures.steps
+    (answer_given c.take_line.result new.answer) c.take_line.ensures.steps
 
 pub returns-clause-answers : goal.returns-clause-answers
 returns-clause-answers c = λ lines notices shown awaited.

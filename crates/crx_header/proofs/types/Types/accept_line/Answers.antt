@@ -18,7 +18,7 @@ inserted : (es now old : List Count) (line : List ℕ) (letter count : ℕ)
     → es ≡ now → (new : List Count) → new ≡ with_count es letter count → new ≡ with_line now line
 inserted es now old line letter count t h v new e =
     e ∙ ap (λ (s : List Count). with_count s letter count) v
-      ∙ sym (with_line-types now line letter count t (sym h))
+    ∙ sym (with_line-types now line letter count t (sym h))
 
 pub returns-clause-ok : goal.returns-clause-ok
 returns-clause-ok c =
@@ -43,9 +43,9 @@ invariant_of-self-2 c =
     let long : length c.self.inside.by_letter ≡ LETTERS = search in
     let with : c.put.new.counts.entries ≡ with_count entries letter count =
     c.put.ensures.entries ∙ ap (λ (s : List Count). with_count s letter count) c.make_room.ensures.entries
-      in (
+    in (
       subst AreCounts (sym with)
-        (AreCounts-with_count entries letter count c.self.invariant.0 allowed.0 allowed.1),
+          (AreCounts-with_count entries letter count c.self.invariant.0 allowed.0 allowed.1),
       subst (AreByLetter _) (sym with) (AreByLetter-with_count c.self.inside.by_letter entries letter count
           c.self.invariant.1 (omega (arith, long, c.in-Some.ensures.byte))),
       inr c.put.ensures.room,

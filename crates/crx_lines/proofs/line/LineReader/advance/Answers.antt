@@ -30,7 +30,7 @@ returns-then-place-gt-LINE_LIMIT-clause-answers g c =
     } in
     let now = c.pass.ensures.kept ∙ ap (λ w. drop (len + 1) (kept w)) c.deref_mut.ensures.value in
     let content = slice_range c.deref-2.result.now.bytes.items c.content-place.result.from
-      c.content-place.result.to in
+    c.content-place.result.to in
     let long : LINE_LIMIT < length content = let over =
     c.if-place-gt-LINE_LIMIT.true in let e = c.content-place.ensures.len in omega (arith, over, e) in (
       s.given,
@@ -70,7 +70,7 @@ returns-clause-answers g c =
     } in
     let now = c.pass.ensures.kept ∙ ap (λ w. drop (len + 1) (kept w)) c.deref_mut.ensures.value in
     let bytes = c.pass.ensures.bytes
-      ∙ ap (λ w. w.bytes.items) (c.deref_mut.ensures.value ∙ sym c.deref-2.ensures) in
+    ∙ ap (λ w. w.bytes.items) (c.deref_mut.ensures.value ∙ sym c.deref-2.ensures) in
     let content = ap (λ l. slice_range l place.from place.to) bytes
     ∙ c.content-place.ensures.value ∙ ap (λ w. without_return (take len (kept w))) c.deref-2.ensures in
     let returns = c.content-place.ensures.has_return
@@ -86,7 +86,7 @@ returns-clause-answers g c =
             omega (arith, limit)) refl c.requires,
         shown-line s.front
             (take len held) (slice_range c.pass.new.self.bytes.items place.from place.to) true
-              place.has_return
+            place.has_return
             (not place.has_return) whole content returns refl,
         refl,
         tally-line true _ _ _ _ refl refl,
@@ -98,7 +98,7 @@ invariant_of-self g c =
     let old = c.args.self.now in
     let len = c.in-Some.len in
     let shown : c.as_slice.result.now ≡ kept old.window.value = c.as_slice.ensures.value
-      ∙ ap kept c.deref.ensures in
+    ∙ ap kept c.deref.ensures in
     let now = c.pass.ensures.kept ∙ ap (λ w. drop (len + 1) (kept w)) c.deref_mut.ensures.value in
     let size : length (kept c.pass.new.self) ≡ length (kept old.window.value) - (len + 1) =
     ap length now ∙ length-drop (len + 1) (kept old.window.value) in

@@ -29,9 +29,9 @@ returns-clause-value c =
     elim c.else-len-gt0.branch [
       | else-len-gt0-via-then-len-gt0+else-bytes-to-eq13 v ↦ (content-other
           w.bytes.items w.start w.end c.args.len v.if-len-gt0.true inside within
-            (λ e. v.if-bytes-to-eq13.false
+          (λ e. v.if-bytes-to-eq13.false
           (ap (λ (xs : List ℕ). get_or xs (w.start + c.args.len - 1) 0) c.as_slice-bytes.ensures.value
-            ∙ e))).0
+          ∙ e))).0
       | else-len-gt0-via-else-len-gt0 v ↦
           (content-none w.bytes.items w.start w.end c.args.len (omega (arith, v.if-len-gt0.false))).0
     ]
@@ -44,9 +44,9 @@ returns-clause-has_return c =
     elim c.else-len-gt0.branch [
       | else-len-gt0-via-then-len-gt0+else-bytes-to-eq13 v ↦ (content-other
           w.bytes.items w.start w.end c.args.len v.if-len-gt0.true inside within
-            (λ e. v.if-bytes-to-eq13.false
+          (λ e. v.if-bytes-to-eq13.false
           (ap (λ (xs : List ℕ). get_or xs (w.start + c.args.len - 1) 0) c.as_slice-bytes.ensures.value
-            ∙ e))).1
+          ∙ e))).1
       | else-len-gt0-via-else-len-gt0 v ↦
           (content-none w.bytes.items w.start w.end c.args.len (omega (arith, v.if-len-gt0.false))).1
     ]

@@ -47,12 +47,12 @@ invariant_of-self-2 c =
     elim c.match-push.branch [
       | in-Ok w ↦ subst (λ (rs : List Row). AreEpochParts head next rs) (sym w.in-Ok.ensures.items)
           (parts-next head names next rows c.len.result c.args.row c.name.result c.self.invariant long
-            unfilled
+          unfilled
           c.name.ensures.sound c.name.ensures.value
           (c.in-Ok-true.ensures.new ∙ ap not c.in-Ok-true.field-0-test)
           (c.in-Ok-true.ensures.next c.in-Ok-true.field-0-test) c.put.ensures.few)
       | in-Err-push w ↦ subst (λ (rs : List Row). AreEpochParts head next rs)
-        (sym w.in-Err-push.ensures.items)
+          (sym w.in-Err-push.ensures.items)
           (parts-kept head names next rows c.len.result c.self.invariant long unfilled c.put.ensures.within
           c.put.ensures.kept c.put.ensures.few)
     ]
@@ -63,7 +63,7 @@ returns-clause-new c =
       | in-Ok w ↦ rw w.result-is (by_names c.args.self.now c.self.inside.names c.self.inside.rows.items
           c.len.result c.args.row.name c.name.result false c.name.ensures.value
           (ap (λ (e : Epoch). e.rows) c.self.view_is)
-            (c.len.ensures ∙ c.self.inside.rows.ok.0) c.self.invariant.3
+          (c.len.ensures ∙ c.self.inside.rows.ok.0) c.self.invariant.3
           (c.in-Ok-true.ensures.new ∙ ap not c.in-Ok-true.field-0-test))
       | in-Err-push w ↦ rw w.result-is tt
     ]
@@ -77,7 +77,7 @@ returns-clause-refused c =
         by_names c.args.self.now c.self.inside.names c.self.inside.rows.items c.len.result
             c.args.row.name c.name.result false c.name.ensures.value
             (ap (λ (e : Epoch). e.rows) c.self.view_is)
-              (c.len.ensures ∙ c.self.inside.rows.ok.0) c.self.invariant.3
+            (c.len.ensures ∙ c.self.inside.rows.ok.0) c.self.invariant.3
             (c.in-Ok-true.ensures.new ∙ ap not c.in-Ok-true.field-0-test),
       ))
     ]

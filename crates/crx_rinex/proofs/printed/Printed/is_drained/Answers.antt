@@ -8,5 +8,5 @@ returns-then-self-gt0 c =
     let epoch = c.self.inside.epoch in
     let left = all-handed_out printed_row (printed_head epoch.head epoch.clock) epoch.rows
     c.self.inside.next c.is_none.result c.row.result c.if-self-gt0.true c.is_none.ensures c.row.ensures.value
-      in
+    in
     record { value = rw (sym c.self.view_is) left }

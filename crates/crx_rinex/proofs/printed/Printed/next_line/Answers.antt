@@ -21,7 +21,7 @@ returns c =
     let lines = printed_epoch c.self.inside.epoch in
     let next = c.self.inside.next in
     let none : slice_get (drop next lines) 0 ≡ None = first_of_rest lines next ∙ c.if-print_line.ensures.line
-      in (
+    in (
       (refl, λ _. tt, no_next (drop next lines) none ∙ ap (drop 1) c.self.view_is),
       record {
         value = sym none ∙ ap (λ (ls : List (List ℕ)). slice_get ls 0) c.self.view_is;

@@ -14,12 +14,12 @@ invariant_of-result c =
     let flags_len : c.in-Ok-vec.flags.len ≡ 2 * m = c.in-Ok-vec.ensures.len in
     let values : length c.read_cells.new.values
     ≡ m = let a = c.read_cells.auto.values in let b = c.deref_mut.ensures.len
-      in omega (arith, a, b, values_len) in
+    in omega (arith, a, b, values_len) in
     let flags : length c.read_cells.new.flags ≡ 2 * m = let a =
     c.read_cells.auto.flags in let b = c.deref_mut-2.ensures.len in omega (arith, a, b, flags_len) in
     sound-written c.identifier.result c.read_cells.new.values
     c.in-Ok.values.items c.read_cells.new.flags c.in-Ok-vec.flags.items m c.in-Ok.values.len
-      c.in-Ok-vec.flags.len
+    c.in-Ok-vec.flags.len
     (ap is_identifier c.identifier.ensures.value ∙ c.in-Some.ensures.named) c.in-Some.ensures.allowed
     values flags values_len flags_len c.in_ok-read_cells.ensures.ranged c.in_ok-read_cells.ensures.kept
 

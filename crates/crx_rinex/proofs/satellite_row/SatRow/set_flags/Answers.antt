@@ -8,8 +8,12 @@ use Rattle.crx_rinex.proofs.Cells.{sound-with_flags}
 use Rattle.crx_rinex.proofs.satellite_row.SatRow.set_flags.Goals as goal
 
 abbrev before : (c : goal.After-self-1) → Row
-before c = record { name = c.self.inside.name; values = c.self.inside.values.items; flags =
-  c.self.inside.flags.items }
+before c = record {
+  name = c.self.inside.name;
+  values = c.self.inside.values.items;
+  flags =
+      c.self.inside.flags.items;
+}
 
 -- the indicators are those that were given, and blanks
 whole : (c : goal.After-self-1)
@@ -19,7 +23,7 @@ whole : (c : goal.After-self-1)
 whole c =
     let held = c.put_flags.new.held in
     let same : length c.deref_mut.result.now ≡ 2 * length (before c).values =
-      ap length c.deref_mut.ensures.value
+    ap length c.deref_mut.ensures.value
     ∙ c.self.invariant.paired in
     take_at held (drop (length held) c.self.inside.flags.items) c.self.inside.flags.len
     (c.put_flags.auto.held ∙ c.deref_mut.ensures.len) ∙ c.put_flags.ensures.put
@@ -29,9 +33,9 @@ pub invariant_of-self : goal.invariant_of-self
 invariant_of-self c =
     let old = before c in
     subst (λ (fs : List ℕ). IsSoundRow (record { name = old.name; values = old.values; flags = fs }))
-      (sym (whole c))
+    (sym (whole c))
     (sound-with_flags old c.args.flags.now c.self.invariant
-      (let e = ap (λ (r : Row). length r.values) c.self.view_is in
+    (let e = ap (λ (r : Row). length r.values) c.self.view_is in
     omega (arith, e, c.requires.fitting)) c.requires.kept)
 
 pub returns : goal.returns

@@ -9,7 +9,7 @@ use Rattle.crx_filter.proofs.steps.StepCounts.{steps-counted}
 use Rattle.crx_tests.proofs.steps.expander.feed_one.Goals as goal
 
 same-number : {O K : Type 0} (before after : Seen O K) (n : ℕ) → after ≡ before → before.number ≡ n
-  → after.number ≡ n
+    → after.number ≡ n
 same-number {O = O} {K = K} before after n is h = subst (λ (s : Seen O K). s.number ≡ n) (sym is) h
 
 -- the lines that are ready are taken without a change of what is seen, and the line counts as its answer says
@@ -20,9 +20,9 @@ returns-in-Ok-clause-counted g c =
     let answer = c.in-Ok.answer in
     let counted = steps-counted expansion (expander_state self)
     (expander_state fed) (Content (line_shown c.args.line).content) fed.lines
-      (Ok answer) c.in-Ok.ensures.steps in
+    (Ok answer) c.in-Ok.ensures.steps in
     let by-number = subst (λ (n : ℕ). (expander_state fed).number ≡ taken_after answer n) c.requires.counted
-      counted in
+    counted in
     let by-result = subst (λ (n : ℕ). (expander_state fed).number ≡ n) (sym c.counted.ensures) by-number in
     same-number (expander_state fed)
     (expander_state c.take_ready.new.engine) c.counted.result c.take_ready.ensures by-result

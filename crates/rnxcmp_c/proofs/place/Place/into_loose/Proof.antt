@@ -62,9 +62,9 @@ into_loose_spec 𝓤 𝓛 𝓜 𝓡 wired =
     λ ws. WpFn 𝓤 H 𝓣.C 𝓣.Λ code.function ws Post in
     let Asked : Type 0 = (value : Reader) × (v.held ≡ value ∷ []) in
     qed 𝓛 ((‵ ftrue ⊛ ‵ (fsep (P.own_val v z.0.4.0) (fsep (Z.own_val a z.0.4.1.0) ftrue))) ∷ raw
-      (fact 𝓤 Asked) ∷ []) ∵
+    (fact 𝓤 Asked) ∷ []) ∵
     move ! (1 ∷ 0 ∷ []) $ heard ! Asked
-      (λ asked. let x : Reader = asked.0 in split ! $ drop ! $ fsplit ! $ fsplit ! $
+    (λ asked. let x : Reader = asked.0 in split ! $ drop ! $ fsplit ! $ fsplit ! $
     fpick ! (λ vss. fsplit ! $ feq_l ! (λ ev. fsplit ! $ feq_l ! (λ ep. drop ! $
     -- [what the place owns; the handle and nothing]
     rewrite ! 0 (λ (held : List Reader). ‵ (place_owns v.at held)) asked.1 refl $
@@ -79,7 +79,7 @@ into_loose_spec 𝓤 𝓛 𝓜 𝓡 wired =
     suffices ! (Run (w ∷ h ∷ [])) (subst (λ (us : List Val). ent 𝓤 (Run (w ∷ h ∷ [])) (Run us))
     (sym (λ i. ew i ++ (eh i ++ []))) (id⊢ 𝓤 (Run (w ∷ h ∷ [])))) $
     enter ! 𝓣.C 𝓣.Λ code.function (w ∷ h ∷ []) Post
-      $ alloc_all ! (λ l. pass_all ! refl ((tt, (tt, tt)), (fits, tt)) $
+    $ alloc_all ! (λ l. pass_all ! refl ((tt, (tt, tt)), (fits, tt)) $
     sets ! (of_opd ! (get_in ! (fld ! refl (stop !)) (sub ! 0 refl (whole !)))) refl (tt, tt) $ sets !
     (of_opd ! (get ! refl)) refl (tt, tt) $
     sets ! (agg ! (and_then ! (get ! refl) (and_then ! (get ! refl) (no_more !)))) refl good $

@@ -13,5 +13,5 @@ returns-in-Ok c = λ (task : Task) (past : HandlePast) is.
 pub returns-in-Err : goal.returns-in-Err
 returns-in-Err c = λ (task : Task) (past : HandlePast) is.
     stops-at_end task c.args.self.now.engine is.is_of _ c.end_engine.new.held
-      (c.in-Err.ensures.limit ∙ is.limit)
+    (c.in-Err.ensures.limit ∙ is.limit)
     c.outcome_of.result past c.in-Err.stop (c.in-Err.ensures.fails past is.going) c.outcome_of.ensures

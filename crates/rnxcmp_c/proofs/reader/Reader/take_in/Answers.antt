@@ -7,7 +7,7 @@ use Rattle.rnxcmp_c.proofs.reader.Reader.take_in.Goals as goal
 pub returns-then-is_some : goal.returns-then-is_some
 returns-then-is_some c = λ (task : Task) (past : HandlePast) stands.
     misused-by task c.args.self.now past c.args.bytes.now c.misused.result c.misused.ensures
-      c.args.self.now.outcome
+    c.args.self.now.outcome
     (sym c.is_some.ensures ∙ c.if-is_some.true)
 
 pub returns : goal.returns
@@ -17,5 +17,5 @@ returns c = λ (task : Task) (past : HandlePast) stands.
     c.take_allowed-used.result c.answer-answer.result c.allowed-first.ensures c.answer-answer.ensures
     c.args.self.now.outcome (sym c.is_some.ensures ∙ c.if-is_some.false) stands
     (λ runs none some. made.over none some task past runs)
-      (λ runs some. made.fed some task past runs) made.count
+    (λ runs some. made.fed some task past runs) made.count
     (λ runs some. made.soon some task past runs)
