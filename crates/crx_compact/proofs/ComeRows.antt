@@ -9,7 +9,7 @@ use Rattle.crx_header.specs.meaning.Satellites.{is_among, are_apart}
 use Rattle.crx_header.proofs.Apart.{other_way, new_at}
 use Rattle.crx_rinex.specs.meaning.Observations.{Row}
 use Rattle.crx_compact.specs.meaning.EpochText.{Satellite}
-use Rattle.crx_compact.specs.Placing.{HasCome, PlacedRows, empty_row, padded, padded_among}
+use Rattle.crx_compact.specs.Placing.{HasAskedRoom, HasCome, PlacedRows, empty_row, padded, padded_among}
 use Rattle.crx_compact.specs.Placing.{row_tail_named, row_or_blank}
 use Rattle.crx_compact.specs.Steps.{row_line_after, row_line_in, row_tail_after, row_tail_in}
 use Rattle.crx_compact.specs.Tails.{RowTail}
@@ -66,6 +66,16 @@ found-name name rest row false is deeper = deeper
 pub come-name : (name : List ℕ) (rest : List RowTail) → (row_or_blank name rest).name ≡ name
 come-name name [] = refl
 come-name name (row ∷ rest) = found-name name rest row (bytes_eq row.name name) refl (come-name name rest)
+
+-- ---- one comes after room was asked for
+
+pub come-asked : (name : List ℕ) (old asked new : PlacedRows) → HasAskedRoom old asked
+    → HasCome name asked new → HasCome name old new
+come-asked name old asked new same come =
+    record {
+      rows = come.rows ∙ (λ j. same.rows j ++ row_or_blank name (same.rest j) ∷ []);
+      others = λ other differs. come.others other differs ∙ ap (row_tail_named other) same.rest;
+    }
 
 -- ---- one that hasn't come yet comes
 

@@ -15,6 +15,7 @@ pub mod AnnouncedRows
 pub mod Identifiers
 pub mod Marks
 pub mod Naming
+mod Marked
 pub mod Results
 pub mod ShownEpochs
 pub mod ShownRows

@@ -173,7 +173,7 @@ any-at P (suc n) (suc k) f h e = or-true (P (f 0)) _ (any-at P n k (λ i. f (suc
     or-true true b e = refl
     or-true false b e = e
 
-any-append : (P : List ℕ → Bool) (xs : List (List ℕ)) (x : List ℕ)
+pub any-append : (P : List ℕ → Bool) (xs : List (List ℕ)) (x : List ℕ)
     → list_any P xs ≡ false → P x ≡ false → list_any P (xs ++ x ∷ []) ≡ false
 any-append P [] x h e = ap (λ b. b || false) e
 any-append P (y ∷ ys) x h e = both (P y) (list_any P ys) (list_any P (ys ++ x ∷ [])) h

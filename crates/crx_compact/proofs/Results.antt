@@ -1,6 +1,7 @@
 -- Good results come from good results.
 use Rattle.std.specs.Prelude.{◌≡◌, refl, Bool, true, false, not, List}
 use Rattle.std.specs.Prelude.{◌∷◌, Result, Ok, Err, OnOk, OnErr, IfOk}
+use Rattle.std.specs.Prelude.{Option, None, Some, IfSome, is_some}
 use Rattle.std.specs.Prelude.{if◌then◌else◌}
 use Rattle.std.specs.Result.{is_ok}
 use Rattle.std.proofs.Common.{sym, ap, subst, true≢false}
@@ -55,6 +56,15 @@ by_ok (Err e) good x = absurd (true≢false (sym good))
 
 pub from_ok : {T E : Type 0} (P : T → Type 0) (r : Result T E) (x : T) → r ≡ Ok x → IfOk r P → P x
 from_ok P r x is h = subst (λ q. IfOk q P) is h
+
+-- ---- the same of options
+
+pub from_some : {T : Type 0} (P : T → Type 0) (o : Option T) (x : T) → o ≡ Some x → IfSome o P → P x
+from_some P o x is h = subst (λ q. IfSome q P) is h
+
+pub some-otherwise : {T : Type 0} (o : Option T) → (o ≡ None → ⊥) → is_some o ≡ true
+some-otherwise (Some x) other = refl
+some-otherwise None other = absurd (other refl)
 
 -- ---- a refusal that is handed on
 

@@ -10,7 +10,7 @@ ghost use Rattle.crx_header.specs.meaning.EpochColumns.{begins_epoch, epoch_coun
 ghost use Rattle.crx_rinex.specs.Epochs.{is_full_epoch, with_row};
 ghost use Rattle.crx_rinex.specs.meaning.Epochs.{IsSoundEpoch, has_satellite};
 ghost use Rattle.crx_rinex.specs.meaning.Observations.{Row};
-ghost use Rattle.crx_header.specs.meaning.Satellites.{types_of_satellite};
+ghost use Rattle.crx_header.specs.meaning.Satellites.{is_among, types_of_satellite};
 ghost use Rattle.crx_rinex.specs.meaning.Printing.{printed_head, printed_row};
 ghost use Rattle.crx_compact.specs.ArcSteps.{shown_value};
 ghost use Rattle.crx_compact.specs.EncodingRooms.{HasRoomForEpoch, encoding_room};
@@ -18,7 +18,7 @@ ghost use Rattle.crx_compact.specs.HeldRows.{IsAwaitedSatellite, past_of_tail, r
 ghost use Rattle.crx_compact.specs.LineLists.{HasTakenLine};
 ghost use Rattle.crx_compact.specs.meaning.CompactPlaces.{clock_line_read, satellites_of_line, satellites_of_text};
 ghost use Rattle.crx_compact.specs.meaning.EpochText.{Satellite, names_in, satellites_named};
-ghost use Rattle.crx_compact.specs.Placing.{HasAllowedCount, HasAskedRoom, HasRoom, HasSameTexts, HaveNamesRoom, HaveRoom, HaveTypesRoom, IsAnnounced, IsBetween, IsRowRead, KeepsRooms, padded, padded_among, room_of_types, row_of_parts, row_room, satellite_of, tail_of_history};
+ghost use Rattle.crx_compact.specs.Placing.{HasAllowedCount, HasAskedRoom, HasCome, HasRoom, HasSameTexts, HaveNamesRoom, HaveRoom, HaveTypesRoom, IsAnnounced, IsBetween, IsRowRead, KeepsRooms, padded, padded_among, room_of_types, row_of_parts, row_room, satellite_of, tail_of_history};
 ghost use Rattle.crx_compact.specs.Written.{AreRowsWritten, epoch_by_rows};
 ghost use Rattle.crx_rinex.specs.meaning.SatelliteLines.{IsSoundRow};
 ghost use Rattle.crx_compact.specs.PrintedBlocks.{printed_room};
@@ -195,10 +195,9 @@ impl History {
             ≤ lines.old.free_bytes + lines.new.all_bytes) }
     {
         let count = values.len();
-        if !self.satellites.place(name)? {
+        if !self.satellites.place_or_add(name, count)? {
             return Ok(false);
         }
-        self.satellites.make_room_last(count)?;
         lines.make_room(1, CELL_ROOM * count + 2 * TYPES_LIMIT + 1)?;
         let last = self.satellites.placed() - 1;
         lines.put_row(&mut self.satellites, last, values, flags, part);
@@ -609,8 +608,7 @@ fn read_names(
         let Some(cells) = types_of_satellite(types, &name) else {
             return Err(Fault::BadSatellite);
         };
-        have_room(types, text, count, satellites, name, cells)?;
-        if !satellites.place(name).unwrap() {
+        if !place_name(types, text, count, satellites, name, cells)? {
             return Err(Fault::RepeatedSatellite);
         }
         satellites.resize_last(cells);
@@ -618,23 +616,26 @@ fn read_names(
     Ok(())
 }
 
-/// Makes sure that a satellite of an epoch text has room for so many types. Mostly it has; else room is asked for all of the text at
-/// once, and only where none has a fault. No row changes.
+/// Has a satellite of an epoch text come, with room for so many types; `false` comes where it has come already. Mostly it has the room;
+/// else room is asked for all of the text at once, and only where none has a fault.
 #[inline(always)]
-fn have_room(
+fn place_name(
     types: &Types,
     text: &[u8],
     count: usize,
     satellites: &mut Satellites,
     name: [u8; NAME_WIDTH],
     cells: usize,
-) -> Result<(), Fault>
+) -> Result<bool, Fault>
     requires few { count ≤ SATELLITES_LIMIT }
     requires there { (place : ℕ) × (place < count)
         × (name ≡ columns text.now (HEAD_WIDTH + 1 + NAME_WIDTH * place) NAME_WIDTH)
         × (types_of_satellite types.now name ≡ Some cells) }
-    ensures asked { HasAskedRoom satellites.old satellites.new }
-    ensures room { OnOk result (HasRoom name cells satellites.new.rooms) }
+    ensures answer { IfOk result (λ is_new. is_new
+        ≡ not (is_among (λ (row : RowTail). row.name) name satellites.old.rows)) }
+    ensures come { IfOk result (λ is_new. is_new ≡ true → HasCome name satellites.old satellites.new) }
+    ensures room { IfOk result (λ is_new. is_new ≡ true → HasRoom name cells satellites.new.rooms) }
+    ensures rooms { KeepsRooms satellites.old.rooms satellites.new.rooms }
     ensures err { IfErr result (IsRefused (satellites_named types.now [] (names_in text.now count))) }
     ensures unasked { IfErr result (λ fault. (fault ≡ Fault.OutOfMemory → ⊥)
         → satellites.new ≡ satellites.old) }
@@ -644,8 +645,9 @@ fn have_room(
         → satellites_named types.now [] (names_in text.now count) ≡ Ok named
         → HaveNamesRoom types.now text.now count satellites.old.rooms → IsOk result }
 {
-    if satellites.has_room(name, cells) {
-        return Ok(());
+    if let Some(is_new) = satellites.place(name, cells) {
+        return Ok(is_new);
     }
-    prepare_names(types, text, count, satellites)
+    prepare_names(types, text, count, satellites)?;
+    Ok(satellites.place(name, cells).unwrap())
 }

@@ -1,13 +1,13 @@
 //! The faults of an epoch text's satellites, and room for them: Hatanaka's Compact RINEX 3.0, epoch line. The faults are found before
 //! memory is asked for, so that a line with a fault is answered by it and takes none, and `OutOfMemory` comes only at a line without one.
 
-ghost use Rattle.std.specs.Prelude.{◌≡◌, ◌≤◌, List, [], ℕ, Ok, Err, None, IfSome, OnOk, IfErr, IsOk, true};
+ghost use Rattle.std.specs.Prelude.{◌≡◌, ◌≤◌, ◌<◌, List, [], ℕ, Ok, Err, None, IfSome, OnOk, IfErr, IsOk, true};
 ghost use Rattle.std.specs.Result.{is_ok};
 ghost use Rattle.crx_base.specs.declared.limits.TheConstants.{SATELLITES_LIMIT};
 ghost use Rattle.crx_header.specs.meaning.Satellites.{is_among};
 ghost use Rattle.crx_compact.specs.meaning.EpochText.{Satellite, names_in, satellites_named};
 ghost use Rattle.crx_compact.specs.Placing.{HasAskedRoom, HaveNamesRoom};
-ghost use Rattle.crx_compact.specs.Refusals.{IsRefused};
+ghost use Rattle.crx_compact.specs.Refusals.{AreMarked, IsRefused, mark_place};
 
 use crate::satellites::Satellites;
 use crx_base::Fault;
@@ -16,11 +16,27 @@ use crx_header::{Types, identifier};
 use crx_rinex::types_of_satellite;
 use std::alloc::AllocError;
 
-/// Whether an identifier is one of the first so many of an epoch text.
-fn is_among_first(text: &[u8], count: usize, name: [u8; NAME_WIDTH]) -> bool
+/// How many places there are for marks of identifiers.
+const MARKS: usize = 2048;
+
+/// The place of an identifier's mark. The 770 identifiers that there are have 760 places: few share one.
+fn place_of_mark(name: [u8; NAME_WIDTH]) -> usize
+    ensures value { result ≡ mark_place name }
+    ensures within { result < MARKS }
+{
+    (604 * usize::from(name[0]) + 10 * usize::from(name[1]) + usize::from(name[2])) % MARKS
+}
+
+/// Whether an identifier is one of the first so many of an epoch text, which are all marked. One that isn't marked is none of them: mostly
+/// it needn't be compared with each, which would take 20 instructions for each two of an epoch's satellites.
+fn is_among_first(text: &[u8], count: usize, name: [u8; NAME_WIDTH], marks: &[bool; MARKS]) -> bool
     requires few { count ≤ SATELLITES_LIMIT }
+    requires marked { AreMarked (names_in text.now count) marks.now }
     ensures { result ≡ is_among (λ (n : List ℕ). n) name (names_in text.now count) }
 {
+    if !marks[place_of_mark(name)] {
+        return false;
+    }
     for place in 0..count {
         if identifier(text, HEAD_WIDTH + 1 + NAME_WIDTH * place) == name {
             return true;
@@ -37,14 +53,16 @@ fn fault_of_names(types: &Types, text: &[u8], count: usize) -> Option<Fault>
     ensures no_memory { IfSome result (λ fault. fault ≡ Fault.OutOfMemory → ⊥) }
     ensures none { result ≡ None → is_ok (satellites_named types.now [] (names_in text.now count)) ≡ true }
 {
+    let mut marks = [false; MARKS];
     for place in 0..count {
         let name = identifier(text, HEAD_WIDTH + 1 + NAME_WIDTH * place);
         if types_of_satellite(types, &name).is_none() {
             return Some(Fault::BadSatellite);
         }
-        if is_among_first(text, place, name) {
+        if is_among_first(text, place, name, &marks) {
             return Some(Fault::RepeatedSatellite);
         }
+        marks[place_of_mark(name)] = true;
     }
     None
 }

@@ -109,92 +109,96 @@ impl Satellites {
         self.placed
     }
 
-    /// The satellite with an identifier comes: what is stored of it is the next row. `false` comes where it has come already, and then
-    /// nothing changes.
+    /// The satellite with an identifier comes, where it is known and has room for so many types: what is stored of it is the next row.
+    /// `false` comes where it has come already, and `None` where it isn't known or has too little room; then nothing changes.
     ///
-    /// The next one in the order of the epoch before mostly comes, which one comparison finds. `AllocError` comes only where it isn't
-    /// known, and then nothing changes.
+    /// The next one in the order of the epoch before mostly comes, which one comparison finds.
     #[inline(always)]
-    pub(crate) fn place(&mut self, name: [u8; NAME_WIDTH]) -> Result<bool, AllocError>
-        ensures answer { IfOk result (λ is_new. is_new
+    pub(crate) fn place(&mut self, name: [u8; NAME_WIDTH], count: usize) -> Option<bool>
+        ensures answer { IfSome result (λ is_new. is_new
             ≡ not (is_among (λ (row : RowTail). row.name) name self.old.rows)) }
-        ensures come { IfOk result (λ is_new. is_new ≡ true → HasCome name self.old self.new) }
-        ensures repeated { IfOk result (λ is_new. is_new ≡ false → self.new ≡ self.old) }
-        ensures err { OnErr result (is_among (λ (row : RowTail). row.name) name self.old.rows ≡ false) }
-        ensures unchanged { OnErr result (self.new ≡ self.old) }
+        ensures come { IfSome result (λ is_new. is_new ≡ true → HasCome name self.old self.new) }
+        ensures repeated { IfSome result (λ is_new. is_new ≡ false → self.new ≡ self.old) }
+        ensures room { IfSome result (λ is_new. is_new ≡ true → HasRoom name count self.old.rooms) }
+        ensures absent { result ≡ None → is_among (λ (row : RowTail). row.name) name self.old.rows ≡ false }
+        ensures unchanged { result ≡ None → self.new ≡ self.old }
+        ensures known { result ≡ None → HasRoom name count self.old.rooms → ⊥ }
         ensures rooms { KeepsRooms self.old.rooms self.new.rooms }
-        ensures known { HasRoom name 0 self.old.rooms → IsOk result }
-        ensures back { HasRoom name 0 self.old.rooms → KeepsRooms self.new.rooms self.old.rooms }
+        ensures back { KeepsRooms self.new.rooms self.old.rooms }
     {
         if self.placed < self.live && is_same_identifier(key_at(&self.known, self.placed), name) {
+            if !has_room_at(&self.known, self.placed, count) {
+                return None;
+            }
             self.placed += 1;
-            return Ok(true);
+            return Some(true);
         }
-        self.bring(name)
+        self.bring(name, count)
     }
 
     /// The satellite with an identifier comes, for [`Satellites::place`], where it isn't the next one in the order of the epoch before.
     #[inline(never)]
-    fn bring(&mut self, name: [u8; NAME_WIDTH]) -> Result<bool, AllocError>
-        ensures answer { IfOk result (λ is_new. is_new
+    fn bring(&mut self, name: [u8; NAME_WIDTH], count: usize) -> Option<bool>
+        ensures answer { IfSome result (λ is_new. is_new
             ≡ not (is_among (λ (row : RowTail). row.name) name self.old.rows)) }
-        ensures come { IfOk result (λ is_new. is_new ≡ true → HasCome name self.old self.new) }
-        ensures repeated { IfOk result (λ is_new. is_new ≡ false → self.new ≡ self.old) }
-        ensures err { OnErr result (is_among (λ (row : RowTail). row.name) name self.old.rows ≡ false) }
-        ensures unchanged { OnErr result (self.new ≡ self.old) }
+        ensures come { IfSome result (λ is_new. is_new ≡ true → HasCome name self.old self.new) }
+        ensures repeated { IfSome result (λ is_new. is_new ≡ false → self.new ≡ self.old) }
+        ensures room { IfSome result (λ is_new. is_new ≡ true → HasRoom name count self.old.rooms) }
+        ensures absent { result ≡ None → is_among (λ (row : RowTail). row.name) name self.old.rows ≡ false }
+        ensures unchanged { result ≡ None → self.new ≡ self.old }
+        ensures known { result ≡ None → HasRoom name count self.old.rooms → ⊥ }
         ensures rooms { KeepsRooms self.old.rooms self.new.rooms }
-        ensures known { HasRoom name 0 self.old.rooms → IsOk result }
-        ensures back { HasRoom name 0 self.old.rooms → KeepsRooms self.new.rooms self.old.rooms }
+        ensures back { KeepsRooms self.new.rooms self.old.rooms }
     {
-        // There are fewer than 2^63: the length's clauses say so.
-        let _count = self.known.len();
         let behind = self.placed.saturating_add(self.ahead);
         let near = likely_index(&self.known, self.last, behind, name);
-        let found = find_or_add(&mut self.known, near, name, self.alloc)?;
+        let Some(found) = find(&self.known, near, name) else {
+            return None;
+        };
         if found < self.placed {
-            return Ok(false);
+            return Some(false);
+        }
+        if !has_room_at(&self.known, found, count) {
+            return None;
         }
         if found < self.live {
             put_next(&mut self.known, self.placed, found);
             self.ahead = found - self.placed;
             self.last = found;
             self.placed += 1;
-            return Ok(true);
+            return Some(true);
         }
         revive(&mut self.known, self.live, found);
         put_next(&mut self.known, self.placed, self.live);
         self.last = self.live;
         self.live += 1;
         self.placed += 1;
-        Ok(true)
+        Some(true)
     }
 
-    /// Whether a satellite is known, and has room for so many types. The one that comes next is mostly the next one in the order of the
-    /// epoch before, which one comparison finds. Where another one is found is noted, so that [`Satellites::place`] finds it there.
+    /// The satellite with an identifier comes, as by [`Satellites::place`]. Where it isn't known or has too little room, room is asked for
+    /// first.
     #[inline(always)]
-    pub(crate) fn has_room(&mut self, name: [u8; NAME_WIDTH], count: usize) -> bool
-        ensures there { result ≡ true → HasRoom name count self.old.rooms }
-        ensures same { self.new ≡ self.old }
+    pub(crate) fn place_or_add(
+        &mut self,
+        name: [u8; NAME_WIDTH],
+        count: usize,
+    ) -> Result<bool, AllocError>
+        requires allowed { count ≤ TYPES_LIMIT }
+        ensures answer { IfOk result (λ is_new. is_new
+            ≡ not (is_among (λ (row : RowTail). row.name) name self.old.rows)) }
+        ensures come { IfOk result (λ is_new. is_new ≡ true → HasCome name self.old self.new) }
+        ensures repeated { IfOk result (λ is_new. is_new ≡ false → self.new ≡ self.old) }
+        ensures room { IfOk result (λ is_new. is_new ≡ true → HasRoom name count self.new.rooms) }
+        ensures err { OnErr result (is_among (λ (row : RowTail). row.name) name self.old.rows ≡ false) }
+        ensures rooms { KeepsRooms self.old.rooms self.new.rooms }
+        ensures known { HasRoom name count self.old.rooms → IsOk result }
     {
-        if self.placed < self.live && is_same_identifier(key_at(&self.known, self.placed), name) {
-            return has_room_at(&self.known, self.placed, count);
+        if let Some(is_new) = self.place(name, count) {
+            return Ok(is_new);
         }
-        self.finds_room(name, count)
-    }
-
-    /// Whether a satellite has room, for [`Satellites::has_room`], where it isn't the next one in the order of the epoch before.
-    #[inline(never)]
-    fn finds_room(&mut self, name: [u8; NAME_WIDTH], count: usize) -> bool
-        ensures there { result ≡ true → HasRoom name count self.old.rooms }
-        ensures same { self.new ≡ self.old }
-    {
-        let behind = self.placed.saturating_add(self.ahead);
-        let near = likely_index(&self.known, self.last, behind, name);
-        let Some(found) = find(&self.known, near, name) else {
-            return false;
-        };
-        self.last = found;
-        has_room_at(&self.known, found, count)
+        self.prepare(name, count)?;
+        Ok(self.place(name, count).unwrap())
     }
 
     /// Asks for room for a satellite of so many types, which mostly is the one behind that of the call before. No row changes, and after `Ok`
@@ -210,21 +214,6 @@ impl Satellites {
         let found = find_or_add(&mut self.known, near, name, self.alloc)?;
         self.last = found;
         let (_, satellite) = self.known.pair_mut(found);
-        satellite.make_room(count)
-    }
-
-    /// Asks for room for so many types of the satellite that came last. No row changes.
-    #[inline(always)]
-    pub(crate) fn make_room_last(&mut self, count: usize) -> Result<(), AllocError>
-        requires some { 0 < length self.old.rows }
-        requires allowed { count ≤ TYPES_LIMIT }
-        ensures asked { HasAskedRoom self.old self.new }
-        ensures room { OnOk result ((before : List RowTail) (row : RowTail) → self.old.rows ≡ before ++ row ∷ []
-            → HasRoom row.name count self.new.rooms) }
-        ensures known { (before : List RowTail) (row : RowTail) → self.old.rows ≡ before ++ row ∷ []
-            → HasRoom row.name count self.old.rooms → IsOk result }
-    {
-        let (_, satellite) = self.known.pair_mut(self.placed - 1);
         satellite.make_room(count)
     }
 
@@ -400,7 +389,9 @@ fn has_room_at(
     satellite.has_room(count)
 }
 
-/// The index of the satellite with an identifier, where it is known. It is looked for at one index first.
+/// The index of the satellite with an identifier, where it is known. It is looked for at one index first. Part of its callers, as a call
+/// takes 12 instructions for each satellite that comes in another order.
+#[inline(always)]
 fn find(
     map: &IndexMap<[u8; NAME_WIDTH], SatelliteHistory>,
     near: usize,
@@ -429,8 +420,6 @@ fn find_or_add(
     ensures unknown { OnErr result (is_among key_of name map.old.entries ≡ false) }
     ensures unchanged { OnErr result (map.new.entries ≡ map.old.entries) }
     ensures asked { OnErr result (spare map.old ≡ 0) }
-    ensures kept { is_some (lookup (bytes_eq name) map.old.entries) ≡ true
-        → map.new.entries ≡ map.old.entries }
     ensures unique { IsUnique bytes_eq map.new }
     ensures small { IfOk result (λ found. found < 2 ^ 63) }
 {

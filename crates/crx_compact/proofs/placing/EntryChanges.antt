@@ -1,10 +1,10 @@
 -- One entry of the map gets another value.
 use Rattle.std.proofs.Common.{◌≡◌, ℕ, zero, suc, ◌<◌, ◌≤◌, List, [], ◌∷◌, length, map}
 use Rattle.std.proofs.Common.{take, drop, set, slice_get, Some, refl, ap, sym, ◌∙◌, inl, inr, arith}
-use Rattle.std.proofs.Common.{slice_set, length-set, subst}
+use Rattle.std.proofs.Common.{slice_set, length-set, subst, Bool, true, false, IsTrue, ◌↔◌}
 use Rattle.std.specs.Cmp.{IsEquivalence}
 use Rattle.std.specs.Str.{bytes_eq}
-use Rattle.std.proofs.lemmas.Bool.{cases_Bool, cond-true, cond-false}
+use Rattle.std.proofs.lemmas.Bool.{cases_Bool, cond-true, cond-false, false≢true}
 use Rattle.std.proofs.lemmas.List.{drop-set-lt, get_or-set_same, map-set}
 use Rattle.std.proofs.lemmas.Map.Entries.{hash_map_get_place}
 use Rattle.std.proofs.lemmas.Option.{same_Some, slice_get_read}
@@ -13,7 +13,7 @@ use Rattle.std.proofs.Math.Seq.{take-set-lt}
 use Rattle.indexmap.proofs.CallerLemmas.{updates-with_value_at}
 use Rattle.indexmap.specs.IndexMap.{IndexMap, IsUnique, get, set_value_at}
 use Rattle.crx_header.proofs.Apart.{other_way}
-use Rattle.crx_compact.specs.Entries.{Entry, rooms_of}
+use Rattle.crx_compact.specs.Entries.{Entry, IsFound, rooms_of}
 use Rattle.crx_compact.specs.Placing.{HasRoom, KeepsRooms, SatelliteTail, row_tail_of, row_of_entry}
 use Rattle.crx_compact.proofs.Characters.{bytes_eq-same}
 use Rattle.crx_compact.proofs.placing.Rooms.{known-room, room-from_look_up, rooms-kept}
@@ -138,3 +138,19 @@ module _ {S : Type 0} (m : IndexMap (List ℕ) SatelliteTail S) (i : ℕ) (name 
       room-from_look_up name count (set_value_at m.entries i after) after
       (updates.0 name ∙ cond-true (bytes_eq name name) (Some after) (get bytes_eq m name)
       (bytes_eq-same name)) within
+
+-- ---- the room of a satellite that is found
+
+module _ {S : Type 0} (m : IndexMap (List ℕ) SatelliteTail S) (found : ℕ) (name : List ℕ)
+    (is : IsFound name found m.entries m.entries) (unique : IsUnique bytes_eq m) (count : ℕ) (has : Bool)
+    (answer : (entry : Entry) → slice_get m.entries found ≡ Some entry → IsTrue has ↔ (count ≤ entry.1.room))
+  where
+    pub enough-room : has ≡ true → HasRoom name count (rooms_of m.entries)
+    enough-room roomy =
+        room-here m found name is.satellite is.satellite unique is.there count ((answer _ is.there).0 roomy)
+
+    pub little-room : has ≡ false → HasRoom name count (rooms_of m.entries) → ⊥
+    little-room full room =
+        false≢true (sym full
+        ∙ (answer _ is.there).1
+        (room-there m found name is.satellite is.satellite unique is.there count room))

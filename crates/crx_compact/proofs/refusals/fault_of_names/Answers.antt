@@ -1,9 +1,9 @@
 use Rattle.std.proofs.Common.{◌≡◌, ◌+◌, ◌*◌, ◌++◌, ◌∷◌, [], ℕ, List, Bool, not, true, false, map, Option}
 use Rattle.std.proofs.Common.{Some, None}
-use Rattle.std.proofs.Common.{sym, ap, ◌∙◌, arith, drop, refl}
+use Rattle.std.proofs.Common.{sym, ap, ◌∙◌, ◌<◌, arith, drop, refl, slice_set, subst}
 use Rattle.std.specs.Result.{is_ok}
 use Rattle.std.specs.Option.{is_some}
-use Rattle.std.proofs.lemmas.List.{map-append}
+use Rattle.std.proofs.lemmas.List.{length-set, map-append}
 use Rattle.std.specs.List.{list_any}
 use Rattle.std.specs.Str.{bytes_eq}
 use Rattle.crx_text.specs.meaning.Columns.{columns}
@@ -12,6 +12,8 @@ use Rattle.crx_header.proofs.Apart.{among-map}
 use Rattle.crx_text.proofs.EachPlace.{drop_all-each_place, each_place-more}
 use Rattle.crx_compact.specs.meaning.EpochText.{Satellite, names_in}
 use Rattle.crx_compact.proofs.Naming.{named-all, named-bad, named-more, named-twice, next-name}
+use Rattle.crx_compact.specs.Refusals.{AreMarked, mark_place}
+use Rattle.crx_compact.proofs.Marked.{marked-more}
 use Rattle.crx_compact.proofs.refusals.fault_of_names.Goals as goal
 
 -- no types are known of a satellite
@@ -76,7 +78,19 @@ loop-place-preserved c =
           ∙ ap (λ (n : List ℕ). map (λ (s : Satellite). s.name) found.0 ++ n ∷ [])
           (sym c.identifier-name.ensures.value)
           ∙ sym (map-append (λ (s : Satellite). s.name) found.0 (satellite ∷ [])),
+      rw (c.place_of_mark.ensures.value)
+          (subst (λ (names : List (List ℕ)).
+          AreMarked names (slice_set c.loop-place.marks (mark_place name) true))
+          (ap (λ (n : List ℕ). names_in text place ++ n ∷ []) c.identifier-name.ensures.value
+          ∙ sym (each_place-more place (λ k. columns text (42 + 3 * k) 3)))
+          (marked-more (names_in text place) name c.loop-place.marks
+          (subst (λ n. mark_place name < n) (sym found.4)
+          (subst (λ n. n < 2048) c.place_of_mark.ensures.value c.place_of_mark.ensures.within)) found.3)),
+      length-set c.loop-place.marks c.place_of_mark.result true ∙ found.4,
     )
+
+pub is_among_first-requires-clause-marked : goal.is_among_first-requires-clause-marked
+is_among_first-requires-clause-marked c = c.loop-place.invariant.3
 
 pub returns-clause-none : goal.returns-clause-none
 returns-clause-none c = λ out.

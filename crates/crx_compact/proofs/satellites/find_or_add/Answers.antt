@@ -1,5 +1,4 @@
 use Rattle.std.proofs.Common.{refl, sym, subst, ◌∙◌}
-use Rattle.std.proofs.lemmas.Bool.{false≢true}
 use Rattle.std.specs.Str.{bytes_eq}
 use Rattle.indexmap.proofs.CallerLemmas.{insert_entry-new}
 use Rattle.crx_compact.specs.Entries.{IsFound}
@@ -17,6 +16,3 @@ returns-in-Ok-clause-found c =
 
 pub returns-clause-unknown : goal.returns-clause-unknown
 returns-clause-unknown c = not-found c.args.name c.args.map.now.entries (c.in_default.ensures.unknown refl)
-
-pub returns-in-Ok-clause-kept : goal.returns-in-Ok-clause-kept
-returns-in-Ok-clause-kept c known = absurd (false≢true (sym (c.in_default.ensures.unknown refl) ∙ known))
