@@ -1,7 +1,8 @@
 # make        proves and builds the program (crates.mk), compacts the sample with it, expands that again and compares,
 #             and shows what was written
-# make test   runs the gate: proofs from nothing, wrong bodies, the program's stored run, and tests; then the
-#             built program over whole texts, as a process, by the recipes of docs/ARCHIVES.md, and by the commands in print
+# make test   runs the gate: proofs (from nothing, but for what a gate has passed on this machine), wrong bodies, the program's stored
+#             run, and tests; then the built program over whole texts, as a process, by the recipes of docs/ARCHIVES.md, and by the
+#             commands in print
 # make quick  proves what changed of the program, and of other crates that were proved here, and runs the tests of the built program:
 #             without the tests in Rattle and without wrong bodies (what the prover prints goes into out/logs)
 # make proofs proves all crates, but for their tests in Rattle
