@@ -189,15 +189,15 @@ def ci(program):
 
 
 def take_over(began):
-    """Takes the libraries that `rt ci` has proved since then for those that crates.mk would make, each as old as it is: all of them, or none
-    where one isn't there."""
-    made = {path.parents[2].name: path for path in CRATES.glob("*/out/rlib/*.rlib") if (path / "format").stat().st_mtime >= began}
+    """Takes the libraries that `rt ci` has passed for those that crates.mk would make: one that it has proved since then is as old as it is, and
+    one that it has kept from an earlier run as old as this run. It takes all of them, or none where one isn't there."""
+    made = {path.parents[2].name: path for path in CRATES.glob("*/out/rlib/*.rlib")}
     if "crx_filter" not in made:
         return
     for crate, path in made.items():
         shutil.rmtree(PROVED / path.name, ignore_errors=True)
         shutil.copytree(path, PROVED / path.name, copy_function=os.link)
-        stamp, made_at = PROVED / f"{crate}.made", (path / "format").stat().st_mtime
+        stamp, made_at = PROVED / f"{crate}.made", max((path / "format").stat().st_mtime, began)
         stamp.touch()
         os.utime(stamp, (made_at, made_at))
 
