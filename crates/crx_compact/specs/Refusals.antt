@@ -8,7 +8,7 @@ use Rattle.crx_header.specs.meaning.Satellites.{is_among}
 use Rattle.crx_base.specs.declared.fault.Fault.TheVariants.{OutOfMemory}
 
 -- what a line makes, or its fault, by which it is refused; where memory is wanting, it has none
-pub record IsRefused {X : Type 0} (made : Result X Fault) (fault : Fault) : Type 0 where
+pub record AnswersRefusal {X : Type 0} (made : Result X Fault) (fault : Fault) : Type 0 where
   pub answered : (made ≡ Err fault) ⊎ (fault ≡ OutOfMemory)
   pub memory : fault ≡ OutOfMemory → is_ok made ≡ true
 

@@ -22,7 +22,7 @@ ghost use Rattle.crx_compact.specs.Placing.{HasAllowedCount, HasAskedRoom, HasCo
 ghost use Rattle.crx_compact.specs.Written.{AreRowsWritten, epoch_by_rows};
 ghost use Rattle.crx_rinex.specs.meaning.SatelliteLines.{IsSoundRow};
 ghost use Rattle.crx_compact.specs.PrintedBlocks.{printed_room};
-ghost use Rattle.crx_compact.specs.Refusals.{IsRefused};
+ghost use Rattle.crx_compact.specs.Refusals.{AnswersRefusal};
 ghost use Rattle.crx_compact.specs.RowsSoFar.{HasClock};
 ghost use Rattle.crx_compact.specs.ShownRows.{shown_epoch, shown_row};
 ghost use Rattle.crx_compact.specs.Steps.{lines_after_tail, no_tail, tail_after, tail_named};
@@ -554,7 +554,7 @@ fn read_satellites(types: &Types, text: &[u8], satellites: &mut Satellites) -> R
         × (satellites.new.rows ≡ map (padded_among satellites.old.rest) named)
         × All IsAwaitedSatellite named) }
     // Memory runs out only at a text without a fault; at one with a fault none was asked for.
-    ensures err { IfErr result (IsRefused (satellites_of_text types.now text.now)) }
+    ensures err { IfErr result (AnswersRefusal (satellites_of_text types.now text.now)) }
     ensures unasked { IfErr result (λ fault. (fault ≡ Fault.OutOfMemory → ⊥)
         → KeepsRooms satellites.new.rooms satellites.old.rooms) }
     // Where room was asked for before, the answer isn't for want of memory.
@@ -591,7 +591,7 @@ fn read_names(
         × (satellites.new.rows ≡ map (padded_among satellites.old.rest) named)
         × All IsAwaitedSatellite named) }
     // Memory runs out only where no satellite has a fault.
-    ensures err { IfErr result (IsRefused (satellites_named types.now [] (names_in text.now count))) }
+    ensures err { IfErr result (AnswersRefusal (satellites_named types.now [] (names_in text.now count))) }
     ensures unasked { IfErr result (λ fault. (fault ≡ Fault.OutOfMemory → ⊥)
         → KeepsRooms satellites.new.rooms satellites.old.rooms) }
     // Where room was asked for before, the answer isn't for want of memory.
@@ -636,7 +636,7 @@ fn place_name(
     ensures come { IfOk result (λ is_new. is_new ≡ true → HasCome name satellites.old satellites.new) }
     ensures room { IfOk result (λ is_new. is_new ≡ true → HasRoom name cells satellites.new.rooms) }
     ensures rooms { KeepsRooms satellites.old.rooms satellites.new.rooms }
-    ensures err { IfErr result (IsRefused (satellites_named types.now [] (names_in text.now count))) }
+    ensures err { IfErr result (AnswersRefusal (satellites_named types.now [] (names_in text.now count))) }
     ensures unasked { IfErr result (λ fault. (fault ≡ Fault.OutOfMemory → ⊥)
         → satellites.new ≡ satellites.old) }
     ensures back { OnOk result ((is_ok (satellites_named types.now [] (names_in text.now count)) ≡ true)

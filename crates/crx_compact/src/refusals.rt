@@ -7,7 +7,7 @@ ghost use Rattle.crx_base.specs.declared.limits.TheConstants.{SATELLITES_LIMIT};
 ghost use Rattle.crx_header.specs.meaning.Satellites.{is_among};
 ghost use Rattle.crx_compact.specs.meaning.EpochText.{Satellite, names_in, satellites_named};
 ghost use Rattle.crx_compact.specs.Placing.{HasAskedRoom, HaveNamesRoom};
-ghost use Rattle.crx_compact.specs.Refusals.{AreMarked, IsRefused, mark_place};
+ghost use Rattle.crx_compact.specs.Refusals.{AreMarked, AnswersRefusal, mark_place};
 
 use crate::satellites::Satellites;
 use crx_base::Fault;
@@ -81,7 +81,7 @@ pub(crate) fn prepare_names(
     ensures asked { HasAskedRoom satellites.old satellites.new }
     ensures room { OnOk result (HaveNamesRoom types.now text.now count satellites.new.rooms) }
     // Memory runs out only where no satellite has a fault; where one has, none was asked for.
-    ensures err { IfErr result (IsRefused (satellites_named types.now [] (names_in text.now count))) }
+    ensures err { IfErr result (AnswersRefusal (satellites_named types.now [] (names_in text.now count))) }
     ensures unasked { IfErr result (λ fault. (fault ≡ Fault.OutOfMemory → ⊥)
         → satellites.new ≡ satellites.old) }
     ensures good { OnOk result (is_ok (satellites_named types.now [] (names_in text.now count)) ≡ true) }

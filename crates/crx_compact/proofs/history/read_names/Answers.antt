@@ -11,7 +11,7 @@ use Rattle.crx_header.specs.meaning.Satellites.{is_among}
 use Rattle.crx_compact.specs.HeldRows.{IsAwaitedSatellite}
 use Rattle.crx_base.specs.declared.fault.Fault.TheVariants.{BadSatellite, OutOfMemory, RepeatedSatellite}
 use Rattle.crx_base.specs.declared.fault.Fault.{Fault}
-use Rattle.crx_compact.specs.Refusals.{IsRefused}
+use Rattle.crx_compact.specs.Refusals.{AnswersRefusal}
 use Rattle.crx_compact.specs.meaning.EpochText.{Satellite, names_in, satellites_named}
 use Rattle.crx_compact.specs.Placing.{HasRoom, HaveTypesRoom}
 use Rattle.crx_compact.specs.Placing.{KeepsRooms, PlacedRows, padded_among, row_or_blank}
@@ -26,7 +26,7 @@ use Rattle.crx_compact.proofs.history.read_names.Goals as goal
 
 refused-by : {X : Type 0} (fault : Fault) (made : Result X Fault) → (fault ≡ OutOfMemory → ⊥)
     → made ≡ Err fault
-    → IsRefused made fault
+    → AnswersRefusal made fault
 refused-by fault made other is = record { answered = inl is; memory = λ out. absurd (other out) }
 
 -- whether a satellite has come already
