@@ -114,25 +114,14 @@ def failed_messages(program, words, given):
     return wrong
 
 
-def interrupted_writes(program):
-    """A write that was interrupted is repeated."""
+def interrupted(program, call, stream):
+    """A read of standard input, or a write of standard output, that was interrupted is made again."""
     good = Run(program, DATED, MANY)
-    wrong = []
-    for place in good.places("write", 1):
-        run = Run(program, DATED, MANY, f"write:error=EINTR:when={place}")
+    wrong = [] if good.places(call, stream) else [f"no {call}"]
+    for place in good.places(call, stream):
+        run = Run(program, DATED, MANY, f"{call}:error=EINTR:when={place}")
         if (run.status, run.output, run.messages) != (0, good.output, b""):
-            wrong.append(f"write {place}: status {run.status}, messages {run.messages!r}, {len(run.output)} bytes of {len(good.output)}")
-    return wrong
-
-
-def interrupted_reads(program):
-    """A read that was interrupted is repeated, of standard input and of a file."""
-    good = Run(program, DATED, MANY)
-    wrong = [] if good.places("read", 0) else ["no read of the input"]
-    for place in good.places("read", 0):
-        run = Run(program, DATED, MANY, f"read:error=EINTR:when={place}")
-        if (run.status, run.output, run.messages) != (0, good.output, b""):
-            wrong.append(f"read {place}: status {run.status}, messages {run.messages!r}, {len(run.output)} bytes of {len(good.output)}")
+            wrong.append(f"{call} {place}: status {run.status}, messages {run.messages!r}, {len(run.output)} bytes of {len(good.output)}")
     return wrong
 
 
@@ -201,8 +190,8 @@ def checks(program):
         ("reads of a check", lambda: failed_reads(program, ["check"], FIVE)),
         ("messages of warnings", lambda: failed_messages(program, [*DATED, "-s"], BAD_INDICATOR)),
         ("a message of an error", lambda: failed_messages(program, DATED, BAD_INDICATOR)),
-        ("interrupted writes", lambda: interrupted_writes(program)),
-        ("interrupted reads", lambda: interrupted_reads(program)),
+        ("interrupted writes", lambda: interrupted(program, "write", 1)),
+        ("interrupted reads", lambda: interrupted(program, "read", 0)),
         ("files that a run opens", lambda: opened_files(program)),
         ("a close of the output file", lambda: close_of_a_file(program)),
     ):
