@@ -1,11 +1,12 @@
 #!/usr/bin/env python3
 """Measures the greatest resident size of the program: over a usual file, and over files at the limits, with all 770 satellites that there are,
-of 400 types each. It prints the table of bench/README.md, and on how small a stack each command runs.
+of as many types as may be. It prints the table of bench/README.md, and on how small a stack each command runs.
 
     bench/memory.py PROGRAM
 """
 
 import random
+import re
 import subprocess
 import sys
 import tempfile
@@ -15,8 +16,9 @@ from reordered import ENDINGS, LETTERS, header_line
 from run import greatest_memory
 
 HERE = Path(__file__).resolve().parent
-TYPES = (400,) * 4  # of each system, by epoch; where there are more an event says so
-GROWING = (1, 130, 260, 300, 400, 400, 400)
+MOST = int(re.search(r"TYPES_LIMIT: usize = (\d+);", (HERE.parent / "crates/crx_base/src/limits.rt").read_text(encoding="utf-8"))[1])
+TYPES = (MOST,) * 4  # of each system, by epoch; where there are more an event says so
+GROWING = (1, 130, 260, 300, MOST, MOST, MOST)
 NAMES = [letter + ending for letter in LETTERS for ending in ENDINGS]
 STACKS = range(4, 132, 4)  # KiB
 
@@ -77,7 +79,7 @@ def main():
         at_the_limits(growing, GROWING)
         at_the_limits(limits, TYPES)
         print("| Resident at most, kB | compacting | expanding | check |\n|---|---:|---:|---:|")
-        rows = (("a usual file", usual), ("770 satellites whose types become 400", growing), ("770 satellites of 400 types", limits))
+        rows = (("a usual file", usual), (f"770 satellites whose types become {MOST}", growing), (f"770 satellites of {MOST} types", limits))
         for what, source in rows:
             sizes = [resident(program, ["rnx2crx", "--date", "D"], source, packed), resident(program, ["crx2rnx"], packed, other)]
             if other.read_bytes() != source.read_bytes():

@@ -31,18 +31,19 @@ STATED = {
     ),
     "docs/DECISIONS.md": (
         "an input beyond INPUT_LIMIT bytes", "`-e` is from 1 to EVERY.", "LINE_KEPT bytes: a content of LINE_LIMIT, a CR",
-        "two epochs of LINES_OF_EPOCH lines of LINE_ENDED bytes",
+        "two epochs of LINES_OF_EPOCH lines of LINE_ENDED bytes", "stand for PRINTED_ENDED bytes of RINEX",
     ),
     "docs/GUARANTEES.md": (
         "lines of at most LINE_LIMIT bytes", "grows past LINE_LIMIT bytes", "a code from 1 to FAULTS.", "stops after INPUT_LIMIT bytes",
         "has at most INPUT_LIMIT bytes", "a byte past INPUT_LIMIT (2)", "at most INPUT_LIMIT bytes and the date",
-        "some USUAL_MEMORY MB over usual files, and some GREATEST_MEMORY MB at the limits",
+        "some USUAL_MEMORY MB over usual files, and some GREATEST_MEMORY MB at the limits", "at most PRINTED_ENDED times as long as its input",
+        "row of PRINTED_ENDED bytes",
     ),
     "docs/LIBRARY.md": (
         "if the input has at most INPUT_LIMIT bytes and memory", "the input has at most INPUT_LIMIT bytes and the date", "and the input has at most INPUT_LIMIT bytes.",
-        "no line end, at most LINE_KEPT bytes", "over that has some GREATEST_MEMORY MB",
+        "no line end, at most LINE_KEPT bytes", "over that has some GREATEST_MEMORY MB", "at most PRINTED_ENDED times as long as its input",
     ),
-    "docs/PLANNING.md": ("has some USUAL_MEMORY MB over usual files", "has some GREATEST_MEMORY MB (bench"),
+    "docs/PLANNING.md": ("has some USUAL_MEMORY MB over usual files", "has some GREATEST_MEMORY MB (bench", "expanded to PRINTED_ENDED times its size"),
     "docs/USE.md": ("N is from 1 to EVERY", "at most DATE_LIMIT bytes", "lists the FAULTS codes"),
     "packaging/man/rnxcmp.1": (
         "at most DATE_LIMIT bytes", "Limits: LINE_LIMIT bytes a line", "INPUT_LIMIT bytes of input", "TYPES_LIMIT types of a system",
@@ -62,6 +63,8 @@ STATED = {
         "at most LINES_OF_EPOCH lines, of at most LINE_LIMIT bytes each", "COMPACT_LINE bytes each in compact text", "PRINTED_LINE bytes each in RINEX",
     ),
     "crates/crx_laws/src/salvage.rt": ("at most LINE_LIMIT bytes",),
+    "crates/crx_laws/src/sizes.rt": ("at most PRINTED_ENDED times as long as its input", "most_for_a_byte ≡ PRINTED_ENDED }"),
+    "crates/crx_laws/specs/Sizes.antt": ("with its LF, PRINTED_ENDED bytes",),
     "crates/crx_filter/src/line_number.rt": ("at most INPUT_LIMIT lines",),
     "crates/crx_command/src/command.rt": ("N from 1 to EVERY.", "at most EVERY", "at most DATE_LIMIT bytes"),
     "crates/crx_command/src/job.rt": ("more than DATE_LIMIT bytes",),
@@ -88,6 +91,7 @@ def numbers():
     limits = (SOURCES / "limits.rt").read_text(encoding="utf-8")
     command = (TOP / "crates/crx_command/src/command.rt").read_text(encoding="utf-8")
     found = {name: int(number) for name, number in re.findall(r"const (\w+): \w+ = ([\d_]+);", limits)}
+    printed = found["NAME_WIDTH"] + found["CELL_WIDTH"] * found["TYPES_LIMIT"]
     book = Book()
     trusted = book.trusted()
     measured = (TOP / "bench/README.md").read_text(encoding="utf-8")
@@ -97,7 +101,8 @@ def numbers():
         "INPUT_LIMIT": f"2^{found['INPUT_LIMIT'].bit_length() - 1}",
         "LINES_OF_EPOCH": found["SATELLITES_LIMIT"] + 2,
         "COMPACT_LINE": 18 * found["TYPES_LIMIT"],
-        "PRINTED_LINE": found["NAME_WIDTH"] + found["CELL_WIDTH"] * found["TYPES_LIMIT"],
+        "PRINTED_LINE": printed,
+        "PRINTED_ENDED": printed + 1,
         "LINE_KEPT": found["LINE_LIMIT"] + 2,
         "LINE_ENDED": found["LINE_LIMIT"] + 1,
         "INDICATORS": 2 * found["TYPES_LIMIT"],

@@ -9,6 +9,8 @@ from pathlib import Path
 
 TOP = Path(__file__).resolve().parents[1]
 LIBRARY = TOP / "out/library"  # which make library made
+SOURCE = (TOP / "crates/crx_base/src/limits.rt").read_text(encoding="utf-8")
+LIMITS = {name: int(limit) for name, limit in re.findall(r"const (\w+): \w+ = ([\d_]+);", SOURCE)}  # those of the formats, by their names
 
 # programs that a command may need and a machine may lack
 TOOLS = ("awk", "bash", "cmp", "find", "fish", "groff", "gzip", "less", "make", "man", "mandoc", "nproc", "parallel", "sort", "xargs", "zsh")

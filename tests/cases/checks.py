@@ -17,6 +17,8 @@ from dataclasses import dataclass, field
 from pathlib import Path
 from typing import Optional
 
+from checking import LIMITS
+
 HERE = Path(__file__).resolve().parent
 SECONDS = 60  # in which each run is to end
 PIECES = (1, 7)  # bytes that a read of standard input gives, beside all at once
@@ -240,8 +242,8 @@ def all_set(program, systems, types, names):
 
 
 def the_greatest_epoch(program):
-    """All 770 identifiers, with 400 types each: lines of 6403 bytes."""
-    return all_set(program, "GRECJIS", 400, EVERY)
+    """All 770 identifiers, with as many types each as may be."""
+    return all_set(program, "GRECJIS", LIMITS["TYPES_LIMIT"], EVERY)
 
 
 def a_hundred_satellites_of_a_hundred_types(program):
@@ -250,8 +252,9 @@ def a_hundred_satellites_of_a_hundred_types(program):
 
 def one_satellite_more_than_there_are(program):
     """A 771st satellite can't have an identifier of its own."""
-    header = types_header("GRECJIS", 400)
-    data = text_of(header + epoch_with_all_set([*EVERY, "G 0"], 400), "\n")
+    most = LIMITS["TYPES_LIMIT"]
+    header = types_header("GRECJIS", most)
+    data = text_of(header + epoch_with_all_set([*EVERY, "G 0"], most), "\n")
     wanted = Answer(text_of(SHORT["<first two lines>"] + header, "\n"), b"ERROR line 781 code 14: repeated satellite\n", 1, {})
     return compared("rnx2crx", run(program, ["rnx2crx", "--date", "D"], data), wanted)
 

@@ -22,7 +22,10 @@ from dataclasses import dataclass, field
 from functools import lru_cache
 from pathlib import Path
 
-LF, LONGEST = 10, 8192
+sys.path.insert(0, str(Path(__file__).resolve().parents[1]))
+from checking import LIMITS  # noqa: E402
+
+LF, LONGEST = 10, LIMITS["LINE_LIMIT"]
 DAMAGES_OF_A_FILE = 40
 
 

@@ -1,11 +1,14 @@
 """Inputs for the library: the sample, its compact texts, and what comes of them by damage and at random."""
 
+import sys
 from pathlib import Path
 
-from answers import Call, run_program
+sys.path.insert(0, str(Path(__file__).resolve().parents[1]))
+from answers import Call, run_program  # noqa: E402
+from checking import LIMITS, TOP  # noqa: E402
 
-SAMPLE = Path(__file__).resolve().parents[2] / "samples/station.rnx"
-LINE_LIMIT, MOST_TYPES = 8192, 400
+SAMPLE = TOP / "samples/station.rnx"
+LINE_LIMIT, MOST_TYPES = LIMITS["LINE_LIMIT"], LIMITS["TYPES_LIMIT"]
 LETTERS = "GRECJIS"
 NAMES = [f"{letter}{number:{form}}" for letter in LETTERS for form, count in (("02", 100), ("2", 10)) for number in range(count)]
 

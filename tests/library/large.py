@@ -21,13 +21,13 @@ from pathlib import Path
 HERE = Path(__file__).resolve().parent
 TOP = HERE.parents[1]
 sys.path.insert(0, str(HERE))
-from inputs import SAMPLE, header_and_epochs, widest_compact, widest_header, widest_rinex  # noqa: E402
+from inputs import MOST_TYPES, SAMPLE, header_and_epochs, widest_compact, widest_header, widest_rinex  # noqa: E402
 from servers import COUNTED, built  # noqa: E402
 
 LIBRARY = Path(os.environ.get("LIBRARY_TOP", TOP)).resolve() / "out/library"
 DATE = "01-Jan-24 00:00"
 PARTS = ["whole", "bounds", "time", "long"]
-# the most bytes that a handle holds, over usual files and over any: 770 satellites, which is all that there are, of 400 types
+# the most bytes that a handle holds, over usual files and over any: 770 satellites, which is all that there are, of as many types as may be
 USUAL, ANY = 1_000_000, 120_000_000
 # the most time that the loop may take, times the program's
 SLOWER = 1.5
@@ -79,7 +79,7 @@ def inputs(program):
     compact_header, compact_epochs = header_and_epochs(compact)
     strange = epochs.replace(b"\nG", b"\nX")
     (one, other), (first, same, bare) = widest_rinex(), widest_compact()
-    no_end = b"x" * 65536
+    no_end, widest = b"x" * 65536, f"770 satellites of {MOST_TYPES} types"
     yield "good", "rnx2crx", chain([header], repeat(epochs)), True, 1
     yield "good", "crx2rnx", chain([compact_header], repeat(compact_epochs)), True, 1
     yield "good", "check", chain([header], repeat(epochs)), True, 1
@@ -88,10 +88,10 @@ def inputs(program):
         yield "no line end", words, repeat(no_end), True, 1
     yield "no line end after a header", "rnx2crx", chain([header, epochs], repeat(no_end)), True, 1
     yield "no line end after a header", "crx2rnx", chain([compact_header, compact_epochs], repeat(no_end)), True, 1
-    yield "770 satellites of 400 types", "rnx2crx", chain([widest_header(False)], repeat(one + other)), False, 1
-    yield "770 satellites of 400 types", "check", chain([widest_header(False)], repeat(one + other)), False, 1
-    yield "770 satellites of 400 types", "crx2rnx", chain([widest_header(True), first], repeat(same)), False, 1
-    yield "6404 bytes for each", "crx2rnx", chain([widest_header(True), first], repeat(bare)), False, 500
+    yield widest, "rnx2crx", chain([widest_header(False)], repeat(one + other)), False, 1
+    yield widest, "check", chain([widest_header(False)], repeat(one + other)), False, 1
+    yield widest, "crx2rnx", chain([widest_header(True), first], repeat(same)), False, 1
+    yield "the longest row for each byte", "crx2rnx", chain([widest_header(True), first], repeat(bare)), False, 500
 
 
 def fed(process, parts, total):
