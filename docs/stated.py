@@ -1,7 +1,7 @@
 #!/usr/bin/env python3
 """Puts the numbers of the sources into the texts that state them: the limits, how many faults there are, how many definitions one has to
-believe; and what is listed: the faults in the manual page, the options in the completions, the cases in the page of the tests. Who changes a
-limit, or adds a fault, an option or a case, runs `make numbers`; none of these texts needs a hand for it.
+believe; and what is listed: the faults in the manual page, the options in it, in the page of use and in the completions, the cases in the page
+of the tests. Who changes a limit, or adds a fault, an option or a case, runs `make numbers`; none of these texts needs a hand for it.
 
     docs/stated.py           writes them
     docs/stated.py --check   says which text has another number, and ends with status 1 then
@@ -55,6 +55,7 @@ STATED = {
         "where INPUT_LIMIT bytes were taken", "of the last line at most LINE_KEPT bytes",
     ),
     "python/rnxcmp/_calls.py": ("number, from 1 to FAULTS;", "bad date: at most DATE_LIMIT characters", "line, at most DATE_LIMIT printable"),
+    "python/rnxcmp/files.py": ("int(found.every) <= EVERY)", "of -e is from 1 to EVERY"),
     "crates/crx_base/src/fault.rt": ("in messages, from 1 to FAULTS.",),
     "crates/crx_laws/src/compact_laws.rt": ("at most COMPACT_LINE bytes: TYPES_LIMIT codes",),
     "crates/crx_laws/src/compact_reading.rt": ("at most SATELLITES_LIMIT satellites of TYPES_LIMIT types",),
@@ -154,7 +155,7 @@ def with_cases(text):
     return re.sub(r"^(- [^`]*\(`(\w+)`\):)\s+((?:`\w+`(?:,\s+)?)+)\.$", subject, text, flags=re.M)
 
 
-@dataclass
+@dataclass(frozen=True)
 class Option:
     """An option of the command line: its names, each or an empty one, the name of its value where it has one, and what help says of it."""
 
@@ -165,6 +166,9 @@ class Option:
 
     def names(self):
         return [name for name in (self.short, self.long) if name]
+
+    def with_value(self):
+        return " ".join(filter(None, (self.names()[0], self.value)))
 
     def about(self):
         return re.split(r", | \[", self.help)[0]
@@ -220,9 +224,50 @@ def for_fish(text):
     return re.sub(r"(?<=`make numbers` writes\.\n).*?(?=complete -c rnxcmp-file)", lambda m: body, text, flags=re.S)
 
 
+@cache
+def tools_with():
+    """The subcommands that have an option, by the options; the help is left out."""
+    found = {}
+    for tool in HELP:
+        for option in options(tool):
+            if option.long != "--help":
+                found.setdefault(option, []).append(tool)
+    return found
+
+
+def for_use(text):
+    """The page of use with the options of each subcommand, and a row for an option that has none: what help says, which a hand may change."""
+    for tool in HELP:
+        words = "".join(f" [{option.with_value()}]" for option, tools in tools_with().items() if tool in tools)
+        text = re.sub(rf"^(    rnxcmp {tool}).*(?= \[-\] \[FILE\]$)", lambda m, words=words: m[1] + words, text, flags=re.M)
+    for option, tools in tools_with().items():
+        if f"| `{option.with_value()}` |" not in text:
+            named = ", ".join(f"`{tool}`" for tool in tools)
+            row = f"| `{option.with_value()}` | {named} | {option.help[0].lower()}{option.help[1:]} |\n"
+            text = re.sub(r"^(?=\| `-` \|)", lambda m, row=row: row, text, flags=re.M)
+    return text
+
+
+def for_manual(text):
+    """The manual page with the options of each subcommand, and a paragraph for an option that has none, as in the page of use."""
+    for tool in HELP:
+        given = [option.with_value().replace("-", r"\-").split() for option, tools in tools_with().items() if tool in tools]
+        words = "".join(".RB [ " + "\n.IR ".join(parts) + " ]\n" for parts in given)
+        pattern = rf"(?<=^\.B rnxcmp {tool}\n)(?:\.[RI][BR] .*\n)*?(?=\.RB \[ \\- \]$)"
+        text = re.sub(pattern, lambda m, words=words: words, text, count=1, flags=re.M)
+    for option in tools_with():
+        name, *value = option.with_value().replace("-", r"\-").split()
+        if not re.search(rf"^\.BI? {re.escape(name)}\b", text, re.M):
+            title = f'.BI {name} " {value[0]}"' if value else f".B {name}"
+            paragraph = f".TP\n{title}\n{option.help}.\n"
+            text = re.sub(r"^(?=\.TP\n\.B \\-$)", lambda m, paragraph=paragraph: paragraph, text, count=1, flags=re.M)
+    return with_codes(text)
+
+
 # What else a script writes into a text.
 LISTED = {
-    "packaging/man/rnxcmp.1": with_codes,
+    "docs/USE.md": for_use,
+    "packaging/man/rnxcmp.1": for_manual,
     "packaging/completions/rnxcmp.bash": for_bash,
     "packaging/completions/_rnxcmp": for_zsh,
     "packaging/completions/rnxcmp.fish": for_fish,
