@@ -1,4 +1,5 @@
 use Rattle.std.proofs.Common.{◌≡◌, ◌≤◌, ℕ, List, ap, sym, ◌∙◌, arith, length, map, sum}
+use Rattle.crx_base.specs.declared.limits.TheConstants.{TYPES_LIMIT}
 use Rattle.crx_rinex.specs.meaning.Observations.{Row}
 use Rattle.crx_compact.specs.Placing.{row_room}
 use Rattle.crx_compact.proofs.Making.{taken_all}
@@ -10,7 +11,7 @@ loop-row-preserved c =
     let index : ℕ = c.loop-row.index in
     let row : Row = c.in-Some.row.now in
     let many : length c.values.result.now ≡ length row.values = ap length c.values.ensures.value in
-    let few : length row.values ≤ 400 = c.values.ensures.sound.counted.1 in
+    let few : length row.values ≤ TYPES_LIMIT = c.values.ensures.sound.counted.1 in
     let next = sum-next row_room c.args.epoch.now.rows index row (sym c.in-Some.ensures.value) in
     let made = c.loop-row.invariant.made in
     let bounded = c.loop-row.invariant.bounded in

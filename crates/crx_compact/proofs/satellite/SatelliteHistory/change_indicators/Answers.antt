@@ -1,5 +1,6 @@
 use Rattle.std.proofs.Common.{◌≤◌, ◌*◌, ◌++◌, List, ℕ, length, take, ap, arith, sym, ◌∙◌}
 use Rattle.std.proofs.lemmas.List.{length-take}
+use Rattle.crx_base.specs.declared.limits.TheConstants.{TYPES_LIMIT}
 use Rattle.crx_text.specs.meaning.Columns.{without_end_blanks}
 use Rattle.crx_text.specs.meaning.Texts.{by_position, mark_of, text_difference}
 use Rattle.crx_text.proofs.EachPlace.{length-each_place}
@@ -38,10 +39,10 @@ returns-clause-short c =
     let within = c.self.invariant.1 in
     let few = c.self.invariant.2 in
     let kept = few_kept held in
-    let old : length c.args.self.now.flags ≤ 800 =
+    let old : length c.args.self.now.flags ≤ 2 * TYPES_LIMIT =
     omega (arith, own, within, few, kept, length-take (2 * inside.count) inside.indicators.items) in
     let paired = c.requires.paired in
     let most = c.requires.room in
-    let new : length c.args.flags.now ≤ 800 = omega (arith, paired, most, room, few) in
-    let marks = difference-length 800 c.args.self.now.flags c.args.flags.now old new in
+    let new : length c.args.flags.now ≤ 2 * TYPES_LIMIT = omega (arith, paired, most, room, few) in
+    let marks = difference-length (2 * TYPES_LIMIT) c.args.self.now.flags c.args.flags.now old new in
     omega (arith, ap length (returns-clause-marks c), marks)
