@@ -20,7 +20,7 @@ ghost use Rattle.crx_compact.specs.ArcSteps.{arc_of_value, code_of_value};
 use crate::arc::ObsArc;
 use crx_base::Fault;
 use crx_base::limits::{CELL_WIDTH, DIGITS_LIMIT};
-use crx_text::{Code, code_before_blank, obs_print_cell_into, step_before_blank, write_cell};
+use crx_text::{Code, code_before_blank, obs_print_cell, step_before_blank, write_cell};
 
 /// The room for a cell in a satellite line: a code with its order, `&` and minus, and three bytes more, since digits are written four at a
 /// time. The cell's blank is one of the three.
@@ -213,7 +213,7 @@ fn print_cell(arc: &ObsArc, flags: &[u8], first: usize, bytes: &mut [u8], at: us
     ensures { take (at + CELL_WIDTH) bytes.new ≡ take at bytes.old ++ (observation_text (shown_value arc.now)
         ++ slice_index_or flags.now first 32 ∷ slice_index_or flags.now (first + 1) 32 ∷ []) }
 {
-    obs_print_cell_into(arc.value(), flags, first, bytes, at);
+    obs_print_cell(arc.value(), flags, first, bytes, at);
 }
 
 /// Prints the newest values of arcs, each with its two indicators, in place of the bytes from an index on, and gives the index after them.

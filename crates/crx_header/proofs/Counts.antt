@@ -1,22 +1,20 @@
 -- Counts of types, letter by letter: what a map from letters holds is what the lines declare.
-use Rattle.std.proofs.Common.{◌≡◌, ℕ, ◌+◌, ◌<◌, ◌≤◌, suc, length, Bool, true, false, cond, eqb}
-use Rattle.std.proofs.Common.{List, [], ◌∷◌, ◌++◌, Option, Some, None, is_none, IfSome, OnSome, refl, ap, sym}
-use Rattle.std.proofs.Common.{subst}
-use Rattle.std.proofs.Common.{get_or, set, unwrap_or, ◌≢◌}
-use Rattle.std.proofs.Common.{◌∙◌, inl, inr, arith, leb, ◌&&◌}
-use Rattle.std.specs.List.{All, cons_option, list_any}
+use Rattle.std.proofs.Common.{◌≡◌, ℕ, ◌+◌, ◌<◌, ◌≤◌, suc, length, Bool, true, false, cond, eqb, List, [], ◌∷◌}
+use Rattle.std.proofs.Common.{◌++◌, Option, Some, None, is_none, IfSome, OnSome, refl, ap, sym, subst, map}
+use Rattle.std.proofs.Common.{get_or, set, unwrap_or, ◌≢◌, ◌∙◌, inl, inr, arith, leb, ◌&&◌}
+use Rattle.std.specs.List.{All, AllByRecursion, IsDistinct, cons_option, list_any}
+use Rattle.std.proofs.lemmas.Cmp.{nat_eq_equiv}
+use Rattle.std.proofs.lemmas.List.{length-map, append-nil, get_or-set_same, get_or-set_other}
+use Rattle.std.proofs.lemmas.Map.Made.{length-le_from_is_member}
 use Rattle.std.specs.Map.{lookup, set_value}
 use Rattle.std.proofs.lemmas.Bool.{cases_eq, cases_Bool, eq-eqb, ne_eqb, eqb-true, leb-true, and_parts}
-use Rattle.std.proofs.lemmas.Bool.{and_from}
-use Rattle.std.proofs.lemmas.Bool.{false≢true}
-use Rattle.std.proofs.lemmas.List.{append-nil, get_or-set_same, get_or-set_other}
+use Rattle.std.proofs.lemmas.Bool.{and_from, false≢true}
 use Rattle.std.proofs.lemmas.List.Elements.{filter_map-append, All-cons, All-head, All-tail, All-weaker}
 use Rattle.std.proofs.lemmas.Map.Entries.{All-lookup}
 use Rattle.crx_header.specs.meaning.ObservationTypes.{Count, IsAllowedCount, system_letters, is_system}
-use Rattle.crx_header.specs.meaning.ObservationTypes.{count_of}
-use Rattle.crx_header.specs.meaning.ObservationTypes.{without, last_count, last_counts, counts_in}
-use Rattle.crx_header.specs.meaning.ObservationTypes.{count_of_types_line}
-use Rattle.crx_header.specs.meaning.ObservationTypes.{types_of, is_types_line, count_in, count_if_allowed}
+use Rattle.crx_header.specs.meaning.ObservationTypes.{count_of, without, last_count, last_counts, counts_in}
+use Rattle.crx_header.specs.meaning.ObservationTypes.{count_of_types_line, types_of, is_types_line, count_in}
+use Rattle.crx_header.specs.meaning.ObservationTypes.{count_if_allowed}
 use Rattle.crx_header.specs.declared.types.TheConstants.{LETTERS}
 use Rattle.crx_header.specs.ObservationTypes.{AreCounts, AreByLetter, IsCount, letters_differ, with_count}
 use Rattle.crx_header.specs.ObservationTypes.{after_count, with_line}
@@ -251,74 +249,44 @@ present_by_letter table es letter h few some =
 
 -- ---- few systems
 
--- how often a letter is among some counts
-abbrev times : ℕ → List Count → ℕ
-times letter [] = 0
-times letter (c ∷ cs) = cond (eqb c.0 letter) (suc (times letter cs)) (times letter cs)
+abbrev letters_of : List Count → List ℕ
+letters_of cs = map (λ (c : Count). c.0) cs
 
-never : (letter : ℕ) (cs : List Count) → is_none (count_of cs letter) ≡ true → times letter cs ≡ 0
-never letter [] h = refl
-never letter (c ∷ cs) h =
+other_letters : (letter : ℕ) (cs : List Count) → is_none (count_of cs letter) ≡ true
+    → AllByRecursion (λ other. eqb letter other ≡ false) (letters_of cs)
+other_letters letter [] h = tt
+other_letters letter (c ∷ cs) h =
     elim (cases_Bool (eqb c.0 letter)) [
       | inl t ↦ absurd (false≢true ((rw t at h)))
-      | inr f ↦ rw f (never letter cs (rw f at h))
+      | inr f ↦ (same_test letter c.0 ∙ f, other_letters letter cs (rw f at h))
     ]
 
-once : (letter : ℕ) (cs : List Count) → letters_differ cs ≡ true → times letter cs ≤ 1
-once letter [] h = omega arith
-once letter (c ∷ cs) h =
+different_letters : (cs : List Count) → letters_differ cs ≡ true → IsDistinct eqb (letters_of cs)
+unfolding IsDistinct
+different_letters [] h = tt
+different_letters (c ∷ cs) h =
     let parts = and_parts (is_none (count_of cs c.0)) (letters_differ cs) h in
-    elim (cases_Bool (eqb c.0 letter)) [
-      | inl t ↦
-          let same : c.0 ≡ letter = eqb-true c.0 letter t in
-          let rest : times letter cs ≡ 0 = subst (λ l. times l cs ≡ 0) same (never c.0 cs parts.0) in
-          rw t (omega (arith, rest))
-      | inr f ↦ rw f (once letter cs parts.1)
+    (other_letters c.0 cs parts.0, different_letters cs parts.1)
+
+turned : (letter : ℕ) (ls : List ℕ) → list_any (λ l. eqb l letter) ls ≡ list_any (eqb letter) ls
+turned letter [] = refl
+turned letter (l ∷ ls) = rw (same_test l letter, turned letter ls) refl
+
+are_systems : (cs : List Count) (letter : ℕ) → All IsCount cs → list_any (eqb letter) (letters_of cs) ≡ true
+    → list_any (eqb letter) system_letters ≡ true
+are_systems [] letter h e = absurd (false≢true e)
+are_systems (c ∷ cs) letter h e =
+    elim (cases_Bool (eqb letter c.0)) [
+      | inl t ↦ sym (turned letter system_letters) ∙ ap is_system (eqb-true letter c.0 t)
+          ∙ (All-head IsCount c cs h).0
+      | inr f ↦ are_systems cs letter (All-tail IsCount c cs h) (rw f at e)
     ]
-
--- how often the letters of a list are among some counts, all together
-abbrev times_of_any : List ℕ → List Count → ℕ
-times_of_any [] cs = 0
-times_of_any (l ∷ ls) cs = times l cs + times_of_any ls cs
-
-few_times : (letters : List ℕ) (cs : List Count) → letters_differ cs ≡ true
-    → times_of_any letters cs ≤ length letters
-few_times [] cs h = omega arith
-few_times (l ∷ ls) cs h = let a = once l cs h in let b = few_times ls cs h in omega (arith, a, b)
-
-more_times : (letters : List ℕ) (c : Count) (cs : List Count)
-    → times_of_any letters cs ≤ times_of_any letters (c ∷ cs)
-more_times [] c cs = omega arith
-more_times (l ∷ ls) c cs =
-    let rest = more_times ls c cs in
-    elim (eqb c.0 l) as (λ b. times l cs + times_of_any ls cs ≤ cond b (suc (times l cs))
-    (times l cs) + times_of_any ls (c ∷ cs)) [ true ↦ omega (arith, rest) | false ↦ omega (arith, rest) ]
-
-one_time_more : (letters : List ℕ) (c : Count) (cs : List Count)
-    → list_any (λ l. eqb l c.0) letters ≡ true → times_of_any letters cs < times_of_any letters (c ∷ cs)
-one_time_more [] c cs h = absurd (false≢true h)
-one_time_more (l ∷ ls) c cs h =
-    let rest = more_times ls c cs in
-    elim (cases_Bool (eqb l c.0)) [
-      | inl t ↦ let e : eqb c.0 l ≡ true = same_test c.0 l ∙ t in rw e (omega (arith, rest))
-      | inr f ↦
-          let more = one_time_more ls c cs (rw f at h) in
-          elim (eqb c.0 l) as (λ b. times l cs + times_of_any ls cs < cond b (suc (times l cs))
-          (times l cs) + times_of_any ls (c ∷ cs))
-          [ true ↦ omega (arith, rest) | false ↦ omega (arith, more) ]
-    ]
-
-all_times : (cs : List Count) → All IsCount cs → length cs ≤ times_of_any system_letters cs
-all_times [] h = omega arith
-all_times (c ∷ cs) h =
-    let more = one_time_more system_letters c cs (All-head IsCount c cs h).0 in
-    let rest = all_times cs (All-tail IsCount c cs h) in
-    omega (arith, more, rest)
 
 pub systems_few : (counts : List Count) → AreCounts counts → length counts ≤ length system_letters
-systems_few counts h = let a = all_times counts h.allowed in let b = few_times system_letters counts h.apart
-    in
-    omega (arith, a, b)
+systems_few counts h =
+    let few = length-le_from_is_member nat_eq_equiv (letters_of counts) system_letters
+    (different_letters counts h.apart) (λ letter e. are_systems counts letter h.allowed e) in
+    omega (arith, few, length-map counts (λ (c : Count). c.0))
 
 some_none : (n : ℕ) → Some n ≡ None → ⊥
 some_none n e = false≢true (ap (λ (o : Option ℕ). is_none o) e)

@@ -18,12 +18,3 @@ identifier_columns [] = refl
 identifier_columns (a ∷ []) = refl
 identifier_columns (a ∷ b ∷ []) = refl
 identifier_columns (a ∷ b ∷ c ∷ cs) = refl
-
--- the types of a satellite whose identifier is known to have the form of one
-pub known_types : (types : List Count) (line name : List ℕ) → columns line 1 NAME_WIDTH ≡ name
-    → is_identifier name ≡ true → types_of_satellite types line ≡ count_of types (slice_index_or name 0 0)
-known_types types line name e named =
-    let is : (is_system (character_at line 1) && has_number line) ≡ true =
-    sym (identifier_columns line) ∙ ap is_identifier e ∙ named in
-    let number = (and_parts (is_system (character_at line 1)) (has_number line) is).1 in
-    rw number (ap (count_of types) (first_column line ∙ ap (λ (n : List ℕ). slice_index_or n 0 0) e))

@@ -17,23 +17,6 @@ pub fn cells_within(line: &[u8], m: usize) -> usize
     m.min(line.len().saturating_sub(NAME_WIDTH) / CELL_WIDTH)
 }
 
-/// Puts the two indicators of type k, from 0, in their places, where its cell is within the line: both become one load and one
-/// store.
-#[inline(always)]
-pub fn put_indicators_within(line: &[u8], k: usize, flags: &mut [u8])
-    requires few { k < TYPES_LIMIT }
-    requires inside { CELL_WIDTH * k + (NAME_WIDTH + CELL_WIDTH) ≤ length line.now }
-    requires within { 2 * k + 1 < length flags.old }
-    ensures put { flags.new ≡ slice_set (slice_set flags.old (2 * k)
-        (character_at line.now (CELL_WIDTH * k + (NAME_WIDTH + OBSERVATION_WIDTH + 1)))) (2 * k + 1)
-        (character_at line.now (CELL_WIDTH * k + (NAME_WIDTH + OBSERVATION_WIDTH + 2))) }
-{
-    let end = CELL_WIDTH * k + NAME_WIDTH + CELL_WIDTH;
-    let (lock, strength) = (line[end - 2], line[end - 1]);
-    flags[2 * k] = lock;
-    flags[2 * k + 1] = strength;
-}
-
 /// Puts the two indicators of type k, from 0, in their places. They are blank where the line ends before them.
 #[inline(always)]
 pub fn put_indicators(line: &[u8], k: usize, flags: &mut [u8])

@@ -4,18 +4,19 @@
 ghost use Rattle.std.specs.Prelude.{◌≡◌, ◌≤◌, ◌<◌, ◌+◌, ◌++◌, ◌≢◌, length, take, IfSome, MatchBool};
 ghost use Rattle.crx_base.specs.declared.limits.TheConstants.{LINE_LIMIT, NAME_WIDTH};
 ghost use Rattle.crx_text.specs.meaning.Columns.{columns};
-ghost use Rattle.crx_header.specs.meaning.Label.{has_label, number_in, number_of_digits};
+ghost use Rattle.crx_header.specs.meaning.Label.{has_label, number_in};
 
 use crx_base::limits::NAME_WIDTH;
-use crx_text::columns::{character, end_trimmed, is_blank, trimmed};
+use crx_text::columns::{character, end_trimmed, trimmed};
 pub use crx_text::columns::{after_columns, all_blank, padded};
 
-/// The number that at most three digits spell.
-fn number_of_digits(digits: &[u8]) -> Option<usize>
-    requires { length digits.now ≤ 3 }
-    ensures value { result ≡ number_of_digits digits.now }
+/// The number in three columns from a first one on: digits, with blanks before or after them.
+pub fn number(line: &[u8], first: usize) -> Option<usize>
+    requires from_one { 1 ≤ first }
+    ensures value { result ≡ number_in (columns line.now first 3) }
     ensures small { IfSome result (λ number. number < 1000) }
 {
+    let digits = trimmed(line, first, 3);
     if digits.is_empty() {
         return None;
     }
@@ -27,15 +28,6 @@ fn number_of_digits(digits: &[u8]) -> Option<usize>
         number = number * 10 + usize::from(*c - b'0');
     }
     Some(number)
-}
-
-/// The number in three columns from a first one on: digits, with blanks before or after them.
-pub fn number(line: &[u8], first: usize) -> Option<usize>
-    requires from_one { 1 ≤ first }
-    ensures value { result ≡ number_in (columns line.now first 3) }
-    ensures small { IfSome result (λ number. number < 1000) }
-{
-    number_of_digits(trimmed(line, first, 3))
 }
 
 /// Whether a header line has this label in its columns 61 to 80.
@@ -69,15 +61,6 @@ pub fn put_identifier(bytes: &mut [u8], at: usize, name: [u8; NAME_WIDTH])
     bytes[at] = name[0];
     bytes[at + 1] = name[1];
     bytes[at + 2] = name[2];
-}
-
-/// The identifier in the first three columns of a line that has as many: no column is asked for past the line's end.
-#[inline(always)]
-pub fn first_identifier(line: &[u8]) -> [u8; NAME_WIDTH]
-    requires { NAME_WIDTH ≤ length line.now }
-    ensures value { result ≡ columns line.now 1 NAME_WIDTH }
-{
-    [line[0], line[1], line[2]]
 }
 
 /// `true` says that two identifiers are the same, and `false` that they aren't: their first two bytes are compared as one number.

@@ -2,11 +2,11 @@
 
 ghost use Rattle.std.specs.Prelude.{◌≡◌, ◌≤◌, IfSome};
 ghost use Rattle.crx_base.specs.declared.limits.TheConstants.{SATELLITES_LIMIT};
-ghost use Rattle.crx_header.specs.meaning.EpochColumns.{begins_epoch, epoch_count, is_event_flag, is_event_line, is_observation_flag, records_in, satellites_in};
+ghost use Rattle.crx_header.specs.meaning.EpochColumns.{begins_epoch, epoch_count, is_event_flag, is_event_line, records_in};
 
 use crate::columns::number;
 use crx_base::limits::SATELLITES_LIMIT;
-use crx_text::columns::{character, is_blank};
+use crx_text::columns::{all_blank, character, padded};
 use crx_text::difference::all_kept;
 
 /// Whether a line begins an epoch or an event: its first character is `>`.
@@ -35,40 +35,23 @@ pub fn is_event_flag(flag: u8) -> bool
 pub fn records_in(line: &[u8]) -> Option<usize>
     ensures value { result ≡ records_in line.now }
 {
-    if is_blank(line, 33, 3) {
+    if all_blank(&padded::<3>(line, 33)) {
         Some(0)
     } else {
         number(line, 33)
     }
 }
 
-/// How many satellites columns 1 to 41 announce, if they are those of an observation epoch.
+/// How many satellites columns 1 to 41 announce, if they are those of an observation epoch: its flag in column 32 is 0, or 1 for a power
+/// failure, and the count in columns 33 to 35 is within the limit.
 pub fn satellites(columns: &[u8]) -> Option<usize>
     ensures value { result ≡ epoch_count columns.now }
     ensures within { IfSome result (λ count. count ≤ SATELLITES_LIMIT) }
 {
-    if character(columns, 1) == b'>'
-        && is_observation_flag(character(columns, 32))
-        && all_kept(columns)
-    {
-        satellites_in(columns)
-    } else {
-        None
+    let is_observation = matches!(character(columns, 32), b'0' | b'1');
+    if !begins_epoch(columns) || !is_observation || !all_kept(columns) {
+        return None;
     }
-}
-
-/// Whether a flag in column 32 is that of an observation epoch: 0, or 1 for a power failure.
-fn is_observation_flag(flag: u8) -> bool
-    ensures { result ≡ is_observation_flag flag }
-{
-    flag == b'0' || flag == b'1'
-}
-
-/// The count of satellites in columns 33 to 35, if it is within the limit.
-fn satellites_in(line: &[u8]) -> Option<usize>
-    ensures value { result ≡ satellites_in line.now }
-    ensures within { IfSome result (λ count. count ≤ SATELLITES_LIMIT) }
-{
-    let count = number(line, 33)?;
+    let count = number(columns, 33)?;
     (count <= SATELLITES_LIMIT).then_some(count)
 }

@@ -159,7 +159,8 @@ pub fn is_types(line: &[u8]) -> bool
     is_labelled(line, &TYPES_LABEL) && character(line, 1) != b' '
 }
 
-/// What a types line says: the letter in column 1 and the count in columns 4 to 6.
+/// What a types line says: the letter in column 1, which is that of a system (GPS, GLONASS, Galileo, QZSS, BDS, NavIC/IRNSS, SBAS), and
+/// the count in columns 4 to 6.
 fn count_in(line: &[u8]) -> Option<(u8, usize)>
     ensures value { result ≡ count_in line.now }
     ensures allowed { IfSome result IsCount }
@@ -167,13 +168,6 @@ fn count_in(line: &[u8]) -> Option<(u8, usize)>
 {
     let letter = character(line, 1);
     let count = number(line, 4)?;
-    let is_allowed = is_system(letter) && 1 <= count && count <= TYPES_LIMIT;
+    let is_allowed = b"GREJCIS".contains(&letter) && 1 <= count && count <= TYPES_LIMIT;
     is_allowed.then_some((letter, count))
-}
-
-/// Whether a letter is that of a system: GPS, GLONASS, Galileo, QZSS, BDS, NavIC/IRNSS, SBAS.
-fn is_system(letter: u8) -> bool
-    ensures { result ≡ is_system letter }
-{
-    b"GREJCIS".contains(&letter)
 }

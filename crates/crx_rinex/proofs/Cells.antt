@@ -1,18 +1,18 @@
 -- The cells of a satellite line, taken one by one.
-use Rattle.std.proofs.Common.{◌≡◌, ℕ, ℤ, ◌+◌, ◌-◌, ◌*◌, ◌<◌, ◌≤◌, true, All, List, [], ◌∷◌, ◌++◌, Option}
+use Rattle.std.proofs.Common.{◌≡◌, ℕ, ℤ, ◌+◌, ◌-◌, ◌*◌, ◌<◌, ◌≤◌, All, List, [], ◌∷◌, ◌++◌, Option}
 use Rattle.std.proofs.Common.{Some}
 use Rattle.std.proofs.Common.{None, length, take, drop, replicate, get_or, refl, ap, sym, subst, ◌∙◌, arith}
-use Rattle.std.proofs.Common.{suc, zero}
+use Rattle.std.proofs.Common.{suc, zero, Bool, true, false, Err, MatchBool}
 use Rattle.std.specs.List.{concat, list_all}
 use Rattle.std.proofs.lemmas.Bool.{and_from}
-use Rattle.std.proofs.lemmas.List.Elements.{All-replicate, All-set}
+use Rattle.std.proofs.lemmas.List.Elements.{All-push, All-replicate, All-same, All-set}
 use Rattle.std.proofs.lemmas.List.Folds.{concat-append, list_all-append}
 use Rattle.std.specs.Prelude.{slice_set}
 use Rattle.std.proofs.lemmas.List.{take_more_set, length-set, take_at, take-append-le, drop_all, length-drop}
-use Rattle.std.proofs.lemmas.List.{take-take}
+use Rattle.std.proofs.lemmas.List.{get_or_default, get_or_past, take-set, take-take, take_all}
 use Rattle.std.proofs.lemmas.List.{length-append, length-replicate, take-replicate, append_assoc}
 use Rattle.std.proofs.lemmas.Option.{option_and_then_some, same_Some, none-some}
-use Rattle.crx_text.specs.meaning.Columns.{character_at}
+use Rattle.crx_text.specs.meaning.Columns.{character_at, is_blank}
 use Rattle.crx_text.specs.meaning.EachPlace.{each_place}
 use Rattle.crx_rinex.specs.meaning.Observations.{Row}
 use Rattle.crx_text.specs.Numbers.{IsObservation}
@@ -21,8 +21,9 @@ use Rattle.crx_text.specs.meaning.Texts.{is_kept}
 use Rattle.crx_header.specs.meaning.ObservationTypes.{IsAllowedCount}
 use Rattle.crx_rinex.specs.meaning.SatelliteLines.{all_some, values_in, flags_at, flags_in, field}
 use Rattle.crx_header.specs.meaning.Satellites.{is_identifier}
-use Rattle.crx_rinex.specs.meaning.SatelliteLines.{IsSoundRow}
-use Rattle.crx_rinex.specs.SatelliteLines.{blank_row, with_flags, with_value}
+use Rattle.crx_base.specs.declared.fault.Fault.TheVariants.{BadField}
+use Rattle.crx_rinex.specs.meaning.SatelliteLines.{row_with, IsSoundRow}
+use Rattle.crx_rinex.specs.SatelliteLines.{blank_row, cells_of, with_flags, with_value, AreAllRead, AreCellsRead}
 use Rattle.crx_text.proofs.EachPlace.{each_place-more, index-each_place, length-each_place}
 
 -- one value more
@@ -104,6 +105,84 @@ pair_pushed line k flags a b room h ha hb =
     ∙ ap (λ (fs : List ℕ). fs ++ a ∷ b ∷ []) h ∙ ap (λ (x : ℕ). flags_in k line ++ x ∷ b ∷ []) ha
     ∙ ap (λ (x : ℕ). flags_in k line ++ character_at line (16 * k + 18) ∷ x ∷ []) hb
     ∙ sym (flags_in_more line k)
+
+-- a character inside the line
+pub inside : (line : List ℕ) (i column : ℕ) → i < length line → i ≡ column - 1
+    → get_or line i 0 ≡ character_at line column
+inside line i column within is =
+    get_or_default line i 0 32 within ∙ ap (λ (n : ℕ). get_or line n 32) is
+
+-- and one past its end
+pub past : (line : List ℕ) (column : ℕ) → length line < column → 32 ≡ character_at line column
+past line column h = sym (get_or_past line (column - 1) 32 (omega arith))
+
+-- one cell more
+pub cells_more : (line : List ℕ) (values : List (Option ℤ)) (flags : List ℕ) (k a b : ℕ) (value : Option ℤ)
+    → AreCellsRead k line values flags → k < length values
+    → observation_of (field line k) ≡ Some value → IsValue value
+    → a ≡ character_at line (16 * k + 18) → b ≡ character_at line (16 * k + 19)
+    → AreCellsRead (k + 1) line (slice_set values k value) (slice_set (slice_set flags (2 * k) a) (2 * k + 1) b)
+cells_more line values flags k a b value h within read fits lock strength =
+    let more = take_more_set values k value within in
+    let long = length-set values k value in
+    let one = slice_set flags (2 * k) a in
+    let room : 2 * k + 1 < length flags = omega (arith, within, h.pairs.0) in
+    let pairs : length (slice_set one (2 * k + 1) b) ≡ length flags =
+    length-set one (2 * k + 1) b ∙ length-set flags (2 * k) a in
+    record {
+      pairs = (omega (arith, pairs, long, h.pairs.0), omega (arith, long, h.pairs.1));
+      within = omega (arith, long, within);
+      values_read = values_in_more line k (take k values) value h.values_read read
+          ∙ ap (λ (vs : List (Option ℤ)). Some vs) (sym more);
+      flags_read = pair_pushed line k flags a b room h.flags_read lock strength;
+      ranged = All-same IsValue (take (k + 1) _) (take k values ++ value ∷ []) more
+          (All-push IsValue (take k values) value h.ranged fits);
+    }
+
+-- another value after them is no loss
+pub cells_kept : (line : List ℕ) (values : List (Option ℤ)) (flags : List ℕ) (k : ℕ) (value : Option ℤ)
+    → AreCellsRead k line values flags → AreCellsRead k line (slice_set values k value) flags
+cells_kept line values flags k value h =
+    let kept = take-set values k value in
+    let long = length-set values k value in
+    record {
+      pairs = (omega (arith, long, h.pairs.0), omega (arith, long, h.pairs.1));
+      within = omega (arith, long, h.within);
+      values_read = h.values_read ∙ ap (λ (vs : List (Option ℤ)). Some vs) (sym kept);
+      flags_read = h.flags_read;
+      ranged = All-same IsValue _ (take k values) kept h.ranged;
+    }
+
+-- once the last is read
+pub cells_whole : (line : List ℕ) (values : List (Option ℤ)) (flags : List ℕ) (k m : ℕ)
+    → AreCellsRead k line values flags → k ≡ m → length values ≡ m
+    → list_all is_blank (drop (16 * m + 3) line) ≡ true → AreAllRead m line values flags
+cells_whole line values flags k m h all long ended =
+    let whole = take_all k values (omega (arith, all, long)) in
+    record {
+      values_read = ap (λ (n : ℕ). values_in n line) (sym all) ∙ h.values_read
+          ∙ ap (λ (vs : List (Option ℤ)). Some vs) whole;
+      flags_read = sym (take_all (2 * k) flags (omega (arith, all, long, h.pairs.0))) ∙ h.flags_read
+          ∙ ap (λ (n : ℕ). flags_in n line) all;
+      ranged = All-same IsValue values (take k values) (sym whole) h.ranged;
+      ended = ended;
+    }
+
+-- what is after it decides
+pub cells_end : (line : List ℕ) (values : List (Option ℤ)) (flags : List ℕ) (k m : ℕ) (b : Bool)
+    → AreCellsRead k line values flags → k ≡ m → length values ≡ m
+    → b ≡ list_all is_blank (drop (16 * m + 3) line)
+    → MatchBool b (AreAllRead m line values flags) (cells_of m line ≡ Err BadField)
+cells_end line values flags k m true h all long ended = cells_whole line values flags k m h all long (sym ended)
+cells_end line values flags k m false h all long ended =
+    let read : values_in m line ≡ Some values = ap (λ (n : ℕ). values_in n line) (sym all) ∙ h.values_read
+    ∙ ap (λ (vs : List (Option ℤ)). Some vs) (take_all k values (omega (arith, all, long))) in
+    ap (row_with m line) read ∙ (rw (← ended) refl)
+
+-- a field that spells nothing
+pub cells_none : (line : List ℕ) (k m : ℕ) → k < m → observation_of (field line k) ≡ None
+    → cells_of m line ≡ Err BadField
+cells_none line k m less none = ap (row_with m line) (values_in_none line k m less none)
 
 all_kept_blanks : (n : ℕ) → list_all is_kept (replicate n 32) ≡ true
 all_kept_blanks zero = refl

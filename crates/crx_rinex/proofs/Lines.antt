@@ -1,9 +1,7 @@
 -- Lines that are borrowed one by one, from the first of a list on.
 use Rattle.std.proofs.Common.{◌≡◌, ◌≢◌, ◌↔◌, ◌<◌, ℕ, ◌-◌, List, [], ◌∷◌, Option, Some, None, is_none, is_some}
-use Rattle.std.proofs.Common.{not}
-use Rattle.std.proofs.Common.{Bool, Bor, option_copied, IsTrue, drop, map, slice_get, refl, ap, sym, subst}
-use Rattle.std.proofs.Common.{◌∙◌, true}
-use Rattle.std.proofs.Common.{false, true≢false, arith, suc, zero}
+use Rattle.std.proofs.Common.{not, Bool, Bor, option_copied, IsTrue, drop, map, slice_get, refl, ap, sym}
+use Rattle.std.proofs.Common.{subst, ◌∙◌, true, false, true≢false, arith, suc, zero}
 use Rattle.std.proofs.lemmas.Option.{none-some}
 
 pub after_first : {X : Type 0} (x : X) (xs : List X) (n : ℕ) → n ≢ 0

@@ -1,7 +1,6 @@
 -- Epochs whose lines come one after another.
 use Rattle.std.proofs.Common.{◌≡◌, ℕ, ◌+◌, ◌-◌, ◌<◌, zero, suc, List, [], ◌∷◌, ◌++◌, length, Option, Some}
-use Rattle.std.proofs.Common.{None, Result}
-use Rattle.std.proofs.Common.{Ok, Err, refl, ap, sym, subst, ◌∙◌, inl, inr, arith, append-nil}
+use Rattle.std.proofs.Common.{None, Result, Ok, Err, refl, ap, sym, subst, ◌∙◌, inl, inr, arith, append-nil}
 use Rattle.std.specs.Prelude.{⊤}
 use Rattle.std.proofs.lemmas.List.{length_push}
 use Rattle.std.proofs.lemmas.Option.{same_Some, none-some}
@@ -15,13 +14,11 @@ use Rattle.crx_rinex.specs.meaning.EpochLines.{ObservationHead}
 use Rattle.crx_header.specs.meaning.ObservationTypes.{Count}
 use Rattle.crx_rinex.specs.Steady.{IsSteady}
 use Rattle.crx_rinex.specs.meaning.EpochPlaces.{OpenEpoch, Beginning, EventBegins, EpochBegins, opened}
-use Rattle.crx_rinex.specs.meaning.EpochPlaces.{rows_wanted}
-use Rattle.crx_rinex.specs.meaning.EpochPlaces.{epoch_of, with_next_row, next_row, row_at, rows_at, rest_at}
-use Rattle.crx_rinex.specs.meaning.EpochPlaces.{beginning_of, unit_begun, epoch_place}
+use Rattle.crx_rinex.specs.meaning.EpochPlaces.{rows_wanted, epoch_of, with_next_row, next_row, row_at}
+use Rattle.crx_rinex.specs.meaning.EpochPlaces.{rows_at, rest_at, beginning_of, unit_begun, epoch_place}
 use Rattle.crx_rinex.specs.EpochPlaces.{EpochStep, Going, Whole, Faulty, when_wanted, whole_or_going}
-use Rattle.crx_rinex.specs.EpochPlaces.{after_row}
-use Rattle.crx_rinex.specs.EpochPlaces.{epoch_step, still_open, opened_by, opened_at, open_after, open_with}
-use Rattle.crx_rinex.specs.EpochPlaces.{place_after}
+use Rattle.crx_rinex.specs.EpochPlaces.{after_row, epoch_step, still_open, opened_by, opened_at, open_after}
+use Rattle.crx_rinex.specs.EpochPlaces.{open_with, place_after}
 use Rattle.crx_rinex.specs.Laws.{IsWantedWhereOpen, IsDecidedByOpen}
 use Rattle.crx_rinex.proofs.Steady.{steady-here, steady-first_line, steady-then}
 

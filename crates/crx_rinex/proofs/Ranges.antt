@@ -1,7 +1,6 @@
 -- What is read out of columns fits them.
 use Rattle.std.proofs.Common.{◌≡◌, ℕ, ◌+◌, ◌-◌, ◌<◌, ◌≤◌, ◌^◌, Bool, true, false, cond, eqb, ◌&&◌, List, []}
-use Rattle.std.proofs.Common.{◌∷◌, ◌++◌}
-use Rattle.std.proofs.Common.{length, take, drop, Option, Some, None, refl, subst, inl, inr, arith}
+use Rattle.std.proofs.Common.{◌∷◌, ◌++◌, length, take, drop, Option, Some, None, refl, subst, inl, inr, arith}
 use Rattle.std.specs.Prelude.{ℤ, slice_index}
 use Rattle.std.specs.Bool.{nat_lt}
 use Rattle.std.specs.Option.{option_map}
@@ -14,8 +13,8 @@ use Rattle.std.proofs.lemmas.Option.{cond_some, same_Some, none-some}
 use Rattle.std.proofs.lemmas.Str.Parse.{digits_value_short, numerals_by_value, tells_all_ascii_digits}
 use Rattle.crx_text.specs.meaning.Columns.{is_blank, without_first_blanks}
 use Rattle.crx_text.specs.meaning.Numbers.{size_of, decimal_number, signed_number, missing_or_number}
-use Rattle.crx_text.specs.meaning.Numbers.{number_of}
-use Rattle.crx_text.specs.meaning.Numbers.{observation_of, clock_of, IsWithin, IsMissingOrWithin, IsValue}
+use Rattle.crx_text.specs.meaning.Numbers.{number_of, observation_of, clock_of, IsWithin, IsMissingOrWithin}
+use Rattle.crx_text.specs.meaning.Numbers.{IsValue}
 use Rattle.crx_base.specs.declared.limits.TheConstants.{OBSERVATION_WIDTH, OBSERVATION_DECIMALS, CLOCK_WIDTH}
 use Rattle.crx_base.specs.declared.limits.TheConstants.{CLOCK_DECIMALS}
 use Rattle.crx_text.proofs.Sizes.{signed_is_within, IsWithin_more}

@@ -1,9 +1,8 @@
 -- What is printed of rows, epoch lines and epochs is read back.
 use Rattle.std.proofs.Common.{◌≡◌, ◌≢◌, ℕ, ℤ, ◌+◌, ◌-◌, ◌*◌, ◌<◌, suc, Bool, true, false, not, cond, eqb}
-use Rattle.std.proofs.Common.{◌&&◌, List}
-use Rattle.std.proofs.Common.{[], ◌∷◌, ◌++◌, length, drop, map, Option, Some, None, IfSome, Ok, refl, ap, sym}
-use Rattle.std.proofs.Common.{subst}
-use Rattle.std.proofs.Common.{Result, ◌∙◌, ◌⊎◌, inl, inr, arith, append-nil, append_assoc, length-append}
+use Rattle.std.proofs.Common.{◌&&◌, List, [], ◌∷◌, ◌++◌, length, drop, map, Option, Some, None, IfSome, Ok}
+use Rattle.std.proofs.Common.{refl, ap, sym, subst, Result, ◌∙◌, ◌⊎◌, inl, inr, arith, append-nil}
+use Rattle.std.proofs.Common.{append_assoc, length-append}
 use Rattle.std.specs.Prelude.{All, ◌==◌}
 use Rattle.std.specs.List.{concat, list_all}
 use Rattle.std.specs.Option.{option_and_then, ForSome}
@@ -15,8 +14,7 @@ use Rattle.std.proofs.lemmas.List.Folds.{list_any-append}
 use Rattle.std.proofs.lemmas.Option.{none-some}
 use Rattle.crx_text.specs.meaning.Columns.{character_at, columns, is_blank, without_first_blanks}
 use Rattle.crx_text.specs.meaning.Numbers.{number_of, missing_or_number, observation_of, observation_text}
-use Rattle.crx_text.specs.meaning.Numbers.{clock_of}
-use Rattle.crx_text.specs.meaning.Numbers.{clock_text, IsWithin, IsValue}
+use Rattle.crx_text.specs.meaning.Numbers.{clock_of, clock_text, IsWithin, IsValue}
 use Rattle.crx_base.specs.meaning.Seen.{ReadLine, Content}
 use Rattle.crx_base.specs.declared.limits.TheConstants.{OBSERVATION_WIDTH, OBSERVATION_DECIMALS, CLOCK_WIDTH}
 use Rattle.crx_base.specs.declared.limits.TheConstants.{CLOCK_DECIMALS}
@@ -26,28 +24,24 @@ use Rattle.crx_text.specs.meaning.Texts.{is_kept}
 use Rattle.crx_rinex.specs.meaning.Observations.{Row, Epoch}
 use Rattle.crx_header.specs.meaning.ObservationTypes.{Count, is_system}
 use Rattle.crx_rinex.specs.meaning.EpochLines.{EpochHead, ObservationHead, IsObservationHead, IsClockOffset}
-use Rattle.crx_header.specs.meaning.EpochColumns.{begins_epoch, is_event_flag, is_observation_flag}
-use Rattle.crx_header.specs.meaning.EpochColumns.{satellites_in}
-use Rattle.crx_header.specs.meaning.EpochColumns.{satellites_of, epoch_count}
 use Rattle.crx_rinex.specs.meaning.EpochLines.{HeadLine, epoch_head, head_of}
+use Rattle.crx_header.specs.meaning.EpochColumns.{begins_epoch, is_event_flag, is_observation_flag}
+use Rattle.crx_header.specs.meaning.EpochColumns.{satellites_in, satellites_of, epoch_count}
 use Rattle.crx_rinex.specs.meaning.Epochs.{has_satellite, are_different, IsWholeEpoch}
 use Rattle.crx_rinex.specs.meaning.EpochPlaces.{OpenEpoch, EpochBegins, opened, rows_wanted, epoch_of}
-use Rattle.crx_rinex.specs.meaning.EpochPlaces.{with_next_row}
-use Rattle.crx_rinex.specs.meaning.EpochPlaces.{next_row, rows_at, rest_at, begun_by, beginning_of}
-use Rattle.crx_rinex.specs.meaning.EpochPlaces.{unit_begun}
-use Rattle.crx_rinex.specs.meaning.EpochPlaces.{epoch_place}
+use Rattle.crx_rinex.specs.meaning.EpochPlaces.{with_next_row, next_row, rows_at, rest_at, begun_by}
+use Rattle.crx_rinex.specs.meaning.EpochPlaces.{beginning_of, unit_begun, epoch_place}
 use Rattle.crx_rinex.specs.meaning.Places.{Here, after_lines, then_place, one_line}
 use Rattle.crx_rinex.specs.meaning.Units.{Observation}
 use Rattle.crx_rinex.specs.meaning.Printing.{printed_row, printed_head, printed_epoch}
 use Rattle.crx_text.specs.meaning.PrintedCells.{printed_cells}
-use Rattle.crx_rinex.specs.meaning.SatelliteLines.{all_some, field, flags_at, flags_in}
+use Rattle.crx_rinex.specs.meaning.SatelliteLines.{all_some, field, flags_at, flags_in, row_with}
+use Rattle.crx_rinex.specs.meaning.SatelliteLines.{row_of_types, row_of, IsSoundRow, HasItsTypes}
 use Rattle.crx_header.specs.meaning.Satellites.{has_number, types_of_satellite}
-use Rattle.crx_rinex.specs.meaning.SatelliteLines.{row_with, row_of_types, row_of, IsSoundRow, HasItsTypes}
 use Rattle.crx_text.specs.meaning.EachPlace.{each_place}
 use Rattle.crx_text.proofs.EachPlace.{each_place-same}
 use Rattle.crx_text.proofs.Characters.{at, at-without_end_blanks, at-drop, at-append, at-append_past}
-use Rattle.crx_text.proofs.Characters.{columns-are}
-use Rattle.crx_text.proofs.Characters.{list_all-from_at}
+use Rattle.crx_text.proofs.Characters.{columns-are, list_all-from_at}
 use Rattle.crx_header.proofs.Apart.{other_way}
 use Rattle.crx_rinex.proofs.SoundEpochs.{name_types}
 

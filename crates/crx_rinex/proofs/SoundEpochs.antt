@@ -1,7 +1,6 @@
 -- What is read of an observation epoch is sound.
 use Rattle.std.proofs.Common.{◌≡◌, ℕ, ℤ, ◌+◌, ◌*◌, ◌≤◌, zero, suc, Bool, true, false, not, cond, List, []}
-use Rattle.std.proofs.Common.{◌∷◌}
-use Rattle.std.proofs.Common.{length, drop, Option, Some, None, IfSome, OnSome, unwrap_or, Result, Ok}
+use Rattle.std.proofs.Common.{◌∷◌, length, drop, Option, Some, None, IfSome, OnSome, unwrap_or, Result, Ok}
 use Rattle.std.proofs.Common.{Err, refl, ap, sym, subst, ◌∙◌, arith}
 use Rattle.std.specs.Prelude.{⊤, All}
 use Rattle.std.specs.List.{list_all, AllByRecursion}
@@ -23,23 +22,18 @@ use Rattle.crx_rinex.specs.meaning.Observations.{Row, Epoch}
 use Rattle.crx_rinex.specs.meaning.Units.{Unit, Observation}
 use Rattle.crx_rinex.specs.meaning.Places.{Place, Here, Wrong, Wanted, after_lines, then_place, one_line}
 use Rattle.crx_rinex.specs.meaning.EpochLines.{HeadLine, EventHead, EpochHead, ObservationHead}
-use Rattle.crx_rinex.specs.meaning.EpochLines.{IsObservationHead}
+use Rattle.crx_rinex.specs.meaning.EpochLines.{IsObservationHead, epoch_head, event_head, head_of}
 use Rattle.crx_header.specs.meaning.EpochColumns.{is_event_flag, begins_epoch, epoch_count, records_in}
 use Rattle.crx_header.specs.meaning.EpochColumns.{satellites_of}
-use Rattle.crx_rinex.specs.meaning.EpochLines.{epoch_head, event_head}
-use Rattle.crx_rinex.specs.meaning.EpochLines.{head_of}
 use Rattle.crx_header.specs.meaning.InOrder.{◌or_else◌with◌}
 use Rattle.crx_rinex.specs.meaning.SatelliteLines.{row_of, row_of_types, row_with, values_in, flags_in}
-use Rattle.crx_rinex.specs.meaning.SatelliteLines.{flags_at, field}
-use Rattle.crx_rinex.specs.meaning.SatelliteLines.{all_some, IsSoundRow}
+use Rattle.crx_rinex.specs.meaning.SatelliteLines.{flags_at, field, all_some, IsSoundRow, HasItsTypes}
 use Rattle.crx_header.specs.meaning.Satellites.{types_of_satellite, has_number, is_identifier}
-use Rattle.crx_rinex.specs.meaning.SatelliteLines.{HasItsTypes}
 use Rattle.crx_rinex.specs.meaning.Epochs.{has_satellite, are_different, IsWholeEpoch}
 use Rattle.crx_rinex.specs.meaning.EpochPlaces.{OpenEpoch, Beginning, EventBegins, EpochBegins, opened}
-use Rattle.crx_rinex.specs.meaning.EpochPlaces.{rows_wanted}
-use Rattle.crx_rinex.specs.meaning.EpochPlaces.{epoch_of, with_next_row, row_if_new, next_row, rows_at}
-use Rattle.crx_rinex.specs.meaning.EpochPlaces.{rest_at}
-use Rattle.crx_rinex.specs.meaning.EpochPlaces.{begun_by, beginning_of, unit_begun, epoch_place}
+use Rattle.crx_rinex.specs.meaning.EpochPlaces.{rows_wanted, epoch_of, with_next_row, row_if_new, next_row}
+use Rattle.crx_rinex.specs.meaning.EpochPlaces.{rows_at, rest_at, begun_by, beginning_of, unit_begun}
+use Rattle.crx_rinex.specs.meaning.EpochPlaces.{epoch_place}
 use Rattle.crx_text.specs.meaning.EachPlace.{each_place}
 use Rattle.crx_text.proofs.Characters.{length-columns}
 use Rattle.crx_text.proofs.EachPlace.{each_place-all, length-each_place}

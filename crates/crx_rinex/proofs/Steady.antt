@@ -1,7 +1,6 @@
 -- Steady places: one after another, and their parts.
 use Rattle.std.proofs.Common.{◌≡◌, ℕ, ◌+◌, ◌<◌, suc, List, [], ◌∷◌, ◌++◌, length, drop, Result, Ok, Err, refl}
-use Rattle.std.proofs.Common.{ap}
-use Rattle.std.proofs.Common.{subst, arith}
+use Rattle.std.proofs.Common.{ap, subst, arith}
 use Rattle.std.proofs.lemmas.List.{drop-append-le, length-drop}
 use Rattle.crx_base.specs.meaning.Seen.{ReadLine, Content, Overlong}
 use Rattle.crx_base.specs.declared.fault.Fault.{Fault}

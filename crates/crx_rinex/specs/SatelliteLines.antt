@@ -1,6 +1,12 @@
 -- Beside meaning/SatelliteLines: what code and proofs see of it.
-use Rattle.std.specs.Prelude.{ℕ, ℤ, ◌≡◌, ◌≤◌, ◌*◌, ◌-◌, All, List, ◌++◌, Option, None, Some, length, replicate, slice_set, take}
-use Rattle.crx_rinex.specs.meaning.SatelliteLines.{flags_in, values_in}
+use Rattle.std.specs.Prelude.{ℕ, ℤ, ◌≡◌, ◌≤◌, ◌+◌, ◌*◌, ◌-◌, All, List, ◌++◌, Option, None, Some, Result, Ok, true}
+use Rattle.std.specs.Prelude.{length, replicate, slice_set, take, drop}
+use Rattle.std.specs.List.{list_all}
+use Rattle.crx_text.specs.meaning.Columns.{columns, is_blank}
+use Rattle.crx_text.specs.meaning.Texts.{is_kept}
+use Rattle.crx_base.specs.declared.fault.Fault.{Fault}
+use Rattle.crx_base.specs.declared.limits.TheConstants.{CELL_WIDTH, NAME_WIDTH, TYPES_LIMIT}
+use Rattle.crx_rinex.specs.meaning.SatelliteLines.{flags_in, row_with, values_in}
 use Rattle.crx_text.specs.meaning.Numbers.{IsValue}
 use Rattle.crx_rinex.specs.meaning.Observations.{Row}
 
@@ -16,8 +22,33 @@ with_value row k value = record row { values = slice_set row.values k value }
 abbrev pub with_flags : Row → List ℕ → Row
 with_flags row flags = record row { flags = flags ++ replicate (2 * length row.values - length flags) 32 }
 
+-- as many indicators as two for each value, and no more values than a system may have types
+abbrev pub ArePaired : List (Option ℤ) → List ℕ → Type 0
+ArePaired values flags = (length flags ≡ 2 * length values) × (length values ≤ TYPES_LIMIT)
+
 -- the first so many cells of a line are read: their values, which fit their columns, and their indicators are at their
 -- places
-abbrev pub AreCellsRead : ℕ → List ℕ → List (Option ℤ) → List ℕ → Type 0
-AreCellsRead count line values flags = (count ≤ length values) × (values_in count line ≡ Some (take count values))
-    × (take (2 * count) flags ≡ flags_in count line) × All IsValue (take count values)
+pub record AreCellsRead (count : ℕ) (line : List ℕ) (values : List (Option ℤ)) (flags : List ℕ) : Type 0 where
+  pub pairs : ArePaired values flags
+  pub within : count ≤ length values
+  pub values_read : values_in count line ≡ Some (take count values)
+  pub flags_read : take (2 * count) flags ≡ flags_in count line
+  pub ranged : All IsValue (take count values)
+
+-- all m cells of a line are read, and nothing is after them
+pub record AreAllRead (m : ℕ) (line : List ℕ) (values : List (Option ℤ)) (flags : List ℕ) : Type 0 where
+  pub values_read : values_in m line ≡ Some values
+  pub flags_read : flags ≡ flags_in m line
+  pub ranged : All IsValue values
+  pub ended : list_all is_blank (drop (CELL_WIDTH * m + NAME_WIDTH) line) ≡ true
+
+-- what m cells make of a line: a row, or its first fault
+abbrev pub cells_of : ℕ → List ℕ → Result Row Fault
+cells_of m line = row_with m line (values_in m line)
+
+-- the values and the indicators are those of the row that m cells make of a line; each value fits its columns, and each
+-- indicator may be there
+pub record IsRowOf (m : ℕ) (line : List ℕ) (values : List (Option ℤ)) (flags : List ℕ) : Type 0 where
+  pub row : cells_of m line ≡ Ok (record { name = columns line 1 NAME_WIDTH; values = values; flags = flags })
+  pub ranged : All IsValue values
+  pub kept : list_all is_kept flags ≡ true

@@ -122,26 +122,16 @@ impl Head {
                 None => Err(Fault::BadEpoch),
             };
         }
-        Ok(Head::Epoch(observation_head(line)?))
-    }
-}
-
-/// Reads the line of an observation epoch.
-fn observation_head(line: &[u8]) -> Result<EpochLine, Fault>
-    ensures { MatchResult result
-        (λ head. epoch_head line.now (epoch_count (columns line.now 1 HEAD_WIDTH))
-        ≡ Ok (EpochHead head.head head.count head.clock))
-        (λ fault. epoch_head line.now (epoch_count (columns line.now 1 HEAD_WIDTH)) ≡ Err fault) }
-{
-    let head = padded(line, 1);
-    let Some(count) = satellites(&head) else {
-        return Err(Fault::BadEpoch);
-    };
-    if !all_blank(after_columns(line, HEAD_WIDTH + CLOCK_WIDTH)) {
-        return Err(Fault::BadEpoch);
-    }
-    match clock_read(&padded::<CLOCK_WIDTH>(line, HEAD_WIDTH + 1)) {
-        Ok(clock) => Ok(EpochLine { head, count, clock }),
-        Err(_) => Err(Fault::BadClock),
+        let head = padded(line, 1);
+        let Some(count) = satellites(&head) else {
+            return Err(Fault::BadEpoch);
+        };
+        if !all_blank(after_columns(line, HEAD_WIDTH + CLOCK_WIDTH)) {
+            return Err(Fault::BadEpoch);
+        }
+        match clock_read(&padded::<CLOCK_WIDTH>(line, HEAD_WIDTH + 1)) {
+            Ok(clock) => Ok(Head::Epoch(EpochLine { head, count, clock })),
+            Err(_) => Err(Fault::BadClock),
+        }
     }
 }

@@ -12,6 +12,7 @@ ghost use Rattle.crx_rinex.specs.contracts.printed.Printed.{the_row};
 use crate::epoch::Epoch;
 use crate::epoch_line::EpochLine;
 use crx_base::limits::{CLOCK_WIDTH, SATELLITES_LIMIT};
+use crx_text::appending::append;
 use crx_text::{Text, clock_print};
 use std::marker::Model;
 
@@ -93,7 +94,7 @@ pub fn print_head(head: &EpochLine, text: &mut Text)
     let mut field = [b' '; CLOCK_WIDTH];
     clock_print(head.clock(), &mut field);
     text.clear();
-    let _ = text.extend(head.columns());
-    let _ = text.extend(&field);
+    append(text, head.columns());
+    append(text, &field);
     text.trim_end_blanks();
 }

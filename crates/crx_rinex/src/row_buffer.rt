@@ -7,10 +7,11 @@ ghost use Rattle.crx_text.specs.meaning.Texts.{is_kept};
 ghost use Rattle.crx_base.specs.declared.limits.TheConstants.{NAME_WIDTH, TYPES_LIMIT};
 ghost use Rattle.crx_rinex.specs.meaning.Observations.{observations_of};
 ghost use Rattle.crx_rinex.specs.meaning.Printing.{printed_row};
-ghost use Rattle.crx_rinex.specs.meaning.SatelliteLines.{row_of, row_with, values_in, IsSoundRow};
+ghost use Rattle.crx_rinex.specs.SatelliteLines.{cells_of, IsRowOf};
+ghost use Rattle.crx_rinex.specs.meaning.SatelliteLines.{row_of, IsSoundRow};
 ghost use Rattle.crx_text.specs.meaning.Numbers.{IsValue};
 
-use crate::satellite_row::{count_values, print_row, read_cells};
+use crate::satellite_row::{print_row, read_cells};
 use crx_base::Fault;
 use crx_base::limits::{NAME_WIDTH, TYPES_LIMIT};
 use crx_header::{Types, identifier, types_of_satellite};
@@ -106,7 +107,10 @@ impl RowBuffer {
         ensures value { result ≡ observations_of self.now }
         ensures within { result ≤ TYPES_LIMIT }
     {
-        count_values(&self.values[..self.count])
+        self.values[..self.count]
+            .iter()
+            .filter(|value| value.is_some())
+            .count()
     }
 
     /// Replaces a text by the printed satellite line, without blanks at its end.
@@ -133,13 +137,9 @@ fn read_first_cells(
     requires few { count ≤ TYPES_LIMIT }
     requires values { count ≤ length values.old }
     requires flags { 2 * count ≤ length flags.old }
-    ensures ok { OnOk result (row_with count line.now (values_in count line.now)
-        ≡ Ok (record { name = columns line.now 1 NAME_WIDTH; values = take count values.new; flags = take (2 * count) flags.new })) }
-    ensures ranged { OnOk result (All IsValue (take count values.new)) }
-    ensures kept { OnOk result (list_all is_kept (take (2 * count) flags.new) ≡ true) }
+    ensures ok { OnOk result (IsRowOf count line.now (take count values.new) (take (2 * count) flags.new)) }
     ensures lengths { (length values.new ≡ length values.old) × (length flags.new ≡ length flags.old) }
-    ensures err { IfErr result (λ fault.
-        row_with count line.now (values_in count line.now) ≡ Err fault) }
+    ensures err { IfErr result (λ fault. cells_of count line.now ≡ Err fault) }
 {
     read_cells(line, &mut values[..count], &mut flags[..2 * count])
 }

@@ -1,6 +1,6 @@
 //! Satellite lines. RINEX 3.05, table A3, OBSERVATION record, A1,I2.2,m(F14.3,I1,I1).
 
-ghost use Rattle.std.specs.Prelude.{◌≡◌, ◌≤◌, ◌<◌, ◌+◌, ◌-◌, ◌*◌, ◌++◌, ◌⊎◌, slice_set, true, None, Some, Ok, Err, is_some, length, All, IfOk, IfErr, IfSome, OnOk, MatchBool, MatchResult, slice_get, drop, filter};
+ghost use Rattle.std.specs.Prelude.{◌≡◌, ◌≤◌, ◌<◌, ◌+◌, ◌-◌, ◌*◌, ◌++◌, ◌⊎◌, slice_set, true, None, Some, Ok, Err, is_some, length, All, IfOk, IfErr, IfSome, OnOk, MatchBool, MatchResult, slice_get, take};
 ghost use Rattle.std.specs.Bool.{OnTrue, OnFalse};
 ghost use Rattle.std.specs.List.{list_all};
 ghost use Rattle.std.specs.Option.{ForSome};
@@ -13,17 +13,17 @@ ghost use Rattle.crx_header.specs.meaning.ObservationTypes.{IsAllowedCount};
 ghost use Rattle.crx_rinex.specs.meaning.Observations.{observations_of};
 ghost use Rattle.crx_rinex.specs.meaning.Printing.{printed_row};
 ghost use Rattle.crx_text.specs.meaning.PrintedCells.{printed_cells};
-ghost use Rattle.crx_rinex.specs.SatelliteLines.{blank_row, with_flags, with_value, AreCellsRead};
+ghost use Rattle.crx_rinex.specs.SatelliteLines.{blank_row, cells_of, with_flags, with_value, AreAllRead, AreCellsRead, ArePaired, IsRowOf};
 ghost use Rattle.crx_rinex.specs.meaning.SatelliteLines.{field, flags_in, row_of, row_with, values_in, IsSoundRow};
 ghost use Rattle.crx_header.specs.meaning.Satellites.{is_identifier, types_of_satellite};
 
 use crx_base::Fault;
 use crx_base::limits::{CELL_WIDTH, NAME_WIDTH, OBSERVATION_WIDTH, TYPES_LIMIT};
-use crx_header::cells::{cells_within, put_indicators, put_indicators_within};
+use crx_header::cells::{cells_within, put_indicators};
 use crx_header::{
     Types, after_columns, all_blank, identifier, padded, put_flags, types_of_satellite,
 };
-use crx_text::columns::character;
+use crx_text::appending::append;
 use crx_text::{Text, all_kept, obs_print_cell, obs_read, obs_read_into};
 use std::alloc::Global;
 use std::marker::Model;
@@ -154,7 +154,7 @@ impl SatRow {
         ensures value { result ≡ observations_of self.now }
         ensures within { result ≤ TYPES_LIMIT }
     {
-        count_values(&self.values)
+        self.values.iter().filter(|value| value.is_some()).count()
     }
 
     /// Replaces a text by the printed satellite line, without blanks at its end.
@@ -164,14 +164,6 @@ impl SatRow {
     {
         print_row(self.name, &self.values, &self.flags, text);
     }
-}
-
-/// How many values aren't missing.
-pub(crate) fn count_values(values: &[Option<i64>]) -> usize
-    ensures value { result ≡ length (filter is_some values.now) }
-    ensures within { result ≤ length values.now }
-{
-    values.iter().filter(|value| value.is_some()).count()
 }
 
 /// Replaces a text by the printed line of a row, without blanks at its end.
@@ -185,8 +177,8 @@ pub(crate) fn print_row(
     ensures value { text.new ≡ printed_row (record { name = name; values = values.now; flags = flags.now }) }
 {
     text.clear();
-    let _ = text.extend(&name);
-    print_cells(values, flags, text);
+    append(text, &name);
+    text.len = print_cells(values, flags, &mut text.bytes, NAME_WIDTH);
     text.trim_end_blanks();
 }
 
@@ -197,19 +189,15 @@ pub(crate) fn read_cells(
     values: &mut [Option<i64>],
     flags: &mut [u8],
 ) -> Result<(), Fault>
-    requires paired { length flags.old ≡ 2 * length values.old }
-    requires few { length values.old ≤ TYPES_LIMIT }
-    ensures ok { OnOk result (row_with (length values.old) line.now (values_in (length values.old) line.now)
-        ≡ Ok (record { name = columns line.now 1 NAME_WIDTH; values = values.new; flags = flags.new })) }
-    ensures ranged { OnOk result (All IsValue values.new) }
-    ensures kept { OnOk result (list_all is_kept flags.new ≡ true) }
-    ensures err { IfErr result (λ fault.
-        row_with (length values.old) line.now (values_in (length values.old) line.now) ≡ Err fault) }
-    ensures field { IfErr result (λ fault. (fault ≡ Fault.BadField) ⊎ (fault ≡ Fault.BadFlags)) }
+    requires { ArePaired values.old flags.old }
+    ensures ok { OnOk result (IsRowOf (length values.old) line.now values.new flags.new) }
+    ensures err { IfErr result (λ fault. cells_of (length values.old) line.now ≡ Err fault) }
 {
     let first = split_plain_cells(line, values, flags);
-    if !take_last_cell(line, first, values, flags) {
-        return read_other_cells(line, first, values, flags);
+    if !take_last_cell(line, first, values, flags)
+        && !read_other_cells(line, first, values, flags)
+    {
+        return Err(Fault::BadField);
     }
     if !all_kept(flags) {
         return Err(Fault::BadFlags);
@@ -217,36 +205,26 @@ pub(crate) fn read_cells(
     Ok(())
 }
 
-/// Reads the cells from one on as [`read_cells`] does, where those before it have been read, and looks at what is after the last.
-#[inline(never)]
-fn read_other_cells(
-    line: &[u8],
-    first: usize,
-    values: &mut [Option<i64>],
-    flags: &mut [u8],
-) -> Result<(), Fault>
-    requires paired { length flags.old ≡ 2 * length values.old }
-    requires few { length values.old ≤ TYPES_LIMIT }
-    requires read { AreCellsRead first line.now values.old flags.old }
-    ensures ok { OnOk result (row_with (length values.old) line.now (values_in (length values.old) line.now)
-        ≡ Ok (record { name = columns line.now 1 NAME_WIDTH; values = values.new; flags = flags.new })) }
-    ensures ranged { OnOk result (All IsValue values.new) }
-    ensures kept { OnOk result (list_all is_kept flags.new ≡ true) }
-    ensures err { IfErr result (λ fault.
-        row_with (length values.old) line.now (values_in (length values.old) line.now) ≡ Err fault) }
-    ensures field { IfErr result (λ fault. (fault ≡ Fault.BadField) ⊎ (fault ≡ Fault.BadFlags)) }
+/// Takes the values and the indicators out of a line's first cells, and gives how many: it stops where a cell isn't within the line,
+/// or its field isn't written as files mostly have it. One by one, each as an `Option` of a value and its indicators, a cell
+/// takes 16 instructions more: that is set to zero, and then tested and copied part by part. The two indicators are one load and one
+/// store.
+fn split_plain_cells(line: &[u8], values: &mut [Option<i64>], flags: &mut [u8]) -> usize
+    requires { ArePaired values.old flags.old }
+    ensures { AreCellsRead result line.now values.new flags.new }
 {
-    let m = values.len();
-    if !split_other_cells(line, first, values, flags) {
-        return Err(Fault::BadField);
+    let count = cells_within(line, values.len());
+    for k in 0..count {
+        let start = CELL_WIDTH * k + NAME_WIDTH;
+        let end = start + CELL_WIDTH;
+        if !obs_read_into(&line[start..end], &mut values[k]) {
+            return k;
+        }
+        let (lock, strength) = (line[end - 2], line[end - 1]);
+        flags[2 * k] = lock;
+        flags[2 * k + 1] = strength;
     }
-    if !all_blank(after_columns(line, CELL_WIDTH * m + NAME_WIDTH)) {
-        return Err(Fault::BadField);
-    }
-    if !all_kept(flags) {
-        return Err(Fault::BadFlags);
-    }
-    Ok(())
+    count
 }
 
 /// Takes the last cell, where those before it have been read, and the line ends with the cell's value: mostly both of its indicators
@@ -254,14 +232,8 @@ fn read_other_cells(
 /// all as it was.
 #[inline(always)]
 fn take_last_cell(line: &[u8], first: usize, values: &mut [Option<i64>], flags: &mut [u8]) -> bool
-    requires paired { length flags.old ≡ 2 * length values.old }
-    requires few { length values.old ≤ TYPES_LIMIT }
-    requires read { AreCellsRead first line.now values.old flags.old }
-    ensures values { OnTrue result (values_in (length values.old) line.now ≡ Some values.new) }
-    ensures flags { OnTrue result (flags.new ≡ flags_in (length values.old) line.now) }
-    ensures ranged { OnTrue result (All IsValue values.new) }
-    ensures ended { OnTrue result (list_all is_blank
-        (drop (CELL_WIDTH * length values.old + NAME_WIDTH) line.now) ≡ true) }
+    requires { AreCellsRead first line.now values.old flags.old }
+    ensures read { OnTrue result (AreAllRead (length values.old) line.now values.new flags.new) }
     ensures same { OnFalse result ((values.new ≡ values.old) × (flags.new ≡ flags.old)) }
 {
     let start = CELL_WIDTH * first + NAME_WIDTH;
@@ -279,111 +251,44 @@ fn take_last_cell(line: &[u8], first: usize, values: &mut [Option<i64>], flags: 
     true
 }
 
-/// Takes the values and the indicators out of a line's cells from one on, where those before it have been read; `false` at the first
-/// field that is neither blank nor a number.
-fn split_other_cells(
-    line: &[u8],
-    first: usize,
-    values: &mut [Option<i64>],
-    flags: &mut [u8],
-) -> bool
-    requires paired { length flags.old ≡ 2 * length values.old }
-    requires few { length values.old ≤ TYPES_LIMIT }
-    requires read { AreCellsRead first line.now values.old flags.old }
-    ensures values { MatchBool result (values_in (length values.old) line.now ≡ Some values.new)
-        (values_in (length values.old) line.now ≡ None) }
-    ensures flags { OnTrue result (flags.new ≡ flags_in (length values.old) line.now) }
-    ensures ranged { OnTrue result (All IsValue values.new) }
-{
-    let mut k = first;
-    while k < values.len() {
-        if !read_cell(line, k, &mut values[k], flags) {
-            return false;
-        }
-        k += 1;
-    }
-    true
-}
-
-/// Takes the value and the indicators of type k, from 0, out of a line's cell; `false` where the field is neither blank nor a number.
-/// Most cells that [`split_plain_cells`] leaves are past the line's end, or cut by it: blanks at a line's end are cut.
-#[inline(always)]
-fn read_cell(line: &[u8], k: usize, value: &mut Option<i64>, flags: &mut [u8]) -> bool
-    requires few { k < TYPES_LIMIT }
-    requires within { 2 * k + 1 < length flags.old }
-    ensures value { MatchBool result (observation_of (field line.now k) ≡ Some value.new)
-        (observation_of (field line.now k) ≡ None) }
-    ensures ranged { OnTrue result (IsValue value.new) }
-    ensures flags { OnTrue result (flags.new ≡ slice_set (slice_set flags.old (2 * k)
-        (character_at line.now (CELL_WIDTH * k + (NAME_WIDTH + OBSERVATION_WIDTH + 1)))) (2 * k + 1)
-        (character_at line.now (CELL_WIDTH * k + (NAME_WIDTH + OBSERVATION_WIDTH + 2)))) }
-{
-    let start = CELL_WIDTH * k + NAME_WIDTH;
-    if line.len() <= start {
-        *value = None;
-        flags[2 * k] = b' ';
-        flags[2 * k + 1] = b' ';
-        return true;
-    }
-    let end = start + OBSERVATION_WIDTH;
-    if end <= line.len() && obs_read_into(&line[start..end], value) {
-        put_indicators(line, k, flags);
-        return true;
-    }
-    let Some(found) = observation(line, k) else {
-        return false;
-    };
-    *value = found;
-    put_indicators(line, k, flags);
-    true
-}
-
-/// Takes the values and the indicators out of a line's first cells, and gives how many: it stops where a cell isn't within the line,
-/// or its field isn't written as files mostly have it. One by one, each as an `Option` of a value and its indicators, a cell
-/// takes 16 instructions more: that is set to zero, and then tested and copied part by part.
-fn split_plain_cells(line: &[u8], values: &mut [Option<i64>], flags: &mut [u8]) -> usize
-    requires paired { length flags.old ≡ 2 * length values.old }
-    requires few { length values.old ≤ TYPES_LIMIT }
-    ensures { AreCellsRead result line.now values.new flags.new }
-{
-    let count = cells_within(line, values.len());
-    for k in 0..count {
-        let start = CELL_WIDTH * k + NAME_WIDTH;
-        if !obs_read_into(&line[start..start + CELL_WIDTH], &mut values[k]) {
-            return k;
-        }
-        put_indicators_within(line, k, flags);
-    }
-    count
-}
-
-/// The value of type k, from 0; `None` where its field is neither blank nor a number of format F14.3.
+/// Reads the cells from one on, where those before it have been read, and looks at what is after the last: `false` where a field is
+/// neither blank nor a number, or where something is there. Most of these cells are past the line's end, or cut by it: blanks at a line's
+/// end are cut.
 #[inline(never)]
-fn observation(line: &[u8], k: usize) -> Option<Option<i64>>
-    requires { k < TYPES_LIMIT }
-    ensures value { result ≡ observation_of (field line.now k) }
-    ensures ranged { IfSome result IsValue }
+fn read_other_cells(line: &[u8], first: usize, values: &mut [Option<i64>], flags: &mut [u8]) -> bool
+    requires { AreCellsRead first line.now values.old flags.old }
+    ensures { MatchBool result (AreAllRead (length values.old) line.now values.new flags.new)
+        (cells_of (length values.old) line.now ≡ Err Fault.BadField) }
 {
-    let start = CELL_WIDTH * k + NAME_WIDTH;
-    let end = start + OBSERVATION_WIDTH;
-    if line.len() <= start {
-        return Some(None);
+    for k in first..values.len() {
+        let start = CELL_WIDTH * k + NAME_WIDTH;
+        if line.len() <= start {
+            values[k] = None;
+            flags[2 * k] = b' ';
+            flags[2 * k + 1] = b' ';
+            continue;
+        }
+        let Ok(value) = obs_read(&padded::<OBSERVATION_WIDTH>(line, start + 1)) else {
+            return false;
+        };
+        values[k] = value;
+        put_indicators(line, k, flags);
     }
-    if end <= line.len() {
-        obs_read(&line[start..end]).ok()
-    } else {
-        obs_read(&padded::<OBSERVATION_WIDTH>(line, start + 1)).ok()
-    }
+    all_blank(after_columns(line, CELL_WIDTH * values.len() + NAME_WIDTH))
 }
 
-/// Appends cells: each value in its columns, and its two indicators.
-fn print_cells(values: &[Option<i64>], flags: &[u8], text: &mut Text)
+/// Prints cells in place of the bytes from an index on, each value in its columns, and its two indicators, and gives the index after them.
+fn print_cells(values: &[Option<i64>], flags: &[u8], bytes: &mut [u8], at: usize) -> usize
     requires ranged { All IsValue values.now }
     requires paired { length flags.now ≡ 2 * length values.now }
-    requires fitting { length text.old + CELL_WIDTH * length values.now ≤ LINE_LIMIT }
-    ensures value { text.new ≡ text.old ++ printed_cells values.now flags.now }
+    requires room { at + CELL_WIDTH * length values.now ≤ length bytes.old }
+    ensures cells { take result bytes.new ≡ take at bytes.old ++ printed_cells values.now flags.now }
+    ensures end { result ≡ at + CELL_WIDTH * length values.now }
 {
+    let mut end = at;
     for k in 0..values.len() {
-        obs_print_cell(values[k], flags[2 * k], flags[2 * k + 1], text);
+        obs_print_cell(values[k], flags, 2 * k, bytes, end);
+        end += CELL_WIDTH;
     }
+    end
 }

@@ -65,12 +65,3 @@ all_blank (suc n) = all_blank n
 all_blank-more : (xs : List ℕ) (n : ℕ) → list_all is_blank (xs ++ replicate n 32) ≡ list_all is_blank xs
 all_blank-more [] n = all_blank n
 all_blank-more (x ∷ xs) n = ap (λ (b : Bool). is_blank x && b) (all_blank-more xs n)
-
-pub all_blank_columns : (line : List ℕ) (first width : ℕ)
-    → list_all is_blank (columns line first width) ≡ list_all is_blank (take width (drop (first - 1) line))
-all_blank_columns line first width =
-    let e : columns line first width ≡ take width (drop (first - 1) line)
-    ++ replicate (width - length (take width (drop (first - 1) line))) 32 = columns_are line first width in
-    ap (list_all is_blank) e
-    ∙ all_blank-more (take width (drop (first - 1) line))
-    (width - length (take width (drop (first - 1) line)))

@@ -3,11 +3,10 @@ use Rattle.std.proofs.Common.{◌≡◌, ℕ, zero, suc, ◌+◌, ◌-◌, ◌*�
 use Rattle.std.proofs.Common.{not, cond, ◌&&◌, T, ltb, leb, eqb, List, [], ◌∷◌, ◌++◌, map, length, replicate}
 use Rattle.std.proofs.Common.{take, drop, get_or, subst, Fits, w8, refl, sym, ap, ◌∙◌, arith}
 use Rattle.std.proofs.Math.Nat.{mul-le-mul_right}
-use Rattle.std.proofs.lemmas.Bool.{agree_below_at, and_parts, lt-ltb, ltb-true, ne_eqb}
+use Rattle.std.proofs.lemmas.Bool.{agree_below_at, and_parts, lt-ltb, ltb-true, ne_eqb, le-leb}
 use Rattle.std.proofs.lemmas.List.Sums.{prefix_len-le-length, prefix_len_stops}
 use Rattle.std.proofs.lemmas.List.{length-append, length-take-le, take-append-drop, take-take, get_or-take}
 use Rattle.std.proofs.lemmas.List.{take-append-le, take-map}
-use Rattle.std.proofs.lemmas.Bool.{le-leb}
 use Rattle.std.proofs.lemmas.Bool.Decides.{nat_tests}
 use Rattle.std.proofs.lemmas.Simd.{mask_l-mod, pick_l_whole, zip2_splat, trailing_mask_l}
 use Rattle.std.specs.Char.{is_ascii_digit}

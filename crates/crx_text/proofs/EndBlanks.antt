@@ -7,7 +7,7 @@ use Rattle.std.proofs.Math.Seq.{take-add}
 use Rattle.std.proofs.lemmas.Bool.{ne_eqb}
 use Rattle.std.proofs.lemmas.List.{drop_all, drop_more, length-append, length-take-le}
 use Rattle.std.proofs.lemmas.List.{nil_from_length, take-append-drop, take_more}
-use Rattle.std.proofs.lemmas.Simd.{bitmask_splat, chunk-drop}
+use Rattle.std.proofs.lemmas.Simd.{bitmask_splat, chunk-drop, length-chunk}
 use Rattle.std.specs.Int.Count.{count_leading_zeros, leading_unique}
 use lib.Lanes.{chunk, mask_l, top, zip2}
 use Rattle.crx_text.specs.meaning.Columns.{is_blank, before_end_blanks, without_end_blanks}
@@ -90,52 +90,7 @@ ended_at text last end sum within other none =
     ∙ sym (kept_append (take last text) (drop last text) (omega (arith, ap length kept)))
     ∙ ap without_end_blanks (take-append-drop last text)
 
-module _ (text : List ℕ) (end : ℕ) (within : end ≤ length text)
-    (none : without_end_blanks (drop end text) ≡ []) where
-  -- a piece that keeps something decides
-  pub kept_in_piece : (size start count : ℕ) → start + size ≡ end → 0 < count
-      → count ≡ length (without_end_blanks (chunk start size text))
-      → take (start + count) text ≡ without_end_blanks text
-  kept_in_piece size start count sum some kept =
-      let piece : List ℕ = chunk start size text in
-      let before : without_end_blanks (take end text) ≡ without_end_blanks text =
-      sym (none_append (take end text) (drop end text) none)
-      ∙ ap without_end_blanks (take-append-drop end text) in
-      let whole : without_end_blanks text ≡ take start text ++ without_end_blanks piece =
-      sym before ∙ (ap (λ (k : ℕ). without_end_blanks (take k text)) (sym sum) ∙ (ap without_end_blanks
-      (take-add start size text) ∙ kept_append (take start text) piece (omega (arith, kept, some)))) in
-      let long : start + count ≡ length (without_end_blanks text) = omega (
-        arith,
-        ap length whole,
-        length-append (take start text) (without_end_blanks piece),
-        length-take-le start text (omega (arith, sum, within)),
-        kept,
-      ) in
-      ap (λ (k : ℕ). take k text) long ∙ take_kept text
-
-  -- one that keeps nothing goes with the blanks after it
-  pub none_in_piece : (size start : ℕ) → start + size ≡ end
-      → length (without_end_blanks (chunk start size text)) ≡ 0 → without_end_blanks (drop start text) ≡ []
-  none_in_piece size start sum long =
-      ap without_end_blanks (chunk-drop start size text)
-      ∙ (none_append (chunk start size text)
-      (drop (start + size) text) (ap (λ (k : ℕ). without_end_blanks (drop k text)) sum ∙ none)
-      ∙ nil_from_length (without_end_blanks (chunk start size text)) long)
-
-  -- the first piece decides where only blanks are after it
-  pub kept_in_first : (count : ℕ) → end < 16
-      → count ≡ length (without_end_blanks (chunk 0 16 text)) → take count text ≡ without_end_blanks text
-  kept_in_first count few kept =
-      let sum : end + (16 - end) ≡ 16 = omega (arith, few) in
-      let blank : without_end_blanks (drop 16 text) ≡ [] =
-      ap (λ (k : ℕ). without_end_blanks (drop k text)) (sym sum) ∙ none_after (chunk end (16 - end) text)
-      (drop (end + (16 - end)) text) (ap without_end_blanks (sym (chunk-drop end (16 - end) text)) ∙ none) in
-      let whole : without_end_blanks (take 16 text) ≡ without_end_blanks text =
-      sym (none_append (take 16 text) (drop 16 text) blank)
-      ∙ ap without_end_blanks (take-append-drop 16 text) in
-      ap (λ (k : ℕ). take k text) (kept ∙ ap length whole) ∙ take_kept text
-
--- ---- the mask of 16 characters
+-- ---- the mask of some characters
 
 abbrev others : List ℕ → ℕ
 others xs = mask_l (map (λ c. not (eqb c 32)) xs)
@@ -169,10 +124,65 @@ bits_kept k xs few =
     let leading = leading_unique k (others xs) (k - kept) kept (omega (arith, within)) bit.0 bit.1 in
     omega (arith, leading, within)
 
-pub lanes_kept : (size : ℕ) (v : List ℕ) → size ≤ 64 → length v ≡ size
-    → 64 - count_leading_zeros 64 (mask_l (map
-    (top 7) (zip2 (λ a b. cond (not (eqb a b)) 255 0) v (replicate size 32))) % 2 ^ 64) ≡ length
-    (without_end_blanks v)
+-- how many characters of so many are before the blanks at their end, as lanes find it
+abbrev pub found : ℕ → List ℕ → ℕ
+found size v = 64 - count_leading_zeros 64 (mask_l (map
+    (top 7) (zip2 (λ a b. cond (not (eqb a b)) 255 0) v (replicate size 32))) % 2 ^ 64)
+
+lanes_kept : (size : ℕ) (v : List ℕ) → size ≤ 64 → length v ≡ size → found size v ≡ length (without_end_blanks v)
 lanes_kept size v few long =
     ap (λ m. 64 - count_leading_zeros 64 m) (bitmask_splat w8
     (λ a b. not (eqb a b)) v size 32 long (omega (arith, few))) ∙ bits_kept 64 v (omega (arith, long))
+
+-- ---- a piece before blanks
+
+module _ (text : List ℕ) (end : ℕ) (within : end ≤ length text)
+    (none : without_end_blanks (drop end text) ≡ []) where
+  -- a piece that keeps something decides
+  pub kept_in_piece : (size start count : ℕ) → start + size ≡ end → 0 < count
+      → count ≡ length (without_end_blanks (chunk start size text))
+      → take (start + count) text ≡ without_end_blanks text
+  kept_in_piece size start count sum some kept =
+      let piece : List ℕ = chunk start size text in
+      let before : without_end_blanks (take end text) ≡ without_end_blanks text =
+      sym (none_append (take end text) (drop end text) none)
+      ∙ ap without_end_blanks (take-append-drop end text) in
+      let whole : without_end_blanks text ≡ take start text ++ without_end_blanks piece =
+      sym before ∙ (ap (λ (k : ℕ). without_end_blanks (take k text)) (sym sum) ∙ (ap without_end_blanks
+      (take-add start size text) ∙ kept_append (take start text) piece (omega (arith, kept, some)))) in
+      let long : start + count ≡ length (without_end_blanks text) = omega (
+        arith,
+        ap length whole,
+        length-append (take start text) (without_end_blanks piece),
+        length-take-le start text (omega (arith, sum, within)),
+        kept,
+      ) in
+      ap (λ (k : ℕ). take k text) long ∙ take_kept text
+
+  -- one that keeps nothing goes with the blanks after it
+  pub none_in_piece : (size start : ℕ) → start + size ≡ end
+      → length (without_end_blanks (chunk start size text)) ≡ 0 → without_end_blanks (drop start text) ≡ []
+  none_in_piece size start sum long =
+      ap without_end_blanks (chunk-drop start size text)
+      ∙ (none_append (chunk start size text)
+      (drop (start + size) text) (ap (λ (k : ℕ). without_end_blanks (drop k text)) sum ∙ none)
+      ∙ nil_from_length (without_end_blanks (chunk start size text)) long)
+
+  -- what lanes find in such a piece
+  module _ (size start : ℕ) (few : size ≤ 64) (sum : start + size ≡ end) where
+    lanes : found size (chunk start size text) ≡ length (without_end_blanks (chunk start size text))
+    lanes = lanes_kept size _ few (length-chunk start size text (omega (arith, sum, within)))
+
+    pub found_within : start + found size (chunk start size text)
+        ≡ length (take (start + found size (chunk start size text)) text)
+    found_within =
+        let long = length-chunk start size text (omega (arith, sum, within)) in
+        sym (length-take-le (start + found size (chunk start size text)) text
+        (omega (arith, lanes, few_kept (chunk start size text), long, sum, within)))
+
+    pub found_some : 0 < found size (chunk start size text)
+        → take (start + found size (chunk start size text)) text ≡ without_end_blanks text
+    found_some some = kept_in_piece size start _ sum some lanes
+
+    pub found_none : found size (chunk start size text) ≡ 0 → without_end_blanks (drop start text) ≡ []
+    found_none zero = none_in_piece size start sum (sym lanes ∙ zero)

@@ -1,8 +1,8 @@
 //! A receiver clock offset's 15 columns by lanes: blanks, perhaps a minus, at most one digit, the
 //! point in column 3 and twelve digits. That is how nearly every offset is written.
 
-ghost use Rattle.std.specs.Prelude.{◌≡◌, ◌==◌, ◌++◌, ◌∷◌, ◌<◌, ◌^◌, [], true, length, drop, slice_index, Some, IfSome};
-ghost use Rattle.std.specs.List.{list_all, list_any};
+ghost use Rattle.std.specs.Prelude.{◌≡◌, ◌∷◌, ◌<◌, [], ◌==◌, true, length, Some, IfSome};
+ghost use Rattle.std.specs.List.{list_any};
 ghost use Rattle.std.specs.Str.{all_ascii_digits};
 ghost use Rattle.std.specs.Str.Parse.{digits_value};
 ghost use Rattle.crx_base.specs.declared.limits.TheConstants.{CLOCK_WIDTH};
@@ -13,20 +13,6 @@ ghost use Rattle.crx_text.specs.meaning.Numbers.{clock_of};
 use crate::digits::signed;
 use crate::field::{WEIGHTS, of_groups};
 use std::simd::prelude::*;
-
-/// Whether every column is blank.
-#[inline(always)]
-pub(crate) fn is_blank(field: &[u8]) -> bool
-    requires { length field.now ≡ CLOCK_WIDTH }
-    ensures { result ≡ list_all (λ c. c == 32) (field.now ++ slice_index field.now 14 ∷ []) }
-{
-    // The last column is in the last two lanes.
-    let columns = u8x8::from_slice(field).shuffle(
-        u8x8::from_slice(&field[7..]),
-        [0, 1, 2, 3, 4, 5, 6, 7, 9, 10, 11, 12, 13, 14, 15, 15],
-    );
-    columns.simd_eq(u8x16::splat(b' ')).to_bitmask() == 0xffff
-}
 
 /// The number in the columns; None where they are not in the plain form.
 #[inline(always)]

@@ -67,15 +67,6 @@ pub fn trimmed(line: &[u8], first: usize, width: usize) -> &[u8]
     trim_end(trim_start(part(line, first, width)))
 }
 
-/// Whether so many columns from a first one on are blank.
-#[tactic(auto, using(crate::proofs::Blanks::all_blank_columns))]
-pub fn is_blank(line: &[u8], first: usize, width: usize) -> bool
-    requires from_one { 1 ≤ first }
-    ensures value { result ≡ list_all is_blank (columns line.now first width) }
-{
-    all_blank(part(line, first, width))
-}
-
 /// What comes after so many columns.
 pub fn after_columns(line: &[u8], width: usize) -> &[u8]
     ensures value { result.now ≡ drop width line.now }

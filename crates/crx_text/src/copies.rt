@@ -4,19 +4,24 @@ ghost use Rattle.std.specs.Prelude.{ℕ, ◌≡◌, ◌≤◌, ◌<◌, length, 
 ghost use Rattle.crx_base.specs.declared.limits.TheConstants.{LINE_LIMIT};
 
 use crate::difference::BLANKS;
-use crate::lanes::{Rule, write_by_rule};
+use crate::lanes::LANES;
 use std::simd::prelude::*;
 
 /// Puts a text in place of another of the same length, by vectors that may overlap.
 #[inline]
-#[tactic(auto, using(crate::proofs::LaneTexts::zip2_second))]
 pub fn copy_text(to: &mut [u8], from: &[u8])
     requires { length to.old ≡ length from.now }
     ensures copied { to.new ≡ from.now }
 {
     let count = from.len();
-    if count >= 16 {
-        write_by_rule::<Other>(from, from, to);
+    if count >= LANES {
+        let last = count - LANES;
+        let mut at = 0;
+        while at < last {
+            u8x16::from_slice(&from[at..]).copy_to_slice(&mut to[at..]);
+            at += LANES;
+        }
+        u8x16::from_slice(&from[last..]).copy_to_slice(&mut to[last..]);
         return;
     }
     if count >= 8 {
@@ -51,20 +56,4 @@ pub fn put_blanks(text: &mut [u8])
     }
     let count = text.len();
     copy_text(text, &BLANKS[..count]);
-}
-
-// The second of two characters at a position.
-struct Other;
-
-impl Rule for Other {
-    ghost rule = { λ old other. other };
-
-    fn apply(_old: u8, other: u8) -> u8 {
-        other
-    }
-
-    #[tactic(auto, using(crate::proofs::LaneTexts::zip2_second))]
-    fn apply_to(_old: u8x16, other: u8x16) -> u8x16 {
-        other
-    }
 }

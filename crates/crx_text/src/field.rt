@@ -26,17 +26,8 @@ pub(crate) fn columns(field: &[u8]) -> u8x16
     )
 }
 
-/// Whether every column is blank.
-#[inline(always)]
-#[tactic(auto, using(crate::proofs::LaneBits::each_of_field))]
-pub(crate) fn is_blank(columns: u8x16) -> bool
-    ensures { result ≡ list_all (λ c. c == 32) (take OBSERVATION_WIDTH columns) }
-{
-    columns.simd_eq(u8x16::splat(b' ')).to_bitmask() & FIELD == FIELD
-}
-
-// The lanes of a field's columns among 16; what is in the others doesn't count.
-const FIELD: u64 = 0x3fff;
+/// The lanes of a field's columns among 16; what is in the others doesn't count.
+pub(crate) const FIELD: u64 = 0x3fff;
 
 // The first byte of what a column may have beside blanks and a minus: a digit, or the point.
 const FIRST: [u8; 16] = [45, 48, 48, 48, 48, 48, 48, 48, 48, 48, 46, 48, 48, 48, 0, 0];

@@ -23,40 +23,24 @@ pub(crate) trait Kind {
             ≡ (list_all (λ lane. lane == 0) others && list_all is_of_kind characters) };
 }
 
-// Whether no lane is set.
-#[inline(always)]
-fn none_set(lanes: u8x16) -> bool
-    ensures { result ≡ list_all (λ lane. lane == 0) lanes }
-{
-    lanes.reduce_or() == 0
-}
-
-/// Whether all characters of a text are of the kind. Nearly all texts are, so that what was found is tested once, at the end.
+// Whether all characters of a text are of the kind. Nearly all texts are, so that what was found is tested once, at the end. From 8
+// characters on the two ends of a text are one vector: the indicators of four types are as many, and one by one they take 6 instructions
+// each.
 pub(crate) fn all_of<K: Kind>(text: &[u8]) -> bool
     ensures { result ≡ list_all K.is_of_kind text.now }
 {
-    if text.len() < LANES {
-        return all_of_few::<K>(text);
+    if text.len() >= LANES {
+        let last = text.len() - LANES;
+        let mut others = u8x16::splat(0);
+        let mut at = 0;
+        while at < last {
+            others = K::with_others(others, u8x16::from_slice(&text[at..]));
+            at += LANES;
+        }
+        return K::with_others(others, u8x16::from_slice(&text[last..])).reduce_or() == 0;
     }
-    let last = text.len() - LANES;
-    let mut others = u8x16::splat(0);
-    let mut at = 0;
-    while at < last {
-        others = K::with_others(others, u8x16::from_slice(&text[at..]));
-        at += LANES;
-    }
-    none_set(K::with_others(others, u8x16::from_slice(&text[last..])))
-}
-
-// Whether all characters of a text that is shorter than a vector are of the kind. From 8 on its two ends are one vector: the indicators
-// of four types are as many, and one by one they take 6 instructions each.
-#[inline(always)]
-fn all_of_few<K: Kind>(text: &[u8]) -> bool
-    requires { length text.now < 16 }
-    ensures { result ≡ list_all K.is_of_kind text.now }
-{
     if text.len() >= 8 {
-        return none_set(K::with_others(u8x16::splat(0), ends_of_eight(text)));
+        return K::with_others(u8x16::splat(0), ends_of_eight(text)).reduce_or() == 0;
     }
     for character in text {
         if !K::holds(*character) {
@@ -90,22 +74,32 @@ pub(crate) trait Rule {
         ensures value { result ≡ zip2 rule old other };
 }
 
-/// Writes what the rule makes of two texts of one length.
+/// Writes what the rule makes of two texts of one length: where they are shorter than a vector, from 8 characters on of their two ends
+/// in one, of fewer one by one.
 pub(crate) fn write_by_rule<R: Rule>(old: &[u8], other: &[u8], out: &mut [u8])
     requires { (length other.now ≡ length old.now) × (length out.old ≡ length old.now) }
     ensures { out.new ≡ zip2 R.rule old.now other.now }
 {
-    if old.len() < LANES {
-        write_few::<R>(old, other, out);
+    let count = old.len();
+    if count >= LANES {
+        let last = count - LANES;
+        let mut at = 0;
+        while at < last {
+            write_lanes::<R>(old, other, out, at);
+            at += LANES;
+        }
+        write_lanes::<R>(old, other, out, last);
         return;
     }
-    let last = old.len() - LANES;
-    let mut at = 0;
-    while at < last {
-        write_lanes::<R>(old, other, out, at);
-        at += LANES;
+    if count >= 8 {
+        let made = R::apply_to(ends_of_eight(old), ends_of_eight(other));
+        made.extract::<0, 8>().copy_to_slice(out);
+        made.extract::<8, 8>().copy_to_slice(&mut out[count - 8..]);
+        return;
     }
-    write_lanes::<R>(old, other, out, last);
+    for column in 0..count {
+        out[column] = R::apply(old[column], other[column]);
+    }
 }
 
 // Writes what the rule makes of 16 characters from an index on.
@@ -120,24 +114,4 @@ fn write_lanes<R: Rule>(old: &[u8], other: &[u8], out: &mut [u8], at: usize)
     let olds = u8x16::from_slice(&old[at..]);
     let others = u8x16::from_slice(&other[at..]);
     R::apply_to(olds, others).copy_to_slice(&mut out[at..]);
-}
-
-// Writes what the rule makes of texts that are shorter than a vector: from 8 characters on of their two ends in one vector, of
-// fewer one by one.
-#[inline(always)]
-fn write_few<R: Rule>(old: &[u8], other: &[u8], out: &mut [u8])
-    requires few { length old.now < 16 }
-    requires same_length { (length other.now ≡ length old.now) × (length out.old ≡ length old.now) }
-    ensures { out.new ≡ zip2 R.rule old.now other.now }
-{
-    let count = old.len();
-    if count >= 8 {
-        let made = R::apply_to(ends_of_eight(old), ends_of_eight(other));
-        made.extract::<0, 8>().copy_to_slice(out);
-        made.extract::<8, 8>().copy_to_slice(&mut out[count - 8..]);
-        return;
-    }
-    for column in 0..count {
-        out[column] = R::apply(old[column], other[column]);
-    }
 }

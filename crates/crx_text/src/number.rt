@@ -13,6 +13,7 @@ ghost use Rattle.crx_text.specs.Numbers.{IsObservation, IsClock};
 
 use crate::columns::trim_start;
 use crate::digits::{WIDEST, digits_read, signed, split_minus};
+use crate::field::FIELD;
 use crate::text::Text;
 use crate::{clock_field, clock_text, field, field_text};
 use crx_base::limits::{
@@ -47,6 +48,7 @@ pub fn obs_read(field: &[u8]) -> Result<Option<i64>, BadField>
 /// as it was. A result that holds a value beside a mark of its own is set to zero before each call, and copied after it. Few fields are
 /// blank, so that is tested last.
 #[inline(always)]
+#[tactic(auto, using(crate::proofs::LaneBits::each_of_field))]
 pub fn obs_read_into(text: &[u8], value: &mut Option<i64>) -> bool
     ensures value { OnTrue result (observation_of (take OBSERVATION_WIDTH text.now) ≡ Some value.new) }
     ensures in_range { OnTrue result (IfSome value.new IsObservation) }
@@ -61,7 +63,7 @@ pub fn obs_read_into(text: &[u8], value: &mut Option<i64>) -> bool
         *value = Some(field::value(columns));
         return true;
     }
-    if field::is_blank(columns) {
+    if columns.simd_eq(u8x16::splat(b' ')).to_bitmask() & FIELD == FIELD {
         *value = None;
         return true;
     }
@@ -80,23 +82,10 @@ pub fn obs_print(value: Option<i64>, field: &mut [u8; OBSERVATION_WIDTH])
     field.copy_from_slice(&cell[..OBSERVATION_WIDTH]);
 }
 
-/// Appends an observation's cell to a text: the columns that [`obs_print`] prints, and its two
-/// indicators. It asks for room.
+/// Prints an observation's cell in place of the bytes from an index on: the columns that [`obs_print`] prints, and the two of some
+/// indicators that are at an index and after it, which become one load and one store.
 #[inline(always)]
-pub fn obs_print_cell(value: Option<i64>, lock: u8, strength: u8, text: &mut Text)
-    requires in_range { ForSome value IsObservation }
-    requires room { length text.old + CELL_WIDTH ≤ LINE_LIMIT }
-    ensures value { text.new ≡ text.old ++ (observation_text value ++ lock ∷ strength ∷ []) }
-    ensures long { length text.new ≡ length text.old + CELL_WIDTH }
-{
-    obs_print_cell_into(value, &[lock, strength], 0, &mut text.bytes, text.len);
-    text.len += CELL_WIDTH;
-}
-
-/// Prints an observation's cell as [`obs_print_cell`] does in place of the bytes from an index on, with the two of some indicators that
-/// are at an index and after it: they become one load and one store.
-#[inline(always)]
-pub fn obs_print_cell_into(
+pub fn obs_print_cell(
     value: Option<i64>,
     indicators: &[u8],
     first: usize,
@@ -148,7 +137,12 @@ pub fn clock_read(field: &[u8]) -> Result<Option<i64>, BadField>
     ensures in_range { IfOk result (λ value. IfSome value IsClock) }
 {
     if field.len() == CLOCK_WIDTH {
-        if clock_field::is_blank(field) {
+        // The last column is in the last two lanes.
+        let columns = u8x8::from_slice(field).shuffle(
+            u8x8::from_slice(&field[7..]),
+            [0, 1, 2, 3, 4, 5, 6, 7, 9, 10, 11, 12, 13, 14, 15, 15],
+        );
+        if columns.simd_eq(u8x16::splat(b' ')).to_bitmask() == 0xffff {
             return Ok(None);
         }
         if let Some(number) = clock_field::value(field) {

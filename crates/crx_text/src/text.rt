@@ -106,71 +106,41 @@ impl Text {
     pub fn trim_end_blanks(&mut self)
         ensures trimmed { self.new ≡ without_end_blanks self.old }
     {
-        let text = self.bytes();
-        self.len = end_blanks(text);
+        self.len = trim_end(self.bytes()).len();
     }
 }
 
 /// A text without the blanks at its end.
+#[tactic(auto, using(crate::proofs::EndBlanks::ended_at, crate::proofs::EndBlanks::blank_passed, crate::proofs::EndBlanks::nothing_after))]
 pub fn trim_end(text: &[u8]) -> &[u8]
     ensures value { result.now ≡ without_end_blanks text.now }
-{
-    &text[..end_blanks(text)]
-}
-
-// Where the blanks at the end of a text begin.
-#[tactic(auto, using(crate::proofs::EndBlanks::ended_at, crate::proofs::EndBlanks::blank_passed, crate::proofs::EndBlanks::nothing_after))]
-fn end_blanks(text: &[u8]) -> usize
-    ensures kept { take result text.now ≡ without_end_blanks text.now }
-    ensures within { result ≤ length text.now }
+    ensures shorter { length result.now ≤ length text.now }
 {
     let mut end = text.len();
     if end > 2 {
         if text[end - 1] != b' ' {
-            return end;
+            return &text[..end];
         }
         // One blank is after the last code of most compact lines, two where the last cell of a row has no indicators.
         if text[end - 2] != b' ' {
-            return end - 1;
+            return &text[..end - 1];
         }
         if text[end - 3] != b' ' {
-            return end - 2;
+            return &text[..end - 2];
         }
-    }
-    if end < LANES {
-        return end_blanks_of_few(text);
     }
     while end >= LANES {
         let start = end - LANES;
-        let count = kept_in(u8x16::from_slice(&text[start..]));
+        let others = u8x16::from_slice(&text[start..])
+            .simd_ne(u8x16::splat(b' '))
+            .to_bitmask();
+        let count = 64 - others.leading_zeros() as usize;
         if count > 0 {
-            return start + count;
+            return &text[..start + count];
         }
         end = start;
     }
-    kept_in(u8x16::from_slice(text))
-}
-
-// How many of 16 characters are before the blanks at their end.
-#[inline(always)]
-fn kept_in(characters: u8x16) -> usize
-    ensures kept { result ≡ length (without_end_blanks characters) }
-    ensures within { result ≤ 16 }
-{
-    let others = characters.simd_ne(u8x16::splat(b' ')).to_bitmask();
-    64 - others.leading_zeros() as usize
-}
-
-// Half as many characters as there are lanes: the indicators of four types are as many, and one by one they take 6 instructions each.
-const EIGHT: usize = 8;
-
-// Where the blanks at the end of a text that is shorter than a vector begin: the last 8 characters at once, and the others one by one.
-#[tactic(auto, using(crate::proofs::EndBlanks::ended_at))]
-fn end_blanks_of_few(text: &[u8]) -> usize
-    ensures kept { take result text.now ≡ without_end_blanks text.now }
-    ensures within { result ≤ length text.now }
-{
-    let mut end = text.len();
+    // The indicators of four types are 8 characters, and one by one they take 6 instructions each.
     if end >= EIGHT {
         let start = end - EIGHT;
         let others = u8x8::from_slice(&text[start..])
@@ -178,15 +148,15 @@ fn end_blanks_of_few(text: &[u8]) -> usize
             .to_bitmask();
         let count = 64 - others.leading_zeros() as usize;
         if count > 0 {
-            return start + count;
+            return &text[..start + count];
         }
         end = start;
     }
-    while end > 0 {
-        if text[end - 1] != b' ' {
-            return end;
-        }
+    while end > 0 && text[end - 1] == b' ' {
         end -= 1;
     }
-    end
+    &text[..end]
 }
+
+// Half as many characters as there are lanes.
+const EIGHT: usize = 8;

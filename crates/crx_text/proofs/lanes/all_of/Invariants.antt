@@ -1,4 +1,4 @@
-use Rattle.std.proofs.Common.{◌≡◌, ◌≤◌, ◌-◌, eqb, length, take}
+use Rattle.std.proofs.Common.{◌≡◌, ◌≤◌, ◌-◌, eqb, length, take, drop}
 use Rattle.std.specs.List.{list_all}
 use Rattle.crx_text.proofs.lanes.all_of.Given as goal
 
@@ -10,3 +10,8 @@ invariant-loop-at g l =
 
 abbrev pub decreases-loop-at : goal.decreases-loop-at
 decreases-loop-at g l = length l.text - l.at
+
+-- the characters that are left decide
+abbrev pub invariant-loop-character : goal.invariant-loop-character
+invariant-loop-character g l =
+    list_all g.K.Kind.is_of_kind (drop l.character-index l.text) ≡ list_all g.K.Kind.is_of_kind l.text

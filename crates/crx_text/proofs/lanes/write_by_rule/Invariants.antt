@@ -11,3 +11,8 @@ invariant-loop-at g l =
 
 abbrev pub decreases-loop-at : goal.decreases-loop-at
 decreases-loop-at g l = length l.old - l.at
+
+abbrev pub invariant-loop-column : goal.invariant-loop-column
+invariant-loop-column g l =
+    (length l.out ≡ length l.old)
+    × (take l.column l.out ≡ take l.column (zip2 g.R.Rule.rule l.old l.other))

@@ -21,19 +21,17 @@ invariant_of-result c =
     c.in-Ok.values.items c.read_cells.new.flags c.in-Ok-vec.flags.items m c.in-Ok.values.len
     c.in-Ok-vec.flags.len
     (ap is_identifier c.identifier.ensures.value ∙ c.in-Some.ensures.named) c.in-Some.ensures.allowed
-    values flags values_len flags_len c.in_ok-read_cells.ensures.ranged c.in_ok-read_cells.ensures.kept
+    values flags values_len flags_len c.in_ok-read_cells.ensures.ok.ranged c.in_ok-read_cells.ensures.ok.kept
 
 pub returns-clause-sound : goal.returns-clause-sound
 returns-clause-sound c = invariant_of-result c
 
-pub read_cells-requires-clause-paired : goal.read_cells-requires-clause-paired
-read_cells-requires-clause-paired c =
-    c.deref_mut-2.ensures.len ∙ c.in-Ok-vec.ensures.len
-    ∙ ap (λ (m : ℕ). 2 * m) (sym (c.deref_mut.ensures.len ∙ c.in-Ok.ensures.len))
-
-pub read_cells-requires-clause-few : goal.read_cells-requires-clause-few
-read_cells-requires-clause-few c =
-    rw (c.deref_mut.ensures.len, c.in-Ok.ensures.len) c.in-Some.ensures.allowed.1
+pub read_cells-requires : goal.read_cells-requires
+read_cells-requires c = (
+  c.deref_mut-2.ensures.len ∙ c.in-Ok-vec.ensures.len
+      ∙ ap (λ (m : ℕ). 2 * m) (sym (c.deref_mut.ensures.len ∙ c.in-Ok.ensures.len)),
+  rw (c.deref_mut.ensures.len, c.in-Ok.ensures.len) c.in-Some.ensures.allowed.1,
+)
 
 pub returns-in_default-vec-clause-err : goal.returns-in_default-vec-clause-err
 returns-in_default-vec-clause-err c =
@@ -76,4 +74,4 @@ returns-clause-ok c =
     (ap (row_of_types line) (sym c.types_of_satellite.ensures.value ∙ c.in-Some.is)
     ∙ ap (λ (m : ℕ). row_with m line (values_in m line))
     (sym (c.deref_mut.ensures.len ∙ c.in-Ok.ensures.len))
-    ∙ c.in_ok-read_cells.ensures.ok)
+    ∙ c.in_ok-read_cells.ensures.ok.row)

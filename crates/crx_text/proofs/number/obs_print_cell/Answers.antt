@@ -6,7 +6,7 @@ use lib.Seq.{take-append-add}
 use Rattle.std.proofs.lemmas.Slice.{take-put_mid}
 use borrow.Rule.Slice.PartMut.{put_mid, same_len_mid}
 use Rattle.crx_base.specs.declared.limits.TheConstants.{CELL_WIDTH}
-use Rattle.crx_text.proofs.number.obs_print_cell_into.Goals as goal
+use Rattle.crx_text.proofs.number.obs_print_cell.Goals as goal
 
 -- the first 14 bytes of a part of some bytes
 field_written : (bytes part : List ℕ) (at k : ℕ) → length part ≡ 16 → k ≡ 16 → at + 16 ≤ length bytes

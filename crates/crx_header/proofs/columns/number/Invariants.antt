@@ -2,7 +2,7 @@ use Rattle.std.proofs.Common.{◌≡◌, ◌<◌, drop}
 use Rattle.std.specs.Char.{is_ascii_digit}
 use Rattle.std.specs.List.{list_all}
 use Rattle.std.specs.Str.Parse.{digits_value_after, digits_value}
-use Rattle.crx_header.proofs.columns.number_of_digits.Given as goal
+use Rattle.crx_header.proofs.columns.number.Given as goal
 
 -- the digits that are left decide, and go on from the number so far, which has a digit for each one passed
 abbrev pub invariant-loop-c : goal.invariant-loop-c
