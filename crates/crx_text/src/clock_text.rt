@@ -5,7 +5,7 @@ ghost use Rattle.std.specs.Simd.Lanes.{zip2};
 ghost use Rattle.crx_base.specs.declared.limits.TheConstants.{CLOCK_DECIMALS, CLOCK_WIDTH};
 ghost use Rattle.crx_text.specs.meaning.Numbers.{size_text};
 
-use crate::field_text::{digits, groups};
+use crate::field_text::digits;
 use std::simd::prelude::*;
 
 /// How many units of 10^-12 seconds a second has.
@@ -19,7 +19,7 @@ pub(crate) fn size_print(size: u64, field: &mut [u8])
     ensures { field.new ≡ 32 ∷ size_text CLOCK_DECIMALS size }
 {
     let whole = size / SECOND;
-    let digits = digits(groups(size - whole * SECOND));
+    let digits = digits(size - whole * SECOND);
     // The digits of the groups one after another, as characters; the first 12 lanes are the columns after the point.
     let text = digits.swizzle([6, 5, 4, 2, 1, 0, 14, 13, 12, 10, 9, 8, 3, 3, 3, 3])
         + u8x16::splat(b'0');

@@ -1,19 +1,19 @@
 //! An observation's text by lanes: the digits of its 14 columns in one row, and then the blanks
 //! before the first of them.
 
-ghost use Rattle.std.specs.Prelude.{◌≡◌, ◌+◌, ◌-◌, ◌/◌, ◌%◌, ◌^◌, ◌<◌, ◌≤◌, ◌∷◌, ◌++◌, [], ◌*◌, length, map, slice_index, take, drop, replicate};
-ghost use Rattle.std.specs.Simd.Lanes.{Each1, zip2};
+ghost use Rattle.std.specs.Prelude.{◌≡◌, ◌+◌, ◌/◌, ◌%◌, ◌^◌, ◌<◌, ◌≤◌, ◌∷◌, [], length, take, drop, replicate};
 ghost use Rattle.crx_base.specs.declared.limits.TheConstants.{CELL_WIDTH, OBSERVATION_WIDTH, OBSERVATION_DECIMALS};
 ghost use Rattle.crx_text.specs.FieldTexts.{group_digits};
 ghost use Rattle.crx_text.specs.meaning.Numbers.{size_text};
 
 use std::simd::prelude::*;
 
-/// The groups of three digits of a size, of its upper half and of its lower half, in each the lower group first.
+/// The digits of the groups of three of a size, of its upper half and of its lower half, in each the lower group first: each group's
+/// three digits, the last one first, and a 0.
 #[inline(always)]
-pub(crate) fn groups(size: u64) -> u32x4
+pub(crate) fn digits(size: u64) -> u8x16
     requires { size < 10 ^ 12 }
-    ensures { result ≡ size / 10 ^ 6 % 1000 ∷ size / 10 ^ 9 ∷ size % 1000 ∷ size / 1000 % 1000 ∷ [] }
+    ensures { result ≡ group_digits (size / 10 ^ 6 % 1000 ∷ size / 10 ^ 9 ∷ size % 1000 ∷ size / 1000 % 1000 ∷ []) }
 {
     let high = (size / 1_000_000) as u32;
     let low = (size - u64::from(high) * 1_000_000) as u32;
@@ -22,18 +22,9 @@ pub(crate) fn groups(size: u64) -> u32x4
     // Each half's rest by 1000, and its thousands in the upper 32 bits.
     let thousands = (halves * u64x2::splat(274_877_907)) >> u64x2::splat(38);
     let parts = halves + thousands * u64x2::splat((1 << 32) - 1000);
-    u32x4::from_le_bytes(parts.to_le_bytes())
-}
-
-/// Each group's three digits, the last one first, and a 0: a group, its tenth and its hundredth, which one product turns into digits,
-/// so that no division is made. The mask tells the compiler that all factors are small, for which it has a product that is faster.
-#[inline(always)]
-#[tactic(auto, using(crate::proofs::PrintedLanes::digits_of_words))]
-pub(crate) fn digits(groups: u32x4) -> u8x16
-    requires { Each1 (λ group. group < 1000) groups }
-    ensures { result ≡ group_digits groups }
-{
-    let groups = groups & u32x4::splat(1023);
+    // A group, its tenth and its hundredth, which one product turns into digits, so that no division is made. The mask tells the compiler
+    // that all factors are small, for which it has a product that is faster.
+    let groups = u32x4::from_le_bytes(parts.to_le_bytes()) & u32x4::splat(1023);
     let tenths = (groups * u32x4::splat(205)) >> u32x4::splat(11);
     let hundredths = (groups * u32x4::splat(41)) >> u32x4::splat(12);
     let parts = tenths + (hundredths << u32x4::splat(8));
@@ -61,7 +52,7 @@ pub(crate) fn size_print(size: u64, cell: &mut [u8]) -> usize
     ensures before { take result (take OBSERVATION_WIDTH cell.new) ≡ replicate result 32 }
 {
     // The digits in their columns, with what becomes the point once 48 is added.
-    let columns = digits(groups(size)).shuffle(
+    let columns = digits(size).shuffle(
         u8x16::splat(254),
         [3, 6, 5, 4, 2, 1, 0, 14, 13, 12, 16, 10, 9, 8, 3, 3],
     );

@@ -1,6 +1,5 @@
 use Rattle.std.proofs.Common.{ℕ, List, [], ◌∷◌, ◌++◌, ◌+◌, ◌/◌, ◌^◌, set, ap, refl, ◌∙◌, replicate}
 use lib.Lanes.{pick_l}
-use Rattle.crx_text.specs.FieldTexts.{group_digits}
 use Rattle.crx_text.proofs.ClockTexts.{clock_written, fraction_lanes, stored, stored_fraction}
 use Rattle.crx_text.proofs.PrintedTexts.{plus}
 use Rattle.crx_text.proofs.clock_text.size_print.Goals as goal
@@ -14,6 +13,6 @@ returns c =
     (6 ∷ 5 ∷ 4 ∷ 2 ∷ 1 ∷ 0 ∷ 14 ∷ 13 ∷ 12 ∷ 10 ∷ 9 ∷ 8 ∷ 3 ∷ 3 ∷ 3 ∷ 3 ∷ [])) (replicate 16 48) in
     let lanes : List ℕ = fraction_lanes size c.requires.small in
     ap (λ (d : List ℕ). before (stored (text d) field))
-    (c.digits-digits.ensures ∙ ap group_digits c.groups.ensures)
+    c.digits-digits.ensures
     ∙ ap before (stored_fraction lanes field refl c.requires.width)
     ∙ clock_written size c.requires.small field c.requires.width

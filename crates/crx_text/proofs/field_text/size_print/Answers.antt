@@ -36,14 +36,14 @@ module _ (size : ℕ) (digits : List ℕ) (is : digits ≡ group_digits (size / 
 
 pub overflow_sub-text : goal.overflow_sub-text
 overflow_sub-text c =
-    let few = start_few c.args.size c.digits.result (c.digits.ensures ∙ ap group_digits c.groups.ensures) in
+    let few = start_few c.args.size c.digits.result c.digits.ensures in
     omega (arith, few)
 
 pub returns : goal.returns
 returns c =
     let size = c.args.size in
     let small = c.requires.short in
-    let is = c.digits.ensures ∙ ap group_digits c.groups.ensures in
+    let is = c.digits.ensures in
     let columns : List ℕ = in_columns c.digits.result in
     let start : ℕ = start_of columns in
     let at = start_is size c.digits.result is in
