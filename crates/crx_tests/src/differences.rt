@@ -89,7 +89,7 @@ fn is_marked(old: &Text, new: &[u8], place: usize, mark: u8) -> bool {
     new.len() <= LINE_LIMIT
         && diff_text(old, new, &mut marks).is_ok()
         && marks.bytes().iter().position(|mark| *mark != b' ') == Some(place)
-        && marks.len() == place.saturating_add(1)
+        && marks.bytes().len() == place.saturating_add(1)
         && marks.bytes().last() == Some(&mark)
         && patch_text(old, marks.bytes(), &mut back).is_ok()
         && back.bytes() == trim_end(new)

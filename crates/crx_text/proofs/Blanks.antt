@@ -1,7 +1,6 @@
 -- Blanks at the ends of texts, and the columns of a line that ends before them.
-use Rattle.std.proofs.Common.{◌≡◌, ℕ, ◌-◌, ◌≤◌, Bool, true, false, List, [], ◌∷◌, ◌++◌, length, take, drop}
-use Rattle.std.proofs.Common.{replicate, refl, ap, ◌∙◌, arith, suc, zero, cond, ◌&&◌}
-use Rattle.std.specs.List.{list_all}
+use Rattle.std.proofs.Common.{◌≡◌, ℕ, ◌-◌, ◌≤◌, true, false, List, [], ◌∷◌, ◌++◌, length, take, drop}
+use Rattle.std.proofs.Common.{replicate, refl, ap, arith, suc, zero, cond}
 use Rattle.std.proofs.lemmas.List.{take-replicate}
 use Rattle.crx_text.specs.meaning.Columns.{is_blank, columns, before_end_blanks, without_end_blanks}
 use Rattle.crx_text.specs.meaning.Columns.{without_first_blanks, without_blanks}
@@ -45,23 +44,12 @@ columns_are line first width = padded_more width width (drop (first - 1) line) (
 -- so what doesn't read blanks at the ends reads the part alone
 pub end_blanks_columns : (line : List ℕ) (first width : ℕ)
     → without_end_blanks (columns line first width) ≡ without_end_blanks (take width (drop (first - 1) line))
-end_blanks_columns line first width = let e : columns line first width ≡ take width (drop (first - 1) line)
-    ++ replicate (width - length (take width (drop (first - 1) line))) 32 = columns_are line first width in
-    ap without_end_blanks e
-    ∙ end_blanks-more (take width (drop (first - 1) line))
-    (width - length (take width (drop (first - 1) line)))
+end_blanks_columns line first width =
+    rw (columns_are line first width) (end_blanks-more (take width (drop (first - 1) line))
+    (width - length (take width (drop (first - 1) line))))
 
 pub blanks_columns : (line : List ℕ) (first width : ℕ)
     → without_blanks (columns line first width) ≡ without_blanks (take width (drop (first - 1) line))
-blanks_columns line first width = let e : columns line first width ≡ take width (drop (first - 1) line)
-    ++ replicate (width - length (take width (drop (first - 1) line))) 32 = columns_are line first width in
-    ap without_blanks e
-    ∙ blanks-more (take width (drop (first - 1) line)) (width - length (take width (drop (first - 1) line)))
-
-all_blank : (n : ℕ) → list_all is_blank (replicate n 32) ≡ true
-all_blank zero = refl
-all_blank (suc n) = all_blank n
-
-all_blank-more : (xs : List ℕ) (n : ℕ) → list_all is_blank (xs ++ replicate n 32) ≡ list_all is_blank xs
-all_blank-more [] n = all_blank n
-all_blank-more (x ∷ xs) n = ap (λ (b : Bool). is_blank x && b) (all_blank-more xs n)
+blanks_columns line first width =
+    rw (columns_are line first width) (blanks-more (take width (drop (first - 1) line))
+    (width - length (take width (drop (first - 1) line))))

@@ -16,10 +16,6 @@ before_some : (x : ℕ) (zs : List ℕ) → 0 < length zs → before_end_blanks 
 before_some x [] some = absurd (omega arith)
 before_some x (z ∷ zs) some = refl
 
-before_none : (x : ℕ) (zs : List ℕ) → before_end_blanks x zs ≡ [] → zs ≡ []
-before_none x [] none = refl
-before_none x (z ∷ zs) none = let long = ap length none in absurd (omega (arith, long))
-
 -- what is after a part decides which blanks are dropped
 kept_append : (xs ys : List ℕ)
     → 0 < length (without_end_blanks ys) → without_end_blanks (xs ++ ys) ≡ xs ++ without_end_blanks ys
@@ -34,10 +30,6 @@ none_append : (xs ys : List ℕ) → without_end_blanks ys ≡ []
     → without_end_blanks (xs ++ ys) ≡ without_end_blanks xs
 none_append [] ys none = none
 none_append (x ∷ xs) ys none = ap (before_end_blanks x) (none_append xs ys none)
-
-none_after : (xs ys : List ℕ) → without_end_blanks (xs ++ ys) ≡ [] → without_end_blanks ys ≡ []
-none_after [] ys none = none
-none_after (x ∷ xs) ys none = none_after xs ys (before_none x (without_end_blanks (xs ++ ys)) none)
 
 pub take_kept : (xs : List ℕ) → take (length (without_end_blanks xs)) xs ≡ without_end_blanks xs
 take_kept [] = refl

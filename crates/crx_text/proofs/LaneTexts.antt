@@ -95,10 +95,3 @@ last_written m n i whole out made all passed before long written =
     sym (take_all (m + n) made (omega (arith, long, all)))
     ∙ piece_written m n whole out made front written
     ∙ take_all (m + n) whole (omega (arith, all))
-
--- the rule that leaves the second text
-pub zip2_second : (xs ys : List ℕ) → length xs ≡ length ys → zip2 (λ (x y : ℕ). y) xs ys ≡ ys
-zip2_second [] [] same = refl
-zip2_second [] (y ∷ ys) same = absurd (omega arith)
-zip2_second (x ∷ xs) [] same = absurd (omega arith)
-zip2_second (x ∷ xs) (y ∷ ys) same = ap (λ t. y ∷ t) (zip2_second xs ys (omega arith))

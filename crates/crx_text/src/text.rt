@@ -1,6 +1,6 @@
 //! A text of a line's length at most, held in place.
 
-ghost use Rattle.std.specs.Prelude.{◌≡◌, ◌+◌, ◌<◌, ◌≤◌, ◌↔◌, List, [], ◌∷◌, ◌++◌, ℕ, length, take, OnOk, OnErr, IsErr, IsTrue};
+ghost use Rattle.std.specs.Prelude.{◌≡◌, ◌+◌, ◌<◌, ◌≤◌, ◌↔◌, List, [], ◌∷◌, ◌++◌, ℕ, length, take, OnOk, OnErr, IsErr};
 ghost use Rattle.crx_text.specs.meaning.Columns.{without_end_blanks};
 ghost use Rattle.crx_base.specs.declared.limits.TheConstants.{LINE_LIMIT};
 
@@ -54,21 +54,6 @@ impl Text {
         ensures within { length self.now ≤ LINE_LIMIT }
     {
         &self.bytes[..self.len]
-    }
-
-    /// How many bytes the text has.
-    pub fn len(&self) -> usize
-        ensures value { result ≡ length self.now }
-        ensures within { length self.now ≤ LINE_LIMIT }
-    {
-        self.bytes().len()
-    }
-
-    /// Whether the text has no byte.
-    pub fn is_empty(&self) -> bool
-        ensures value { IsTrue result ↔ (self.now ≡ []) }
-    {
-        self.len == 0
     }
 
     /// Appends a byte. `TextFull` comes where the text has [`LINE_LIMIT`] bytes already, and then

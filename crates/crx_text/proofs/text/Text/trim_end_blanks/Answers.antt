@@ -1,4 +1,4 @@
-use Rattle.std.proofs.Common.{◌≡◌, ◌≤◌, ℕ, List, length, take, ap, sym, ◌∙◌, arith}
+use Rattle.std.proofs.Common.{ℕ, List, length, take, ap, sym, ◌∙◌, arith}
 use Rattle.std.proofs.lemmas.List.{length-take, take-take}
 use Rattle.crx_text.specs.meaning.Columns.{without_end_blanks}
 use Rattle.crx_text.proofs.EndBlanks.{few_kept, take_kept}
