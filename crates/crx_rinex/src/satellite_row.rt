@@ -268,13 +268,30 @@ fn read_other_cells(line: &[u8], first: usize, values: &mut [Option<i64>], flags
             flags[2 * k + 1] = b' ';
             continue;
         }
-        let Ok(value) = obs_read(&padded::<OBSERVATION_WIDTH>(line, start + 1)) else {
+        let Some(value) = observation(line, k) else {
             return false;
         };
         values[k] = value;
         put_indicators(line, k, flags);
     }
     all_blank(after_columns(line, CELL_WIDTH * values.len() + NAME_WIDTH))
+}
+
+/// The value of type k, from 0; `None` where its field is neither blank nor a number of format F14.3. Most of these fields end with the
+/// line, and are read out of it: their copy would take some 30 instructions more.
+#[inline(always)]
+fn observation(line: &[u8], k: usize) -> Option<Option<i64>>
+    requires { k < TYPES_LIMIT }
+    ensures value { result ≡ observation_of (field line.now k) }
+    ensures ranged { IfSome result IsValue }
+{
+    let start = CELL_WIDTH * k + NAME_WIDTH;
+    let end = start + OBSERVATION_WIDTH;
+    if end <= line.len() {
+        obs_read(&line[start..end]).ok()
+    } else {
+        obs_read(&padded::<OBSERVATION_WIDTH>(line, start + 1)).ok()
+    }
 }
 
 /// Prints cells in place of the bytes from an index on, each value in its columns, and its two indicators, and gives the index after them.

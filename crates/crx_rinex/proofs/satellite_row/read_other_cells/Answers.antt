@@ -1,7 +1,6 @@
 use Rattle.std.proofs.Common.{◌≡◌, ◌+◌, ◌*◌, ℕ, None, length, drop, ap, refl, sym, ◌∙◌, arith}
 use Rattle.std.specs.List.{list_all}
 use Rattle.crx_text.specs.meaning.Columns.{is_blank}
-use Rattle.crx_text.specs.meaning.Numbers.{observation_of}
 use Rattle.crx_rinex.proofs.Cells.{cells_end, cells_more, cells_none, field_past, past}
 use Rattle.crx_rinex.proofs.satellite_row.read_other_cells.Goals as goal
 
@@ -17,15 +16,13 @@ loop-k-preserved-then-line-start c =
 pub loop-k-preserved : goal.loop-k-preserved
 loop-k-preserved c =
     rw c.put_indicators.ensures.put (cells_more c.args.line.now c.loop-k.values c.loop-k.flags c.loop-k.k _ _
-    c.in-Ok.value c.loop-k.invariant (omega (arith, c.loop-k-test.true, c.loop-k.auto.values))
-    (ap observation_of (sym c.padded.ensures.value) ∙ sym c.in-Ok.ensures.value) c.in-Ok.ensures.in_range
-    refl refl)
+    c.in-Some.value c.loop-k.invariant (omega (arith, c.loop-k-test.true, c.loop-k.auto.values))
+    (sym c.in-Some.ensures.value) c.in-Some.ensures.ranged refl refl)
 
 pub returns-in_default : goal.returns-in_default
 returns-in_default c =
     cells_none c.args.line.now c.loop-k.k (length c.args.values.now)
-    (omega (arith, c.loop-k-test.true, c.loop-k.auto.values))
-    (ap observation_of (sym c.padded.ensures.value) ∙ sym c.in_default.ensures.value)
+    (omega (arith, c.loop-k-test.true, c.loop-k.auto.values)) (sym c.in_default.ensures.value)
 
 pub returns : goal.returns
 returns c =
