@@ -10,7 +10,9 @@ use crx_base::limits::NAME_WIDTH;
 use crx_text::columns::{character, end_trimmed, trimmed};
 pub use crx_text::columns::{after_columns, all_blank, padded};
 
-/// The number in three columns from a first one on: digits, with blanks before or after them.
+/// The number in three columns from a first one on: digits, with blanks before or after them. Where the first column is known fewer
+/// instructions are left of it, so it has no call of its own.
+#[inline(always)]
 pub fn number(line: &[u8], first: usize) -> Option<usize>
     requires from_one { 1 ≤ first }
     ensures value { result ≡ number_in (columns line.now first 3) }
