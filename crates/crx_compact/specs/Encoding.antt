@@ -18,6 +18,11 @@ pub record EncoderState : Type 0 where
   pub pending : List (List ℕ)
   pub room : EncodingRoom
 
+-- every epoch is forgotten, and these lines are pending
+abbrev pub forgotten : EncoderState → List (List ℕ) → EncodingRoom → EncoderState
+forgotten state pending room =
+    record state { before = None; is_open = false; rows = []; pending = pending; room = room }
+
 -- the tail that the rows of the open epoch are written after
 abbrev pub tail_in : EncoderState → Tail
 tail_in state = tail_written_after state.in_full state.before

@@ -9,7 +9,6 @@ use Rattle.crx_compact.specs.declared.copied_line.CopiedLine.TheInside.{Inside a
 use Rattle.crx_compact.specs.declared.expanded_lines.ExpandedLines.TheInside.{Inside as ExpandedLinesInside}
 use Rattle.crx_compact.specs.declared.printed_block.PrintedBlock.{PrintedBlock}
 use Rattle.crx_compact.specs.declared.columns.Columns.TheInside.{Inside as ColumnsInside}
-use Rattle.crx_compact.specs.declared.ready_lines.ReadyLines.{ReadyLines}
 use Rattle.crx_compact.specs.declared.encoder.Encoder.TheInside.{Inside as EncoderInside}
 use Rattle.crx_compact.specs.declared.kept_tail.KeptTail.{KeptTail}
 use Rattle.crx_rinex.specs.declared.rows_so_far.RowsSoFar.{RowsSoFar}
@@ -99,22 +98,16 @@ rows_with one other = record one { marker = other.marker; rows = other.rows }
 abbrev pub kept_tail_with : KeptTail → KeptTail → KeptTail
 kept_tail_with one other = record one { marker = other.marker; tail = other.tail }
 
--- the lines that a compaction has ready, with the parts of another
-abbrev pub ready_lines_with : ReadyLines → ReadyLines → ReadyLines
-ready_lines_with one other = record one {
-  turn = other.turn;
-  program = other.program;
-  copied = other.copied;
-  made = other.made;
-}
-
 -- an encoder, with the parts of another
 abbrev pub encoder_with : EncoderInside → EncoderInside → EncoderInside
 encoder_with one other = record one {
   history = other.history;
   is_kept = other.is_kept;
   in_full = other.in_full;
-  ready = ready_lines_with one.ready other.ready;
+  turn = other.turn;
+  program = other.program;
+  copied = other.copied;
+  made = other.made;
   part = other.part;
   before = kept_tail_with one.before other.before;
   rows = rows_with one.rows other.rows;

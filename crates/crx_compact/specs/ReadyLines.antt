@@ -1,9 +1,8 @@
 -- The lines that a compaction has ready.
 use Rattle.std.specs.Prelude.{ℕ, List, [], ◌∷◌, Bool, true, false}
 use Rattle.crx_header.specs.meaning.CompactHeader.{version_line}
-use Rattle.crx_compact.specs.declared.ready_lines.Turn.{Turn}
-use Rattle.crx_compact.specs.declared.ready_lines.Turn.TheVariants.{Version, Program, Copied, Over, Made, Open}
-use Rattle.crx_compact.specs.declared.ready_lines.ReadyLines.{ReadyLines}
+use Rattle.crx_compact.specs.declared.encoder.Turn.{Turn}
+use Rattle.crx_compact.specs.declared.encoder.Turn.TheVariants.{Version, Program, Copied, Over, Made, Open}
 
 -- the lines from a turn on: the two of compact text before a line that is copied, or this alone; or those that were made.
 -- There is none while those of an epoch are made, and none after a line that was copied
@@ -19,6 +18,3 @@ lines_from Open program copied made = []
 abbrev pub is_opened : Turn → Bool
 is_opened Open = true
 is_opened turn = false
-
-abbrev pub pending_lines : ReadyLines → List (List ℕ)
-pending_lines r = lines_from r.turn r.program.value r.copied r.made.lines

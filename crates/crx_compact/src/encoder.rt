@@ -4,22 +4,44 @@ ghost use Rattle.std.specs.Prelude.{◌≡◌, ◌≤◌, ◌+◌, ◌*◌, ◌+
 ghost use Rattle.crx_base.specs.declared.limits.TheConstants.{DATE_LIMIT, HEAD_WIDTH, LINE_LIMIT, NAME_WIDTH};
 ghost use Rattle.crx_header.specs.meaning.CompactHeader.{lines_before_header};
 ghost use Rattle.crx_rinex.specs.meaning.Epochs.{has_satellite};
-ghost use Rattle.crx_compact.specs.Encoding.{EncoderState, tail_in};
+ghost use Rattle.crx_compact.specs.Encoding.{EncoderState, forgotten, tail_in};
 ghost use Rattle.crx_compact.specs.EncodingRooms.{HasRowRoom, HasTakenRow, KeepsEncodingRoom, all_free};
 ghost use Rattle.crx_compact.specs.LineLists.{lines_text};
 ghost use Rattle.crx_compact.specs.Placing.{IsBetween};
 ghost use Rattle.crx_compact.specs.Steps.{lines_after_tail, tail_after};
 ghost use Rattle.crx_compact.specs.Written.{epoch_by_rows};
 
+use crate::copied_line::CopiedLine;
 use crate::history::History;
 use crate::kept_tail::KeptTail;
-use crate::ready_lines::ReadyLines;
+use crate::lines::{FIRST_LINES, Lines};
+use crx_base::options::in_columns;
+use crx_header::crinex::{CRINEX_PROGRAM, CRINEX_PROGRAM_LABEL, CRINEX_VERSION_LINE};
 use crx_rinex::{EpochLine, RowBuffer, RowsSoFar};
 use crx_text::Text;
+use crx_text::appending::append;
 use std::alloc::{AllocError, Global};
 use std::marker::Model;
 
-/// Makes the compact lines of epochs whose rows come one by one, and has them ready, as it has lines that are copied.
+/// Which of the lines comes next.
+#[derive(Clone, Copy)]
+pub(crate) enum Turn {
+    /// The first line of compact text, then the others.
+    Version,
+    /// Its second line, then the others.
+    Program,
+    /// The line that is copied, and none after it.
+    Copied,
+    /// None any more, after a line that was copied.
+    Over,
+    /// Those that were made.
+    Made,
+    /// None yet: those of an epoch are being made.
+    Open,
+}
+
+/// Makes the compact lines of epochs whose rows come one by one, and has them ready, as it has lines that are copied and the two before the
+/// header. All memory but that of an epoch's rows is taken at the beginning.
 #[derive(Drop)]
 pub struct Encoder {
     history: History,
@@ -27,7 +49,10 @@ pub struct Encoder {
     is_kept: bool,
     /// Whether the open epoch was asked for in full; it is in full also where nothing is kept.
     in_full: bool,
-    ready: ReadyLines,
+    turn: Turn,
+    program: Box<Text>,
+    copied: CopiedLine,
+    made: Lines,
     part: Box<Text>,
     /// The tail of the epochs before the open one, whose rows change the history in place.
     before: KeptTail,
@@ -39,23 +64,23 @@ impl Model for Encoder {
     ghost use Rattle.std.specs.Prelude.{◌≡◌};
     ghost use Rattle.crx_compact.specs.Encoding.{EncoderState, IsEncoding};
     ghost use Rattle.crx_compact.specs.EncodingRooms.{encoding_room};
-    ghost use Rattle.crx_compact.specs.ReadyLines.{is_opened, pending_lines};
+    ghost use Rattle.crx_compact.specs.ReadyLines.{is_opened, lines_from};
     ghost use Rattle.crx_compact.specs.declared.lines.TheConstants.{FIRST_LINES};
 
     ghost Value = { EncoderState };
 
     ghost view = { λ encoder. record {
       before = encoder.before.tail;
-      is_open = is_opened encoder.ready.turn;
+      is_open = is_opened encoder.turn;
       in_full = encoder.in_full;
       rows = encoder.rows.rows;
-      pending = pending_lines encoder.ready;
-      room = encoding_room encoder.history encoder.ready.made;
+      pending = lines_from encoder.turn encoder.program.value encoder.copied encoder.made.lines;
+      room = encoding_room encoder.history encoder.made;
     } };
 
-    ghost invariant = { λ encoder. IsEncoding (is_opened encoder.ready.turn) encoder.before.tail encoder.is_kept encoder.in_full
-        encoder.rows.rows encoder.history encoder.ready.made.lines encoder.ready.made.front
-        × (encoder.ready.made.reserved ≡ FIRST_LINES) };
+    ghost invariant = { λ encoder. IsEncoding (is_opened encoder.turn) encoder.before.tail encoder.is_kept encoder.in_full
+        encoder.rows.rows encoder.history encoder.made.lines encoder.made.front
+        × (encoder.made.reserved ≡ FIRST_LINES) };
 }
 
 impl Encoder {
@@ -72,13 +97,19 @@ impl Encoder {
         ensures rows { IfOk result (λ e. e.rows ≡ []) }
         ensures pending { IfOk result (λ e. e.pending ≡ []) }
     {
-        let ready = ReadyLines::new(alloc)?;
+        let program = Box::new(alloc, Text::new())?;
+        let copied = CopiedLine::new(alloc)?;
+        let mut made = Lines::new(alloc);
+        made.reserve_front(FIRST_LINES)?;
         let part = Box::new(alloc, Text::new())?;
         Ok(Encoder {
             history: History::new(alloc),
             is_kept: false,
             in_full: false,
-            ready,
+            turn: Turn::Made,
+            program,
+            copied,
+            made,
             part,
             before: KeptTail::none(),
             rows: RowsSoFar::new(),
@@ -87,14 +118,11 @@ impl Encoder {
 
     /// Forgets every epoch, the open one too, and drops all lines.
     pub fn reset(&mut self)
-        ensures before { self.new.before ≡ None }
-        ensures closed { self.new.is_open ≡ false }
-        ensures rows { self.new.rows ≡ [] }
-        ensures pending { self.new.pending ≡ [] }
         // Whatever was asked for is used again.
-        ensures room { self.new.room ≡ all_free self.old.room }
+        ensures emptied { self.new ≡ forgotten self.old [] (all_free self.old.room) }
     {
-        self.ready.clear();
+        self.turn = Turn::Made;
+        self.made.clear();
         forget(
             &mut self.history,
             &mut self.is_kept,
@@ -106,28 +134,30 @@ impl Encoder {
     /// Makes a line ready that is copied, in place of all others, and forgets every epoch.
     pub fn copy(&mut self, line: &[u8])
         requires short { length line.now ≤ LINE_LIMIT }
-        ensures before { self.new.before ≡ None }
-        ensures closed { self.new.is_open ≡ false }
-        ensures rows { self.new.rows ≡ [] }
-        ensures copied { self.new.pending ≡ line.now ∷ [] }
-        ensures room { self.new.room ≡ all_free self.old.room }
+        ensures copied { self.new ≡ forgotten self.old (line.now ∷ []) (all_free self.old.room) }
     {
         self.reset();
-        self.ready.copy(line);
+        self.copied.put(line);
+        self.turn = Turn::Copied;
     }
 
     /// Makes a header line ready, in place of all others, and before the first one the two lines of compact text; forgets every epoch.
     pub fn copy_header(&mut self, date: &[u8], is_first: bool, line: &[u8])
         requires dated { length date.now ≤ DATE_LIMIT }
         requires short { length line.now ≤ LINE_LIMIT }
-        ensures before { self.new.before ≡ None }
-        ensures closed { self.new.is_open ≡ false }
-        ensures rows { self.new.rows ≡ [] }
-        ensures copied { self.new.pending ≡ lines_before_header date.now is_first ++ line.now ∷ [] }
-        ensures room { self.new.room ≡ all_free self.old.room }
+        ensures copied { self.new ≡ forgotten self.old (lines_before_header date.now is_first ++ line.now ∷ [])
+            (all_free self.old.room) }
     {
         self.reset();
-        self.ready.copy_header(date, is_first, line);
+        self.copied.put(line);
+        self.turn = Turn::Copied;
+        if is_first {
+            self.turn = Turn::Version;
+            self.program.clear();
+            append(&mut self.program, &CRINEX_PROGRAM);
+            append(&mut self.program, &in_columns(date));
+            append(&mut self.program, &CRINEX_PROGRAM_LABEL);
+        }
     }
 
     /// Begins an epoch, in place of all lines: in full, where that is asked for or there is no epoch before, else as differences from the
@@ -144,7 +174,8 @@ impl Encoder {
     {
         self.history.begin_rows(full || !self.is_kept);
         self.in_full = full;
-        self.ready.open();
+        self.turn = Turn::Open;
+        self.made.clear();
     }
 
     /// Makes the compact line of the next row of the open epoch. `false` comes where the epoch has a row of the satellite already, and then
@@ -157,13 +188,7 @@ impl Encoder {
             → self.new ≡ record self.old { rows = self.old.rows ++ row.now ∷ []; room = self.new.room }) }
         ensures repeated { IfOk result (λ is_new. is_new ≡ false → self.new ≡ self.old) }
         ensures memory { OnErr result (has_satellite row.now.name self.old.rows ≡ false) }
-        ensures forgotten { OnErr result (self.new ≡ record self.old {
-          before = None;
-          is_open = false;
-          rows = [];
-          pending = [];
-          room = self.new.room;
-        }) }
+        ensures forgotten { OnErr result (self.new ≡ forgotten self.old [] self.new.room) }
         // Where there is room for the row, the answer isn't for want of memory.
         ensures known { HasRowRoom row.now self.old.room → IsOk result }
         ensures held { self.new.room.held ≡ self.old.room.held }
@@ -177,7 +202,7 @@ impl Encoder {
             row.values(),
             row.flags(),
             &mut self.part,
-            &mut self.ready.made,
+            &mut self.made,
         ) {
             Ok(true) => {
                 self.rows.add(row);
@@ -185,7 +210,8 @@ impl Encoder {
             }
             Ok(false) => Ok(false),
             Err(error) => {
-                self.ready.clear();
+                self.turn = Turn::Made;
+                self.made.clear();
                 forget(
                     &mut self.history,
                     &mut self.is_kept,
@@ -207,13 +233,7 @@ impl Encoder {
             ≡ Some (tail_after (tail_in self.old) (epoch_by_rows head.now self.old.rows))) }
         ensures closed { self.new.is_open ≡ false }
         ensures rows { self.new.rows ≡ [] }
-        ensures forgotten { OnErr result (self.new ≡ record self.old {
-          before = None;
-          is_open = false;
-          rows = [];
-          pending = [];
-          room = self.new.room;
-        }) }
+        ensures forgotten { OnErr result (self.new ≡ forgotten self.old [] self.new.room) }
         // Where there is room for the epoch's text, the answer isn't for want of memory.
         ensures known { HEAD_WIDTH + NAME_WIDTH * head.now.count ≤ self.old.room.text → IsOk result }
         // There is room where this text is, and where there was before, there is for the next one too: so after two epochs of as many
@@ -226,10 +246,11 @@ impl Encoder {
     {
         if self
             .history
-            .end_rows(head, &mut self.part, &mut self.ready.made)
+            .end_rows(head, &mut self.part, &mut self.made)
             .is_err()
         {
-            self.ready.clear();
+            self.turn = Turn::Made;
+            self.made.clear();
             forget(
                 &mut self.history,
                 &mut self.is_kept,
@@ -241,7 +262,7 @@ impl Encoder {
         self.is_kept = true;
         self.before = KeptTail::of(&self.history);
         self.rows = RowsSoFar::new();
-        self.ready.close();
+        self.turn = Turn::Made;
         Ok(())
     }
 
@@ -249,7 +270,11 @@ impl Encoder {
     pub fn is_drained(&self) -> bool
         ensures value { IsTrue result ↔ (self.now.pending ≡ []) }
     {
-        self.ready.is_empty()
+        match self.turn {
+            Turn::Made => self.made.is_empty(),
+            Turn::Open | Turn::Over => true,
+            Turn::Version | Turn::Program | Turn::Copied => false,
+        }
     }
 
     /// Borrows the next of the lines that are ready, without its line end; `None` once none is pending.
@@ -259,7 +284,22 @@ impl Encoder {
         ensures* after_borrow { sem 𝓛 (Rests the_row self.entry
             (λ new. new ≡ record self.old { pending = drop 1 self.old.pending })) }
     {
-        self.ready.next_line()
+        match self.turn {
+            Turn::Version => {
+                self.turn = Turn::Program;
+                Some(&CRINEX_VERSION_LINE)
+            }
+            Turn::Program => {
+                self.turn = Turn::Copied;
+                Some(self.program.bytes())
+            }
+            Turn::Copied => {
+                self.turn = Turn::Over;
+                Some(self.copied.line())
+            }
+            Turn::Made => self.made.next_line(),
+            Turn::Open | Turn::Over => None,
+        }
     }
 
     /// Borrows all lines that are ready as one text, each followed by LF; `None` where the next one is copied, and then they stay.
@@ -268,7 +308,15 @@ impl Encoder {
         ensures* after_borrow { sem 𝓛 (Rests the_row self.entry
             (λ new. new ≡ record self.old { pending = (if is_some result then [] else self.old.pending) })) }
     {
-        self.ready.take_text()
+        match self.turn {
+            Turn::Made => Some(self.made.take_text()),
+            Turn::Copied => {
+                self.turn = Turn::Over;
+                Some(self.copied.text())
+            }
+            Turn::Open | Turn::Over => Some(&[]),
+            Turn::Version | Turn::Program => None,
+        }
     }
 }
 

@@ -1,7 +1,7 @@
 //! Laws over the definitions of this crate: each is the contract of a function that does nothing.
 
 ghost use Rattle.std.specs.Prelude.{◌≡◌};
-ghost use Rattle.crx_compact.specs.Holdings.{satellite_with, satellites_with, history_with, lines_with, copied_line_with, expanded_lines_with, printed_block_with, columns_with, encoder_with, kept_tail_with, ready_lines_with, rows_with};
+ghost use Rattle.crx_compact.specs.Holdings.{satellite_with, satellites_with, history_with, lines_with, copied_line_with, expanded_lines_with, printed_block_with, columns_with, encoder_with, kept_tail_with, rows_with};
 ghost use Rattle.crx_compact.specs.declared.encoder.Encoder.TheInside.{Inside as EncoderInside};
 ghost use Rattle.crx_compact.specs.declared.kept_tail.KeptTail.{KeptTail};
 ghost use Rattle.crx_rinex.specs.declared.rows_so_far.RowsSoFar.{RowsSoFar};
@@ -13,7 +13,6 @@ ghost use Rattle.crx_compact.specs.declared.copied_line.CopiedLine.TheInside.{In
 ghost use Rattle.crx_compact.specs.declared.expanded_lines.ExpandedLines.TheInside.{Inside as ExpandedLinesInside};
 ghost use Rattle.crx_compact.specs.declared.printed_block.PrintedBlock.{PrintedBlock};
 ghost use Rattle.crx_compact.specs.declared.columns.Columns.TheInside.{Inside as ColumnsInside};
-ghost use Rattle.crx_compact.specs.declared.ready_lines.ReadyLines.{ReadyLines};
 
 /// What columns hold, the history among it, and the lines that a compaction and an expansion have ready, each in full: one that takes over
 /// these parts of another is that other. So there is no part beside them.
@@ -24,7 +23,6 @@ pub fn columns_hold()
     ensures lines { (one other : LinesInside) → lines_with one other ≡ other }
     ensures copied { (one other : CopiedLineInside) → copied_line_with one other ≡ other }
     ensures expanded { (one other : ExpandedLinesInside) → expanded_lines_with one other ≡ other }
-    ensures ready { (one other : ReadyLines) → ready_lines_with one other ≡ other }
     ensures printed { (one other : PrintedBlock) → printed_block_with one other ≡ other }
     ensures columns { (one other : ColumnsInside) → columns_with one other ≡ other }
     ensures rows { (one other : RowsSoFar) → rows_with one other ≡ other }

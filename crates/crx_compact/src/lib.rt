@@ -15,7 +15,6 @@ mod kept_tail;
 pub mod laws;
 pub mod lines;
 mod printed_block;
-mod ready_lines;
 mod refusals;
 pub mod same;
 mod satellite;
