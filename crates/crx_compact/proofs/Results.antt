@@ -3,7 +3,7 @@ use Rattle.std.specs.Prelude.{◌≡◌, refl, Bool, true, false, not, List}
 use Rattle.std.specs.Prelude.{◌∷◌, Result, Ok, Err, OnOk, OnErr, IfOk}
 use Rattle.std.specs.Prelude.{Option, None, Some, IfSome, is_some}
 use Rattle.std.specs.Prelude.{if◌then◌else◌}
-use Rattle.std.specs.Result.{is_ok}
+use Rattle.std.specs.Result.{is_err, is_ok}
 use Rattle.std.proofs.Common.{sym, ap, subst, true≢false}
 use Rattle.crx_base.specs.declared.fault.Fault.{Fault}
 use Rattle.crx_compact.specs.meaning.Sequences.{and_then, before_all}
@@ -53,6 +53,11 @@ before-ok x (Err q) given e = absurd (no-err q given e)
 pub by_ok : {T E X : Type 0} (r : Result T E) → is_ok r ≡ true → OnOk r X → X
 by_ok (Ok a) good x = x
 by_ok (Err e) good x = absurd (true≢false (sym good))
+
+-- one that is bad isn't good
+pub by_err : {T E : Type 0} (r : Result T E) → is_err r ≡ true → is_ok r ≡ true → ⊥
+by_err (Ok a) bad good = true≢false (sym bad)
+by_err (Err e) bad good = true≢false (sym good)
 
 pub from_ok : {T E : Type 0} (P : T → Type 0) (r : Result T E) (x : T) → r ≡ Ok x → IfOk r P → P x
 from_ok P r x is h = subst (λ q. IfOk q P) is h

@@ -54,6 +54,11 @@ pub record KeepsEncodingRoom (before after : EncodingRoom) : Type 0 where
   pub lines : before.lines ≤ after.lines
   pub bytes : before.bytes ≤ after.bytes
 
+-- a text of so many characters was put: there is room for it from now on, and where there was before, for the next one too
+pub record HasTakenText (count : ℕ) (before after : EncodingRoom) : Type 0 where
+  pub held : count ≤ after.held
+  pub next : count ≤ before.held → count ≤ after.text
+
 -- a row was put: there is room for its satellite from now on; one line more is in use, and no more bytes than a line of so many types may have,
 -- for which there was room
 pub record HasTakenRow (row : Row) (before after : EncodingRoom) : Type 0 where

@@ -27,3 +27,4 @@ pub mod Holdings
 pub mod Written
 pub mod EncodingRooms
 pub mod Encoding
+pub mod EpochLinesRead

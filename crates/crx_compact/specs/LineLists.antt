@@ -34,6 +34,12 @@ cleared lines = record lines {
   front = lines.reserved;
 }
 
+-- for so many lines and bytes there is room once all are dropped, and so many come in front: the same as before
+pub record HasSameRoom (old new : PendingLines) : Type 0 where
+  pub all_lines : new.all_lines ≡ old.all_lines
+  pub all_bytes : new.all_bytes ≡ old.all_bytes
+  pub reserved : new.reserved ≡ old.reserved
+
 -- a line was put after others, for which there was room: there is room for one less, and else nothing has changed but the room for bytes
 pub record HasTakenLine (old new : PendingLines) : Type 0 where
   pub free_lines : new.free_lines + 1 ≡ old.free_lines

@@ -1,7 +1,7 @@
 -- An epoch whose rows are written one by one: what the history, and the lines so far, are then.
-use Rattle.std.specs.Prelude.{◌≡◌, ℕ, List, All, map, true, false}
-use Rattle.crx_compact.specs.Placing.{OpenHistory, row_tail_named}
-use Rattle.crx_compact.specs.Steps.{row_line_in, row_tail_in}
+use Rattle.std.specs.Prelude.{◌≡◌, ◌++◌, ◌∷◌, [], ℕ, List, All, Bool, map, not, true, false}
+use Rattle.crx_compact.specs.Placing.{OpenHistory, row_tail_named, tail_of_history}
+use Rattle.crx_compact.specs.Steps.{lines_after_tail, row_line_in, row_tail_in, tail_after}
 use Rattle.crx_compact.specs.Tails.{Tail}
 use Rattle.crx_rinex.specs.meaning.EpochLines.{ObservationHead}
 use Rattle.crx_rinex.specs.meaning.Epochs.{are_different, has_satellite}
@@ -23,3 +23,15 @@ pub record AreRowsWritten (after : Tail) (rows : List Row) (history : OpenHistor
 -- the epoch with this line and these rows
 abbrev pub epoch_by_rows : ObservationHead → List Row → Epoch
 epoch_by_rows head rows = record { head = head.head; clock = head.clock; rows = rows }
+
+-- whether a row is the first one of its satellite, and then it is written after the rows so far
+pub record IsRowWritten (after : Tail) (rows : List Row) (row : Row) (history : OpenHistory)
+    (lines : List (List ℕ)) (is_new : Bool) : Type 0 where
+  pub answer : is_new ≡ not (has_satellite row.name rows)
+  pub written : is_new ≡ true → AreRowsWritten after (rows ++ row ∷ []) history lines
+
+-- an epoch is written after a tail: the history is that after it, and the lines are its compact ones
+pub record IsEpochWritten (after : Tail) (epoch : Epoch) (history : OpenHistory) (lines : List (List ℕ))
+    : Type 0 where
+  pub tail : tail_of_history history ≡ tail_after after epoch
+  pub lines_made : lines ≡ lines_after_tail after epoch

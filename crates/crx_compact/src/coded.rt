@@ -14,8 +14,8 @@ use std::marker::Model;
 /// satellite.
 #[derive(Drop)]
 pub struct Coded {
-    epoch: Epoch,
-    lines: Lines,
+    pub(crate) epoch: Epoch,
+    pub(crate) lines: Lines,
 }
 
 impl Model for Coded {
@@ -27,12 +27,6 @@ impl Model for Coded {
 }
 
 impl Coded {
-    pub(crate) fn new(epoch: Epoch, lines: Lines) -> Coded
-        ensures { result ≡ record { epoch = epoch; lines = lines.lines } }
-    {
-        Coded { epoch, lines }
-    }
-
     /// Borrows the next pending line, without its line end; `None` once none is pending.
     pub fn next_line(&mut self) -> Option<&[u8]>
         ensures value { option_copied result ≡ slice_get self.old.lines 0 }
@@ -48,13 +42,5 @@ impl Coded {
         ensures epoch { result ≡ self.epoch }
     {
         self.epoch
-    }
-
-    /// The epoch and the lines.
-    pub(crate) fn into_parts(self) -> (Epoch, Lines)
-        ensures epoch { result.0 ≡ self.epoch }
-        ensures lines { result.1.lines ≡ self.lines }
-    {
-        (self.epoch, self.lines)
     }
 }

@@ -15,6 +15,7 @@ ghost use Rattle.crx_base.specs.declared.limits.TheConstants.{LINE_LIMIT};
 ghost use Rattle.crx_header.specs.meaning.EpochColumns.{begins_epoch, is_event_line};
 ghost use Rattle.crx_compact.specs.OpenLines.{IsSoundBlock, IsSoundState, have_all_come, is_open, made_of, epoch_by_stage};
 ghost use Rattle.crx_compact.specs.declared.printed_block.PrintedBlock.{PrintedBlock};
+ghost use Rattle.crx_compact.specs.EpochLinesRead.{history_cleared};
 ghost use Rattle.crx_compact.specs.Placing.{IsAnnounced, IsBetween, KeepsRooms, tail_of_history};
 ghost use Rattle.crx_compact.specs.ReadingRooms.{HasRoomFor, KeepsHistoryRoom, KeepsRoom};
 ghost use Rattle.crx_compact.specs.OpenEpochs.{next_step, OpenRawEpoch, Going, awaits_row, is_faulty, is_idle, makes_epoch, tail_held, first_step, step_in, tail_for_line, Faulty, HasMade, HasPrintedLines};
@@ -147,7 +148,7 @@ impl Columns {
             Ok(()) => {
                 self.is_kept = true;
                 let lines = mem::replace(&mut self.lines, Lines::new(self.alloc));
-                Ok(Coded::new(epoch, lines))
+                Ok(Coded { epoch, lines })
             }
             Err(_) => Err((epoch, Fault::OutOfMemory)),
         }
@@ -302,7 +303,7 @@ impl Columns {
                 if !is_whole {
                     return Ok(false);
                 }
-                self.block.hand_over(lines);
+                lines.exchange(&mut self.block.lines);
                 self.history.end();
                 self.stage = Stage::Unbegun;
                 self.is_kept = true;
@@ -320,19 +321,16 @@ impl Columns {
         ensures epoch { result ≡ coded.epoch }
         ensures same { self.new ≡ self.old }
     {
-        let (epoch, lines) = coded.into_parts();
-        self.lines = lines;
-        epoch
+        self.lines = coded.lines;
+        coded.epoch
     }
 }
 
 /// Forgets every epoch, the one whose lines have come in part too.
 fn forget(history: &mut History, is_kept: &mut bool, stage: &mut Stage)
-    ensures between { IsBetween history.new }
+    ensures history { history.new ≡ history_cleared history.old }
     ensures kept { is_kept.new ≡ false }
     ensures stage { stage.new ≡ Stage.Unbegun }
-    ensures rooms { history.new.satellites.rooms ≡ history.old.satellites.rooms }
-    ensures held_room { history.new.held_room ≡ history.old.held_room }
 {
     history.clear();
     *is_kept = false;

@@ -5,9 +5,9 @@ ghost use Rattle.crx_base.specs.declared.limits.TheConstants.{DATE_LIMIT, HEAD_W
 ghost use Rattle.crx_header.specs.meaning.CompactHeader.{lines_before_header};
 ghost use Rattle.crx_rinex.specs.meaning.Epochs.{has_satellite};
 ghost use Rattle.crx_compact.specs.Encoding.{EncoderState, forgotten, tail_in};
-ghost use Rattle.crx_compact.specs.EncodingRooms.{HasRowRoom, HasTakenRow, KeepsEncodingRoom, all_free};
+ghost use Rattle.crx_compact.specs.EncodingRooms.{HasRowRoom, HasTakenRow, HasTakenText, KeepsEncodingRoom, all_free};
 ghost use Rattle.crx_compact.specs.LineLists.{lines_text};
-ghost use Rattle.crx_compact.specs.Placing.{IsBetween};
+ghost use Rattle.crx_compact.specs.EpochLinesRead.{history_cleared};
 ghost use Rattle.crx_compact.specs.Steps.{lines_after_tail, tail_after};
 ghost use Rattle.crx_compact.specs.Written.{epoch_by_rows};
 
@@ -238,9 +238,8 @@ impl Encoder {
         ensures known { HEAD_WIDTH + NAME_WIDTH * head.now.count ≤ self.old.room.text → IsOk result }
         // There is room where this text is, and where there was before, there is for the next one too: so after two epochs of as many
         // satellites the answer isn't for want of memory.
-        ensures held { OnOk result (HEAD_WIDTH + NAME_WIDTH * head.now.count ≤ self.new.room.held) }
-        ensures next { OnOk result (HEAD_WIDTH + NAME_WIDTH * head.now.count ≤ self.old.room.held
-            → HEAD_WIDTH + NAME_WIDTH * head.now.count ≤ self.new.room.text) }
+        ensures taken { OnOk result (HasTakenText (HEAD_WIDTH + NAME_WIDTH * head.now.count)
+            self.old.room self.new.room) }
         // There is never less room than before, after a refusal too.
         ensures kept { KeepsEncodingRoom self.old.room self.new.room }
     {
@@ -322,13 +321,10 @@ impl Encoder {
 
 /// Forgets every epoch, the open one too.
 fn forget(history: &mut History, is_kept: &mut bool, before: &mut KeptTail, rows: &mut RowsSoFar)
-    ensures between { IsBetween history.new }
+    ensures history { history.new ≡ history_cleared history.old }
     ensures kept { is_kept.new ≡ false }
     ensures before { before.new.tail ≡ None }
     ensures rows { rows.new.rows ≡ [] }
-    ensures rooms { history.new.satellites.rooms ≡ history.old.satellites.rooms }
-    ensures text_room { history.new.text_room ≡ history.old.text_room }
-    ensures held_room { history.new.held_room ≡ history.old.held_room }
 {
     history.clear();
     *is_kept = false;

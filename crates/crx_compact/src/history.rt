@@ -11,15 +11,16 @@ ghost use Rattle.crx_rinex.specs.Epochs.{is_full_epoch, with_row};
 ghost use Rattle.crx_rinex.specs.meaning.Epochs.{IsSoundEpoch, has_satellite};
 ghost use Rattle.crx_rinex.specs.meaning.Observations.{Row};
 ghost use Rattle.crx_header.specs.meaning.Satellites.{is_among, types_of_satellite};
-ghost use Rattle.crx_rinex.specs.meaning.Printing.{printed_head, printed_row};
+ghost use Rattle.crx_rinex.specs.meaning.Printing.{printed_row};
 ghost use Rattle.crx_compact.specs.ArcSteps.{shown_value};
-ghost use Rattle.crx_compact.specs.EncodingRooms.{HasRoomForEpoch, encoding_room};
+ghost use Rattle.crx_compact.specs.EncodingRooms.{HasRoomForEpoch, HasRowRoom, HasTakenRow, HasTakenText, KeepsEncodingRoom, encoding_room};
+ghost use Rattle.crx_compact.specs.EpochLinesRead.{AreSatellitesRead, AreSatellitesRefused, IsEpochLineRead, IsEpochLineRefused, IsNamePlaced, history_cleared};
 ghost use Rattle.crx_compact.specs.HeldRows.{IsAwaitedSatellite, past_of_tail, row_held};
 ghost use Rattle.crx_compact.specs.LineLists.{HasTakenLine};
 ghost use Rattle.crx_compact.specs.meaning.CompactPlaces.{clock_line_read, satellites_of_line, satellites_of_text};
 ghost use Rattle.crx_compact.specs.meaning.EpochText.{Satellite, names_in, satellites_named};
 ghost use Rattle.crx_compact.specs.Placing.{HasAllowedCount, HasAskedRoom, HasCome, HasRoom, HasSameTexts, HaveNamesRoom, HaveRoom, HaveTypesRoom, IsAnnounced, IsBetween, IsRowRead, KeepsRooms, padded, padded_among, room_of_types, row_of_parts, row_room, satellite_of, tail_of_history};
-ghost use Rattle.crx_compact.specs.Written.{AreRowsWritten, epoch_by_rows};
+ghost use Rattle.crx_compact.specs.Written.{AreRowsWritten, IsEpochWritten, IsRowWritten, epoch_by_rows};
 ghost use Rattle.crx_rinex.specs.meaning.SatelliteLines.{IsSoundRow};
 ghost use Rattle.crx_compact.specs.PrintedBlocks.{printed_room};
 ghost use Rattle.crx_compact.specs.Refusals.{AnswersRefusal};
@@ -36,7 +37,7 @@ use crate::satellites::Satellites;
 use crx_base::Fault;
 use crx_base::limits::{CELL_WIDTH, HEAD_WIDTH, LINE_LIMIT, NAME_WIDTH, TYPES_LIMIT};
 use crx_header::{Types, after_columns, all_blank, identifier, padded, put_identifier};
-use crx_rinex::{Epoch, EpochLine, SatRow, begins_epoch, print_head, types_of_satellite};
+use crx_rinex::{Epoch, EpochLine, SatRow, begins_epoch, types_of_satellite};
 use crx_text::block::put_text;
 use crx_text::difference::{append_difference, patch_bytes};
 use crx_text::{Text, code_print, code_read, trim_end};
@@ -91,11 +92,7 @@ impl History {
 
     /// Forgets everything; the memory is used again.
     pub(crate) fn clear(&mut self)
-        ensures emptied { self.new ≡ record self.old {
-          text = [];
-          clock = None;
-          satellites = record self.old.satellites { rows = []; rest = [] };
-        } }
+        ensures emptied { self.new ≡ history_cleared self.old }
     {
         self.text.clear();
         self.clock.end();
@@ -114,24 +111,25 @@ impl History {
         requires sound { IsSoundEpoch epoch.now }
         requires whole { is_full_epoch epoch.now ≡ true }
         requires between { IsBetween self.old }
-        ensures after { OnOk result (tail_of_history self.new
-            ≡ tail_after (if in_full then no_tail else tail_of_history self.old) epoch.now) }
-        ensures lines { OnOk result (lines.new.lines
-            ≡ lines_after_tail (if in_full then no_tail else tail_of_history self.old) epoch.now) }
+        ensures written { OnOk result (IsEpochWritten
+            (if in_full then no_tail else tail_of_history self.old) epoch.now self.new lines.new.lines) }
         ensures err { OnErr result (tail_of_history self.new ≡ tail_of_history self.old) }
         ensures between { IsBetween self.new }
         // Where room was asked for before, the answer isn't for want of memory.
         ensures known { HasRoomForEpoch epoch.now (encoding_room self.old lines.old)
             → FIRST_LINES ≡ lines.old.reserved → IsOk result }
-        ensures rooms { KeepsRooms self.old.satellites.rooms self.new.satellites.rooms }
-        ensures text_room { self.old.text_room ≤ self.new.text_room }
     {
         make_long(&mut self.next_text, HEAD_WIDTH + NAME_WIDTH * epoch.count())?;
-        prepare_rows(&mut self.satellites, epoch)?;
+        let room = prepare_rows(&mut self.satellites, epoch)?;
         lines.reserve_front(FIRST_LINES)?;
-        lines.make_room(epoch.count(), room_of_rows(epoch))?;
+        lines.make_room(epoch.count(), room)?;
         self.begin_rows(in_full);
-        self.write_rows(epoch, part, lines);
+        let mut index = 0;
+        while let Some(row) = epoch.row(index) {
+            self.write_row(row.name(), row.values(), row.flags(), part, lines)
+                .unwrap();
+            index += 1;
+        }
         self.end_rows(epoch.head(), part, lines).unwrap();
         Ok(())
     }
@@ -141,8 +139,7 @@ impl History {
         requires between { IsBetween self.old }
         ensures begun { AreRowsWritten (if in_full then no_tail else tail_of_history self.old) [] self.new [] }
         ensures texts { HasSameTexts self.old self.new }
-        ensures rooms { KeepsRooms self.old.satellites.rooms self.new.satellites.rooms }
-        ensures same_rooms { self.new.satellites.rooms ≡ self.old.satellites.rooms }
+        ensures rooms { self.new.satellites.rooms ≡ self.old.satellites.rooms }
     {
         if in_full {
             self.clear();
@@ -162,37 +159,22 @@ impl History {
         lines: &mut Lines,
     ) -> Result<bool, AllocError>
         requires sound { IsSoundRow (row_of_parts name values.now flags.now) }
-        ensures answer { (after : Tail) (rows : List Row) → AreRowsWritten after rows self.old lines.old.lines
-            → IfOk result (λ is_new. is_new ≡ not (has_satellite name rows)) }
         ensures written { (after : Tail) (rows : List Row) → AreRowsWritten after rows self.old lines.old.lines
-            → IfOk result (λ is_new. is_new ≡ true
-            → AreRowsWritten after (rows ++ row_of_parts name values.now flags.now ∷ []) self.new lines.new.lines) }
-        ensures same { IfOk result (λ is_new. is_new ≡ false
-            → (self.new ≡ self.old) × (lines.new.lines ≡ lines.old.lines)) }
-        ensures same_lines { IfOk result (λ is_new. is_new ≡ false → lines.new ≡ lines.old) }
+            → IfOk result (IsRowWritten after rows (row_of_parts name values.now flags.now)
+            self.new lines.new.lines) }
+        ensures same { IfOk result (λ is_new. is_new ≡ false → (self.new ≡ self.old) × (lines.new ≡ lines.old)) }
         ensures memory { (after : Tail) (rows : List Row) → AreRowsWritten after rows self.old lines.old.lines
             → OnErr result (has_satellite name rows ≡ false) }
         ensures front { lines.new.front ≡ lines.old.front }
         ensures reserved { lines.new.reserved ≡ lines.old.reserved }
         // Where room was asked for before, the answer isn't for want of memory.
-        ensures known { HasRoom name (length values.now) self.old.satellites.rooms
-            → 0 < lines.old.free_lines → room_of_types (length values.now) ≤ lines.old.free_bytes → IsOk result }
-        ensures rooms { KeepsRooms self.old.satellites.rooms self.new.satellites.rooms }
-        ensures free_lines { lines.old.free_lines ≤ lines.new.free_lines + 1 }
-        ensures free_bytes { lines.old.free_bytes ≤ lines.new.free_bytes + room_of_types (length values.now) }
+        ensures known { HasRowRoom (row_of_parts name values.now flags.now) (encoding_room self.old lines.old)
+            → IsOk result }
+        ensures taken { IfOk result (λ is_new. is_new ≡ true → HasTakenRow
+            (row_of_parts name values.now flags.now) (encoding_room self.old lines.old)
+            (encoding_room self.new lines.new)) }
+        ensures kept { KeepsEncodingRoom (encoding_room self.old lines.old) (encoding_room self.new lines.new) }
         ensures texts { HasSameTexts self.old self.new }
-        ensures all_lines { lines.old.all_lines ≤ lines.new.all_lines }
-        ensures all_bytes { lines.old.all_bytes ≤ lines.new.all_bytes }
-        // One line more is in use, and no more bytes than it may have; for these there was room.
-        ensures room { IfOk result (λ is_new. is_new ≡ true
-            → HasRoom name (length values.now) self.new.satellites.rooms) }
-        ensures used_lines { IfOk result (λ is_new. is_new ≡ true
-            → lines.new.free_lines + (lines.old.all_lines + 1) ≡ lines.old.free_lines + lines.new.all_lines) }
-        ensures used_bytes { IfOk result (λ is_new. is_new ≡ true → lines.old.free_bytes + lines.new.all_bytes
-            ≤ lines.new.free_bytes + (lines.old.all_bytes + room_of_types (length values.now))) }
-        ensures asked { IfOk result (λ is_new. is_new ≡ true
-            → lines.old.all_bytes + room_of_types (length values.now)
-            ≤ lines.old.free_bytes + lines.new.all_bytes) }
     {
         let count = values.len();
         if !self.satellites.place_or_add(name, count)? {
@@ -204,26 +186,6 @@ impl History {
         Ok(true)
     }
 
-    /// Writes the compact lines of an epoch's rows, for which there is room.
-    fn write_rows(&mut self, epoch: &Epoch, part: &mut Text, lines: &mut Lines)
-        requires sound { IsSoundEpoch epoch.now }
-        requires room { HaveRoom epoch.now.rows self.old.satellites.rooms }
-        requires free_lines { length epoch.now.rows ≤ lines.old.free_lines }
-        requires free_bytes { sum (map row_room epoch.now.rows) ≤ lines.old.free_bytes }
-        ensures written { (after : Tail) → AreRowsWritten after [] self.old lines.old.lines
-            → AreRowsWritten after epoch.now.rows self.new lines.new.lines }
-        ensures texts { HasSameTexts self.old self.new }
-        ensures front { lines.new.front ≡ lines.old.front }
-        ensures rooms { KeepsRooms self.old.satellites.rooms self.new.satellites.rooms }
-    {
-        let mut index = 0;
-        while let Some(row) = epoch.row(index) {
-            self.write_row(row.name(), row.values(), row.flags(), part, lines)
-                .unwrap();
-            index += 1;
-        }
-    }
-
     /// Ends an epoch whose rows have all been written: puts its first two lines in front of theirs. The history is the one after the epoch.
     pub(crate) fn end_rows(
         &mut self,
@@ -233,23 +195,16 @@ impl History {
     ) -> Result<(), AllocError>
         requires counted { length self.old.satellites.rows ≡ head.now.count }
         requires front { FIRST_LINES ≤ lines.old.front }
-        ensures after { (after : Tail) (rows : List Row) → AreRowsWritten after rows self.old lines.old.lines
-            → OnOk result (tail_of_history self.new ≡ tail_after after (epoch_by_rows head.now rows)) }
-        ensures lines { (after : Tail) (rows : List Row) → AreRowsWritten after rows self.old lines.old.lines
-            → OnOk result (lines.new.lines ≡ lines_after_tail after (epoch_by_rows head.now rows)) }
+        ensures written { (after : Tail) (rows : List Row) → AreRowsWritten after rows self.old lines.old.lines
+            → OnOk result (IsEpochWritten after (epoch_by_rows head.now rows) self.new lines.new.lines) }
         ensures between { IsBetween self.new }
         ensures reserved { lines.new.reserved ≡ lines.old.reserved }
         // Where room was asked for before, the answer isn't for want of memory.
         ensures known { HEAD_WIDTH + NAME_WIDTH * head.now.count ≤ length self.old.next_text → IsOk result }
         ensures asked { HEAD_WIDTH + NAME_WIDTH * head.now.count ≤ self.old.text_room → IsOk result }
-        ensures text_room { self.old.text_room ≤ self.new.text_room }
-        // There is room for the text from then on, and where there was before, for the next one too.
-        ensures held { OnOk result (HEAD_WIDTH + NAME_WIDTH * head.now.count ≤ self.new.held_room) }
-        ensures next { OnOk result (HEAD_WIDTH + NAME_WIDTH * head.now.count ≤ self.old.held_room
-            → HEAD_WIDTH + NAME_WIDTH * head.now.count ≤ self.new.text_room) }
-        ensures rooms { self.new.satellites.rooms ≡ self.old.satellites.rooms }
-        ensures all_lines { lines.new.all_lines ≡ lines.old.all_lines }
-        ensures all_bytes { lines.new.all_bytes ≡ lines.old.all_bytes }
+        ensures taken { OnOk result (HasTakenText (HEAD_WIDTH + NAME_WIDTH * head.now.count)
+            (encoding_room self.old lines.old) (encoding_room self.new lines.new)) }
+        ensures kept { KeepsEncodingRoom (encoding_room self.old lines.old) (encoding_room self.new lines.new) }
     {
         self.satellites.end();
         renew_text(&mut self.next_text, head, &self.satellites)?;
@@ -279,34 +234,10 @@ impl History {
     ) -> Result<(), Fault>
         requires short { length line.now ≤ LINE_LIMIT }
         requires between { IsBetween self.old }
-        ensures ok { OnOk result ((satellites : List Satellite)
-            × (satellites_of_line types.now (past_of_tail (tail_of_history self.old)) line.now ≡ Ok satellites)
-            × (self.new.satellites.rows
-            ≡ map (λ (s : Satellite). padded s (tail_named s.name (tail_of_history self.old))) satellites)) }
-        ensures text { OnOk result (self.new.text ≡ patched self.old.text line.now) }
-        ensures clock { OnOk result (self.new.clock ≡ self.old.clock) }
-        ensures announced { OnOk result (IsAnnounced self.new) }
-        ensures err { IfErr result (λ fault.
-            (satellites_of_line types.now (past_of_tail (tail_of_history self.old)) line.now ≡ Err fault)
-            ⊎ (fault ≡ Fault.OutOfMemory)) }
-        // Memory runs out only at a line without a fault; at one with a fault none was asked for.
-        ensures memory { IfErr result (λ fault. fault ≡ Fault.OutOfMemory
-            → is_ok (satellites_of_line types.now (past_of_tail (tail_of_history self.old)) line.now) ≡ true) }
-        ensures unasked { IfErr result (λ fault. (fault ≡ Fault.OutOfMemory → ⊥)
-            → KeepsRooms self.new.satellites.rooms self.old.satellites.rooms
-            × (self.new.held_room ≡ self.old.held_room)) }
-        // Where room was asked for before, the answer isn't for want of memory.
-        ensures known { (satellites : List Satellite)
-            → satellites_of_line types.now (past_of_tail (tail_of_history self.old)) line.now ≡ Ok satellites
-            → HaveTypesRoom satellites self.old.satellites.rooms
-            → length (patched self.old.text line.now) ≤ self.old.held_room → IsOk result }
-        ensures room { (satellites : List Satellite)
-            → satellites_of_line types.now (past_of_tail (tail_of_history self.old)) line.now ≡ Ok satellites
-            → OnOk result (HaveTypesRoom satellites self.new.satellites.rooms) }
-        ensures text_fits { OnOk result (length self.new.text ≤ self.new.held_room) }
+        ensures ok { OnOk result (IsEpochLineRead types.now line.now self.old self.new) }
+        ensures err { IfErr result (IsEpochLineRefused types.now line.now self.old self.new) }
         ensures rooms { KeepsRooms self.old.satellites.rooms self.new.satellites.rooms }
         ensures held_room { self.old.held_room ≤ self.new.held_room }
-        ensures text_room { self.old.text_room ≤ self.new.text_room }
     {
         if patch_bytes(&self.text, line, part).is_err() {
             return Err(Fault::BadEpoch);
@@ -367,7 +298,6 @@ impl History {
             → row_held (Some row) (satellite_of row) line.now ≡ Err fault) }
         ensures rooms { KeepsRooms self.old.satellites.rooms self.new.satellites.rooms }
         ensures held_room { self.new.held_room ≡ self.old.held_room }
-        ensures text_room { self.new.text_room ≡ self.old.text_room }
     {
         if begins_epoch(line) {
             return Err(Fault::Truncated);
@@ -401,21 +331,12 @@ impl History {
     }
 
     /// The first line of the epoch that the history shows.
-    fn head(&self) -> EpochLine
+    pub(crate) fn head(&self) -> EpochLine
         requires { is_some (epoch_count (columns self.now.text 1 HEAD_WIDTH)) ≡ true }
         ensures head { result.head ≡ columns self.now.text 1 HEAD_WIDTH }
         ensures clock { result.clock ≡ shown_value self.now.clock }
     {
         EpochLine::new(padded(&self.text, 1), self.clock.value()).unwrap()
-    }
-
-    /// Replaces a text by the printed line of the epoch that the history shows.
-    pub(crate) fn print_head(&self, text: &mut Text)
-        requires { is_some (epoch_count (columns self.now.text 1 HEAD_WIDTH)) ≡ true }
-        ensures value { text.new
-            ≡ printed_head (columns self.now.text 1 HEAD_WIDTH) (shown_value self.now.clock) }
-    {
-        print_head(&self.head(), text);
     }
 
     /// As many bytes as the printed lines of the history's epoch have at most, each with its LF.
@@ -447,19 +368,24 @@ impl History {
     }
 }
 
-/// Asks for all memory that the lines of an epoch's rows need of their satellites.
-fn prepare_rows(satellites: &mut Satellites, epoch: &Epoch) -> Result<(), AllocError>
+/// Asks for all memory that the lines of an epoch's rows need of their satellites. Gives as many bytes as these lines have at most, each
+/// with its LF.
+fn prepare_rows(satellites: &mut Satellites, epoch: &Epoch) -> Result<usize, AllocError>
     requires sound { IsSoundEpoch epoch.now }
+    ensures bytes { IfOk result (λ bytes. bytes ≡ sum (map row_room epoch.now.rows)) }
     ensures asked { HasAskedRoom satellites.old satellites.new }
     ensures room { OnOk result (HaveRoom epoch.now.rows satellites.new.rooms) }
     ensures known { HaveRoom epoch.now.rows satellites.old.rooms → IsOk result }
 {
+    let mut bytes = 0;
     let mut index = 0;
     while let Some(row) = epoch.row(index) {
-        satellites.prepare(row.name(), row.values().len())?;
+        let count = row.values().len();
+        satellites.prepare(row.name(), count)?;
+        bytes += CELL_ROOM * count + 2 * TYPES_LIMIT + 1;
         index += 1;
     }
-    Ok(())
+    Ok(bytes)
 }
 
 /// Replaces a text by that of an epoch, without the blanks at its end: columns 1 to 41 of its line, and the identifiers of its satellites.
@@ -518,20 +444,6 @@ fn put_names(text: &mut [u8], satellites: &Satellites)
     }
 }
 
-/// As many bytes as the compact lines of an epoch's rows have at most, each with its LF.
-fn room_of_rows(epoch: &Epoch) -> usize
-    requires sound { IsSoundEpoch epoch.now }
-    ensures { result ≡ sum (map row_room epoch.now.rows) }
-{
-    let mut room = 0;
-    let mut index = 0;
-    while let Some(row) = epoch.row(index) {
-        room += CELL_ROOM * row.values().len() + 2 * TYPES_LIMIT + 1;
-        index += 1;
-    }
-    room
-}
-
 /// Replaces a text; after `AllocError` it is empty.
 fn put_text_in(text: &mut Vec<u8>, new: &[u8]) -> Result<(), AllocError>
     ensures ok { OnOk result (text.new.items ≡ new.now) }
@@ -550,18 +462,10 @@ fn put_text_in(text: &mut Vec<u8>, new: &[u8]) -> Result<(), AllocError>
 /// the faults of the identifiers; `OutOfMemory` where something can't grow and the text has no fault.
 fn read_satellites(types: &Types, text: &[u8], satellites: &mut Satellites) -> Result<(), Fault>
     requires { satellites.old.rows ≡ [] }
-    ensures ok { OnOk result ((named : List Satellite) × (satellites_of_text types.now text.now ≡ Ok named)
-        × (satellites.new.rows ≡ map (padded_among satellites.old.rest) named)
-        × All IsAwaitedSatellite named) }
-    // Memory runs out only at a text without a fault; at one with a fault none was asked for.
-    ensures err { IfErr result (AnswersRefusal (satellites_of_text types.now text.now)) }
-    ensures unasked { IfErr result (λ fault. (fault ≡ Fault.OutOfMemory → ⊥)
-        → KeepsRooms satellites.new.rooms satellites.old.rooms) }
-    // Where room was asked for before, the answer isn't for want of memory.
-    ensures known { (named : List Satellite) → satellites_of_text types.now text.now ≡ Ok named
-        → HaveTypesRoom named satellites.old.rooms → IsOk result }
-    ensures room { (named : List Satellite) → satellites_of_text types.now text.now ≡ Ok named
-        → OnOk result (HaveTypesRoom named satellites.new.rooms) }
+    ensures ok { OnOk result
+        (AreSatellitesRead (satellites_of_text types.now text.now) satellites.old satellites.new) }
+    ensures err { IfErr result
+        (AreSatellitesRefused (satellites_of_text types.now text.now) satellites.old satellites.new) }
     ensures rooms { KeepsRooms satellites.old.rooms satellites.new.rooms }
 {
     let Ok(head) = EpochLine::new(padded(text, 1), None) else {
@@ -586,21 +490,10 @@ fn read_names(
 ) -> Result<(), Fault>
     requires none { satellites.old.rows ≡ [] }
     requires few { count ≤ SATELLITES_LIMIT }
-    ensures ok { OnOk result ((named : List Satellite)
-        × (satellites_named types.now [] (names_in text.now count) ≡ Ok named)
-        × (satellites.new.rows ≡ map (padded_among satellites.old.rest) named)
-        × All IsAwaitedSatellite named) }
-    // Memory runs out only where no satellite has a fault.
-    ensures err { IfErr result (AnswersRefusal (satellites_named types.now [] (names_in text.now count))) }
-    ensures unasked { IfErr result (λ fault. (fault ≡ Fault.OutOfMemory → ⊥)
-        → KeepsRooms satellites.new.rooms satellites.old.rooms) }
-    // Where room was asked for before, the answer isn't for want of memory.
-    ensures known { (named : List Satellite)
-        → satellites_named types.now [] (names_in text.now count) ≡ Ok named
-        → HaveTypesRoom named satellites.old.rooms → IsOk result }
-    ensures room { (named : List Satellite)
-        → satellites_named types.now [] (names_in text.now count) ≡ Ok named
-        → OnOk result (HaveTypesRoom named satellites.new.rooms) }
+    ensures ok { OnOk result (AreSatellitesRead
+        (satellites_named types.now [] (names_in text.now count)) satellites.old satellites.new) }
+    ensures err { IfErr result (AreSatellitesRefused
+        (satellites_named types.now [] (names_in text.now count)) satellites.old satellites.new) }
     ensures rooms { KeepsRooms satellites.old.rooms satellites.new.rooms }
 {
     for place in 0..count {
@@ -631,19 +524,11 @@ fn place_name(
     requires there { (place : ℕ) × (place < count)
         × (name ≡ columns text.now (HEAD_WIDTH + 1 + NAME_WIDTH * place) NAME_WIDTH)
         × (types_of_satellite types.now name ≡ Some cells) }
-    ensures answer { IfOk result (λ is_new. is_new
-        ≡ not (is_among (λ (row : RowTail). row.name) name satellites.old.rows)) }
-    ensures come { IfOk result (λ is_new. is_new ≡ true → HasCome name satellites.old satellites.new) }
-    ensures room { IfOk result (λ is_new. is_new ≡ true → HasRoom name cells satellites.new.rooms) }
+    ensures placed { IfOk result (IsNamePlaced name cells
+        (satellites_named types.now [] (names_in text.now count)) satellites.old satellites.new) }
+    ensures err { IfErr result (AreSatellitesRefused
+        (satellites_named types.now [] (names_in text.now count)) satellites.old satellites.new) }
     ensures rooms { KeepsRooms satellites.old.rooms satellites.new.rooms }
-    ensures err { IfErr result (AnswersRefusal (satellites_named types.now [] (names_in text.now count))) }
-    ensures unasked { IfErr result (λ fault. (fault ≡ Fault.OutOfMemory → ⊥)
-        → satellites.new ≡ satellites.old) }
-    ensures back { OnOk result ((is_ok (satellites_named types.now [] (names_in text.now count)) ≡ true)
-        ⊎ KeepsRooms satellites.new.rooms satellites.old.rooms) }
-    ensures known { (named : List Satellite)
-        → satellites_named types.now [] (names_in text.now count) ≡ Ok named
-        → HaveNamesRoom types.now text.now count satellites.old.rooms → IsOk result }
 {
     if let Some(is_new) = satellites.place(name, cells) {
         return Ok(is_new);

@@ -7,7 +7,7 @@ ghost use Rattle.std.specs.Borrow.{sem};
 ghost use Rattle.std.specs.Io.BufRead.{Rests};
 ghost use Rattle.std.specs.Option.{option_copied};
 ghost use Rattle.crx_compact.specs.contracts.lines.Lines.{the_row};
-ghost use Rattle.crx_compact.specs.LineLists.{HasTakenLine, cleared, lines_text};
+ghost use Rattle.crx_compact.specs.LineLists.{HasSameRoom, HasTakenLine, cleared, lines_text};
 ghost use Rattle.crx_compact.specs.Placing.{HasRoom, KeepsRooms, room_of_types, row_of_parts};
 ghost use Rattle.crx_compact.specs.PrintedBlocks.{printed_room};
 ghost use Rattle.crx_compact.specs.ShownRows.{shown_row};
@@ -152,7 +152,10 @@ impl Lines {
             return Ok(());
         }
         grow(&mut self.bytes, filled)?;
-        grow_lengths(&mut self.lengths, count)
+        if count > self.lengths.len() {
+            self.lengths.resize(count, 0)?;
+        }
+        Ok(())
     }
 
     /// Puts a line in front of the others.
@@ -161,9 +164,7 @@ impl Lines {
         requires short { length line.now ≤ LINE_LIMIT }
         ensures lines { self.new.lines ≡ line.now ∷ self.old.lines }
         ensures front { self.new.front + 1 ≡ self.old.front }
-        ensures reserved { self.new.reserved ≡ self.old.reserved }
-        ensures all_lines { self.new.all_lines ≡ self.old.all_lines }
-        ensures all_bytes { self.new.all_bytes ≡ self.old.all_bytes }
+        ensures room { HasSameRoom self.old self.new }
     {
         let start = self.handed_out_bytes - line.len() - 1;
         put_line(&mut self.bytes, start, line);
@@ -285,19 +286,4 @@ impl Lines {
         self.handed_out_bytes = self.filled;
         &self.bytes[start..self.filled]
     }
-}
-
-/// Makes a list have at least so many lengths; those that are there stay.
-fn grow_lengths(lengths: &mut Vec<usize>, count: usize) -> Result<(), AllocError>
-    ensures room { OnOk result (count ≤ length lengths.new.items) }
-    ensures longer { length lengths.old.items ≤ length lengths.new.items }
-    ensures same { (n : ℕ) → n ≤ length lengths.old.items
-        → take n lengths.new.items ≡ take n lengths.old.items }
-    ensures known { count ≤ length lengths.old.items → IsOk result }
-    ensures asked { count ≤ vec_capacity lengths.old → IsOk result }
-{
-    if count > lengths.len() {
-        lengths.resize(count, 0)?;
-    }
-    Ok(())
 }

@@ -2,19 +2,20 @@
 
 ghost use Rattle.std.specs.Prelude.{◌≡◌, ◌≤◌, ◌<◌, ◌+◌, [], true, false, length, map, sum, IsOk, OnOk};
 ghost use Rattle.crx_base.specs.declared.limits.TheConstants.{LINE_LIMIT};
+ghost use Rattle.crx_compact.specs.LineLists.{HasSameRoom};
 ghost use Rattle.crx_compact.specs.Placing.{IsAnnounced};
 ghost use Rattle.crx_compact.specs.PrintedBlocks.{IsBlock, printed_room};
 
-use crate::expanded_lines::ExpandedLines;
 use crate::history::History;
 use crate::lines::Lines;
+use crx_rinex::print_head;
 use crx_text::Text;
 use std::alloc::{AllocError, Global};
 
 /// The printed lines of an epoch whose compact lines come one by one, with room for the rest of them.
 #[derive(Drop)]
 pub(crate) struct PrintedBlock {
-    lines: Lines,
+    pub(crate) lines: Lines,
     /// Whether the epoch's first line is printed.
     has_head: bool,
     /// How many rows are printed.
@@ -63,38 +64,16 @@ impl PrintedBlock {
         ensures block { IsBlock self.new.has_head self.new.rows self.new.lines history.now }
         ensures head { self.new.has_head ≡ true }
         ensures rows { self.new.rows ≡ rows }
-        ensures all_lines { self.new.lines.all_lines ≡ self.old.lines.all_lines }
-        ensures all_bytes { self.new.lines.all_bytes ≡ self.old.lines.all_bytes }
+        ensures room { HasSameRoom self.old.lines self.new.lines }
     {
-        self.print_head(history, part);
+        if !self.has_head {
+            print_head(&history.head(), part);
+            self.lines.put(part.bytes());
+            self.has_head = true;
+        }
         while self.rows < rows {
             history.put_printed(self.rows, &mut self.lines);
             self.rows += 1;
         }
-    }
-
-    /// Prints the first line where it isn't there yet.
-    fn print_head(&mut self, history: &History, part: &mut Text)
-        requires announced { IsAnnounced history.now }
-        requires block { IsBlock self.old.has_head self.old.rows self.old.lines history.now }
-        ensures block { IsBlock self.new.has_head self.new.rows self.new.lines history.now }
-        ensures head { self.new.has_head ≡ true }
-        ensures rows { self.new.rows ≡ self.old.rows }
-        ensures all_lines { self.new.lines.all_lines ≡ self.old.lines.all_lines }
-        ensures all_bytes { self.new.lines.all_bytes ≡ self.old.lines.all_bytes }
-    {
-        if !self.has_head {
-            history.print_head(part);
-            self.lines.put(part.bytes());
-            self.has_head = true;
-        }
-    }
-
-    /// Makes the lines ready, once no line before them is pending.
-    pub(crate) fn hand_over(&mut self, lines: &mut ExpandedLines)
-        requires drained { lines.old ≡ [] }
-        ensures lines { lines.new ≡ self.old.lines.lines }
-    {
-        lines.exchange(&mut self.lines);
     }
 }

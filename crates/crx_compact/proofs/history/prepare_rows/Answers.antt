@@ -1,11 +1,11 @@
-use Rattle.std.proofs.Common.{ℕ, ℤ, List, Option, length, sym, ◌∙◌, subst, take, arith}
+use Rattle.std.proofs.Common.{◌≡◌, ◌≤◌, ℕ, ℤ, List, Option, ap, length, map, sum, sym, ◌∙◌, subst, take, arith}
 use borrow.Author.Count.{falls}
 use Rattle.std.proofs.lemmas.Bool.{false≢true}
 use Rattle.crx_rinex.specs.meaning.Observations.{Row}
-use Rattle.crx_compact.specs.Placing.{HasRoom, HaveRoom}
+use Rattle.crx_compact.specs.Placing.{HasRoom, HaveRoom, row_room}
 use Rattle.crx_compact.proofs.Making.{taken_all}
 use Rattle.crx_compact.proofs.PlaceByPlace.{some-there}
-use Rattle.crx_compact.proofs.RowByRow.{all-at, all-next, all-of}
+use Rattle.crx_compact.proofs.RowByRow.{all-at, all-next, all-of, sum-next}
 use Rattle.crx_compact.proofs.history.prepare_rows.Goals as goal
 
 pub loop-row-preserved : goal.loop-row-preserved
@@ -16,9 +16,16 @@ loop-row-preserved c =
     let rooms = c.prepare.new.self.rooms in
     let roomy : HasRoom row.name (length row.values) rooms =
     subst (λ (name : List ℕ). HasRoom name (length row.values) rooms) c.name.ensures.value
-    (subst (λ (values : List (Option ℤ)). HasRoom c.name.result (length values) rooms) c.values.ensures.value
+    (subst (λ (values : List (Option ℤ)). HasRoom c.name.result (length values) rooms) c.values-count.ensures.value
     c.in_ok-prepare.ensures.room) in
+    let many : length c.values-count.result.now ≡ length row.values = ap length c.values-count.ensures.value in
+    let few : length row.values ≤ 400 = c.values-count.ensures.sound.counted.1 in
+    let next = sum-next row_room rows index row (sym c.in-Some.ensures.value) in
+    let made = c.loop-row.invariant.made in
+    let bounded = c.loop-row.invariant.bounded in
     record {
+      made = omega (arith, many, next, made);
+      bounded = omega (arith, many, few, bounded);
       rows = c.prepare.ensures.asked.rows ∙ c.loop-row.invariant.rows;
       rest = c.prepare.ensures.asked.rest ∙ c.loop-row.invariant.rest;
       kept = λ name count has. c.prepare.ensures.asked.rooms name count
@@ -29,6 +36,12 @@ loop-row-preserved c =
           (λ r known. c.prepare.ensures.asked.rooms r.name (length r.values) known) c.loop-row.invariant.room)
           (sym c.in-Some.ensures.value) roomy;
     }
+
+pub returns-clause-bytes : goal.returns-clause-bytes
+returns-clause-bytes c =
+    c.loop-row.invariant.made
+    ∙ ap (λ (rows : List Row). sum (map row_room rows))
+    (taken_all c.args.epoch.now.rows c.loop-row.index (sym c.in_default.ensures.value))
 
 pub returns-clause-room : goal.returns-clause-room
 returns-clause-room c =
@@ -57,6 +70,6 @@ returns-in_err-prepare-clause-known c = λ have.
     (all-at (λ (r : Row). HasRoom r.name (length r.values) c.args.satellites.now.rooms) c.args.epoch.now.rows
     c.loop-row.index row have (sym c.in-Some.ensures.value)) in
     absurd (false≢true (c.in_err-prepare.ensures.known
-    (subst (λ (name : List ℕ). HasRoom name (length c.values.result.now) rooms) (sym c.name.ensures.value)
-    (subst (λ (values : List (Option ℤ)). HasRoom row.name (length values) rooms) (sym c.values.ensures.value)
+    (subst (λ (name : List ℕ). HasRoom name (length c.values-count.result.now) rooms) (sym c.name.ensures.value)
+    (subst (λ (values : List (Option ℤ)). HasRoom row.name (length values) rooms) (sym c.values-count.ensures.value)
     roomy))))

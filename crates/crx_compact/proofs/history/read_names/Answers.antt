@@ -11,23 +11,18 @@ use Rattle.crx_header.specs.meaning.Satellites.{is_among}
 use Rattle.crx_compact.specs.HeldRows.{IsAwaitedSatellite}
 use Rattle.crx_base.specs.declared.fault.Fault.TheVariants.{BadSatellite, OutOfMemory, RepeatedSatellite}
 use Rattle.crx_base.specs.declared.fault.Fault.{Fault}
-use Rattle.crx_compact.specs.Refusals.{AnswersRefusal}
+use Rattle.crx_compact.specs.EpochLinesRead.{AreSatellitesRefused}
 use Rattle.crx_compact.specs.meaning.EpochText.{Satellite, names_in, satellites_named}
-use Rattle.crx_compact.specs.Placing.{HasRoom, HaveTypesRoom}
+use Rattle.crx_compact.specs.Placing.{HasRoom}
 use Rattle.crx_compact.specs.Placing.{KeepsRooms, PlacedRows, padded_among, row_or_blank}
 use Rattle.crx_compact.specs.Tails.{RowTail}
 use Rattle.crx_compact.proofs.ComeRows.{come-name}
-use Rattle.crx_compact.proofs.Naming.{named-bad, named-twice, named-more, named-all, names-room, next-name}
+use Rattle.crx_compact.proofs.Naming.{named-bad, named-twice, named-more, named-all, next-name}
 use Rattle.crx_compact.proofs.NamesCome.{HasNameCome, among-rows, awaited-one, name-comes}
-use Rattle.crx_compact.proofs.Results.{no-err, ok-same}
+use Rattle.crx_compact.proofs.Results.{no-err}
 use Rattle.crx_compact.proofs.RowByRow.{all-of, only}
 use Rattle.crx_compact.proofs.placing.SteppedRows.{ends-same}
 use Rattle.crx_compact.proofs.history.read_names.Goals as goal
-
-refused-by : {X : Type 0} (fault : Fault) (made : Result X Fault) → (fault ≡ OutOfMemory → ⊥)
-    → made ≡ Err fault
-    → AnswersRefusal made fault
-refused-by fault made other is = record { answered = inl is; memory = λ out. absurd (other out) }
 
 -- whether a satellite has come already
 come-already : (before rows : List RowTail) (found : List Satellite) (name : List ℕ) (is_new b : Bool)
@@ -45,6 +40,15 @@ unasked made fault is asked = elim asked [
   | inr y ↦ y
 ]
 
+refused-by : (fault : Fault) (made : Result (List Satellite) Fault) (old new : PlacedRows)
+    → (fault ≡ OutOfMemory → ⊥) → made ≡ Err fault → KeepsRooms new.rooms old.rooms
+    → AreSatellitesRefused made old new fault
+refused-by fault made old new other is back = record {
+  answer = record { answered = inl is; memory = λ out. absurd (other out) };
+  unasked = λ _. back;
+  wanting = λ named good has. no-err fault named (sym is ∙ good);
+}
+
 bad : (c : goal.In_default)
     → satellites_named c.args.types.now [] (names_in c.args.text.now c.args.count) ≡ Err BadSatellite
 bad c =
@@ -56,29 +60,26 @@ bad c =
     (sym c.in_default.ensures.value)
 
 pub returns-in_default-clause-err : goal.returns-in_default-clause-err
-returns-in_default-clause-err c = refused-by BadSatellite _ (λ out. cc out) (bad c)
+returns-in_default-clause-err c =
+    refused-by BadSatellite _ c.args.satellites.now c.loop-place.satellites (λ out. cc out) (bad c)
+    (unasked _ _ (bad c) c.loop-place.invariant.7)
 
-pub returns-in_default-clause-unasked : goal.returns-in_default-clause-unasked
-returns-in_default-clause-unasked c = λ other. unasked _ _ (bad c) c.loop-place.invariant.7
-
-pub returns-in_err-place_name-clause-unasked : goal.returns-in_err-place_name-clause-unasked
-returns-in_err-place_name-clause-unasked c =
+pub returns-in_err-place_name-clause-err : goal.returns-in_err-place_name-clause-err
+returns-in_err-place_name-clause-err c =
     let p = err_from_is_err_and c.from_residual.result c.from_residual.ensures.1 in
-    rw (p.1, p.2) (λ other name count has. elim c.in_err-place_name.ensures.err.answered [
-      | inl is ↦ unasked _ _ is c.loop-place.invariant.7 name count
-          (subst (λ (s : PlacedRows). HasRoom name count s.rooms)
-          (c.in_err-place_name.ensures.unasked other) has)
-      | inr out ↦ absurd (other out)
-    ])
-
-pub returns-in_default-clause-known : goal.returns-in_default-clause-known
-returns-in_default-clause-known c named is has = absurd (no-err _ named (sym (bad c) ∙ is))
-
-pub returns-in_err-place_name-clause-known : goal.returns-in_err-place_name-clause-known
-returns-in_err-place_name-clause-known c named is has =
-    absurd (false≢true (c.in_err-place_name.ensures.known named is
-    (names-room c.args.types.now c.args.text.now c.args.count named c.args.satellites.now.rooms
-    c.loop-place.satellites.rooms is has c.loop-place.invariant.5)))
+    let refused = c.in_err-place_name.ensures.err in
+    let found = c.loop-place.invariant in
+    rw (p.1, p.2) (record {
+      answer = refused.answer;
+      unasked = λ other name count has. elim refused.answer.answered [
+        | inl is ↦ unasked _ _ is found.7 name count (refused.unasked other name count has)
+        | inr out ↦ absurd (other out)
+      ];
+      wanting = λ named is has. refused.wanting named is
+          (all-of (λ (s : Satellite). HasRoom s.name s.count c.args.satellites.now.rooms)
+          (λ (s : Satellite). HasRoom s.name s.count c.loop-place.satellites.rooms) named
+          (λ s. found.5 s.name s.count) has);
+    })
 
 -- what is found twice
 twice : (c : goal.Then-not-branch)
@@ -91,28 +92,23 @@ twice c =
     c.identifier-name.result c.loop-place-test.true c.identifier-name.ensures.value)
     (sym c.in-Some.ensures.value) (come-already c.args.satellites.now.rest c.loop-place.satellites.rows
     found.0 c.identifier-name.result c.in_ok-place_name.field-0 false found.2
-    c.in_ok-place_name.ensures.answer c.if-not-branch.true)
+    c.in_ok-place_name.ensures.placed.answer c.if-not-branch.true)
 
 pub returns-then-not-branch-clause-err : goal.returns-then-not-branch-clause-err
-returns-then-not-branch-clause-err c = refused-by RepeatedSatellite _ (λ out. cc out) (twice c)
-
-pub returns-then-not-branch-clause-known : goal.returns-then-not-branch-clause-known
-returns-then-not-branch-clause-known c named is has = absurd (no-err _ named (sym (twice c) ∙ is))
-
-pub returns-then-not-branch-clause-unasked : goal.returns-then-not-branch-clause-unasked
-returns-then-not-branch-clause-unasked c = λ other name count has.
-    unasked _ _ (twice c) c.loop-place.invariant.7 name count
-    (unasked _ _ (twice c) c.in_ok-place_name.ensures.back name count has)
+returns-then-not-branch-clause-err c =
+    refused-by RepeatedSatellite _ c.args.satellites.now c.place_name.new.satellites (λ out. cc out) (twice c)
+    (λ name count has. unasked _ _ (twice c) c.loop-place.invariant.7 name count
+    (unasked _ _ (twice c) c.in_ok-place_name.ensures.placed.back name count has))
 
 pub resize_last-requires-clause-room : goal.resize_last-requires-clause-room
 resize_last-requires-clause-room c before row is =
     let name = c.identifier-name.result in
     let awaited = c.loop-place.satellites in
-    let come = c.in_ok-place_name.ensures.come c.if-not-branch.false in
+    let come = c.in_ok-place_name.ensures.placed.come c.if-not-branch.false in
     let last = ends-same awaited.rows before (row_or_blank name awaited.rest) row (sym come.rows ∙ is) in
     subst (λ (r : RowTail). HasRoom r.name c.in-Some.cells c.place_name.new.satellites.rooms) last
     (subst (λ (n : List ℕ). HasRoom n c.in-Some.cells c.place_name.new.satellites.rooms)
-    (sym (come-name name awaited.rest)) (c.in_ok-place_name.ensures.room c.if-not-branch.false))
+    (sym (come-name name awaited.rest)) (c.in_ok-place_name.ensures.placed.room c.if-not-branch.false))
 
 pub loop-place-preserved : goal.loop-place-preserved
 loop-place-preserved c =
@@ -123,13 +119,13 @@ loop-place-preserved c =
     let name = c.identifier-name.result in
     let satellite : Satellite = record { name = name; count = c.in-Some.cells } in
     let fresh = come-already before c.loop-place.satellites.rows found.0 name c.in_ok-place_name.field-0 true
-    found.2 c.in_ok-place_name.ensures.answer c.if-not-branch.false in
+    found.2 c.in_ok-place_name.ensures.placed.answer c.if-not-branch.false in
     let after = c.resize_last.new.self in
     let kept : KeepsRooms c.loop-place.satellites.rooms after.rooms = λ other count has.
     c.resize_last.ensures.rooms other count (c.place_name.ensures.rooms other count has) in
     let come : HasNameCome before (found.0 ++ satellite ∷ []) after =
     name-comes before found.0 name c.in-Some.cells c.loop-place.satellites c.place_name.new.satellites after
-    found.2 found.3 fresh (c.in_ok-place_name.ensures.come c.if-not-branch.false)
+    found.2 found.3 fresh (c.in_ok-place_name.ensures.placed.come c.if-not-branch.false)
     c.resize_last.ensures.rows c.resize_last.ensures.rest in (
       found.0 ++ satellite ∷ [],
       named-more c.args.types.now (names_in text c.args.count) place found.0 (found.0 ++ satellite ∷ []) name
@@ -148,10 +144,10 @@ loop-place-preserved c =
           (λ s has. kept s.name s.count has) found.6)
           (only (λ (s : Satellite). HasRoom s.name s.count after.rooms) satellite
           (c.resize_last.ensures.rooms name c.in-Some.cells
-          (c.in_ok-place_name.ensures.room c.if-not-branch.false))),
+          (c.in_ok-place_name.ensures.placed.room c.if-not-branch.false))),
       elim found.7 [
         | inl good ↦ inl good
-        | inr so_far ↦ elim c.in_ok-place_name.ensures.back [
+        | inr so_far ↦ elim c.in_ok-place_name.ensures.placed.back [
           | inl good ↦ inl good
           | inr more ↦ inr (λ other count has. so_far other count (more other count
               (c.resize_last.ensures.back other count has)))
@@ -162,22 +158,13 @@ loop-place-preserved c =
 pub returns-clause-ok : goal.returns-clause-ok
 returns-clause-ok c =
     let found = c.loop-place.invariant in
-    let end : c.loop-place.place ≡ c.args.count = omega arith in (
-      found.0,
-      named-all c.args.types.now (names_in c.args.text.now c.args.count) c.loop-place.place found.0 found.1
-          (ap (λ n. drop n (names_in c.args.text.now c.args.count)) end
-          ∙ drop_all-each_place c.args.count (λ k. columns c.args.text.now (42 + 3 * k) 3)),
-      found.2,
-      found.4,
-    )
-
-pub returns-clause-room : goal.returns-clause-room
-returns-clause-room c named is =
-    let found = c.loop-place.invariant in
     let end : c.loop-place.place ≡ c.args.count = omega arith in
-    let all = named-all c.args.types.now (names_in c.args.text.now c.args.count) c.loop-place.place found.0
-    found.1
-    (ap (λ n. drop n (names_in c.args.text.now c.args.count)) end
-    ∙ drop_all-each_place c.args.count (λ k. columns c.args.text.now (42 + 3 * k) 3)) in
-    subst (λ (ss : List Satellite). HaveTypesRoom ss c.loop-place.satellites.rooms)
-    (ok-same found.0 named (sym all ∙ is)) found.6
+    record {
+      satellites = found.0;
+      read = named-all c.args.types.now (names_in c.args.text.now c.args.count) c.loop-place.place found.0
+          found.1 (ap (λ n. drop n (names_in c.args.text.now c.args.count)) end
+          ∙ drop_all-each_place c.args.count (λ k. columns c.args.text.now (42 + 3 * k) 3));
+      rows = found.2;
+      awaited = found.4;
+      room = found.6;
+    }

@@ -1,11 +1,13 @@
 use Rattle.std.proofs.Common.{rules, ◌≡◌, ◌∙◌, ◌⊎◌, ap, sym, Bool, true, Ok}
-use Rattle.std.proofs.Common.{Err, Option, Some, None, if◌then◌else◌, ◌≤◌, ℕ, arith, subst}
+use Rattle.std.proofs.Common.{Err, Option, Some, None, if◌then◌else◌, ◌≤◌, ℕ, List, arith, subst}
 use Rattle.crx_base.specs.meaning.Seen.{Content}
 use Rattle.crx_base.specs.declared.fault.Fault.TheVariants.{NotAnEpoch, OutOfMemory}
 use Rattle.crx_compact.specs.OpenEpochs.{Faulty, HasMade, Reading}
 use Rattle.crx_compact.specs.OpenEpochs.{before_clock, first_step, tail_for_line, tail_held}
-use Rattle.crx_compact.specs.Placing.{HasRoom, OpenHistory, tail_of_history}
+use Rattle.crx_compact.specs.Placing.{HasRoom, HaveTypesRoom, OpenHistory, tail_of_history}
 use Rattle.crx_compact.specs.Tails.{Tail}
+use Rattle.crx_compact.specs.meaning.EpochText.{Satellite}
+use Rattle.crx_compact.proofs.Results.{ok-same}
 use Rattle.crx_compact.proofs.ReadingRooms.{opened-from, room-for, rows-opened, satellites-known, text-known}
 use Rattle.crx_compact.proofs.reading.Blocks.{begun-block, begun-refused}
 use Rattle.crx_compact.proofs.reading.Stages.{line-good, tail-idle}
@@ -29,16 +31,16 @@ returns-in-Err-clause-memory c = λ out.
     ∙ ap {B = Option Tail} (λ (b : Bool). if b then Some (tail_of_history history) else None) there in
     line-good c.args.types.now c.args.line.now (tail_held c.args.self.now.state)
     (tail_of_history history) before
-    (c.in-Err.ensures.memory out)
+    (c.in-Err.ensures.err.answer.memory out)
 
 pub returns-in-Err-clause-unasked : goal.returns-in-Err-clause-unasked
 returns-in-Err-clause-unasked c = λ other.
-    let left = c.in-Err.ensures.unasked other in
+    let left = c.in-Err.ensures.err.unasked other in
     subst (KeepsRoom _) (ap (λ (held : HeldColumns). held.room) c.self.view_is) (record {
       history = record {
-        text = same-below (c.forget-in-Err.ensures.held_room ∙ left.1 ∙ c.has_history.ensures.held_room);
+        text = same-below (ap (λ (h : OpenHistory). h.held_room) c.forget-in-Err.ensures.history ∙ left.1 ∙ c.has_history.ensures.held_room);
         rooms = λ name count has. subst (HasRoom name count) c.has_history.ensures.rooms
-            (left.0 name count (subst (HasRoom name count) c.forget-in-Err.ensures.rooms has));
+            (left.0 name count (subst (HasRoom name count) (ap (λ (h : OpenHistory). h.satellites.rooms) c.forget-in-Err.ensures.history) has));
       };
       lines = omega arith;
       bytes = omega arith;
@@ -61,10 +63,11 @@ returns-in-Ok-begin-clause-room c begun step =
     let read = c.in-Ok.ensures.ok in
     room-for c.args.types.now c.args.line.now
     (tail_of_history history) begun opened c.read_epoch_line.new.self
-    c.begin.new.self c.in-Ok.ensures.text c.in-Ok.ensures.text_fits
-    (c.in-Ok.ensures.room opened.satellites opened.read)
+    c.begin.new.self read.text read.fits
+    (subst (λ (ss : List Satellite). HaveTypesRoom ss c.read_epoch_line.new.self.satellites.rooms)
+    (ok-same _ _ (sym read.read ∙ opened.read)) read.room)
     (rows-opened c.args.types.now c.args.line.now
-    (tail_of_history history) begun read.0 _ opened read.1 read.2)
+    (tail_of_history history) begun read.satellites _ opened read.read read.rows)
     c.in-Ok-begin.ensures.enough_lines c.in-Ok-begin.ensures.enough_bytes
 
 pub returns-in-Err-clause-known : goal.returns-in-Err-clause-known
@@ -81,13 +84,13 @@ returns-in-Err-clause-known c begun step has =
     ∙ ap {B = Option Tail} (λ (b : Bool). if b then Some (tail_of_history history) else None) there in
     let opened = opened-from c.args.types.now c.args.line.now (tail_held c.args.self.now.state)
     (tail_of_history history) begun before step in
-    c.in-Err.ensures.known opened.satellites opened.read
+    absurd (c.in-Err.ensures.err.wanting opened.satellites opened.read
     (satellites-known c.args.types.now c.args.line.now (tail_of_history history) begun c.args.self.now.room _
     opened has (sym (ap (λ (held : HeldColumns). held.room.rooms) c.self.view_is)
     ∙ sym c.has_history.ensures.rooms))
     (text-known c.args.types.now c.args.line.now (tail_of_history history) begun c.args.self.now.room _
     opened has (sym (ap (λ (held : HeldColumns). held.room.text) c.self.view_is)
-    ∙ sym c.has_history.ensures.held_room))
+    ∙ sym c.has_history.ensures.held_room)))
 
 pub returns-in-Ok-begin-clause-block : goal.returns-in-Ok-begin-clause-block
 returns-in-Ok-begin-clause-block c = λ older e.

@@ -49,14 +49,14 @@ asked-for : (full in_full other : Bool) → in_full ≡ full → full ≡ true
     → in_full ≡ (if full then true else other)
 asked-for full in_full other is asked = is ∙ asked ∙ sym (ap (λ f. if f then true else other) asked)
 
-means : (c : goal.After-new-in-Ok)
+means : (c : goal.After-replace-lines)
     → c.if-full.in_full ≡ (if c.args.full then true else not c.self.inside.is_kept)
 means c = elim (c.if-full.branch) [
   | then-full w ↦ asked-for c.args.full _ _ w.in_full-is w.if-full.true
   | else-full w ↦ w.in_full-is ∙ sym (ap (λ f. if f then true else not c.self.inside.is_kept) w.if-full.false)
 ]
 
-after : (c : goal.After-new-in-Ok)
+after : (c : goal.After-replace-lines)
     → (if c.if-full.in_full then no_tail else tail_of_history c.self.inside.history)
     ≡ tail_written_after c.args.full (tail_held c.args.self.now.state)
 after c = written-after c.args.full c.self.inside.is_kept c.if-full.in_full c.self.inside.stage
@@ -66,9 +66,8 @@ after c = written-after c.args.full c.self.inside.is_kept c.if-full.in_full c.se
 
 pub returns-in-Ok-clause-coded : goal.returns-in-Ok-clause-coded
 returns-in-Ok-clause-coded c =
-    c.new-in-Ok.ensures
-    ∙ ap (λ lines. record { epoch = c.args.epoch; lines = lines })
-    (ap (λ (made : PendingLines). made.lines) c.replace-lines.ensures.value ∙ c.in-Ok.ensures.lines
+    ap (λ lines. record { epoch = c.args.epoch; lines = lines })
+    (ap (λ (made : PendingLines). made.lines) c.replace-lines.ensures.value ∙ c.in-Ok.ensures.written.lines_made
     ∙ ap (λ t. lines_after_tail t c.args.epoch) (after c))
 
 pub returns-in-Ok-clause-kept : goal.returns-in-Ok-clause-kept
@@ -76,7 +75,7 @@ returns-in-Ok-clause-kept c =
     still-idle c.self.inside.is_kept c.self.inside.stage c.self.inside.count c.self.inside.history
     c.encode.new.self c.args.self.now.state (ap (λ
     (held : HeldColumns). held.state) c.self.view_is) c.requires.idle
-    ∙ ap (λ t. Idle (Some t)) (c.in-Ok.ensures.after ∙ ap (λ t. tail_after t c.args.epoch) (after c))
+    ∙ ap (λ t. Idle (Some t)) (c.in-Ok.ensures.written.tail ∙ ap (λ t. tail_after t c.args.epoch) (after c))
 
 pub returns-in-Ok-clause-left : goal.returns-in-Ok-clause-left
 returns-in-Ok-clause-left c = λ epochs h.

@@ -51,7 +51,7 @@ returns-else-not-is_whole-clause-made c =
     c.print.ensures.head c.print.ensures.block) in
     let P : Tail → Type 0 = λ t.
     HasPrintedLines (step_in c.args.self.now.state (Content c.args.line.now))
-    (Idle (Some t)) true c.hand_over.new.lines in
+    (Idle (Some t)) true c.exchange.new.self in
     subst P (sym (ap {B = Tail} tail_of_history c.end.ensures.ended))
-    (printed-whole _ tail new.count c.hand_over.new.lines step (omega (arith, come))
-    (c.hand_over.ensures.lines ∙ block-whole new.history new.count block.lines lines (omega (arith, come))))
+    (printed-whole _ tail new.count c.exchange.new.self step (omega (arith, come))
+    (c.exchange.ensures.lines ∙ block-whole new.history new.count block.lines lines (omega (arith, come))))

@@ -1,24 +1,165 @@
-use Rattle.std.proofs.Common.{◌≡◌, [], ℕ, List, length, sym, ap, ◌∙◌, subst}
+use Rattle.std.proofs.Common.{◌≡◌, ◌≤◌, ◌++◌, ◌∷◌, [], ℕ, ℤ, List, Option, false, true, not, length, take, sym, ap, ◌∙◌}
+use Rattle.std.proofs.Common.{subst, arith, if◌then◌else◌}
+use borrow.Author.Count.{falls}
+use Rattle.std.specs.Result.{is_ok}
 use Rattle.std.proofs.lemmas.Bool.{eqb-true}
 use Rattle.std.proofs.lemmas.List.{length-map}
 use Rattle.crx_header.specs.meaning.EpochColumns.{satellites_of}
-use Rattle.crx_rinex.specs.meaning.Observations.{Row}
-use Rattle.crx_compact.specs.Placing.{OpenHistory}
-use Rattle.crx_compact.specs.Steps.{row_tail_in}
+use Rattle.crx_rinex.specs.meaning.Epochs.{has_satellite}
+use Rattle.crx_rinex.specs.meaning.Observations.{Epoch, Row}
+use Rattle.crx_compact.specs.EncodingRooms.{HasTakenRow, encoding_room}
+use Rattle.crx_compact.specs.Placing.{HasRoom, HaveRoom, OpenHistory, PlacedRows, row_of_parts, row_room}
+use Rattle.crx_compact.specs.Placing.{tail_of_history}
+use Rattle.crx_compact.specs.Steps.{no_tail, row_tail_in}
 use Rattle.crx_compact.specs.Tails.{Tail}
-use Rattle.crx_compact.specs.Written.{AreRowsWritten}
+use Rattle.crx_compact.specs.Written.{AreRowsWritten, IsEpochWritten, IsRowWritten, epoch_by_rows}
+use Rattle.crx_compact.proofs.ComeRows.{row-new}
+use Rattle.crx_compact.proofs.Making.{taken_all, taken_more}
+use Rattle.crx_compact.proofs.PlaceByPlace.{some-there}
+use Rattle.crx_compact.proofs.Results.{by_ok, from_ok}
+use Rattle.crx_compact.proofs.RowByRow.{all-at, all-of, sum-left}
+use Rattle.crx_compact.proofs.history.History.encode.Goals.{In_default}
 use Rattle.crx_compact.proofs.history.History.encode.Goals as goal
 
--- as many satellites have come as rows were written
-counted : (after : Tail) (rows : List Row) (history : OpenHistory) (lines : List (List ℕ))
-    → AreRowsWritten after rows history lines → length history.satellites.rows ≡ length rows
-counted after rows history lines written =
-    ap length written.rows_after ∙ length-map rows (row_tail_in after.rows)
+pub loop-row-init : goal.loop-row-init
+loop-row-init c =
+    let same : ◌≡◌ {A = Tail} (record {
+      text = c.self.inside.text.items;
+      clock = c.self.inside.clock;
+      rows = c.prepare_rows.new.satellites.rows;
+    }) (tail_of_history c.args.self.now) =
+    (λ j. record {
+      text = ap (λ (h : OpenHistory). h.text) c.self.view_is j;
+      clock = ap (λ (h : OpenHistory). h.clock) c.self.view_is j;
+      rows = (c.prepare_rows.ensures.asked.rows ∙ ap (λ (h : OpenHistory). h.satellites.rows) c.self.view_is) j;
+    }) in
+    let lines = c.in_ok-make_room.ensures.free_lines in
+    let bytes = c.in_ok-make_room.ensures.free_bytes in
+    let sized = c.in_ok-room.ensures.bytes in
+    let many = c.count-2.ensures.value in
+    let long = c.in_ok-make_long.ensures.room in
+    let first = c.count.ensures.value in
+    let text = ap length c.begin_rows.ensures.texts.next_text in
+    record {
+      written = subst (AreRowsWritten _ [] c.begin_rows.new.self)
+          (sym (c.make_room.ensures.lines ∙ c.reserve_front.ensures.emptied))
+          (subst (λ (t : Tail). AreRowsWritten (if c.args.in_full then no_tail else t) [] c.begin_rows.new.self [])
+          same c.begin_rows.ensures.begun);
+      room = subst (HaveRoom c.args.epoch.now.rows) (sym c.begin_rows.ensures.rooms) c.in_ok-room.ensures.room;
+      free_lines = omega (arith, lines, many);
+      free_bytes = omega (arith, bytes, sized);
+      text = omega (arith, long, first, text);
+      front = c.make_room.ensures.front ∙ c.in_ok-reserve_front.ensures.front;
+    }
+
+pub unwrap-requires : goal.unwrap-requires
+unwrap-requires c =
+    let rows = c.args.epoch.now.rows in
+    let index = c.loop-row.index in
+    let row : Row = c.in-Some.row.now in
+    let here = sym c.in-Some.ensures.value in
+    let rooms = c.loop-row.self.satellites.rooms in
+    let within = some-there rows index row here in
+    let free_lines = c.loop-row.invariant.free_lines in
+    let free_bytes = c.loop-row.invariant.free_bytes in
+    let next = sum-left row_room rows index row here in
+    let many : length c.values.result.now ≡ length row.values = ap length c.values.ensures.value in
+    c.write_row.ensures.known (record {
+      satellite = subst (λ (name : List ℕ). HasRoom name (length c.values.result.now) rooms)
+          (sym c.name.ensures.value)
+          (subst (λ (values : List (Option ℤ)). HasRoom row.name (length values) rooms)
+          (sym c.values.ensures.value)
+          (all-at (λ (r : Row). HasRoom r.name (length r.values) rooms) rows index row
+          c.loop-row.invariant.room here));
+      line = omega (arith, within, free_lines);
+      bytes = omega (arith, next, free_bytes, many);
+    })
+
+pub overflow_add-index : goal.overflow_add-index
+overflow_add-index c =
+    let within = some-there c.args.epoch.now.rows c.loop-row.index c.in-Some.row.now
+    (sym c.in-Some.ensures.value) in
+    let few = c.row.ensures.within in
+    omega (arith, within, few)
+
+pub loop-row-smaller : goal.loop-row-smaller
+loop-row-smaller c =
+    falls (length c.args.epoch.now.rows) c.loop-row.index
+    (some-there c.args.epoch.now.rows c.loop-row.index c.in-Some.row.now (sym c.in-Some.ensures.value))
+
+pub loop-row-preserved : goal.loop-row-preserved
+loop-row-preserved c =
+    let rows = c.args.epoch.now.rows in
+    let index = c.loop-row.index in
+    let row : Row = c.in-Some.row.now in
+    let here = sym c.in-Some.ensures.value in
+    let so_far : List Row = take index rows in
+    let put : Row = row_of_parts c.name.result c.values.result.now c.flags.result.now in
+    let parts : put ≡ row =
+    (λ j. row_of_parts (c.name.ensures.value j) (c.values.ensures.value j) (c.flags.ensures.value j)) in
+    let after : Tail = if c.args.in_full then no_tail else tail_of_history c.args.self.now in
+    let old = encoding_room c.loop-row.self c.loop-row.lines in
+    let new = encoding_room c.write_row.new.self c.write_row.new.lines in
+    let written = from_ok (IsRowWritten after so_far put c.write_row.new.self c.write_row.new.lines.lines)
+    c.write_row.result c.unwrap.result c.unwrap.ensures
+    (c.write_row.ensures.written after so_far c.loop-row.invariant.written) in
+    let is_new : c.unwrap.result ≡ true = written.answer
+    ∙ ap not (ap (λ (r : Row). has_satellite r.name so_far) parts ∙ row-new rows index row c.requires.sound.apart here) in
+    let taken = from_ok (λ is_new. is_new ≡ true → HasTakenRow put old new) c.write_row.result c.unwrap.result
+    c.unwrap.ensures c.write_row.ensures.taken is_new in
+    let kept = c.write_row.ensures.kept in
+    let free_lines = c.loop-row.invariant.free_lines in
+    let free_bytes = c.loop-row.invariant.free_bytes in
+    let text = c.loop-row.invariant.text in
+    let same = ap length c.write_row.ensures.texts.next_text in
+    let one_line = taken.lines in
+    let some_bytes = taken.bytes in
+    let all_lines = kept.lines in
+    let all_bytes = kept.bytes in
+    let next = sum-left row_room rows index row here in
+    let many : length c.values.result.now ≡ length row.values = ap length c.values.ensures.value in
+    record {
+      written = subst (λ (rs : List Row). AreRowsWritten after rs c.write_row.new.self c.write_row.new.lines.lines)
+          ((λ j. so_far ++ parts j ∷ []) ∙ sym (taken_more rows index row here)) (written.written is_new);
+      room = all-of (λ (r : Row). HasRoom r.name (length r.values) c.loop-row.self.satellites.rooms)
+          (λ (r : Row). HasRoom r.name (length r.values) c.write_row.new.self.satellites.rooms) rows
+          (λ r known. kept.rooms r.name (length r.values) known) c.loop-row.invariant.room;
+      free_lines = omega (arith, free_lines, one_line, all_lines);
+      free_bytes = omega (arith, free_bytes, some_bytes, all_bytes, next, many);
+      text = omega (arith, text, same);
+      front = c.write_row.ensures.front ∙ c.loop-row.invariant.front;
+    }
+
+-- all rows are written
+written : (c : In_default)
+    → AreRowsWritten (if c.args.in_full then no_tail else tail_of_history c.args.self.now) c.args.epoch.now.rows
+    c.loop-row.self c.loop-row.lines.lines
+written c =
+    let after : Tail = if c.args.in_full then no_tail else tail_of_history c.args.self.now in
+    subst (λ (rows : List Row). AreRowsWritten after rows c.loop-row.self c.loop-row.lines.lines)
+    (taken_all c.args.epoch.now.rows c.loop-row.index (sym c.in_default.ensures.value))
+    c.loop-row.invariant.written
 
 pub end_rows-requires-clause-counted : goal.end_rows-requires-clause-counted
 end_rows-requires-clause-counted c =
     let epoch = c.args.epoch.now in
-    counted _ epoch.rows c.write_rows.new.self c.write_rows.new.lines.lines
-    (c.write_rows.ensures.written _ (subst (AreRowsWritten _ [] c.begin_rows.new.self)
-    (sym (c.make_room.ensures.lines ∙ c.reserve_front.ensures.emptied)) c.begin_rows.ensures.begun))
+    ap length (written (goal.at.end_rows-requires-clause-counted c).In_default).rows_after ∙ length-map epoch.rows (row_tail_in _)
     ∙ eqb-true (length epoch.rows) (satellites_of epoch.head) c.requires.whole ∙ sym c.head.ensures.count
+
+pub unwrap-requires-2 : goal.unwrap-requires-2
+unwrap-requires-2 c =
+    let epoch = c.args.epoch.now in
+    let text = c.loop-row.invariant.text in
+    let many = eqb-true (length epoch.rows) (satellites_of epoch.head) c.requires.whole in
+    let count = c.head.ensures.count in
+    c.end_rows.ensures.known (omega (arith, text, many, count))
+
+pub returns-clause-written : goal.returns-clause-written
+returns-clause-written c =
+    let epoch = c.args.epoch.now in
+    let after : Tail = if c.args.in_full then no_tail else tail_of_history c.args.self.now in
+    let whole : epoch_by_rows c.head.result.now epoch.rows ≡ epoch =
+    (λ j. record { head = c.head.ensures.head j; clock = c.head.ensures.clock j; rows = epoch.rows }) in
+    subst (λ (e : Epoch). IsEpochWritten after e c.end_rows.new.self c.end_rows.new.lines.lines) whole
+    (by_ok c.end_rows.result (ap is_ok c.unwrap-2.ensures)
+    (c.end_rows.ensures.written after epoch.rows (written (goal.at.returns-clause-written c).In_default)))

@@ -42,21 +42,8 @@ named after rows head text end is made =
     (ap (flat_map (λ (row : RowTail). row.name)) is
     ∙ flat_map-map (λ (row : RowTail). row.name) (row_tail_in after.rows) rows)
 
-pub returns-clause-after : goal.returns-clause-after
-returns-clause-after c = λ after rows written.
-    let head = c.args.head.now in
-    let satellites = ap (λ (h : OpenHistory). h.satellites) c.self.view_is in
-    let is = ended after rows c.args.lines.now.lines c.args.self.now c.self.inside.satellites c.end.new.self
-    written satellites (ap (λ (p : PlacedRows). p.rows) c.end.ensures.ended) in
-    let text = named after rows head.head c.renew_text.new.text.items c.end.new.self.rows is
-    c.in_ok-renew_text.ensures.ok in
-    let clock = c.push.ensures.arc
-    ∙ (λ j. arc_of_value (c.clock.ensures.value j) ((ap (λ (h : OpenHistory). h.clock) c.self.view_is
-    ∙ written.clock) j)) in
-    (λ j. record { text = (ap (λ v. v.items) c.swap.ensures.x_after ∙ text) j; clock = clock j; rows = is j })
-
-pub returns-clause-lines : goal.returns-clause-lines
-returns-clause-lines c = λ after rows written.
+pub returns-clause-written : goal.returns-clause-written
+returns-clause-written c = λ after rows written.
     let head = c.args.head.now in
     let whole = epoch_text (epoch_by_rows head rows) in
     let satellites = ap (λ (h : OpenHistory). h.satellites) c.self.view_is in
@@ -64,6 +51,8 @@ returns-clause-lines c = λ after rows written.
     written satellites (ap (λ (p : PlacedRows). p.rows) c.end.ensures.ended) in
     let text = named after rows head.head c.renew_text.new.text.items c.end.new.self.rows is
     c.in_ok-renew_text.ensures.ok in
+    let clock = ap (λ (h : OpenHistory). h.clock) c.self.view_is ∙ written.clock in
+    let arc = c.push.ensures.arc ∙ (λ j. arc_of_value (c.clock.ensures.value j) (clock j)) in
     let before = c.deref.ensures.value ∙ ap (λ (h : OpenHistory). h.text) c.self.view_is ∙ written.text in
     let first : c.bytes-2.result.now ≡ text_difference after.text whole =
     c.bytes-2.ensures.value ∙ c.trim_end_blanks.ensures.trimmed
@@ -72,11 +61,16 @@ returns-clause-lines c = λ after rows written.
     c.clear-2.ensures.emptied)
     ∙ (λ j. text_difference (before j) ((c.deref-2.ensures.value ∙ text) j))
     ∙ difference-trimmed after.text whole in
-    let code = c.push.ensures.code
-    ∙ (λ j. code_of_value (c.clock.ensures.value j) ((ap (λ (h : OpenHistory). h.clock) c.self.view_is
-    ∙ written.clock) j)) in
+    let code = c.push.ensures.code ∙ (λ j. code_of_value (c.clock.ensures.value j) (clock j)) in
     let second : c.bytes.result.now ≡ code_text (code_of_value head.clock after.clock) =
     c.bytes.ensures.value ∙ by_ok c.code_print.result (ap is_ok c.unwrap.ensures) c.code_print.ensures.ok
     ∙ ap (λ (t : List ℕ). t ++ code_text c.push.result) c.clear.ensures.emptied ∙ ap code_text code in
-    c.put_front-2.ensures.lines
-    ∙ (λ j. first j ∷ (c.put_front.ensures.lines ∙ (λ i. second i ∷ written.lines_made i)) j)
+    record {
+      tail = λ j. record {
+        text = (ap (λ v. v.items) c.swap.ensures.x_after ∙ text) j;
+        clock = arc j;
+        rows = is j;
+      };
+      lines_made = c.put_front-2.ensures.lines
+          ∙ (λ j. first j ∷ (c.put_front.ensures.lines ∙ (λ i. second i ∷ written.lines_made i)) j);
+    }

@@ -22,6 +22,9 @@ loop-self-preserved c =
           (put.lines row.item row.there) put.taken.free_lines (put.free_bytes row.item row.there);
       head = c.loop-self.invariant.head;
       within = omega (arith, next);
-      all_lines = put.taken.all_lines ∙ c.loop-self.invariant.all_lines;
-      all_bytes = put.taken.all_bytes ∙ c.loop-self.invariant.all_bytes;
+      room = record {
+        all_lines = put.taken.all_lines ∙ c.loop-self.invariant.room.all_lines;
+        all_bytes = put.taken.all_bytes ∙ c.loop-self.invariant.room.all_bytes;
+        reserved = put.taken.reserved ∙ c.loop-self.invariant.room.reserved;
+      };
     }

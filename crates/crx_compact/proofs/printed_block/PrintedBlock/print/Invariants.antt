@@ -1,4 +1,5 @@
 use Rattle.std.proofs.Common.{◌≡◌, ◌≤◌, ◌-◌, true}
+use Rattle.crx_compact.specs.LineLists.{HasSameRoom}
 use Rattle.crx_compact.specs.PrintedBlocks.{AreLinesTo}
 use Rattle.crx_compact.proofs.printed_block.PrintedBlock.print.Given as goal
 
@@ -8,8 +9,7 @@ invariant-loop-self l = record {
   lines : AreLinesTo l.self.rows l.self.lines l.history;
   head : l.self.has_head ≡ true;
   within : l.self.rows ≤ l.rows;
-  all_lines : l.self.lines.all_lines ≡ l.fn.self.lines.all_lines;
-  all_bytes : l.self.lines.all_bytes ≡ l.fn.self.lines.all_bytes;
+  room : HasSameRoom l.fn.self.lines l.self.lines;
 }
 
 abbrev pub decreases-loop-self : goal.decreases-loop-self

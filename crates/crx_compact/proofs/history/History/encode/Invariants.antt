@@ -1,0 +1,22 @@
+use Rattle.std.proofs.Common.{◌≡◌, ◌≤◌, ◌+◌, ◌*◌, ◌-◌, drop, if◌then◌else◌, length, map, sum, take}
+use Rattle.crx_base.specs.declared.limits.TheConstants.{HEAD_WIDTH, NAME_WIDTH}
+use Rattle.crx_compact.specs.Placing.{HaveRoom, row_room, tail_of_history}
+use Rattle.crx_compact.specs.Steps.{no_tail}
+use Rattle.crx_compact.specs.Written.{AreRowsWritten}
+use Rattle.crx_compact.specs.declared.lines.TheConstants.{FIRST_LINES}
+use Rattle.crx_compact.proofs.history.History.encode.Given as goal
+
+-- the rows up to an index are written, and there is room for the others, for the text, and for the first lines
+abbrev pub invariant-loop-row : goal.invariant-loop-row
+invariant-loop-row l = record {
+  written : AreRowsWritten (if l.in_full then no_tail else tail_of_history l.fn.self) (take l.index l.epoch.rows)
+      l.self l.lines.lines;
+  room : HaveRoom l.epoch.rows l.self.satellites.rooms;
+  free_lines : length l.epoch.rows ≤ l.lines.free_lines + l.index;
+  free_bytes : sum (map row_room (drop l.index l.epoch.rows)) ≤ l.lines.free_bytes;
+  text : HEAD_WIDTH + NAME_WIDTH * length l.epoch.rows ≤ length l.self.next_text;
+  front : l.lines.front ≡ FIRST_LINES;
+}
+
+abbrev pub decreases-loop-row : goal.decreases-loop-row
+decreases-loop-row l = length l.epoch.rows - l.index
