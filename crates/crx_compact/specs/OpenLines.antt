@@ -1,9 +1,9 @@
 -- How code stores what a reader of compact epochs is seen as: how far the lines of an epoch have come, and the
 -- history.
-use Rattle.std.specs.Prelude.{◌≡◌, ◌≤◌, ⊤, ◌<◌, ◌==◌, ℕ, length, Bool, true, false, Some, None, if◌then◌else◌}
-use Rattle.crx_base.specs.declared.fault.Fault.TheVariants.{NotAnEpoch}
-use Rattle.crx_compact.specs.OpenEpochs.{OpenRawEpoch, RawStep, Going, Faulty, before_clock, with_rows}
-use Rattle.crx_compact.specs.OpenEpochs.{step_with_rows}
+use Rattle.std.specs.Prelude.{◌≡◌, ◌≤◌, ⊤, ◌<◌, ◌==◌, ℕ, List, length, Bool, true, false, Some, None, if◌then◌else◌}
+use Rattle.crx_base.specs.meaning.Seen.{Content, ReadLine}
+use Rattle.crx_header.specs.meaning.EpochColumns.{begins_epoch}
+use Rattle.crx_compact.specs.OpenEpochs.{OpenRawEpoch, RawStep, before_clock, step_in, step_with_rows, with_rows}
 use Rattle.crx_compact.specs.OpenEpochs.{ColumnsState, Idle, Reading}
 use Rattle.crx_compact.specs.Placing.{OpenHistory, IsAnnounced, IsBetween, tail_of_history}
 use Rattle.crx_compact.specs.PrintedBlocks.{IsBlock}
@@ -11,11 +11,6 @@ use Rattle.crx_compact.specs.ReadingRooms.{ReadingRoom}
 use Rattle.crx_compact.specs.declared.printed_block.PrintedBlock.{PrintedBlock}
 use Rattle.crx_compact.specs.declared.columns.Stage.{Stage}
 use Rattle.crx_compact.specs.declared.columns.Stage.TheVariants.{Unbegun, Clock, Rows}
-
-abbrev pub is_open : Stage → Bool
-is_open Unbegun = false
-is_open Clock = true
-is_open Rows = true
 
 -- the open epoch, of which so many rows have come
 abbrev pub epoch_by_stage : Stage → ℕ → OpenHistory → OpenRawEpoch
@@ -44,17 +39,21 @@ IsSoundBlock Clock count block history =
 IsSoundBlock Rows count block history =
     (block.rows ≤ count) × IsBlock block.has_head block.rows block.lines history
 
--- what the lines so far have made: a whole epoch where the clock has come and no row is awaited
-abbrev pub made_of : Stage → ℕ → OpenHistory → RawStep
-made_of Unbegun count history = Faulty NotAnEpoch
-made_of Clock count history = Going (before_clock (tail_of_history history))
-made_of Rows count history = step_with_rows (tail_of_history history) count
+-- what a line makes by how far the lines have come: of the epochs before, it matters only where none is open that this is no epoch
+abbrev pub step_at : Stage → ℕ → OpenHistory → ReadLine → RawStep
+step_at stage count history line = step_in (columns_state true stage count history) line
 
--- whether all lines of an open epoch have come
-abbrev pub have_all_come : Stage → ℕ → OpenHistory → Bool
-have_all_come Unbegun count history = false
-have_all_come Clock count history = false
-have_all_come Rows count history = count == length history.satellites.rows
+-- a line of an open epoch was taken, after which rows are awaited, or all have come; what is printed stays the printed lines of the epoch so far
+pub record IsLineTaken (line : List ℕ) (stage : Stage) (count : ℕ) (history : OpenHistory)
+    (after : Stage) (come : ℕ) (new : OpenHistory) (is_whole : Bool) : Type 0 where
+  pub rows : after ≡ Rows
+  pub made : step_at stage count history (Content line) ≡ step_with_rows (tail_of_history new) come
+  pub whole : is_whole ≡ (come == length new.satellites.rows)
+  pub within : come ≤ length new.satellites.rows
+  pub announced : IsAnnounced new
+  pub start : begins_epoch line ≡ false
+  pub awaited : 0 < come → stage ≡ Rows
+  pub block : (block : PrintedBlock) → IsSoundBlock stage count block history → IsSoundBlock after come block new
 
 -- for how much there is room in a history and in the lines of a block
 abbrev pub reading_room : OpenHistory → PrintedBlock → ReadingRoom

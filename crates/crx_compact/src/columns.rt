@@ -13,12 +13,11 @@ ghost use Rattle.crx_compact.specs.meaning.CompactPlaces.{epoch_at};
 ghost use Rattle.crx_compact.specs.ReadBlocks.{HasReadTo, IsReading};
 ghost use Rattle.crx_base.specs.declared.limits.TheConstants.{LINE_LIMIT};
 ghost use Rattle.crx_header.specs.meaning.EpochColumns.{begins_epoch, is_event_line};
-ghost use Rattle.crx_compact.specs.OpenLines.{IsSoundBlock, IsSoundState, have_all_come, is_open, made_of, epoch_by_stage};
-ghost use Rattle.crx_compact.specs.declared.printed_block.PrintedBlock.{PrintedBlock};
+ghost use Rattle.crx_compact.specs.OpenLines.{IsLineTaken, IsSoundState, step_at};
 ghost use Rattle.crx_compact.specs.EpochLinesRead.{history_cleared};
-ghost use Rattle.crx_compact.specs.Placing.{IsAnnounced, IsBetween, KeepsRooms, tail_of_history};
+ghost use Rattle.crx_compact.specs.Placing.{IsBetween, KeepsRooms, tail_of_history};
 ghost use Rattle.crx_compact.specs.ReadingRooms.{HasRoomFor, KeepsHistoryRoom, KeepsRoom};
-ghost use Rattle.crx_compact.specs.OpenEpochs.{next_step, OpenRawEpoch, Going, awaits_row, is_faulty, is_idle, makes_epoch, tail_held, first_step, step_in, tail_for_line, Faulty, HasMade, HasPrintedLines};
+ghost use Rattle.crx_compact.specs.OpenEpochs.{OpenRawEpoch, Going, awaits_row, is_faulty, is_idle, makes_epoch, tail_held, first_step, step_in, tail_for_line, Faulty, HasMade, HasPrintedLines};
 ghost use Rattle.crx_compact.specs.OpenEpochs.ColumnsState.{Idle};
 ghost use Rattle.crx_compact.specs.meaning.Compaction.{Marked, compact_epoch};
 ghost use Rattle.crx_compact.specs.Tails.{tail_left, tail_or_nothing};
@@ -138,8 +137,7 @@ impl Columns {
             → IfOk result
             (λ coded. coded.lines ≡ compact_epoch (record { in_full = full; epoch = epoch } ∷ epochs)) }
     {
-        // What holds of every epoch is known by its line.
-        let _ = epoch.is_full();
+        prove!(epoch.is_full());
         let in_full = full || !self.is_kept;
         match self
             .history
@@ -268,20 +266,15 @@ impl Columns {
         }
     }
 
-    /// Takes the next line of the epoch that was begun as [`Columns::feed`] does, with its refusals but `OutOfMemory`: each row is printed as
-    /// its line is read, where [`Columns::begin`] has asked for room. `true` says that it is the last one, and that the printed lines of the
-    /// epoch are ready; no epoch is made of them.
+    /// Takes the next line of the epoch that was begun as [`Columns::feed`] does, with its refusals but `OutOfMemory`, and `NotAnEpoch` where
+    /// none was: each row is printed as its line is read, where [`Columns::begin`] has asked for room. `true` says that it is the last one,
+    /// and that the printed lines of the epoch are ready; no epoch is made of them.
     pub fn feed_into(&mut self, line: &[u8], lines: &mut ExpandedLines) -> Result<bool, Fault>
-        requires open { is_idle self.old.state ≡ false }
         requires short { length line.now ≤ LINE_LIMIT }
         requires drained { lines.old ≡ [] }
         ensures made { IfOk result (λ is_whole.
             HasPrintedLines (step_in self.old.state (Content line.now)) self.new.state is_whole lines.new) }
-        ensures refused { IfErr result
-            (λ fault. (step_in self.old.state (Content line.now) ≡ Faulty fault) ⊎ (fault ≡ Fault.OutOfMemory)) }
-        ensures memory { IfErr result (λ fault. fault ≡ Fault.OutOfMemory
-            → (begins_epoch line.now ≡ false) × (awaits_row self.old.state ≡ true)
-            × (makes_epoch (step_in self.old.state (Content line.now)) ≡ true)) }
+        ensures refused { IfErr result (λ fault. step_in self.old.state (Content line.now) ≡ Faulty fault) }
         // At no line but the epoch line the answer is for want of memory.
         ensures unasked { IfErr result (λ fault. fault ≡ Fault.OutOfMemory → ⊥) }
         ensures emptied { OnErr result (self.new.state ≡ Idle None) }
@@ -355,7 +348,7 @@ fn has_history(history: &mut History, is_kept: bool, line: &[u8]) -> bool
 }
 
 /// Takes the next line of an open epoch: the clock line, then a line for each satellite. Gives whether all have come now; after a fault
-/// what is stored means nothing.
+/// what is stored means nothing. `NotAnEpoch` comes where none is open.
 #[inline(always)]
 fn take_line(
     history: &mut History,
@@ -365,28 +358,17 @@ fn take_line(
     part: &mut Text,
 ) -> Result<bool, Fault>
     requires sound { IsSoundState stage.old count.old history.old }
-    requires open { is_open stage.old ≡ true }
     requires short { length line.now ≤ LINE_LIMIT }
-    ensures made { OnOk result (next_step (epoch_by_stage stage.old count.old history.old) (Content line.now)
-        ≡ made_of stage.new count.new history.new) }
-    ensures whole { IfOk result (λ is_whole. is_whole ≡ have_all_come stage.new count.new history.new) }
-    ensures rows { OnOk result (stage.new ≡ Stage.Rows) }
-    ensures announced { OnOk result (IsAnnounced history.new) }
-    ensures within { OnOk result (count.new ≤ length history.new.satellites.rows) }
-    ensures start { OnOk result (begins_epoch line.now ≡ false) }
-    ensures awaited { OnOk result (0 < count.new → stage.old ≡ Stage.Rows) }
-    // What is printed stays the printed lines of the epoch so far.
-    ensures block { OnOk result ((block : PrintedBlock) → IsSoundBlock stage.old count.old block history.old
-        → IsSoundBlock stage.new count.new block history.new) }
+    ensures ok { IfOk result (IsLineTaken line.now stage.old count.old history.old stage.new count.new history.new) }
     ensures err { IfErr result (λ fault.
-        next_step (epoch_by_stage stage.old count.old history.old) (Content line.now) ≡ Faulty fault) }
+        step_at stage.old count.old history.old (Content line.now) ≡ Faulty fault) }
     // At no line but the epoch line the answer is for want of memory.
     ensures memory { IfErr result (λ fault. fault ≡ Fault.OutOfMemory → ⊥) }
     ensures rooms { KeepsRooms history.old.satellites.rooms history.new.satellites.rooms }
     ensures held_room { history.new.held_room ≡ history.old.held_room }
 {
     match *stage {
-        Stage::Unbegun => unreachable!(),
+        Stage::Unbegun => Err(Fault::NotAnEpoch),
         Stage::Clock => {
             history.read_clock(line)?;
             *stage = Stage::Rows;

@@ -1,5 +1,5 @@
 -- A reader of compact epochs by how far the lines of an epoch have come.
-use Rattle.std.specs.Prelude.{◌≡◌, refl, ℕ, ◌≤◌, ◌<◌, Bool, true, false, List, length, Option, Some, None}
+use Rattle.std.specs.Prelude.{◌≡◌, ◌==◌, refl, ℕ, ◌≤◌, ◌<◌, Bool, true, false, List, length, Option, Some, None}
 use Rattle.std.specs.Prelude.{Result, Ok, Err}
 use Rattle.std.specs.Prelude.{if◌then◌else◌}
 use Rattle.std.specs.Result.{is_ok}
@@ -13,10 +13,10 @@ use Rattle.crx_compact.specs.meaning.EpochText.{Satellite}
 use Rattle.crx_compact.specs.meaning.Sequences.{and_then}
 use Rattle.crx_compact.specs.OpenEpochs.{ColumnsState, RawStep, Reading, awaits_row}
 use Rattle.crx_compact.specs.OpenEpochs.{before_clock, first_step, is_faulty, is_idle, makes_epoch}
-use Rattle.crx_compact.specs.OpenEpochs.{next_step, opened_raw}
+use Rattle.crx_compact.specs.OpenEpochs.{opened_raw}
 use Rattle.crx_compact.specs.OpenEpochs.{opening, step_in, step_with_rows, tail_for_line, tail_held}
 use Rattle.crx_compact.specs.OpenEpochs.{tail_opened, with_rows}
-use Rattle.crx_compact.specs.OpenLines.{columns_state, have_all_come, made_of, epoch_by_stage}
+use Rattle.crx_compact.specs.OpenLines.{columns_state, step_at}
 use Rattle.crx_compact.specs.Placing.{OpenHistory, tail_of_history}
 use Rattle.crx_compact.specs.Tails.{Tail}
 use Rattle.crx_compact.specs.declared.columns.Stage.{Stage}
@@ -57,42 +57,26 @@ line-good types line held before e good =
 
 -- ---- the lines after it
 
-pub step-open : (is_kept : Bool) (stage : Stage) (count : ℕ) (history : OpenHistory)
-    (state : ColumnsState) (line : List ℕ)
-    → columns_state is_kept stage count history ≡ state → is_idle state ≡ false
-    → step_in state (Content line) ≡ next_step (epoch_by_stage stage count history) (Content line)
-step-open is_kept Unbegun count history state line e busy = absurd (true≢false (ap is_idle e ∙ busy))
-step-open is_kept Clock count history state line e busy =
-    sym (ap {B = RawStep} (λ (s : ColumnsState). step_in s (Content line)) e)
-step-open is_kept Rows count history state line e busy =
-    sym (ap {B = RawStep} (λ (s : ColumnsState). step_in s (Content line)) e)
-
--- a line has made so many rows
-pub rows-made : (is_kept : Bool) (stage : Stage) (count : ℕ) (history : OpenHistory) (state : ColumnsState)
-    (line : List ℕ) (next : Stage) (come : ℕ) (after : OpenHistory)
-    → columns_state is_kept stage count history ≡ state → is_idle state ≡ false
-    → next_step (epoch_by_stage stage count history) (Content line) ≡ made_of next come after → next ≡ Rows
-    → step_in state (Content line) ≡ step_with_rows (tail_of_history after) come
-rows-made is_kept stage count history state line next come after e busy made at =
-    step-open is_kept stage count history state line e busy ∙ made
-    ∙ ap {B = RawStep} (λ (s : Stage). made_of s come after) at
+-- what a line makes in a state, by how far the lines have come
+pub step-by-stage : (is_kept : Bool) (stage : Stage) (count : ℕ) (history : OpenHistory)
+    (state : ColumnsState) (line : List ℕ) → columns_state is_kept stage count history ≡ state
+    → step_in state (Content line) ≡ step_at stage count history (Content line)
+step-by-stage is_kept stage count history state line e =
+    sym (ap {B = RawStep} (λ (s : ColumnsState). step_in s (Content line)) e) ∙ kept stage
+  where
+    kept : (stage : Stage) → step_in (columns_state is_kept stage count history) (Content line)
+        ≡ step_in (columns_state true stage count history) (Content line)
+    kept Unbegun = refl
+    kept Clock = refl
+    kept Rows = refl
 
 pub state-rows : (is_kept : Bool) (stage : Stage) (count : ℕ) (history : OpenHistory) → stage ≡ Rows
     → columns_state is_kept stage count history ≡ Reading (with_rows (tail_of_history history) count)
 state-rows is_kept stage count history at =
     ap {B = ColumnsState} (λ (s : Stage). columns_state is_kept s count history) at
 
-pub rows-left : (stage : Stage) (count : ℕ) (history : OpenHistory) → stage ≡ Rows
-    → have_all_come stage count history ≡ false → count ≤ length history.satellites.rows
-    → count < length history.satellites.rows
-rows-left stage count history at some within =
-    let other = sym (ap (λ (s : Stage). have_all_come s count history) at) ∙ some in
-    grind (arith, other, within)
-
-pub rows-come : (stage : Stage) (count : ℕ) (history : OpenHistory) → stage ≡ Rows
-    → have_all_come stage count history ≡ true → count ≡ length history.satellites.rows
-rows-come stage count history at all =
-    let same = sym (ap (λ (s : Stage). have_all_come s count history) at) ∙ all in grind (arith, same)
+pub rows-left : (count all : ℕ) → (count == all) ≡ false → count ≤ all → count < all
+rows-left count all other within = grind (arith, other, within)
 
 -- a satellite's line was awaited
 pub row-was_awaited : (is_kept : Bool) (stage : Stage) (count : ℕ) (history : OpenHistory)

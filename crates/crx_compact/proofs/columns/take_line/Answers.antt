@@ -1,14 +1,15 @@
-use Rattle.std.proofs.Common.{ℕ, ◌≡◌, ◌+◌, sym, subst, arith}
-use Rattle.std.specs.Prelude.{Some}
+use Rattle.std.proofs.Common.{ℕ, ◌≡◌, ◌∙◌, ◌+◌, ap, length, refl, sym, subst, arith, rules}
+use Rattle.std.specs.Prelude.{◌==◌, Some}
+use Rattle.std.proofs.lemmas.List.{length-set}
 use Rattle.std.proofs.lemmas.Result.{err_from_is_err_and}
 use Rattle.crx_base.specs.meaning.Seen.{Content}
-use Rattle.crx_compact.specs.OpenEpochs.{Faulty, next_step}
-use Rattle.crx_compact.specs.OpenLines.{IsSoundBlock, made_of, epoch_by_stage}
+use Rattle.crx_compact.specs.OpenEpochs.{Faulty}
+use Rattle.crx_compact.specs.OpenLines.{IsLineTaken, IsSoundBlock, step_at}
 use Rattle.crx_compact.specs.Placing.{OpenHistory, satellite_of, tail_of_history}
 use Rattle.crx_compact.specs.declared.columns.Stage.{Stage}
-use Rattle.crx_compact.proofs.reading.Announced.{row-announced, rows-allowed, rows-few}
 use Rattle.crx_compact.specs.declared.columns.Stage.TheVariants.{Rows}
 use Rattle.crx_compact.proofs.PrintedBlocks.{block-row}
+use Rattle.crx_compact.proofs.reading.Announced.{row-announced, rows-allowed, rows-few}
 use Rattle.crx_compact.proofs.reading.NoMemory.{no-memory-at-row}
 use Rattle.crx_compact.proofs.reading.StepsByCode.{row-awaited, row-faulty, row-stepped}
 use Rattle.crx_compact.proofs.columns.take_line.Goals as goal
@@ -23,7 +24,7 @@ returns-in_err-read_row-in-Rows-clause-err c =
     let p = err_from_is_err_and c.from_residual-in_err-read_row-in-Rows.result
     c.from_residual-in_err-read_row-in-Rows.ensures.1 in
     let sound = rw c.in-Rows.is at c.requires.sound in
-    rw (p.1, p.2) (subst (λ (s : Stage). next_step (epoch_by_stage s c.args.count.now c.args.history.now)
+    rw (p.1, p.2) (subst (λ (s : Stage). step_at s c.args.count.now c.args.history.now
     (Content c.args.line.now) ≡ Faulty c.in_err-read_row-in-Rows.field-0.0) (sym c.in-Rows.is)
     (row-faulty (tail_of_history c.args.history.now) c.args.count.now c.args.line.now
     c.in_err-read_row-in-Rows.field-0.0 sound.1 c.in_err-read_row-in-Rows.ensures.err))
@@ -44,30 +45,27 @@ overflow_add-count c =
     let few = rows-few c.args.history.now sound.0 in
     omega (arith, few, sound.1)
 
-pub returns-in_ok-read_row-in-Rows-clause-made : goal.returns-in_ok-read_row-in-Rows-clause-made
-returns-in_ok-read_row-in-Rows-clause-made c =
-    let step = row-stepped c.args.history.now c.read_row.new.self c.args.count.now c.args.line.now
-    c.in_ok-read_row-in-Rows.ensures.ok in
-    subst (λ (s : Stage). next_step (epoch_by_stage s c.args.count.now c.args.history.now)
-    (Content c.args.line.now) ≡ made_of s (c.args.count.now + 1) c.read_row.new.self) (sym c.in-Rows.is) step
-
-pub returns-in_ok-read_row-in-Rows-clause-announced :
-    goal.returns-in_ok-read_row-in-Rows-clause-announced
-returns-in_ok-read_row-in-Rows-clause-announced c =
-    let sound = rw c.in-Rows.is at c.requires.sound in
-    row-announced c.args.history.now c.read_row.new.self c.args.count.now c.args.line.now
-    c.in_ok-read_row-in-Rows.ensures.ok sound.0
-
-pub returns-in_ok-read_row-in-Rows-clause-block : goal.returns-in_ok-read_row-in-Rows-clause-block
-returns-in_ok-read_row-in-Rows-clause-block c = λ block.
+pub returns-in_ok-read_row-in-Rows-clause-ok : goal.returns-in_ok-read_row-in-Rows-clause-ok
+returns-in_ok-read_row-in-Rows-clause-ok c =
     let old : OpenHistory = c.args.history.now in
     let new : OpenHistory = c.read_row.new.self in
     let count : ℕ = c.args.count.now in
-    let next : IsSoundBlock Rows count block old → IsSoundBlock Rows (count + 1) block new = λ h.
-    let within = h.0 in (
-      omega (arith, within),
-      block-row block.has_head block.rows block.lines old new count c.args.line.now
-          c.in_ok-read_row-in-Rows.ensures.ok within h.1,
-    ) in
-    subst (λ (s : Stage). IsSoundBlock s count block old → IsSoundBlock s (count + 1) block new)
-    (sym c.in-Rows.is) next
+    let line = c.args.line.now in
+    let read = c.in_ok-read_row-in-Rows.ensures.ok in
+    let sound = rw c.in-Rows.is at c.requires.sound in
+    let many = ap length read.rows ∙ length-set old.satellites.rows count read.left in
+    let all = c.count-all.ensures.value in
+    subst (λ (s : Stage). IsLineTaken line s count old s (count + 1) new ((count + 1) == c.count-all.result)) (sym c.in-Rows.is) (record {
+      rows = refl;
+      made = row-stepped old new count line read;
+      whole = ap (λ n. (count + 1) == n) (all ∙ sym many);
+      within = omega (arith, many, sound.1);
+      announced = row-announced old new count line read sound.0;
+      start = search rules;
+      awaited = λ some. refl;
+      block = λ block h.
+          let within = h.0 in (
+            omega (arith, within),
+            block-row block.has_head block.rows block.lines old new count line read within h.1,
+          );
+    })

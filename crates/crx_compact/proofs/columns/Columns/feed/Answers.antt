@@ -1,11 +1,12 @@
 use Rattle.std.proofs.Common.{rules, ◌≡◌, ◌∙◌, ◌<◌, ◌⊎◌, sym, ap, subst, arith, length, Ok, Err, Some, None}
+use Rattle.std.proofs.lemmas.Bool.{eqb-true}
 use Rattle.crx_base.specs.declared.fault.Fault.TheVariants.{OutOfMemory}
 use Rattle.crx_base.specs.meaning.Seen.{Content}
 use Rattle.crx_compact.specs.OpenEpochs.{ColumnsState, Faulty, HasMade, Idle, step_in, step_with_rows}
 use Rattle.crx_compact.specs.Placing.{tail_of_history}
 use Rattle.crx_compact.specs.Tails.{Tail}
 use Rattle.crx_compact.proofs.reading.Blocks.{more-block, more-refused}
-use Rattle.crx_compact.proofs.reading.Stages.{row-was_awaited, rows-come, rows-left, rows-made, state-rows}
+use Rattle.crx_compact.proofs.reading.Stages.{row-was_awaited, rows-left, state-rows, step-by-stage}
 use Rattle.crx_compact.proofs.reading.Stages.{step-whole}
 use Rattle.crx_compact.proofs.reading.StepsByCode.{made-more, made-whole}
 use Rattle.crx_compact.specs.ReadingRooms.{HeldColumns}
@@ -15,14 +16,13 @@ pub returns-in-Ok-clause-made : goal.returns-in-Ok-clause-made
 returns-in-Ok-clause-made c =
     let inside = c.self.inside in
     let new = c.take_line.new in
-    let rows = c.in-Ok-true.ensures in
+    let rows = c.in-Ok-true.ensures.ok in
     let tail : Tail = tail_of_history new.history in
     let come : new.count ≡ length new.history.satellites.rows =
-    rows-come new.stage new.count new.history rows.rows (sym rows.whole ∙ c.in-Ok-true.field-0-test) in
+    eqb-true new.count (length new.history.satellites.rows) (sym rows.whole ∙ c.in-Ok-true.field-0-test) in
     let step : step_in c.args.self.now.state (Content c.args.line.now) ≡ step_with_rows tail new.count =
-    rows-made inside.is_kept inside.stage inside.count inside.history c.args.self.now.state c.args.line.now
-    new.stage new.count new.history (ap (λ
-    (held : HeldColumns). held.state) c.self.view_is) c.requires.open rows.made rows.rows in
+    step-by-stage inside.is_kept inside.stage inside.count inside.history c.args.self.now.state c.args.line.now
+    (ap (λ (held : HeldColumns). held.state) c.self.view_is) ∙ rows.made in
     let P : Tail → Type 0 = λ t.
     HasMade (step_in c.args.self.now.state (Content c.args.line.now)) (Idle (Some t)) (Some c.in-Ok.epoch) in
     subst P (sym (ap {B = Tail} tail_of_history c.end.ensures.ended))
@@ -32,14 +32,13 @@ pub returns-in-Err-epoch-clause-memory : goal.returns-in-Err-epoch-clause-memory
 returns-in-Err-epoch-clause-memory c = λ out.
     let inside = c.self.inside in
     let new = c.take_line.new in
-    let rows = c.in-Ok-true.ensures in
+    let rows = c.in-Ok-true.ensures.ok in
     let tail : Tail = tail_of_history new.history in
     let come : new.count ≡ length new.history.satellites.rows =
-    rows-come new.stage new.count new.history rows.rows (sym rows.whole ∙ c.in-Ok-true.field-0-test) in
+    eqb-true new.count (length new.history.satellites.rows) (sym rows.whole ∙ c.in-Ok-true.field-0-test) in
     let step : step_in c.args.self.now.state (Content c.args.line.now) ≡ step_with_rows tail new.count =
-    rows-made inside.is_kept inside.stage inside.count inside.history c.args.self.now.state c.args.line.now
-    new.stage new.count new.history (ap (λ
-    (held : HeldColumns). held.state) c.self.view_is) c.requires.open rows.made rows.rows in
+    step-by-stage inside.is_kept inside.stage inside.count inside.history c.args.self.now.state c.args.line.now
+    (ap (λ (held : HeldColumns). held.state) c.self.view_is) ∙ rows.made in
     let some : 0 < length new.history.satellites.rows = c.in-Err-epoch.ensures.memory in (
       rows.start,
       row-was_awaited inside.is_kept inside.stage inside.count inside.history c.args.self.now.state
@@ -51,15 +50,13 @@ pub returns-in-Ok-false-clause-made : goal.returns-in-Ok-false-clause-made
 returns-in-Ok-false-clause-made c =
     let inside = c.self.inside in
     let new = c.take_line.new in
-    let rows = c.in-Ok-false.ensures in
+    let rows = c.in-Ok-false.ensures.ok in
     let tail : Tail = tail_of_history new.history in
     let left : new.count < length new.history.satellites.rows =
-    rows-left new.stage new.count new.history rows.rows
-    (sym rows.whole ∙ c.in-Ok-false.field-0-test) rows.within in
+    rows-left new.count (length new.history.satellites.rows) (sym rows.whole ∙ c.in-Ok-false.field-0-test) rows.within in
     let step : step_in c.args.self.now.state (Content c.args.line.now) ≡ step_with_rows tail new.count =
-    rows-made inside.is_kept inside.stage inside.count inside.history c.args.self.now.state c.args.line.now
-    new.stage new.count new.history (ap (λ
-    (held : HeldColumns). held.state) c.self.view_is) c.requires.open rows.made rows.rows in
+    step-by-stage inside.is_kept inside.stage inside.count inside.history c.args.self.now.state c.args.line.now
+    (ap (λ (held : HeldColumns). held.state) c.self.view_is) ∙ rows.made in
     let P : ColumnsState → Type 0 = λ s. HasMade (step_in c.args.self.now.state
     (Content c.args.line.now)) s None in
     subst P (sym (state-rows inside.is_kept new.stage new.count new.history rows.rows))

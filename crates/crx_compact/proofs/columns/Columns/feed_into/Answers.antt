@@ -1,4 +1,5 @@
 use Rattle.std.proofs.Common.{◌≡◌, ◌∙◌, ◌<◌, sym, ap, subst, arith, Bool, length, Some, None, true, false}
+use Rattle.std.proofs.lemmas.Bool.{eqb-true}
 use Rattle.crx_base.specs.meaning.Seen.{Content}
 use Rattle.crx_compact.specs.OpenEpochs.{ColumnsState, HasMade, HasPrintedLines, Idle, step_in}
 use Rattle.crx_compact.specs.OpenEpochs.{step_with_rows}
@@ -6,7 +7,7 @@ use Rattle.crx_compact.specs.Placing.{tail_of_history}
 use Rattle.crx_compact.specs.PrintedBlocks.{AreLinesTo, IsBlock}
 use Rattle.crx_compact.specs.Tails.{Tail}
 use Rattle.crx_compact.proofs.PrintedBlocks.{block-whole}
-use Rattle.crx_compact.proofs.reading.Stages.{rows-come, rows-left, rows-made, state-rows}
+use Rattle.crx_compact.proofs.reading.Stages.{rows-left, state-rows, step-by-stage}
 use Rattle.crx_compact.proofs.reading.StepsByCode.{made-more, printed-whole}
 use Rattle.crx_compact.specs.ReadingRooms.{HeldColumns}
 use Rattle.crx_compact.proofs.columns.Columns.feed_into.Goals as goal
@@ -15,15 +16,14 @@ pub returns-then-not-is_whole-clause-made : goal.returns-then-not-is_whole-claus
 returns-then-not-is_whole-clause-made c =
     let inside = c.self.inside in
     let new = c.take_line.new in
-    let rows = c.in-Ok.ensures in
+    let rows = c.in-Ok.ensures.ok in
     let tail : Tail = tail_of_history new.history in
     let more : c.in-Ok.is_whole ≡ false = search c.if-not-is_whole in
     let left : new.count < length new.history.satellites.rows =
-    rows-left new.stage new.count new.history rows.rows (sym rows.whole ∙ more) rows.within in
+    rows-left new.count (length new.history.satellites.rows) (sym rows.whole ∙ more) rows.within in
     let step : step_in c.args.self.now.state (Content c.args.line.now) ≡ step_with_rows tail new.count =
-    rows-made inside.is_kept inside.stage inside.count inside.history c.args.self.now.state c.args.line.now
-    new.stage new.count new.history (ap (λ (held : HeldColumns). held.state) c.self.view_is) c.requires.open
-    rows.made rows.rows in
+    step-by-stage inside.is_kept inside.stage inside.count inside.history c.args.self.now.state c.args.line.now
+    (ap (λ (held : HeldColumns). held.state) c.self.view_is) ∙ rows.made in
     let P : ColumnsState → Type 0 = λ s.
     HasMade (step_in c.args.self.now.state (Content c.args.line.now)) s None in (
       subst P (sym (state-rows inside.is_kept new.stage new.count new.history rows.rows))
@@ -35,15 +35,14 @@ pub returns-else-not-is_whole-clause-made : goal.returns-else-not-is_whole-claus
 returns-else-not-is_whole-clause-made c =
     let inside = c.self.inside in
     let new = c.take_line.new in
-    let rows = c.in-Ok.ensures in
+    let rows = c.in-Ok.ensures.ok in
     let tail : Tail = tail_of_history new.history in
     let whole : c.in-Ok.is_whole ≡ true = search c.if-not-is_whole in
     let come : new.count ≡ length new.history.satellites.rows =
-    rows-come new.stage new.count new.history rows.rows (sym rows.whole ∙ whole) in
+    eqb-true new.count (length new.history.satellites.rows) (sym rows.whole ∙ whole) in
     let step : step_in c.args.self.now.state (Content c.args.line.now) ≡ step_with_rows tail new.count =
-    rows-made inside.is_kept inside.stage inside.count inside.history c.args.self.now.state c.args.line.now
-    new.stage new.count new.history (ap (λ (held : HeldColumns). held.state) c.self.view_is) c.requires.open
-    rows.made rows.rows in
+    step-by-stage inside.is_kept inside.stage inside.count inside.history c.args.self.now.state c.args.line.now
+    (ap (λ (held : HeldColumns). held.state) c.self.view_is) ∙ rows.made in
     let block = c.print.new.self in
     let lines : AreLinesTo new.count block.lines new.history =
     subst (λ n. AreLinesTo n block.lines new.history) c.print.ensures.rows
