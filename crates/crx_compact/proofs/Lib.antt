@@ -32,4 +32,3 @@ mod ReadingRooms
 mod SatelliteLines
 pub mod Resizing
 pub mod placing
-pub mod Encoders

@@ -95,13 +95,6 @@ opened-from types line tail before begun e step =
         }
     by_result (Err fault) is e = absurd (true≢false (ap is_faulty e))
 
--- none is opened where there is nothing to read the line after
-pub none-opened : (types : List Count) (line : List ℕ) (tail : Option Tail) (begun : OpenRawEpoch)
-    → tail_for_line tail line ≡ None → first_step types tail (Content line) ≡ Going begun → ⊥
-none-opened types line tail begun e step =
-    true≢false (sym (ap (λ (o : Option Tail). is_faulty (opening (opened_raw types line o))) e)
-    ∙ ap is_faulty step)
-
 -- the satellites that a line was found to have are those of the epoch
 pub rows-opened : (types : List Count) (line : List ℕ) (before : Tail) (begun : OpenRawEpoch)
     (found : List Satellite) (rows : List RowTail) → IsOpened types line before begun
@@ -130,19 +123,6 @@ text-known types line before begun room held opened has same =
     let made = ap length opened.text in
     let within = has.text in omega (arith, made, within, same)
 
-pub lines-known : (begun : OpenRawEpoch) (room : ReadingRoom) (rows : List RowTail) (lines : ℕ)
-    → HasRoomFor begun room → rows ≡ begun.rows → room.lines ≡ lines → length rows < lines
-lines-known begun room rows lines has same is =
-    let many = ap length same in
-    let within = has.lines in omega (arith, many, within, is)
-
-pub bytes-known : (begun : OpenRawEpoch) (room : ReadingRoom) (rows : List RowTail) (bytes : ℕ)
-    → HasRoomFor begun room → rows ≡ begun.rows → room.bytes ≡ bytes
-    → LINE_LIMIT + 1 + sum (map printed_room rows) ≤ bytes
-bytes-known begun room rows bytes has same is =
-    let many = ap (λ (rs : List RowTail). sum (map printed_room rs)) same in
-    let within = has.bytes in omega (arith, many, within, is)
-
 -- what was read for has room
 pub room-for : (types : List Count) (line : List ℕ) (before : Tail) (begun : OpenRawEpoch)
     (opened : IsOpened types line before begun) (new : OpenHistory) (after : PrintedBlock)
@@ -163,28 +143,3 @@ room-for types line before begun opened new after made fits known rows lines byt
           ≤ after.lines.all_bytes)
           rows bytes;
     }
-
--- ---- no less room
-
-pub history-kept : (old : HeldColumns) (state : ColumnsState) (history new : OpenHistory)
-    (block after : PrintedBlock) → record { state = state; room = reading_room history block } ≡ old
-    → history.held_room ≤ new.held_room → KeepsRooms history.satellites.rooms new.satellites.rooms
-    → KeepsHistoryRoom old.room (reading_room new after)
-history-kept old state history new block after is text rooms =
-    subst (λ (held : HeldColumns). KeepsHistoryRoom held.room (reading_room new after)) is
-    (record { text = text; rooms = rooms })
-
-pub room-kept : (old : HeldColumns) (state : ColumnsState) (history new : OpenHistory)
-    (block after : PrintedBlock) → record { state = state; room = reading_room history block } ≡ old
-    → history.held_room ≤ new.held_room → KeepsRooms history.satellites.rooms new.satellites.rooms
-    → block.lines.all_lines ≤ after.lines.all_lines → block.lines.all_bytes ≤ after.lines.all_bytes
-    → KeepsRoom old.room (reading_room new after)
-room-kept old state history new block after is text rooms lines bytes =
-    subst (λ (held : HeldColumns). KeepsRoom held.room (reading_room new after)) is (record {
-      history = record { text = text; rooms = rooms };
-      lines = lines;
-      bytes = bytes;
-    })
-
-pub rooms-same : (old new : List (List ℕ × ℕ)) → new ≡ old → KeepsRooms old new
-rooms-same old new same name count has = subst (HasRoom name count) (sym same) has

@@ -5,14 +5,6 @@ use Rattle.std.proofs.Common.{true≢false}
 abbrev pub none-left : {A : Type 0} (x : A) (xs : List A) → x ∷ xs ≡ [] → ⊥
 none-left x xs e = true≢false (ap (λ l. elim l [ [] ↦ false | y ∷ ys ↦ true ]) e)
 
-pub first-empty : {A : Type 0} (xs ys : List A) → xs ++ ys ≡ [] → xs ≡ []
-first-empty [] ys e = refl
-first-empty (x ∷ xs) ys e = absurd (none-left x (xs ++ ys) e)
-
-pub second-empty : {A : Type 0} (xs ys : List A) → xs ++ ys ≡ [] → ys ≡ []
-second-empty [] ys e = e
-second-empty (x ∷ xs) ys e = absurd (none-left x (xs ++ ys) e)
-
 -- no line is copied where none is ready
 pub none-copied : (is_copied : Bool) (line : List ℕ) (printed : List (List ℕ))
     → (if is_copied then line ∷ [] else []) ++ printed ≡ [] → is_copied ≡ false

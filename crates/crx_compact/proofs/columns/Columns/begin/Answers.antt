@@ -12,23 +12,29 @@ use Rattle.crx_compact.proofs.ReadingRooms.{opened-from, room-for, rows-opened, 
 use Rattle.crx_compact.proofs.reading.Blocks.{begun-block, begun-refused}
 use Rattle.crx_compact.proofs.reading.Stages.{line-good, tail-idle}
 use Rattle.crx_compact.specs.ReadingRooms.{HeldColumns, KeepsRoom}
+use Rattle.crx_compact.proofs.columns.Columns.begin.Goals.{After-read_epoch_line}
 use Rattle.crx_compact.proofs.columns.Columns.begin.Goals as goal
 
 same-below : {m n : ℕ} → m ≡ n → m ≤ n
 same-below is = omega (arith, is)
 
-pub returns-in-Err-clause-memory : goal.returns-in-Err-clause-memory
-returns-in-Err-clause-memory c = λ out.
+-- there is a history, which the line is read after
+before-line : (c : After-read_epoch_line) → tail_for_line (tail_held c.args.self.now.state) c.args.line.now
+    ≡ Some (tail_of_history c.has_history.new.history)
+before-line c =
     let inside = c.self.inside in
     let history : OpenHistory = c.has_history.new.history in
     let there : c.has_history.result ≡ true = search c.if-not-has_history in
-    let before : tail_for_line (tail_held c.args.self.now.state) c.args.line.now
-    ≡ Some (tail_of_history history) =
     ap {B = Option Tail} (λ (t : Option Tail). tail_for_line t c.args.line.now)
     (tail-idle inside.is_kept inside.stage inside.count inside.history c.args.self.now.state
     (ap (λ (held : HeldColumns). held.state) c.self.view_is) c.requires.idle)
     ∙ c.has_history.ensures.before
-    ∙ ap {B = Option Tail} (λ (b : Bool). if b then Some (tail_of_history history) else None) there in
+    ∙ ap {B = Option Tail} (λ (b : Bool). if b then Some (tail_of_history history) else None) there
+
+pub returns-in-Err-clause-memory : goal.returns-in-Err-clause-memory
+returns-in-Err-clause-memory c = λ out.
+    let history : OpenHistory = c.has_history.new.history in
+    let before = before-line (goal.at.returns-in-Err-clause-memory c).After-read_epoch_line in
     line-good c.args.types.now c.args.line.now (tail_held c.args.self.now.state)
     (tail_of_history history) before
     (c.in-Err.ensures.err.answer.memory out)
@@ -48,16 +54,8 @@ returns-in-Err-clause-unasked c = λ other.
 
 pub returns-in-Ok-begin-clause-room : goal.returns-in-Ok-begin-clause-room
 returns-in-Ok-begin-clause-room c begun step =
-    let inside = c.self.inside in
     let history : OpenHistory = c.has_history.new.history in
-    let there : c.has_history.result ≡ true = search c.if-not-has_history in
-    let before : tail_for_line (tail_held c.args.self.now.state) c.args.line.now
-    ≡ Some (tail_of_history history) =
-    ap {B = Option Tail} (λ (t : Option Tail). tail_for_line t c.args.line.now)
-    (tail-idle inside.is_kept inside.stage inside.count inside.history c.args.self.now.state
-    (ap (λ (held : HeldColumns). held.state) c.self.view_is) c.requires.idle)
-    ∙ c.has_history.ensures.before
-    ∙ ap {B = Option Tail} (λ (b : Bool). if b then Some (tail_of_history history) else None) there in
+    let before = before-line (goal.at.returns-in-Ok-begin-clause-room c).After-read_epoch_line in
     let opened = opened-from c.args.types.now c.args.line.now (tail_held c.args.self.now.state)
     (tail_of_history history) begun before step in
     let read = c.in-Ok.ensures.ok in
@@ -72,16 +70,8 @@ returns-in-Ok-begin-clause-room c begun step =
 
 pub returns-in-Err-clause-known : goal.returns-in-Err-clause-known
 returns-in-Err-clause-known c begun step has =
-    let inside = c.self.inside in
     let history : OpenHistory = c.has_history.new.history in
-    let there : c.has_history.result ≡ true = search c.if-not-has_history in
-    let before : tail_for_line (tail_held c.args.self.now.state) c.args.line.now
-    ≡ Some (tail_of_history history) =
-    ap {B = Option Tail} (λ (t : Option Tail). tail_for_line t c.args.line.now)
-    (tail-idle inside.is_kept inside.stage inside.count inside.history c.args.self.now.state
-    (ap (λ (held : HeldColumns). held.state) c.self.view_is) c.requires.idle)
-    ∙ c.has_history.ensures.before
-    ∙ ap {B = Option Tail} (λ (b : Bool). if b then Some (tail_of_history history) else None) there in
+    let before = before-line (goal.at.returns-in-Err-clause-known c).After-read_epoch_line in
     let opened = opened-from c.args.types.now c.args.line.now (tail_held c.args.self.now.state)
     (tail_of_history history) begun before step in
     absurd (c.in-Err.ensures.err.wanting opened.satellites opened.read

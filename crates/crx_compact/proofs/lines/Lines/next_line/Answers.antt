@@ -7,6 +7,7 @@ use Rattle.crx_base.specs.declared.limits.TheConstants.{LINE_LIMIT}
 use Rattle.crx_compact.specs.LineLists.{AreCut, HasFront, PendingLines, cut}
 use Rattle.crx_compact.proofs.LineTexts.{NextLine, front-kept, next-line}
 use Rattle.crx_compact.proofs.Lists.{get_or-take}
+use Rattle.crx_compact.proofs.lines.Lines.next_line.Goals.{After-index}
 use Rattle.crx_compact.proofs.lines.Lines.next_line.Goals as goal
 
 -- not all lines were borrowed yet, so there is a next one
@@ -22,6 +23,14 @@ line-there lengths bytes many filled past past_bytes reserved front count h othe
     next-line (take many lengths) bytes filled past past_bytes count h.0 h.2 (omega (arith, less, all))
     (here ∙ sym (get_or-take lengths many past count less))
 
+here : (c : After-index) → NextLine (take c.self.inside.count c.self.inside.lengths.items) c.self.inside.bytes.items
+    c.self.inside.filled c.self.inside.handed_out c.self.inside.handed_out_bytes c.index.result.now
+here c =
+    let inside = c.self.inside in
+    line-there inside.lengths.items inside.bytes.items inside.count inside.filled inside.handed_out
+    inside.handed_out_bytes inside.reserved inside.front c.index.result.now c.self.invariant c.if-self.false
+    c.index.ensures
+
 -- what is within bytes that are held fits
 held-within : (n filled long len cap : ℕ)
     → n ≤ filled → filled ≤ long → len ≡ long → len ≤ cap → cap < 2 ^ 63 → Fits w64 n
@@ -36,9 +45,7 @@ next n m h = omega (arith, h)
 pub overflow_add-end : goal.overflow_add-end
 overflow_add-end c =
     let inside = c.self.inside in
-    let next_line = line-there inside.lengths.items inside.bytes.items inside.count inside.filled
-    inside.handed_out inside.handed_out_bytes inside.reserved inside.front c.index.result.now
-    c.self.invariant c.if-self.false c.index.ensures in
+    let next_line = here (goal.at.overflow_add-end c).After-index in
     held-within _ inside.filled (length inside.bytes.items) inside.bytes.len inside.bytes.cap
     (less _ _ next_line.within)
     c.self.invariant.2 inside.bytes.ok.0 inside.bytes.ok.1 inside.bytes.small
@@ -46,9 +53,7 @@ overflow_add-end c =
 pub overflow_add-self-2 : goal.overflow_add-self-2
 overflow_add-self-2 c =
     let inside = c.self.inside in
-    let next_line = line-there inside.lengths.items inside.bytes.items inside.count inside.filled
-    inside.handed_out inside.handed_out_bytes inside.reserved inside.front c.index.result.now
-    c.self.invariant c.if-self.false c.index.ensures in
+    let next_line = here (goal.at.overflow_add-self-2 c).After-index in
     held-within _ inside.filled (length inside.bytes.items) inside.bytes.len inside.bytes.cap
     (next _ _ next_line.within)
     c.self.invariant.2 inside.bytes.ok.0 inside.bytes.ok.1 inside.bytes.small
@@ -56,9 +61,7 @@ overflow_add-self-2 c =
 pub invariant_of-self-2 : goal.invariant_of-self-2
 invariant_of-self-2 c =
     let inside = c.self.inside in
-    let next_line = line-there inside.lengths.items inside.bytes.items inside.count inside.filled
-    inside.handed_out inside.handed_out_bytes inside.reserved inside.front c.index.result.now
-    c.self.invariant c.if-self.false c.index.ensures in (
+    let next_line = here (goal.at.invariant_of-self-2 c).After-index in (
       next_line.still,
       c.self.invariant.1,
       c.self.invariant.2,
@@ -69,9 +72,7 @@ invariant_of-self-2 c =
 pub slice_bounds-result-end : goal.slice_bounds-result-end
 slice_bounds-result-end c =
     let inside = c.self.inside in
-    let next_line = line-there inside.lengths.items inside.bytes.items inside.count inside.filled
-    inside.handed_out inside.handed_out_bytes inside.reserved inside.front c.index.result.now
-    c.self.invariant c.if-self.false c.index.ensures in
+    let next_line = here (goal.at.slice_bounds-result-end c).After-index in
     let within = next_line.within in
     let kept = c.self.invariant.2 in
     let seen = ap length c.deref.ensures.value in
@@ -80,9 +81,7 @@ slice_bounds-result-end c =
 pub returns : goal.returns
 returns c =
     let inside = c.self.inside in
-    let next_line = line-there inside.lengths.items inside.bytes.items inside.count inside.filled
-    inside.handed_out inside.handed_out_bytes inside.reserved inside.front c.index.result.now
-    c.self.invariant c.if-self.false c.index.ensures in
+    let next_line = here (goal.at.returns c).After-index in
     rw (← c.self.view_is, c.deref.ensures.value) (
       (
         refl,
