@@ -9,3 +9,4 @@ pub mod Revived
 pub mod Coming
 pub mod Prepared
 pub mod SteppedRows
+pub mod Placed

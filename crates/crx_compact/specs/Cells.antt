@@ -1,13 +1,14 @@
 -- The cells of a satellite line after the arcs of its satellite in the epoch before.
 use Rattle.std.specs.Prelude.{◌≡◌, ◌≤◌, ℕ, ℤ, List, length, map, drop, slice_index_or, slice_set, Option, Some, None}
-use Rattle.std.specs.Prelude.{Result, Ok}
+use Rattle.std.specs.Prelude.{Result, Ok, take, ◌++◌, ◌+◌, IfSome, IfNone}
 use Rattle.crx_text.specs.meaning.Codes.{code_of, first_cell, after_cell}
 use Rattle.crx_base.specs.declared.limits.TheConstants.{OBSERVATION_WIDTH}
 use Rattle.crx_text.specs.declared.code.Code.TheVariants.{Missing}
 use Rattle.crx_base.specs.declared.fault.Fault.{Fault}
-use Rattle.crx_compact.specs.meaning.Cells.{ReadCell, cells_read, cells_of, after_cells}
+use Rattle.crx_compact.specs.meaning.Cells.{ReadCell, cell_text, cells_read, cells_of, after_cells}
 use Rattle.crx_text.specs.declared.code.Code.{Code}
 use Rattle.crx_text.specs.meaning.EachPlace.{each_place}
+use Rattle.crx_compact.specs.declared.cells.TheConstants.{CELL_ROOM}
 use Rattle.crx_compact.specs.ArcTails.{ArcTail}
 use Rattle.crx_compact.specs.ArcSteps.{arc_of_code, arc_of_value, code_of_value, value_of_code, shown_value}
 
@@ -25,6 +26,14 @@ arcs_of_cells before values = each_place (length values) (arc_at_place before va
 abbrev pub codes_of_cells : List (Option ArcTail) → List (Option ℤ) → List Code
 codes_of_cells before values = each_place (length values) (code_at_place before values)
 
+-- the code of an arc's next value is written from an index on, with its blank, up to another index, and the arc goes on
+pub record IsCellWritten (value : Option ℤ)
+    (old new : Option ArcTail) (bytes : List ℕ) (at : ℕ) (bytes' : List ℕ) (end : ℕ) : Type 0 where
+  pub arc : new ≡ arc_of_value value old
+  pub written : take end bytes' ≡ take at bytes ++ cell_text (code_of_value value old)
+  pub from : at ≤ end
+  pub within : end ≤ at + CELL_ROOM
+
 -- ---- reading
 
 -- the value that a code gives at a place, the arcs before being given
@@ -41,6 +50,11 @@ pub record IsCellRead (before : List (Option ArcTail))
   pub left : new ≡ slice_set old place (arc_of_code code (slice_index_or before place None))
   pub after : drop taken text ≡ after_cell text
   pub within : taken ≤ length text
+
+-- the cell that a text begins with is read, or the arcs stay as they were
+pub record MayReadCell (place : ℕ) (text : List ℕ) (old new : List (Option ArcTail)) (taken : Option ℕ) : Type 0 where
+  pub some : IfSome taken (λ t. IsCellRead old place text old new t)
+  pub none : IfNone taken (new ≡ old)
 
 -- the arcs that codes leave
 abbrev pub arcs_of_codes : List (Option ArcTail) → List Code → List (Option ArcTail)

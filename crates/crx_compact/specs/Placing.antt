@@ -1,7 +1,7 @@
 -- The satellites of a history while an epoch is open: the rows that have come, in the order of the file; those of the epoch before that
 -- haven't come yet, each known by its identifier; and how many types there is room for.
 use Rattle.std.specs.Prelude.{◌≡◌, ◌≤◌, ◌++◌, ◌∷◌, ℕ, ℤ, List, [], length, slice_index_or, Option, None, Some, false, map}
-use Rattle.std.specs.Prelude.{All, unwrap_or, ◌+◌, ◌*◌, ◌<◌}
+use Rattle.std.specs.Prelude.{All, unwrap_or, ◌+◌, ◌*◌, ◌<◌, Bool, true, not, IfSome}
 use Rattle.std.specs.Str.{bytes_eq}
 use Rattle.crx_text.specs.meaning.EachPlace.{each_place}
 use Rattle.crx_compact.specs.ArcTails.{ArcTail}
@@ -9,15 +9,16 @@ use Rattle.crx_compact.specs.meaning.EpochText.{Satellite}
 use Rattle.crx_compact.specs.meaning.Sequences.{named}
 use Rattle.std.specs.Prelude.{Ok, slice_get, slice_set}
 use Rattle.crx_header.specs.meaning.ObservationTypes.{Count, IsAllowedCount}
-use Rattle.crx_compact.specs.HeldRows.{IsAwaitedSatellite, row_held}
+use Rattle.crx_compact.specs.HeldRows.{AreHeldFlags, IsAwaitedSatellite, row_held}
+use Rattle.crx_text.specs.meaning.Texts.{text_difference}
 use Rattle.crx_compact.specs.RowsSoFar.{AreAnnounced}
 use Rattle.crx_compact.specs.ShownRows.{shown_row}
 use Rattle.crx_compact.specs.Steps.{cell_of_tail, flags_of_tail, flags_held}
 use Rattle.crx_compact.specs.Tails.{RowTail, Tail}
 use Rattle.crx_rinex.specs.meaning.Observations.{Row}
 use Rattle.crx_base.specs.declared.limits.TheConstants.{HEAD_WIDTH, NAME_WIDTH, TYPES_LIMIT}
-use Rattle.crx_header.specs.meaning.Satellites.{types_of_satellite}
-use Rattle.crx_text.specs.meaning.Columns.{columns}
+use Rattle.crx_header.specs.meaning.Satellites.{is_among, types_of_satellite}
+use Rattle.crx_text.specs.meaning.Columns.{columns, without_end_blanks}
 use Rattle.crx_compact.specs.declared.cells.TheConstants.{CELL_ROOM}
 
 -- what is stored of a satellite: its indicators without the blanks at their end, the tail of each cell's arc, and how many types it has
@@ -38,6 +39,22 @@ row_of_entry entry = row_tail_of entry.0 entry.1
 -- how many types an entry of the map has room for
 abbrev pub room_of_entry : List ℕ × SatelliteTail → List ℕ × ℕ
 room_of_entry entry = (entry.0, entry.1.room)
+
+-- indicators of so many types, for which the satellite has room
+pub record FitsFlags (count : ℕ) (flags : List ℕ) (satellite : SatelliteTail) : Type 0 where
+  pub room : count ≤ satellite.room
+  pub paired : length flags ≡ 2 * count
+  pub held : AreHeldFlags flags
+
+-- cells for so many types: those that are there, and blank ones
+abbrev pub cells_for : ℕ → List (Option ArcTail) → List (Option ArcTail)
+cells_for count cells = each_place count (λ place. slice_index_or cells place None)
+
+-- the satellite has these indicators and as many types, and the marks are what is different in the indicators
+pub record IsMarked (count : ℕ) (flags : List ℕ) (old new : SatelliteTail) (part : List ℕ) : Type 0 where
+  pub marked : new ≡ record old { flags = without_end_blanks flags; cells = cells_for count old.cells }
+  pub marks : part ≡ text_difference old.flags flags
+  pub short : length part ≤ 2 * TYPES_LIMIT
 
 -- the rows that have come, those of the epoch before that haven't, and the room of every satellite that is known
 pub record PlacedRows : Type 0 where
@@ -66,6 +83,11 @@ pub record HasRoom (name : List ℕ) (count : ℕ) (rooms : List (List ℕ × �
 abbrev pub KeepsRooms : List (List ℕ × ℕ) → List (List ℕ × ℕ) → Type 0
 KeepsRooms before after = (name : List ℕ) (count : ℕ) → HasRoom name count before → HasRoom name count after
 
+-- the satellites that haven't come stay, and none has less room
+pub record KeepsRest (old new : PlacedRows) : Type 0 where
+  pub rest : new.rest ≡ old.rest
+  pub rooms : KeepsRooms old.rooms new.rooms
+
 -- room was asked for: no row has changed, and no satellite has less room
 pub record HasAskedRoom (old new : PlacedRows) : Type 0 where
   pub rows : new.rows ≡ old.rows
@@ -78,9 +100,29 @@ pub record HasCome (name : List ℕ) (before after : PlacedRows) : Type 0 where
   pub rows : after.rows ≡ before.rows ++ row_or_blank name before.rest ∷ []
   pub others : (other : List ℕ) → bytes_eq other name ≡ false → row_tail_named other after.rest ≡ row_tail_named other before.rest
 
--- cells for so many types: those that are there, and blank ones
-abbrev pub cells_for : ℕ → List (Option ArcTail) → List (Option ArcTail)
-cells_for count cells = each_place count (λ place. slice_index_or cells place None)
+-- each satellite that is known stays known, with as much room as before
+pub record HasSameRooms (before after : List (List ℕ × ℕ)) : Type 0 where
+  pub forth : KeepsRooms before after
+  pub back : KeepsRooms after before
+
+-- a satellite that is new comes, with room for so many types; where its row has come already, nothing changes
+pub record IsPlaced (name : List ℕ) (count : ℕ) (old new : PlacedRows) (is_new : Bool) : Type 0 where
+  pub answer : is_new ≡ not (is_among (λ (row : RowTail). row.name) name old.rows)
+  pub come : is_new ≡ true → HasCome name old new
+  pub repeated : is_new ≡ false → new ≡ old
+  pub room : is_new ≡ true → HasRoom name count new.rooms
+
+-- a satellite whose row hasn't come is unknown or has too little room for so many types, and nothing changes
+pub record IsUnplaced (name : List ℕ) (count : ℕ) (old new : PlacedRows) : Type 0 where
+  pub absent : is_among (λ (row : RowTail). row.name) name old.rows ≡ false
+  pub unchanged : new ≡ old
+  pub known : HasRoom name count old.rooms → ⊥
+
+-- whether a satellite is new, where it comes or has come already; no answer where it can't come without more room
+pub record AnswersPlacing (name : List ℕ) (count : ℕ) (old new : PlacedRows) (answer : Option Bool) : Type 0 where
+  pub placed : IfSome answer (IsPlaced name count old new)
+  pub unplaced : answer ≡ None → IsUnplaced name count old new
+  pub rooms : HasSameRooms old.rooms new.rooms
 
 -- a satellite's row by its count of types, where no line of the epoch has changed it yet
 abbrev pub padded : Satellite → Option RowTail → RowTail

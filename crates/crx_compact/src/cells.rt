@@ -1,21 +1,20 @@
 //! The cells of a satellite line: values to codes and back, each after its arc.
 
-ghost use Rattle.std.specs.Prelude.{All, ◌≡◌, ◌≤◌, ◌<◌, ◌+◌, ◌++◌, ◌∷◌, [], ◌*◌, None, Ok, Err, drop, length, slice_index_or, map, take, IfOk, IfErr, IfSome, IfNone, Some, Option};
+ghost use Rattle.std.specs.Prelude.{All, ◌≡◌, ◌≤◌, ◌<◌, ◌+◌, ◌++◌, ◌*◌, None, Ok, Err, drop, length, map, take, IfOk, IfErr, Some, Option};
 ghost use Rattle.std.specs.List.{flat_map};
 ghost use Rattle.crx_text.specs.meaning.Columns.{columns};
 ghost use Rattle.crx_text.specs.meaning.PrintedCells.{printed_cells};
-ghost use Rattle.crx_text.specs.meaning.Numbers.{observation_text, IsValue};
+ghost use Rattle.crx_text.specs.meaning.Numbers.{IsValue};
 ghost use Rattle.crx_base.specs.declared.limits.TheConstants.{CELL_WIDTH};
 ghost use Rattle.crx_compact.specs.ArcSteps.{shown_value};
 ghost use Rattle.crx_text.specs.meaning.Codes.{after_cell, code_of, first_cell};
 ghost use Rattle.crx_text.specs.Codes.{IsShort};
 ghost use Rattle.crx_compact.specs.declared.cells.TheConstants.{CELL_ROOM};
-ghost use Rattle.crx_compact.specs.Cells.{arcs_of_cells, codes_of_cells, value_at_place, CellsAreRead, IsCellRead};
+ghost use Rattle.crx_compact.specs.Cells.{arcs_of_cells, codes_of_cells, value_at_place, CellsAreRead, IsCellRead, IsCellWritten, MayReadCell};
 ghost use Rattle.crx_compact.specs.meaning.Cells.{cell_read, cells_of, cells_read};
 ghost use Rattle.crx_base.specs.declared.fault.Fault.TheVariants.{BadField};
 ghost use Rattle.crx_text.specs.declared.code.Code.TheVariants.{Missing, Step};
 ghost use Rattle.crx_compact.specs.meaning.Cells.{cell_text};
-ghost use Rattle.crx_compact.specs.ArcSteps.{arc_of_value, code_of_value};
 
 use crate::arc::ObsArc;
 use crx_base::Fault;
@@ -27,31 +26,25 @@ use crx_text::{Code, code_before_blank, obs_print_cell, step_before_blank, write
 pub const CELL_ROOM: usize = DIGITS_LIMIT + 6;
 
 /// Writes the code of an arc's next value and a blank from an index on, gives the index after them, and the arc goes on. It takes
-/// values of any kind, and is called for the few that [`write_value`] doesn't write itself.
+/// values of any kind, and is called for the few that [`write_value_fast`] doesn't write itself.
 #[cold]
 #[inline(never)]
-fn write_next_code(arc: &mut ObsArc, value: Option<i64>, bytes: &mut [u8], at: usize) -> usize
+fn write_value(arc: &mut ObsArc, value: Option<i64>, bytes: &mut [u8], at: usize) -> usize
     requires value { IsValue value }
     requires room { at + CELL_ROOM ≤ length bytes.old }
-    ensures arc { arc.new ≡ arc_of_value value arc.old }
-    ensures written { take result bytes.new ≡ take at bytes.old ++ cell_text (code_of_value value arc.old) }
-    ensures from { at ≤ result }
-    ensures within { result ≤ at + CELL_ROOM }
+    ensures { IsCellWritten value arc.old arc.new bytes.old at bytes.new result }
 {
     let code = arc.push(value);
     write_cell(bytes, at, code)
 }
 
-/// Writes a cell as [`write_next_code`] does. Most values are missing, or have a difference of order 3 as their code: these two are
-/// written here, without a call and without asking which code it is, and only the others by a call.
+/// Does what [`write_value`] does. Most values are missing, or have a difference of order 3 as their code: these two are written here,
+/// without a call and without asking which code it is, and only the others by a call.
 #[inline(always)]
-fn write_value(arc: &mut ObsArc, value: Option<i64>, bytes: &mut [u8], at: usize) -> usize
+fn write_value_fast(arc: &mut ObsArc, value: Option<i64>, bytes: &mut [u8], at: usize) -> usize
     requires value { IsValue value }
     requires room { at + CELL_ROOM ≤ length bytes.old }
-    ensures arc { arc.new ≡ arc_of_value value arc.old }
-    ensures written { take result bytes.new ≡ take at bytes.old ++ cell_text (code_of_value value arc.old) }
-    ensures from { at ≤ result }
-    ensures within { result ≤ at + CELL_ROOM }
+    ensures { IsCellWritten value arc.old arc.new bytes.old at bytes.new result }
 {
     let Some(present) = value else {
         arc.end();
@@ -59,12 +52,12 @@ fn write_value(arc: &mut ObsArc, value: Option<i64>, bytes: &mut [u8], at: usize
     };
     match arc.push_third(present) {
         Some(difference) => write_cell(bytes, at, Code::Step(difference)),
-        None => write_next_code(arc, value, bytes, at),
+        None => write_value(arc, value, bytes, at),
     }
 }
 
 /// Writes the codes of the next values of some arcs, each followed by a blank, from an index on, gives the index after them, and the arcs
-/// go on. Each value fits its columns, and there are [`CELL_ROOM`] bytes for each.
+/// go on. Each value fits its columns, and there are [`CELL_ROOM`] bytes for each. Arcs behind those of the values stay.
 pub fn write_cells(
     arcs: &mut [ObsArc],
     values: &[Option<i64>],
@@ -72,27 +65,28 @@ pub fn write_cells(
     at: usize,
 ) -> usize
     requires values { All IsValue values.now }
-    requires counted { length arcs.old ≡ length values.now }
+    requires fitting { length values.now ≤ length arcs.old }
     requires room { at + CELL_ROOM * length values.now ≤ length bytes.old }
-    ensures arcs { arcs.new ≡ arcs_of_cells arcs.old values.now }
-    ensures written { take result bytes.new
-        ≡ take at bytes.old ++ flat_map cell_text (codes_of_cells arcs.old values.now) }
+    ensures arcs { take (length values.now) arcs.new
+        ≡ arcs_of_cells (take (length values.now) arcs.old) values.now }
+    ensures written { take result bytes.new ≡ take at bytes.old
+        ++ flat_map cell_text (codes_of_cells (take (length values.now) arcs.old) values.now) }
     ensures from { at ≤ result }
     ensures within { result ≤ at + CELL_ROOM * length values.now }
 {
     let mut end = at;
     for place in 0..values.len() {
-        end = write_value(&mut arcs[place], values[place], bytes, end);
+        end = write_value_fast(&mut arcs[place], values[place], bytes, end);
     }
     end
 }
 
 /// Reads the cell that a text begins with, whatever its code is: the arc at a place goes on by it. It gives the index after the cell and
-/// its blank, and is called for the few cells that [`read_usual_cell`] doesn't read.
+/// its blank, and is called for the few cells that [`read_cell_fast`] doesn't read.
 ///
 /// `BadField` comes where the cell is no code, `NoArc` and `OutOfRange` come as by [`ObsArc::apply`].
 #[inline(never)]
-fn read_any_cell(arcs: &mut [ObsArc], place: usize, text: &[u8]) -> Result<usize, Fault>
+fn read_cell(arcs: &mut [ObsArc], place: usize, text: &[u8]) -> Result<usize, Fault>
     requires within { place < length arcs.old }
     ensures ok { IfOk result (λ taken. IsCellRead arcs.old place text.now arcs.old arcs.new taken) }
     ensures err { IfErr result (λ fault.
@@ -122,8 +116,7 @@ fn apply_step(
     requires code { code_of (first_cell text.now) ≡ Some (Step number) }
     requires next { drop end text.now ≡ after_cell text.now }
     requires inside { end ≤ length text.now }
-    ensures some { IfSome result (λ taken. IsCellRead arcs.old place text.now arcs.old arcs.new taken) }
-    ensures none { IfNone result (arcs.new ≡ arcs.old) }
+    ensures { MayReadCell place text.now arcs.old arcs.new result }
 {
     match arcs[place].apply(Code::Step(number)) {
         Ok(_) => Some(end),
@@ -131,31 +124,16 @@ fn apply_step(
     }
 }
 
-/// Reads the cell that a text begins with, where its code is a difference, as that of most cells is; `None` where it is another code,
-/// has more than six digits, or has a fault, and then the arcs are as they were. Most differences are of order 3, for which there is a
-/// form of its own.
+/// Reads the cell that a text begins with, where it has no code or a difference, as most cells do; `None` where it has another code, has
+/// more than six digits, or has a fault, and then the arcs are as they were. Most differences are of order 3, for which there is a form
+/// of its own.
 ///
 /// Six digits and the blank after them are within a row of eight characters, and are read at once, the minus having been put aside.
 /// That takes 52 instructions; digit by digit one digit takes 60 and six take 115 (bench/README.md).
 #[inline(always)]
-fn read_step(arcs: &mut [ObsArc], place: usize, text: &[u8]) -> Option<usize>
+fn read_cell_fast(arcs: &mut [ObsArc], place: usize, text: &[u8]) -> Option<usize>
     requires within { place < length arcs.old }
-    ensures some { IfSome result (λ taken. IsCellRead arcs.old place text.now arcs.old arcs.new taken) }
-    ensures none { IfNone result (arcs.new ≡ arcs.old) }
-{
-    let (number, end) = step_before_blank(text)?;
-    if arcs[place].apply_third(number).is_some() {
-        return Some(end);
-    }
-    apply_step(arcs, place, text, number, end)
-}
-
-/// Reads the cell that a text begins with as [`read_step`] does, and also a cell without a code.
-#[inline(always)]
-fn read_usual_cell(arcs: &mut [ObsArc], place: usize, text: &[u8]) -> Option<usize>
-    requires within { place < length arcs.old }
-    ensures some { IfSome result (λ taken. IsCellRead arcs.old place text.now arcs.old arcs.new taken) }
-    ensures none { IfNone result (arcs.new ≡ arcs.old) }
+    ensures { MayReadCell place text.now arcs.old arcs.new result }
 {
     let Some(first) = text.first() else {
         arcs[place].end();
@@ -165,7 +143,11 @@ fn read_usual_cell(arcs: &mut [ObsArc], place: usize, text: &[u8]) -> Option<usi
         arcs[place].end();
         return Some(1);
     }
-    read_step(arcs, place, text)
+    let (number, end) = step_before_blank(text)?;
+    if arcs[place].apply_third(number).is_some() {
+        return Some(end);
+    }
+    apply_step(arcs, place, text, number, end)
 }
 
 /// What is left of a text after so many bytes.
@@ -193,10 +175,10 @@ pub fn read_cells(arcs: &mut [ObsArc], line: &[u8]) -> Result<usize, Fault>
 {
     let mut rest = line;
     for place in 0..arcs.len() {
-        match read_usual_cell(arcs, place, rest) {
+        match read_cell_fast(arcs, place, rest) {
             Some(length) => rest = rest_after(rest, length),
             None => {
-                let length = read_any_cell(arcs, place, rest)?;
+                let length = read_cell(arcs, place, rest)?;
                 rest = rest_after(rest, length);
             }
         }
@@ -204,19 +186,8 @@ pub fn read_cells(arcs: &mut [ObsArc], line: &[u8]) -> Result<usize, Fault>
     Ok(line.len() - rest.len())
 }
 
-/// Prints the newest value of an arc with two of some indicators, from an index on, in place of the bytes from another index on. Both
-/// indicators are there: they become one load and one store.
-#[inline(always)]
-fn print_cell(arc: &ObsArc, flags: &[u8], first: usize, bytes: &mut [u8], at: usize)
-    requires full { first + 1 < length flags.now }
-    requires room { at + CELL_WIDTH ≤ length bytes.old }
-    ensures { take (at + CELL_WIDTH) bytes.new ≡ take at bytes.old ++ (observation_text (shown_value arc.now)
-        ++ slice_index_or flags.now first 32 ∷ slice_index_or flags.now (first + 1) 32 ∷ []) }
-{
-    obs_print_cell(arc.value(), flags, first, bytes, at);
-}
-
 /// Prints the newest values of arcs, each with its two indicators, in place of the bytes from an index on, and gives the index after them.
+/// Both indicators of a cell are there: they become one load and one store.
 #[inline(always)]
 pub fn print_cells(arcs: &[ObsArc], flags: &[u8], bytes: &mut [u8], at: usize) -> usize
     requires full { 2 * length arcs.now ≤ length flags.now }
@@ -227,7 +198,7 @@ pub fn print_cells(arcs: &[ObsArc], flags: &[u8], bytes: &mut [u8], at: usize) -
 {
     let mut end = at;
     for place in 0..arcs.len() {
-        print_cell(&arcs[place], flags, 2 * place, bytes, end);
+        obs_print_cell_into(arcs[place].value(), flags, 2 * place, bytes, end);
         end += CELL_WIDTH;
     }
     end

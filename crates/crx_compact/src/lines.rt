@@ -7,8 +7,8 @@ ghost use Rattle.std.specs.Borrow.{sem};
 ghost use Rattle.std.specs.Io.BufRead.{Rests};
 ghost use Rattle.std.specs.Option.{option_copied};
 ghost use Rattle.crx_compact.specs.contracts.lines.Lines.{the_row};
-ghost use Rattle.crx_compact.specs.LineLists.{HasSameRoom, HasTakenLine, cleared, lines_text};
-ghost use Rattle.crx_compact.specs.Placing.{HasRoom, KeepsRooms, room_of_types, row_of_parts};
+ghost use Rattle.crx_compact.specs.LineLists.{HasTakenLine, cleared, lines_text};
+ghost use Rattle.crx_compact.specs.Placing.{HasRoom, KeepsRest, room_of_types, row_of_parts};
 ghost use Rattle.crx_compact.specs.PrintedBlocks.{printed_room};
 ghost use Rattle.crx_compact.specs.ShownRows.{shown_row};
 ghost use Rattle.crx_compact.specs.Steps.{row_line_after, row_tail_after};
@@ -212,8 +212,7 @@ impl Lines {
             ≡ self.old.lines ++ row_line_after (Some old) (row_of_parts old.name values.now flags.now) ∷ [] }
         ensures taken { HasTakenLine self.old self.new }
         ensures free_bytes { self.old.free_bytes ≤ self.new.free_bytes + room_of_types (length values.now) }
-        ensures rest { satellites.new.rest ≡ satellites.old.rest }
-        ensures rooms { KeepsRooms satellites.old.rooms satellites.new.rooms }
+        ensures kept { KeepsRest satellites.old satellites.new }
     {
         let length = satellites.write_line(
             index,

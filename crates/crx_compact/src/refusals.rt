@@ -14,7 +14,6 @@ use crx_base::Fault;
 use crx_base::limits::{HEAD_WIDTH, NAME_WIDTH};
 use crx_header::{Types, identifier};
 use crx_rinex::types_of_satellite;
-use std::alloc::AllocError;
 
 /// How many places there are for marks of identifiers.
 const MARKS: usize = 2048;
@@ -93,28 +92,12 @@ pub(crate) fn prepare_names(
     if let Some(fault) = fault_of_names(types, text, count) {
         return Err(fault);
     }
-    match prepare_all(types, text, count, satellites) {
-        Ok(()) => Ok(()),
-        Err(_) => Err(Fault::OutOfMemory),
-    }
-}
-
-/// Asks for room for so many satellites of an epoch text, for [`prepare_names`].
-fn prepare_all(
-    types: &Types,
-    text: &[u8],
-    count: usize,
-    satellites: &mut Satellites,
-) -> Result<(), AllocError>
-    requires few { count ≤ SATELLITES_LIMIT }
-    ensures asked { HasAskedRoom satellites.old satellites.new }
-    ensures room { OnOk result (HaveNamesRoom types.now text.now count satellites.new.rooms) }
-    ensures known { HaveNamesRoom types.now text.now count satellites.old.rooms → IsOk result }
-{
     for place in 0..count {
         let name = identifier(text, HEAD_WIDTH + 1 + NAME_WIDTH * place);
         if let Some(cells) = types_of_satellite(types, &name) {
-            satellites.prepare(name, cells)?;
+            if satellites.prepare(name, cells).is_err() {
+                return Err(Fault::OutOfMemory);
+            }
         }
     }
     Ok(())

@@ -2,9 +2,8 @@
 //! 3.0, satellite lines.
 
 ghost use Rattle.std.specs.Prelude.{All, ℕ, List, ◌≡◌, ◌≤◌, ◌<◌, ◌+◌, ◌-◌, ◌*◌, ◌++◌, [], None, Some, Ok, Err, true, false, length, replicate, take, OnOk, IfOk, IfErr, IsOk, IsTrue, ◌↔◌, vec_capacity};
-ghost use Rattle.std.specs.List.{flat_map, list_all};
+ghost use Rattle.std.specs.List.{flat_map};
 ghost use Rattle.crx_text.specs.meaning.Columns.{columns, without_end_blanks};
-ghost use Rattle.crx_text.specs.meaning.Texts.{is_kept, text_difference};
 ghost use Rattle.crx_text.specs.Texts.{patched};
 ghost use Rattle.crx_base.specs.declared.limits.TheConstants.{CELL_WIDTH, LINE_LIMIT, NAME_WIDTH, TYPES_LIMIT};
 ghost use Rattle.crx_header.specs.meaning.EpochColumns.{begins_epoch};
@@ -17,7 +16,7 @@ ghost use Rattle.crx_compact.specs.HeldRows.{AreHeldFlags, row_held};
 ghost use Rattle.crx_compact.specs.meaning.Cells.{cell_text, cells_of, cells_read};
 ghost use Rattle.crx_text.specs.meaning.Numbers.{IsValue};
 ghost use Rattle.crx_compact.specs.meaning.CompactPlaces.{are_marks};
-ghost use Rattle.crx_compact.specs.Placing.{cells_for, row_tail_of, satellite_of};
+ghost use Rattle.crx_compact.specs.Placing.{FitsFlags, IsMarked, cells_for, row_tail_of, satellite_of};
 ghost use Rattle.crx_compact.specs.ShownRows.{shown_row};
 ghost use Rattle.crx_compact.specs.Steps.{flags_held};
 
@@ -137,15 +136,8 @@ impl SatelliteHistory {
     /// indicators before and the row's. Most indicators stay as they are, and their difference is empty.
     #[inline(always)]
     pub(crate) fn mark(&mut self, count: usize, flags: &[u8], part: &mut Text)
-        requires room { count ≤ self.old.room }
-        requires paired { length flags.now ≡ 2 * count }
-        requires held { AreHeldFlags flags.now }
-        ensures marked { self.new ≡ record self.old {
-          flags = without_end_blanks flags.now;
-          cells = cells_for count self.old.cells;
-        } }
-        ensures marks { part.new ≡ text_difference self.old.flags flags.now }
-        ensures short { length part.new ≤ 2 * TYPES_LIMIT }
+        requires fits { FitsFlags count flags.now self.old }
+        ensures { IsMarked count flags.now self.old self.new part.new }
     {
         part.clear();
         if is_same_text(flags, &self.indicators[..2 * self.count]) {
@@ -157,16 +149,9 @@ impl SatelliteHistory {
     /// Does what [`SatelliteHistory::mark`] does, where the indicators change, and the text is empty.
     #[inline(never)]
     fn change_indicators(&mut self, count: usize, flags: &[u8], part: &mut Text)
-        requires room { count ≤ self.old.room }
-        requires paired { length flags.now ≡ 2 * count }
-        requires held { AreHeldFlags flags.now }
+        requires fits { FitsFlags count flags.now self.old }
         requires empty { part.old ≡ [] }
-        ensures marked { self.new ≡ record self.old {
-          flags = without_end_blanks flags.now;
-          cells = cells_for count self.old.cells;
-        } }
-        ensures marks { part.new ≡ text_difference self.old.flags flags.now }
-        ensures short { length part.new ≤ 2 * TYPES_LIMIT }
+        ensures { IsMarked count flags.now self.old self.new part.new }
     {
         append_difference(&self.indicators[..2 * self.count], flags, part);
         part.trim_end_blanks();
@@ -203,7 +188,7 @@ impl SatelliteHistory {
         ensures within { at + result < length bytes.new }
         ensures short { result ≤ CELL_ROOM * length values.now + length marks.now }
     {
-        let end = write_first_cells(&mut self.arcs, values, bytes, at);
+        let end = write_cells(&mut self.arcs, values, bytes, at);
         let end = put_text(bytes, end, marks);
         trim_end(&bytes[at..end]).len()
     }
@@ -292,24 +277,11 @@ fn grow(indicators: &mut Vec<u8>, arcs: &mut Vec<ObsArc>, count: usize) -> Resul
     if indicators.resize(2 * count, b' ').is_err() {
         return Err(AllocError);
     }
-    if add_arcs(arcs, count).is_err() {
-        indicators.truncate(2 * arcs.len());
-        return Err(AllocError);
-    }
-    Ok(())
-}
-
-/// Puts arcs without values after others, up to so many.
-fn add_arcs(arcs: &mut Vec<ObsArc>, count: usize) -> Result<(), AllocError>
-    requires more { length arcs.old.items ≤ count }
-    ensures room { OnOk result (length arcs.new.items ≡ count) }
-    ensures longer { length arcs.old.items ≤ length arcs.new.items }
-    ensures few { length arcs.new.items ≤ count }
-    ensures same { (n : ℕ) → n ≤ length arcs.old.items → take n arcs.new.items ≡ take n arcs.old.items }
-    ensures asked { count ≤ vec_capacity arcs.old → IsOk result }
-{
     while arcs.len() < count {
-        arcs.push(ObsArc::new())?;
+        if arcs.push(ObsArc::new()).is_err() {
+            indicators.truncate(2 * arcs.len());
+            return Err(AllocError);
+        }
     }
     Ok(())
 }
@@ -338,27 +310,6 @@ fn put_first(bytes: &mut [u8], text: &[u8])
     ensures { take (length text.now) bytes.new ≡ text.now }
 {
     copy_text(&mut bytes[..text.len()], text);
-}
-
-/// Writes cells as [`write_cells`] does, where there may be more arcs than values.
-#[inline(always)]
-fn write_first_cells(
-    arcs: &mut [ObsArc],
-    values: &[Option<i64>],
-    bytes: &mut [u8],
-    at: usize,
-) -> usize
-    requires values { All IsValue values.now }
-    requires fitting { length values.now ≤ length arcs.old }
-    requires room { at + CELL_ROOM * length values.now ≤ length bytes.old }
-    ensures arcs { take (length values.now) arcs.new
-        ≡ arcs_of_cells (take (length values.now) arcs.old) values.now }
-    ensures written { take result bytes.new ≡ take at bytes.old
-        ++ flat_map cell_text (codes_of_cells (take (length values.now) arcs.old) values.now) }
-    ensures from { at ≤ result }
-    ensures within { result ≤ at + CELL_ROOM * length values.now }
-{
-    write_cells(&mut arcs[..values.len()], values, bytes, at)
 }
 
 /// Reads cells as [`read_cells`] does, for the first arcs.
@@ -394,45 +345,16 @@ fn patch_indicators(
     ensures kept { AreHeldFlags (take (2 * count) indicators.new) }
     ensures err { IfErr result (λ fault. (are_marks count marks.now ≡ false) × (fault ≡ Fault.BadFlags)) }
 {
-    read_marks(&indicators[..2 * count], count, marks, part)?;
-    put_columns(&mut indicators[..2 * count], count, part.bytes());
-    Ok(())
-}
-
-/// Reads a line's marks, given the indicators before it: replaces a text by the indicators that they make. The fault is that of
-/// [`patch_indicators`].
-fn read_marks(before: &[u8], count: usize, marks: &[u8], part: &mut Text) -> Result<(), Fault>
-    requires allowed { IsAllowedCount count }
-    requires before { AreHeldFlags before.now }
-    requires short { length marks.now ≤ LINE_LIMIT }
-    ensures marks { OnOk result (are_marks count marks.now ≡ true) }
-    ensures text { OnOk result (part.new ≡ patched before.now marks.now) }
-    ensures kept { OnOk result (list_all is_kept part.new ≡ true) }
-    ensures err { IfErr result (λ fault. (are_marks count marks.now ≡ false) × (fault ≡ Fault.BadFlags)) }
-{
     if !all_blank(after_columns(marks, 2 * count)) {
         return Err(Fault::BadFlags);
     }
-    let Ok(()) = patch_bytes(before, marks, part) else {
+    let Ok(()) = patch_bytes(&indicators[..2 * count], marks, part) else {
         return Err(Fault::BadFlags);
     };
+    let text = part.bytes();
+    put_flags(
+        &mut indicators[..2 * count],
+        &text[..(2 * count).min(text.len())],
+    );
     Ok(())
-}
-
-/// Puts so many columns of a text, two for each of so many types, in place of indicators.
-fn put_columns(indicators: &mut [u8], count: usize, text: &[u8])
-    requires sized { length indicators.old ≡ 2 * count }
-    requires allowed { IsAllowedCount count }
-    requires text { AreHeldFlags text.now }
-    ensures columns { indicators.new ≡ columns text.now 1 (2 * count) }
-    ensures kept { AreHeldFlags indicators.new }
-{
-    put_flags(indicators, first_bytes(text, 2 * count));
-}
-
-/// At most so many bytes of a text, from its first on.
-fn first_bytes(text: &[u8], count: usize) -> &[u8]
-    ensures { result.now ≡ take count text.now }
-{
-    &text[..count.min(text.len())]
 }

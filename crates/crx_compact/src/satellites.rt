@@ -1,6 +1,6 @@
 //! The satellites of a history, in the order of the file: Hatanaka's Compact RINEX 3.0.
 
-ghost use Rattle.std.specs.Prelude.{ℕ, List, ◌≡◌, ◌≤◌, ◌<◌, ◌+◌, ◌*◌, ◌^◌, ◌++◌, ◌∷◌, [], true, false, not, is_some, None, Some, Ok, Err, length, take, map, slice_get, slice_set, OnOk, OnErr, IfOk, IfErr, IfSome, IsOk, IsTrue, ◌↔◌};
+ghost use Rattle.std.specs.Prelude.{List, ◌≡◌, ◌≤◌, ◌<◌, ◌+◌, ◌*◌, ◌^◌, ◌++◌, ◌∷◌, [], true, false, is_some, None, Some, Ok, Err, length, take, map, slice_get, slice_set, OnOk, OnErr, IfOk, IfErr, IfSome, IsOk, IsTrue, ◌↔◌};
 ghost use Rattle.std.specs.Map.{lookup};
 ghost use Rattle.std.specs.Str.{bytes_eq};
 ghost use Rattle.crx_base.specs.declared.limits.TheConstants.{CELL_WIDTH, LINE_LIMIT, NAME_WIDTH, TYPES_LIMIT};
@@ -12,7 +12,7 @@ ghost use Rattle.crx_rinex.specs.meaning.SatelliteLines.{IsSoundRow};
 ghost use Rattle.crx_compact.specs.declared.cells.TheConstants.{CELL_ROOM};
 ghost use Rattle.crx_compact.specs.Entries.{Entry, IsFound, IsPutNext, IsRevived, key_of};
 ghost use Rattle.crx_compact.specs.HeldRows.{row_held};
-ghost use Rattle.crx_compact.specs.Placing.{HasAskedRoom, HasCome, HasRoom, KeepsRooms, SatelliteTail, padded, row_of_parts, satellite_of};
+ghost use Rattle.crx_compact.specs.Placing.{AnswersPlacing, HasAskedRoom, HasRoom, IsPlaced, KeepsRest, KeepsRooms, SatelliteTail, padded, row_of_parts, satellite_of};
 ghost use Rattle.crx_compact.specs.ShownRows.{shown_row};
 ghost use Rattle.crx_compact.specs.Steps.{row_line_after, row_tail_after};
 ghost use Rattle.crx_compact.specs.Tails.{RowTail};
@@ -115,16 +115,7 @@ impl Satellites {
     /// The next one in the order of the epoch before mostly comes, which one comparison finds.
     #[inline(always)]
     pub(crate) fn place(&mut self, name: [u8; NAME_WIDTH], count: usize) -> Option<bool>
-        ensures answer { IfSome result (λ is_new. is_new
-            ≡ not (is_among (λ (row : RowTail). row.name) name self.old.rows)) }
-        ensures come { IfSome result (λ is_new. is_new ≡ true → HasCome name self.old self.new) }
-        ensures repeated { IfSome result (λ is_new. is_new ≡ false → self.new ≡ self.old) }
-        ensures room { IfSome result (λ is_new. is_new ≡ true → HasRoom name count self.old.rooms) }
-        ensures absent { result ≡ None → is_among (λ (row : RowTail). row.name) name self.old.rows ≡ false }
-        ensures unchanged { result ≡ None → self.new ≡ self.old }
-        ensures known { result ≡ None → HasRoom name count self.old.rooms → ⊥ }
-        ensures rooms { KeepsRooms self.old.rooms self.new.rooms }
-        ensures back { KeepsRooms self.new.rooms self.old.rooms }
+        ensures { AnswersPlacing name count self.old self.new result }
     {
         if self.placed < self.live && is_same_identifier(key_at(&self.known, self.placed), name) {
             if !has_room_at(&self.known, self.placed, count) {
@@ -139,19 +130,18 @@ impl Satellites {
     /// The satellite with an identifier comes, for [`Satellites::place`], where it isn't the next one in the order of the epoch before.
     #[inline(never)]
     fn bring(&mut self, name: [u8; NAME_WIDTH], count: usize) -> Option<bool>
-        ensures answer { IfSome result (λ is_new. is_new
-            ≡ not (is_among (λ (row : RowTail). row.name) name self.old.rows)) }
-        ensures come { IfSome result (λ is_new. is_new ≡ true → HasCome name self.old self.new) }
-        ensures repeated { IfSome result (λ is_new. is_new ≡ false → self.new ≡ self.old) }
-        ensures room { IfSome result (λ is_new. is_new ≡ true → HasRoom name count self.old.rooms) }
-        ensures absent { result ≡ None → is_among (λ (row : RowTail). row.name) name self.old.rows ≡ false }
-        ensures unchanged { result ≡ None → self.new ≡ self.old }
-        ensures known { result ≡ None → HasRoom name count self.old.rooms → ⊥ }
-        ensures rooms { KeepsRooms self.old.rooms self.new.rooms }
-        ensures back { KeepsRooms self.new.rooms self.old.rooms }
+        ensures { AnswersPlacing name count self.old self.new result }
     {
-        let behind = self.placed.saturating_add(self.ahead);
-        let near = likely_index(&self.known, self.last, behind, name);
+        // Where another one came before it, it was exchanged with that, and is where the last one was found; where some of the epoch before
+        // are gone, it is as far behind as the last one was. A look-up by the map takes 100 instructions.
+        let last = self.last;
+        let near = if last < self.known.len()
+            && is_same_identifier(key_at(&self.known, last), name)
+        {
+            last
+        } else {
+            self.placed.saturating_add(self.ahead)
+        };
         let Some(found) = find(&self.known, near, name) else {
             return None;
         };
@@ -185,11 +175,7 @@ impl Satellites {
         count: usize,
     ) -> Result<bool, AllocError>
         requires allowed { count ≤ TYPES_LIMIT }
-        ensures answer { IfOk result (λ is_new. is_new
-            ≡ not (is_among (λ (row : RowTail). row.name) name self.old.rows)) }
-        ensures come { IfOk result (λ is_new. is_new ≡ true → HasCome name self.old self.new) }
-        ensures repeated { IfOk result (λ is_new. is_new ≡ false → self.new ≡ self.old) }
-        ensures room { IfOk result (λ is_new. is_new ≡ true → HasRoom name count self.new.rooms) }
+        ensures ok { IfOk result (IsPlaced name count self.old self.new) }
         ensures err { OnErr result (is_among (λ (row : RowTail). row.name) name self.old.rows ≡ false) }
         ensures rooms { KeepsRooms self.old.rooms self.new.rooms }
         ensures known { HasRoom name count self.old.rooms → IsOk result }
@@ -235,8 +221,7 @@ impl Satellites {
             → HasRoom row.name count self.old.rooms }
         ensures rows { (before : List RowTail) (row : RowTail) → self.old.rows ≡ before ++ row ∷ []
             → self.new.rows ≡ before ++ padded (record { name = row.name; count = count }) (Some row) ∷ [] }
-        ensures rest { self.new.rest ≡ self.old.rest }
-        ensures rooms { KeepsRooms self.old.rooms self.new.rooms }
+        ensures kept { KeepsRest self.old self.new }
         ensures back { KeepsRooms self.new.rooms self.old.rooms }
     {
         let (_, satellite) = self.known.pair_mut(self.placed - 1);
@@ -266,8 +251,7 @@ impl Satellites {
             ≡ take at bytes.old ++ row_line_after (Some old) (row_of_parts old.name values.now flags.now) }
         ensures within { at + result < length bytes.new }
         ensures short { result ≤ CELL_ROOM * length values.now + 2 * TYPES_LIMIT }
-        ensures rest { self.new.rest ≡ self.old.rest }
-        ensures rooms { KeepsRooms self.old.rooms self.new.rooms }
+        ensures kept { KeepsRest self.old self.new }
     {
         let (_, satellite) = self.known.pair_mut(index);
         satellite.mark(values.len(), flags, part);
@@ -295,8 +279,7 @@ impl Satellites {
             × (self.new.rows ≡ slice_set self.old.rows index left)) }
         ensures err { IfErr result (λ fault. (old : RowTail) → slice_get self.old.rows index ≡ Some old
             → row_held (Some old) (satellite_of old) line.now ≡ Err fault) }
-        ensures rest { self.new.rest ≡ self.old.rest }
-        ensures rooms { KeepsRooms self.old.rooms self.new.rooms }
+        ensures kept { KeepsRest self.old self.new }
     {
         let (_, satellite) = self.known.pair_mut(index);
         satellite.read(line, part)
@@ -356,22 +339,6 @@ fn key_at(map: &IndexMap<[u8; NAME_WIDTH], SatelliteHistory>, index: usize) -> [
     let _count = map.len();
     let (name, _) = map.get_index(index).unwrap();
     *name
-}
-
-/// One of two indices at which a satellite mostly is that isn't the next one. Where another one came before it, it was exchanged with that, and
-/// is where the last one was found; where some of the epoch before are gone, it is as far behind as the last one was. A look-up by the map
-/// takes 100 instructions.
-#[inline(always)]
-fn likely_index(
-    known: &IndexMap<[u8; NAME_WIDTH], SatelliteHistory>,
-    last: usize,
-    behind: usize,
-    name: [u8; NAME_WIDTH],
-) -> usize {
-    if last < known.len() && is_same_identifier(key_at(known, last), name) {
-        return last;
-    }
-    behind
 }
 
 /// Whether the satellite at an index has room for so many types.

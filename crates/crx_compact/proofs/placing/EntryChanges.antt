@@ -1,20 +1,19 @@
 -- One entry of the map gets another value.
 use Rattle.std.proofs.Common.{◌≡◌, ℕ, zero, suc, ◌<◌, ◌≤◌, List, [], ◌∷◌, length, map}
-use Rattle.std.proofs.Common.{take, drop, set, slice_get, Some, refl, ap, sym, ◌∙◌, inl, inr, arith}
-use Rattle.std.proofs.Common.{slice_set, length-set, subst, Bool, true, false, IsTrue, ◌↔◌}
+use Rattle.std.proofs.Common.{set, slice_get, Some, refl, ap, sym, ◌∙◌, inl, inr, arith}
+use Rattle.std.proofs.Common.{length-set, subst, Bool, true, false, IsTrue, ◌↔◌}
 use Rattle.std.specs.Cmp.{IsEquivalence}
 use Rattle.std.specs.Str.{bytes_eq}
 use Rattle.std.proofs.lemmas.Bool.{cases_Bool, cond-true, cond-false, false≢true}
-use Rattle.std.proofs.lemmas.List.{drop-set-lt, get_or-set_same, map-set}
+use Rattle.std.proofs.lemmas.List.{get_or-set_same}
 use Rattle.std.proofs.lemmas.Map.Entries.{hash_map_get_place}
 use Rattle.std.proofs.lemmas.Option.{same_Some, slice_get_read}
 use Rattle.std.proofs.lemmas.Slice.Eq.{bytes_eq-Decides}
-use Rattle.std.proofs.Math.Seq.{take-set-lt}
 use Rattle.indexmap.proofs.CallerLemmas.{updates-with_value_at}
 use Rattle.indexmap.specs.IndexMap.{IndexMap, IsUnique, get, set_value_at}
 use Rattle.crx_header.proofs.Apart.{other_way}
 use Rattle.crx_compact.specs.Entries.{Entry, IsFound, rooms_of}
-use Rattle.crx_compact.specs.Placing.{HasRoom, KeepsRooms, SatelliteTail, row_tail_of, row_of_entry}
+use Rattle.crx_compact.specs.Placing.{HasRoom, KeepsRooms, SatelliteTail}
 use Rattle.crx_compact.proofs.Characters.{bytes_eq-same}
 use Rattle.crx_compact.proofs.placing.Rooms.{known-room, room-from_look_up, rooms-kept}
 
@@ -44,26 +43,6 @@ changed-is (e ∷ es) zero name before after there =
     ap (λ (x : Entry). (x.0, after) ∷ es) (same_Some e (name, before) there)
 changed-is (e ∷ es) (suc i) name before after there =
     ap (λ xs. e ∷ xs) (changed-is es i name before after there)
-
--- ---- among those that have come
-
-pub rows-changed : (placed i : ℕ) (es : List Entry) (name : List ℕ) (before after : SatelliteTail)
-    → i < placed → slice_get es i ≡ Some (name, before)
-    → map row_of_entry (take placed (set_value_at es i after))
-    ≡ slice_set (map row_of_entry (take placed es)) i (row_tail_of name after)
-rows-changed placed i es name before after within there =
-    ap (λ xs. map row_of_entry (take placed xs)) (changed-is es i name before after there)
-    ∙ ap (map row_of_entry) (take-set-lt placed es i (name, after) within)
-    ∙ map-set row_of_entry (take placed es) i (name, after)
-
-pub rest-unchanged : (placed live i : ℕ) (es : List Entry) (name : List ℕ) (before after : SatelliteTail)
-    → i < placed → placed ≤ live → slice_get es i ≡ Some (name, before)
-    → map row_of_entry (drop placed (take live (set_value_at es i after)))
-    ≡ map row_of_entry (drop placed (take live es))
-rest-unchanged placed live i es name before after within few there =
-    ap (λ xs. map row_of_entry (drop placed (take live xs))) (changed-is es i name before after there)
-    ∙ ap (λ xs. map row_of_entry (drop placed xs)) (take-set-lt live es i (name, after) (omega arith))
-    ∙ ap (map row_of_entry) (drop-set-lt placed (take live es) i (name, after) within)
 
 -- ---- the room of the satellites
 

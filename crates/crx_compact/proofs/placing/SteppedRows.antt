@@ -1,10 +1,12 @@
 -- What is stored of one satellite among those that have come changes: its row, and no other one.
 use Rattle.std.proofs.Common.{◌≡◌, ℕ, zero, suc, ◌-◌, ◌<◌, ◌≤◌, List, [], ◌∷◌, ◌++◌, length, map, take}
-use Rattle.std.proofs.Common.{slice_get}
+use Rattle.std.proofs.Common.{slice_get, drop, ◌+◌}
 use Rattle.std.proofs.Common.{Option, Some, None, option_map, refl, ap, sym, ◌∙◌}
 use Rattle.std.proofs.Common.{arith, slice_set, slice_index_or}
 use Rattle.std.specs.Prelude.{flat_map}
-use Rattle.std.proofs.lemmas.List.{length-map, length-take, length-take-le}
+use Rattle.std.specs.Str.{bytes_eq}
+use Rattle.std.proofs.Math.Seq.{take-set-lt}
+use Rattle.std.proofs.lemmas.List.{drop-set-lt, map-set, length-map, length-take, length-take-le}
 use Rattle.std.proofs.lemmas.Option.{none-some, same_Some, slice_get-map}
 use Rattle.crx_text.proofs.EachPlace.{index-each_place}
 use Rattle.crx_text.specs.meaning.Columns.{without_end_blanks}
@@ -14,9 +16,12 @@ use Rattle.crx_rinex.specs.meaning.Observations.{Row}
 use Rattle.crx_compact.specs.ArcSteps.{arc_of_value, code_of_value}
 use Rattle.crx_compact.specs.ArcTails.{ArcTail}
 use Rattle.crx_compact.specs.Cells.{arc_at_place, arcs_of_cells, code_at_place, codes_of_cells}
-use Rattle.crx_compact.specs.Entries.{Entry}
+use Rattle.indexmap.specs.IndexMap.{IndexMap, IsUnique, set_value_at}
+use Rattle.indexmap.specs.Layout.{length-set_value_at}
+use Rattle.crx_compact.proofs.placing.EntryChanges.{changed-is, rooms-changed}
+use Rattle.crx_compact.specs.Entries.{Entry, placed_rows}
 use Rattle.crx_compact.specs.meaning.Cells.{cell_text}
-use Rattle.crx_compact.specs.Placing.{SatelliteTail, cells_for, padded, row_tail_of, row_of_entry}
+use Rattle.crx_compact.specs.Placing.{KeepsRest, SatelliteTail, cells_for, padded, row_tail_of, row_of_entry}
 use Rattle.crx_compact.specs.Steps.{flags_held, row_line_after, row_tail_after}
 use Rattle.crx_compact.specs.Tails.{RowTail}
 
@@ -38,17 +43,56 @@ among-placed placed i es within =
     omega (arith, within, length-map (take placed es) row_of_entry, length-take placed es)
 
 -- the row at an index is that of the entry there
-pub row-there : (placed i : ℕ) (es : List Entry) (e : Entry) → i < placed → slice_get es i ≡ Some e
-    → slice_get (rows_of placed es) i ≡ Some (row_of_entry e)
-row-there placed i es e within there =
-    slice_get-map row_of_entry (take placed es) i
-    ∙ ap (option_map row_of_entry) (get-take placed i es within ∙ there)
+pub record IsRowAt (placed i : ℕ) (es : List Entry) (e : Entry) : Type 0 where
+  pub below : i < placed
+  pub there : slice_get (rows_of placed es) i ≡ Some (row_of_entry e)
+  pub is : (row : RowTail) → slice_get (rows_of placed es) i ≡ Some row → row_of_entry e ≡ row
 
-pub row-is : (placed i : ℕ) (es : List Entry) (e : Entry) (row : RowTail) → i < placed
-    → slice_get es i ≡ Some e
-    → slice_get (rows_of placed es) i ≡ Some row → row_of_entry e ≡ row
-row-is placed i es e row within there also =
-    same_Some (row_of_entry e) row (sym (row-there placed i es e within there) ∙ also)
+pub row-at : (placed : ℕ) {i : ℕ} {es : List Entry} {e : Entry} → i < length (rows_of placed es)
+    → slice_get es i ≡ Some e → IsRowAt placed i es e
+row-at placed {i} {es} {e} within entry =
+    let below = among-placed placed i es within in
+    let there : slice_get (rows_of placed es) i ≡ Some (row_of_entry e) =
+    slice_get-map row_of_entry (take placed es) i ∙ ap (option_map row_of_entry) (get-take placed i es below ∙ entry) in
+    record {
+      below = below;
+      there = there;
+      is = λ row also. same_Some (row_of_entry e) row (sym there ∙ also);
+    }
+
+-- ---- what is stored of the satellite at an index changes
+
+pub order-kept : {placed live : ℕ} (i : ℕ) (es : List Entry) (after : SatelliteTail)
+    → (placed ≤ live) × (live ≤ length es) → (placed ≤ live) × (live ≤ length (set_value_at es i after))
+order-kept i es after order =
+    let all = order.1 in (order.0, omega (arith, all, length-set_value_at es i after))
+
+module _ {S : Type 0} (m : IndexMap (List ℕ) SatelliteTail S) (placed live : ℕ) {i : ℕ} {name : List ℕ}
+    {before : SatelliteTail} (within : i < length (rows_of placed m.entries))
+    (there : slice_get m.entries i ≡ Some (name, before)) (after : SatelliteTail) where
+  pub rows-changed : rows_of placed (set_value_at m.entries i after)
+      ≡ slice_set (rows_of placed m.entries) i (row_tail_of name after)
+  rows-changed =
+      ap (rows_of placed) (changed-is m.entries i name before after there)
+      ∙ ap (map row_of_entry)
+      (take-set-lt placed m.entries i (name, after) (among-placed placed i m.entries within))
+      ∙ map-set row_of_entry (take placed m.entries) i (name, after)
+
+  -- and the rest stays
+  pub rest-kept : (placed ≤ live) × (live ≤ length m.entries) → IsUnique bytes_eq m → before.room ≤ after.room
+      → KeepsRest (placed_rows placed live m.entries) (placed_rows placed live (set_value_at m.entries i after))
+  rest-kept order unique more =
+      let below = among-placed placed i m.entries within in
+      let few = order.0 in
+      record {
+        rest =
+            ap (λ es. map row_of_entry (drop placed (take live es)))
+            (changed-is m.entries i name before after there)
+            ∙ ap (λ es. map row_of_entry (drop placed es))
+            (take-set-lt live m.entries i (name, after) (omega (arith, below, few)))
+            ∙ ap (map row_of_entry) (drop-set-lt placed (take live m.entries) i (name, after) below);
+        rooms = rooms-changed m i name before after unique there more;
+      }
 
 -- ---- the last row
 
@@ -75,16 +119,6 @@ last-is (w ∷ xs) (z ∷ ys) x y (suc i) e is =
     drop_one : {X : Type 0} → List X → List X
     drop_one [] = []
     drop_one (x ∷ xs) = xs
-
--- the last row is that of the satellite that came last
-pub last-row-is : (placed : ℕ) (es : List Entry) (e : Entry) (before : List RowTail) (row : RowTail)
-    → 0 < length (rows_of placed es) → placed ≤ length es → slice_get es (placed - 1) ≡ Some e
-    → rows_of placed es ≡ before ++ row ∷ [] → row_of_entry e ≡ row
-last-row-is placed es e before row some all there is =
-    let few = among-placed placed 0 es some in
-    let counted = rows-counted placed es all in
-    let ends = last-is (rows_of placed es) before row row (placed - 1) is (omega (arith, counted)) in
-    row-is placed (placed - 1) es e row (omega (arith, few)) there ends.0
 
 -- a satellite by another count of types
 pub padded-is : (name : List ℕ) (count : ℕ) (satellite after : SatelliteTail)

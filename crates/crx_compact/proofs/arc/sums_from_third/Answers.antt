@@ -1,12 +1,6 @@
 use Rattle.crx_compact.proofs.arcs.Running.{OntoThird, onto-third, same-bits}
 use Rattle.crx_compact.proofs.arc.sums_from_third.Goals as goal
 
-pub overflow_add-second : goal.overflow_add-second
-overflow_add-second c =
-    let o : OntoThird c.args.number c.args.differences.now =
-    onto-third c.args.number c.args.differences.now c.requires.within c.requires.short c.requires.below in
-    rw (same-bits _ c.ranges.number, same-bits _ o.second_before) o.second
-
 pub overflow_add-first : goal.overflow_add-first
 overflow_add-first c =
     let o : OntoThird c.args.number c.args.differences.now =

@@ -1,18 +1,6 @@
-use Rattle.std.proofs.Common.{arith, sym}
+use Rattle.std.proofs.Common.{sym}
 use Rattle.crx_compact.proofs.arcs.Running.{ToThird, to-third, after-three, same-bits}
 use Rattle.crx_compact.proofs.arc.third_of.Goals as goal
-
-pub bounds-differences-0 : goal.bounds-differences-0
-bounds-differences-0 c = let within = c.requires.within in omega arith
-
-pub overflow_sub-first : goal.overflow_sub-first
-overflow_sub-first c =
-    let t : ToThird c.args.value c.args.differences.now =
-    to-third c.args.value c.args.differences.now c.requires.within c.requires.next c.requires.below in
-    rw (same-bits _ c.ranges.value, same-bits _ t.zeroth_before) t.first
-
-pub bounds-differences-1 : goal.bounds-differences-1
-bounds-differences-1 c = let within = c.requires.within in omega arith
 
 pub overflow_sub-second : goal.overflow_sub-second
 overflow_sub-second c =
@@ -26,9 +14,6 @@ overflow_sub-second c =
       same-bits _ t.first,
     )
     t.second
-
-pub bounds-differences-2 : goal.bounds-differences-2
-bounds-differences-2 c = let within = c.requires.within in omega arith
 
 pub overflow_sub-third : goal.overflow_sub-third
 overflow_sub-third c =

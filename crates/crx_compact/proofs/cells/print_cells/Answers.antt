@@ -1,4 +1,9 @@
-use Rattle.std.proofs.Common.{take, arith}
+use Rattle.std.specs.List.{slice_index}
+use Rattle.std.proofs.lemmas.Grind.{get_or_default_zero}
+use Rattle.std.proofs.Common.{take, ap, ◌∙◌, arith, ◌≡◌, ◌+◌, ◌*◌, ◌++◌, ◌∷◌, []}
+use Rattle.crx_text.proofs.Characters.{at}
+use Rattle.crx_text.specs.meaning.Numbers.{observation_text}
+use Rattle.crx_compact.specs.ArcSteps.{shown_value}
 use Rattle.crx_compact.proofs.PlaceByPlace.{print-on}
 use Rattle.crx_compact.proofs.cells.print_cells.Goals as goal
 
@@ -6,12 +11,24 @@ pub loop-place-preserved : goal.loop-place-preserved
 loop-place-preserved c =
     let end = c.loop-place.invariant.end in
     let long = c.loop-place.auto.bytes in
-    let same = c.print_cell.auto.bytes in
+    let same = c.obs_print_cell_into.auto.bytes in
+    let place = c.loop-place.place in
+    let flags = c.args.flags.now in
+    let full = c.requires.full in
+    let before = take c.loop-place.end c.loop-place.bytes in
+    let printed : take (c.loop-place.end + 16) c.obs_print_cell_into.new.bytes
+    ≡ before ++ (observation_text (shown_value c.index-arcs-place.result)
+    ++ at flags (2 * place) ∷ at flags (2 * place + 1) ∷ []) =
+    rw (
+      get_or_default_zero flags (2 * place) 32 (omega (arith, full)),
+      get_or_default_zero flags (2 * place + 1) 32 (omega (arith, full)),
+    )
+    (c.obs_print_cell_into.ensures.written
+    ∙ ap (λ v. before ++ (observation_text v ++ slice_index flags (2 * place) ∷ slice_index flags (2 * place + 1) ∷ []))
+    c.value.ensures.value) in
     record {
-      cells =
-          print-on c.args.arcs.now c.args.flags.now (take c.loop-place.end c.loop-place.bytes) _ _
-          c.loop-place.place c.index-arcs-place.result
-          c.loop-place-test.true c.index-arcs-place.is c.print_cell.ensures c.loop-place.invariant.cells;
+      cells = print-on c.args.arcs.now flags before _ _ place c.index-arcs-place.result c.loop-place-test.true
+          c.index-arcs-place.is printed c.loop-place.invariant.cells;
       end = omega (arith, end);
       long = omega (arith, long, same);
     }

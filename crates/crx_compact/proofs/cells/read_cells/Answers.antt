@@ -16,7 +16,7 @@ returns-in_err-length-in-None-clause-err c =
 
 pub loop-place-preserved : goal.loop-place-preserved
 loop-place-preserved c =
-    elim c.match-read_usual_cell.branch [
+    elim c.match-read_cell_fast.branch [
       | in-Some w ↦
           read-next _ _ _ _ _ _ _ _ w.in-Some.length c.loop-place.invariant c.loop-place-test.true
           w.in-Some.ensures.some w.arcs-is

@@ -1,6 +1,6 @@
 use Rattle.std.proofs.Common.{◌≡◌, ◌<◌, List, Option, None, ℕ, ℤ, get_or, ap, ◌∙◌}
-use Rattle.std.proofs.Common.{arith, length}
-use Rattle.std.proofs.lemmas.List.{take_more_set, length-set}
+use Rattle.std.proofs.Common.{arith, length, sym, take}
+use Rattle.std.proofs.lemmas.List.{get_or-take, length-set, take_more_set}
 use Rattle.crx_compact.specs.ArcTails.{ArcTail}
 use Rattle.crx_compact.specs.ArcSteps.{arc_of_value, code_of_value}
 use Rattle.std.proofs.lemmas.Option.{slice_get-get_or}
@@ -16,18 +16,19 @@ loop-place-preserved c =
     let there : place < length values = c.loop-place-test.true in
     let i = c.loop-place.invariant in
     let within : place < length arcs = omega (arith, there, i.counted) in
-    let same : get_or arcs place c.index-arcs-place.result ≡ get_or c.args.arcs.now place None =
-    alike-there arcs c.args.arcs.now place c.index-arcs-place.result None i.rest within in
+    let same : get_or arcs place c.index-arcs-place.result ≡ get_or (take (length values) c.args.arcs.now) place None =
+    alike-there arcs c.args.arcs.now place c.index-arcs-place.result None i.rest within
+    ∙ sym (get_or-take (length values) c.args.arcs.now place None there) in
     record {
       counted = omega (arith, i.counted, length-set {A = Option ArcTail});
-      long = omega (arith, i.long, c.write_value-end.auto.bytes);
-      from = omega (arith, i.from, c.write_value-end.ensures.from);
-      within = omega (arith, i.within, c.write_value-end.ensures.within);
+      long = omega (arith, i.long, c.write_value_fast-end.auto.bytes);
+      from = omega (arith, i.from, c.write_value_fast-end.ensures.from);
+      within = omega (arith, i.within, c.write_value_fast-end.ensures.within);
       made =
           cells-more _ _ _ _ _ _ (get_or values place None) _ _ _ _ i.made
           (slice_get-get_or values place None there)
           (ap (code_of_value (get_or values place None)) same)
-          (c.write_value-end.ensures.arc ∙ ap (arc_of_value (get_or values place None)) same)
-          c.write_value-end.ensures.written (take_more_set arcs place _ within);
+          (c.write_value_fast-end.ensures.arc ∙ ap (arc_of_value (get_or values place None)) same)
+          c.write_value_fast-end.ensures.written (take_more_set arcs place _ within);
       rest = alike-after arcs c.args.arcs.now place _ i.rest;
     }

@@ -1,20 +1,15 @@
-use Rattle.std.proofs.Common.{rules, arith, FitsSigned, w64}
-use Rattle.crx_text.specs.declared.code.Code.TheVariants.{Step}
+use Rattle.std.proofs.Common.{rules, arith}
 use Rattle.crx_text.proofs.CodeTexts.{code_text_length}
-use Rattle.crx_compact.proofs.arcs.Running.{same-bits}
 use Rattle.crx_compact.proofs.cells.write_value.Goals as goal
 
-pub write_cell-requires-in-Some-push_third-clause-room :
-    goal.write_cell-requires-in-Some-push_third-clause-room
-write_cell-requires-in-Some-push_third-clause-room c =
-    let fits : FitsSigned w64 c.in-Some-push_third.difference = search rules in
-    let short = code_text_length (Step c.in-Some-push_third.difference) c.in-Some-push_third.ensures.short in
+pub write_cell-requires-clause-room : goal.write_cell-requires-clause-room
+write_cell-requires-clause-room c =
+    let short = code_text_length c.push-code.result c.push-code.ensures.printable in
     let room = c.requires.room in
-    rw (same-bits _ fits) (omega (arith, short, room))
+    omega (arith, short, room)
 
-pub returns-in-Some-push_third-clause-within : goal.returns-in-Some-push_third-clause-within
-returns-in-Some-push_third-clause-within c =
-    let fits : FitsSigned w64 c.in-Some-push_third.difference = search rules in
-    let short = code_text_length (Step c.in-Some-push_third.difference) c.in-Some-push_third.ensures.short in
-    let end = rw (same-bits _ fits) at c.write_cell-in-Some-push_third.ensures.within in
-    omega (arith, short, end)
+pub returns : goal.returns
+returns c =
+    let short = code_text_length c.push-code.result c.push-code.ensures.printable in
+    let end = c.write_cell.ensures.within in
+    record { arc = search rules; written = search rules; from = search rules; within = omega (arith, short, end) }

@@ -92,7 +92,7 @@ twice c =
     c.identifier-name.result c.loop-place-test.true c.identifier-name.ensures.value)
     (sym c.in-Some.ensures.value) (come-already c.args.satellites.now.rest c.loop-place.satellites.rows
     found.0 c.identifier-name.result c.in_ok-place_name.field-0 false found.2
-    c.in_ok-place_name.ensures.placed.answer c.if-not-branch.true)
+    c.in_ok-place_name.ensures.ok.answer c.if-not-branch.true)
 
 pub returns-then-not-branch-clause-err : goal.returns-then-not-branch-clause-err
 returns-then-not-branch-clause-err c =
@@ -104,11 +104,11 @@ pub resize_last-requires-clause-room : goal.resize_last-requires-clause-room
 resize_last-requires-clause-room c before row is =
     let name = c.identifier-name.result in
     let awaited = c.loop-place.satellites in
-    let come = c.in_ok-place_name.ensures.placed.come c.if-not-branch.false in
+    let come = c.in_ok-place_name.ensures.ok.come c.if-not-branch.false in
     let last = ends-same awaited.rows before (row_or_blank name awaited.rest) row (sym come.rows ∙ is) in
     subst (λ (r : RowTail). HasRoom r.name c.in-Some.cells c.place_name.new.satellites.rooms) last
     (subst (λ (n : List ℕ). HasRoom n c.in-Some.cells c.place_name.new.satellites.rooms)
-    (sym (come-name name awaited.rest)) (c.in_ok-place_name.ensures.placed.room c.if-not-branch.false))
+    (sym (come-name name awaited.rest)) (c.in_ok-place_name.ensures.ok.room c.if-not-branch.false))
 
 pub loop-place-preserved : goal.loop-place-preserved
 loop-place-preserved c =
@@ -119,14 +119,14 @@ loop-place-preserved c =
     let name = c.identifier-name.result in
     let satellite : Satellite = record { name = name; count = c.in-Some.cells } in
     let fresh = come-already before c.loop-place.satellites.rows found.0 name c.in_ok-place_name.field-0 true
-    found.2 c.in_ok-place_name.ensures.placed.answer c.if-not-branch.false in
+    found.2 c.in_ok-place_name.ensures.ok.answer c.if-not-branch.false in
     let after = c.resize_last.new.self in
     let kept : KeepsRooms c.loop-place.satellites.rooms after.rooms = λ other count has.
-    c.resize_last.ensures.rooms other count (c.place_name.ensures.rooms other count has) in
+    c.resize_last.ensures.kept.rooms other count (c.place_name.ensures.rooms other count has) in
     let come : HasNameCome before (found.0 ++ satellite ∷ []) after =
     name-comes before found.0 name c.in-Some.cells c.loop-place.satellites c.place_name.new.satellites after
-    found.2 found.3 fresh (c.in_ok-place_name.ensures.placed.come c.if-not-branch.false)
-    c.resize_last.ensures.rows c.resize_last.ensures.rest in (
+    found.2 found.3 fresh (c.in_ok-place_name.ensures.ok.come c.if-not-branch.false)
+    c.resize_last.ensures.rows c.resize_last.ensures.kept.rest in (
       found.0 ++ satellite ∷ [],
       named-more c.args.types.now (names_in text c.args.count) place found.0 (found.0 ++ satellite ∷ []) name
           c.in-Some.cells found.1
@@ -143,8 +143,8 @@ loop-place-preserved c =
           (λ (s : Satellite). HasRoom s.name s.count after.rooms) found.0
           (λ s has. kept s.name s.count has) found.6)
           (only (λ (s : Satellite). HasRoom s.name s.count after.rooms) satellite
-          (c.resize_last.ensures.rooms name c.in-Some.cells
-          (c.in_ok-place_name.ensures.placed.room c.if-not-branch.false))),
+          (c.resize_last.ensures.kept.rooms name c.in-Some.cells
+          (c.in_ok-place_name.ensures.ok.room c.if-not-branch.false))),
       elim found.7 [
         | inl good ↦ inl good
         | inr so_far ↦ elim c.in_ok-place_name.ensures.placed.back [

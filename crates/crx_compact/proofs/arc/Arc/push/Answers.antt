@@ -1,5 +1,5 @@
 use Rattle.std.proofs.Common.{rules, ◌≡◌, ◌<◌, ◌+◌, ◌∷◌, ℤ, List, Option, length, take, ap, ◌∙◌, arith}
-use Rattle.std.proofs.Common.{FitsSigned, w64, to_z, of_z}
+use Rattle.std.proofs.Common.{slice_set, FitsSigned, w64, to_z, of_z}
 use Rattle.crx_base.specs.declared.limits.TheConstants.{WRITTEN_ORDER}
 use Rattle.crx_text.specs.meaning.Numbers.{IsWithin}
 use Rattle.crx_text.specs.declared.code.Code.{Code}
@@ -10,11 +10,19 @@ use Rattle.crx_compact.specs.meaning.Differences.{code_at}
 use Rattle.crx_compact.specs.meaning.Sequences.{stretch}
 use Rattle.crx_compact.proofs.arcs.Arcs.{codes-of_values}
 use Rattle.crx_compact.specs.ArcSteps.{arc_of_value, code_of_value, differences_after, highest}
-use Rattle.crx_text.specs.Codes.{IsShort}
 use Rattle.crx_compact.specs.Arcs.{kept_tail}
 use Rattle.crx_compact.proofs.arcs.Running.{GoesOn, same-bits, begun-tail, begun-kept, lower-below}
 use Rattle.crx_compact.proofs.arcs.Running.{within-below, goes-on-kept, goes-on, highest-short, within-short}
 use Rattle.crx_compact.proofs.arc.Arc.push.Goals as goal
+
+-- what is said of any values so far, by what is said of the arc
+every : (value : Option ℤ) (values : List (Option ℤ)) (old new : Option ArcTail) (code : Code)
+    → code ≡ code_of_value value old → new ≡ arc_of_value value old → old ≡ arc_of_values values
+    → (code ≡ code_at WRITTEN_ORDER (stretch (value ∷ values))) × (new ≡ arc_of_values (value ∷ values))
+every value values old new code is goes h = (
+  is ∙ ap (code_of_value value) h ∙ (codes-of_values value values).code,
+  goes ∙ ap (arc_of_value value) h,
+)
 
 pub invariant_of-self-then-self-eq0 : goal.invariant_of-self-then-self-eq0
 invariant_of-self-then-self-eq0 g c =
@@ -24,13 +32,26 @@ invariant_of-self-then-self-eq0 g c =
     rw (same-bits _ fits) (begun-kept g.row.WIDTH
     3 c.self.inside.differences c.in-Some.value some c.self.invariant.few_columns (omega arith) within)
 
-pub returns-then-self-eq0-clause-arc : goal.returns-then-self-eq0-clause-arc
-returns-then-self-eq0-clause-arc g c =
+pub returns-then-self-eq0 : goal.returns-then-self-eq0
+returns-then-self-eq0 g c =
+    let value : ℤ = c.in-Some.value in
     let some : 0 < length c.self.inside.differences = search rules in
-    let fits : FitsSigned w64 c.in-Some.value = search rules in
+    let fits : FitsSigned w64 value = search rules in
+    let within : IsWithin g.row.WIDTH value = rw c.in-Some.is at c.requires in
+    let code : Start 3 (to_z w64 (of_z w64 value)) ≡ code_of_value c.args.value c.args.self.now =
+    search rules in
+    let arc : kept_tail 3 (take 1 (slice_set c.self.inside.differences 0 (to_z w64 (of_z w64 value))))
+    ≡ arc_of_value c.args.value c.args.self.now =
     rw (c.in-Some.is, ← c.self.view_is, same-bits _ fits)
     (begun-tail c.self.inside.order c.self.inside.count
-    c.self.inside.differences c.self.inside.differences c.in-Some.value some c.if-self-eq0.true)
+    c.self.inside.differences c.self.inside.differences value some c.if-self-eq0.true) in
+    record {
+      code = code;
+      printable = rw (same-bits _ fits)
+          (omega arith, within-short g.row.WIDTH value c.self.invariant.few_columns within);
+      arc = arc;
+      every = λ values h. every c.args.value values c.args.self.now _ _ code arc h;
+    }
 
 pub go_on-highest-requires-clause-below : goal.go_on-highest-requires-clause-below
 go_on-highest-requires-clause-below g c =
@@ -53,60 +74,29 @@ invariant_of-self-2 g c =
     goes-on-kept _ _ _ _ _ _ _ (record { least = search rules })
     c.self.invariant within after
 
-pub returns-clause-code : goal.returns-clause-code
-returns-clause-code g c =
-    let fits : FitsSigned w64 c.in-Some.value = search rules in
-    let on : GoesOn c.self.inside.order
-    c.self.inside.count c.min-last.result c.in-Some.value c.self.inside.differences =
+pub returns : goal.returns
+returns g c =
+    let value : ℤ = c.in-Some.value in
+    let order = c.self.inside.order in
+    let count = c.self.inside.count in
+    let last = c.min-last.result in
+    let fits : FitsSigned w64 value = search rules in
+    let fits' : FitsSigned w64 c.go_on-highest.result = search rules in
+    let within : IsWithin g.row.WIDTH value = rw c.in-Some.is at c.requires in
+    let on : GoesOn order count last value c.self.inside.differences =
     goes-on _ _ _ _ _ (record { least = search rules }) (search rules) (search rules) in
-    rw (c.in-Some.is, ← c.self.view_is)
-    (ap Step (same-bits _ (search rules) ∙ (rw (same-bits _ fits) at c.go_on-highest.ensures.highest))
-    ∙ on.code)
-
-pub returns-clause-arc : goal.returns-clause-arc
-returns-clause-arc g c =
-    let fits : FitsSigned w64 c.in-Some.value = search rules in
-    let on : GoesOn c.self.inside.order
-    c.self.inside.count c.min-last.result c.in-Some.value c.self.inside.differences =
-    goes-on _ _ _ _ _ (record { least = search rules }) (search rules) (search rules) in
-    rw (c.in-Some.is, ← c.self.view_is)
-    (ap (kept_tail c.self.inside.order) (rw (same-bits _ fits) at c.go_on-highest.ensures.after) ∙ on.tail)
-
-pub returns-then-self-eq0-clause-printable : goal.returns-then-self-eq0-clause-printable
-returns-then-self-eq0-clause-printable g c =
-    let fits : FitsSigned w64 c.in-Some.value = search rules in
-    let within : IsWithin g.row.WIDTH c.in-Some.value = rw c.in-Some.is at c.requires in
-    rw (same-bits _ fits)
-    (omega arith, within-short g.row.WIDTH c.in-Some.value c.self.invariant.few_columns within)
-
-pub returns-clause-printable : goal.returns-clause-printable
-returns-clause-printable g c =
-    let fits : FitsSigned w64 c.in-Some.value = search rules in
-    let within : IsWithin g.row.WIDTH c.in-Some.value = rw c.in-Some.is at c.requires in
-    let is : c.go_on-highest.result
-    ≡ highest (differences_after c.in-Some.value (take c.min-last.result c.self.inside.differences)) =
+    let is : c.go_on-highest.result ≡ highest (differences_after value (take last c.self.inside.differences)) =
     rw (same-bits _ fits) at c.go_on-highest.ensures.highest in
-    let short : IsShort
-    (highest (differences_after c.in-Some.value (take c.min-last.result c.self.inside.differences))) =
-    highest-short _ c.self.inside.order c.self.inside.count c.min-last.result _ _
-    (record { least = c.min-last.ensures }) c.self.invariant within in
-    rw (same-bits c.go_on-highest.result (search rules), is) short
-
--- what is said of any values so far, by what is said of the arc
-every : (value : Option ℤ) (values : List (Option ℤ)) (old new : Option ArcTail) (code : Code)
-    → code ≡ code_of_value value old → new ≡ arc_of_value value old → old ≡ arc_of_values values
-    → (code ≡ code_at WRITTEN_ORDER (stretch (value ∷ values))) × (new ≡ arc_of_values (value ∷ values))
-every value values old new code is goes h = (
-  is ∙ ap (code_of_value value) h ∙ (codes-of_values value values).code,
-  goes ∙ ap (arc_of_value value) h,
-)
-
-pub returns-then-self-eq0-clause-every : goal.returns-then-self-eq0-clause-every
-returns-then-self-eq0-clause-every g c = λ values h.
-    let code : Start 3 (to_z w64 (of_z w64 c.in-Some.value)) ≡ code_of_value c.args.value c.args.self.now =
-    search rules in
-    every c.args.value values c.args.self.now _ _ code (returns-then-self-eq0-clause-arc g c) h
-
-pub returns-clause-every : goal.returns-clause-every
-returns-clause-every g c = λ values h.
-    every c.args.value values c.args.self.now _ _ (returns-clause-code g c) (returns-clause-arc g c) h
+    let code : Step (to_z w64 (of_z w64 c.go_on-highest.result)) ≡ code_of_value c.args.value c.args.self.now =
+    rw (c.in-Some.is, ← c.self.view_is) (ap Step (same-bits _ fits' ∙ is) ∙ on.code) in
+    let arc : kept_tail order (take (last + 1) c.go_on-highest.new.differences)
+    ≡ arc_of_value c.args.value c.args.self.now =
+    rw (c.in-Some.is, ← c.self.view_is)
+    (ap (kept_tail order) (rw (same-bits _ fits) at c.go_on-highest.ensures.after) ∙ on.tail) in
+    record {
+      code = code;
+      printable = rw (same-bits _ fits', is)
+          (highest-short _ order count last _ _ (record { least = search rules }) c.self.invariant within);
+      arc = arc;
+      every = λ values h. every c.args.value values c.args.self.now _ _ code arc h;
+    }

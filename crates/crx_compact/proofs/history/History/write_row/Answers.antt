@@ -26,30 +26,9 @@ returns-in_err-place_or_add-clause-known c = λ known.
     (subst (λ (h : OpenHistory). HasRoom c.args.name (length c.args.values.now) h.satellites.rooms)
     (sym c.self.view_is) known.satellite)))
 
--- no satellite has less room, and for texts there is as much
-rooms : (c : After-place_or_add)
-    → KeepsRooms c.args.self.now.satellites.rooms c.place_or_add.new.self.rooms
-rooms c = subst (λ (h : OpenHistory). KeepsRooms h.satellites.rooms c.place_or_add.new.self.rooms)
-    c.self.view_is c.place_or_add.ensures.rooms
-
-texts : (c : After-place_or_add)
-    → c.args.self.now.text_room ≤ min (vec_capacity c.self.inside.text) (vec_capacity c.self.inside.next_text)
-texts c = let same = ap (λ (h : OpenHistory). h.text_room) c.self.view_is in omega (arith, same)
-
-pub returns-in_err-place_or_add-clause-kept : goal.returns-in_err-place_or_add-clause-kept
-returns-in_err-place_or_add-clause-kept c =
-    record { rooms = rooms (goal.at.returns-in_err-place_or_add-clause-kept c).After-place_or_add; text = texts (goal.at.returns-in_err-place_or_add-clause-kept c).After-place_or_add; lines = omega arith; bytes = omega arith }
-
-pub returns-then-not-branch-clause-kept : goal.returns-then-not-branch-clause-kept
-returns-then-not-branch-clause-kept c =
-    record { rooms = rooms (goal.at.returns-then-not-branch-clause-kept c).After-place_or_add; text = texts (goal.at.returns-then-not-branch-clause-kept c).After-place_or_add; lines = omega arith; bytes = omega arith }
-
--- whether the row's satellite is new
-answer : (c : In_ok-place_or_add) (after : Tail) (rows : List Row)
-    → AreRowsWritten after rows c.args.self.now c.args.lines.now.lines
-    → c.in_ok-place_or_add.field-0 ≡ not (has_satellite c.args.name rows)
-answer c after rows written =
-    c.in_ok-place_or_add.ensures.answer
+pub returns-then-not-branch-clause-answer : goal.returns-then-not-branch-clause-answer
+returns-then-not-branch-clause-answer c = λ after rows written.
+    sym c.if-not-branch.true ∙ c.in_ok-place_or_add.ensures.ok.answer
     ∙ ap not (come-already after rows c.args.self.now c.args.lines.now.lines
     c.self.inside.satellites c.args.name (ap (λ (h : OpenHistory). h.satellites) c.self.view_is) written)
 
@@ -63,7 +42,7 @@ pub returns-in_err-make_room-clause-memory : goal.returns-in_err-make_room-claus
 returns-in_err-make_room-clause-memory c = λ after rows written.
     on_err c.from_residual-in_err-make_room.result (no-row after rows c.args.self.now c.args.lines.now.lines
     c.self.inside.satellites c.args.name c.in_ok-place_or_add.field-0
-    (ap (λ (h : OpenHistory). h.satellites) c.self.view_is) c.in_ok-place_or_add.ensures.answer
+    (ap (λ (h : OpenHistory). h.satellites) c.self.view_is) c.in_ok-place_or_add.ensures.ok.answer
     c.if-not-branch.false
     written)
 
@@ -87,7 +66,7 @@ put_row-requires-clause-sound c = λ old there.
     let values = c.args.values.now in
     let flags = c.args.flags.now in
     let placed = c.self.inside.satellites in
-    let come = c.in_ok-place_or_add.ensures.come c.if-not-branch.false in
+    let come = c.in_ok-place_or_add.ensures.ok.come c.if-not-branch.false in
     let last = come-last name placed c.place_or_add.new.self c.place_or_add.new.self.rows _ come refl
     (ap (λ n. n - 1) c.placed-last.ensures.value) in
     let kept = row_or_blank name placed.rest in
@@ -95,8 +74,14 @@ put_row-requires-clause-sound c = λ old there.
     let named : old.name ≡ name = ap (λ (t : RowTail). t.name) is ∙ last.named in (
       subst (λ (n : List ℕ). IsSoundRow (row_of_parts n values flags)) (sym named) c.requires.sound,
       subst (λ (n : List ℕ). HasRoom n (length values) c.place_or_add.new.self.rooms) (sym named)
-          (c.in_ok-place_or_add.ensures.room c.if-not-branch.false),
+          (c.in_ok-place_or_add.ensures.ok.room c.if-not-branch.false),
     )
+
+pub returns-clause-answer : goal.returns-clause-answer
+returns-clause-answer c = λ after rows written.
+    sym c.if-not-branch.false ∙ c.in_ok-place_or_add.ensures.ok.answer
+    ∙ ap not (come-already after rows c.args.self.now c.args.lines.now.lines
+    c.self.inside.satellites c.args.name (ap (λ (h : OpenHistory). h.satellites) c.self.view_is) written)
 
 pub returns-clause-written : goal.returns-clause-written
 returns-clause-written c = λ after rows written.
@@ -105,56 +90,26 @@ returns-clause-written c = λ after rows written.
     let flags = c.args.flags.now in
     let row : Row = row_of_parts name values flags in
     let placed = c.self.inside.satellites in
-    let come = c.in_ok-place_or_add.ensures.come c.if-not-branch.false in
+    let come = c.in_ok-place_or_add.ensures.ok.come c.if-not-branch.false in
     let last = come-last name placed c.place_or_add.new.self c.place_or_add.new.self.rows _ come refl
     (ap (λ n. n - 1) c.placed-last.ensures.value) in
     let kept = row_or_blank name placed.rest in
     let parts : row_of_parts kept.name values flags ≡ row =
     ap (λ (n : List ℕ). row_of_parts n values flags) last.named in
     let same = ap (λ (h : OpenHistory). h.satellites) c.self.view_is in
-    record {
-      answer = sym c.if-not-branch.false ∙ answer (goal.at.returns-clause-written c).In_ok-place_or_add after rows written;
-      written = λ is.
-          written-next after rows row c.args.self.now _ c.place_or_add.new.self c.args.lines.now.lines
-          c.put_row.new.self.lines placed same written c.requires.sound
-          (no-row after rows c.args.self.now c.args.lines.now.lines placed name c.in_ok-place_or_add.field-0 same
-          c.in_ok-place_or_add.ensures.answer c.if-not-branch.false written) come
-          (c.put_row.ensures.after kept last.there
-          ∙ last.put (row_tail_after (Some kept) (row_of_parts kept.name values flags))
-          ∙ ap (λ (r : Row). placed.rows ++ row_tail_after (Some kept) r ∷ []) parts)
-          c.put_row.ensures.rest
-          (c.put_row.ensures.lines kept last.there
-          ∙ (λ j. c.make_room.ensures.lines j ++ row_line_after (Some kept) (parts j) ∷ []))
-          (ap (λ (h : OpenHistory). h.text) c.self.view_is) (ap (λ (h : OpenHistory). h.clock) c.self.view_is);
-    }
+    written-next after rows row c.args.self.now _ c.place_or_add.new.self c.args.lines.now.lines
+    c.put_row.new.self.lines placed same written c.requires.sound
+    (no-row after rows c.args.self.now c.args.lines.now.lines placed name c.in_ok-place_or_add.field-0 same
+    c.in_ok-place_or_add.ensures.ok.answer c.if-not-branch.false written) come
+    (c.put_row.ensures.after kept last.there
+    ∙ last.put (row_tail_after (Some kept) (row_of_parts kept.name values flags))
+    ∙ ap (λ (r : Row). placed.rows ++ row_tail_after (Some kept) r ∷ []) parts)
+    c.put_row.ensures.kept.rest
+    (c.put_row.ensures.lines kept last.there
+    ∙ (λ j. c.make_room.ensures.lines j ++ row_line_after (Some kept) (parts j) ∷ []))
+    (ap (λ (h : OpenHistory). h.text) c.self.view_is) (ap (λ (h : OpenHistory). h.clock) c.self.view_is)
 
-pub returns-clause-taken : goal.returns-clause-taken
-returns-clause-taken c = λ is.
-    let lines = c.make_room.ensures.grown_lines in
-    let bytes = c.make_room.ensures.grown_bytes in
-    let asked = c.in_ok-make_room.ensures.free_bytes in
-    let put = c.put_row.ensures.taken in
-    let one = put.free_lines in
-    let some = c.put_row.ensures.free_bytes in
-    let all_lines = put.all_lines in
-    let all_bytes = put.all_bytes in
-    record {
-      satellite = c.put_row.ensures.rooms c.args.name (length c.args.values.now)
-          (c.in_ok-place_or_add.ensures.room c.if-not-branch.false);
-      lines = omega (arith, lines, one, all_lines);
-      bytes = omega (arith, bytes, some, all_bytes);
-      asked = omega (arith, bytes, asked, all_bytes);
-    }
-
-pub returns-clause-kept : goal.returns-clause-kept
-returns-clause-kept c =
-    let lines = c.make_room.ensures.all_lines in
-    let bytes = c.make_room.ensures.all_bytes in
-    let all_lines = c.put_row.ensures.taken.all_lines in
-    let all_bytes = c.put_row.ensures.taken.all_bytes in
-    record {
-      rooms = λ name count has. c.put_row.ensures.rooms name count (rooms (goal.at.returns-clause-kept c).After-place_or_add name count has);
-      text = texts (goal.at.returns-clause-kept c).After-place_or_add;
-      lines = omega (arith, lines, all_lines);
-      bytes = omega (arith, bytes, all_bytes);
-    }
+pub returns-clause-room : goal.returns-clause-room
+returns-clause-room c = λ is.
+    c.put_row.ensures.kept.rooms c.args.name (length c.args.values.now)
+    (c.in_ok-place_or_add.ensures.ok.room c.if-not-branch.false)

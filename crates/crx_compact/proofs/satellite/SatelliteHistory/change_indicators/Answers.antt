@@ -1,4 +1,4 @@
-use Rattle.std.proofs.Common.{◌≤◌, ◌*◌, ◌++◌, List, ℕ, length, take, ap, arith, sym, ◌∙◌}
+use Rattle.std.proofs.Common.{rules, ◌≤◌, ◌*◌, ◌++◌, List, ℕ, length, take, ap, arith, sym, ◌∙◌}
 use Rattle.std.proofs.lemmas.List.{length-take}
 use Rattle.crx_base.specs.declared.limits.TheConstants.{TYPES_LIMIT}
 use Rattle.crx_text.specs.meaning.Columns.{without_end_blanks}
@@ -12,28 +12,24 @@ use Rattle.crx_compact.proofs.satellite.SatelliteHistory.change_indicators.Goals
 
 pub copy_indicators-requires-clause-sized : goal.copy_indicators-requires-clause-sized
 copy_indicators-requires-clause-sized c =
-    let paired = c.requires.paired in
+    let paired = c.requires.fits.paired in
     let cells = ap (λ (t : SatelliteTail). length t.cells) c.resize.ensures.resized
     ∙ length-each_place c.args.count _ in
     omega (arith, paired, cells)
 
-pub returns-clause-marks : goal.returns-clause-marks
-returns-clause-marks c =
+pub returns : goal.returns
+returns c =
     let inside = c.self.inside in
     let flags : List ℕ = c.args.flags.now in
     let held : List ℕ = take (2 * inside.count) inside.indicators.items in
     let seen : List ℕ = take (2 * inside.count) c.deref.result.now in
+    let marks =
     c.trim_end_blanks.ensures.trimmed
     ∙ ap without_end_blanks (c.append_difference.ensures.appended
     ∙ ap (λ (t : List ℕ). t ++ by_position mark_of seen flags) c.requires.empty)
     ∙ ap (λ (t : List ℕ). text_difference (take (2 * inside.count) t) flags) c.deref.ensures.value
     ∙ sym (before-trimmed held flags)
-    ∙ ap (λ (t : SatelliteTail). text_difference t.flags flags) c.self.view_is
-
-pub returns-clause-short : goal.returns-clause-short
-returns-clause-short c =
-    let inside = c.self.inside in
-    let held : List ℕ = take (2 * inside.count) inside.indicators.items in
+    ∙ ap (λ (t : SatelliteTail). text_difference t.flags flags) c.self.view_is in
     let own = ap (λ (t : SatelliteTail). length t.flags) c.self.view_is in
     let room = ap (λ (t : SatelliteTail). t.room) c.self.view_is in
     let within = c.self.invariant.1 in
@@ -41,8 +37,7 @@ returns-clause-short c =
     let kept = few_kept held in
     let old : length c.args.self.now.flags ≤ 2 * TYPES_LIMIT =
     omega (arith, own, within, few, kept, length-take (2 * inside.count) inside.indicators.items) in
-    let paired = c.requires.paired in
-    let most = c.requires.room in
-    let new : length c.args.flags.now ≤ 2 * TYPES_LIMIT = omega (arith, paired, most, room, few) in
-    let marks = difference-length (2 * TYPES_LIMIT) c.args.self.now.flags c.args.flags.now old new in
-    omega (arith, ap length (returns-clause-marks c), marks)
+    let fits = c.requires.fits in
+    let new : length flags ≤ 800 = omega (arith, fits, room, few) in
+    let short = difference-length 800 c.args.self.now.flags flags old new in
+    record { marked = search rules; marks = marks; short = omega (arith, ap length marks, short) }

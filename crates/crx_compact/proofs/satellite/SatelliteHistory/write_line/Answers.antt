@@ -60,15 +60,15 @@ fits c =
     let counted = c.requires.counted in
     let own = ap length cells in
     let room = c.requires.room in
-    let within = c.write_first_cells-end.ensures.within in
+    let within = c.write_cells-end.ensures.within in
     let end = c.put_text-end.ensures.end in
-    let a = c.write_first_cells-end.auto.bytes in
+    let a = c.write_cells-end.auto.bytes in
     let b = c.put_text-end.auto.bytes in
-    line-fits _ _ _ _ _ (length c.args.values.now) c.args.at c.write_first_cells-end.result
+    line-fits _ _ _ _ _ (length c.args.values.now) c.args.at c.write_cells-end.result
     c.put_text-end.result
-    (written-line _ _ _ _ _ c.write_first_cells-end.new.bytes _ _ inside.count c.args.at _ _
+    (written-line _ _ _ _ _ c.write_cells-end.new.bytes _ _ inside.count c.args.at _ _
     c.deref_mut.ensures.value cells (omega (arith, many, counted, own))
-    c.write_first_cells-end.ensures.written c.put_text-end.ensures.put
+    c.write_cells-end.ensures.written c.put_text-end.ensures.put
     (omega (arith, room, within, end, a, b)) (omega (arith, room)))
     c.trim_end.ensures.value (omega (arith, within)) end room (omega (arith, a, b))
 

@@ -1,6 +1,6 @@
 use Rattle.std.specs.Prelude.{◌≡◌}
 use Rattle.crx_compact.specs.Placing.{HaveNamesRoom, KeepsRooms}
-use Rattle.crx_compact.proofs.refusals.prepare_all.Given as goal
+use Rattle.crx_compact.proofs.refusals.prepare_names.Given as goal
 
 abbrev pub invariant-loop-place : goal.invariant-loop-place
 invariant-loop-place l = record {

@@ -1,0 +1,20 @@
+use Rattle.std.proofs.Common.{rules, arith, FitsSigned, w64}
+use Rattle.crx_text.specs.declared.code.Code.TheVariants.{Step}
+use Rattle.crx_text.proofs.CodeTexts.{code_text_length}
+use Rattle.crx_compact.proofs.arcs.Running.{same-bits}
+use Rattle.crx_compact.proofs.cells.write_value_fast.Goals as goal
+
+pub write_cell-requires-in-Some-push_third-clause-room :
+    goal.write_cell-requires-in-Some-push_third-clause-room
+write_cell-requires-in-Some-push_third-clause-room c =
+    let fits : FitsSigned w64 c.in-Some-push_third.difference = search rules in
+    let short = code_text_length (Step c.in-Some-push_third.difference) c.in-Some-push_third.ensures.short in
+    let room = c.requires.room in
+    rw (same-bits _ fits) (omega (arith, short, room))
+
+pub returns-in-Some-push_third : goal.returns-in-Some-push_third
+returns-in-Some-push_third c =
+    let fits : FitsSigned w64 c.in-Some-push_third.difference = search rules in
+    let short = code_text_length (Step c.in-Some-push_third.difference) c.in-Some-push_third.ensures.short in
+    let end = rw (same-bits _ fits) at c.write_cell-in-Some-push_third.ensures.within in
+    record { arc = search rules; written = search rules; from = search rules; within = omega (arith, short, end) }

@@ -1,0 +1,34 @@
+use Rattle.std.proofs.Common.{◌≡◌, ◌∙◌, ◌-◌, ◌*◌, ◌++◌, List, ℕ, ap, arith, drop, length, min, replicate, subst, sym, take}
+use Rattle.std.proofs.lemmas.List.{length-take-le, take_at, take_min}
+use Rattle.crx_text.proofs.Blanks.{columns_are}
+use Rattle.crx_text.specs.meaning.Columns.{columns}
+use Rattle.crx_text.specs.Texts.{patched}
+use Rattle.crx_compact.specs.HeldRows.{AreHeldFlags}
+use Rattle.crx_compact.proofs.Marks.{patched-kept}
+use Rattle.crx_compact.proofs.SoundTexts.{columns-held}
+use Rattle.crx_compact.proofs.satellite.patch_indicators.Goals as goal
+
+put-columns : (all : ℕ) (old held text : List ℕ) (first : ℕ) → length old ≡ all → first ≡ min all (length text)
+    → held ≡ take first text ++ replicate (length old - length (take first text)) 32 → held ≡ columns text 1 all
+put-columns all old held text first many is put =
+    put ∙ ap (λ n. take n text ++ replicate (length old - length (take n text)) 32) is
+    ∙ ap (λ (t : List ℕ). t ++ replicate (length old - length t) 32) (take_min all text)
+    ∙ ap (λ n. take all text ++ replicate (n - length (take all text)) 32) many ∙ sym (columns_are text 1 all)
+
+pub returns-clause-kept : goal.returns-clause-kept
+returns-clause-kept c =
+    let all : ℕ = 2 * c.args.count in
+    let before : List ℕ = take all c.args.indicators.now in
+    let marks : List ℕ = c.args.marks.now in
+    let many : length before ≡ all = length-take-le all c.args.indicators.now c.requires.fitting in
+    let text = c.bytes-text.ensures.value ∙ c.in-Ok.ensures.ok in
+    let same = c.put_flags.auto.held in
+    let made = ap length text in
+    let short = c.bytes-text.ensures.within in
+    rw (take_at c.put_flags.new.held (drop all c.args.indicators.now) all (omega (arith, many, same)))
+    (subst AreHeldFlags (sym (put-columns all before _ _ _ many c.min.ensures c.put_flags.ensures.put
+    ∙ ap (λ (t : List ℕ). columns t 1 all) text))
+    (columns-held c.args.count (patched before marks) c.requires.allowed (record {
+      within = omega (arith, made, ap length c.bytes-text.ensures.value, short);
+      kept = patched-kept before marks c.requires.held.kept (sym c.in-Ok.ensures.printable);
+    })))
