@@ -34,6 +34,18 @@ cleared lines = record lines {
   front = lines.reserved;
 }
 
+-- room was asked for: the lines stay, and whatever more there is, is free
+pub record HasMoreRoom (old new : PendingLines) : Type 0 where
+  pub lines : new.lines ≡ old.lines
+  pub front : new.front ≡ old.front
+  pub reserved : new.reserved ≡ old.reserved
+  pub all_lines : old.all_lines ≤ new.all_lines
+  pub all_bytes : old.all_bytes ≤ new.all_bytes
+  pub among_lines : new.free_lines ≤ new.all_lines
+  pub among_bytes : new.free_bytes ≤ new.all_bytes
+  pub grown_lines : new.free_lines + old.all_lines ≡ old.free_lines + new.all_lines
+  pub grown_bytes : new.free_bytes + old.all_bytes ≡ old.free_bytes + new.all_bytes
+
 -- for so many lines and bytes there is room once all are dropped, and so many come in front: the same as before
 pub record HasSameRoom (old new : PendingLines) : Type 0 where
   pub all_lines : new.all_lines ≡ old.all_lines

@@ -1,6 +1,7 @@
 -- What columns are seen as: a reader of compact epochs, and for how much it has room.
 use Rattle.std.specs.Prelude.{◌≤◌, ◌<◌, ◌+◌, ℕ, List, All, length, map, sum}
 use Rattle.crx_base.specs.declared.limits.TheConstants.{LINE_LIMIT}
+use Rattle.crx_compact.specs.EncodingRooms.{EncodingRoom}
 use Rattle.crx_compact.specs.OpenEpochs.{ColumnsState, OpenRawEpoch}
 use Rattle.crx_compact.specs.Placing.{HasRoom, KeepsRooms}
 use Rattle.crx_compact.specs.PrintedBlocks.{printed_room}
@@ -14,10 +15,12 @@ pub record ReadingRoom : Type 0 where
   pub lines : ℕ
   pub bytes : ℕ
 
--- the state between two lines, and the room
+-- the state between two lines, the room for reading, and that for encoding, with how many lines have room in front of an epoch's rows
 pub record HeldColumns : Type 0 where
   pub state : ColumnsState
   pub room : ReadingRoom
+  pub encoding : EncodingRoom
+  pub front : ℕ
 
 -- each row's satellite is known, and has room for the row's types
 abbrev pub HaveCellsRoom : List RowTail → List (List ℕ × ℕ) → Type 0

@@ -14,7 +14,9 @@ ghost use Rattle.crx_compact.specs.ReadBlocks.{HasReadTo, IsReading};
 ghost use Rattle.crx_base.specs.declared.limits.TheConstants.{LINE_LIMIT};
 ghost use Rattle.crx_header.specs.meaning.EpochColumns.{begins_epoch, is_event_line};
 ghost use Rattle.crx_compact.specs.OpenLines.{IsLineTaken, IsSoundState, step_at};
+ghost use Rattle.crx_compact.specs.EncodingRooms.{HasRoomForEpoch};
 ghost use Rattle.crx_compact.specs.EpochLinesRead.{history_cleared};
+ghost use Rattle.crx_compact.specs.declared.lines.TheConstants.{FIRST_LINES};
 ghost use Rattle.crx_compact.specs.Placing.{IsBetween, KeepsRooms, tail_of_history};
 ghost use Rattle.crx_compact.specs.ReadingRooms.{HasRoomFor, KeepsHistoryRoom, KeepsRoom};
 ghost use Rattle.crx_compact.specs.OpenEpochs.{OpenRawEpoch, Going, awaits_row, is_faulty, is_idle, makes_epoch, tail_held, first_step, step_in, tail_for_line, Faulty, HasMade, HasPrintedLines};
@@ -65,6 +67,7 @@ pub struct Columns {
 }
 
 impl Model for Columns {
+    ghost use Rattle.crx_compact.specs.EncodingRooms.{encoding_room};
     ghost use Rattle.crx_compact.specs.OpenLines.{columns_state, reading_room, IsSoundBlock, IsSoundState};
     ghost use Rattle.crx_compact.specs.ReadingRooms.{HeldColumns};
 
@@ -73,6 +76,8 @@ impl Model for Columns {
     ghost view = { λ columns. record {
       state = columns_state columns.is_kept columns.stage columns.count columns.history;
       room = reading_room columns.history columns.block;
+      encoding = encoding_room columns.history columns.lines;
+      front = columns.lines.reserved;
     } };
 
     // Where an epoch is open, a line is awaited.
@@ -129,6 +134,8 @@ impl Columns {
             ≡ Idle (Some (tail_after (tail_written_after full (tail_held self.old.state)) epoch))) }
         ensures refused { IfErr result (λ refused. (refused.0 ≡ epoch) × (refused.1 ≡ Fault.OutOfMemory)) }
         ensures err { OnErr result (self.new.state ≡ self.old.state) }
+        // Where there is room for all that the epoch's lines need, the answer isn't for want of memory.
+        ensures known { HasRoomForEpoch epoch self.old.encoding → self.old.front ≡ FIRST_LINES → IsOk result }
         // After any epochs at all, the lines are those of their compact text, and the columns have their tail.
         ensures left { (epochs : List Marked) → tail_held self.old.state ≡ tail_or_nothing epochs
             → OnOk result (self.new.state ≡ Idle
@@ -312,7 +319,7 @@ impl Columns {
     /// Takes an epoch and its lines back: their memory serves the epochs after it.
     pub fn take_back(&mut self, coded: Coded) -> Epoch
         ensures epoch { result ≡ coded.epoch }
-        ensures same { self.new ≡ self.old }
+        ensures same { (self.new.state ≡ self.old.state) × (self.new.room ≡ self.old.room) }
     {
         self.lines = coded.lines;
         coded.epoch

@@ -7,8 +7,8 @@ ghost use Rattle.std.specs.Borrow.{sem};
 ghost use Rattle.std.specs.Io.BufRead.{Rests};
 ghost use Rattle.std.specs.Option.{option_copied};
 ghost use Rattle.crx_compact.specs.contracts.lines.Lines.{the_row};
-ghost use Rattle.crx_compact.specs.LineLists.{HasTakenLine, cleared, lines_text};
-ghost use Rattle.crx_compact.specs.Placing.{HasRoom, KeepsRest, room_of_types, row_of_parts};
+ghost use Rattle.crx_compact.specs.LineLists.{HasMoreRoom, HasSameRoom, HasTakenLine, cleared, lines_text};
+ghost use Rattle.crx_compact.specs.Placing.{HasRoom, KeepsRooms, room_of_types, row_of_parts};
 ghost use Rattle.crx_compact.specs.PrintedBlocks.{printed_room};
 ghost use Rattle.crx_compact.specs.ShownRows.{shown_row};
 ghost use Rattle.crx_compact.specs.Steps.{row_line_after, row_tail_after};
@@ -128,21 +128,9 @@ impl Lines {
     /// Asks for room for so many lines more, and for so many bytes, in which each line has one more than its length. The lines stay.
     #[inline(always)]
     pub(crate) fn make_room(&mut self, lines: usize, bytes: usize) -> Result<(), AllocError>
-        ensures lines { self.new.lines ≡ self.old.lines }
+        ensures grown { HasMoreRoom self.old self.new }
         ensures free_lines { OnOk result (lines ≤ self.new.free_lines) }
         ensures free_bytes { OnOk result (bytes ≤ self.new.free_bytes) }
-        ensures more_lines { self.old.free_lines ≤ self.new.free_lines }
-        ensures more_bytes { self.old.free_bytes ≤ self.new.free_bytes }
-        ensures all_lines { self.old.all_lines ≤ self.new.all_lines }
-        ensures all_bytes { self.old.all_bytes ≤ self.new.all_bytes }
-        ensures among_lines { self.new.free_lines ≤ self.new.all_lines }
-        ensures among_bytes { self.new.free_bytes ≤ self.new.all_bytes }
-        ensures grown_lines { self.new.free_lines + self.old.all_lines
-            ≡ self.old.free_lines + self.new.all_lines }
-        ensures grown_bytes { self.new.free_bytes + self.old.all_bytes
-            ≡ self.old.free_bytes + self.new.all_bytes }
-        ensures front { self.new.front ≡ self.old.front }
-        ensures reserved { self.new.reserved ≡ self.old.reserved }
         ensures known { lines ≤ self.old.free_lines → bytes ≤ self.old.free_bytes → IsOk result }
     {
         let filled = self.filled.saturating_add(bytes);

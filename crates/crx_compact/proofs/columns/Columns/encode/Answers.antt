@@ -1,15 +1,17 @@
-use Rattle.std.proofs.Common.{◌≡◌, ℕ, Bool, true, false, not, Some, None, if◌then◌else◌, refl, sym, ap, ◌∙◌}
+use Rattle.std.proofs.Common.{◌≡◌, ℕ, Bool, true, false, not, Some, None, if◌then◌else◌, refl, subst, sym, ap, ◌∙◌}
+use Rattle.std.proofs.lemmas.Bool.{false≢true}
 use Rattle.crx_compact.specs.OpenEpochs.{ColumnsState, is_idle, tail_held}
 use Rattle.crx_compact.specs.OpenEpochs.ColumnsState.{Idle}
 use Rattle.crx_compact.specs.Coded.{CodedEpoch}
+use Rattle.crx_compact.specs.EncodingRooms.{HasRoomForEpoch}
 use Rattle.crx_compact.specs.LineLists.{PendingLines}
 use Rattle.crx_compact.specs.OpenLines.{columns_state}
 use Rattle.crx_compact.specs.Placing.{OpenHistory, tail_of_history}
 use Rattle.crx_compact.specs.Steps.{lines_after_tail, no_tail, tail_after, tail_written_after}
 use Rattle.crx_compact.specs.Tails.{Tail}
 use Rattle.crx_compact.specs.declared.columns.Stage.{Stage}
-use Rattle.crx_compact.specs.declared.columns.Stage.TheVariants.{Unbegun, Clock, Rows}
 use Rattle.crx_compact.specs.ReadingRooms.{HeldColumns}
+use Rattle.crx_compact.proofs.reading.Stages.{stage-idle, tail-idle}
 use Rattle.crx_compact.proofs.wayback.Encoding.{lines-coded, tail-coded}
 use Rattle.crx_compact.proofs.columns.Columns.encode.Goals.{then-full, else-full}
 use Rattle.crx_compact.proofs.columns.Columns.encode.Goals as goal
@@ -28,22 +30,9 @@ written-after : (full is_kept in_full : Bool) (stage : Stage) (count : ℕ) (his
     → columns_state is_kept stage count history ≡ state → is_idle state ≡ true
     → in_full ≡ (if full then true else not is_kept)
     → (if in_full then no_tail else tail_of_history history) ≡ tail_written_after full (tail_held state)
-written-after full is_kept in_full Unbegun count history state is idle means =
-    ap (λ b. if b then no_tail else tail_of_history history) means
-    ∙ in-full full is_kept (tail_of_history history)
-    ∙ ap (λ s. tail_written_after full (tail_held s)) is
-written-after full is_kept in_full Clock count history state is idle means =
-    absurd (cc (ap is_idle is, idle))
-written-after full is_kept in_full Rows count history state is idle means =
-    absurd (cc (ap is_idle is, idle))
-
--- columns in which no epoch is open stay so
-still-idle : (is_kept : Bool) (stage : Stage) (count : ℕ) (old new : OpenHistory) (state : ColumnsState)
-    → columns_state is_kept stage count old ≡ state → is_idle state ≡ true
-    → columns_state true stage count new ≡ Idle (Some (tail_of_history new))
-still-idle is_kept Unbegun count old new state is idle = refl
-still-idle is_kept Clock count old new state is idle = absurd (cc (ap is_idle is, idle))
-still-idle is_kept Rows count old new state is idle = absurd (cc (ap is_idle is, idle))
+written-after full is_kept in_full stage count history state is idle means =
+    ap (λ b. if b then no_tail else tail_of_history history) means ∙ in-full full is_kept (tail_of_history history)
+    ∙ ap (tail_written_after full) (sym (tail-idle is_kept stage count history state is idle))
 
 asked-for : (full in_full other : Bool) → in_full ≡ full → full ≡ true
     → in_full ≡ (if full then true else other)
@@ -72,9 +61,9 @@ returns-in-Ok-clause-coded c =
 
 pub returns-in-Ok-clause-kept : goal.returns-in-Ok-clause-kept
 returns-in-Ok-clause-kept c =
-    still-idle c.self.inside.is_kept c.self.inside.stage c.self.inside.count c.self.inside.history
-    c.encode.new.self c.args.self.now.state (ap (λ
-    (held : HeldColumns). held.state) c.self.view_is) c.requires.idle
+    ap (λ (s : Stage). columns_state true s c.self.inside.count c.encode.new.self)
+    (stage-idle c.self.inside.is_kept c.self.inside.stage c.self.inside.count c.self.inside.history
+    c.args.self.now.state (ap (λ (held : HeldColumns). held.state) c.self.view_is) c.requires.idle)
     ∙ ap (λ t. Idle (Some t)) (c.in-Ok.ensures.written.tail ∙ ap (λ t. tail_after t c.args.epoch) (after c))
 
 pub returns-in-Ok-clause-left : goal.returns-in-Ok-clause-left
@@ -86,3 +75,9 @@ pub returns-in-Ok-clause-lines : goal.returns-in-Ok-clause-lines
 returns-in-Ok-clause-lines c = λ epochs h.
     ap (λ (q : CodedEpoch). q.lines) (returns-in-Ok-clause-coded c)
     ∙ lines-coded c.args.full c.args.epoch (tail_held c.args.self.now.state) epochs c.is_full.ensures.sound h
+
+pub returns-in-Err-clause-known : goal.returns-in-Err-clause-known
+returns-in-Err-clause-known c = λ has front.
+    absurd (false≢true (c.in-Err.ensures.known
+    (subst (HasRoomForEpoch c.args.epoch) (sym (ap (λ (held : HeldColumns). held.encoding) c.self.view_is)) has)
+    (sym (ap (λ (held : HeldColumns). held.front) c.self.view_is ∙ front))))

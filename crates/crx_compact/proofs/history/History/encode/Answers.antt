@@ -42,14 +42,14 @@ loop-row-init c =
     let text = ap length c.begin_rows.ensures.texts.next_text in
     record {
       written = subst (AreRowsWritten _ [] c.begin_rows.new.self)
-          (sym (c.make_room.ensures.lines ∙ c.reserve_front.ensures.emptied))
+          (sym (c.make_room.ensures.grown.lines ∙ c.reserve_front.ensures.emptied))
           (subst (λ (t : Tail). AreRowsWritten (if c.args.in_full then no_tail else t) [] c.begin_rows.new.self [])
           same c.begin_rows.ensures.begun);
       room = subst (HaveRoom c.args.epoch.now.rows) (sym c.begin_rows.ensures.rooms) c.in_ok-room.ensures.room;
       free_lines = omega (arith, lines, many);
       free_bytes = omega (arith, bytes, sized);
       text = omega (arith, long, first, text);
-      front = c.make_room.ensures.front ∙ c.in_ok-reserve_front.ensures.front;
+      front = c.make_room.ensures.grown.front ∙ c.in_ok-reserve_front.ensures.front;
     }
 
 pub unwrap-requires : goal.unwrap-requires

@@ -56,8 +56,8 @@ pub returns-in_err-make_room-clause-kept : goal.returns-in_err-make_room-clause-
 returns-in_err-make_room-clause-kept c = record {
   rooms = rooms (goal.at.returns-in_err-make_room-clause-kept c).After-place_or_add;
   text = texts (goal.at.returns-in_err-make_room-clause-kept c).After-place_or_add;
-  lines = c.make_room.ensures.all_lines;
-  bytes = c.make_room.ensures.all_bytes;
+  lines = c.make_room.ensures.grown.all_lines;
+  bytes = c.make_room.ensures.grown.all_bytes;
 }
 
 pub put_row-requires-clause-sound : goal.put_row-requires-clause-sound
@@ -97,19 +97,49 @@ returns-clause-written c = λ after rows written.
     let parts : row_of_parts kept.name values flags ≡ row =
     ap (λ (n : List ℕ). row_of_parts n values flags) last.named in
     let same = ap (λ (h : OpenHistory). h.satellites) c.self.view_is in
-    written-next after rows row c.args.self.now _ c.place_or_add.new.self c.args.lines.now.lines
-    c.put_row.new.self.lines placed same written c.requires.sound
-    (no-row after rows c.args.self.now c.args.lines.now.lines placed name c.in_ok-place_or_add.field-0 same
-    c.in_ok-place_or_add.ensures.ok.answer c.if-not-branch.false written) come
-    (c.put_row.ensures.after kept last.there
-    ∙ last.put (row_tail_after (Some kept) (row_of_parts kept.name values flags))
-    ∙ ap (λ (r : Row). placed.rows ++ row_tail_after (Some kept) r ∷ []) parts)
-    c.put_row.ensures.kept.rest
-    (c.put_row.ensures.lines kept last.there
-    ∙ (λ j. c.make_room.ensures.lines j ++ row_line_after (Some kept) (parts j) ∷ []))
-    (ap (λ (h : OpenHistory). h.text) c.self.view_is) (ap (λ (h : OpenHistory). h.clock) c.self.view_is)
+    record {
+      answer = sym c.if-not-branch.false ∙ answer (goal.at.returns-clause-written c).In_ok-place_or_add after rows written;
+      written = λ is.
+          written-next after rows row c.args.self.now _ c.place_or_add.new.self c.args.lines.now.lines
+          c.put_row.new.self.lines placed same written c.requires.sound
+          (no-row after rows c.args.self.now c.args.lines.now.lines placed name c.in_ok-place_or_add.field-0 same
+          c.in_ok-place_or_add.ensures.answer c.if-not-branch.false written) come
+          (c.put_row.ensures.after kept last.there
+          ∙ last.put (row_tail_after (Some kept) (row_of_parts kept.name values flags))
+          ∙ ap (λ (r : Row). placed.rows ++ row_tail_after (Some kept) r ∷ []) parts)
+          c.put_row.ensures.rest
+          (c.put_row.ensures.lines kept last.there
+          ∙ (λ j. c.make_room.ensures.grown.lines j ++ row_line_after (Some kept) (parts j) ∷ []))
+          (ap (λ (h : OpenHistory). h.text) c.self.view_is) (ap (λ (h : OpenHistory). h.clock) c.self.view_is);
+    }
 
-pub returns-clause-room : goal.returns-clause-room
-returns-clause-room c = λ is.
-    c.put_row.ensures.kept.rooms c.args.name (length c.args.values.now)
-    (c.in_ok-place_or_add.ensures.ok.room c.if-not-branch.false)
+pub returns-clause-taken : goal.returns-clause-taken
+returns-clause-taken c = λ is.
+    let lines = c.make_room.ensures.grown.grown_lines in
+    let bytes = c.make_room.ensures.grown.grown_bytes in
+    let asked = c.in_ok-make_room.ensures.free_bytes in
+    let put = c.put_row.ensures.taken in
+    let one = put.free_lines in
+    let some = c.put_row.ensures.free_bytes in
+    let all_lines = put.all_lines in
+    let all_bytes = put.all_bytes in
+    record {
+      satellite = c.put_row.ensures.rooms c.args.name (length c.args.values.now)
+          (c.in_ok-place_or_add.ensures.room c.if-not-branch.false);
+      lines = omega (arith, lines, one, all_lines);
+      bytes = omega (arith, bytes, some, all_bytes);
+      asked = omega (arith, bytes, asked, all_bytes);
+    }
+
+pub returns-clause-kept : goal.returns-clause-kept
+returns-clause-kept c =
+    let lines = c.make_room.ensures.grown.all_lines in
+    let bytes = c.make_room.ensures.grown.all_bytes in
+    let all_lines = c.put_row.ensures.taken.all_lines in
+    let all_bytes = c.put_row.ensures.taken.all_bytes in
+    record {
+      rooms = λ name count has. c.put_row.ensures.rooms name count (rooms (goal.at.returns-clause-kept c).After-place_or_add name count has);
+      text = texts (goal.at.returns-clause-kept c).After-place_or_add;
+      lines = omega (arith, lines, all_lines);
+      bytes = omega (arith, bytes, all_bytes);
+    }
