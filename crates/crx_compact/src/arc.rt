@@ -86,34 +86,6 @@ fn go_on(differences: &mut [i64], order: usize, value: i64) -> i64
     highest
 }
 
-/// The differences of order 1, 2 and 3 at a next value, by those at the value before it.
-#[inline(always)]
-fn third_of(differences: &[i64], value: i64) -> (i64, i64, i64)
-    requires within { 3 < length differences.now }
-    requires below { AreBelow value_bound (take 3 differences.now) }
-    requires next { IsBelow value_bound value }
-    ensures { value ∷ result.0 ∷ result.1 ∷ result.2 ∷ [] ≡ differences_after value (take 3 differences.now) }
-{
-    let first = value - differences[0];
-    let second = first - differences[1];
-    let third = second - differences[2];
-    (first, second, third)
-}
-
-/// The differences of order 0, 1 and 2 after some others, by the next one of order 3.
-#[inline(always)]
-fn sums_from_third(differences: &[i64], number: i64) -> (i64, i64, i64)
-    requires within { 3 < length differences.now }
-    requires below { AreBelow value_bound (take 3 differences.now) }
-    requires short { IsBelow (10 ^ DIGITS_LIMIT) number }
-    ensures { result.0 ∷ result.1 ∷ result.2 ∷ number ∷ [] ≡ differences_by number (take 3 differences.now) }
-{
-    let second = differences[2] + number;
-    let first = differences[1] + second;
-    let value = differences[0] + first;
-    (value, first, second)
-}
-
 /// Puts the differences of order 0 to 3 in place of others.
 #[inline(always)]
 fn put_four(differences: &mut [i64], value: i64, first: i64, second: i64, third: i64)
@@ -210,7 +182,9 @@ impl<const WIDTH: usize> Arc<WIDTH> {
         if !is_third(self.order, self.count) {
             return None;
         }
-        let (first, second, third) = third_of(&self.differences, value);
+        let first = value - self.differences[0];
+        let second = first - self.differences[1];
+        let third = second - self.differences[2];
         put_four(&mut self.differences, value, first, second, third);
         Some(third)
     }
@@ -276,7 +250,9 @@ impl<const WIDTH: usize> Arc<WIDTH> {
         if !is_third(self.order, self.count) {
             return None;
         }
-        let (value, first, second) = sums_from_third(&self.differences, number);
+        let second = self.differences[2] + number;
+        let first = self.differences[1] + second;
+        let value = self.differences[0] + first;
         if !is_within(WIDTH, value) {
             return None;
         }

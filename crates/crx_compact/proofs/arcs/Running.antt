@@ -237,15 +237,6 @@ set-four (d ∷ e ∷ []) v a b c h = absurd (omega (arith, h))
 set-four (d ∷ e ∷ f ∷ []) v a b c h = absurd (omega (arith, h))
 set-four (d ∷ e ∷ f ∷ g ∷ ds) v a b c h = refl
 
--- the same by the numbers that their bits stand for
-pub four-put : (ds : List ℤ) (v a b c : ℤ)
-    → FitsSigned w64 v → FitsSigned w64 a → FitsSigned w64 b → FitsSigned w64 c
-    → take 4 ds ≡ to_z w64 (of_z w64 v) ∷ to_z w64 (of_z w64 a) ∷ to_z w64 (of_z w64 b) ∷ to_z w64
-    (of_z w64 c) ∷ []
-    → take 4 ds ≡ v ∷ a ∷ b ∷ c ∷ []
-four-put ds v a b c fv fa fb fc put =
-    rw (same-bits v fv, same-bits a fa, same-bits b fb, same-bits c fc) at put
-
 pub after-three : (ds : List ℤ) (value : ℤ) → 3 < length ds
     → differences_after value (take 3 ds) ≡ value
     ∷ (value -ℤ slice_index_or ds 0 (pos 0)) ∷
@@ -382,6 +373,26 @@ lower-below order count last ds e h =
     let P : List ℤ → Type 0 = λ xs. AreBelow value_bound xs in
     subst P (lower-taken order count last ds e) (take-below value_bound order (take count ds) h)
 
+-- the same of an arc of order 3 that has all of its differences
+module _ (width order count : ℕ) (ds : List ℤ) (third : (order ≡ 3) × (count ≡ 4))
+    (kept : IsArcInRange width order count (take count ds)) (long : length ds ≡ 10) where
+  pub third-last : IsLast order count 3
+  third-last = record { least = omega (arith, third.0, third.1) }
+
+  pub to-third-kept : (value : ℤ) → IsWithin width value → ToThird value ds
+  to-third-kept value h =
+      to-third value ds (omega (arith, long)) (within-below width value kept.few_columns h)
+      (lower-below order count 3 ds third-last kept.below)
+
+  pub onto-third-kept : (number : ℤ) → IsShort number → OntoThird number ds
+  onto-third-kept number h =
+      onto-third number ds (omega (arith, long)) (short-below number h)
+      (lower-below order count 3 ds third-last kept.below)
+    where
+      short-below : (n : ℤ) → IsShort n → IsBelow (10 ^ 18) n
+      short-below (pos n) s = record { low = omega (arith, ints); high = omega (arith, ints, s) }
+      short-below (negsuc n) s = record { low = omega (arith, ints, s); high = omega (arith, ints) }
+
 some-kept : (order : ℕ) (value : ℤ) (ds : List ℤ) → Some
     (record { order = order; differences = differences_after value ds })
     ≡ kept_tail order (differences_after value ds)
@@ -491,6 +502,11 @@ stepped width order count last number value ds e h l v f =
     steps-on width order count last number value ds (record { least = e }) h (omega arith)
     (v ∙ ap (λ x. newest (differences_by x (take last ds))) (same-bits number f))
 
+-- what a value that is tested gives
+pub in-range-by : (width : ℕ) (value : ℤ) (b : Bool) → b ≡ is_within width value
+    → (if b then Ok (Some value) else Err OutOfRange) ≡ in_range width value
+in-range-by width value b e = ap {B = Result (Option ℤ) Fault} (λ t. if t then Ok (Some value) else Err OutOfRange) e
+
 -- a value that the code's test lets through
 pub accepted : (width : ℕ) (value : ℤ) (b : Bool)
     → b ≡ is_within width (to_z w64 (of_z w64 value)) → b ≡ true → FitsSigned w64 value
@@ -501,8 +517,7 @@ accepted width value b e h f = ap (is_within width) (sym (same-bits value f)) �
 pub refused : (width : ℕ) (value : ℤ) (b : Bool) → b ≡ is_within width (to_z w64 (of_z w64 value))
     → b ≡ false → FitsSigned w64 value → Err OutOfRange ≡ in_range width value
 refused width value b e h f =
-    let out : is_within width value ≡ false = ap (is_within width) (sym (same-bits value f)) ∙ sym e ∙ h in
-    ap {B = Result (Option ℤ) Fault} (λ t. if t then Ok (Some value) else Err OutOfRange) (sym out)
+    in-range-by width value false (sym h ∙ e ∙ ap (is_within width) (same-bits value f))
 
 -- the highest difference at a next value in range is a number that a code may have
 highest-below : (k : ℕ) (ds : List ℤ) → length ds + k ≤ 10 → AreBelow (order_bound k) ds

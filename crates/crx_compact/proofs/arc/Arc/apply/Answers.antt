@@ -13,7 +13,7 @@ use Rattle.crx_compact.specs.meaning.ArcValues.{is_within, in_range}
 use Rattle.crx_compact.specs.ArcSteps.{arc_of_code, differences_after, value_of_code}
 use Rattle.crx_compact.specs.Arcs.{kept_tail}
 use Rattle.crx_compact.proofs.arcs.Bounds.{within-is}
-use Rattle.crx_compact.proofs.arcs.Running.{StepsOn, accepted as is-accepted, refused}
+use Rattle.crx_compact.proofs.arcs.Running.{StepsOn, in-range-by, accepted as is-accepted, refused}
 use Rattle.crx_compact.proofs.arcs.Running.{stepped, same-bits, begun-list, begun-kept}
 use Rattle.crx_compact.proofs.arcs.Running.{lower-below, within-below, goes-on-kept}
 use Rattle.crx_compact.proofs.arc.Arc.apply.Goals as goal
@@ -88,8 +88,7 @@ returns-else-not-is_within-2-clause-value g c =
     let is : is_within g.row.WIDTH c.value_after-value.result ≡ true =
     is-accepted g.row.WIDTH _ _ c.is_within-in-Step.ensures c.if-not-is_within-2.false fits' in
     let given : Ok (Some c.value_after-value.result) ≡ in_range g.row.WIDTH c.value_after-value.result =
-    ap {B = Result (Option ℤ) Fault}
-    (λ t. if t then Ok (Some c.value_after-value.result) else Err OutOfRange) (sym is) in
+    in-range-by _ _ true (sym is) in
     rw (c.in-Step.is, ← c.self.view_is, same-bits _ fits') (given ∙ on.value_is)
 
 pub returns-else-not-is_within-2-clause-ok : goal.returns-else-not-is_within-2-clause-ok
