@@ -39,7 +39,7 @@ IsSoundBlock Clock count block history =
 IsSoundBlock Rows count block history =
     (block.rows ≤ count) × IsBlock block.has_head block.rows block.lines history
 
--- what a line makes by how far the lines have come: of the epochs before, it matters only where none is open that this is no epoch
+-- what a line makes by how far the lines of the epoch have come; whether epochs came before doesn't matter to it
 abbrev pub step_at : Stage → ℕ → OpenHistory → ReadLine → RawStep
 step_at stage count history line = step_in (columns_state true stage count history) line
 

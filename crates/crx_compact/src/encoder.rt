@@ -50,8 +50,10 @@ pub struct Encoder {
     /// Whether the open epoch was asked for in full; it is in full also where nothing is kept.
     in_full: bool,
     turn: Turn,
+    /// The second line of compact text.
     program: Box<Text>,
     copied: CopiedLine,
+    /// The compact lines of an epoch.
     made: Lines,
     part: Box<Text>,
     /// The tail of the epochs before the open one, whose rows change the history in place.
