@@ -1,16 +1,9 @@
 -- Texts and identifiers by their characters.
-use Rattle.std.specs.Prelude.{◌≡◌, refl, ℕ, zero, suc, ◌<◌, ◌≤◌, ◌⊎◌, List, [], ◌∷◌, take, Bool, true, false}
-use Rattle.std.specs.Prelude.{◌++◌}
-use Rattle.std.specs.Prelude.{Option, Some, None, if◌then◌else◌, ◌&&◌, nat_eq, ◌||◌, ◌==◌, length}
-use Rattle.std.proofs.Common.{arith, inl, inr, not-suc-le-zero, le_of_suc-le-suc, sym, ◌∙◌, ap}
-use Rattle.crx_text.proofs.Characters.{at}
-use Rattle.std.specs.List.{list_all}
-use Rattle.std.proofs.lemmas.Bool.{and_parts, and_from}
-use Rattle.crx_text.specs.meaning.Columns.{before_end_blanks, without_end_blanks}
-use Rattle.crx_text.specs.meaning.Texts.{by_position, is_kept}
-use Rattle.std.specs.Str.{bytes_eq}
-use Rattle.std.specs.Char.{is_ascii_digit}
-use Rattle.crx_header.specs.meaning.ObservationTypes.{is_system}
+use Rattle.crx_compact.proofs.Words.{◌≡◌, refl, ℕ, zero, suc, ◌<◌, ◌≤◌, ◌⊎◌, List, [], ◌∷◌, take, Bool, true}
+use Rattle.crx_compact.proofs.Words.{false, ◌++◌, Option, Some, None, if◌then◌else◌, ◌&&◌, nat_eq, ◌||◌, ◌==◌}
+use Rattle.crx_compact.proofs.Words.{length, arith, inl, inr, not-suc-le-zero, le_of_suc-le-suc, sym, ◌∙◌, ap}
+use Rattle.crx_compact.proofs.Words.{at, list_all, and_parts, and_from, before_end_blanks, without_end_blanks}
+use Rattle.crx_compact.proofs.Words.{by_position, is_kept, bytes_eq, is_ascii_digit, is_system}
 use Rattle.crx_header.specs.meaning.Satellites.{is_identifier}
 
 pub at-take_past : (n : ℕ) (text : List ℕ) (p : ℕ) → n ≤ p → at (take n text) p ≡ 32

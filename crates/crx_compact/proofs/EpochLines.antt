@@ -1,33 +1,18 @@
 -- An epoch line that was read: its satellites are as many as it announces, and no two of one identifier.
-use Rattle.std.specs.Prelude.{◌≡◌, refl, ℕ, ◌+◌, ◌*◌, Bool, true, false, not, List, [], ◌∷◌, map, drop}
-use Rattle.std.specs.Prelude.{Option, Some}
-use Rattle.std.specs.Prelude.{None, Result, Ok, Err, length}
-use Rattle.std.specs.List.{list_all, list_any, AllByRecursion}
-use Rattle.std.specs.Str.{bytes_eq}
-use Rattle.std.proofs.Common.{ap, subst, sym, ◌∙◌}
-use Rattle.std.proofs.lemmas.Bool.{and_from}
-use Rattle.crx_text.specs.meaning.Columns.{is_blank, columns}
-use Rattle.crx_header.specs.meaning.ObservationTypes.{Count}
-use Rattle.crx_header.specs.meaning.Satellites.{is_among, are_apart, types_of_satellite}
-use Rattle.crx_base.specs.declared.fault.Fault.{Fault}
-use Rattle.crx_base.specs.declared.fault.Fault.TheVariants.{BadEpoch, BadSatellite, RepeatedSatellite}
-use Rattle.crx_compact.specs.meaning.Sequences.{before_all}
-use Rattle.crx_header.specs.meaning.EpochColumns.{epoch_count}
-use Rattle.crx_header.specs.meaning.InOrder.{◌otherwise◌next◌, ◌or_else◌with◌}
-use Rattle.crx_base.specs.meaning.Lines.{is_printable}
-use Rattle.crx_compact.specs.meaning.EpochText.{names_in, Satellite, satellite_before, satellites_named}
-use Rattle.crx_compact.specs.meaning.Past.{Past}
-use Rattle.crx_compact.specs.meaning.CompactPlaces.{satellites_of_text, satellites_of_line}
+use Rattle.crx_compact.proofs.Words.{◌≡◌, refl, ℕ, ◌+◌, ◌*◌, Bool, true, false, not, List, [], ◌∷◌, map, drop}
+use Rattle.crx_compact.proofs.Words.{Option, Some, None, Result, Ok, Err, length, list_all, AllByRecursion}
+use Rattle.crx_compact.proofs.Words.{bytes_eq, ap, subst, sym, ◌∙◌, and_from, is_blank, columns, Count}
+use Rattle.crx_compact.proofs.Words.{is_among, are_apart, types_of_satellite, Fault, BadEpoch, BadSatellite}
+use Rattle.crx_compact.proofs.Words.{RepeatedSatellite, before_all, epoch_count, ◌otherwise◌next◌}
+use Rattle.crx_compact.proofs.Words.{is_printable, names_in, Satellite, satellites_named, Past}
+use Rattle.crx_compact.proofs.Words.{satellites_of_text, satellites_of_line, length-map, apart-map, Tail}
+use Rattle.crx_compact.proofs.Words.{past_of_tail, AreAnnounced, length-each_place, patched, HEAD_WIDTH}
+use Rattle.crx_compact.proofs.Words.{NAME_WIDTH}
+use Rattle.std.specs.List.{list_any}
+use Rattle.crx_header.specs.meaning.InOrder.{◌or_else◌with◌}
+use Rattle.crx_compact.specs.meaning.EpochText.{satellite_before}
 use Rattle.crx_compact.proofs.Identifiers.{AreNew, new-before, not-among}
 use Rattle.crx_compact.proofs.Results.{no-err, ok-same, Follows, if-err, if-true, if-false, before-ok}
-use Rattle.std.proofs.lemmas.List.{length-map}
-use Rattle.crx_header.proofs.Apart.{apart-map}
-use Rattle.crx_compact.specs.Tails.{Tail}
-use Rattle.crx_compact.specs.HeldRows.{past_of_tail}
-use Rattle.crx_compact.specs.RowsSoFar.{AreAnnounced}
-use Rattle.crx_text.proofs.EachPlace.{length-each_place}
-use Rattle.crx_text.specs.Texts.{patched}
-use Rattle.crx_base.specs.declared.limits.TheConstants.{HEAD_WIDTH, NAME_WIDTH}
 
 -- whether no identifier is there twice
 abbrev pub differ : List (List ℕ) → Bool

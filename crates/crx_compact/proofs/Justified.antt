@@ -1,9 +1,7 @@
 -- Texts in columns, with blanks after them.
-use Rattle.std.proofs.Common.{ℕ, ◌≡◌, ◌+◌, ◌-◌, ◌≤◌, List, [], ◌∷◌, ◌++◌, length, take, replicate, ap, sym}
-use Rattle.std.proofs.Common.{◌∙◌, arith}
-use Rattle.std.proofs.Common.{suc, zero}
+use Rattle.crx_compact.proofs.Words.{ℕ, ◌≡◌, ◌+◌, ◌-◌, ◌≤◌, List, [], ◌∷◌, ◌++◌, length, take, replicate, ap}
+use Rattle.crx_compact.proofs.Words.{sym, ◌∙◌, arith, suc, zero, left_justified}
 use Rattle.std.proofs.lemmas.List.{take-replicate}
-use Rattle.crx_header.specs.meaning.CompactHeader.{left_justified}
 
 sub-zero-width : (width : ℕ) → width - 0 ≡ width
 sub-zero-width width = omega arith

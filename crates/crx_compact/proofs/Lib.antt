@@ -1,3 +1,4 @@
+pub mod Words
 pub mod arcs
 pub mod CellsRead
 pub mod PlaceByPlace

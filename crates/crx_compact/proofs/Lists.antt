@@ -1,8 +1,6 @@
 -- Lists whose items all have a property, and what is at a place of a list.
-use Rattle.std.specs.Prelude.{◌≡◌, ◌<◌, refl, ℕ, zero, suc, List, [], ◌∷◌, get_or, length, map, slice_get}
-use Rattle.std.specs.Prelude.{take, Some}
-use Rattle.std.proofs.Common.{arith}
-use Rattle.std.specs.List.{AllByRecursion}
+use Rattle.crx_compact.proofs.Words.{◌≡◌, ◌<◌, refl, ℕ, zero, suc, List, [], ◌∷◌, get_or, length, map}
+use Rattle.crx_compact.proofs.Words.{slice_get, take, Some, arith, AllByRecursion}
 
 -- two functions that agree on each of some things map them to the same
 pub mapped-same : {X Y : Type 0} {P : X → Type 0} (f g : X → Y)

@@ -1,10 +1,9 @@
 -- Items one by one, and the text that is made of them.
-use Rattle.std.specs.Prelude.{◌≡◌, refl, ℕ, zero, suc, ◌+◌, List, [], ◌∷◌, ◌++◌, take, flat_map, slice_get}
-use Rattle.std.specs.Prelude.{Some}
-use Rattle.std.specs.Prelude.{None, Result, Ok, Err, IsOk, IsErr}
-use Rattle.std.proofs.Common.{sym, ◌∙◌, ap, add-one}
+use Rattle.crx_compact.proofs.Words.{◌≡◌, refl, ℕ, zero, suc, ◌+◌, List, [], ◌∷◌, ◌++◌, take, slice_get, Some}
+use Rattle.crx_compact.proofs.Words.{None, Result, Ok, Err, sym, ◌∙◌, ap, add-one, same_Some}
+use Rattle.std.specs.Prelude.{flat_map}
+use Rattle.std.specs.Prelude.{IsOk, IsErr}
 use Rattle.std.proofs.lemmas.List.{flat_map_more}
-use Rattle.std.proofs.lemmas.Option.{same_Some}
 
 -- a result that is no Err is an Ok
 pub ok-unless : {X E : Type 0} (r : Result X E) → (IsErr r → ⊥) → IsOk r

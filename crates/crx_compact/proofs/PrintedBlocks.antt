@@ -1,20 +1,12 @@
 -- The printed lines of an open epoch grow row by row, and stay its lines while the others are read.
-use Rattle.std.specs.Prelude.{◌≡◌, ◌≤◌, ◌+◌, ◌*◌, ◌++◌, ◌∷◌, [], refl, ℕ, zero, suc, List, Bool, true}
-use Rattle.std.specs.Prelude.{false, Some}
-use Rattle.std.specs.Prelude.{length, map, sum, take, drop, slice_get, slice_set, Option}
-use Rattle.std.proofs.Common.{sym, ◌∙◌, ap, subst, arith}
-use Rattle.std.proofs.lemmas.List.{length-set, take-set-le, take_all}
-use Rattle.std.proofs.lemmas.Option.{same_Some}
-use Rattle.crx_text.specs.meaning.Columns.{columns}
-use Rattle.crx_base.specs.declared.limits.TheConstants.{HEAD_WIDTH}
-use Rattle.crx_rinex.specs.meaning.Printing.{printed_epoch, printed_head, printed_row}
-use Rattle.crx_compact.specs.ArcSteps.{shown_value}
-use Rattle.crx_compact.specs.ArcTails.{ArcTail}
-use Rattle.crx_compact.specs.LineLists.{PendingLines}
-use Rattle.crx_compact.specs.Placing.{IsRowRead, OpenHistory, tail_of_history}
-use Rattle.crx_compact.specs.PrintedBlocks.{AreLinesTo, HasRoomForAll, IsBlock, printed_room}
-use Rattle.crx_compact.specs.ShownRows.{shown_epoch, shown_row}
-use Rattle.crx_compact.specs.Tails.{RowTail}
+use Rattle.crx_compact.proofs.Words.{◌≡◌, ◌≤◌, ◌+◌, ◌*◌, ◌++◌, ◌∷◌, [], refl, ℕ, zero, suc, List, Bool, true}
+use Rattle.crx_compact.proofs.Words.{false, Some, length, map, sum, take, drop, slice_get, slice_set, Option}
+use Rattle.crx_compact.proofs.Words.{sym, ◌∙◌, ap, subst, arith, length-set, take_all, same_Some, columns}
+use Rattle.crx_compact.proofs.Words.{HEAD_WIDTH, printed_epoch, printed_head, printed_row, shown_value}
+use Rattle.crx_compact.proofs.Words.{ArcTail, PendingLines, IsRowRead, OpenHistory, tail_of_history}
+use Rattle.crx_compact.proofs.Words.{AreLinesTo, IsBlock, printed_room, shown_epoch, shown_row, RowTail}
+use Rattle.std.proofs.lemmas.List.{take-set-le}
+use Rattle.crx_compact.specs.PrintedBlocks.{HasRoomForAll}
 use Rattle.crx_compact.proofs.RowByRow.{printed-next, sum-left}
 use Rattle.crx_compact.proofs.reading.StepsByCode.{printed-shown}
 

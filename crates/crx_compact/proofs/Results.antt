@@ -1,12 +1,10 @@
 -- Good results come from good results.
-use Rattle.std.specs.Prelude.{◌≡◌, refl, Bool, true, false, not, List}
-use Rattle.std.specs.Prelude.{◌∷◌, Result, Ok, Err, OnOk, OnErr, IfOk}
-use Rattle.std.specs.Prelude.{Option, None, Some, IfSome, is_some}
-use Rattle.std.specs.Prelude.{if◌then◌else◌}
-use Rattle.std.specs.Result.{is_err, is_ok}
-use Rattle.std.proofs.Common.{sym, ap, subst, true≢false}
-use Rattle.crx_base.specs.declared.fault.Fault.{Fault}
-use Rattle.crx_compact.specs.meaning.Sequences.{and_then, before_all}
+use Rattle.crx_compact.proofs.Words.{◌≡◌, refl, Bool, true, false, not, List, ◌∷◌, Result, Ok, Err, IfOk}
+use Rattle.crx_compact.proofs.Words.{Option, None, Some, IfSome, if◌then◌else◌, is_ok, sym, ap, subst}
+use Rattle.crx_compact.proofs.Words.{true≢false, Fault, and_then, before_all}
+use Rattle.std.specs.Prelude.{OnOk, OnErr}
+use Rattle.std.specs.Prelude.{is_some}
+use Rattle.std.specs.Result.{is_err}
 
 pub no-err : {X : Type 0} (f : Fault) (x : X) → Err f ≡ Ok x → ⊥
 no-err f x e = true≢false (sym (ap is_ok e))

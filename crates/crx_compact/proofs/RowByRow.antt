@@ -1,14 +1,11 @@
 -- Rows one by one: what holds of each, the sum of what each needs, and what is made of those up to an index.
-use Rattle.std.proofs.Common.{◌≡◌, ◌<◌, ◌+◌, ◌++◌, ◌∷◌, [], ℕ, zero, suc, List, Some, All, length, take, drop}
-use Rattle.std.proofs.Common.{map, sum, slice_get, refl, ap, sym, ◌∙◌, subst, arith, get_or}
-use Rattle.std.proofs.Common.{append_assoc, add-one}
-use Rattle.std.proofs.lemmas.List.{map-append}
-use Rattle.std.proofs.lemmas.List.Elements.{All-append}
+use Rattle.crx_compact.proofs.Words.{◌≡◌, ◌<◌, ◌+◌, ◌++◌, ◌∷◌, [], ℕ, zero, suc, List, Some, All, length}
+use Rattle.crx_compact.proofs.Words.{take, drop, map, sum, slice_get, refl, ap, sym, ◌∙◌, subst, arith}
+use Rattle.crx_compact.proofs.Words.{get_or, add-one, map-append, All-append, same_Some, slice_get_within}
+use Rattle.crx_compact.proofs.Words.{printed_row, shown_row, RowTail}
+use Rattle.std.proofs.Common.{append_assoc}
 use Rattle.std.proofs.lemmas.List.Sums.{sum-map, sum_by-append, sum_by-cons}
-use Rattle.std.proofs.lemmas.Option.{get_or_from_slice_get, same_Some, slice_get_within}
-use Rattle.crx_rinex.specs.meaning.Printing.{printed_row}
-use Rattle.crx_compact.specs.ShownRows.{shown_row}
-use Rattle.crx_compact.specs.Tails.{RowTail}
+use Rattle.std.proofs.lemmas.Option.{get_or_from_slice_get}
 use Rattle.crx_compact.proofs.Making.{taken_more}
 
 -- ---- what holds of each

@@ -1,33 +1,19 @@
 -- The epoch that a history shows, row by row.
-use Rattle.std.specs.Prelude.{◌≡◌, refl, ℕ, ◌<◌, List, [], length, take, Option, Some, None, Ok, unwrap_or, ℤ}
-use Rattle.std.specs.Prelude.{Bool}
-use Rattle.std.specs.Prelude.{true, false, ◌==◌, Result, Err, MatchResult, slice_get, is_some, ◌≤◌, suc, zero}
-use Rattle.std.specs.Prelude.{◌+◌, ◌∷◌}
-use Rattle.std.specs.Prelude.{map, slice_index_or}
-use Rattle.std.specs.Result.{is_ok}
-use Rattle.std.proofs.Common.{sym, ◌∙◌, ap, arith, true≢false, get_or}
-use Rattle.std.proofs.lemmas.Option.{slice_get_within, same_Some, slice_get-map}
-use Rattle.std.proofs.lemmas.List.{take_all, length-map, length-take-le, map-append, take-map, take-take}
-use Rattle.crx_base.specs.declared.fault.Fault.{Fault}
-use Rattle.crx_base.specs.declared.fault.Fault.TheVariants.{BadEpoch}
+use Rattle.crx_compact.proofs.Words.{◌≡◌, refl, ℕ, ◌<◌, List, [], length, take, Option, Some, None, Ok}
+use Rattle.crx_compact.proofs.Words.{unwrap_or, ℤ, Bool, true, false, ◌==◌, Result, Err, slice_get, ◌≤◌, suc}
+use Rattle.crx_compact.proofs.Words.{zero, ◌+◌, ◌∷◌, map, slice_index_or, is_ok, sym, ◌∙◌, ap, arith}
+use Rattle.crx_compact.proofs.Words.{true≢false, get_or, slice_get_within, same_Some, slice_get-map, take_all}
+use Rattle.crx_compact.proofs.Words.{length-map, length-take-le, map-append, take-map, take-take, Fault}
+use Rattle.crx_compact.proofs.Words.{BadEpoch, satellites_of, epoch_count, with_row, has_satellite, is_among}
+use Rattle.crx_compact.proofs.Words.{are_apart, Tail, RowTail, AreRowsSoFar, Row, Epoch, Satellite}
+use Rattle.crx_compact.proofs.Words.{option_map, map-map, columns, HEAD_WIDTH, shown_epoch, shown_row}
+use Rattle.crx_compact.proofs.Words.{shown_value}
+use Rattle.std.specs.Prelude.{MatchResult, is_some}
 use Rattle.crx_rinex.specs.meaning.EpochLines.{ObservationHead}
-use Rattle.crx_header.specs.meaning.EpochColumns.{satellites_of, epoch_count}
-use Rattle.crx_rinex.specs.Epochs.{begun, is_full_epoch, with_row}
-use Rattle.crx_rinex.specs.meaning.Epochs.{has_satellite}
-use Rattle.crx_header.specs.meaning.Satellites.{is_among, are_apart}
+use Rattle.crx_rinex.specs.Epochs.{begun, is_full_epoch}
 use Rattle.crx_header.proofs.Apart.{among-names, new_at}
-use Rattle.crx_compact.specs.Tails.{Tail, RowTail}
-use Rattle.crx_compact.specs.RowsSoFar.{AreRowsSoFar}
 use Rattle.crx_compact.proofs.Results.{ok-same, no-err}
-use Rattle.crx_rinex.specs.meaning.Observations.{Row, Epoch}
-use Rattle.crx_compact.specs.meaning.EpochText.{Satellite}
 use Rattle.crx_compact.proofs.PlaceByPlace.{value-there}
-use Rattle.std.specs.Option.{option_map}
-use Rattle.std.proofs.lemmas.Simd.{map-map}
-use Rattle.crx_text.specs.meaning.Columns.{columns}
-use Rattle.crx_base.specs.declared.limits.TheConstants.{HEAD_WIDTH}
-use Rattle.crx_compact.specs.ShownRows.{shown_epoch, shown_row}
-use Rattle.crx_compact.specs.ArcSteps.{shown_value}
 use Rattle.crx_compact.proofs.Making.{taken_more}
 use Rattle.crx_compact.proofs.ShownRows.{get-there}
 

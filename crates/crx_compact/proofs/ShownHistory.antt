@@ -1,16 +1,9 @@
 -- The epoch that a history shows: its rows are of the satellites that its text announces.
-use Rattle.std.proofs.Common.{◌≡◌, [], ◌∷◌, ℕ, List, Some, length, take, map, slice_get, refl, ap, sym, ◌∙◌}
-use Rattle.std.proofs.Common.{arith}
-use Rattle.std.specs.Option.{option_map}
-use Rattle.std.proofs.lemmas.List.{length-map, length-take-le, take-map}
-use Rattle.std.proofs.lemmas.Option.{slice_get-map, slice_get_within}
-use Rattle.crx_rinex.specs.meaning.Observations.{Row}
-use Rattle.crx_compact.specs.ArcSteps.{shown_value}
-use Rattle.crx_compact.specs.meaning.EpochText.{Satellite}
-use Rattle.crx_compact.specs.Placing.{IsAnnounced, OpenHistory, satellite_of, tail_of_history}
-use Rattle.crx_compact.specs.RowsSoFar.{AreRowsSoFar}
-use Rattle.crx_compact.specs.ShownRows.{shown_epoch, shown_row}
-use Rattle.crx_compact.specs.Tails.{RowTail}
+use Rattle.crx_compact.proofs.Words.{◌≡◌, [], ◌∷◌, ℕ, List, Some, length, take, map, slice_get, refl, ap, sym}
+use Rattle.crx_compact.proofs.Words.{◌∙◌, arith, option_map, length-map, length-take-le, take-map}
+use Rattle.crx_compact.proofs.Words.{slice_get-map, slice_get_within, Row, shown_value, Satellite}
+use Rattle.crx_compact.proofs.Words.{IsAnnounced, OpenHistory, satellite_of, tail_of_history, AreRowsSoFar}
+use Rattle.crx_compact.proofs.Words.{shown_epoch, shown_row, RowTail}
 use Rattle.crx_compact.proofs.PlaceByPlace.{value-there}
 use Rattle.crx_compact.proofs.ShownEpochs.{IsRowShown, row-at}
 

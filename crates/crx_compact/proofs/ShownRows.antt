@@ -1,18 +1,12 @@
 -- The row that a history shows, filled value by value.
-use Rattle.std.specs.Prelude.{◌≡◌, ◌<◌, refl, ℕ, suc, zero, ◌+◌, ◌-◌, ◌*◌, ℤ, List, [], ◌∷◌, ◌++◌, length}
-use Rattle.std.specs.Prelude.{map, take}
-use Rattle.std.specs.Prelude.{replicate, slice_index_or, slice_set, Option, None, slice_get, Some}
-use Rattle.std.proofs.Common.{sym, ◌∙◌, ap, arith}
-use Rattle.std.proofs.lemmas.List.{append-nil, length-map, length-take-le, map-append, take_all}
-use Rattle.std.proofs.lemmas.Option.{slice_get_within}
+use Rattle.crx_compact.proofs.Words.{◌≡◌, ◌<◌, refl, ℕ, suc, zero, ◌+◌, ◌-◌, ◌*◌, ℤ, List, [], ◌∷◌, ◌++◌}
+use Rattle.crx_compact.proofs.Words.{length, map, take, replicate, slice_index_or, slice_set, Option, None}
+use Rattle.crx_compact.proofs.Words.{slice_get, Some, sym, ◌∙◌, ap, arith, append-nil, length-map}
+use Rattle.crx_compact.proofs.Words.{length-take-le, map-append, take_all, slice_get_within, Row, shown_row}
+use Rattle.crx_compact.proofs.Words.{shown_value, ArcTail, columns}
 use Rattle.crx_text.proofs.Blanks.{columns_are}
-use Rattle.crx_rinex.specs.meaning.Observations.{Row}
 use Rattle.crx_rinex.specs.SatelliteLines.{with_flags, with_value}
-use Rattle.crx_compact.specs.ShownRows.{shown_row}
-use Rattle.crx_compact.specs.ArcSteps.{shown_value}
-use Rattle.crx_compact.specs.ArcTails.{ArcTail}
 use Rattle.crx_compact.proofs.Making.{taken_more}
-use Rattle.crx_text.specs.meaning.Columns.{columns}
 
 -- ---- places
 

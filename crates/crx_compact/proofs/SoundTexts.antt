@@ -1,22 +1,16 @@
 -- Blanks at the end of texts, and what is held of indicators.
-use Rattle.std.specs.Prelude.{◌≡◌, ◌≤◌, refl, ℕ, zero, suc, ◌*◌, true, if◌then◌else◌, List, [], ◌∷◌, length}
-use Rattle.std.specs.Prelude.{take}
+use Rattle.crx_compact.proofs.Words.{◌≡◌, ◌≤◌, refl, ℕ, zero, suc, ◌*◌, true, if◌then◌else◌, List, [], ◌∷◌}
+use Rattle.crx_compact.proofs.Words.{length, take, ap, arith, inl, inr, ◌∙◌, sym, ◌<◌, ◌+◌, ◌-◌, ◌++◌, ◌⊎◌}
+use Rattle.crx_compact.proofs.Words.{replicate, character_of, patched, IsAllowedCount, length-columns, at}
+use Rattle.crx_compact.proofs.Words.{at-without_end_blanks, columns-are, list_all-from_at, columns, is_blank}
+use Rattle.crx_compact.proofs.Words.{without_end_blanks, before_end_blanks, flags_held, by_position, mark_of}
+use Rattle.crx_compact.proofs.Words.{text_difference, is_kept, few_kept}
 use Rattle.std.proofs.lemmas.Bool.Decides.{Decides-eqb}
-use Rattle.std.proofs.Common.{ap, arith, inl, inr, ◌∙◌, sym}
-use Rattle.std.specs.Prelude.{◌<◌, ◌+◌, ◌-◌, ◌++◌, ◌⊎◌, replicate}
-use Rattle.crx_text.specs.Texts.{character_of, patched}
-use Rattle.crx_header.specs.meaning.ObservationTypes.{IsAllowedCount}
-use Rattle.crx_text.proofs.Characters.{length-columns, at, at-without_end_blanks, columns-are}
-use Rattle.crx_text.proofs.Characters.{list_all-from_at}
 use Rattle.crx_compact.proofs.PlaceByPlace.{at-padded, at-take}
 use Rattle.crx_compact.proofs.Characters.{at-take_past, within-or_past}
-use Rattle.crx_text.specs.meaning.Columns.{columns, is_blank, without_end_blanks, before_end_blanks}
 use Rattle.crx_compact.specs.HeldRows.{AreHeldFlags}
-use Rattle.crx_compact.specs.Steps.{flags_held}
 use Rattle.crx_compact.proofs.Characters.{list_all-at}
 use Rattle.crx_compact.proofs.Characters.{at-by_position, same_characters}
-use Rattle.crx_text.specs.meaning.Texts.{by_position, mark_of, text_difference, is_kept}
-use Rattle.crx_text.proofs.EndBlanks.{few_kept}
 
 -- ---- blanks at the end
 

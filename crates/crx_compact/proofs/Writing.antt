@@ -1,18 +1,11 @@
 -- An epoch whose rows are written one by one: one row more.
-use Rattle.std.proofs.Common.{◌≡◌, ◌-◌, ◌++◌, ◌∷◌, [], ℕ, List, Bool, Some, true, false, not, length}
-use Rattle.std.proofs.Common.{slice_get, slice_set, ap, sym, ◌∙◌}
-use Rattle.std.proofs.lemmas.Bool.{not-true}
-use Rattle.std.proofs.lemmas.List.{map-append}
-use Rattle.std.proofs.lemmas.List.Elements.{All-append}
-use Rattle.crx_header.specs.meaning.Satellites.{is_among}
+use Rattle.crx_compact.proofs.Words.{◌≡◌, ◌-◌, ◌++◌, ◌∷◌, [], ℕ, List, Bool, Some, true, false, not, length}
+use Rattle.crx_compact.proofs.Words.{slice_get, slice_set, ap, sym, ◌∙◌, not-true, map-append, All-append}
+use Rattle.crx_compact.proofs.Words.{is_among, has_satellite, Row, IsSoundRow, OpenHistory, PlacedRows}
+use Rattle.crx_compact.proofs.Words.{row_or_blank, row_line_after, row_line_in, row_tail_after, row_tail_in}
+use Rattle.crx_compact.proofs.Words.{RowTail, Tail, AreRowsWritten}
 use Rattle.crx_header.proofs.Apart.{among-map, apart-push}
-use Rattle.crx_rinex.specs.meaning.Epochs.{has_satellite}
-use Rattle.crx_rinex.specs.meaning.Observations.{Row}
-use Rattle.crx_rinex.specs.meaning.SatelliteLines.{IsSoundRow}
-use Rattle.crx_compact.specs.Placing.{HasCome, OpenHistory, PlacedRows, row_or_blank, row_tail_named}
-use Rattle.crx_compact.specs.Steps.{row_line_after, row_line_in, row_tail_after, row_tail_in}
-use Rattle.crx_compact.specs.Tails.{RowTail, Tail}
-use Rattle.crx_compact.specs.Written.{AreRowsWritten}
+use Rattle.crx_compact.specs.Placing.{HasCome, row_tail_named}
 use Rattle.crx_compact.proofs.ComeRows.{awaited-after, come-line, come-name, come-tail}
 use Rattle.crx_compact.proofs.RowByRow.{only}
 use Rattle.crx_compact.proofs.placing.SteppedRows.{last-is}

@@ -1,18 +1,11 @@
 -- The satellites of an open epoch stay those that its text announces, each with its count of types.
-use Rattle.std.specs.Prelude.{◌≡◌, ◌≤◌, refl, ℕ, zero, suc, List, [], ◌∷◌, length, map, Option, Some, All}
-use Rattle.std.specs.Prelude.{slice_get, slice_set, unwrap_or}
-use Rattle.std.proofs.Common.{sym, ◌∙◌, ap, subst, arith}
-use Rattle.std.proofs.lemmas.List.{length-map}
-use Rattle.std.proofs.lemmas.List.Elements.{All-cons, All-head, All-tail}
-use Rattle.std.proofs.lemmas.Option.{same_Some}
-use Rattle.crx_text.specs.meaning.Columns.{columns}
-use Rattle.crx_base.specs.declared.limits.TheConstants.{HEAD_WIDTH, SATELLITES_LIMIT}
-use Rattle.crx_rinex.proofs.Rows.{satellites_few}
-use Rattle.crx_compact.specs.meaning.EpochText.{Satellite}
-use Rattle.crx_compact.specs.HeldRows.{IsAwaitedSatellite}
-use Rattle.crx_compact.specs.Placing.{HasAllowedCount, IsAnnounced, IsRowRead, OpenHistory, satellite_of}
-use Rattle.crx_compact.specs.RowsSoFar.{AreAnnounced}
-use Rattle.crx_compact.specs.Tails.{RowTail}
+use Rattle.crx_compact.proofs.Words.{◌≡◌, ◌≤◌, refl, ℕ, zero, suc, List, [], ◌∷◌, length, map, Option, Some}
+use Rattle.crx_compact.proofs.Words.{All, slice_get, slice_set, unwrap_or, sym, ◌∙◌, ap, subst, arith}
+use Rattle.crx_compact.proofs.Words.{length-map, All-head, All-tail, same_Some, columns, HEAD_WIDTH}
+use Rattle.crx_compact.proofs.Words.{SATELLITES_LIMIT, satellites_few, Satellite, IsAwaitedSatellite}
+use Rattle.crx_compact.proofs.Words.{IsAnnounced, IsRowRead, OpenHistory, satellite_of, AreAnnounced, RowTail}
+use Rattle.std.proofs.lemmas.List.Elements.{All-cons}
+use Rattle.crx_compact.specs.Placing.{HasAllowedCount}
 
 -- ---- they stay
 

@@ -1,19 +1,14 @@
 -- Epochs that are read line by line, by the raw epochs that were accepted.
-use Rattle.std.specs.Prelude.{◌≡◌, ℕ, suc, ◌+◌, List, [], ◌∷◌, ◌++◌, length, Option, Some, None}
-use Rattle.std.specs.Prelude.{Result, Ok, Err, IfOk, IfErr}
-use Rattle.std.proofs.Common.{sym, ◌∙◌, ap, arith, inl, inr, ◌⊎◌, length-append}
-use Rattle.crx_base.specs.meaning.Seen.{ReadLine, Content}
-use Rattle.crx_base.specs.declared.fault.Fault.{Fault}
-use Rattle.crx_base.specs.declared.fault.Fault.TheVariants.{OutOfMemory}
-use Rattle.crx_rinex.specs.meaning.Observations.{Epoch}
-use Rattle.crx_header.specs.meaning.ObservationTypes.{Count}
-use Rattle.crx_rinex.specs.meaning.Places.{Place, Here, Wrong, Wanted}
-use Rattle.crx_compact.specs.meaning.Expansion.{RawEpoch}
-use Rattle.crx_compact.specs.meaning.CompactPlaces.{epoch_at}
-use Rattle.crx_compact.specs.Tails.{Tail, tail_left}
-use Rattle.crx_compact.specs.OpenEpochs.{ColumnsState, HasMade, HeldEpoch, Idle, RawStep, Faulty, Going}
-use Rattle.crx_compact.specs.OpenEpochs.{Whole, epoch_after, first_step, held_after, next_step}
-use Rattle.crx_compact.specs.OpenEpochs.{place_of_step, placed_as, step_in}
+use Rattle.crx_compact.proofs.Words.{◌≡◌, ℕ, suc, ◌+◌, List, [], ◌∷◌, ◌++◌, length, Option, Some, None}
+use Rattle.crx_compact.proofs.Words.{Result, Ok, Err, IfOk, sym, ◌∙◌, ap, arith, inl, inr, ◌⊎◌, ReadLine}
+use Rattle.crx_compact.proofs.Words.{Content, Fault, OutOfMemory, Epoch, Count, Place, Here, Wrong, Wanted}
+use Rattle.crx_compact.proofs.Words.{RawEpoch, epoch_at, Tail, tail_left, ColumnsState, HasMade, HeldEpoch}
+use Rattle.crx_compact.proofs.Words.{RawStep, epoch_after, first_step, held_after, next_step, place_of_step}
+use Rattle.crx_compact.proofs.Words.{placed_as, step_in}
+use Rattle.std.specs.Prelude.{IfErr}
+use Rattle.std.proofs.Common.{length-append}
+use Rattle.crx_compact.specs.OpenEpochs.{Idle, Faulty, Going}
+use Rattle.crx_compact.specs.OpenEpochs.{Whole}
 use Rattle.crx_compact.specs.ReadBlocks.{HasReadTo, IsReading}
 use Rattle.crx_compact.proofs.soundness.Soundness.{reads-soundly}
 use Rattle.crx_compact.proofs.reading.RawTailing.{place-by_tail, left-by_tail}

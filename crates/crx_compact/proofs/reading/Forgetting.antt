@@ -1,19 +1,10 @@
 -- A line that begins with > forgets what was read before it.
-use Rattle.std.specs.Prelude.{◌≡◌, ℕ, true, List, [], ◌∷◌, drop, Option, Some, None, Result, Ok, Err}
-use Rattle.std.specs.Prelude.{if◌then◌else◌}
-use Rattle.std.proofs.Common.{sym, ◌∙◌, ap}
-use Rattle.crx_base.specs.meaning.Seen.{ReadLine, Content}
-use Rattle.crx_base.specs.declared.fault.Fault.{Fault}
-use Rattle.crx_base.specs.declared.fault.Fault.TheVariants.{NotAnEpoch}
-use Rattle.crx_header.specs.meaning.ObservationTypes.{Count}
-use Rattle.crx_rinex.specs.meaning.Places.{Place, Here, then_place, one_line, first_line}
-use Rattle.crx_header.specs.meaning.EpochColumns.{begins_epoch}
-use Rattle.crx_compact.specs.meaning.Expansion.{RawEpoch, block_of}
-use Rattle.crx_compact.specs.meaning.Past.{Past, past_of_block, past_of_epochs, past_of_line}
-use Rattle.crx_compact.specs.meaning.CompactPlaces.{satellites_of_line, BegunEpoch, epoch_begun}
-use Rattle.crx_compact.specs.meaning.Cells.{ReadCell}
-use Rattle.crx_compact.specs.meaning.CompactPlaces.{clock_line_read, rows_read, ReadEpoch, epoch_of_rows}
-use Rattle.crx_compact.specs.meaning.CompactPlaces.{epoch_after_line, epoch_at}
+use Rattle.crx_compact.proofs.Words.{◌≡◌, ℕ, true, List, [], ◌∷◌, drop, Option, Some, None, Result, Ok, Err}
+use Rattle.crx_compact.proofs.Words.{if◌then◌else◌, sym, ◌∙◌, ap, ReadLine, Content, Fault, NotAnEpoch, Count}
+use Rattle.crx_compact.proofs.Words.{Place, Here, then_place, one_line, first_line, begins_epoch, RawEpoch}
+use Rattle.crx_compact.proofs.Words.{block_of, Past, past_of_block, past_of_epochs, past_of_line}
+use Rattle.crx_compact.proofs.Words.{satellites_of_line, BegunEpoch, epoch_begun, ReadCell, clock_line_read}
+use Rattle.crx_compact.proofs.Words.{rows_read, ReadEpoch, epoch_of_rows, epoch_after_line, epoch_at}
 use Rattle.crx_compact.specs.ReadingLaws.{Forgets}
 use Rattle.crx_compact.proofs.soundness.Soundness.{thing_here, Comes, then-comes}
 use Rattle.crx_compact.proofs.Results.{no-err, ok-same, Follows}

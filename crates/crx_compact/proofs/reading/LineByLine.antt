@@ -1,43 +1,23 @@
 -- The steps of a reader, line by line, agree with what is at all lines so far.
-use Rattle.std.specs.Prelude.{◌≡◌, refl, ℕ, suc, ◌+◌, List, [], ◌∷◌, ◌++◌, map, length, Option, Some, None}
-use Rattle.std.specs.Prelude.{Result}
-use Rattle.std.specs.Prelude.{Ok, Err, slice_get, unwrap_or, ℤ}
-use Rattle.std.specs.Option.{option_map, is_some}
-use Rattle.std.proofs.Common.{sym, ◌∙◌, ap, arith, true≢false}
-use Rattle.std.proofs.lemmas.List.{append_assoc, length-append, take_all}
-use Rattle.std.proofs.lemmas.Simd.{map-map}
-use Rattle.crx_text.specs.Texts.{patched}
-use Rattle.crx_text.specs.meaning.Columns.{columns, without_end_blanks}
-use Rattle.crx_base.specs.meaning.Seen.{ReadLine, Content, Overlong}
-use Rattle.crx_base.specs.declared.fault.Fault.{Fault}
-use Rattle.crx_base.specs.declared.fault.Fault.TheVariants.{BadClock, Truncated}
-use Rattle.crx_base.specs.declared.limits.TheConstants.{CLOCK_WIDTH, HEAD_WIDTH}
-use Rattle.crx_header.specs.meaning.EpochColumns.{begins_epoch}
-use Rattle.crx_header.specs.meaning.ObservationTypes.{Count}
-use Rattle.crx_rinex.specs.meaning.Observations.{Row}
-use Rattle.crx_rinex.specs.meaning.Places.{Place, Here, Wrong, Wanted, then_place, after_lines, one_line}
-use Rattle.crx_text.specs.meaning.Codes.{code_of}
-use Rattle.crx_compact.specs.meaning.Sequences.{and_then}
-use Rattle.crx_compact.specs.meaning.EpochText.{Satellite}
-use Rattle.crx_compact.specs.meaning.Expansion.{RawEpoch, RawRow}
-use Rattle.crx_compact.specs.meaning.CompactPlaces.{BegunEpoch, epoch_begun, satellites_of_line}
-use Rattle.crx_compact.specs.meaning.Cells.{ReadCell, cell_read}
-use Rattle.crx_compact.specs.meaning.CompactPlaces.{clock_line_read, ReadRow, satellite_line_read, rows_read}
-use Rattle.crx_compact.specs.meaning.CompactPlaces.{epoch_of_rows, epoch_after_line}
-use Rattle.crx_compact.specs.ArcTails.{ArcTail}
-use Rattle.crx_compact.specs.ArcSteps.{arc_of_code, shown_value}
-use Rattle.crx_compact.specs.Tails.{RowTail, Tail}
-use Rattle.crx_compact.specs.Steps.{no_tail, raw_row_tail_after, raw_tail_after, tail_named}
-use Rattle.crx_compact.specs.HeldRows.{held_row, HeldRow, past_of_tail}
-use Rattle.crx_compact.specs.Placing.{padded}
-use Rattle.crx_compact.specs.ShownRows.{shown_row}
-use Rattle.crx_compact.specs.OpenEpochs.{tail_for_line, epoch_after, HeldEpoch, OpenRawEpoch, RawStep}
-use Rattle.crx_compact.specs.OpenEpochs.{before_clock}
-use Rattle.crx_compact.specs.OpenEpochs.{with_rows, opened_raw, opening, first_step, whole_epoch}
-use Rattle.crx_compact.specs.OpenEpochs.{whole_or_awaiting}
-use Rattle.crx_compact.specs.OpenEpochs.{rows_before, tail_opened, raw_step_with_clock, raw_step_with_row}
-use Rattle.crx_compact.specs.OpenEpochs.{row_step}
-use Rattle.crx_compact.specs.OpenEpochs.{step_with_rows, next_step, placed_as, held_after, place_of_step}
+use Rattle.crx_compact.proofs.Words.{◌≡◌, refl, ℕ, suc, ◌+◌, List, [], ◌∷◌, ◌++◌, map, length, Option, Some}
+use Rattle.crx_compact.proofs.Words.{None, Result, Ok, Err, slice_get, unwrap_or, ℤ, option_map, sym, ◌∙◌, ap}
+use Rattle.crx_compact.proofs.Words.{arith, true≢false, take_all, map-map, patched, columns}
+use Rattle.crx_compact.proofs.Words.{without_end_blanks, ReadLine, Content, Overlong, Fault, BadClock}
+use Rattle.crx_compact.proofs.Words.{Truncated, CLOCK_WIDTH, HEAD_WIDTH, begins_epoch, Count, Row, Place}
+use Rattle.crx_compact.proofs.Words.{Here, Wrong, Wanted, then_place, after_lines, one_line, code_of}
+use Rattle.crx_compact.proofs.Words.{and_then, Satellite, RawEpoch, RawRow, BegunEpoch, epoch_begun}
+use Rattle.crx_compact.proofs.Words.{satellites_of_line, ReadCell, cell_read, clock_line_read, ReadRow}
+use Rattle.crx_compact.proofs.Words.{satellite_line_read, rows_read, epoch_of_rows, epoch_after_line, ArcTail}
+use Rattle.crx_compact.proofs.Words.{arc_of_code, shown_value, RowTail, Tail, no_tail, raw_row_tail_after}
+use Rattle.crx_compact.proofs.Words.{raw_tail_after, tail_named, held_row, HeldRow, past_of_tail, padded}
+use Rattle.crx_compact.proofs.Words.{shown_row, tail_for_line, epoch_after, HeldEpoch, RawStep, before_clock}
+use Rattle.crx_compact.proofs.Words.{with_rows, opened_raw, opening, first_step, whole_epoch}
+use Rattle.crx_compact.proofs.Words.{whole_or_awaiting, tail_opened, raw_step_with_row, row_step}
+use Rattle.crx_compact.proofs.Words.{step_with_rows, next_step, placed_as, held_after, place_of_step}
+use Rattle.std.specs.Option.{is_some}
+use Rattle.std.proofs.lemmas.List.{append_assoc, length-append}
+use Rattle.crx_compact.specs.OpenEpochs.{OpenRawEpoch}
+use Rattle.crx_compact.specs.OpenEpochs.{rows_before, raw_step_with_clock}
 use Rattle.crx_compact.specs.OpenEpochs.{place_of_steps, open_raw_after}
 use Rattle.crx_compact.specs.OpenEpochs.RawStep.{Going, Whole, Faulty}
 use Rattle.crx_compact.specs.ReadingLaws.{is_wanted, StepsAgree, WantedWhereOpen, StepsFromOpen}

@@ -1,32 +1,15 @@
 -- That memory ran out is no fault of a clock line or a satellite's line.
-use Rattle.std.specs.Prelude.{◌≡◌, ℕ, suc, ℤ, List, [], ◌∷◌, Bool, true, false, Option, None, Some, Result}
-use Rattle.std.specs.Prelude.{Ok, Err}
-use Rattle.std.specs.Prelude.{not, if◌then◌else◌, slice_index_or}
-use Rattle.std.proofs.Common.{◌∙◌, ap}
-use Rattle.crx_text.specs.declared.code.Code.{Code}
-use Rattle.crx_text.specs.declared.code.Code.TheVariants.{Missing, Start, Step}
-use Rattle.crx_text.specs.meaning.Codes.{code_of}
-use Rattle.crx_base.specs.declared.fault.Fault.{Fault}
-use Rattle.crx_base.specs.declared.fault.Fault.TheVariants.{BadField, BadFlags, OutOfMemory, OutOfRange}
-use Rattle.crx_base.specs.declared.fault.Fault.TheVariants.{Truncated}
-use Rattle.crx_base.specs.declared.limits.TheConstants.{OBSERVATION_WIDTH}
-use Rattle.crx_header.specs.meaning.EpochColumns.{begins_epoch}
-use Rattle.crx_compact.specs.meaning.Sequences.{and_then, before_all}
-use Rattle.crx_compact.specs.meaning.EpochText.{Satellite}
+use Rattle.crx_compact.proofs.Words.{◌≡◌, ℕ, suc, ℤ, List, [], ◌∷◌, Bool, true, false, Option, None, Some}
+use Rattle.crx_compact.proofs.Words.{Result, Ok, Err, not, if◌then◌else◌, slice_index_or, ◌∙◌, ap, Code}
+use Rattle.crx_compact.proofs.Words.{Missing, Start, Step, code_of, Fault, BadField, BadFlags, OutOfMemory}
+use Rattle.crx_compact.proofs.Words.{Truncated, OBSERVATION_WIDTH, begins_epoch, and_then, before_all}
+use Rattle.crx_compact.proofs.Words.{Satellite, ReadCell, cell_read, cells_read, cells_of, ReadRow, are_marks}
+use Rattle.crx_compact.proofs.Words.{after_cells, row_of_cells, satellite_line_read, Past, HeldRow}
+use Rattle.crx_compact.proofs.Words.{arcs_of_tail, held_from, past_of_row, row_held, value_at_place}
+use Rattle.crx_compact.proofs.Words.{flags_of_tail, value_of_code, ArcTail, RowTail}
+use Rattle.crx_base.specs.declared.fault.Fault.TheVariants.{OutOfRange}
 use Rattle.crx_compact.specs.meaning.ArcValues.{in_range, is_within}
-use Rattle.crx_compact.specs.meaning.Cells.{ReadCell, cell_read, cells_read, cells_of}
-use Rattle.crx_compact.specs.meaning.CompactPlaces.{ReadRow, are_marks}
-use Rattle.crx_compact.specs.meaning.Cells.{after_cells}
-use Rattle.crx_compact.specs.meaning.CompactPlaces.{row_of_cells}
 use Rattle.crx_compact.proofs.Marks.{row_of_line, row_with_marks}
-use Rattle.crx_compact.specs.meaning.CompactPlaces.{satellite_line_read}
-use Rattle.crx_compact.specs.meaning.Past.{Past}
-use Rattle.crx_compact.specs.HeldRows.{HeldRow, arcs_of_tail, held_from, past_of_row, row_held}
-use Rattle.crx_compact.specs.Cells.{value_at_place}
-use Rattle.crx_compact.specs.Steps.{flags_of_tail}
-use Rattle.crx_compact.specs.ArcSteps.{value_of_code}
-use Rattle.crx_compact.specs.ArcTails.{ArcTail}
-use Rattle.crx_compact.specs.Tails.{RowTail}
 
 abbrev fault_in : {X : Type 0} → Result X Fault → Fault
 fault_in (Ok x) = Truncated

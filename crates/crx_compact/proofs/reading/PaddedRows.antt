@@ -1,38 +1,20 @@
 -- The rows of an open epoch: a satellite's line is read after the row that the epoch line leaves of it as
 -- after what is
 -- kept of the satellite, and what it leaves shows its row.
-use Rattle.std.specs.Prelude.{◌≡◌, refl, ℕ, zero, suc, ◌<◌, ◌≤◌, ◌*◌, ◌⊎◌, Bool, true, false, List, [], ◌∷◌}
-use Rattle.std.specs.Prelude.{length, map}
-use Rattle.std.specs.Prelude.{take, slice_index_or, Option, None, Some, Result, Ok, Err, if◌then◌else◌}
-use Rattle.std.proofs.Common.{sym, ◌∙◌, ap, subst, arith, inl, inr}
-use Rattle.std.proofs.lemmas.List.{length-map}
-use Rattle.crx_text.specs.meaning.Columns.{columns}
-use Rattle.crx_text.specs.meaning.EachPlace.{each_place}
-use Rattle.crx_text.specs.meaning.Texts.{by_position}
-use Rattle.crx_text.specs.Texts.{character_of, patched}
-use Rattle.crx_text.proofs.Characters.{at, at-without_end_blanks}
-use Rattle.crx_text.proofs.EachPlace.{index-each_place, length-each_place}
-use Rattle.crx_base.specs.declared.fault.Fault.{Fault}
-use Rattle.crx_base.specs.declared.fault.Fault.TheVariants.{BadFlags, Truncated}
-use Rattle.crx_base.specs.declared.limits.TheConstants.{OBSERVATION_WIDTH}
-use Rattle.crx_header.specs.meaning.EpochColumns.{begins_epoch}
-use Rattle.crx_header.specs.meaning.InOrder.{◌otherwise◌next◌}
-use Rattle.crx_text.specs.declared.code.Code.{Code}
-use Rattle.crx_text.specs.declared.code.Code.TheVariants.{Missing}
-use Rattle.crx_compact.specs.meaning.Sequences.{and_then}
-use Rattle.crx_compact.specs.meaning.EpochText.{Satellite}
-use Rattle.crx_compact.specs.meaning.Cells.{ReadCell, after_cells, cells_of, cells_read}
-use Rattle.crx_compact.specs.meaning.CompactPlaces.{ReadRow, are_marks, row_of_cells}
-use Rattle.crx_compact.specs.ArcTails.{ArcTail}
-use Rattle.crx_compact.specs.ArcSteps.{arc_of_code, shown_value, value_of_code}
-use Rattle.crx_compact.specs.Tails.{RowTail, Tail}
-use Rattle.crx_compact.specs.Steps.{cell_of_tail, flags_held, flags_of_tail, tail_named}
-use Rattle.crx_compact.specs.Cells.{arcs_of_codes, value_at_place}
-use Rattle.crx_compact.specs.HeldRows.{HeldRow, arcs_of_tail, held_from, held_row, past_of_row, past_of_tail}
+use Rattle.crx_compact.proofs.Words.{◌≡◌, refl, ℕ, zero, suc, ◌<◌, ◌≤◌, ◌*◌, ◌⊎◌, Bool, true, false, List, []}
+use Rattle.crx_compact.proofs.Words.{◌∷◌, length, map, take, slice_index_or, Option, None, Some, Result, Ok}
+use Rattle.crx_compact.proofs.Words.{Err, if◌then◌else◌, sym, ◌∙◌, ap, subst, arith, inl, inr, length-map}
+use Rattle.crx_compact.proofs.Words.{columns, each_place, by_position, character_of, patched, at}
+use Rattle.crx_compact.proofs.Words.{at-without_end_blanks, index-each_place, length-each_place, Fault}
+use Rattle.crx_compact.proofs.Words.{BadFlags, Truncated, OBSERVATION_WIDTH, begins_epoch, ◌otherwise◌next◌}
+use Rattle.crx_compact.proofs.Words.{Code, Missing, and_then, Satellite, ReadCell, after_cells, cells_of}
+use Rattle.crx_compact.proofs.Words.{cells_read, ReadRow, are_marks, row_of_cells, ArcTail, arc_of_code}
+use Rattle.crx_compact.proofs.Words.{shown_value, value_of_code, RowTail, Tail, cell_of_tail, flags_held}
+use Rattle.crx_compact.proofs.Words.{flags_of_tail, tail_named, value_at_place, HeldRow, arcs_of_tail}
+use Rattle.crx_compact.proofs.Words.{held_from, held_row, past_of_row, past_of_tail, row_held, padded}
+use Rattle.crx_compact.proofs.Words.{satellite_of, shown_row}
+use Rattle.crx_compact.specs.Cells.{arcs_of_codes}
 use Rattle.crx_compact.specs.HeldRows.{row_after}
-use Rattle.crx_compact.specs.HeldRows.{row_held}
-use Rattle.crx_compact.specs.Placing.{padded, satellite_of}
-use Rattle.crx_compact.specs.ShownRows.{shown_row}
 use Rattle.crx_compact.proofs.CellsRead.{cells-within, shown-code}
 use Rattle.crx_compact.proofs.Characters.{at-by_position, at-take_past, same_characters, within-or_past}
 use Rattle.crx_compact.proofs.Marks.{cell-by_kept, cells-count, columns-held, row-by_tail, row_with_marks}

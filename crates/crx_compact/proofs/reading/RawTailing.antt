@@ -1,36 +1,18 @@
 -- The tail of a block of raw epochs decides what the next one stands for, and the next tail.
-use Rattle.std.specs.Prelude.{◌≡◌, refl, ℕ, Bool, true, false, List, [], ◌∷◌, ◌*◌, map, length, Option, Some}
-use Rattle.std.specs.Prelude.{None}
-use Rattle.std.specs.Prelude.{if◌then◌else◌, unwrap_or}
-use Rattle.std.specs.Option.{option_map}
-use Rattle.std.proofs.Common.{sym, ◌∙◌, ap}
+use Rattle.crx_compact.proofs.Words.{◌≡◌, refl, ℕ, Bool, true, false, List, [], ◌∷◌, ◌*◌, map, length, Option}
+use Rattle.crx_compact.proofs.Words.{Some, None, if◌then◌else◌, unwrap_or, option_map, sym, ◌∙◌, ap}
+use Rattle.crx_compact.proofs.Words.{get_or_past, patched, ReadLine, Code, Missing, OBSERVATION_WIDTH}
+use Rattle.crx_compact.proofs.Words.{CLOCK_WIDTH, Count, each_place, stretch, begins_epoch, RawRow, RawEpoch}
+use Rattle.crx_compact.proofs.Words.{block_of, overlaid, raw_row_named, raw_run_of, marks_of, code_in}
+use Rattle.crx_compact.proofs.Words.{since_start, value_of, Past, past_of_block, past_of_epochs, past_of_line}
+use Rattle.crx_compact.proofs.Words.{epoch_against, epoch_at, RowTail, Tail, tail_left, no_tail, tail_named}
+use Rattle.crx_compact.proofs.Words.{cell_of_tail, flags_of_tail, flags_held, raw_row_tail_after}
+use Rattle.crx_compact.proofs.Words.{raw_tail_after, value_of_code, arc_of_code, past_of_tail, tail_for_line}
+use Rattle.crx_compact.proofs.Words.{epoch_after, HasSingleLines, each_place-same, index-each_place}
 use Rattle.std.proofs.Math.Path.{fun_ext}
-use Rattle.std.proofs.lemmas.List.{get_or_past}
-use Rattle.crx_text.specs.Texts.{patched}
-use Rattle.crx_base.specs.meaning.Seen.{ReadLine}
-use Rattle.crx_text.specs.declared.code.Code.{Code}
-use Rattle.crx_text.specs.declared.code.Code.TheVariants.{Missing}
-use Rattle.crx_base.specs.declared.limits.TheConstants.{OBSERVATION_WIDTH, CLOCK_WIDTH}
-use Rattle.crx_header.specs.meaning.ObservationTypes.{Count}
-use Rattle.crx_text.specs.meaning.EachPlace.{each_place}
-use Rattle.crx_compact.specs.meaning.Sequences.{stretch}
-use Rattle.crx_header.specs.meaning.EpochColumns.{begins_epoch}
-use Rattle.crx_compact.specs.meaning.Expansion.{RawRow, RawEpoch, block_of, overlaid, raw_row_named}
-use Rattle.crx_compact.specs.meaning.Expansion.{raw_run_of}
-use Rattle.crx_compact.specs.meaning.Expansion.{marks_of, code_in}
-use Rattle.crx_compact.specs.meaning.ArcValues.{since_start, value_of}
-use Rattle.crx_compact.specs.meaning.Past.{Past, past_of_block, past_of_epochs, past_of_line}
-use Rattle.crx_compact.specs.meaning.CompactPlaces.{epoch_against, epoch_at}
-use Rattle.crx_compact.specs.Tails.{RowTail, Tail, raw_row_tail, tail_of_block, tail_left}
+use Rattle.crx_compact.specs.Tails.{raw_row_tail, tail_of_block}
 use Rattle.crx_compact.specs.ArcTails.{started_tail}
-use Rattle.crx_compact.specs.Steps.{no_tail, tail_named, cell_of_tail, flags_of_tail, flags_held}
-use Rattle.crx_compact.specs.Steps.{raw_row_tail_after}
-use Rattle.crx_compact.specs.Steps.{raw_tail_after}
-use Rattle.crx_compact.specs.ArcSteps.{value_of_code, arc_of_code}
-use Rattle.crx_compact.specs.HeldRows.{past_of_tail}
-use Rattle.crx_compact.specs.OpenEpochs.{tail_for_line, epoch_after}
-use Rattle.crx_compact.specs.ReadingLaws.{HasSingleLines, RawByTail}
-use Rattle.crx_text.proofs.EachPlace.{each_place-same, index-each_place}
+use Rattle.crx_compact.specs.ReadingLaws.{RawByTail}
 use Rattle.crx_compact.proofs.Lists.{mapped-same}
 use Rattle.crx_compact.proofs.wayback.Overlays.{overlaid-patched}
 use Rattle.crx_compact.proofs.wayback.Cuts.{overlaid-take}

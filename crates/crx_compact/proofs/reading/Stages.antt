@@ -1,26 +1,14 @@
 -- A reader of compact epochs by how far the lines of an epoch have come.
-use Rattle.std.specs.Prelude.{◌≡◌, ◌==◌, refl, ℕ, ◌≤◌, ◌<◌, Bool, true, false, List, length, Option, Some, None}
-use Rattle.std.specs.Prelude.{Result, Ok, Err}
-use Rattle.std.specs.Prelude.{if◌then◌else◌}
-use Rattle.std.specs.Result.{is_ok}
-use Rattle.std.proofs.Common.{sym, ◌∙◌, ap, arith, true≢false}
-use Rattle.crx_base.specs.declared.fault.Fault.{Fault}
-use Rattle.crx_base.specs.meaning.Seen.{Content}
-use Rattle.crx_header.specs.meaning.ObservationTypes.{Count}
-use Rattle.crx_compact.specs.HeldRows.{past_of_tail}
-use Rattle.crx_compact.specs.meaning.CompactPlaces.{satellites_of_line}
-use Rattle.crx_compact.specs.meaning.EpochText.{Satellite}
-use Rattle.crx_compact.specs.meaning.Sequences.{and_then}
-use Rattle.crx_compact.specs.OpenEpochs.{ColumnsState, RawStep, Reading, awaits_row}
-use Rattle.crx_compact.specs.OpenEpochs.{before_clock, first_step, is_faulty, is_idle, makes_epoch}
-use Rattle.crx_compact.specs.OpenEpochs.{opened_raw}
-use Rattle.crx_compact.specs.OpenEpochs.{opening, step_in, step_with_rows, tail_for_line, tail_held}
-use Rattle.crx_compact.specs.OpenEpochs.{tail_opened, with_rows}
-use Rattle.crx_compact.specs.OpenLines.{columns_state, step_at}
-use Rattle.crx_compact.specs.Placing.{OpenHistory, tail_of_history}
-use Rattle.crx_compact.specs.Tails.{Tail}
-use Rattle.crx_compact.specs.declared.columns.Stage.{Stage}
-use Rattle.crx_compact.specs.declared.columns.Stage.TheVariants.{Clock, Rows, Unbegun}
+use Rattle.crx_compact.proofs.Words.{◌≡◌, ◌==◌, refl, ℕ, ◌≤◌, ◌<◌, Bool, true, false, List, length, Option}
+use Rattle.crx_compact.proofs.Words.{Some, None, Result, Ok, Err, if◌then◌else◌, is_ok, sym, ◌∙◌, ap, arith}
+use Rattle.crx_compact.proofs.Words.{true≢false, Fault, Content, Count, past_of_tail, satellites_of_line}
+use Rattle.crx_compact.proofs.Words.{Satellite, and_then, ColumnsState, RawStep, Reading, before_clock}
+use Rattle.crx_compact.proofs.Words.{first_step, is_idle, opened_raw, opening, step_in, step_with_rows}
+use Rattle.crx_compact.proofs.Words.{tail_for_line, tail_held, tail_opened, with_rows, columns_state, step_at}
+use Rattle.crx_compact.proofs.Words.{OpenHistory, tail_of_history, Tail, Stage, Rows}
+use Rattle.crx_compact.specs.OpenEpochs.{awaits_row}
+use Rattle.crx_compact.specs.OpenEpochs.{is_faulty, makes_epoch}
+use Rattle.crx_compact.specs.declared.columns.Stage.TheVariants.{Clock, Unbegun}
 use Rattle.crx_compact.proofs.reading.StepsByCode.{rows-whole}
 
 -- ---- between two epochs

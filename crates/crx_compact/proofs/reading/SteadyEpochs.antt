@@ -1,14 +1,9 @@
 -- What is at compact lines is certain as soon as its last line has come.
-use Rattle.std.specs.Prelude.{ℕ, List, [], ◌∷◌, Option}
-use Rattle.crx_header.specs.meaning.ObservationTypes.{Count}
-use Rattle.crx_rinex.specs.meaning.Places.{Here, then_place, first_line}
+use Rattle.crx_compact.proofs.Words.{ℕ, List, [], ◌∷◌, Option, Count, Here, then_place, first_line, Satellite}
+use Rattle.crx_compact.proofs.Words.{Past, BegunEpoch, epoch_begun, clock_line_read, satellite_line_read}
+use Rattle.crx_compact.proofs.Words.{rows_read, epoch_of_rows, epoch_after_line, epoch_against}
 use Rattle.crx_rinex.specs.Steady.{IsSteady}
 use Rattle.crx_rinex.proofs.Steady.{steady-here, steady-first_line, steady-then}
-use Rattle.crx_compact.specs.meaning.EpochText.{Satellite}
-use Rattle.crx_compact.specs.meaning.Past.{Past}
-use Rattle.crx_compact.specs.meaning.CompactPlaces.{BegunEpoch, epoch_begun, clock_line_read}
-use Rattle.crx_compact.specs.meaning.CompactPlaces.{satellite_line_read}
-use Rattle.crx_compact.specs.meaning.CompactPlaces.{rows_read, epoch_of_rows, epoch_after_line, epoch_against}
 
 pub steady-rows_read : (past : Past) (satellites : List Satellite) → IsSteady (rows_read past satellites)
 steady-rows_read past [] = steady-here []

@@ -1,25 +1,16 @@
 -- What a line makes of an open epoch, by what was read of it into a history.
-use Rattle.std.specs.Prelude.{◌≡◌, refl, ◌≤◌, ◌<◌, ℕ, ◌+◌, true, List, [], ◌∷◌, length, map}
-use Rattle.std.specs.Prelude.{Option, Some, None, Result, Ok, Err, slice_get, slice_set}
-use Rattle.std.proofs.Common.{sym, ◌∙◌, ap, arith, add-one}
-use Rattle.std.proofs.lemmas.List.{take_all}
+use Rattle.crx_compact.proofs.Words.{◌≡◌, refl, ◌≤◌, ◌<◌, ℕ, ◌+◌, true, List, [], ◌∷◌, length, map, Option}
+use Rattle.crx_compact.proofs.Words.{Some, None, Result, Ok, Err, slice_get, slice_set, sym, ◌∙◌, ap, arith}
+use Rattle.crx_compact.proofs.Words.{add-one, take_all, columns, Fault, HEAD_WIDTH, Content, Epoch}
+use Rattle.crx_compact.proofs.Words.{printed_epoch, printed_head, printed_row, shown_value, ArcTail, HeldRow}
+use Rattle.crx_compact.proofs.Words.{row_held, HasMade, HasPrintedLines, RawStep, Reading, next_step}
+use Rattle.crx_compact.proofs.Words.{raw_step_with_row, row_step, step_with_rows, whole_epoch}
+use Rattle.crx_compact.proofs.Words.{whole_or_awaiting, with_rows, IsRowRead, OpenHistory, satellite_of}
+use Rattle.crx_compact.proofs.Words.{tail_of_history, shown_epoch, shown_row, RowTail, Tail}
 use Rattle.std.proofs.lemmas.Option.{slice_get-get_or, slice_get_past}
-use Rattle.crx_text.specs.meaning.Columns.{columns}
-use Rattle.crx_base.specs.declared.fault.Fault.{Fault}
-use Rattle.crx_base.specs.declared.limits.TheConstants.{HEAD_WIDTH}
-use Rattle.crx_base.specs.meaning.Seen.{Content}
-use Rattle.crx_rinex.specs.meaning.Observations.{Epoch}
-use Rattle.crx_rinex.specs.meaning.Printing.{printed_epoch, printed_head, printed_row}
-use Rattle.crx_compact.specs.ArcSteps.{shown_value}
-use Rattle.crx_compact.specs.ArcTails.{ArcTail}
-use Rattle.crx_compact.specs.HeldRows.{HeldRow, row_held}
-use Rattle.crx_compact.specs.OpenEpochs.{HasMade, HasPrintedLines, Idle, RawStep, Reading, Whole, Going}
-use Rattle.crx_compact.specs.OpenEpochs.{Faulty, next_step}
-use Rattle.crx_compact.specs.OpenEpochs.{raw_step_with_row, row_step, step_with_rows}
-use Rattle.crx_compact.specs.OpenEpochs.{whole_epoch, whole_or_awaiting, with_rows}
-use Rattle.crx_compact.specs.Placing.{IsRowRead, empty_row, OpenHistory, satellite_of, tail_of_history}
-use Rattle.crx_compact.specs.ShownRows.{shown_epoch, shown_row}
-use Rattle.crx_compact.specs.Tails.{RowTail, Tail}
+use Rattle.crx_compact.specs.OpenEpochs.{Idle, Whole, Going}
+use Rattle.crx_compact.specs.OpenEpochs.{Faulty}
+use Rattle.crx_compact.specs.Placing.{empty_row}
 
 -- ---- satellite lines
 

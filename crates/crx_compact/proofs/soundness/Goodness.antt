@@ -1,47 +1,27 @@
 -- An epoch that was read is whole, and its marks can be before others.
-use Rattle.std.specs.Prelude.{◌≡◌, refl, ℕ, zero, suc, ◌+◌, ◌-◌, ◌*◌, ℤ, Bool, true, false, ◌&&◌, nat_eq}
-use Rattle.std.specs.Prelude.{List, [], ◌∷◌}
-use Rattle.std.specs.Prelude.{◌++◌, map, length, take, drop, replicate, Option, Some, None, Result, Ok}
-use Rattle.std.specs.Prelude.{IfSome}
-use Rattle.std.specs.Prelude.{OnSome, if◌then◌else◌, unwrap_or}
-use Rattle.std.specs.List.{list_all, AllByRecursion}
-use Rattle.std.proofs.Common.{sym, ◌∙◌, ap, subst, arith}
-use Rattle.std.proofs.lemmas.List.{length-map}
+use Rattle.crx_compact.proofs.Words.{◌≡◌, refl, ℕ, zero, suc, ◌+◌, ◌-◌, ◌*◌, ℤ, Bool, true, false, ◌&&◌}
+use Rattle.crx_compact.proofs.Words.{nat_eq, List, [], ◌∷◌, ◌++◌, map, length, take, drop, replicate, Option}
+use Rattle.crx_compact.proofs.Words.{Some, None, Result, Ok, IfSome, if◌then◌else◌, unwrap_or, list_all}
+use Rattle.crx_compact.proofs.Words.{AllByRecursion, sym, ◌∙◌, ap, subst, arith, length-map, and_parts}
+use Rattle.crx_compact.proofs.Words.{and_from, columns, character_at, is_blank, IsMissingOrWithin, IsValue}
+use Rattle.crx_compact.proofs.Words.{Row, Count, is_system, IsAllowedCount, begins_epoch, types_of_satellite}
+use Rattle.crx_compact.proofs.Words.{IsSoundRow, HasItsTypes, apart-map, satellites_few, Code, Missing, Start}
+use Rattle.crx_compact.proofs.Words.{Step, Fault, OBSERVATION_WIDTH, CLOCK_WIDTH, is_kept, is_printable}
+use Rattle.crx_compact.proofs.Words.{stretch, Satellite, RawRow, RawEpoch, block_of, latest_mark, shown}
+use Rattle.crx_compact.proofs.Words.{overlaid, raw_row_named, raw_run_of, marks_of, code_in, since_start}
+use Rattle.crx_compact.proofs.Words.{value_since, value_of, Past, past_of_block, ReadCell, ReadRow, ReadEpoch}
+use Rattle.crx_compact.proofs.Words.{each_place-all, length-each_place, length-columns, list_all-from_at}
+use Rattle.std.specs.Prelude.{OnSome}
 use Rattle.std.proofs.lemmas.List.Elements.{All-from_recursion}
-use Rattle.std.proofs.lemmas.Bool.{and_parts, and_from}
-use Rattle.crx_text.specs.meaning.Columns.{columns, character_at, is_blank}
-use Rattle.crx_text.specs.meaning.Numbers.{IsMissingOrWithin, IsValue}
-use Rattle.crx_rinex.specs.meaning.Observations.{Row}
-use Rattle.crx_header.specs.meaning.ObservationTypes.{Count, is_system, count_of, IsAllowedCount}
+use Rattle.crx_header.specs.meaning.ObservationTypes.{count_of}
 use Rattle.crx_header.specs.ObservationTypes.{AreCounts}
-use Rattle.crx_header.specs.meaning.EpochColumns.{begins_epoch}
-use Rattle.crx_header.specs.meaning.Satellites.{has_number, types_of_satellite}
-use Rattle.crx_rinex.specs.meaning.SatelliteLines.{IsSoundRow, HasItsTypes}
-use Rattle.crx_header.proofs.Apart.{apart-map}
+use Rattle.crx_header.specs.meaning.Satellites.{has_number}
 use Rattle.crx_header.proofs.Counts.{allowed_of, system_of}
-use Rattle.crx_rinex.proofs.Rows.{satellites_few}
-use Rattle.crx_text.specs.declared.code.Code.{Code}
-use Rattle.crx_text.specs.declared.code.Code.TheVariants.{Missing, Start, Step}
-use Rattle.crx_base.specs.declared.fault.Fault.{Fault}
 use Rattle.crx_base.specs.declared.fault.Fault.TheVariants.{NoArc}
-use Rattle.crx_base.specs.declared.limits.TheConstants.{OBSERVATION_WIDTH, CLOCK_WIDTH}
-use Rattle.crx_text.specs.meaning.Texts.{is_kept}
-use Rattle.crx_base.specs.meaning.Lines.{is_printable}
-use Rattle.crx_compact.specs.meaning.Sequences.{stretch}
-use Rattle.crx_compact.specs.meaning.EpochText.{Satellite}
-use Rattle.crx_compact.specs.meaning.Expansion.{RawRow, RawEpoch, block_of, latest_mark, shown, overlaid}
 use Rattle.crx_compact.specs.meaning.ArcValues.{Started}
-use Rattle.crx_compact.specs.meaning.Expansion.{raw_row_named, raw_run_of, marks_of, code_in}
-use Rattle.crx_compact.specs.meaning.ArcValues.{since_start}
-use Rattle.crx_compact.specs.meaning.ArcValues.{value_since, value_of}
-use Rattle.crx_compact.specs.meaning.Past.{Past, past_of_block}
-use Rattle.crx_compact.specs.meaning.Cells.{ReadCell}
-use Rattle.crx_compact.specs.meaning.CompactPlaces.{ReadRow, ReadEpoch}
 use Rattle.crx_compact.specs.ReadingLaws.{HasPrintableMarks, IsGood, ReadsWholeEpochs}
-use Rattle.crx_text.proofs.EachPlace.{each_place-all, length-each_place}
 use Rattle.crx_compact.proofs.Lists.{all-from}
 use Rattle.crx_compact.proofs.wayback.Overlays.{at-overlaid}
-use Rattle.crx_text.proofs.Characters.{length-columns, list_all-from_at}
 use Rattle.crx_compact.proofs.Characters.{all-take, list_all-at, list_all-append}
 use Rattle.crx_compact.proofs.Results.{no-err, ok-same}
 use Rattle.crx_compact.proofs.soundness.Soundness.{AreReadCells, RowFacts, Paired}

@@ -1,39 +1,21 @@
 -- What follows of an epoch from its having been read.
-use Rattle.std.specs.Prelude.{◌≡◌, refl, ℕ, suc, ◌+◌, ◌*◌, Bool, true, false, ℤ, List, [], ◌∷◌, map, length}
-use Rattle.std.specs.Prelude.{slice_index_or, drop, Option, Some, None, Result, Ok, Err, ⊤, not}
-use Rattle.std.specs.Prelude.{if◌then◌else◌}
-use Rattle.std.specs.List.{AllByRecursion}
-use Rattle.std.proofs.Common.{sym, ◌∙◌, ap, subst, arith}
-use Rattle.std.proofs.lemmas.List.{length-map}
-use Rattle.crx_text.specs.meaning.Columns.{columns, without_end_blanks}
-use Rattle.crx_text.specs.meaning.Codes.{code_of}
-use Rattle.crx_base.specs.meaning.Seen.{ReadLine, Content, Overlong}
-use Rattle.crx_rinex.specs.meaning.Observations.{Row, Epoch}
-use Rattle.crx_header.specs.meaning.ObservationTypes.{Count}
-use Rattle.crx_header.proofs.Apart.{apart-map}
-use Rattle.crx_rinex.specs.meaning.Places.{Place, Here, Wrong, Wanted, then_place, after_lines, first_line}
-use Rattle.crx_rinex.specs.meaning.Places.{one_line}
-use Rattle.crx_text.specs.declared.code.Code.{Code}
-use Rattle.crx_text.specs.declared.code.Code.TheVariants.{Missing}
-use Rattle.crx_base.specs.declared.fault.Fault.{Fault}
-use Rattle.crx_base.specs.declared.fault.Fault.TheVariants.{NotAnEpoch, BadClock, BadField, BadFlags}
-use Rattle.crx_base.specs.declared.fault.Fault.TheVariants.{Truncated}
-use Rattle.crx_text.specs.meaning.EachPlace.{each_place}
-use Rattle.crx_compact.specs.meaning.Sequences.{and_then, before_all}
+use Rattle.crx_compact.proofs.Words.{◌≡◌, refl, ℕ, suc, ◌+◌, ◌*◌, Bool, true, false, ℤ, List, [], ◌∷◌, map}
+use Rattle.crx_compact.proofs.Words.{length, slice_index_or, drop, Option, Some, None, Result, Ok, Err, not}
+use Rattle.crx_compact.proofs.Words.{if◌then◌else◌, AllByRecursion, sym, ◌∙◌, ap, subst, arith, length-map}
+use Rattle.crx_compact.proofs.Words.{columns, without_end_blanks, code_of, ReadLine, Content, Overlong, Row}
+use Rattle.crx_compact.proofs.Words.{Epoch, Count, apart-map, Place, Here, Wrong, Wanted, then_place}
+use Rattle.crx_compact.proofs.Words.{after_lines, first_line, one_line, Code, Missing, Fault, NotAnEpoch}
+use Rattle.crx_compact.proofs.Words.{BadClock, BadField, BadFlags, Truncated, each_place, and_then}
+use Rattle.crx_compact.proofs.Words.{before_all, begins_epoch, Satellite, RawRow, RawEpoch, block_of}
+use Rattle.crx_compact.proofs.Words.{raw_row_named, raw_run_of, marks_of, Past, past_of_block, past_of_epochs}
+use Rattle.crx_compact.proofs.Words.{past_of_line, satellites_of_line, BegunEpoch, epoch_begun}
+use Rattle.crx_compact.proofs.Words.{clock_line_read, are_marks, ReadRow, row_of_cells, satellite_line_read}
+use Rattle.crx_compact.proofs.Words.{rows_read, ReadEpoch, epoch_of_rows, epoch_after_line, epoch_at}
+use Rattle.crx_compact.proofs.Words.{ReadCell, cell_read, cells_read, cells_of, after_cells, HasSingleLines}
+use Rattle.std.specs.Prelude.{⊤}
 use Rattle.crx_compact.specs.Expansion.{all_ok, text_of, row_from, rows_from, epoch_of_block, epoch_from}
-use Rattle.crx_header.specs.meaning.EpochColumns.{begins_epoch}
-use Rattle.crx_compact.specs.meaning.EpochText.{Satellite}
-use Rattle.crx_compact.specs.meaning.Expansion.{RawRow, RawEpoch, block_of, raw_row_named, raw_run_of}
-use Rattle.crx_compact.specs.meaning.Expansion.{marks_of}
-use Rattle.crx_compact.specs.meaning.Past.{Past, past_of_block, past_of_epochs, past_of_line}
 use Rattle.crx_compact.proofs.wayback.Cuts.{columns-cut}
-use Rattle.crx_compact.specs.meaning.CompactPlaces.{satellites_of_line, BegunEpoch, epoch_begun}
-use Rattle.crx_compact.specs.meaning.CompactPlaces.{clock_line_read}
-use Rattle.crx_compact.specs.meaning.CompactPlaces.{are_marks, ReadRow, row_of_cells}
-use Rattle.crx_compact.specs.meaning.CompactPlaces.{satellite_line_read, rows_read, ReadEpoch, epoch_of_rows}
-use Rattle.crx_compact.specs.meaning.CompactPlaces.{epoch_after_line, epoch_at}
-use Rattle.crx_compact.specs.meaning.Cells.{ReadCell, cell_read, cells_read, cells_of, after_cells}
-use Rattle.crx_compact.specs.ReadingLaws.{HasSingleLines, ReadsSoundly}
+use Rattle.crx_compact.specs.ReadingLaws.{ReadsSoundly}
 use Rattle.crx_compact.proofs.Identifiers.{each-own}
 use Rattle.crx_compact.proofs.Results.{no-err, ok-same, Follows, and_then-ok, if-err, if-true, before-ok}
 use Rattle.crx_compact.proofs.Marks.{row_with_marks, row_of_line, cells-count, texts-count}

@@ -1,13 +1,10 @@
 -- The cells of a satellite line are read back from it.
-use Rattle.std.specs.Prelude.{◌≡◌, refl, ℕ, true, List, [], ◌∷◌, ◌++◌, length, map, flat_map}
-use Rattle.std.specs.List.{list_all, AllByRecursion}
-use Rattle.std.proofs.Common.{◌∙◌, ap, arith}
+use Rattle.crx_compact.proofs.Words.{◌≡◌, refl, ℕ, true, List, [], ◌∷◌, ◌++◌, length, map, list_all}
+use Rattle.crx_compact.proofs.Words.{AllByRecursion, ◌∙◌, ap, arith, without_end_blanks, Code, code_text}
+use Rattle.crx_compact.proofs.Words.{cell_text, cells_of, after_cells}
+use Rattle.std.specs.Prelude.{flat_map}
 use Rattle.std.proofs.lemmas.List.{append_assoc}
-use Rattle.crx_text.specs.meaning.Columns.{without_end_blanks}
-use Rattle.crx_text.specs.declared.code.Code.{Code}
-use Rattle.crx_text.specs.meaning.Codes.{code_text, first_cell, after_cell}
-use Rattle.crx_compact.specs.meaning.Cells.{cell_text}
-use Rattle.crx_compact.specs.meaning.Cells.{cells_of, after_cells}
+use Rattle.crx_text.specs.meaning.Codes.{first_cell, after_cell}
 use Rattle.crx_compact.proofs.wayback.CodeTexts.{is_code_character}
 
 -- ---- blanks at a line's end do not change its cells

@@ -1,21 +1,13 @@
 -- The texts of codes hold no blank and no >.
-use Rattle.std.specs.Prelude.{◌≡◌, refl, ℕ, suc, ◌+◌, ◌^◌, ◌<◌, ◌≤◌, Bool, true, not, ◌&&◌, ◌==◌, ℤ, pos}
-use Rattle.std.specs.Prelude.{negsuc, List}
-use Rattle.std.specs.Prelude.{[], ◌∷◌, decimal}
-use Rattle.std.specs.Fmt.{signed_decimal}
-use Rattle.std.specs.List.{list_all}
+use Rattle.crx_compact.proofs.Words.{◌≡◌, refl, ℕ, suc, ◌+◌, ◌^◌, ◌<◌, ◌≤◌, Bool, true, not, ◌&&◌, ◌==◌, ℤ}
+use Rattle.crx_compact.proofs.Words.{pos, negsuc, List, [], ◌∷◌, decimal, signed_decimal, list_all}
+use Rattle.crx_compact.proofs.Words.{is_ascii_digit, ◌∙◌, ap, arith, is_blank, is_printable, code_text}
+use Rattle.crx_compact.proofs.Words.{IsPrintable, Code, Missing, Start, Step, DIGITS_LIMIT}
 use Rattle.std.specs.Str.{all_ascii_digits}
-use Rattle.std.specs.Char.{is_ascii_digit}
-use Rattle.std.proofs.Common.{◌∙◌, ap, arith}
 use Rattle.std.proofs.lemmas.Fmt.{decimal_digit}
 use Rattle.crx_text.proofs.ReadBack.{decimal_is_digits}
-use Rattle.crx_text.specs.meaning.Columns.{is_blank}
-use Rattle.crx_base.specs.meaning.Lines.{is_printable}
-use Rattle.crx_text.specs.meaning.Codes.{code_text}
-use Rattle.crx_text.specs.Codes.{IsShort, IsPrintable}
-use Rattle.crx_text.specs.declared.code.Code.{Code}
-use Rattle.crx_text.specs.declared.code.Code.TheVariants.{Missing, Start, Step}
-use Rattle.crx_base.specs.declared.limits.TheConstants.{ORDER_LIMIT, DIGITS_LIMIT}
+use Rattle.crx_text.specs.Codes.{IsShort}
+use Rattle.crx_base.specs.declared.limits.TheConstants.{ORDER_LIMIT}
 
 -- ---- characters of codes: digits, a minus and &
 

@@ -1,11 +1,8 @@
 -- Texts and marks that are cut at a width.
-use Rattle.std.specs.Prelude.{◌≡◌, refl, ℕ, ◌+◌, ◌-◌, ◌<◌, ◌≤◌, ◌⊎◌, List, [], ◌∷◌, ◌++◌, length, map, take}
-use Rattle.std.specs.Prelude.{replicate}
-use Rattle.std.proofs.Common.{sym, ◌∙◌, ap, arith, inl, inr}
-use Rattle.crx_text.proofs.Characters.{length-columns, at, at-without_end_blanks, columns-are}
-use Rattle.crx_text.specs.meaning.Columns.{columns, without_end_blanks}
-use Rattle.crx_text.specs.meaning.EachPlace.{each_place}
-use Rattle.crx_compact.specs.meaning.Expansion.{latest_mark, shown, longest, overlaid}
+use Rattle.crx_compact.proofs.Words.{◌≡◌, refl, ℕ, ◌+◌, ◌-◌, ◌<◌, ◌≤◌, ◌⊎◌, List, [], ◌∷◌, ◌++◌, length, map}
+use Rattle.crx_compact.proofs.Words.{take, replicate, sym, ◌∙◌, ap, arith, inl, inr, length-columns, at}
+use Rattle.crx_compact.proofs.Words.{at-without_end_blanks, columns-are, columns, without_end_blanks}
+use Rattle.crx_compact.proofs.Words.{each_place, latest_mark, shown, longest, overlaid}
 use Rattle.crx_compact.proofs.wayback.Overlays.{at_past, at-longest, at-overlaid}
 use Rattle.crx_compact.proofs.Characters.{same_characters, at-take_past, within-or_past}
 use Rattle.crx_compact.proofs.PlaceByPlace.{at-take, at-padded}

@@ -1,10 +1,9 @@
 -- An epoch coded after any others.
-use Rattle.std.specs.Prelude.{◌≡◌, refl, Bool, true, false, List, [], ◌∷◌, Option}
-use Rattle.crx_rinex.specs.meaning.Observations.{Epoch}
+use Rattle.crx_compact.proofs.Words.{◌≡◌, refl, Bool, true, false, List, [], ◌∷◌, Option, Epoch, Marked}
+use Rattle.crx_compact.proofs.Words.{compact_epoch, Tail, tail_of, lines_after_tail, tail_after}
+use Rattle.crx_compact.proofs.Words.{tail_written_after}
 use Rattle.crx_rinex.specs.meaning.Epochs.{IsSoundEpoch}
-use Rattle.crx_compact.specs.meaning.Compaction.{Marked, compact_epoch}
-use Rattle.crx_compact.specs.Tails.{Tail, tail_of, tail_or_nothing}
-use Rattle.crx_compact.specs.Steps.{lines_after_tail, tail_after, tail_written_after}
+use Rattle.crx_compact.specs.Tails.{tail_or_nothing}
 use Rattle.crx_compact.specs.Laws.{tail_before}
 use Rattle.crx_compact.proofs.wayback.Runs.{marked}
 use Rattle.crx_compact.proofs.wayback.Tailing.{epoch-by_tail}

@@ -1,31 +1,21 @@
 -- What follows of an epoch and its rows from their being ones that can be written.
-use Rattle.std.specs.Prelude.{◌≡◌, refl, ◌≢◌, ℕ, suc, ◌+◌, ◌-◌, ◌*◌, ◌<◌, true, false, not, ◌&&◌, ◌==◌}
-use Rattle.std.specs.Prelude.{nat_eq}
-use Rattle.std.specs.Prelude.{nat_le, List, [], ◌∷◌, length, map, flat_map, Result, Ok}
-use Rattle.std.specs.List.{list_all, AllByRecursion}
-use Rattle.std.proofs.Common.{sym, ◌∙◌, ap, arith, true≢false}
+use Rattle.crx_compact.proofs.Words.{◌≡◌, refl, ◌≢◌, ℕ, suc, ◌+◌, ◌-◌, ◌*◌, ◌<◌, true, false, not, ◌&&◌, ◌==◌}
+use Rattle.crx_compact.proofs.Words.{nat_eq, List, [], ◌∷◌, length, map, Result, Ok, list_all, AllByRecursion}
+use Rattle.crx_compact.proofs.Words.{sym, ◌∙◌, ap, arith, true≢false, and_parts, not-true, character_at}
+use Rattle.crx_compact.proofs.Words.{without_end_blanks, columns, text_difference, mark_of, by_position}
+use Rattle.crx_compact.proofs.Words.{is_kept, is_printable, Row, Epoch, has_satellite, are_different}
+use Rattle.crx_compact.proofs.Words.{IsWholeEpoch, Fault, each_place, begins_epoch, is_observation_flag}
+use Rattle.crx_compact.proofs.Words.{Satellite, satellites_named, Count, epoch_text, each_place-same, at}
+use Rattle.crx_compact.proofs.Words.{at-without_end_blanks, columns-are, list_all-from_at, name-length}
+use Rattle.std.specs.Prelude.{nat_le, flat_map}
 use Rattle.std.proofs.lemmas.List.{length-append}
-use Rattle.std.proofs.lemmas.Bool.{and_parts, not-true}
-use Rattle.crx_text.specs.meaning.Columns.{character_at, without_end_blanks, columns}
-use Rattle.crx_text.specs.meaning.Texts.{text_difference, mark_of, by_position, is_kept}
-use Rattle.crx_base.specs.meaning.Lines.{is_printable}
-use Rattle.crx_rinex.specs.meaning.Observations.{Row, Epoch}
-use Rattle.crx_rinex.specs.meaning.Epochs.{has_satellite, are_different, IsWholeEpoch}
-use Rattle.crx_base.specs.declared.fault.Fault.{Fault}
-use Rattle.crx_text.specs.meaning.EachPlace.{each_place}
-use Rattle.crx_header.specs.meaning.EpochColumns.{begins_epoch, is_observation_flag, satellites_in}
-use Rattle.crx_compact.specs.meaning.EpochText.{Satellite, satellites_named}
-use Rattle.crx_header.specs.meaning.ObservationTypes.{Count}
-use Rattle.crx_compact.specs.meaning.Compaction.{epoch_text}
-use Rattle.crx_text.proofs.EachPlace.{each_place-same}
+use Rattle.crx_header.specs.meaning.EpochColumns.{satellites_in}
 use Rattle.crx_compact.proofs.Identifiers.{AreNew, new-after}
 use Rattle.crx_compact.proofs.wayback.Writable.{IsTypedRow, head-counted, sound-name_kept, typed-rows}
 use Rattle.crx_compact.proofs.Characters.{at-by_position, same_characters, list_all-at, list_all-append}
 use Rattle.crx_compact.proofs.Characters.{if_some}
 use Rattle.crx_compact.proofs.wayback.Runs.{IsUnmarked}
-use Rattle.crx_text.proofs.Characters.{at, at-without_end_blanks, at-append, at-append_past, columns-are}
-use Rattle.crx_text.proofs.Characters.{list_all-from_at}
-use Rattle.crx_rinex.proofs.ReadingBack.{name-length}
+use Rattle.crx_text.proofs.Characters.{at-append, at-append_past}
 
 -- ---- tests of all characters
 

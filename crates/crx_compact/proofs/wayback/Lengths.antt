@@ -1,32 +1,22 @@
 -- No line that is written for an epoch is too long.
-use Rattle.std.specs.Prelude.{◌≡◌, ℕ, zero, suc, ◌+◌, ◌-◌, ◌*◌, ◌^◌, ◌<◌, ◌≤◌, min, ℤ, pos, negsuc, neg_ℤ}
+use Rattle.crx_compact.proofs.Words.{◌≡◌, ℕ, zero, suc, ◌+◌, ◌-◌, ◌*◌, ◌^◌, ◌<◌, ◌≤◌, min, ℤ, pos, negsuc}
+use Rattle.crx_compact.proofs.Words.{Bool, true, false, List, [], ◌∷◌, ◌++◌, length, map, decimal}
+use Rattle.crx_compact.proofs.Words.{if◌then◌else◌, signed_decimal, AllByRecursion, subst, arith, by_position}
+use Rattle.crx_compact.proofs.Words.{mark_of, text_difference, code_text, Row, Epoch, value_in, Code}
+use Rattle.crx_compact.proofs.Words.{WRITTEN_ORDER, DIGITS_LIMIT, SATELLITES_LIMIT, OBSERVATION_WIDTH}
+use Rattle.crx_compact.proofs.Words.{CLOCK_WIDTH, code_at, Marked, epoch_text, since_full, arc_of, clock_arc}
+use Rattle.crx_compact.proofs.Words.{newest_text, indicators_before, codes_of, satellite_line, cell_text}
+use Rattle.crx_compact.proofs.Words.{compact_epoch, Count, IsWithin, AreWhole, each_place-all}
+use Rattle.crx_compact.proofs.Words.{length-each_place, IsWholeEpoch, few_kept}
+use Rattle.std.specs.Prelude.{neg_ℤ}
 use Rattle.std.specs.Prelude.{◌<ℤ◌}
-use Rattle.std.specs.Prelude.{Bool, true, false, List, [], ◌∷◌, ◌++◌, length, map, flat_map, decimal}
-use Rattle.std.specs.Prelude.{if◌then◌else◌}
-use Rattle.std.specs.Fmt.{signed_decimal}
-use Rattle.std.specs.List.{AllByRecursion}
-use Rattle.std.proofs.Common.{subst, arith}
+use Rattle.std.specs.Prelude.{flat_map}
 use Rattle.std.proofs.lemmas.Int.{ints}
 use Rattle.std.proofs.lemmas.Fmt.{length-decimal-le}
 use Rattle.std.proofs.lemmas.List.{length-append}
 use Rattle.std.proofs.Math.Nat.{pow-le-pow_right}
-use Rattle.crx_text.specs.meaning.Texts.{by_position, mark_of, text_difference}
-use Rattle.crx_text.specs.meaning.Codes.{code_text}
-use Rattle.crx_rinex.specs.meaning.Observations.{Row, Epoch, value_in}
-use Rattle.crx_text.specs.declared.code.Code.{Code}
-use Rattle.crx_base.specs.declared.limits.TheConstants.{WRITTEN_ORDER, DIGITS_LIMIT, TYPES_LIMIT}
-use Rattle.crx_base.specs.declared.limits.TheConstants.{SATELLITES_LIMIT}
-use Rattle.crx_base.specs.declared.limits.TheConstants.{OBSERVATION_WIDTH, CLOCK_WIDTH}
-use Rattle.crx_compact.specs.meaning.Differences.{difference, code_at}
-use Rattle.crx_compact.specs.meaning.Compaction.{Marked, epoch_text, since_full, arc_of, clock_arc}
-use Rattle.crx_compact.specs.meaning.Compaction.{newest_text, indicators_before, codes_of, satellite_line}
-use Rattle.crx_compact.specs.meaning.Cells.{cell_text}
-use Rattle.crx_compact.specs.meaning.Compaction.{compact_epoch}
-use Rattle.crx_header.specs.meaning.ObservationTypes.{Count}
-use Rattle.crx_text.specs.meaning.Numbers.{IsWithin}
-use Rattle.crx_compact.specs.Laws.{AreWhole}
-use Rattle.crx_text.proofs.EachPlace.{each_place-all, length-each_place}
-use Rattle.crx_rinex.specs.meaning.Epochs.{IsWholeEpoch}
+use Rattle.crx_base.specs.declared.limits.TheConstants.{TYPES_LIMIT}
+use Rattle.crx_compact.specs.meaning.Differences.{difference}
 use Rattle.crx_compact.proofs.wayback.Writable.{IsTypedRow, typed-rows}
 use Rattle.crx_compact.proofs.wayback.CodeTexts.{order-text}
 use Rattle.crx_compact.proofs.arcs.Bounds.{IsNear, doubled, doubled-more, difference-near, near-more}
@@ -35,7 +25,6 @@ use Rattle.crx_compact.proofs.wayback.Runs.{marked}
 use Rattle.crx_compact.proofs.wayback.Rows.{IsRowOf, clocks-fit, lines-each, near-all, stretch-within}
 use Rattle.crx_compact.proofs.wayback.Rows.{values-fit}
 use Rattle.crx_compact.proofs.wayback.Facts.{length-text}
-use Rattle.crx_text.proofs.EndBlanks.{few_kept}
 
 -- ---- numbers and codes
 

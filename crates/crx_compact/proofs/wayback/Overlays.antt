@@ -1,15 +1,11 @@
 -- Texts by their characters: what a difference marks comes back, and marks laid over one another are patches
 -- in turn.
-use Rattle.std.specs.Prelude.{◌≡◌, refl, ◌≢◌, ℕ, zero, suc, ◌≤◌, if◌then◌else◌, List, [], ◌∷◌, length, All}
-use Rattle.std.proofs.Common.{sym, ◌∙◌, ap, arith, not-suc-le-zero, le_of_suc-le-suc}
-use Rattle.crx_text.specs.meaning.Columns.{is_blank, without_end_blanks}
-use Rattle.crx_text.specs.meaning.Texts.{by_position, mark_of, text_difference}
-use Rattle.crx_text.specs.Texts.{character_of, patched}
-use Rattle.crx_text.specs.meaning.EachPlace.{each_place}
-use Rattle.crx_compact.specs.meaning.Expansion.{latest_mark, shown, longest, overlaid}
+use Rattle.crx_compact.proofs.Words.{◌≡◌, refl, ◌≢◌, ℕ, zero, suc, ◌≤◌, if◌then◌else◌, List, [], ◌∷◌, length}
+use Rattle.crx_compact.proofs.Words.{All, sym, ◌∙◌, ap, arith, not-suc-le-zero, le_of_suc-le-suc, is_blank}
+use Rattle.crx_compact.proofs.Words.{without_end_blanks, by_position, mark_of, text_difference, character_of}
+use Rattle.crx_compact.proofs.Words.{patched, each_place, latest_mark, shown, longest, overlaid, at}
+use Rattle.crx_compact.proofs.Words.{at-without_end_blanks, index-each_place}
 use Rattle.crx_compact.specs.Laws.{patched_in_turn}
-use Rattle.crx_text.proofs.Characters.{at, at-without_end_blanks}
-use Rattle.crx_text.proofs.EachPlace.{index-each_place}
 use Rattle.crx_compact.proofs.Characters.{same_characters, at-by_position}
 
 -- ---- patch after difference

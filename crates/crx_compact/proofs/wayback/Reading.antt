@@ -1,48 +1,27 @@
 -- The compact lines of an epoch read as that epoch.
-use Rattle.std.specs.Prelude.{◌≡◌, refl, ◌≢◌, ℕ, ◌+◌, ◌-◌, Bool, true, false, List, [], ◌∷◌, ◌++◌}
-use Rattle.std.specs.Prelude.{length, map, drop, Some, Result, Ok, Err, not, if◌then◌else◌}
-use Rattle.std.specs.List.{list_all, AllByRecursion}
-use Rattle.std.proofs.Common.{sym, ◌∙◌, ap, subst, arith, drop_of_length-le}
-use Rattle.std.proofs.lemmas.List.{length-map, length-append, append_assoc, map-append}
-use Rattle.std.proofs.lemmas.Simd.{map-map}
-use Rattle.std.proofs.Math.Seq.{drop-append_seam}
-use Rattle.std.proofs.lemmas.Bool.{and_parts}
-use Rattle.crx_text.specs.meaning.Columns.{is_blank, without_end_blanks, columns}
-use Rattle.crx_text.specs.meaning.Codes.{code_text}
-use Rattle.crx_text.specs.Codes.{IsPrintable}
-use Rattle.crx_base.specs.meaning.Seen.{ReadLine, Content}
-use Rattle.crx_rinex.specs.meaning.Observations.{Row, Epoch}
-use Rattle.crx_header.specs.meaning.ObservationTypes.{Count}
-use Rattle.crx_rinex.specs.meaning.Places.{Here}
-use Rattle.crx_text.specs.declared.code.Code.{Code}
-use Rattle.crx_base.specs.declared.fault.Fault.{Fault}
-use Rattle.crx_base.specs.declared.fault.Fault.TheVariants.{BadEpoch}
-use Rattle.crx_base.specs.declared.limits.TheConstants.{WRITTEN_ORDER, CLOCK_WIDTH}
-use Rattle.crx_compact.specs.meaning.Sequences.{back_to, and_then}
-use Rattle.crx_compact.specs.meaning.Differences.{code_at}
-use Rattle.crx_compact.specs.meaning.Compaction.{Marked, epoch_text, row_named, since_full, run_of, clock_arc}
-use Rattle.crx_compact.specs.meaning.Compaction.{newest_text, satellite_line, epoch_line, compact_epoch}
-use Rattle.crx_header.specs.meaning.EpochColumns.{begins_epoch, epoch_count}
-use Rattle.crx_compact.specs.meaning.EpochText.{names_in, Satellite, satellites_named}
-use Rattle.crx_compact.specs.meaning.Expansion.{RawEpoch, block_of, raw_run_of, overlaid}
-use Rattle.crx_compact.specs.meaning.ArcValues.{value_of}
-use Rattle.crx_compact.specs.meaning.Past.{Past, past_of_block, past_of_epochs, past_of_line}
-use Rattle.crx_compact.specs.meaning.CompactPlaces.{satellites_of_text, satellites_of_line}
-use Rattle.crx_compact.specs.meaning.CompactPlaces.{BegunEpoch, epoch_begun, clock_line_read}
-use Rattle.crx_compact.specs.meaning.Cells.{ReadCell}
-use Rattle.crx_compact.specs.meaning.CompactPlaces.{ReadRow, satellite_line_read, rows_read, ReadEpoch}
-use Rattle.crx_compact.specs.meaning.CompactPlaces.{epoch_of_rows}
-use Rattle.crx_compact.specs.meaning.CompactPlaces.{epoch_at}
-use Rattle.crx_rinex.specs.meaning.Epochs.{IsWholeEpoch}
-use Rattle.crx_compact.specs.ReadingLaws.{EpochReadsBack, raw_row, raw_of, raws_of, read_of, lines_of_epoch}
+use Rattle.crx_compact.proofs.Words.{◌≡◌, refl, ◌≢◌, ℕ, ◌+◌, ◌-◌, Bool, true, false, List, [], ◌∷◌, ◌++◌}
+use Rattle.crx_compact.proofs.Words.{length, map, drop, Some, Result, Ok, Err, not, if◌then◌else◌, list_all}
+use Rattle.crx_compact.proofs.Words.{AllByRecursion, sym, ◌∙◌, ap, subst, arith, length-map, map-append}
+use Rattle.crx_compact.proofs.Words.{map-map, drop-append_seam, and_parts, is_blank, without_end_blanks}
+use Rattle.crx_compact.proofs.Words.{columns, code_text, IsPrintable, ReadLine, Content, Row, Epoch, Count}
+use Rattle.crx_compact.proofs.Words.{Here, Code, Fault, BadEpoch, WRITTEN_ORDER, CLOCK_WIDTH, back_to}
+use Rattle.crx_compact.proofs.Words.{and_then, code_at, Marked, epoch_text, row_named, since_full, run_of}
+use Rattle.crx_compact.proofs.Words.{clock_arc, newest_text, satellite_line, epoch_line, compact_epoch}
+use Rattle.crx_compact.proofs.Words.{begins_epoch, epoch_count, names_in, Satellite, satellites_named}
+use Rattle.crx_compact.proofs.Words.{RawEpoch, block_of, raw_run_of, overlaid, value_of, Past, past_of_block}
+use Rattle.crx_compact.proofs.Words.{past_of_epochs, past_of_line, satellites_of_text, satellites_of_line}
+use Rattle.crx_compact.proofs.Words.{BegunEpoch, epoch_begun, clock_line_read, ReadCell, ReadRow}
+use Rattle.crx_compact.proofs.Words.{satellite_line_read, rows_read, ReadEpoch, epoch_of_rows, epoch_at}
+use Rattle.crx_compact.proofs.Words.{IsWholeEpoch, raw_row, raw_of, raws_of, AreWhole, code_of-code_text}
+use Rattle.crx_compact.proofs.Words.{few_kept, at, at-without_end_blanks, columns-are}
+use Rattle.std.proofs.Common.{drop_of_length-le}
+use Rattle.std.proofs.lemmas.List.{length-append, append_assoc}
+use Rattle.crx_compact.specs.ReadingLaws.{EpochReadsBack, read_of, lines_of_epoch}
 use Rattle.crx_compact.specs.ReadingLaws.{EachReadsBack, text_lines, epochs_at, marked_of, counts_of}
 use Rattle.crx_compact.specs.ReadingLaws.{reads_of}
 use Rattle.crx_compact.specs.ReadingLaws.{ReadsBack}
-use Rattle.crx_compact.specs.Laws.{AreWhole}
 use Rattle.crx_compact.proofs.Lists.{all-from}
 use Rattle.crx_compact.proofs.wayback.Writable.{head-counted, typed-rows}
-use Rattle.crx_text.proofs.CodeTexts.{code_of-code_text}
-use Rattle.crx_text.proofs.EndBlanks.{few_kept}
 use Rattle.crx_compact.proofs.wayback.CodeTexts.{is_code_character, code-characters}
 use Rattle.crx_compact.proofs.wayback.Runs.{raw_block, marked, Begins, begins_full, begins_later, block-raws}
 use Rattle.crx_compact.proofs.wayback.Runs.{raw_run}
@@ -54,7 +33,6 @@ use Rattle.crx_compact.proofs.wayback.Facts.{difference-printable}
 use Rattle.crx_compact.proofs.wayback.Rows.{run-begins, rows-of_run, clock-printable, satellite_of, row-read}
 use Rattle.crx_compact.proofs.Identifiers.{each-own, none-earlier}
 use Rattle.crx_compact.proofs.EpochLines.{satellites_counted}
-use Rattle.crx_text.proofs.Characters.{at, at-without_end_blanks, columns-are}
 
 -- ---- the epochs of a block
 

@@ -1,47 +1,26 @@
 -- A satellite's line reads as its row.
-use Rattle.std.specs.Prelude.{◌≡◌, refl, ℕ, zero, suc, ◌+◌, ◌-◌, ◌*◌, ◌^◌, ◌<◌, ◌≤◌, ℤ, Bool, true, false}
-use Rattle.std.specs.Prelude.{cond, nat_eq}
-use Rattle.std.specs.Prelude.{List, [], ◌∷◌, ◌++◌, length, map, flat_map, slice_index_or, drop, All, Option}
-use Rattle.std.specs.Prelude.{Some, None}
-use Rattle.std.specs.Prelude.{if◌then◌else◌}
-use Rattle.std.specs.Prelude.{Result, Ok, unwrap_or}
-use Rattle.std.specs.List.{list_all, AllByRecursion}
-use Rattle.std.specs.Str.{bytes_eq}
-use Rattle.std.proofs.Common.{sym, ◌∙◌, ap, subst, arith, not-suc-le-zero}
-use Rattle.std.proofs.lemmas.List.{get_or_past}
-use Rattle.std.proofs.lemmas.List.Elements.{All-head, All-tail}
-use Rattle.crx_text.specs.meaning.Numbers.{IsWithin, IsMissingOrWithin, IsValue}
+use Rattle.crx_compact.proofs.Words.{◌≡◌, refl, ℕ, zero, suc, ◌+◌, ◌-◌, ◌*◌, ◌^◌, ◌<◌, ◌≤◌, ℤ, Bool, true}
+use Rattle.crx_compact.proofs.Words.{false, cond, nat_eq, List, [], ◌∷◌, ◌++◌, length, map, slice_index_or}
+use Rattle.crx_compact.proofs.Words.{drop, All, Option, Some, None, if◌then◌else◌, Result, Ok, unwrap_or}
+use Rattle.crx_compact.proofs.Words.{list_all, AllByRecursion, bytes_eq, sym, ◌∙◌, ap, subst, arith}
+use Rattle.crx_compact.proofs.Words.{not-suc-le-zero, get_or_past, All-head, All-tail, IsWithin}
+use Rattle.crx_compact.proofs.Words.{IsMissingOrWithin, IsValue, begins_epoch, is_blank, without_end_blanks}
+use Rattle.crx_compact.proofs.Words.{text_difference, mark_of, by_position, code_text, IsPrintable, Row}
+use Rattle.crx_compact.proofs.Words.{Epoch, value_in, Code, Missing, Fault, WRITTEN_ORDER, OBSERVATION_WIDTH}
+use Rattle.crx_compact.proofs.Words.{CLOCK_WIDTH, each_place, back_to, stretch, code_at, Marked, run_of}
+use Rattle.crx_compact.proofs.Words.{since_full, row_named, arc_of, indicators_before, codes_of}
+use Rattle.crx_compact.proofs.Words.{satellite_line, cell_text, Satellite, RawEpoch, raw_run_of, code_in}
+use Rattle.crx_compact.proofs.Words.{value_of, Past, past_of_block, ReadCell, cells_read, cells_of}
+use Rattle.crx_compact.proofs.Words.{after_cells, are_marks, row_of_cells, satellite_line_read, AreWhole}
+use Rattle.crx_compact.proofs.Words.{each_place-all, index-each_place, length-each_place, raw_row, Count}
+use Rattle.crx_compact.proofs.Words.{code_of-code_text, at, at-without_end_blanks, columns-are}
+use Rattle.crx_compact.proofs.Words.{list_all-from_at}
+use Rattle.std.specs.Prelude.{flat_map}
 use Rattle.crx_rinex.specs.meaning.EpochLines.{IsClockOffset}
-use Rattle.crx_header.specs.meaning.EpochColumns.{begins_epoch}
-use Rattle.crx_text.specs.meaning.Columns.{is_blank, without_end_blanks}
-use Rattle.crx_text.specs.meaning.Texts.{text_difference, mark_of, by_position}
-use Rattle.crx_text.specs.meaning.Codes.{code_text}
-use Rattle.crx_text.specs.Codes.{IsPrintable}
-use Rattle.crx_rinex.specs.meaning.Observations.{Row, Epoch, value_in}
-use Rattle.crx_text.specs.declared.code.Code.{Code}
-use Rattle.crx_text.specs.declared.code.Code.TheVariants.{Missing}
-use Rattle.crx_base.specs.declared.fault.Fault.{Fault}
-use Rattle.crx_base.specs.declared.limits.TheConstants.{WRITTEN_ORDER, OBSERVATION_WIDTH, CLOCK_WIDTH}
-use Rattle.crx_text.specs.meaning.EachPlace.{each_place}
-use Rattle.crx_compact.specs.meaning.Sequences.{back_to, stretch}
-use Rattle.crx_compact.specs.meaning.Differences.{code_at}
-use Rattle.crx_compact.specs.meaning.Compaction.{Marked, run_of, since_full, row_named, arc_of}
-use Rattle.crx_compact.specs.meaning.Compaction.{indicators_before, codes_of, satellite_line}
-use Rattle.crx_compact.specs.meaning.Cells.{cell_text}
-use Rattle.crx_compact.specs.meaning.EpochText.{Satellite}
-use Rattle.crx_compact.specs.meaning.Expansion.{RawEpoch, raw_run_of, code_in}
-use Rattle.crx_compact.specs.meaning.ArcValues.{value_of}
-use Rattle.crx_compact.specs.meaning.Past.{Past, past_of_block}
-use Rattle.crx_compact.specs.meaning.Cells.{ReadCell, cells_read, cells_of, after_cells}
-use Rattle.crx_compact.specs.meaning.CompactPlaces.{are_marks, row_of_cells}
-use Rattle.crx_compact.specs.meaning.CompactPlaces.{satellite_line_read}
-use Rattle.crx_compact.specs.Laws.{AreWhole, CodesFit}
-use Rattle.crx_text.proofs.EachPlace.{each_place-all, index-each_place, length-each_place, map-each_place}
+use Rattle.crx_compact.specs.Laws.{CodesFit}
+use Rattle.crx_text.proofs.EachPlace.{map-each_place}
 use Rattle.crx_compact.proofs.Lists.{all-from}
 use Rattle.crx_compact.proofs.wayback.Writable.{IsTypedRow, typed-rows}
-use Rattle.crx_compact.specs.ReadingLaws.{raw_row}
-use Rattle.crx_header.specs.meaning.ObservationTypes.{Count}
-use Rattle.crx_text.proofs.CodeTexts.{code_of-code_text}
 use Rattle.crx_compact.proofs.wayback.CodeTexts.{is_code_character, code-characters}
 use Rattle.crx_compact.proofs.wayback.Cells.{AreWritten, cells-written, marks-written, one_cell}
 use Rattle.crx_compact.proofs.wayback.Overlays.{at_past}
@@ -50,7 +29,7 @@ use Rattle.crx_compact.proofs.wayback.Runs.{marks-new}
 use Rattle.crx_compact.proofs.Characters.{bytes_eq-is}
 use Rattle.crx_compact.proofs.arcs.Bounds.{IsNear, near-within, code-printable}
 use Rattle.crx_compact.proofs.wayback.Facts.{unmarked, at-difference, difference-printable, trimmed-again}
-use Rattle.crx_text.proofs.Characters.{at, at-drop, at-without_end_blanks, columns-are, list_all-from_at}
+use Rattle.crx_text.proofs.Characters.{at-drop}
 
 -- ---- rows of a run
 

@@ -1,38 +1,22 @@
 -- Runs and arcs of what was written, as a reader finds them.
-use Rattle.std.specs.Prelude.{◌≡◌, refl, ◌≢◌, ℕ, ◌*◌, ℤ, Bool, true, false, cond, nat_eq, List, [], ◌∷◌}
-use Rattle.std.specs.Prelude.{length}
-use Rattle.std.specs.Prelude.{map, take, Option, Some, None, Ok, if◌then◌else◌}
-use Rattle.std.specs.List.{AllByRecursion}
-use Rattle.std.specs.Option.{option_map}
-use Rattle.std.specs.Str.{bytes_eq}
-use Rattle.std.proofs.Common.{◌∙◌, ap, arith}
-use Rattle.std.proofs.lemmas.List.{get_or_past}
-use Rattle.crx_text.specs.meaning.Columns.{without_end_blanks}
-use Rattle.crx_text.specs.meaning.Texts.{text_difference, mark_of, by_position}
-use Rattle.crx_text.specs.Texts.{patched, character_of}
-use Rattle.crx_rinex.specs.meaning.Observations.{Row, Epoch, value_in}
-use Rattle.crx_text.specs.declared.code.Code.{Code}
-use Rattle.crx_text.specs.declared.code.Code.TheVariants.{Missing}
-use Rattle.crx_base.specs.declared.limits.TheConstants.{WRITTEN_ORDER}
-use Rattle.crx_compact.specs.meaning.Sequences.{back_to, named, stretch}
-use Rattle.crx_compact.specs.meaning.Differences.{code_at}
-use Rattle.crx_compact.specs.meaning.Compaction.{Marked, epoch_text, row_named, since_full, run_of, arc_of}
-use Rattle.crx_compact.specs.meaning.Compaction.{clock_arc}
-use Rattle.crx_compact.specs.meaning.Compaction.{codes_of, indicators_before, newest_text}
-use Rattle.crx_compact.specs.meaning.Expansion.{RawRow, RawEpoch, block_of, raw_row_named, raw_run_of}
-use Rattle.crx_compact.specs.meaning.Expansion.{marks_of}
-use Rattle.crx_compact.specs.meaning.Expansion.{code_in, overlaid}
-use Rattle.crx_compact.specs.meaning.ArcValues.{since_start, value_since, value_of}
+use Rattle.crx_compact.proofs.Words.{◌≡◌, refl, ◌≢◌, ℕ, ◌*◌, ℤ, Bool, true, false, cond, nat_eq, List, []}
+use Rattle.crx_compact.proofs.Words.{◌∷◌, length, map, take, Option, Some, None, Ok, if◌then◌else◌}
+use Rattle.crx_compact.proofs.Words.{AllByRecursion, option_map, bytes_eq, ◌∙◌, ap, arith, get_or_past}
+use Rattle.crx_compact.proofs.Words.{without_end_blanks, text_difference, mark_of, by_position, patched}
+use Rattle.crx_compact.proofs.Words.{character_of, Row, Epoch, value_in, Code, Missing, WRITTEN_ORDER}
+use Rattle.crx_compact.proofs.Words.{back_to, stretch, code_at, Marked, epoch_text, row_named, since_full}
+use Rattle.crx_compact.proofs.Words.{run_of, arc_of, clock_arc, codes_of, indicators_before, newest_text}
+use Rattle.crx_compact.proofs.Words.{RawRow, RawEpoch, block_of, raw_row_named, raw_run_of, marks_of, code_in}
+use Rattle.crx_compact.proofs.Words.{overlaid, since_start, value_since, value_of, index-each_place}
+use Rattle.crx_compact.proofs.Words.{length-each_place, IsMissingOrWithin, raw_row, raw_of, raws_of, at}
+use Rattle.crx_compact.proofs.Words.{at-without_end_blanks}
+use Rattle.crx_compact.specs.meaning.Sequences.{named}
 use Rattle.crx_compact.specs.ArcLaws.{codes_of_arc}
-use Rattle.crx_text.proofs.EachPlace.{index-each_place, length-each_place}
-use Rattle.crx_text.specs.meaning.Numbers.{IsMissingOrWithin}
 use Rattle.crx_compact.proofs.arcs.Bounds.{within-is}
-use Rattle.crx_compact.specs.ReadingLaws.{raw_row, raw_of, raws_of}
 use Rattle.crx_compact.proofs.arcs.Inversion.{value-numbers, started-codes}
 use Rattle.crx_compact.proofs.Characters.{at-by_position, same_characters, bytes_eq-is}
 use Rattle.crx_compact.proofs.wayback.Overlays.{character-mark, overlaid-patched}
 use Rattle.crx_compact.proofs.wayback.Cuts.{overlaid-take, trimmed-within}
-use Rattle.crx_text.proofs.Characters.{at, at-without_end_blanks}
 
 -- ---- the block that a reader finds
 

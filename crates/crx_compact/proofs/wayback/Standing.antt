@@ -1,28 +1,16 @@
 -- The compact lines of an epoch can be in a file.
-use Rattle.std.specs.Prelude.{◌≡◌, refl, ℕ, Bool, true, false, ◌&&◌, ◌||◌, List, [], ◌∷◌, ◌++◌, length, map}
+use Rattle.crx_compact.proofs.Words.{◌≡◌, refl, ℕ, Bool, true, false, ◌&&◌, ◌||◌, List, [], ◌∷◌, ◌++◌, length}
+use Rattle.crx_compact.proofs.Words.{map, if◌then◌else◌, list_all, AllByRecursion, ◌∙◌, ap, arith, and_parts}
+use Rattle.crx_compact.proofs.Words.{character_at, without_end_blanks, text_difference, mark_of, is_kept}
+use Rattle.crx_compact.proofs.Words.{is_printable, code_text, Code, WRITTEN_ORDER, Row, Epoch, Count}
+use Rattle.crx_compact.proofs.Words.{begins_epoch, is_observation_flag, Marked, epoch_text, since_full}
+use Rattle.crx_compact.proofs.Words.{run_of, arc_of, clock_arc, newest_text, indicators_before, codes_of}
+use Rattle.crx_compact.proofs.Words.{satellite_line, epoch_line, cell_text, code_at, AreWhole}
+use Rattle.crx_compact.proofs.Words.{length-each_place, IsWholeEpoch, at, at-without_end_blanks}
+use Rattle.crx_compact.proofs.Words.{list_all-from_at}
 use Rattle.std.specs.Prelude.{flat_map}
-use Rattle.std.specs.Prelude.{if◌then◌else◌}
-use Rattle.std.specs.List.{list_all, AllByRecursion}
-use Rattle.std.proofs.Common.{◌∙◌, ap, arith}
-use Rattle.std.proofs.lemmas.Bool.{and_parts}
-use Rattle.crx_text.specs.meaning.Columns.{character_at, without_end_blanks}
-use Rattle.crx_text.specs.meaning.Texts.{text_difference, mark_of, is_kept}
-use Rattle.crx_base.specs.meaning.Lines.{is_printable}
-use Rattle.crx_text.specs.meaning.Codes.{code_text}
-use Rattle.crx_text.specs.declared.code.Code.{Code}
-use Rattle.crx_base.specs.declared.limits.TheConstants.{WRITTEN_ORDER}
-use Rattle.crx_rinex.specs.meaning.Observations.{Row, Epoch}
-use Rattle.crx_header.specs.meaning.ObservationTypes.{Count}
-use Rattle.crx_header.specs.meaning.EpochColumns.{begins_epoch, is_event_flag, is_event_line}
-use Rattle.crx_header.specs.meaning.EpochColumns.{is_observation_flag}
-use Rattle.crx_compact.specs.meaning.Compaction.{Marked, epoch_text, since_full, run_of, arc_of, clock_arc}
-use Rattle.crx_compact.specs.meaning.Compaction.{newest_text}
-use Rattle.crx_compact.specs.meaning.Compaction.{indicators_before, codes_of, satellite_line, epoch_line}
-use Rattle.crx_compact.specs.meaning.Cells.{cell_text}
-use Rattle.crx_compact.specs.meaning.Differences.{code_at}
-use Rattle.crx_compact.specs.Laws.{AreWhole, has_no_epochs, LinesCanStand}
-use Rattle.crx_text.proofs.EachPlace.{length-each_place}
-use Rattle.crx_rinex.specs.meaning.Epochs.{IsWholeEpoch}
+use Rattle.crx_header.specs.meaning.EpochColumns.{is_event_flag, is_event_line}
+use Rattle.crx_compact.specs.Laws.{has_no_epochs, LinesCanStand}
 use Rattle.crx_compact.proofs.Lists.{all-from}
 use Rattle.crx_compact.proofs.wayback.Writable.{IsTypedRow, typed-rows}
 use Rattle.crx_compact.proofs.wayback.CodeTexts.{is_code_character, code-characters}
@@ -33,7 +21,6 @@ use Rattle.crx_compact.proofs.wayback.Facts.{head_tests, text-kept, text-head}
 use Rattle.crx_compact.proofs.wayback.Facts.{text-begins, at-difference, difference-printable}
 use Rattle.crx_compact.proofs.wayback.Rows.{IsRowOf, clock-printable, line-begins, lines-each, written-codes}
 use Rattle.crx_compact.proofs.wayback.Reading.{text-other}
-use Rattle.crx_text.proofs.Characters.{at, at-without_end_blanks, list_all-from_at}
 
 -- ---- characters
 

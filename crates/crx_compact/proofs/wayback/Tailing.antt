@@ -1,25 +1,15 @@
 -- The tail of the epochs decides the next epoch's lines and the next tail.
-use Rattle.std.specs.Prelude.{◌≡◌, refl, ℕ, ℤ, Bool, true, false, List, [], ◌∷◌, map, length, Option}
-use Rattle.std.specs.Prelude.{Some, None, if◌then◌else◌}
-use Rattle.std.specs.Option.{option_map}
-use Rattle.std.proofs.Common.{sym, ◌∙◌, ap}
-use Rattle.std.proofs.lemmas.List.{get_or_past}
-use Rattle.crx_text.specs.meaning.Columns.{without_end_blanks}
-use Rattle.crx_text.specs.meaning.Texts.{text_difference}
-use Rattle.crx_rinex.specs.meaning.Observations.{Row, Epoch, value_in}
-use Rattle.crx_base.specs.declared.limits.TheConstants.{WRITTEN_ORDER}
-use Rattle.crx_compact.specs.meaning.Sequences.{back_to, stretch}
-use Rattle.crx_compact.specs.meaning.Differences.{code_at}
-use Rattle.crx_compact.specs.meaning.Compaction.{Marked, epoch_text, row_named, run_of, arc_of, newest_text}
-use Rattle.crx_compact.specs.meaning.Compaction.{indicators_before, satellite_line}
-use Rattle.crx_compact.specs.Tails.{RowTail, Tail, row_tail, tail_of}
+use Rattle.crx_compact.proofs.Words.{◌≡◌, refl, ℕ, ℤ, Bool, true, false, List, [], ◌∷◌, map, length, Option}
+use Rattle.crx_compact.proofs.Words.{Some, None, if◌then◌else◌, option_map, sym, ◌∙◌, ap, get_or_past}
+use Rattle.crx_compact.proofs.Words.{without_end_blanks, text_difference, Row, Epoch, value_in, WRITTEN_ORDER}
+use Rattle.crx_compact.proofs.Words.{back_to, stretch, code_at, Marked, epoch_text, row_named, run_of, arc_of}
+use Rattle.crx_compact.proofs.Words.{newest_text, indicators_before, satellite_line, RowTail, Tail, tail_of}
+use Rattle.crx_compact.proofs.Words.{no_tail, tail_named, cell_of_tail, flags_of_tail, row_line_in}
+use Rattle.crx_compact.proofs.Words.{row_tail_in, code_of_value, arc_of_value, each_place-same}
+use Rattle.crx_compact.proofs.Words.{index-each_place, are_different}
+use Rattle.crx_compact.specs.Tails.{row_tail}
 use Rattle.crx_compact.specs.ArcTails.{arc_tail}
-use Rattle.crx_compact.specs.Steps.{no_tail, tail_named, cell_of_tail, flags_of_tail, row_line_in}
-use Rattle.crx_compact.specs.Steps.{row_tail_in}
-use Rattle.crx_compact.specs.ArcSteps.{code_of_value, arc_of_value}
 use Rattle.crx_compact.specs.Laws.{EpochByTail}
-use Rattle.crx_text.proofs.EachPlace.{each_place-same, index-each_place}
-use Rattle.crx_rinex.specs.meaning.Epochs.{are_different}
 use Rattle.crx_compact.proofs.Lists.{mapped-same}
 use Rattle.crx_compact.proofs.wayback.Runs.{marked, named-made, rows_before}
 use Rattle.crx_compact.proofs.wayback.Rows.{run-begins}

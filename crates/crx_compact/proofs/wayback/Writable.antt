@@ -1,18 +1,10 @@
 -- Whole epochs and their rows in the form that the proofs of this crate use: row by row, with the count of
 -- the epoch's
 -- rows.
-use Rattle.std.specs.Prelude.{◌≡◌, true, List, [], ◌∷◌, length, All, Some}
-use Rattle.std.specs.List.{list_all, AllByRecursion}
-use Rattle.std.proofs.Common.{sym, ◌∙◌, ap}
-use Rattle.std.proofs.lemmas.List.Elements.{All-head, All-tail}
-use Rattle.crx_rinex.specs.meaning.Observations.{Row, Epoch}
-use Rattle.crx_header.specs.meaning.ObservationTypes.{Count}
-use Rattle.crx_text.specs.meaning.Texts.{is_kept}
-use Rattle.crx_rinex.specs.meaning.SatelliteLines.{IsSoundRow, HasItsTypes}
-use Rattle.crx_rinex.specs.meaning.Epochs.{IsWholeEpoch}
-use Rattle.crx_header.specs.meaning.EpochColumns.{epoch_count}
+use Rattle.crx_compact.proofs.Words.{◌≡◌, true, List, [], ◌∷◌, length, All, Some, list_all, AllByRecursion}
+use Rattle.crx_compact.proofs.Words.{sym, ◌∙◌, ap, All-head, All-tail, Row, Epoch, Count, is_kept, IsSoundRow}
+use Rattle.crx_compact.proofs.Words.{HasItsTypes, IsWholeEpoch, epoch_count, name-length}
 use Rattle.crx_compact.proofs.Characters.{name-kept}
-use Rattle.crx_rinex.proofs.ReadingBack.{name-length}
 
 -- ---- rows
 

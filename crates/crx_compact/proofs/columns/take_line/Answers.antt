@@ -1,13 +1,8 @@
-use Rattle.std.proofs.Common.{ℕ, ◌≡◌, ◌∙◌, ◌+◌, ap, length, refl, sym, subst, arith, rules}
-use Rattle.std.specs.Prelude.{◌==◌, Some}
-use Rattle.std.proofs.lemmas.List.{length-set}
-use Rattle.std.proofs.lemmas.Result.{err_from_is_err_and}
-use Rattle.crx_base.specs.meaning.Seen.{Content}
+use Rattle.crx_compact.proofs.Words.{ℕ, ◌≡◌, ◌∙◌, ◌+◌, ap, length, refl, sym, subst, arith, rules, ◌==◌, Some}
+use Rattle.crx_compact.proofs.Words.{length-set, err_from_is_err_and, Content, step_at, OpenHistory}
+use Rattle.crx_compact.proofs.Words.{satellite_of, tail_of_history, Stage, Rows}
 use Rattle.crx_compact.specs.OpenEpochs.{Faulty}
-use Rattle.crx_compact.specs.OpenLines.{IsLineTaken, IsSoundBlock, step_at}
-use Rattle.crx_compact.specs.Placing.{OpenHistory, satellite_of, tail_of_history}
-use Rattle.crx_compact.specs.declared.columns.Stage.{Stage}
-use Rattle.crx_compact.specs.declared.columns.Stage.TheVariants.{Rows}
+use Rattle.crx_compact.specs.OpenLines.{IsLineTaken, IsSoundBlock}
 use Rattle.crx_compact.proofs.PrintedBlocks.{block-row}
 use Rattle.crx_compact.proofs.reading.Announced.{row-announced, rows-allowed, rows-few}
 use Rattle.crx_compact.proofs.reading.NoMemory.{no-memory-at-row}

@@ -1,7 +1,7 @@
-use Rattle.std.proofs.Common.{ℕ, List, Some, ◌≡◌, ◌∙◌, inl, inr, refl, subst, sym}
-use Rattle.std.proofs.lemmas.Result.{err_from_is_err_and}
-use Rattle.crx_header.specs.meaning.Satellites.{types_of_satellite}
-use Rattle.crx_compact.specs.Placing.{HasRoom, IsPlaced, PlacedRows}
+use Rattle.crx_compact.proofs.Words.{ℕ, List, Some, ◌≡◌, ◌∙◌, inl, inr, refl, subst, sym, err_from_is_err_and}
+use Rattle.crx_compact.proofs.Words.{types_of_satellite, HasRoom, PlacedRows}
+use Rattle.crx_compact.specs.Placing.{IsPlaced}
+use Rattle.crx_compact.proofs.Naming.{names-room}
 use Rattle.crx_compact.proofs.Results.{from_some, some-otherwise}
 use Rattle.crx_compact.proofs.placing.Placed.{placed-asked}
 use Rattle.crx_compact.proofs.history.place_name.Goals as goal

@@ -1,8 +1,6 @@
-use Rattle.std.proofs.Common.{◌≡◌, ◌≤◌, ℕ, ℤ, List, Option, ap, length, map, sum, sym, ◌∙◌, subst, take, arith}
+use Rattle.crx_compact.proofs.Words.{◌≡◌, ◌≤◌, ℕ, ℤ, List, Option, ap, length, map, sum, sym, ◌∙◌, subst}
+use Rattle.crx_compact.proofs.Words.{take, arith, false≢true, Row, HasRoom, HaveRoom, row_room}
 use borrow.Author.Count.{falls}
-use Rattle.std.proofs.lemmas.Bool.{false≢true}
-use Rattle.crx_rinex.specs.meaning.Observations.{Row}
-use Rattle.crx_compact.specs.Placing.{HasRoom, HaveRoom, row_room}
 use Rattle.crx_compact.proofs.Making.{taken_all}
 use Rattle.crx_compact.proofs.PlaceByPlace.{some-there}
 use Rattle.crx_compact.proofs.RowByRow.{all-at, all-next, all-of, sum-next}

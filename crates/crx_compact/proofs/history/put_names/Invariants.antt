@@ -1,6 +1,5 @@
-use Rattle.std.proofs.Common.{◌≡◌, ◌+◌, ◌*◌, ◌++◌, take}
+use Rattle.crx_compact.proofs.Words.{◌≡◌, ◌+◌, ◌*◌, ◌++◌, take, RowTail}
 use Rattle.std.specs.List.{flat_map}
-use Rattle.crx_compact.specs.Tails.{RowTail}
 use Rattle.crx_compact.proofs.history.put_names.Given as goal
 
 -- the identifiers up to an index are put

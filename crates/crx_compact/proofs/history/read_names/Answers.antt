@@ -1,21 +1,11 @@
-use Rattle.std.proofs.Common.{◌≡◌, refl, ◌+◌, ◌*◌, ◌++◌, ◌∷◌, [], Bool, not, true}
-use Rattle.std.proofs.Common.{false, drop, ap, sym, ◌∙◌, inl, arith, subst, ◌⊎◌, inl, inr}
-use Rattle.std.proofs.Common.{ℕ, List, Err, Result, map}
-use Rattle.std.proofs.lemmas.Bool.{false≢true}
-use Rattle.std.proofs.lemmas.Result.{err_from_is_err_and}
-use Rattle.std.specs.Result.{is_ok}
-use Rattle.std.proofs.lemmas.List.Elements.{All-append}
-use Rattle.crx_text.specs.meaning.Columns.{columns}
+use Rattle.crx_compact.proofs.Words.{◌≡◌, refl, ◌+◌, ◌*◌, ◌++◌, ◌∷◌, [], Bool, not, true, false, drop, ap}
+use Rattle.crx_compact.proofs.Words.{sym, ◌∙◌, inl, arith, subst, ◌⊎◌, inr, ℕ, List, Err, Result, map}
+use Rattle.crx_compact.proofs.Words.{false≢true, err_from_is_err_and, is_ok, All-append, columns, is_among}
+use Rattle.crx_compact.proofs.Words.{IsAwaitedSatellite, BadSatellite, OutOfMemory, RepeatedSatellite, Fault}
+use Rattle.crx_compact.proofs.Words.{Satellite, names_in, satellites_named, HasRoom, KeepsRooms, PlacedRows}
+use Rattle.crx_compact.proofs.Words.{padded_among, row_or_blank, RowTail}
 use Rattle.crx_text.proofs.EachPlace.{drop_all-each_place}
-use Rattle.crx_header.specs.meaning.Satellites.{is_among}
-use Rattle.crx_compact.specs.HeldRows.{IsAwaitedSatellite}
-use Rattle.crx_base.specs.declared.fault.Fault.TheVariants.{BadSatellite, OutOfMemory, RepeatedSatellite}
-use Rattle.crx_base.specs.declared.fault.Fault.{Fault}
 use Rattle.crx_compact.specs.EpochLinesRead.{AreSatellitesRefused}
-use Rattle.crx_compact.specs.meaning.EpochText.{Satellite, names_in, satellites_named}
-use Rattle.crx_compact.specs.Placing.{HasRoom}
-use Rattle.crx_compact.specs.Placing.{KeepsRooms, PlacedRows, padded_among, row_or_blank}
-use Rattle.crx_compact.specs.Tails.{RowTail}
 use Rattle.crx_compact.proofs.ComeRows.{come-name}
 use Rattle.crx_compact.proofs.Naming.{named-bad, named-twice, named-more, named-all, next-name}
 use Rattle.crx_compact.proofs.NamesCome.{HasNameCome, among-rows, awaited-one, name-comes}

@@ -1,8 +1,5 @@
-use Rattle.std.specs.Prelude.{◌≡◌, ◌⊎◌, All, List, [], true, map}
-use Rattle.std.specs.Result.{is_ok}
-use Rattle.crx_compact.specs.HeldRows.{IsAwaitedSatellite}
-use Rattle.crx_compact.specs.meaning.EpochText.{Satellite, names_in, satellites_named}
-use Rattle.crx_compact.specs.Placing.{HaveTypesRoom, KeepsRooms, padded_among}
+use Rattle.crx_compact.proofs.Words.{◌≡◌, ◌⊎◌, All, List, [], true, map, is_ok, IsAwaitedSatellite, Satellite}
+use Rattle.crx_compact.proofs.Words.{names_in, satellites_named, HaveTypesRoom, KeepsRooms, padded_among}
 use Rattle.crx_compact.proofs.ComeRows.{AreAwaited}
 use Rattle.crx_compact.proofs.Naming.{NamedSoFar}
 use Rattle.crx_compact.proofs.history.read_names.Given as goal

@@ -1,9 +1,8 @@
-use Rattle.std.proofs.Common.{◌≡◌, ◌≤◌, ◌++◌, ◌+◌, ◌*◌, List, ℕ, length, take, sym, ap, ◌∙◌, arith}
+use Rattle.crx_compact.proofs.Words.{◌≡◌, ◌≤◌, ◌++◌, ◌+◌, ◌*◌, List, ℕ, length, take, sym, ap, ◌∙◌, arith}
+use Rattle.crx_compact.proofs.Words.{take-take, take_at, without_end_blanks, few_kept, RowTail}
 use Rattle.std.specs.List.{flat_map}
-use Rattle.std.proofs.lemmas.List.{length-take, take-take, take_at}
-use Rattle.crx_text.specs.meaning.Columns.{without_end_blanks}
-use Rattle.crx_text.proofs.EndBlanks.{few_kept, take_kept}
-use Rattle.crx_compact.specs.Tails.{RowTail}
+use Rattle.std.proofs.lemmas.List.{length-take}
+use Rattle.crx_text.proofs.EndBlanks.{take_kept}
 use Rattle.crx_compact.proofs.history.renew_text.Goals as goal
 
 -- what is left of the front of a text by the count of its characters without the blanks at its end

@@ -1,17 +1,14 @@
-use Rattle.std.proofs.Common.{rules, ◌≡◌, ◌∙◌, ◌⊎◌, ap, sym, Bool, true, Ok}
-use Rattle.std.proofs.Common.{Err, Option, Some, None, if◌then◌else◌, ◌≤◌, ℕ, List, arith, subst}
-use Rattle.crx_base.specs.meaning.Seen.{Content}
-use Rattle.crx_base.specs.declared.fault.Fault.TheVariants.{NotAnEpoch, OutOfMemory}
-use Rattle.crx_compact.specs.OpenEpochs.{Faulty, HasMade, Reading}
-use Rattle.crx_compact.specs.OpenEpochs.{before_clock, first_step, tail_for_line, tail_held}
-use Rattle.crx_compact.specs.Placing.{HasRoom, HaveTypesRoom, OpenHistory, tail_of_history}
-use Rattle.crx_compact.specs.Tails.{Tail}
-use Rattle.crx_compact.specs.meaning.EpochText.{Satellite}
+use Rattle.crx_compact.proofs.Words.{rules, ◌≡◌, ◌∙◌, ◌⊎◌, ap, sym, Bool, true, Ok, Err, Option, Some, None}
+use Rattle.crx_compact.proofs.Words.{if◌then◌else◌, ◌≤◌, ℕ, List, arith, subst, Content, NotAnEpoch}
+use Rattle.crx_compact.proofs.Words.{OutOfMemory, HasMade, Reading, before_clock, first_step, tail_for_line}
+use Rattle.crx_compact.proofs.Words.{tail_held, HasRoom, HaveTypesRoom, OpenHistory, tail_of_history, Tail}
+use Rattle.crx_compact.proofs.Words.{Satellite, HeldColumns}
+use Rattle.crx_compact.specs.OpenEpochs.{Faulty}
 use Rattle.crx_compact.proofs.Results.{ok-same}
 use Rattle.crx_compact.proofs.ReadingRooms.{opened-from, room-for, rows-opened, satellites-known, text-known}
 use Rattle.crx_compact.proofs.reading.Blocks.{begun-block, begun-refused}
 use Rattle.crx_compact.proofs.reading.Stages.{line-good, tail-idle}
-use Rattle.crx_compact.specs.ReadingRooms.{HeldColumns, KeepsRoom}
+use Rattle.crx_compact.specs.ReadingRooms.{KeepsRoom}
 use Rattle.crx_compact.proofs.columns.Columns.begin.Goals.{After-read_epoch_line}
 use Rattle.crx_compact.proofs.columns.Columns.begin.Goals as goal
 

@@ -1,16 +1,10 @@
-use Rattle.std.proofs.Common.{◌≡◌, ℕ, Bool, true, false, not, Some, None, if◌then◌else◌, refl, subst, sym, ap, ◌∙◌}
-use Rattle.std.proofs.lemmas.Bool.{false≢true}
-use Rattle.crx_compact.specs.OpenEpochs.{ColumnsState, is_idle, tail_held}
+use Rattle.crx_compact.proofs.Words.{◌≡◌, ℕ, Bool, true, false, not, Some, None, if◌then◌else◌, refl, subst}
+use Rattle.crx_compact.proofs.Words.{sym, ap, ◌∙◌, false≢true, ColumnsState, is_idle, tail_held, PendingLines}
+use Rattle.crx_compact.proofs.Words.{columns_state, OpenHistory, tail_of_history, lines_after_tail, no_tail}
+use Rattle.crx_compact.proofs.Words.{tail_after, tail_written_after, Tail, Stage, HeldColumns}
 use Rattle.crx_compact.specs.OpenEpochs.ColumnsState.{Idle}
 use Rattle.crx_compact.specs.Coded.{CodedEpoch}
 use Rattle.crx_compact.specs.EncodingRooms.{HasRoomForEpoch}
-use Rattle.crx_compact.specs.LineLists.{PendingLines}
-use Rattle.crx_compact.specs.OpenLines.{columns_state}
-use Rattle.crx_compact.specs.Placing.{OpenHistory, tail_of_history}
-use Rattle.crx_compact.specs.Steps.{lines_after_tail, no_tail, tail_after, tail_written_after}
-use Rattle.crx_compact.specs.Tails.{Tail}
-use Rattle.crx_compact.specs.declared.columns.Stage.{Stage}
-use Rattle.crx_compact.specs.ReadingRooms.{HeldColumns}
 use Rattle.crx_compact.proofs.reading.Stages.{stage-idle, tail-idle}
 use Rattle.crx_compact.proofs.wayback.Encoding.{lines-coded, tail-coded}
 use Rattle.crx_compact.proofs.columns.Columns.encode.Goals.{then-full, else-full}

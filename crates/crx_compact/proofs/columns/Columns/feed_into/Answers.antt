@@ -1,15 +1,11 @@
-use Rattle.std.proofs.Common.{◌≡◌, ◌∙◌, ◌<◌, sym, ap, subst, arith, Bool, length, Some, None, true, false}
-use Rattle.std.proofs.lemmas.Bool.{eqb-true}
-use Rattle.crx_base.specs.meaning.Seen.{Content}
-use Rattle.crx_compact.specs.OpenEpochs.{ColumnsState, HasMade, HasPrintedLines, Idle, step_in}
-use Rattle.crx_compact.specs.OpenEpochs.{step_with_rows}
-use Rattle.crx_compact.specs.Placing.{tail_of_history}
-use Rattle.crx_compact.specs.PrintedBlocks.{AreLinesTo, IsBlock}
-use Rattle.crx_compact.specs.Tails.{Tail}
+use Rattle.crx_compact.proofs.Words.{◌≡◌, ◌∙◌, ◌<◌, sym, ap, subst, arith, Bool, length, Some, None, true}
+use Rattle.crx_compact.proofs.Words.{false, eqb-true, Content, ColumnsState, HasMade, HasPrintedLines}
+use Rattle.crx_compact.proofs.Words.{step_in, step_with_rows, tail_of_history, AreLinesTo, IsBlock, Tail}
+use Rattle.crx_compact.proofs.Words.{HeldColumns}
+use Rattle.crx_compact.specs.OpenEpochs.{Idle}
 use Rattle.crx_compact.proofs.PrintedBlocks.{block-whole}
 use Rattle.crx_compact.proofs.reading.Stages.{rows-left, state-rows, step-by-stage}
 use Rattle.crx_compact.proofs.reading.StepsByCode.{made-more, printed-whole}
-use Rattle.crx_compact.specs.ReadingRooms.{HeldColumns}
 use Rattle.crx_compact.proofs.columns.Columns.feed_into.Goals as goal
 
 pub returns-then-not-is_whole-clause-made : goal.returns-then-not-is_whole-clause-made

@@ -1,18 +1,11 @@
-use Rattle.std.proofs.Common.{◌≡◌, ◌≤◌, ◌++◌, ◌∷◌, [], ℕ, ℤ, List, Option, false, true, not, length, take, sym, ap, ◌∙◌}
-use Rattle.std.proofs.Common.{subst, arith, if◌then◌else◌}
+use Rattle.crx_compact.proofs.Words.{◌≡◌, ◌≤◌, ◌++◌, ◌∷◌, [], ℕ, ℤ, List, Option, false, true, not, length}
+use Rattle.crx_compact.proofs.Words.{take, sym, ap, ◌∙◌, subst, arith, if◌then◌else◌, is_ok, eqb-true}
+use Rattle.crx_compact.proofs.Words.{length-map, satellites_of, has_satellite, Epoch, Row, HasRoom, HaveRoom}
+use Rattle.crx_compact.proofs.Words.{OpenHistory, PlacedRows, row_of_parts, row_room, tail_of_history}
+use Rattle.crx_compact.proofs.Words.{no_tail, row_tail_in, Tail, AreRowsWritten, epoch_by_rows}
 use borrow.Author.Count.{falls}
-use Rattle.std.specs.Result.{is_ok}
-use Rattle.std.proofs.lemmas.Bool.{eqb-true}
-use Rattle.std.proofs.lemmas.List.{length-map}
-use Rattle.crx_header.specs.meaning.EpochColumns.{satellites_of}
-use Rattle.crx_rinex.specs.meaning.Epochs.{has_satellite}
-use Rattle.crx_rinex.specs.meaning.Observations.{Epoch, Row}
 use Rattle.crx_compact.specs.EncodingRooms.{HasTakenRow, encoding_room}
-use Rattle.crx_compact.specs.Placing.{HasRoom, HaveRoom, OpenHistory, PlacedRows, row_of_parts, row_room}
-use Rattle.crx_compact.specs.Placing.{tail_of_history}
-use Rattle.crx_compact.specs.Steps.{no_tail, row_tail_in}
-use Rattle.crx_compact.specs.Tails.{Tail}
-use Rattle.crx_compact.specs.Written.{AreRowsWritten, IsEpochWritten, IsRowWritten, epoch_by_rows}
+use Rattle.crx_compact.specs.Written.{IsEpochWritten, IsRowWritten}
 use Rattle.crx_compact.proofs.ComeRows.{row-new}
 use Rattle.crx_compact.proofs.Making.{taken_all, taken_more}
 use Rattle.crx_compact.proofs.PlaceByPlace.{some-there}

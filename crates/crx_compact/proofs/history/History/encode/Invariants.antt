@@ -1,8 +1,6 @@
-use Rattle.std.proofs.Common.{◌≡◌, ◌≤◌, ◌+◌, ◌*◌, ◌-◌, drop, if◌then◌else◌, length, map, sum, take}
-use Rattle.crx_base.specs.declared.limits.TheConstants.{HEAD_WIDTH, NAME_WIDTH}
-use Rattle.crx_compact.specs.Placing.{HaveRoom, row_room, tail_of_history}
-use Rattle.crx_compact.specs.Steps.{no_tail}
-use Rattle.crx_compact.specs.Written.{AreRowsWritten}
+use Rattle.crx_compact.proofs.Words.{◌≡◌, ◌≤◌, ◌+◌, ◌*◌, ◌-◌, drop, if◌then◌else◌, length, map, sum, take}
+use Rattle.crx_compact.proofs.Words.{HEAD_WIDTH, NAME_WIDTH, HaveRoom, row_room, tail_of_history, no_tail}
+use Rattle.crx_compact.proofs.Words.{AreRowsWritten}
 use Rattle.crx_compact.specs.declared.lines.TheConstants.{FIRST_LINES}
 use Rattle.crx_compact.proofs.history.History.encode.Given as goal
 

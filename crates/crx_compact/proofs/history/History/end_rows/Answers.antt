@@ -1,18 +1,10 @@
-use Rattle.std.proofs.Common.{◌≡◌, ◌++◌, ◌∷◌, List, ℕ, map, arith, ap, length, ◌∙◌}
+use Rattle.crx_compact.proofs.Words.{◌≡◌, ◌++◌, ◌∷◌, List, ℕ, map, arith, ap, length, ◌∙◌, is_ok}
+use Rattle.crx_compact.proofs.Words.{without_end_blanks, by_position, mark_of, text_difference, Row}
+use Rattle.crx_compact.proofs.Words.{code_text, arc_of_value, code_of_value, epoch_text, OpenHistory}
+use Rattle.crx_compact.proofs.Words.{PlacedRows, row_tail_in, RowTail, Tail, AreRowsWritten, epoch_by_rows}
 use Rattle.std.specs.List.{flat_map}
-use Rattle.std.specs.Result.{is_ok}
 use Rattle.std.proofs.lemmas.List.Folds.{flat_map-map}
-use Rattle.crx_text.specs.meaning.Columns.{without_end_blanks}
-use Rattle.crx_text.specs.meaning.Texts.{by_position, mark_of, text_difference}
-use Rattle.crx_rinex.specs.meaning.Observations.{Row}
 use Rattle.crx_text.proofs.CodeTexts.{code_text_length}
-use Rattle.crx_text.specs.meaning.Codes.{code_text}
-use Rattle.crx_compact.specs.ArcSteps.{arc_of_value, code_of_value}
-use Rattle.crx_compact.specs.meaning.Compaction.{epoch_text}
-use Rattle.crx_compact.specs.Placing.{OpenHistory, PlacedRows}
-use Rattle.crx_compact.specs.Steps.{row_tail_in}
-use Rattle.crx_compact.specs.Tails.{RowTail, Tail}
-use Rattle.crx_compact.specs.Written.{AreRowsWritten, epoch_by_rows}
 use Rattle.crx_compact.proofs.Making.{ok-unless}
 use Rattle.crx_compact.proofs.Results.{by_ok}
 use Rattle.crx_compact.proofs.SoundTexts.{difference-trimmed}

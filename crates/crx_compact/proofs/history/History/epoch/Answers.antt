@@ -1,14 +1,6 @@
-use Rattle.std.proofs.Common.{List, ap, inl, inr, sym, ◌∙◌, arith, slice_get}
-use Rattle.std.proofs.lemmas.Bool.{false≢true}
-use Rattle.std.specs.Option.{option_map}
-use Rattle.std.proofs.lemmas.Option.{slice_get-map}
-use Rattle.crx_rinex.specs.Epochs.{with_row}
-use Rattle.crx_rinex.specs.meaning.Epochs.{has_satellite}
-use Rattle.crx_rinex.specs.meaning.Observations.{Epoch, Row}
-use Rattle.crx_compact.specs.HeldRows.{IsAwaitedSatellite}
-use Rattle.crx_compact.specs.Placing.{OpenHistory, satellite_of}
-use Rattle.crx_compact.specs.ShownRows.{shown_row}
-use Rattle.crx_compact.specs.Tails.{RowTail}
+use Rattle.crx_compact.proofs.Words.{List, ap, inl, inr, sym, ◌∙◌, arith, slice_get, false≢true, option_map}
+use Rattle.crx_compact.proofs.Words.{slice_get-map, with_row, has_satellite, Epoch, Row, IsAwaitedSatellite}
+use Rattle.crx_compact.proofs.Words.{OpenHistory, satellite_of, shown_row, RowTail}
 use Rattle.crx_compact.proofs.RowByRow.{IsThere, all-at, is-there}
 use Rattle.crx_compact.proofs.ShownHistory.{row-shown}
 use Rattle.crx_compact.proofs.history.History.epoch.Goals as goal

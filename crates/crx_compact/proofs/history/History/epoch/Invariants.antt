@@ -1,6 +1,4 @@
-use Rattle.std.specs.Prelude.{◌≡◌}
-use Rattle.crx_compact.specs.Placing.{tail_of_history}
-use Rattle.crx_compact.specs.ShownRows.{shown_epoch}
+use Rattle.crx_compact.proofs.Words.{◌≡◌, tail_of_history, shown_epoch}
 use Rattle.crx_compact.proofs.history.History.epoch.Given as goal
 
 -- the rows up to an index are put into the epoch

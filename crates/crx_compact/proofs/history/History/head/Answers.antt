@@ -1,10 +1,6 @@
-use Rattle.std.proofs.Common.{ap, ◌∙◌, ◌≡◌, List, ℕ, Bool, is_some}
-use Rattle.crx_text.specs.meaning.Columns.{columns}
-use Rattle.crx_base.specs.declared.limits.TheConstants.{HEAD_WIDTH}
-use Rattle.crx_header.specs.meaning.EpochColumns.{epoch_count}
-use Rattle.crx_rinex.specs.meaning.Observations.{Epoch}
-use Rattle.crx_compact.specs.ArcSteps.{shown_value}
-use Rattle.crx_compact.specs.Placing.{OpenHistory}
+use Rattle.crx_compact.proofs.Words.{ap, ◌∙◌, ◌≡◌, List, ℕ, Bool, columns, HEAD_WIDTH, epoch_count, Epoch}
+use Rattle.crx_compact.proofs.Words.{shown_value, OpenHistory}
+use Rattle.std.proofs.Common.{is_some}
 use Rattle.crx_compact.proofs.ShownEpochs.{line-made, made-line}
 use Rattle.crx_compact.proofs.history.History.head.Goals as goal
 

@@ -1,7 +1,5 @@
-use Rattle.std.proofs.Common.{◌≡◌, List, ap, sym, ◌∙◌, arith, length, slice_get}
-use Rattle.crx_compact.specs.Placing.{OpenHistory}
-use Rattle.crx_compact.specs.PrintedBlocks.{printed_room}
-use Rattle.crx_compact.specs.Tails.{RowTail}
+use Rattle.crx_compact.proofs.Words.{◌≡◌, List, ap, sym, ◌∙◌, arith, length, slice_get, OpenHistory}
+use Rattle.crx_compact.proofs.Words.{printed_room, RowTail}
 use Rattle.crx_compact.proofs.reading.Announced.{rows-few}
 use Rattle.crx_compact.proofs.RowByRow.{IsThere, is-there, sum-next}
 use Rattle.crx_compact.proofs.history.History.printed_room.Goals as goal

@@ -1,6 +1,4 @@
-use Rattle.std.proofs.Common.{◌≡◌, ◌≤◌, ◌+◌, ◌*◌, map, sum, take}
-use Rattle.crx_base.specs.declared.limits.TheConstants.{LINE_LIMIT}
-use Rattle.crx_compact.specs.PrintedBlocks.{printed_room}
+use Rattle.crx_compact.proofs.Words.{◌≡◌, ◌≤◌, ◌+◌, ◌*◌, map, sum, take, LINE_LIMIT, printed_room}
 use Rattle.crx_compact.proofs.history.History.printed_room.Given as goal
 
 -- the room for the rows up to an index

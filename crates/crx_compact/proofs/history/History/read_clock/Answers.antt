@@ -1,7 +1,4 @@
-use Rattle.std.proofs.Common.{rules, ap, ◌∙◌, sym}
-use Rattle.crx_base.specs.declared.limits.TheConstants.{CLOCK_WIDTH}
-use Rattle.crx_compact.specs.meaning.Cells.{ReadCell}
-use Rattle.crx_compact.specs.ArcSteps.{shown_value}
+use Rattle.crx_compact.proofs.Words.{rules, ap, ◌∙◌, sym, CLOCK_WIDTH, ReadCell, shown_value}
 use Rattle.crx_compact.proofs.CellsRead.{shown-code}
 use Rattle.crx_compact.proofs.history.History.read_clock.Goals as goal
 

@@ -1,19 +1,10 @@
-use Rattle.std.proofs.Common.{◌≡◌, ◌++◌, List, ℕ, Result, true, inr, length, map, ap, refl, subst, sym, ◌∙◌, arith, rules}
-use Rattle.std.proofs.lemmas.Result.{err_from_is_err_and}
-use Rattle.crx_header.specs.meaning.ObservationTypes.{Count}
-use Rattle.std.specs.Result.{is_ok}
-use Rattle.std.specs.List.{list_all}
-use Rattle.std.proofs.lemmas.List.{append-nil}
-use Rattle.crx_base.specs.meaning.Lines.{is_printable}
-use Rattle.crx_base.specs.declared.fault.Fault.{Fault}
-use Rattle.crx_text.specs.Texts.{patched}
-use Rattle.crx_compact.specs.HeldRows.{past_of_tail}
-use Rattle.crx_compact.specs.meaning.CompactPlaces.{satellites_of_line, satellites_of_text}
-use Rattle.crx_compact.specs.meaning.EpochText.{Satellite}
-use Rattle.crx_compact.specs.Placing.{HasRoom, HaveTypesRoom, OpenHistory}
-use Rattle.crx_compact.specs.Placing.{PlacedRows, padded_among, tail_of_history}
+use Rattle.crx_compact.proofs.Words.{◌≡◌, ◌++◌, List, ℕ, Result, true, inr, length, map, ap, refl, subst, sym}
+use Rattle.crx_compact.proofs.Words.{◌∙◌, arith, rules, err_from_is_err_and, Count, is_ok, list_all}
+use Rattle.crx_compact.proofs.Words.{append-nil, is_printable, Fault, patched, past_of_tail}
+use Rattle.crx_compact.proofs.Words.{satellites_of_line, satellites_of_text, Satellite, HasRoom}
+use Rattle.crx_compact.proofs.Words.{HaveTypesRoom, OpenHistory, PlacedRows, padded_among, tail_of_history}
+use Rattle.crx_compact.proofs.Words.{RowTail, Tail}
 use Rattle.crx_compact.specs.Refusals.{AnswersRefusal}
-use Rattle.crx_compact.specs.Tails.{RowTail, Tail}
 use Rattle.crx_compact.proofs.AnnouncedRows.{announced-rows, line-of_text}
 use Rattle.crx_compact.proofs.Results.{by_err, by_ok}
 use Rattle.crx_compact.proofs.history.History.read_epoch_line.Goals.{After-read_satellites}

@@ -1,6 +1,4 @@
-use Rattle.std.proofs.Common.{◌≡◌, List, ap, ◌∙◌, slice_get, slice_set}
-use Rattle.crx_compact.specs.Placing.{OpenHistory}
-use Rattle.crx_compact.specs.Tails.{RowTail}
+use Rattle.crx_compact.proofs.Words.{◌≡◌, List, ap, ◌∙◌, slice_get, slice_set, OpenHistory, RowTail}
 use Rattle.crx_compact.proofs.Marks.{on-ok}
 use Rattle.crx_compact.proofs.RowByRow.{IsThere, is-there}
 use Rattle.crx_compact.proofs.history.History.read_row.Goals as goal

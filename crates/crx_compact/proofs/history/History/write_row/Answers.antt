@@ -1,14 +1,8 @@
-use Rattle.std.proofs.Common.{◌≡◌, ◌≤◌, ◌-◌, ◌++◌, ◌∷◌, [], List, ℕ, Some, length, min, not, ap, sym, ◌∙◌, refl, subst, arith}
+use Rattle.crx_compact.proofs.Words.{◌≡◌, ◌≤◌, ◌-◌, ◌++◌, ◌∷◌, [], List, ℕ, Some, length, min, not, ap, sym}
+use Rattle.crx_compact.proofs.Words.{◌∙◌, refl, subst, arith, false≢true, same_Some, has_satellite, Row}
+use Rattle.crx_compact.proofs.Words.{IsSoundRow, HasRoom, KeepsRooms, OpenHistory, row_of_parts, row_or_blank}
+use Rattle.crx_compact.proofs.Words.{row_line_after, row_tail_after, RowTail, Tail, AreRowsWritten}
 use Rattle.std.specs.Prelude.{vec_capacity}
-use Rattle.std.proofs.lemmas.Bool.{false≢true}
-use Rattle.std.proofs.lemmas.Option.{same_Some}
-use Rattle.crx_rinex.specs.meaning.Epochs.{has_satellite}
-use Rattle.crx_rinex.specs.meaning.Observations.{Row}
-use Rattle.crx_rinex.specs.meaning.SatelliteLines.{IsSoundRow}
-use Rattle.crx_compact.specs.Placing.{HasRoom, KeepsRooms, OpenHistory, row_of_parts, row_or_blank}
-use Rattle.crx_compact.specs.Steps.{row_line_after, row_tail_after}
-use Rattle.crx_compact.specs.Tails.{RowTail, Tail}
-use Rattle.crx_compact.specs.Written.{AreRowsWritten}
 use Rattle.crx_compact.proofs.Results.{on_err}
 use Rattle.crx_compact.proofs.Writing.{come-already, come-last, no-row, written-next}
 use Rattle.crx_compact.proofs.history.History.write_row.Goals.{After-place_or_add, In_ok-place_or_add}

@@ -1,9 +1,7 @@
-use Rattle.std.proofs.Common.{◌≡◌, ◌≤◌, ℕ, zero, suc, List, [], ◌∷◌, drop, take, length, ap, true, nat_eq}
-use Rattle.std.proofs.Common.{arith}
+use Rattle.crx_compact.proofs.Words.{◌≡◌, ◌≤◌, ℕ, zero, suc, List, [], ◌∷◌, drop, take, length, ap, true}
+use Rattle.crx_compact.proofs.Words.{nat_eq, arith, length-take-le, cut}
 use Rattle.std.proofs.Math.ListN.{drop_of_length-le}
 use Rattle.std.proofs.lemmas.Bool.Decides.{nat_tests}
-use Rattle.std.proofs.lemmas.List.{length-take-le}
-use Rattle.crx_compact.specs.LineLists.{cut}
 use Rattle.crx_compact.proofs.lines.Lines.is_empty.Goals as goal
 
 at-end : (m n : ℕ) → nat_eq m n ≡ true → n ≤ m

@@ -1,10 +1,8 @@
-use Rattle.std.proofs.Common.{◌≡◌, [], refl, ◌<◌, ◌≤◌, ◌+◌, ◌-◌, ◌*◌, ◌^◌, Fits, w64, get_or, List, ℕ, Option}
-use Rattle.std.proofs.Common.{Some, drop, take, length, ap, sym, ◌∙◌, arith}
-use Rattle.std.specs.Prelude.{slice_get}
+use Rattle.crx_compact.proofs.Words.{◌≡◌, [], refl, ◌<◌, ◌≤◌, ◌+◌, ◌-◌, ◌*◌, ◌^◌, get_or, List, ℕ, Option}
+use Rattle.crx_compact.proofs.Words.{Some, drop, take, length, ap, sym, ◌∙◌, arith, slice_get, length-take-le}
+use Rattle.crx_compact.proofs.Words.{LINE_LIMIT, AreCut, HasFront, PendingLines, cut}
+use Rattle.std.proofs.Common.{Fits, w64}
 use Rattle.std.proofs.Math.ListN.{drop_of_length-le}
-use Rattle.std.proofs.lemmas.List.{length-take-le}
-use Rattle.crx_base.specs.declared.limits.TheConstants.{LINE_LIMIT}
-use Rattle.crx_compact.specs.LineLists.{AreCut, HasFront, PendingLines, cut}
 use Rattle.crx_compact.proofs.LineTexts.{NextLine, front-kept, next-line}
 use Rattle.crx_compact.proofs.Lists.{get_or-take}
 use Rattle.crx_compact.proofs.lines.Lines.next_line.Goals.{After-index}

@@ -1,6 +1,5 @@
-use Rattle.std.proofs.Common.{◌≡◌, ◌<◌, ◌+◌, ◌++◌, ◌∷◌, [], List, ℕ, drop, length, set, take, ap, ◌∙◌, arith}
-use Rattle.std.proofs.lemmas.List.{length-set, take_at, take_more_set}
-use Rattle.crx_compact.specs.LineLists.{AreCut, PendingLines}
+use Rattle.crx_compact.proofs.Words.{◌≡◌, ◌<◌, ◌+◌, ◌++◌, ◌∷◌, [], List, ℕ, drop, length, set, take, ap, ◌∙◌}
+use Rattle.crx_compact.proofs.Words.{arith, length-set, take_at, take_more_set, AreCut, PendingLines}
 use Rattle.crx_compact.proofs.LineTexts.{Pushed, front-kept, line-pushed}
 use Rattle.crx_compact.proofs.lines.Lines.put.Goals as goal
 

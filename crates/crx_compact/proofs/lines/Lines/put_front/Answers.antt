@@ -1,8 +1,6 @@
-use Rattle.std.proofs.Common.{◌≡◌, ◌≤◌, ◌<◌, ◌+◌, ◌-◌, ◌++◌, ◌∷◌, [], List, ℕ, drop, length, take}
-use Rattle.std.proofs.Common.{ap, ◌∙◌, arith, subst}
-use Rattle.std.proofs.lemmas.List.{length-set, take_at}
-use Rattle.crx_base.specs.declared.limits.TheConstants.{LINE_LIMIT}
-use Rattle.crx_compact.specs.LineLists.{AreCut, HasFront, PendingLines}
+use Rattle.crx_compact.proofs.Words.{◌≡◌, ◌≤◌, ◌<◌, ◌+◌, ◌-◌, ◌++◌, ◌∷◌, [], List, ℕ, drop, length, take, ap}
+use Rattle.crx_compact.proofs.Words.{◌∙◌, arith, subst, length-set, take_at, LINE_LIMIT, AreCut, HasFront}
+use Rattle.crx_compact.proofs.Words.{PendingLines}
 use Rattle.crx_compact.proofs.LineTexts.{PutFront, put-front}
 use Rattle.crx_compact.proofs.lines.Lines.put_front.Goals as goal
 

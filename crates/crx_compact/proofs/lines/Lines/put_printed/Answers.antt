@@ -1,8 +1,5 @@
-use Rattle.std.proofs.Common.{◌+◌, ◌++◌, ◌∷◌, [], List, ℕ, drop, length, take, ap, ◌∙◌, arith}
-use Rattle.std.proofs.lemmas.List.{length-set, take_at}
-use Rattle.crx_rinex.specs.meaning.Printing.{printed_row}
-use Rattle.crx_compact.specs.LineLists.{PendingLines}
-use Rattle.crx_compact.specs.ShownRows.{shown_row}
+use Rattle.crx_compact.proofs.Words.{◌+◌, ◌++◌, ◌∷◌, [], List, ℕ, drop, length, take, ap, ◌∙◌, arith}
+use Rattle.crx_compact.proofs.Words.{length-set, take_at, printed_row, PendingLines, shown_row}
 use Rattle.crx_compact.proofs.LineTexts.{front-kept, row-pushed}
 use Rattle.crx_compact.proofs.Lists.{HasAt, has-at}
 use Rattle.crx_compact.proofs.lines.Lines.put_printed.Goals as goal

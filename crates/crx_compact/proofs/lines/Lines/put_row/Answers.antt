@@ -1,8 +1,5 @@
-use Rattle.std.proofs.Common.{◌+◌, ◌++◌, List, ℕ, Some, drop, length, take, ap, ◌∙◌, arith}
-use Rattle.std.proofs.lemmas.List.{length-set, take_at}
-use Rattle.crx_compact.specs.LineLists.{PendingLines}
-use Rattle.crx_compact.specs.Placing.{row_of_parts}
-use Rattle.crx_compact.specs.Steps.{row_line_after}
+use Rattle.crx_compact.proofs.Words.{◌+◌, ◌++◌, List, ℕ, Some, drop, length, take, ap, ◌∙◌, arith, length-set}
+use Rattle.crx_compact.proofs.Words.{take_at, PendingLines, row_of_parts, row_line_after}
 use Rattle.crx_compact.proofs.LineTexts.{front-kept, row-pushed}
 use Rattle.crx_compact.proofs.Lists.{HasAt, has-at}
 use Rattle.crx_compact.proofs.lines.Lines.put_row.Goals as goal

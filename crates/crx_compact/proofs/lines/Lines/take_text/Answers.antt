@@ -1,7 +1,5 @@
-use Rattle.std.proofs.Common.{◌≤◌, ◌+◌, ◌-◌, ◌*◌, List, ℕ, ap, arith, length, refl, take}
-use Rattle.std.proofs.lemmas.List.{length-take-le}
-use Rattle.crx_base.specs.declared.limits.TheConstants.{LINE_LIMIT}
-use Rattle.crx_compact.specs.LineLists.{PendingLines}
+use Rattle.crx_compact.proofs.Words.{◌≤◌, ◌+◌, ◌-◌, ◌*◌, List, ℕ, ap, arith, length, refl, take}
+use Rattle.crx_compact.proofs.Words.{length-take-le, LINE_LIMIT, PendingLines}
 use Rattle.crx_compact.proofs.LineTexts.{all-lines, none-left}
 use Rattle.crx_compact.proofs.lines.Lines.take_text.Goals as goal
 

@@ -1,6 +1,5 @@
-use Rattle.std.proofs.Common.{◌≡◌, ◌≤◌, ◌-◌, true}
+use Rattle.crx_compact.proofs.Words.{◌≡◌, ◌≤◌, ◌-◌, true, AreLinesTo}
 use Rattle.crx_compact.specs.LineLists.{HasSameRoom}
-use Rattle.crx_compact.specs.PrintedBlocks.{AreLinesTo}
 use Rattle.crx_compact.proofs.printed_block.PrintedBlock.print.Given as goal
 
 -- the lines up to a row are there
