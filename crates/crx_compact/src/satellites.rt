@@ -132,8 +132,9 @@ impl Satellites {
     fn bring(&mut self, name: [u8; NAME_WIDTH], count: usize) -> Option<bool>
         ensures { AnswersPlacing name count self.old self.new result }
     {
-        // Where another one came before it, it was exchanged with that, and is where the last one was found; where some of the epoch before
-        // are gone, it is as far behind as the last one was. A look-up by the map takes 100 instructions.
+        // A satellite that isn't the next one is mostly at one of two indices. Where another one came before it, it was exchanged with that,
+        // and is where the last one was found; where some of the epoch before are gone, it is as far behind as the last one was. A look-up
+        // by the map takes 100 instructions.
         let last = self.last;
         let near = if last < self.known.len()
             && is_same_identifier(key_at(&self.known, last), name)
