@@ -16,7 +16,6 @@ use Rattle.crx_compact.specs.RowsSoFar.{AreAnnounced}
 use Rattle.crx_compact.specs.Steps.{cell_of_tail}
 use Rattle.crx_compact.specs.Tails.{RowTail, Tail}
 use Rattle.crx_compact.proofs.EpochLines.{announced}
-use Rattle.crx_compact.proofs.Results.{if-true}
 
 satellites-again : (before : List RowTail) (satellites : List Satellite)
     → map satellite_of (map (padded_among before) satellites) ≡ satellites
@@ -52,10 +51,3 @@ line-of_text types before line text r printable made read =
     ap (λ (b : Bool). if not b then Err BadEpoch
     else satellites_of_text types (patched before.text line)) printable
     ∙ ap (satellites_of_text types) (sym made) ∙ read
-
--- a line without a fault has printable characters alone
-pub line-printable : (types : List Count) (before : Tail) (line : List ℕ) (satellites : List Satellite)
-    → satellites_of_line types (past_of_tail before) line ≡ Ok satellites → list_all is_printable line ≡ true
-line-printable types before line satellites read =
-    if-true (list_all is_printable line) BadEpoch (satellites_of_text types (patched before.text line))
-    satellites read

@@ -2,7 +2,7 @@
 use Rattle.std.specs.Prelude.{◌≡◌, refl, ℕ, suc, ◌+◌, ◌-◌, ◌*◌, Bool, true, false, List, [], ◌∷◌, ◌++◌, ℤ}
 use Rattle.std.specs.Prelude.{length, map}
 use Rattle.std.specs.Prelude.{take, drop, replicate, slice_index_or, Option, None, Some, Result, Ok, Err}
-use Rattle.std.specs.Prelude.{IfOk, IfErr}
+use Rattle.std.specs.Prelude.{IfErr}
 use Rattle.std.specs.Prelude.{OnOk, if◌then◌else◌, ◌==◌, zero}
 use Rattle.std.specs.List.{list_all}
 use Rattle.std.proofs.Common.{sym, ◌∙◌, ap, arith}
@@ -296,10 +296,6 @@ row-by_tail tail satellite line =
     (cells_read ((past_of_tail tail).value satellite.name) (cells_of satellite.count line))
 
 -- ---- what is reported, by a result
-
-pub if-ok : {X E : Type 0} (r : Result X E) (P Q : X → Type 0) → ((x : X) → P x → Q x) → IfOk r P → IfOk r Q
-if-ok (Ok x) P Q f h = f x h
-if-ok (Err e) P Q f h = h
 
 pub if-err : {X E : Type 0} (r : Result X E) (P Q : E → Type 0) → ((e : E) → P e → Q e) → IfErr r P
     → IfErr r Q

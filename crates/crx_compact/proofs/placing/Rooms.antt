@@ -1,6 +1,6 @@
 -- The room of the satellites that are known, by look-ups in their map.
 use Rattle.std.proofs.Common.{◌≡◌, ℕ, ◌≤◌, true, false, List, [], ◌∷◌}
-use Rattle.std.proofs.Common.{Option, Some, None, is_some, option_map, refl}
+use Rattle.std.proofs.Common.{Option, Some, None, option_map, refl}
 use Rattle.std.proofs.Common.{ap, sym, ◌∙◌, inl, inr, arith, subst}
 use Rattle.std.specs.Str.{bytes_eq}
 use Rattle.std.specs.Map.{lookup}
@@ -69,10 +69,6 @@ rooms-kept old new h name count has =
     let few = known.2 in
     let kept = after.2 in
     room-from_look_up name count new after.0 after.1 (omega (arith, few, kept))
-
-pub is-known : (name : List ℕ) (count : ℕ) (es : List Entry) → HasRoom name count (rooms_of es)
-    → is_some (lookup (bytes_eq name) es) ≡ true
-is-known name count es has = ap is_some (known-room name count es has).1
 
 pub same-rooms : (old new : List Entry) → new ≡ old → KeepsRooms (rooms_of new) (rooms_of old)
 same-rooms old new is = λ name count has. subst (λ (es : List Entry). HasRoom name count (rooms_of es)) is has
