@@ -1,5 +1,5 @@
-use Rattle.std.proofs.Common.{◌≡◌, ℕ, ◌+◌, ◌≤◌, List, [], ◌∷◌, ◌++◌, ⊎_elim, Ok, length, subst, sym, ap, ◌∙◌}
-use Rattle.std.proofs.Common.{refl, arith, append-nil, length-append}
+use Rattle.std.proofs.Common.{ℕ, ◌+◌, ◌≤◌, List, [], ◌∷◌, ◌++◌, ⊎_elim, Ok, length, subst, sym, ap, ◌∙◌}
+use Rattle.std.proofs.Common.{refl, arith, append-nil}
 use Rattle.crx_lines.specs.Window.{kept}
 use Rattle.crx_lines.specs.Seeking.{Seeking}
 use Rattle.crx_lines.proofs.DeviceLemmas.{ends-some}
@@ -71,11 +71,6 @@ returns-in-Ok-false-clause-ok g c =
           (ap length c.as_slice-searched.ensures.value),
     )
 
-pub returns-in-Ok-false-clause-end : goal.returns-in-Ok-false-clause-end
-returns-in-Ok-false-clause-end g c =
-    let none = c.in-Ok-false.ensures.none (ap Ok c.in-Ok-false.field-0-test) in
-    (ap length c.as_slice-searched.ensures.value, none.1)
-
 pub returns-in-Ok-false-clause-unasked : goal.returns-in-Ok-false-clause-unasked
 returns-in-Ok-false-clause-unasked g c =
     let s = Seeking-step (λ given. g.R.Source.gave c.args.reader.now given c.seeking.reader) _ _ _ _ _ _ _ _ _
@@ -111,14 +106,6 @@ returns-in-Ok-eq0-clause-ok g c =
           ∙ c.in-Ok-eq0.field-0-test) (omega (arith, s.within)) more.2
           (ap length c.as_slice-searched.ensures.value),
     )
-
-pub returns-in-Ok-eq0-clause-end : goal.returns-in-Ok-eq0-clause-end
-returns-in-Ok-eq0-clause-end g c =
-    let more = c.in-Ok-eq0.ensures.ok in
-    let held = kept c.discarded.new.window in
-    let same : length (kept c.fill.new.self) ≡ length held =
-    omega (arith, ap length more.2, length-append held more.0, more.1, c.in-Ok-eq0.field-0-test) in
-    (ap length c.as_slice-searched.ensures.value ∙ sym same, c.in-Ok-eq0.ensures.end c.in-Ok-eq0.field-0-test)
 
 pub returns-in-Ok-eq0-clause-unasked : goal.returns-in-Ok-eq0-clause-unasked
 returns-in-Ok-eq0-clause-unasked g c =

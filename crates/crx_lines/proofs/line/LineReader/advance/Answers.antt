@@ -1,5 +1,5 @@
-use Rattle.std.proofs.Common.{◌≡◌, ℕ, true, not, ◌+◌, ◌-◌, ◌<◌, List, inr, length, take, drop, slice_range}
-use Rattle.std.proofs.Common.{sym, ap, ◌∙◌, refl, arith, length-drop}
+use Rattle.std.proofs.Common.{◌≡◌, ℕ, true, not, ◌+◌, ◌<◌, List, inr, length, take, drop, slice_range}
+use Rattle.std.proofs.Common.{sym, ap, ◌∙◌, refl, arith}
 use Rattle.crx_base.specs.meaning.Lines.{without_return, ends_with_return}
 use Rattle.crx_lines.specs.Reading.{ReaderState}
 use Rattle.crx_lines.specs.Readers.{reading}
@@ -92,17 +92,3 @@ returns-clause-answers g c =
         tally-line true _ _ _ _ refl refl,
       ),
     )
-
-pub invariant_of-self : goal.invariant_of-self
-invariant_of-self g c =
-    let old = c.args.self.now in
-    let len = c.in-Some.len in
-    let shown : c.as_slice.result.now ≡ kept old.window.value = c.as_slice.ensures.value
-    ∙ ap kept c.deref.ensures in
-    let now = c.pass.ensures.kept ∙ ap (λ w. drop (len + 1) (kept w)) c.deref_mut.ensures.value in
-    let size : length (kept c.pass.new.self) ≡ length (kept old.window.value) - (len + 1) =
-    ap length now ∙ length-drop (len + 1) (kept old.window.value) in
-    record {
-      counted = omega (arith, old.counted);
-      limit = omega (arith, size, ap length shown, c.in-Some.ensures.within.1, old.limit);
-    }

@@ -12,8 +12,7 @@ use Rattle.crx_base.specs.declared.limits.TheConstants.{INPUT_LIMIT, LINE_LIMIT}
 use Rattle.crx_base.specs.declared.fault.Fault.TheVariants.{InputTooLong, ReadFailed}
 use Rattle.crx_lines.proofs.DeviceLemmas.{tally-same, tally-line}
 use Rattle.crx_lines.proofs.SeekLemmas.{Seeking-sum}
-use Rattle.crx_lines.proofs.WindowLemmas.{length-kept}
-use Rattle.crx_lines.proofs.AdvanceLemmas.{EndIs, piece_at, passed-within, takes, held-within, some-byte}
+use Rattle.crx_lines.proofs.AdvanceLemmas.{EndIs, piece_at, passed-within, takes, some-byte}
 use Rattle.crx_lines.proofs.AdvanceLemmas.{whole-piece, content-long, nothing, over-fault, read-fault}
 use Rattle.crx_lines.proofs.AdvanceLemmas.{shown-line}
 use Rattle.crx_lines.proofs.line.LineReader.advance_by_reading.Goals as goal
@@ -93,23 +92,6 @@ returns-then-is_nothing-clause-answers g c =
             (c.in-Ok.ensures.ends ∙ ap (λ b. cond b asked (one_more asked)) none.2),
       ),
     )
-
-pub held-held-requires : goal.held-held-requires
-held-held-requires g c =
-    let w = c.seek.new.window in
-    omega (arith, c.in-Ok.ensures.ok.1.searched_within, length-kept w.bytes.items w.start w.end, w.within)
-
-pub pass-requires : goal.pass-requires
-pass-requires g c =
-    let found = c.in-Ok.found in
-    let held = kept c.seek.new.window in
-    let within : c.held-held.result ≤ length held =
-    held-within (λ given. g.R.Source.gave c.args.reader.now given c.seek.new.reader)
-    (kept c.deref_mut.result.now) held _
-    c.in-Ok.ensures.ok.0 found.passed found.len
-    (g.R.Source.at_end c.seek.new.reader) c.in-Ok.ensures.ok.1 found.is_ended
-    c.held-held.result c.in-Ok.ensures.end c.held-held.ensures in
-    omega (arith, within, ap (λ w. length (kept w)) c.deref_mut-2.ensures.value)
 
 pub overflow_add-self : goal.overflow_add-self
 overflow_add-self g c =

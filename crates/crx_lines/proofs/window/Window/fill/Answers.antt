@@ -2,7 +2,7 @@ use Rattle.std.proofs.Common.{◌≡◌, ◌≤◌, ◌+◌, ◌-◌, ◌++◌, 
 use Rattle.std.proofs.Common.{length-take-le}
 use Rattle.std.proofs.lemmas.List.{take_at}
 use borrow.Rule.Slice.PartMut.{put_mid, same_len_mid}
-use Rattle.crx_lines.proofs.WindowLemmas.{grown, on_err, unread}
+use Rattle.crx_lines.proofs.WindowLemmas.{grown}
 use Rattle.crx_lines.proofs.window.Window.fill.Goals as goal
 
 pub returns-clause-ok : goal.returns-clause-ok
@@ -26,19 +26,3 @@ returns-clause-ok g c =
           ∙ ap (λ l. l ++ more) c.make_room.ensures.kept,
       c.in_ok-count.ensures.bytes,
     )
-
-pub returns-in_err-count-clause-kept : goal.returns-in_err-count-clause-kept
-returns-in_err-count-clause-kept g c =
-    let w = c.make_room.new.self in
-    let bytes = c.deref_mut.result.now in
-    let room : ℕ = w.end + c.min-room.result - w.end in
-    let within : w.end ≤ length w.bytes.items = omega (arith, w.within, w.whole) in
-    let long : length (put_mid w.end room bytes c.read.new.buffer) ≡ w.bytes.len =
-    same_len_mid w.end room bytes c.read.new.buffer c.read.auto.buffer ∙ c.deref_mut.ensures.len in
-    rw (
-      take_at (put_mid w.end room bytes c.read.new.buffer) (drop (length
-          (put_mid w.end room bytes c.read.new.buffer)) w.bytes.items) w.bytes.len long,
-      c.deref_mut.ensures.value,
-    )
-    (on_err c.from_residual.result
-    (unread w.bytes.items c.read.new.buffer w.start w.end _ w.ordered within ∙ c.make_room.ensures.kept))
