@@ -1,9 +1,9 @@
 pub mod output
-pub mod TakingTwice
-pub mod RunningSteps
+pub mod DeviceSpans
+pub mod LineEndings
+pub mod LinesTaken
 pub mod StepReading
-pub mod StepLemmas
-pub mod WorkLemmas
+pub mod RunningSteps
 pub mod Salvaged
 pub mod RunEndings
 pub mod Conclusions

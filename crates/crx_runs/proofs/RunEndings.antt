@@ -1,8 +1,8 @@
 -- What is after a run, by how its work ended and how it was finished.
 use Rattle.std.proofs.Common.{◌≡◌, ◌⊎◌, inl, inr, ℕ, ◌+◌, Bool, true, List, [], ◌++◌, length, take, Option}
 use Rattle.std.proofs.Common.{Some, None}
-use Rattle.std.proofs.Common.{refl, sym, ap, subst, ◌∙◌, append-nil}
-use Rattle.crx_lines.specs.meaning.Devices.{with_failed_flush, with_failed_write, with_flush}
+use Rattle.std.proofs.Common.{◌∷◌, refl, sym, ap, subst, ◌∙◌, append-nil, arith, length-append}
+use Rattle.crx_lines.specs.meaning.Devices.{with_failed_flush, with_flush}
 use Rattle.crx_base.specs.meaning.Lines.{InputLine, lines_of}
 use Rattle.crx_lines.specs.Reading.{ReaderState}
 use Rattle.crx_lines.specs.Progress.{IsStopped}
@@ -16,33 +16,17 @@ use Rattle.crx_runs.specs.declared.taking.Halt.TheVariants as halt
 use Rattle.crx_runs.specs.meaning.Results.{Course}
 use Rattle.crx_runs.specs.meaning.Filters.{Filter, with_next}
 use Rattle.crx_runs.specs.meaning.Messages.{error_text, notices_text}
-use Rattle.crx_runs.specs.meaning.Spans.{Device, TookAll, AreNext, Input, IsPart}
-use Rattle.crx_runs.specs.Running.{EndsAt, WellDone, StoppedByReader, StoppedByLine, StoppedByEnd}
-use Rattle.crx_runs.specs.Running.{StoppedAtStart}
+use Rattle.crx_runs.specs.meaning.Spans.{Device, TookAll, AreNext, Input}
+use Rattle.crx_runs.specs.Endings.{EndsAt, EndsBy, ReaderStopped, StoppedAtStart, StoppedByEnd, WellDone}
 use Rattle.crx_runs.specs.Endings.{Finishes, IsReported, IsFlushed, FlushFailed, write_failed_at}
 use Rattle.crx_runs.specs.Lawful.{IsLawful, is_of_lines}
 use Rattle.crx_runs.specs.meaning.Interruptions.{complete_lines, IsTurn, IsWritten, AreReported}
 use Rattle.crx_runs.specs.meaning.Interruptions.{NoMemoryAtLine, FaultFound}
 use Rattle.crx_runs.specs.meaning.Interruptions.{Stands, IsFrontPart}
-use Rattle.crx_runs.proofs.TakingTwice.{all-all}
-use Rattle.crx_runs.proofs.RunningSteps.{took-same, took-part}
+use Rattle.crx_runs.proofs.DeviceSpans.{Joins, all-all, all-still, notices-append, part-more, part-still, part-then, took-still}
 use Rattle.crx_runs.proofs.Salvaged.{complete-stopped, all-read, all-of, taken-read, begins-itself}
 use Rattle.crx_runs.proofs.Salvaged.{begins-taken}
 use Rattle.crx_runs.proofs.Salvaged.{first-whole, first-after-turn, first-before-turn, first-complete}
-
--- a part that was taken, and nothing after it
-pub part-still : (first second both : Device)
-    (same : second.before ≡ first.after) (start : both.before ≡ first.before)
-    (end : both.after ≡ second.after)
-    (joined : (xs ys : List ℕ) → first.took xs → second.took ys → both.took (xs ++ ys))
-    (xs all : List ℕ) → IsPart first xs all → TookAll second [] → IsPart both xs all
-part-still first second both same start end joined xs all a b = record {
-  count = a.count;
-  some = a.some;
-  less = a.less;
-  took = subst both.took (append-nil (take a.count all)) (joined (take a.count all) [] a.took b.0);
-  failed = end ∙ b.1 ∙ same ∙ a.failed ∙ ap with_failed_write (sym start);
-}
 
 -- the one fault of a run
 pub one-fault : (P : At → Type 0) (at other : At) (fault : Option At)
@@ -52,43 +36,29 @@ one-fault P at other (Some it) is p same =
     subst P e p
 one-fault P at other None is p same = absurd (cc)
 
-module _ (filter : Filter) (lawful : IsLawful filter)
-    (input : Input) (writer1 writer2 writer messages1 messages2 messages : Device)
-    (wsame : writer2.before ≡ writer1.after)
-    (wstart : writer.before ≡ writer1.before) (wend : writer.after ≡ writer2.after)
-    (wjoined : (xs ys : List ℕ) → writer1.took xs
-    → writer2.took ys → writer.took (xs ++ ys)) (wflushed : writer2.flushed → writer.flushed)
-    (msame : messages2.before ≡ messages1.after)
-    (mstart : messages.before ≡ messages1.before) (mend : messages.after ≡ messages2.after)
-    (mjoined : (xs ys : List ℕ) → messages1.took xs → messages2.took ys → messages.took (xs ++ ys)) where
-  abbrev StandsAfter : List ℕ → ℕ → Option At → Type 0
-  StandsAfter given status fault = (at : At)
-      → fault ≡ Some at → (status ≡ 1) × Stands filter input given writer messages at at.fault
+-- what is after a run that a fault ended
+abbrev pub StandsAfter : Filter → Input → Device → Device → List ℕ → ℕ → Option At → Type 0
+StandsAfter filter input writer messages given status fault = (at : At)
+    → fault ≡ Some at → (status ≡ 1) × Stands filter input given writer messages at at.fault
 
+module _ (filter : Filter) (lawful : IsLawful filter) (input : Input)
+    {writer1 writer2 writer messages1 messages2 messages : Device}
+    (w : Joins writer1 writer2 writer) (m : Joins messages1 messages2 messages) where
   -- ---- devices
 
   written : (text : List ℕ) → TookAll writer1 text → IsFlushed writer2 ⊎ FlushFailed writer2
       → IsWritten writer text
   written text a (inl b) = (
-    subst writer.took (append-nil text) (wjoined text [] a.0 b.0),
-    inl (wend ∙ b.1 ∙ ap with_flush (wsame ∙ a.1 ∙ sym wstart), wflushed b.2),
+    took-still w text a.0 b.0,
+    inl (w.end ∙ b.1 ∙ ap with_flush (w.same ∙ a.1 ∙ sym w.start), w.flushed b.2),
   )
-  written text a (inr b) = (
-    subst writer.took (append-nil text) (wjoined text [] a.0 b.0),
-    inr (wend ∙ b.1 ∙ ap with_failed_flush (wsame ∙ a.1 ∙ sym wstart)),
-  )
-
-  was-taken : (text : List ℕ) → IsWritten writer text → writer.took text
-  was-taken text a = a.0
+  written text a (inr b) =
+      (took-still w text a.0 b.0, inr (w.end ∙ b.1 ∙ ap with_failed_flush (w.same ∙ a.1 ∙ sym w.start)))
 
   reported : (warnings : List At) (at : At)
       → TookAll messages1 (notices_text warnings) → IsReported messages2 at → AreReported messages warnings at
-  reported warnings at a (inl b) = inl (all-all messages1 messages2 messages msame mstart mend mjoined
-      (notices_text warnings) (error_text (Some at)) a b)
-  reported warnings at a (inr b) =
-      let all = notices_text warnings ++ error_text (Some at) in
-      inr (took-part messages1 messages2 messages msame mstart mend mjoined
-      (notices_text warnings) (error_text (Some at)) [] all a b (sym (append-nil all)))
+  reported warnings at a (inl b) = inl (all-all m (notices_text warnings) (error_text (Some at)) a b)
+  reported warnings at a (inr b) = inr (part-then m (notices_text warnings) (error_text (Some at)) a b)
 
   -- ---- a line, or the end
 
@@ -110,7 +80,7 @@ module _ (filter : Filter) (lawful : IsLawful filter)
         → NoMemoryAtLine filter input given writer messages at)
         → ((at : At) → after.fault ≡ Some at → is_of_lines at.fault ≡ true)
         → EndsAt can number writer1 messages1 before after halt
-        → Finishes writer2 messages2 last warned (Some halt) status fault → StandsAfter given status fault
+        → Finishes writer2 messages2 last warned (Some halt) status fault → StandsAfter filter input writer messages given status fault
     turn-stands (halt.Fault at) warned status fault memory found (inl ran) finished other is = (
       finished.3,
       one-fault (λ (a : At). Stands filter input given writer messages a a.fault) at other fault finished.2
@@ -123,13 +93,13 @@ module _ (filter : Filter) (lawful : IsLawful filter)
     turn-stands (halt.Fault at) warned status fault memory found (inr r) finished other is = (
       finished.3,
       one-fault (λ (a : At). Stands filter input given writer messages a a.fault) at other fault finished.2
-          (found-stands at.fault at (found at r.fault)
+          (found-stands at.fault at (found at r.ends.fault)
           (record {
             before = before;
             after = after;
             last = last;
             turn = turn;
-            fault = r.fault;
+            fault = r.ends.fault;
             wrote = written after.output r.wrote finished.0;
             reported = reported after.warnings at r.reported finished.1;
           }))
@@ -143,9 +113,8 @@ module _ (filter : Filter) (lawful : IsLawful filter)
             before = before;
             after = after;
             turn = turn;
-            good = r.good;
-            wrote = part-still writer1 writer2
-                writer wsame wstart wend wjoined before.output after.output r.wrote finished.0;
+            good = r.adds.good;
+            wrote = part-still w before.output after.output r.wrote finished.0;
             reported = reported after.warnings (write_failed_at last) r.reported finished.1;
           }))
           is,
@@ -158,10 +127,12 @@ module _ (filter : Filter) (lawful : IsLawful filter)
             before = before;
             after = after;
             turn = turn;
-            wrote = took-same writer1 writer2
-                writer wsame wstart wend wjoined before.output before.output r.wrote finished.0 refl;
-            reported = part-still messages1 messages2 messages msame mstart mend mjoined
-                (notices_text before.warnings) (notices_text after.warnings) r.reported finished.1;
+            wrote = all-still w before.output r.wrote finished.0;
+            reported = part-still m (notices_text before.warnings) (notices_text after.warnings)
+                (part-more (notices_text before.warnings) (notices_text (before.warnings ++ r.notices))
+                (notices_text r.next.0) (notices_text after.warnings)
+                (ap notices_text r.next.1 ∙ notices-append (before.warnings ++ r.notices) r.next.0) r.reported)
+                finished.1;
           })))
           is,
     )
@@ -172,19 +143,19 @@ module _ (filter : Filter) (lawful : IsLawful filter)
         → IsFrontPart filter input given writer
     turn-front (halt.Fault at) warned status fault (inl ran) finished = record {
       written = before.output;
-      wrote = was-taken before.output (written before.output ran.wrote finished.0);
+      wrote = (written before.output ran.wrote finished.0).0;
       first = first-before-turn filter lawful input given before after last before.output turn
           (begins-itself before.output);
     }
     turn-front (halt.Fault at) warned status fault (inr r) finished = record {
       written = after.output;
-      wrote = was-taken after.output (written after.output r.wrote finished.0);
+      wrote = (written after.output r.wrote finished.0).0;
       first = first-after-turn filter lawful input given before after last after.output turn
           (begins-itself after.output);
     }
     turn-front halt.Unwritten warned status fault r finished =
         let part =
-        part-still writer1 writer2 writer wsame wstart wend wjoined before.output after.output r.wrote
+        part-still w before.output after.output r.wrote
         finished.0 in
         record {
           written = take part.count after.output;
@@ -194,8 +165,7 @@ module _ (filter : Filter) (lawful : IsLawful filter)
         }
     turn-front halt.Unreported warned status fault r finished = record {
       written = before.output;
-      wrote = (took-same writer1 writer2
-          writer wsame wstart wend wjoined before.output before.output r.wrote finished.0 refl).0;
+      wrote = (all-still w before.output r.wrote finished.0).0;
       first = first-before-turn filter lawful input given before after last before.output turn
           (begins-itself before.output);
     }
@@ -203,30 +173,30 @@ module _ (filter : Filter) (lawful : IsLawful filter)
   -- ---- the work of a run
 
   pub line-stands : (now : ReaderState) (last : ℕ) (warned : Bool)
-      (halt : Halt) (status : ℕ) (fault : Option At)
-      (s : StoppedByLine filter input writer1 messages1 now last halt)
+      (halt : Halt) (status : ℕ) (fault : Option At) (lines : List InputLine)
+      (ends : EndsBy filter input writer1 messages1 now lines halt) → last ≡ now.number
       → Finishes writer2 messages2 last warned (Some halt) status fault
-      → StandsAfter s.ends.read.given status fault × IsFrontPart filter input s.ends.read.given writer
-  line-stands now last warned halt status fault s finished =
-      let h = s.ends.read in
-      let next = with_next s.lines s.ends.line in
-      let before = filter.so_far s.lines in
+      → StandsAfter filter input writer messages ends.read.given status fault × IsFrontPart filter input ends.read.given writer
+  line-stands now last warned halt status fault lines ends last_is finished =
+      let h = ends.read in
+      let next = with_next lines ends.line in
+      let before = filter.so_far lines in
       let after = filter.so_far next in
-      let can = filter.memory_after s.lines s.ends.line in
-      let number : ℕ = length s.lines + 1 in
-      let taken = taken-read input now next h s.ends.going in
+      let can = filter.memory_after lines ends.line in
+      let number : ℕ = length lines + 1 in
+      let taken = taken-read input now next h ends.going in
       let turn : IsTurn filter input h.given before after last = inl (record {
-        lines = s.lines;
-        line = s.ends.line;
+        lines = lines;
+        line = ends.line;
         taken = taken;
         before_is = refl;
         after_is = refl;
-        last_is = s.last_is;
+        last_is = omega (arith, last_is, ends.read.number, length-append lines (ends.line ∷ []));
       }) in (
         turn-stands h.given before after last turn can number halt warned status fault
             (λ at notices allowed place next-ones wrote reported. record {
-              lines = s.lines;
-              line = s.ends.line;
+              lines = lines;
+              line = ends.line;
               taken = taken;
               place = place;
               allowed = allowed;
@@ -235,15 +205,15 @@ module _ (filter : Filter) (lawful : IsLawful filter)
               wrote = wrote;
               reported = reported;
             })
-            (λ at bad. lawful.found next at bad) s.ends.ends finished,
-        turn-front h.given before after last turn can number halt warned status fault s.ends.ends finished,
+            (λ at bad. lawful.found next at bad) ends.ends finished,
+        turn-front h.given before after last turn can number halt warned status fault ends.ends finished,
       )
 
   pub end-stands : (now : ReaderState) (last : ℕ) (warned : Bool)
       (halt : Halt) (status : ℕ) (fault : Option At)
       (s : StoppedByEnd filter input writer1 messages1 now last halt)
       → Finishes writer2 messages2 last warned (Some halt) status fault
-      → StandsAfter s.read.given status fault × IsFrontPart filter input s.read.given writer
+      → StandsAfter filter input writer messages s.read.given status fault × IsFrontPart filter input s.read.given writer
   end-stands now last warned halt status fault s finished =
       let h = s.read in
       let before = filter.so_far s.lines in
@@ -299,39 +269,38 @@ module _ (filter : Filter) (lawful : IsLawful filter)
   stopped-stands given lines _ at s line good wrote reported = absurd s
 
   pub reader-stands : (now : ReaderState) (last : ℕ) (warned : Bool)
-      (stop : Halt) (status : ℕ) (fault : Option At)
-      (s : StoppedByReader filter input writer1 messages1 now last stop)
+      (stop : Halt) (status : ℕ) (fault : Option At) (lines : List InputLine) (at : At) → stop ≡ halt.Fault at
+      → (s : ReaderStopped input writer1 messages1 now lines (filter.so_far lines) at)
       → Finishes writer2 messages2 last warned (Some stop) status fault
-      → StandsAfter s.stopped.read.given status fault × IsFrontPart filter input s.stopped.read.given writer
-  reader-stands now last warned stop status fault s finishes =
-      let finished : Finishes writer2 messages2 last warned (Some (halt.Fault s.at)) status fault =
-      subst (λ (h : Halt). Finishes writer2 messages2 last warned (Some h) status fault) s.halt_is finishes in
-      let h = s.stopped.read in
-      let course = filter.so_far s.lines in
-      let stopped =
-      HasRead-stopped input.gave input.at_end input.start input.counted now s.lines h s.at s.stopped.stopped
+      → StandsAfter filter input writer messages s.read.given status fault
+      × IsFrontPart filter input s.read.given writer
+  reader-stands now last warned stop status fault lines at halt_is s finishes =
+      let finished : Finishes writer2 messages2 last warned (Some (halt.Fault at)) status fault =
+      subst (λ (h : Halt). Finishes writer2 messages2 last warned (Some h) status fault) halt_is finishes in
+      let h = s.read in
+      let course = filter.so_far lines in
+      let stopped = HasRead-stopped input.gave input.at_end input.start input.counted now lines h at s.stopped
       in
-      let wrote = written course.output s.stopped.wrote finished.0 in
-      let reported = reported course.warnings s.at s.stopped.reported finished.1 in
-      let same = complete-stopped h.given s.lines s.at.fault input.start input.counted stopped.0 in (
+      let wrote = written course.output s.out.wrote finished.0 in
+      let same = complete-stopped h.given lines at.fault input.start input.counted stopped.0 in (
         (λ (other : At) is. (
           finished.3,
-          one-fault (λ (a : At). Stands filter input h.given writer messages a a.fault) s.at other fault
+          one-fault (λ (a : At). Stands filter input h.given writer messages a a.fault) at other fault
               finished.2
-              (stopped-stands h.given s.lines s.at.fault s.at stopped.0 stopped.1 s.stopped.good wrote
-              reported) is,
+              (stopped-stands h.given lines at.fault at stopped.0 stopped.1 s.out.good wrote
+              (reported course.warnings at s.out.reported finished.1)) is,
         )),
         record {
           written = course.output;
-          wrote = was-taken course.output wrote;
-          first = first-complete filter lawful input h.given s.lines same;
+          wrote = wrote.0;
+          first = first-complete filter lawful input h.given lines same;
         },
       )
 
   pub start-stands : (last : ℕ) (warned : Bool)
       (stop : Halt) (status : ℕ) (fault : Option At) (s : StoppedAtStart input writer1 messages1 last stop)
       → Finishes writer2 messages2 last warned (Some stop) status fault
-      → StandsAfter [] status fault × IsFrontPart filter input [] writer
+      → StandsAfter filter input writer messages [] status fault × IsFrontPart filter input [] writer
   start-stands last warned stop status fault s finishes =
       let at : At = record { line = 0; fault = OutOfMemory } in
       let finished : Finishes writer2 messages2 last warned (Some (halt.Fault at)) status fault =
@@ -349,7 +318,7 @@ module _ (filter : Filter) (lawful : IsLawful filter)
         )),
         record {
           written = [];
-          wrote = was-taken [] wrote;
+          wrote = wrote.0;
           first = inl (record { rest = (filter.so_far (complete_lines [])).output; same = refl });
         },
       )
@@ -359,7 +328,7 @@ module _ (filter : Filter) (lawful : IsLawful filter)
       (warned : Bool) (status : ℕ) (at : At)
       (done : WellDone filter has_ended input writer1 messages1 now last warned)
       → Finishes writer2 messages2 last warned None status (Some at)
-      → StandsAfter done.read.given status (Some at)
+      → StandsAfter filter input writer messages done.read.given status (Some at)
   flush-stands has_ended now last warned status at done finished other is =
       let h = done.read in
       let all = all-read input now done.lines h done.ended in
@@ -367,18 +336,17 @@ module _ (filter : Filter) (lawful : IsLawful filter)
       let same : done.lines ≡ lines_of h.given = sym all.same in
       let flushed = finished.0 in
       let reported = reported course.warnings
-      (write_failed_at last) done.reported (subst (IsReported messages2) finished.2 finished.1) in (
+      (write_failed_at last) done.out.reported (subst (IsReported messages2) finished.2 finished.1) in (
         finished.3,
         one-fault (λ (a : At). Stands filter input h.given writer messages a a.fault)
             (write_failed_at last) other (Some at) (ap Some finished.2)
             (inr (inr (record {
               all = all-of input h.given done.lines all;
               line = done.last_is ∙ ap length same;
-              good = ap (λ (ls : List InputLine). (filter.whole ls).fault) (sym same) ∙ done.good;
+              good = ap (λ (ls : List InputLine). (filter.whole ls).fault) (sym same) ∙ done.out.good;
               wrote = subst (λ (ls : List InputLine). writer.took (filter.whole ls).output) same
-                  (subst writer.took (append-nil course.output)
-                  (wjoined course.output [] done.wrote.0 flushed.0));
-              counted = wend ∙ flushed.1 ∙ ap with_failed_flush (wsame ∙ done.wrote.1 ∙ sym wstart);
+                  (took-still w course.output done.out.wrote.0 flushed.0);
+              counted = w.end ∙ flushed.1 ∙ ap with_failed_flush (w.same ∙ done.out.wrote.1 ∙ sym w.start);
               reported = subst (λ (ls : List InputLine).
                   AreReported messages (filter.whole ls).warnings (write_failed_at last)) same reported;
             }))) is,
@@ -393,7 +361,7 @@ module _ (filter : Filter) (lawful : IsLawful filter)
       let course = filter.whole done.lines in
       record {
         written = course.output;
-        wrote = subst writer.took (append-nil course.output) (wjoined course.output [] done.wrote.0 flushed);
+        wrote = took-still w course.output done.out.wrote.0 flushed;
         first = first-whole filter lawful input h.given course.output (all-of input h.given done.lines all)
             (record {
               rest = [];

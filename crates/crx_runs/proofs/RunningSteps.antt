@@ -1,114 +1,116 @@
--- A run goes on by a line, or ends at it.
-use Rattle.std.proofs.Common.{◌≡◌, inl, inr, ℕ, ◌+◌, List, [], ◌∷◌, ◌++◌, length, take, Option, refl, sym, ap}
-use Rattle.std.proofs.Common.{subst}
-use Rattle.std.proofs.Common.{◌∙◌}
-use Rattle.std.proofs.Common.{arith, append-nil, length-append}
-use Rattle.std.proofs.Math.Seq.{take-append-add}
-use Rattle.std.proofs.lemmas.List.{take-append-le}
-use Rattle.crx_lines.specs.meaning.Devices.{with_failed_write}
+-- A run goes on by a line, or ends at it; and its end.
+use Rattle.std.proofs.Common.{◌≡◌, ℕ, ◌+◌, Bool, ◌||◌, List, [], ◌∷◌, ◌++◌, length, None, refl, sym, ap, ◌∙◌}
+use Rattle.crx_base.specs.meaning.Lines.{InputLine}
 use Rattle.crx_base.specs.declared.fault.At.{At}
+use Rattle.crx_lines.specs.Reading.{ReaderState}
 use Rattle.crx_runs.specs.declared.taking.Halt.{Halt}
-use Rattle.crx_runs.specs.declared.taking.Halt.TheVariants.{Fault, Unwritten, Unreported}
-use Rattle.crx_runs.specs.meaning.Results.{Course}
-use Rattle.crx_runs.specs.meaning.Messages.{notices_text}
-use Rattle.crx_runs.specs.meaning.Spans.{Device, TookAll, TookPart, IsPart}
-use Rattle.crx_runs.specs.Taking.{IsCut}
-use Rattle.crx_runs.specs.Running.{EndsAt}
-use Rattle.crx_runs.proofs.TakingTwice.{notices-append, all-all}
+use Rattle.crx_runs.specs.Endings.{EndEndsRun, EndsBy, LineEndsRun, StoppedByEnd, WellDone}
+use Rattle.crx_runs.specs.Engines.{Awaited}
+use Rattle.crx_runs.specs.meaning.Filters.{Filter, with_next}
+use Rattle.crx_runs.specs.meaning.Results.{are_some}
+use Rattle.crx_runs.specs.meaning.Spans.{Device, Input}
+use Rattle.crx_runs.specs.Running.{ComesToEnd, GoesOnBy, IsRunning}
+use Rattle.crx_runs.specs.Taking.{IsDone}
+use Rattle.crx_runs.proofs.DeviceSpans.{Joins}
+use Rattle.crx_runs.proofs.LineEndings.{ends-after, out-more}
+use Rattle.crx_runs.proofs.StepReading.{ReadsLine}
 
--- a device before a line (first), over the line (second), and over both
-module _ (first second both : Device)
-    (same : second.before ≡ first.after) (start : both.before ≡ first.before)
-    (end : both.after ≡ second.after)
-    (joined : (xs ys : List ℕ) → first.took xs → second.took ys → both.took (xs ++ ys)) where
-  pub took-more : (xs ys all : List ℕ) → TookAll first xs → TookAll second ys → all ≡ xs ++ ys
-      → TookAll both all
-  took-more xs ys all a b is =
-      subst (TookAll both) (sym is) (all-all first second both same start end joined xs ys a b)
+are-some-append : (xs ys : List At) → are_some (xs ++ ys) ≡ (are_some xs || are_some ys)
+are-some-append [] ys = refl
+are-some-append (x ∷ xs) ys = refl
 
-  pub took-same : (xs all : List ℕ) → TookAll first xs → TookAll second [] → all ≡ xs → TookAll both all
-  took-same xs all a b is = took-more xs [] all a b (is ∙ sym (append-nil xs))
+flag-after : (before notices after : List At) (warned warning : Bool) → warned ≡ are_some before
+    → warning ≡ are_some notices → after ≡ before ++ notices → (warned || warning) ≡ are_some after
+flag-after before notices after warned warning w n is =
+    rw w (rw n (sym (ap are_some is ∙ are-some-append before notices)))
 
-  -- a part of the output: there may be more of it than was tried
-  pub took-part : (xs ys more all : List ℕ)
-      → TookAll first xs → TookPart second ys → all ≡ (xs ++ ys) ++ more → IsPart both xs all
-  took-part xs ys more all a b is =
-      let n = b.0.0 in
-      let front : take (length xs + n) all ≡ xs ++ take n ys =
-      ap (take (length xs + n)) is ∙ take-append-le
-      (length xs + n) (xs ++ ys) more (omega (arith, b.0.1, length-append xs ys)) ∙ take-append-add xs ys n in
-      record {
-        count = length xs + n;
-        some = omega arith;
-        less = omega (arith, b.0.1, ap length is, length-append (xs ++ ys) more, length-append xs ys);
-        took = subst both.took (sym front) (joined xs (take n ys) a.0 b.0.2);
-        failed = end ∙ b.1 ∙ ap with_failed_write (same ∙ a.1 ∙ sym start);
-      }
+-- the run goes on
+pub go-on : (filter : Filter) (shows : List InputLine → List Awaited → Type 0)
+    (input : Input) (writer messages : Device) (now : ReaderState) (lines : List InputLine)
+    (warned warning both : Bool)
+    → warned ≡ are_some (filter.so_far lines).warnings
+    → GoesOnBy filter shows input writer messages now lines warning → both ≡ (warned || warning)
+    → (ls : List InputLine) × shows ls []
+    × IsRunning input writer messages now ls (filter.so_far ls)
+    × (both ≡ are_some (filter.so_far ls).warnings)
+go-on filter shows input writer messages now lines warned warning both flag by is = (
+  lines ++ by.line ∷ [],
+  by.shown,
+  by.running,
+  is ∙ flag-after (filter.so_far lines).warnings by.notices
+      (filter.so_far (lines ++ by.line ∷ [])).warnings warned warning flag by.flag by.added,
+)
 
-warnings-text : (xs ys zs : List At) → zs ≡ xs ++ ys → notices_text zs ≡ notices_text xs ++ notices_text ys
-warnings-text xs ys zs is = ap notices_text is ∙ notices-append xs ys
+module _ (filter : Filter) {input then : Input} {old new : ReaderState} (lines : List InputLine)
+    {writer1 writer2 writer messages1 messages2 messages : Device}
+    (w : Joins writer1 writer2 writer) (m : Joins messages1 messages2 messages) where
+  -- a line was taken
+  pub goes-by : IsRunning input writer1 messages1 old lines (filter.so_far lines)
+      → (line : InputLine) (number : ℕ)
+      → ReadsLine then.gave then.at_end then.start then.counted new lines line number
+      → (shows : List InputLine → List Awaited → Type 0) (warned : Bool)
+      → IsDone (filter.so_far lines) (filter.so_far (with_next lines line)) (shows (with_next lines line) [])
+      writer2 messages2 warned
+      → GoesOnBy filter shows then writer messages new lines warned
+  goes-by running line number read shows warned done = record {
+    line = line;
+    shown = done.is_shown;
+    running = record {
+      read = read.read;
+      going = read.going;
+      out = out-more w m (filter.so_far lines) (filter.so_far (with_next lines line)) running.out done.text
+          done.notices done.adds done.wrote done.reported;
+    };
+    notices = done.notices;
+    added = done.adds.warnings;
+    flag = done.flag;
+  }
 
-module _ (before after : Course) (writer1 writer2 writer messages1 messages2 messages : Device)
-    (wsame : writer2.before ≡ writer1.after)
-    (wstart : writer.before ≡ writer1.before) (wend : writer.after ≡ writer2.after)
-    (wjoined : (xs ys : List ℕ) → writer1.took xs → writer2.took ys → writer.took (xs ++ ys))
-    (msame : messages2.before ≡ messages1.after)
-    (mstart : messages.before ≡ messages1.before) (mend : messages.after ≡ messages2.after)
-    (mjoined : (xs ys : List ℕ) → messages1.took xs → messages2.took ys → messages.took (xs ++ ys))
-    (wrote : TookAll writer1 before.output) (reported : TookAll messages1 (notices_text before.warnings))
-  where
-    pub more-written : (text : List ℕ)
-        → TookAll writer2 text → after.output ≡ before.output ++ text → TookAll writer after.output
-    more-written text wrote2 is =
-        took-more writer1 writer2 writer wsame wstart wend wjoined before.output text after.output wrote wrote2
-        is
+  -- a line ended the run
+  pub ends-by : IsRunning input writer1 messages1 old lines (filter.so_far lines)
+      → (line : InputLine) (number : ℕ)
+      → ReadsLine then.gave then.at_end then.start then.counted new lines line number
+      → (halt : Halt) → LineEndsRun filter lines line writer2 messages2 halt
+      → EndsBy filter then writer messages new lines halt
+  ends-by running line number read halt e = record {
+    line = line;
+    read = read.read;
+    going = read.going;
+    ends = ends-after w m (filter.so_far lines) (filter.so_far (with_next lines line)) running.out
+        (filter.memory_after lines line) (length lines + 1) halt e;
+  }
 
-    same-written : (output : List ℕ) → TookAll writer2 [] → output ≡ before.output → TookAll writer output
-    same-written output wrote2 is =
-        took-same writer1 writer2 writer wsame wstart wend wjoined before.output output wrote wrote2 is
+module _ (filter : Filter) {input : Input} {now : ReaderState} (lines : List InputLine)
+    {writer1 writer2 writer messages1 messages2 messages : Device}
+    (w : Joins writer1 writer2 writer) (m : Joins messages1 messages2 messages)
+    (shows : List InputLine → List Awaited → Type 0)
+    (comes : ComesToEnd filter shows input writer1 messages1 now lines)
+    (last : ℕ) (last_is : last ≡ now.number) where
+  -- the end was taken
+  pub well-done : (has_ended : List InputLine → Type 0) (warned warning both : Bool)
+      → warned ≡ are_some (filter.so_far lines).warnings → both ≡ (warned || warning)
+      → IsDone (filter.so_far lines) (filter.whole lines) (has_ended lines) writer2 messages2 warning
+      → WellDone filter has_ended input writer messages now last both
+  well-done has_ended warned warning both flag is done = record {
+    lines = lines;
+    read = comes.running.read;
+    ended = comes.ended;
+    out = out-more w m (filter.so_far lines) (filter.whole lines) comes.running.out done.text done.notices
+        done.adds done.wrote done.reported;
+    flag = is ∙ flag-after (filter.so_far lines).warnings done.notices (filter.whole lines).warnings warned
+        warning flag done.flag done.adds.warnings;
+    engine_ended = done.is_shown;
+    last_is = last_is ∙ comes.running.read.number;
+  }
 
-    pub more-reported : (notices all : List At) → TookAll messages2 (notices_text notices)
-        → all ≡ before.warnings ++ notices → TookAll messages (notices_text all)
-    more-reported notices all told2 is =
-        took-more messages1 messages2 messages msame mstart mend mjoined (notices_text before.warnings)
-        (notices_text notices) (notices_text all) reported told2 (warnings-text before.warnings notices all is)
-
-    pub ends-at : (memory : Option (List At)) (number : ℕ) (halt : Halt)
-        → IsCut before after memory number writer2 messages2 halt
-        → EndsAt memory number writer messages before after halt
-    ends-at memory number (Fault at) (notices, inl r) =
-        inl (record {
-          allowed = r.allowed;
-          fault = r.fault;
-          place = r.place;
-          notices = notices;
-          next = r.next;
-          wrote = same-written before.output r.wrote refl;
-          reported = more-reported notices (before.warnings ++ notices) r.reported refl;
-        })
-    ends-at memory number (Fault at) (notices, inr r) =
-        inr (record {
-          fault = r.ends.fault;
-          wrote = same-written after.output r.wrote r.ends.output;
-          reported = more-reported notices after.warnings r.reported r.ends.warnings;
-        })
-    ends-at memory number Unwritten (notices, r) =
-        record {
-          good = r.adds.good;
-          wrote = took-part writer1 writer2 writer wsame wstart wend wjoined before.output r.text
-              [] after.output wrote r.wrote (r.adds.output ∙ sym (append-nil (before.output ++ r.text)));
-          reported = more-reported notices after.warnings r.reported r.adds.warnings;
-        }
-    ends-at memory number Unreported (here, r) =
-        let notices = here ++ r.notice ∷ [] in
-        let whole : notices_text after.warnings
-        ≡ (notices_text before.warnings ++ notices_text notices) ++ notices_text r.next.0 =
-        ap notices_text r.next.1 ∙ notices-append (before.warnings ++ notices) r.next.0
-        ∙ ap (λ (t : List ℕ). t ++ notices_text r.next.0) (notices-append before.warnings notices) in
-        record {
-          wrote = same-written before.output r.wrote refl;
-          reported = took-part messages1 messages2 messages msame mstart mend mjoined
-              (notices_text before.warnings)
-              (notices_text notices) (notices_text r.next.0)
-              (notices_text after.warnings) reported r.reported whole;
-        }
+  -- the end ended the run
+  pub stopped-end : (halt : Halt) → EndEndsRun filter lines writer2 messages2 halt
+      → StoppedByEnd filter input writer messages now last halt
+  stopped-end halt e = record {
+    lines = lines;
+    read = comes.running.read;
+    ended = comes.ended;
+    ends = ends-after w m (filter.so_far lines) (filter.whole lines) comes.running.out None (length lines) halt
+        e;
+    last_is = last_is ∙ comes.running.read.number;
+  }

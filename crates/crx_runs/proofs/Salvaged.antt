@@ -60,7 +60,7 @@ none-failed input now lines h (inr e) =
     ap (λ (t : Tally). t.failures) o.counts
 
 -- the end was reported at most once
-abbrev AskedOnce : Input → Type 0
+abbrev pub AskedOnce : Input → Type 0
 AskedOnce input = (input.counted.ends ≡ input.start.ends) ⊎ (input.counted.ends ≡ one_more input.start.ends)
 
 pub asked-once : (input : Input) (now : ReaderState)

@@ -8,7 +8,7 @@ use Rattle.crx_lines.specs.meaning.Devices.{Tally}
 use Rattle.crx_base.specs.meaning.Lines.{InputLine, is_long}
 use Rattle.crx_lines.specs.Reading.{ReaderState, ReaderAnswers, AnswersFault, TakesPiece, line_shown}
 use Rattle.crx_lines.specs.Reading.{line_number}
-use Rattle.crx_lines.specs.Progress.{HasRead, AtFault}
+use Rattle.crx_lines.specs.Progress.{AtAnswer, AtFault, HasRead}
 use Rattle.crx_base.specs.declared.limits.TheConstants.{INPUT_LIMIT}
 use Rattle.crx_base.specs.declared.fault.At.{At}
 use Rattle.crx_base.specs.declared.fault.Fault.{Fault}
@@ -40,6 +40,61 @@ phase-going : (b : Bool) (f : Phase) → f ≡ cond b Open Ended → (f ≡ Open
 phase-going true f is = inl is
 phase-going false f is = inr is
 
+passed-more : (old new : ReaderState) (given : List ℕ) (at_end : Type 0) (bytes : List ℕ) (is_ended : Bool)
+    → TakesPiece old given at_end (record { bytes = bytes; is_ended = is_ended }) new
+    → old.passed < new.passed
+passed-more old new given at_end bytes true t =
+    omega (arith, t.passed, ap length t.first.cut, length-append bytes (10 ∷ new.rest))
+passed-more old new given at_end bytes false t =
+    omega (arith, t.passed, ap length t.first.cut.0, ap length t.first.cut.1, t.first.cut.2)
+
+-- what a reader that isn't stopped answers
+module _ (step : List ℕ → Type 0) (at_end' : Type 0) (counted counted' : Tally) (old new : ReaderState)
+    (r : Result (Option Line) At)
+    (going : (old.phase ≡ Open) ⊎ (old.phase ≡ Ended)) (at-open : old.phase ≡ Open
+    → (more : List ℕ) × step more × ReaderAnswers old more at_end' counted counted' r new)
+    (at-ended : old.phase ≡ Ended → r ≡ Ok None) where
+  -- what isn't the end was read out of some bytes
+  pub answers : (x : Result (Option Line) At) → r ≡ x → (x ≡ Ok None → ⊥)
+      → (old.phase ≡ Open) × ((more : List ℕ) × step more × ReaderAnswers old more at_end' counted counted' x new)
+  answers x is some =
+      let e : old.phase ≡ Open =
+      ⊎_elim (λ e. e) (λ e. absurd (some (sym is ∙ at-ended e))) going in (
+        e,
+        subst (λ y. (more : List ℕ) × step more × ReaderAnswers old more at_end' counted counted' y new) is
+            (at-open e),
+      )
+
+  pub overlong : (at : At) → r ≡ Err at → at.fault ≡ LineTooLong
+      → (more : List ℕ) × AnswersFault old more at_end' counted counted' at LineTooLong new
+  overlong at is long =
+      let a = (answers (Err at) is (err-not-none at)).1 in
+      (a.0, subst (λ f. AnswersFault old a.0 at_end' counted counted' at f new) long a.2)
+
+  -- the number of a line that is too long
+  pub overlong-number : (at : At) → r ≡ Err at → at.fault ≡ LineTooLong → at.line ≡ old.number + 1
+  overlong-number at is long = let a = (overlong at is long).1 in a.3 ∙ a.1.number
+
+  -- a line takes some bytes of the input
+  pub line-passed : (line : Line) → r ≡ Ok (Some line) → (old.passed < new.passed)
+      × (new.passed ≤ INPUT_LIMIT)
+  line-passed line is =
+      let a = (answers (Ok (Some line)) is (some-not-none line)).1 in
+      (passed-more old new a.0 at_end' a.2.0.bytes a.2.0.is_ended a.2.1, omega (arith, a.2.1.within))
+
+  pub overlong-passed : (at : At) → r ≡ Err at → at.fault ≡ LineTooLong → (old.passed < new.passed)
+      × (new.passed ≤ INPUT_LIMIT)
+  overlong-passed at is long =
+      let a = overlong at is long in
+      (passed-more old new a.0 at_end' a.1.0.bytes a.1.0.is_ended a.1.1, omega (arith, a.1.1.within))
+
+stop-by : (old new : ReaderState) (lines : List InputLine) (f : Fault) (at : At) → (f ≡ LineTooLong → ⊥)
+    → (then : List InputLine) → AtFault f at old new lines then → (then ≡ lines) × (new.phase ≡ Stopped at)
+stop-by old new lines LineTooLong at other then a = absurd (other refl)
+stop-by old new lines InputTooLong at other then a = a
+stop-by old new lines ReadFailed at other then a = a
+stop-by old new lines _ at other then a = absurd a
+
 module _ (gave gives step : List ℕ → Type 0)
     (at_end at_end' : Type 0) (start counted counted' : Tally) (old new : ReaderState)
     (lines : List InputLine)
@@ -49,21 +104,22 @@ module _ (gave gives step : List ℕ → Type 0)
     (at-open : old.phase ≡ Open → (more : List ℕ) × step more
     × ReaderAnswers old more at_end' counted counted' r new)
     (at-ended : old.phase ≡ Ended → r ≡ Ok None) where
-  open-if : (r ≡ Ok None → ⊥) → old.phase ≡ Open
-  open-if some = ⊎_elim (λ e. e) (λ e. absurd (some (at-ended e))) going
+  -- the lines that were read then
+  next-lines : (x : Result (Option Line) At) → old.phase ≡ Open
+      → (more : List ℕ) × step more × ReaderAnswers old more at_end' counted counted' x new
+      → (then : List InputLine) × AtAnswer x old new lines then × HasRead gives at_end' start counted' new then
+  next-lines x e a = HasRead-next gave gives step at_end at_end' start counted counted' old new lines h goes e a.0
+      a.1 x a.2
 
   pub line-read : (line : Line) → r ≡ Ok (Some line)
       → ReadsLine gives at_end' start counted' new lines (line_shown line) (line_number line)
   line-read line is =
-      let e = open-if (λ none. some-not-none line (sym is ∙ none)) in
-      let found = at-open e in
-      let a : ReaderAnswers old found.0 at_end' counted counted' (Ok (Some line)) new =
-      subst (λ x. ReaderAnswers old found.0 at_end' counted counted' x new) is found.2 in
-      let n = HasRead-next gave gives
-      step at_end at_end' start counted counted' old new lines h goes e found.0 found.1 (Ok (Some line)) a in
+      let a = answers step at_end' counted counted' old new r going at-open at-ended (Ok (Some line)) is
+      (some-not-none line) in
+      let n = next-lines (Ok (Some line)) a.0 a.1 in
       record {
         read = subst (λ l. HasRead gives at_end' start counted' new l) n.1.lines_are n.2;
-        going = phase-going a.0.is_ended new.phase a.1.phase;
+        going = phase-going a.1.2.0.is_ended new.phase a.1.2.1.phase;
         number_is = omega (
           arith,
           n.1.number_is,
@@ -76,102 +132,36 @@ module _ (gave gives step : List ℕ → Type 0)
       → (line : InputLine) × (is_long line ≡ true)
       × ReadsLine gives at_end' start counted' new lines line at.line
   overlong-read at is long =
-      let e = open-if (λ none. err-not-none at (sym is ∙ none)) in
-      let found = at-open e in
-      let a : AnswersFault old found.0 at_end' counted counted' at LineTooLong new =
-      subst (λ f. AnswersFault old found.0 at_end' counted counted' at f new) long
-      (subst (λ x. ReaderAnswers old found.0 at_end' counted counted' x new) is found.2) in
-      let n = HasRead-next gave gives step at_end at_end' start counted counted' old new lines h goes e
-      found.0 found.1
-      (Err at) (subst (λ x. ReaderAnswers old found.0 at_end' counted counted' x new) is found.2) in
+      let a = answers step at_end' counted counted' old new r going at-open at-ended (Err at) is
+      (err-not-none at) in
+      let f : AnswersFault old a.1.0 at_end' counted counted' at LineTooLong new =
+      subst (λ f. AnswersFault old a.1.0 at_end' counted counted' at f new) long a.1.2 in
+      let n = next-lines (Err at) a.0 a.1 in
       let one : AtFault LineTooLong at old new lines n.0 =
       subst (λ f. AtFault f at old new lines n.0) long n.1 in (
         one.0,
         one.1,
         record {
           read = subst (λ l. HasRead gives at_end' start counted' new l) one.2.lines_are n.2;
-          going = phase-going a.0.is_ended new.phase a.1.phase;
+          going = phase-going f.0.is_ended new.phase f.1.phase;
           number_is = omega (arith, one.2.number_is, ap length one.2.lines_are, length_push lines one.0);
         },
       )
 
-  stop-by : (f : Fault) (at : At) → (f ≡ LineTooLong → ⊥)
-      → (then : List InputLine) → AtFault f at old new lines then → (then ≡ lines) × (new.phase ≡ Stopped at)
-  stop-by LineTooLong at other then a = absurd (other refl)
-  stop-by InputTooLong at other then a = a
-  stop-by ReadFailed at other then a = a
-  stop-by _ at other then a = absurd a
-
   pub stop-read : (at : At) → r ≡ Err at → (at.fault ≡ LineTooLong → ⊥)
       → HasRead gives at_end' start counted' new lines × (new.phase ≡ Stopped at)
   stop-read at is other =
-      let e = open-if (λ none. err-not-none at (sym is ∙ none)) in
-      let found = at-open e in
-      let n = HasRead-next gave gives step at_end at_end' start counted counted' old new lines h goes e
-      found.0 found.1
-      (Err at) (subst (λ x. ReaderAnswers old found.0 at_end' counted counted' x new) is found.2) in
-      let stopped = stop-by at.fault at other n.0 n.1 in
+      let a = answers step at_end' counted counted' old new r going at-open at-ended (Err at) is
+      (err-not-none at) in
+      let n = next-lines (Err at) a.0 a.1 in
+      let stopped = stop-by old new lines at.fault at other n.0 n.1 in
       (subst (λ l. HasRead gives at_end' start counted' new l) stopped.0 n.2, stopped.1)
 
   pub end-read : r ≡ Ok None → (old.phase ≡ Ended → HasRead gives at_end' start counted' new lines
       × (new.phase ≡ Ended)) → HasRead gives at_end' start counted' new lines × (new.phase ≡ Ended)
   end-read is kept =
-      let Claim : Type 0 = HasRead gives at_end' start counted' new lines × (new.phase ≡ Ended) in
-      let opened : old.phase ≡ Open → Claim = λ e.
-      let found = at-open e in
-      let n = HasRead-next gave gives step at_end at_end' start counted counted' old new lines h goes e
-      found.0 found.1
-      (Ok None) (subst (λ x. ReaderAnswers old found.0 at_end' counted counted' x new) is found.2) in
-      (subst (λ l. HasRead gives at_end' start counted' new l) n.1.0 n.2, n.1.1) in
-      ⊎_elim opened kept going
-
--- the number of a line that is too long
-pub overlong-number : (step : List ℕ
-    → Type 0) (at_end' : Type 0) (counted counted' : Tally) (old new : ReaderState)
-    (r : Result (Option Line) At)
-    → (old.phase ≡ Open) ⊎ (old.phase ≡ Ended)
-    → (old.phase ≡ Open → (more : List ℕ) × step more × ReaderAnswers old more at_end' counted counted' r new)
-    → (old.phase ≡ Ended → r ≡ Ok None) → (at : At) → r ≡ Err at → at.fault ≡ LineTooLong
-    → at.line ≡ old.number + 1
-overlong-number step at_end' counted counted' old new r going at-open at-ended at is long =
-    let e : old.phase ≡ Open = ⊎_elim (λ e. e) (λ e. absurd (err-not-none at (sym is ∙ at-ended e))) going in
-    let found = at-open e in
-    let a : AnswersFault old found.0 at_end' counted counted' at LineTooLong new =
-    subst (λ f. AnswersFault old found.0 at_end' counted counted' at f new) long
-    (subst (λ x. ReaderAnswers old found.0 at_end' counted counted' x new) is found.2) in
-    a.3 ∙ a.1.number
-
-passed-more : (old new : ReaderState) (given : List ℕ) (at_end : Type 0) (bytes : List ℕ) (is_ended : Bool)
-    → TakesPiece old given at_end (record { bytes = bytes; is_ended = is_ended }) new
-    → old.passed < new.passed
-passed-more old new given at_end bytes true t =
-    omega (arith, t.passed, ap length t.first.cut, length-append bytes (10 ∷ new.rest))
-passed-more old new given at_end bytes false t =
-    omega (arith, t.passed, ap length t.first.cut.0, ap length t.first.cut.1, t.first.cut.2)
-
--- a line takes some bytes of the input
-module _ (step : List ℕ → Type 0)
-    (at_end' : Type 0) (counted counted' : Tally) (old new : ReaderState) (r : Result (Option Line) At)
-    (going : (old.phase ≡ Open) ⊎ (old.phase ≡ Ended)) (at-open : old.phase ≡ Open
-    → (more : List ℕ) × step more × ReaderAnswers old more at_end' counted counted' r new)
-    (at-ended : old.phase ≡ Ended → r ≡ Ok None) where
-  pub line-passed : (line : Line) → r ≡ Ok (Some line) → (old.passed < new.passed)
-      × (new.passed ≤ INPUT_LIMIT)
-  line-passed line is =
-      let e : old.phase ≡ Open =
-      ⊎_elim (λ e. e) (λ e. absurd (some-not-none line (sym is ∙ at-ended e))) going in
-      let found = at-open e in
-      let a : ReaderAnswers old found.0 at_end' counted counted' (Ok (Some line)) new =
-      subst (λ x. ReaderAnswers old found.0 at_end' counted counted' x new) is found.2 in
-      (passed-more old new found.0 at_end' a.0.bytes a.0.is_ended a.1, omega (arith, a.1.within))
-
-  pub overlong-passed : (at : At) → r ≡ Err at → at.fault ≡ LineTooLong → (old.passed < new.passed)
-      × (new.passed ≤ INPUT_LIMIT)
-  overlong-passed at is long =
-      let e : old.phase ≡ Open = ⊎_elim (λ e. e) (λ e. absurd (err-not-none at (sym is ∙ at-ended e))) going
-      in
-      let found = at-open e in
-      let a : AnswersFault old found.0 at_end' counted counted' at LineTooLong new =
-      subst (λ f. AnswersFault old found.0 at_end' counted counted' at f new) long
-      (subst (λ x. ReaderAnswers old found.0 at_end' counted counted' x new) is found.2) in
-      (passed-more old new found.0 at_end' a.0.bytes a.0.is_ended a.1, omega (arith, a.1.within))
+      ⊎_elim (λ e.
+      let n = next-lines (Ok None) e
+      (subst (λ x. (more : List ℕ) × step more × ReaderAnswers old more at_end' counted counted' x new) is
+      (at-open e)) in
+      (subst (λ l. HasRead gives at_end' start counted' new l) n.1.0 n.2, n.1.1)) kept going

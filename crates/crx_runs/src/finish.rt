@@ -2,7 +2,7 @@
 
 ghost use Rattle.std.specs.Prelude.{◌≡◌, ◌⊎◌, [], Some};
 ghost use Rattle.crx_lines.specs.meaning.Devices.{one_more};
-ghost use Rattle.crx_runs.specs.Endings.{Finishes, IsReported, write_failed_at};
+ghost use Rattle.crx_runs.specs.Endings.{Finishes, IsReported};
 ghost use Rattle.crx_runs.specs.meaning.Spans.{span};
 
 use crate::message::{Severity, message};
@@ -12,12 +12,12 @@ use crate::work::Work;
 use crx_base::{At, Fault};
 use crx_lines::{Sink, write_all_counted};
 
-/// Reports a fault once the writer was flushed, well or not; a failure ends the message where it comes. The writer is there for the
-/// contract alone, so that no message comes before the flush.
+/// Reports a fault; a failure ends the message where it comes. Only a writer that failed isn't flushed before: it is there for the contract
+/// alone, so that no message comes before the flush.
 #[inline(never)]
 fn report<W: Sink, M: Sink>(_writer: &W, messages: &mut M, at: At) -> Outcome
-    requires flushed { (before : W)
-        × W.took before [] _writer.now × (W.flushes _writer.now ≡ one_more (W.flushes before)) }
+    requires flushed { (at.fault ≡ Fault.WriteFailed) ⊎ ((before : W)
+        × W.took before [] _writer.now × (W.flushes _writer.now ≡ one_more (W.flushes before))) }
     ensures reported { IsReported (span M.Sink messages.old messages.new) at }
     ensures fault { result.fault ≡ Some at }
     ensures status { result.status ≡ 1 }
@@ -29,27 +29,6 @@ fn report<W: Sink, M: Sink>(_writer: &W, messages: &mut M, at: At) -> Outcome
     match write_all_counted(messages, message(Severity::Error, at).bytes()) {
         Ok(()) => outcome,
         Err(_) => outcome,
-    }
-}
-
-/// Reports a writer that failed, which isn't flushed, at the last line that was read; a failure ends the message where it comes.
-#[inline(never)]
-fn report_unwritten<M: Sink>(messages: &mut M, last: u64) -> Outcome
-    ensures reported { IsReported (span M.Sink messages.old messages.new) (write_failed_at last) }
-    ensures fault { result.fault ≡ Some (write_failed_at last) }
-    ensures status { result.status ≡ 1 }
-{
-    let at = At {
-        line: last,
-        fault: Fault::WriteFailed,
-    };
-    let ended = Outcome {
-        status: 1,
-        fault: Some(at),
-    };
-    match write_all_counted(messages, message(Severity::Error, at).bytes()) {
-        Ok(()) => ended,
-        Err(_) => ended,
     }
 }
 
@@ -77,7 +56,7 @@ pub(crate) fn finish<W: Sink, M: Sink>(writer: &mut W, messages: &mut M, work: W
         Some(Halt::Fault(at)) => match writer.flush() {
             Ok(()) | Err(_) => report(writer, messages, at),
         },
-        Some(Halt::Unwritten) => report_unwritten(messages, work.last),
+        Some(Halt::Unwritten) => report(writer, messages, unwritten),
         Some(Halt::Unreported) => Outcome {
             status: 1,
             fault: Some(unwritten),

@@ -21,19 +21,6 @@ pub enum Severity {
     Warning,
 }
 
-impl Severity {
-    /// The word that a message begins with.
-    fn word(self) -> &'static str
-        ensures word { result.now ≡ word_of self }
-        ensures short { length result.now ≤ 10 }
-    {
-        match self {
-            Severity::Error => "ERROR",
-            Severity::Warning => "WARNING",
-        }
-    }
-}
-
 /// A message, held in place. It is small, since it is set to zero and moved for each fault that is skipped.
 #[derive(Drop)]
 pub struct MessageLine {
@@ -53,16 +40,6 @@ impl Model for MessageLine {
 }
 
 impl MessageLine {
-    /// The empty message.
-    fn new() -> MessageLine
-        ensures empty { result ≡ [] }
-    {
-        MessageLine {
-            bytes: [0; MESSAGE_LIMIT],
-            len: 0,
-        }
-    }
-
     /// Appends bytes that fit.
     fn append(&mut self, bytes: &[u8])
         requires { length self.old + length bytes.now ≤ MESSAGE_LIMIT }
@@ -85,8 +62,15 @@ impl MessageLine {
 pub fn message(severity: Severity, at: At) -> MessageLine
     ensures value { result ≡ message_text (word_of severity) at }
 {
-    let mut message = MessageLine::new();
-    message.append(severity.word().as_bytes());
+    let word = match severity {
+        Severity::Error => "ERROR",
+        Severity::Warning => "WARNING",
+    };
+    let mut message = MessageLine {
+        bytes: [0; MESSAGE_LIMIT],
+        len: 0,
+    };
+    message.append(word.as_bytes());
     message.append(b" line ");
     message.append(Buffer::new().format(at.line).as_bytes());
     message.append(b" code ");

@@ -1,11 +1,9 @@
 //! Writing the lines that an engine has ready.
 
-ghost use Rattle.std.specs.Prelude.{◌≡◌, ◌<◌, ℕ, List, [], length, take, IfErr, OnOk, OnErr};
-ghost use Rattle.crx_base.specs.meaning.Lines.{InputLine};
-ghost use Rattle.crx_lines.specs.meaning.Devices.{one_more};
-ghost use Rattle.crx_base.specs.declared.fault.At.{At};
-ghost use Rattle.crx_runs.specs.Engines.{Awaited};
+ghost use Rattle.std.specs.Prelude.{◌≡◌, [], OnOk, OnErr};
 ghost use Rattle.crx_base.specs.meaning.Lines.{lines_text};
+ghost use Rattle.crx_runs.specs.Taking.{KeepsLines};
+ghost use Rattle.crx_runs.specs.meaning.Spans.{TookAll, TookPart, span};
 
 use crate::engine::Engine;
 use crx_lines::{Sink, WriteFailed, write_all_counted};
@@ -17,18 +15,10 @@ pub(crate) fn write_ready<E: Engine, W: Sink>(
     engine: &mut E,
     writer: &mut W,
 ) -> Result<(), WriteFailed>
-    ensures all { OnOk result (W.took writer.old (lines_text (E.ready engine.old)) writer.new) }
-    ensures good { OnOk result (W.failures writer.new ≡ W.failures writer.old) }
     ensures drained { OnOk result (E.ready engine.new ≡ []) }
-    ensures filter { E.filter engine.new ≡ E.filter engine.old }
-    ensures shows { (lines : List InputLine) (notices : List Awaited)
-        → E.shows engine.old lines notices → E.shows engine.new lines notices }
-    ensures running { E.is_open engine.old → E.is_open engine.new }
-    ensures ended { (lines : List InputLine) → E.has_ended engine.old lines → E.has_ended engine.new lines }
-    ensures part { OnErr result ((n : ℕ) × (n < length (lines_text (E.ready engine.old)))
-        × W.took writer.old (take n (lines_text (E.ready engine.old))) writer.new) }
-    ensures counted { OnErr result (W.failures writer.new ≡ one_more (W.failures writer.old)) }
-    ensures unasked { W.flushes writer.new ≡ W.flushes writer.old }
+    ensures kept { KeepsLines E.Engine engine.old engine.new }
+    ensures all { OnOk result (TookAll (span W.Sink writer.old writer.new) (lines_text (E.ready engine.old))) }
+    ensures part { OnErr result (TookPart (span W.Sink writer.old writer.new) (lines_text (E.ready engine.old))) }
 {
     if let Some(text) = engine.take_text() {
         return match write_all_counted(writer, text) {

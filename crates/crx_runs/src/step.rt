@@ -1,10 +1,10 @@
 //! One step of a run: the next line of the input, or its end.
 
-ghost use Rattle.std.specs.Prelude.{◌≡◌, ◌⊎◌, ◌+◌, ℕ, List, [], IfOk, IfErr, IfSome, OnOk, ◌<◌, ◌≤◌};
+ghost use Rattle.std.specs.Prelude.{◌≡◌, ◌⊎◌, ◌+◌, ℕ, List, [], IfOk, IfSome, OnOk, ◌<◌, ◌≤◌};
 ghost use Rattle.crx_base.specs.meaning.Lines.{InputLine};
 ghost use Rattle.crx_lines.specs.Readers.{reading};
 ghost use Rattle.crx_base.specs.declared.limits.TheConstants.{INPUT_LIMIT};
-ghost use Rattle.crx_runs.specs.Running.{IsWithinLimit, IsRunning, Goes, StopsAt};
+ghost use Rattle.crx_runs.specs.Running.{IsWithinLimit, IsRunning, StepGoes};
 ghost use Rattle.crx_runs.specs.meaning.Spans.{reader_span};
 ghost use Rattle.crx_runs.specs.meaning.Spans.{span};
 
@@ -35,27 +35,11 @@ pub(crate) fn step<E: Engine, R: Source, W: Sink, M: Sink>(
         ((reading input.old).passed < (reading input.new).passed)
         × ((reading input.new).passed ≤ INPUT_LIMIT))) }
     ensures goes { (r0 : R) (w0 : W) (m0 : M) (lines : List InputLine) → E.shows engine.old lines []
-        → IsRunning
-        (reader_span R.Source r0 reader.old)
-        (span W.Sink w0 writer.old)
-        (span M.Sink m0 messages.old)
+        → IsRunning (reader_span R.Source r0 reader.old)
+        (span W.Sink w0 writer.old) (span M.Sink m0 messages.old)
         (reading input.old) lines ((E.filter engine.old).so_far lines)
-        → IfOk result (λ progress. Goes (E.filter engine.old) (E.shows engine.new)
-        (reader_span R.Source r0 reader.new)
-        (span W.Sink w0 writer.new)
-        (span M.Sink m0 messages.new)
-        (reading input.new) lines progress) }
-    ensures stops { (r0 : R) (w0 : W) (m0 : M) (lines : List InputLine) → E.shows engine.old lines []
-        → IsRunning
-        (reader_span R.Source r0 reader.old)
-        (span W.Sink w0 writer.old)
-        (span M.Sink m0 messages.old)
-        (reading input.old) lines ((E.filter engine.old).so_far lines)
-        → IfErr result (λ halt. StopsAt (E.filter engine.old)
-        (reader_span R.Source r0 reader.new)
-        (span W.Sink w0 writer.new)
-        (span M.Sink m0 messages.new)
-        (reading input.new) lines halt) }
+        → StepGoes (E.filter engine.old) (E.shows engine.new) (reader_span R.Source r0 reader.new)
+        (span W.Sink w0 writer.new) (span M.Sink m0 messages.new) (reading input.new) lines result }
 {
     match input.next_line(reader) {
         Ok(Some(line)) => Ok(Some(take_line(engine, writer, messages, line)?)),

@@ -58,7 +58,7 @@ pub kept-of_done : (before after : Course) (shown : Type 0) (writer messages : D
     → ((t : List ℕ) → messages.took t → waiting then_kept ≡ waiting kept ++ t)
     → (writer.after ≡ writer.before → then_output.failures ≡ output.failures)
     → (messages.after ≡ messages.before → then_kept.failures ≡ kept.failures)
-    → IsDone before after shown writer messages [] warned
+    → IsDone before after shown writer messages warned
     → IsKept before after shown output then_output kept then_kept warned
 kept-of_done before after shown writer messages output then_output kept then_kept warned wrote reported
     written told

@@ -5,6 +5,7 @@ use Rattle.crx_runs.specs.meaning.Spans.{Input, reader_span, Device, span}
 use Rattle.crx_runs.specs.Runs.{result_by}
 use Rattle.crx_runs.specs.meaning.Runs.{RunsAs}
 use Rattle.crx_runs.proofs.Conclusions.{runs-nothing}
+use Rattle.crx_runs.proofs.DeviceSpans.{span-joins}
 use Rattle.crx_runs.proofs.start.start.Goals as goal
 
 pub returns-in-Ok : goal.returns-in-Ok
@@ -35,14 +36,9 @@ returns-in-Err g c = record {
       let r = c.args.reader.now in
       let w = c.args.writer.now in
       let m = c.args.messages.now in
-      let input : Input = reader_span g.R.Source r r in
-      let writer1 : Device = span g.W.Sink w w in
-      let writer2 : Device = span g.W.Sink w c.finish.new.writer in
-      let messages1 : Device = span g.M.Sink m m in
-      let messages2 : Device = span g.M.Sink m c.finish.new.messages in
-      let ran = runs-nothing filter lawful input writer1 writer2 writer2 messages1 messages2 messages2
-      refl refl refl (λ xs ys a b. g.met.W.Sink.took_both w w c.finish.new.writer xs ys a b) (λ f. f)
-      refl refl refl (λ xs ys a b. g.met.M.Sink.took_both m m c.finish.new.messages xs ys a b)
+      let ran = runs-nothing filter lawful (reader_span g.R.Source r r)
+      (span-joins g.W.Sink w w c.finish.new.writer (g.met.W.Sink.took_both w w c.finish.new.writer))
+      (span-joins g.M.Sink m m c.finish.new.messages (g.met.M.Sink.took_both m m c.finish.new.messages))
       (λ lines. ⊤) work.last work.warned work.halt c.finish.result.status c.finish.result.fault
       c.no_memory.ensures.halt c.no_memory.ensures.last (g.met.R.Source.gave_none r) refl
       (g.met.W.Sink.took_none w, refl) (g.met.M.Sink.took_none m, refl) c.finish.ensures in

@@ -1,6 +1,7 @@
-use Rattle.std.proofs.Common.{◌≡◌, inl, inr, ℕ, ◌+◌, true, List, Ok, refl, sym, ap, subst, ◌∙◌}
+use Rattle.std.proofs.Common.{◌≡◌, inl, inr, ℕ, ◌+◌, ◌<◌, ◌≤◌, true, List, Ok, refl, sym, ap, subst, ◌∙◌, arith}
 use Rattle.std.proofs.lemmas.Result.{err_from_is_err_and}
 use Rattle.crx_lines.specs.meaning.Devices.{Tally, tally_of}
+use Rattle.crx_base.specs.declared.limits.TheConstants.{INPUT_LIMIT}
 use Rattle.crx_base.specs.meaning.Lines.{InputLine, is_long}
 use Rattle.crx_lines.specs.Readers.{reading}
 use Rattle.crx_lines.specs.Reading.{ReaderState, line_shown, line_number}
@@ -9,7 +10,8 @@ use Rattle.crx_lines.specs.declared.phase.Phase.TheVariants.{Ended}
 use Rattle.crx_runs.proofs.StepReading.{ReadsLine, line-read, overlong-read, stop-read, end-read}
 use Rattle.crx_runs.proofs.StepReading.{overlong-number}
 use Rattle.crx_runs.proofs.StepReading.{line-passed, overlong-passed, ended-not-open}
-use Rattle.crx_runs.proofs.StepLemmas.{goes-by, ends-by}
+use Rattle.crx_runs.proofs.RunningSteps.{goes-by, ends-by}
+use Rattle.crx_runs.proofs.DeviceSpans.{span-joins}
 use Rattle.crx_runs.proofs.step.step.Given.{Over}
 use Rattle.crx_runs.proofs.step.step.Goals.{In-LineTooLong, In-Ok-Some}
 use Rattle.crx_runs.proofs.step.step.Goals as goal
@@ -52,36 +54,58 @@ read-overlong g c r0 lines h =
     c.next_line.follows.holds-at-none.0 (λ e. (c.next_line.ensures.ended e).0) c.in-Err.at c.in-Err.is
     c.in-LineTooLong.is
 
-pub take_overlong-requires-clause-next :
-    goal.take_overlong-requires-clause-next
-take_overlong-requires-clause-next g c =
-    let counts = λ (r : g.row.R.Denot). tally_of (g.R.Source.failures r) (g.R.Source.ends r) in
-    overlong-number (λ given. g.R.Source.gave c.args.reader.now given c.next_line.new.reader)
-    (g.R.Source.at_end c.next_line.new.reader) (counts c.args.reader.now) (counts c.next_line.new.reader)
-    (reading c.args.input.now) (reading c.next_line.follows.lender-at-none)
-    c.next_line.result c.requires.going c.next_line.follows.holds-at-none.0
-    (λ e. (c.next_line.ensures.ended e).0) c.in-Err.at c.in-Err.is c.in-LineTooLong.is
-    ∙ ap (λ n. n + 1) c.requires.next
+-- The number of a line that is too long is the next, and the line takes some bytes of the input.
+overlong-next : (g : Over) (c : In-LineTooLong g)
+    → (c.in-Err.at.line ≡ (reading c.args.input.now).number + 1)
+    × ((reading c.args.input.now).passed < (reading c.next_line.follows.lender-at-none).passed)
+    × ((reading c.next_line.follows.lender-at-none).passed ≤ INPUT_LIMIT)
+overlong-next g c =
+    let gives = λ (given : List ℕ). g.R.Source.gave c.args.reader.now given c.next_line.new.reader in
+    let passed = overlong-passed gives _ _ _ _ _ c.next_line.result c.requires.going
+    c.next_line.follows.holds-at-none.0 (λ e. (c.next_line.ensures.ended e).0) c.in-Err.at c.in-Err.is
+    c.in-LineTooLong.is in (
+      overlong-number gives _ _ _ _ _ c.next_line.result c.requires.going
+          c.next_line.follows.holds-at-none.0 (λ e. (c.next_line.ensures.ended e).0) c.in-Err.at c.in-Err.is
+          c.in-LineTooLong.is,
+      passed.0,
+      passed.1,
+    )
+
+pub take_overlong-requires : goal.take_overlong-requires
+take_overlong-requires g c =
+    let next = overlong-next g (goal.at.take_overlong-requires g c).In-LineTooLong in
+    record {
+      may_take = record {
+        drained = c.requires.drained;
+        running = c.requires.running;
+        next = next.0 ∙ ap (λ n. n + 1) c.requires.next;
+        within = omega (arith, next.0, next.1, next.2, c.requires.counted.0);
+      };
+    }
 
 pub returns-in_ok-take_line-in-Ok-Some-clause-goes : goal.returns-in_ok-take_line-in-Ok-Some-clause-goes
 returns-in_ok-take_line-in-Ok-Some-clause-goes g c = λ r0 w0 m0 (lines : List InputLine) shown running.
-    goes-by _ _ _ _ _ _ _ _ _ _ _ _
-    refl refl refl (g.met.W.Sink.took_both w0 c.args.writer.now c.take_line.new.writer)
-    refl refl refl (g.met.M.Sink.took_both m0 c.args.messages.now c.take_line.new.messages)
+    goes-by _ lines
+    (span-joins g.W.Sink w0 c.args.writer.now c.take_line.new.writer
+    (g.met.W.Sink.took_both w0 c.args.writer.now c.take_line.new.writer))
+    (span-joins g.M.Sink m0 c.args.messages.now c.take_line.new.messages
+    (g.met.M.Sink.took_both m0 c.args.messages.now c.take_line.new.messages))
     running _ _ (read-line g (goal.at.returns-in_ok-take_line-in-Ok-Some-clause-goes g c).In-Ok-Some r0 lines
     running.read)
-    _ _ (c.in_ok-take_line-in-Ok-Some.ensures.done lines shown)
+    _ _ (c.in_ok-take_line-in-Ok-Some.ensures.taken.done lines _ shown refl)
 
-pub returns-in_err-take_line-in-Ok-Some-clause-stops : goal.returns-in_err-take_line-in-Ok-Some-clause-stops
-returns-in_err-take_line-in-Ok-Some-clause-stops g c = λ r0 w0 m0 (lines : List InputLine) shown running.
+pub returns-in_err-take_line-in-Ok-Some-clause-goes : goal.returns-in_err-take_line-in-Ok-Some-clause-goes
+returns-in_err-take_line-in-Ok-Some-clause-goes g c = λ r0 w0 m0 (lines : List InputLine) shown running.
     let p = err_from_is_err_and c.from_residual.result c.from_residual.ensures.1 in
-    rw (p.1, p.2) (inr (ends-by _ _ _ _ _ _ _ _ _ _ _ _
-    refl refl refl (g.met.W.Sink.took_both w0 c.args.writer.now c.take_line.new.writer)
-    refl refl refl (g.met.M.Sink.took_both m0 c.args.messages.now c.take_line.new.messages)
+    rw (p.1, p.2) (inr (ends-by _ lines
+    (span-joins g.W.Sink w0 c.args.writer.now c.take_line.new.writer
+    (g.met.W.Sink.took_both w0 c.args.writer.now c.take_line.new.writer))
+    (span-joins g.M.Sink m0 c.args.messages.now c.take_line.new.messages
+    (g.met.M.Sink.took_both m0 c.args.messages.now c.take_line.new.messages))
     running _ _
-    (read-line g (goal.at.returns-in_err-take_line-in-Ok-Some-clause-stops g c).In-Ok-Some r0 lines
+    (read-line g (goal.at.returns-in_err-take_line-in-Ok-Some-clause-goes g c).In-Ok-Some r0 lines
     running.read)
-    _ (c.in_err-take_line-in-Ok-Some.ensures.cut lines shown)))
+    _ (c.in_err-take_line-in-Ok-Some.ensures.taken.cut lines _ shown refl)))
 
 pub returns-in-Ok-None-clause-goes : goal.returns-in-Ok-None-clause-goes
 returns-in-Ok-None-clause-goes g c = λ r0 w0 m0 (lines : List InputLine) shown running.
@@ -106,9 +130,7 @@ returns-in-Ok-None-clause-goes g c = λ r0 w0 m0 (lines : List InputLine) shown 
       running = record {
         read = over.0;
         going = inr over.1;
-        good = running.good;
-        wrote = running.wrote;
-        reported = running.reported;
+        out = running.out;
       };
       ended = over.1;
     }
@@ -119,26 +141,30 @@ returns-in_ok-take_overlong-in-LineTooLong-clause-goes g c =
     λ r0 w0 m0 (lines : List InputLine) shown running.
     let at = (goal.at.returns-in_ok-take_overlong-in-LineTooLong-clause-goes g c).In-LineTooLong in
     let over = read-overlong g at r0 lines running.read in
-    goes-by _ _ _ _ _ _ _ _ _ _ _ _
-    refl refl refl (g.met.W.Sink.took_both w0 c.args.writer.now c.take_overlong.new.writer)
-    refl refl refl (g.met.M.Sink.took_both m0 c.args.messages.now c.take_overlong.new.messages)
-    running over.0 _ over.2 _ _ (c.in_ok-take_overlong-in-LineTooLong.ensures.done lines over.0 shown over.1)
+    goes-by _ lines
+    (span-joins g.W.Sink w0 c.args.writer.now c.take_overlong.new.writer
+    (g.met.W.Sink.took_both w0 c.args.writer.now c.take_overlong.new.writer))
+    (span-joins g.M.Sink m0 c.args.messages.now c.take_overlong.new.messages
+    (g.met.M.Sink.took_both m0 c.args.messages.now c.take_overlong.new.messages))
+    running over.0 _ over.2 _ _ (c.in_ok-take_overlong-in-LineTooLong.ensures.taken.done lines over.0 shown over.1)
 
-pub returns-in_err-take_overlong-in-LineTooLong-clause-stops :
-    goal.returns-in_err-take_overlong-in-LineTooLong-clause-stops
-returns-in_err-take_overlong-in-LineTooLong-clause-stops g c =
+pub returns-in_err-take_overlong-in-LineTooLong-clause-goes :
+    goal.returns-in_err-take_overlong-in-LineTooLong-clause-goes
+returns-in_err-take_overlong-in-LineTooLong-clause-goes g c =
     λ r0 w0 m0 (lines : List InputLine) shown running.
-    let at = (goal.at.returns-in_err-take_overlong-in-LineTooLong-clause-stops g c).In-LineTooLong in
+    let at = (goal.at.returns-in_err-take_overlong-in-LineTooLong-clause-goes g c).In-LineTooLong in
     let over = read-overlong g at r0 lines running.read in
     let made = c.from_residual-in_err-take_overlong-in-LineTooLong in
     let p = err_from_is_err_and made.result made.ensures.1 in
-    rw (p.1, p.2) (inr (ends-by _ _ _ _ _ _ _ _ _ _ _ _
-    refl refl refl (g.met.W.Sink.took_both w0 c.args.writer.now c.take_overlong.new.writer)
-    refl refl refl (g.met.M.Sink.took_both m0 c.args.messages.now c.take_overlong.new.messages)
-    running over.0 _ over.2 _ (c.in_err-take_overlong-in-LineTooLong.ensures.cut lines over.0 shown over.1)))
+    rw (p.1, p.2) (inr (ends-by _ lines
+    (span-joins g.W.Sink w0 c.args.writer.now c.take_overlong.new.writer
+    (g.met.W.Sink.took_both w0 c.args.writer.now c.take_overlong.new.writer))
+    (span-joins g.M.Sink m0 c.args.messages.now c.take_overlong.new.messages
+    (g.met.M.Sink.took_both m0 c.args.messages.now c.take_overlong.new.messages))
+    running over.0 _ over.2 _ (c.in_err-take_overlong-in-LineTooLong.ensures.taken.cut lines over.0 shown over.1)))
 
-pub returns-in_default-clause-stops : goal.returns-in_default-clause-stops
-returns-in_default-clause-stops g c = λ r0 w0 m0 (lines : List InputLine) shown running.
+pub returns-in_default-clause-goes : goal.returns-in_default-clause-goes
+returns-in_default-clause-goes g c = λ r0 w0 m0 (lines : List InputLine) shown running.
     let r1 = c.args.reader.now in
     let r2 = c.next_line.new.reader in
     let stopped = stop-read _ (λ given. g.R.Source.gave r0 given r2)
@@ -153,29 +179,19 @@ returns-in_default-clause-stops g c = λ r0 w0 m0 (lines : List InputLine) shown
       record {
         read = stopped.0;
         stopped = stopped.1;
-        good = running.good;
-        wrote = running.wrote;
-        reported = running.reported;
+        out = running.out;
       },
     )
 
 pub returns-in_ok-take_line-in-Ok-Some-clause-farther : goal.returns-in_ok-take_line-in-Ok-Some-clause-farther
 returns-in_ok-take_line-in-Ok-Some-clause-farther g c =
-    let counts = λ (r : g.row.R.Denot). tally_of (g.R.Source.failures r) (g.R.Source.ends r) in
-    line-passed (λ given. g.R.Source.gave c.args.reader.now given c.next_line.new.reader)
-    (g.R.Source.at_end c.next_line.new.reader) (counts c.args.reader.now) (counts c.next_line.new.reader)
-    (reading c.args.input.now) (reading c.next_line.follows.lender-at-none) c.next_line.result
-    c.requires.going
-    c.next_line.follows.holds-at-none.0 (λ e. (c.next_line.ensures.ended e).0) c.in-Ok-Some.line
-    (c.in-Ok-Some.is
-    ∙ ap Ok c.in-Ok-Some.field-0-is)
+    line-passed (λ given. g.R.Source.gave c.args.reader.now given c.next_line.new.reader) _ _ _ _ _
+    c.next_line.result c.requires.going c.next_line.follows.holds-at-none.0
+    (λ e. (c.next_line.ensures.ended e).0) c.in-Ok-Some.line (c.in-Ok-Some.is ∙ ap Ok c.in-Ok-Some.field-0-is)
 
 pub returns-in_ok-take_overlong-in-LineTooLong-clause-farther :
     goal.returns-in_ok-take_overlong-in-LineTooLong-clause-farther
 returns-in_ok-take_overlong-in-LineTooLong-clause-farther g c =
-    let counts = λ (r : g.row.R.Denot). tally_of (g.R.Source.failures r) (g.R.Source.ends r) in
-    overlong-passed (λ given. g.R.Source.gave c.args.reader.now given c.next_line.new.reader)
-    (g.R.Source.at_end c.next_line.new.reader) (counts c.args.reader.now) (counts c.next_line.new.reader)
-    (reading c.args.input.now) (reading c.next_line.follows.lender-at-none)
-    c.next_line.result c.requires.going c.next_line.follows.holds-at-none.0
-    (λ e. (c.next_line.ensures.ended e).0) c.in-Err.at c.in-Err.is c.in-LineTooLong.is
+    let next = overlong-next g
+    (goal.at.returns-in_ok-take_overlong-in-LineTooLong-clause-farther g c).In-LineTooLong in
+    (next.1, next.2)

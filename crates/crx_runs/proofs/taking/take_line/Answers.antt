@@ -1,73 +1,91 @@
-use Rattle.std.proofs.Common.{◌≡◌, Bool, List, [], Result, IfOk, refl, sym, subst}
-use Rattle.crx_base.specs.meaning.Lines.{InputLine}
-use Rattle.crx_lines.specs.Reading.{line_shown}
+use Rattle.std.proofs.Common.{◌≡◌, ℕ, Bool, false, List, Result, Ok, Err, refl, sym, ap, subst, ◌∙◌}
+use Rattle.crx_base.specs.meaning.Lines.{InputLine, lines_text}
 use Rattle.crx_base.specs.declared.fault.At.{At}
+use Rattle.crx_lines.specs.Reading.{line_shown}
 use Rattle.crx_runs.specs.declared.engine.Step.{Step}
-use Rattle.crx_runs.specs.Engines.{EngineAnswers, IsDrainedAfter, answer_given, taken_after}
+use Rattle.crx_runs.specs.declared.engine.Step.TheVariants.{Quiet, Ready}
+use Rattle.crx_runs.specs.declared.taking.Halt.TheVariants.{Unwritten}
+use Rattle.crx_runs.specs.Engines.{Awaited, EngineAnswers, IsAwaited, answer_given}
+use Rattle.crx_runs.specs.meaning.Spans.{span}
+use Rattle.crx_runs.specs.Taking.{HasAnswered}
+use Rattle.crx_runs.proofs.LinesTaken.{line-settled, ready-cut}
+use Rattle.crx_runs.proofs.taking.take_line.Given.{Over}
+use Rattle.crx_runs.proofs.taking.take_line.Goals.{After-take}
 use Rattle.crx_runs.proofs.taking.take_line.Goals as goal
 
-pub returns-then-take-clause-done : goal.returns-then-take-clause-done
-returns-then-take-clause-done g c = λ (lines : List InputLine) shown.
-    let engine = c.take.new.self in
-    let line = line_shown c.args.line in
-    let goes = subst (λ (b : Bool). EngineAnswers (g.E.Engine.filter c.args.engine.now)
-    (g.E.Engine.shows engine)
-    (g.E.Engine.ready engine) lines [] line (answer_given b (g.E.Engine.answer engine))) c.if-take.true
-    (c.take.ensures.answers lines [] shown tt) in
-    record {
-      is_shown = goes.0;
-      text = [];
-      notices = [];
-      adds = record { output = goes.1.output; warnings = goes.1.warnings; good = goes.1.good };
-      wrote = (g.met.W.Sink.took_none c.args.writer.now, refl);
-      reported = (g.met.M.Sink.took_none c.args.messages.now, refl);
-      flag = refl;
-    }
+-- What the engine answered to the line.
+answered : (g : Over) (c : After-take g) (answer : Result Step At)
+    → answer_given c.take.result (g.E.Engine.answer c.take.new.self) ≡ answer
+    → HasAnswered g.E.Engine c.args.engine.now c.take.new.self
+    (λ (l : InputLine). l ≡ line_shown c.args.line) answer
+answered g c answer is =
+    let e = c.take.ensures in
+    subst (HasAnswered g.E.Engine c.args.engine.now c.take.new.self
+    (λ (l : InputLine). l ≡ line_shown c.args.line)) is (record {
+      filter = e.filter;
+      running = e.running;
+      drained = e.drained;
+      count = e.count;
+      answers = λ (lines : List InputLine) (notices : List Awaited) (line : InputLine) shown awaited same.
+          subst (λ (l : InputLine). EngineAnswers (g.E.Engine.filter c.args.engine.now)
+          (g.E.Engine.shows c.take.new.self) (g.E.Engine.ready c.take.new.self) lines notices l
+          (answer_given c.take.result (g.E.Engine.answer c.take.new.self))) (sym same)
+          (e.answers lines notices shown (subst (IsAwaited notices) same awaited));
+    })
 
 pub take_answered-requires : goal.take_answered-requires
-take_answered-requires g c =
+take_answered-requires g c = (
+  c.args.engine.now,
+  c.requires.may_take,
+  answered g (goal.at.take_answered-requires g c).After-take c.answer-answer.result
+      (ap (λ (b : Bool). answer_given b (g.E.Engine.answer c.take.new.self)) c.if-take.false
+      ∙ sym c.answer-answer.ensures.value),
+)
+
+pub returns-then-take : goal.returns-then-take
+returns-then-take g c =
     let engine = c.take.new.self in
-    let kept = λ (P : Result Step At → Type 0)
-    (p : P (answer_given c.take.result (g.E.Engine.answer engine))).
-    subst P (sym c.answer-answer.ensures.value)
-    (subst (λ (b : Bool). P (answer_given b (g.E.Engine.answer engine))) c.if-take.false p) in
+    let w = c.args.writer.now in
+    let a = answered g (goal.at.returns-then-take g c).After-take (Ok Quiet)
+    (ap (λ (b : Bool). answer_given b (g.E.Engine.answer engine)) c.if-take.true) in
     record {
-      running = kept (λ r. IfOk r (λ _. g.E.Engine.is_open engine)) c.take.ensures.running;
-      drained = kept (λ r. IfOk r (λ step. IsDrainedAfter step (g.E.Engine.ready engine)))
-          c.take.ensures.drained;
-      next = (
-        g.E.Engine.taken c.args.engine.now,
-        kept (λ r. IfOk r (λ step. g.E.Engine.taken engine
-            ≡ taken_after step (g.E.Engine.taken c.args.engine.now))) c.take.ensures.count,
-        c.requires.next,
-      );
-      within = c.requires.within;
+      taken = line-settled g.E.Engine c.args.engine.now engine (λ (l : InputLine). l ≡ line_shown c.args.line)
+          Quiet engine (span g.W.Sink w w) (span g.M.Sink c.args.messages.now c.args.messages.now) (Ok false)
+          a tt (record {
+            filter = refl;
+            shows = λ ls notices h. h;
+            running = λ h. h;
+            ended = λ ls h. h;
+          }) a.drained (
+            record {
+              good = refl;
+              wrote = (
+                subst (λ (r : List (List ℕ)). g.W.Sink.took w (lines_text r) w) (sym a.drained)
+                    (g.met.W.Sink.took_none w),
+                refl,
+              );
+              reported = (g.met.M.Sink.took_none c.args.messages.now, refl);
+            },
+            refl,
+          );
     }
 
-pub returns-clause-done : goal.returns-clause-done
-returns-clause-done g c = λ (lines : List InputLine) shown.
-    let engine = c.take.new.self in
-    let filter = g.E.Engine.filter c.args.engine.now in
-    let line = line_shown c.args.line in
-    let quiet = subst (λ (b : Bool). EngineAnswers filter (g.E.Engine.shows engine)
-    (g.E.Engine.ready engine) lines []
-    line (answer_given b (g.E.Engine.answer engine))) c.if-take.false
-    (c.take.ensures.answers lines [] shown tt) in
-    let answers = subst (λ (r : Result Step At). EngineAnswers filter
-    (g.E.Engine.shows engine) (g.E.Engine.ready engine) lines [] line r)
-    (sym c.answer-answer.ensures.value) quiet in
-    c.take_answered.ensures.done filter lines line c.take.ensures.filter answers refl
+pub returns : goal.returns
+returns g c = record {
+  taken = c.take_answered.ensures c.args.engine.now
+      (answered g (goal.at.returns g c).After-take c.answer-answer.result
+      (ap (λ (b : Bool). answer_given b (g.E.Engine.answer c.take.new.self)) c.if-take.false
+      ∙ sym c.answer-answer.ensures.value));
+}
 
-pub returns-clause-cut : goal.returns-clause-cut
-returns-clause-cut g c = λ (lines : List InputLine) shown.
-    let engine = c.take.new.self in
-    let filter = g.E.Engine.filter c.args.engine.now in
-    let line = line_shown c.args.line in
-    let quiet = subst (λ (b : Bool). EngineAnswers filter (g.E.Engine.shows engine)
-    (g.E.Engine.ready engine) lines []
-    line (answer_given b (g.E.Engine.answer engine))) c.if-take.false
-    (c.take.ensures.answers lines [] shown tt) in
-    let answers = subst (λ (r : Result Step At). EngineAnswers filter
-    (g.E.Engine.shows engine) (g.E.Engine.ready engine) lines [] line r)
-    (sym c.answer-answer.ensures.value) quiet in
-    c.take_answered.ensures.cut filter lines line c.take.ensures.filter answers refl
+pub returns-in-Err : goal.returns-in-Err
+returns-in-Err g c = record {
+  taken = line-settled g.E.Engine c.args.engine.now c.take.new.self (λ (l : InputLine). l ≡ line_shown c.args.line)
+      Ready c.write_ready.new.engine (span g.W.Sink c.args.writer.now c.write_ready.new.writer)
+      (span g.M.Sink c.args.messages.now c.args.messages.now) (Err Unwritten)
+      (answered g (goal.at.returns-in-Err g c).After-take (Ok Ready)
+      (ap (λ (b : Bool). answer_given b (g.E.Engine.answer c.take.new.self)) c.if-take.false
+      ∙ sym c.answer.ensures.value ∙ c.in-Ok-Ready.is ∙ ap Ok c.in-Ok-Ready.field-0-is))
+      tt c.in-Err.ensures.kept tt
+      (ready-cut _ _ _ c.in-Err.ensures.part (g.met.M.Sink.took_none c.args.messages.now, refl));
+}

@@ -1,15 +1,27 @@
-use Rattle.std.proofs.Common.{List, []}
-use Rattle.crx_base.specs.meaning.Lines.{InputLine}
+use Rattle.std.proofs.Common.{true, ◌≡◌}
+use Rattle.crx_base.specs.meaning.Lines.{InputLine, is_long}
+use Rattle.crx_runs.specs.Taking.{HasAnswered}
+use Rattle.crx_runs.proofs.taking.take_overlong.Given.{Over}
+use Rattle.crx_runs.proofs.taking.take_overlong.Goals.{After-overlong-answer}
 use Rattle.crx_runs.proofs.taking.take_overlong.Goals as goal
 
-pub returns-clause-done : goal.returns-clause-done
-returns-clause-done g c = λ (lines : List InputLine) (line : InputLine) shown long.
-    c.take_answered.ensures.done
-    (g.E.Engine.filter c.args.engine.now) lines line c.overlong-answer.ensures.filter
-    (c.overlong-answer.ensures.answers lines [] line shown tt long) long
+-- What the engine answered to the line.
+answered : (g : Over) (c : After-overlong-answer g)
+    → HasAnswered g.E.Engine c.args.engine.now c.overlong-answer.new.self (λ (l : InputLine). is_long l ≡ true)
+    c.overlong-answer.result
+answered g c =
+    let e = c.overlong-answer.ensures in
+    record { filter = e.filter; running = e.running; drained = e.drained; count = e.count; answers = e.answers }
 
-pub returns-clause-cut : goal.returns-clause-cut
-returns-clause-cut g c = λ (lines : List InputLine) (line : InputLine) shown long.
-    c.take_answered.ensures.cut
-    (g.E.Engine.filter c.args.engine.now) lines line c.overlong-answer.ensures.filter
-    (c.overlong-answer.ensures.answers lines [] line shown tt long) long
+pub take_answered-requires : goal.take_answered-requires
+take_answered-requires g c = (
+  c.args.engine.now,
+  c.requires.may_take,
+  answered g (goal.at.take_answered-requires g c).After-overlong-answer,
+)
+
+pub returns : goal.returns
+returns g c = record {
+  taken = c.take_answered.ensures c.args.engine.now
+      (answered g (goal.at.returns g c).After-overlong-answer);
+}

@@ -1,12 +1,14 @@
-use Rattle.std.proofs.Common.{inl, inr, Bool, ◌||◌, List, [], length, Option, None, refl, sym, ap, arith}
+use Rattle.std.proofs.Common.{inl, inr, Bool, ◌||◌, List, [], Option, Ok, sym, ap, arith}
 use Rattle.std.proofs.Common.{subst, ◌∙◌}
 use Rattle.crx_base.specs.meaning.Lines.{InputLine}
 use Rattle.crx_lines.specs.Readers.{reading}
 use Rattle.crx_runs.specs.meaning.Filters.{Filter}
 use Rattle.crx_runs.specs.meaning.Spans.{Input, reader_span, Device, span}
-use Rattle.crx_runs.specs.Running.{IsRunning, Goes, GoesOnBy, ComesToEnd, StopsAt}
-use Rattle.crx_runs.specs.Taking.{IsDone, IsHalted}
-use Rattle.crx_runs.proofs.WorkLemmas.{go-on, well-done, stopped-end, stopped-on}
+use Rattle.crx_runs.specs.Endings.{EndEndsRun, StopsAt}
+use Rattle.crx_runs.specs.Running.{ComesToEnd, GoesOnBy, IsRunning, StepGoes}
+use Rattle.crx_runs.specs.Taking.{IsDone}
+use Rattle.crx_runs.proofs.DeviceSpans.{span-joins}
+use Rattle.crx_runs.proofs.RunningSteps.{go-on, stopped-end, well-done}
 use Rattle.crx_runs.proofs.work.take_all.Given.{Over}
 use Rattle.crx_runs.proofs.work.take_all.Goals.{After-step, In-Ok, In-Ok-None, In-Ok-Some}
 use Rattle.crx_runs.proofs.work.take_all.Goals as goal
@@ -41,8 +43,8 @@ went-on g c run =
     let lines = c.lines.invariant.0.0 in
     subst (λ (f : Filter). GoesOnBy f shows input writer messages now lines c.in-Ok-Some.warning)
     c.lines.invariant.3
-    (subst (λ (p : Option Bool). Goes (g.E.Engine.filter c.lines.engine) shows input writer messages now lines
-    p)
+    (subst (λ (p : Option Bool). StepGoes (g.E.Engine.filter c.lines.engine) shows input writer messages now lines
+    (Ok p))
     c.in-Ok-Some.field-0-is
     (c.in-Ok-Some.ensures.goes c.args.reader.now c.args.writer.now c.args.messages.now lines
     c.lines.invariant.0.1 run))
@@ -64,8 +66,8 @@ came-to-end g c run =
     let now = reading c.step.new.input in
     let lines = c.lines.invariant.0.0 in
     subst (λ (f : Filter). ComesToEnd f shows input writer messages now lines) c.lines.invariant.3
-    (subst (λ (p : Option Bool). Goes (g.E.Engine.filter c.lines.engine) shows input writer messages now lines
-    p)
+    (subst (λ (p : Option Bool). StepGoes (g.E.Engine.filter c.lines.engine) shows input writer messages now lines
+    (Ok p))
     c.in-Ok-None.field-0-is
     (c.in-Ok-None.ensures.goes c.args.reader.now c.args.writer.now c.args.messages.now lines
     c.lines.invariant.0.1 run))
@@ -100,23 +102,25 @@ end-done : (g : Over) (c : In-Ok g) → g.E.Engine.shows c.step.new.engine c.lin
     c.lines.invariant.0.0 in
     IsDone (filter.so_far lines) (filter.whole lines) (g.E.Engine.has_ended c.take_end.new.engine lines)
     (span g.W.Sink c.step.new.writer c.take_end.new.writer)
-    (span g.M.Sink c.step.new.messages c.take_end.new.messages) [] c.in-Ok.warning
+    (span g.M.Sink c.step.new.messages c.take_end.new.messages) c.in-Ok.warning
 end-done g c shown =
     let lines = c.lines.invariant.0.0 in
     subst (λ (f : Filter). IsDone (f.so_far lines) (f.whole lines)
     (g.E.Engine.has_ended c.take_end.new.engine lines)
     (span g.W.Sink c.step.new.writer c.take_end.new.writer)
-    (span g.M.Sink c.step.new.messages c.take_end.new.messages) [] c.in-Ok.warning)
+    (span g.M.Sink c.step.new.messages c.take_end.new.messages) c.in-Ok.warning)
     (c.step.ensures.filter ∙ c.lines.invariant.3) (c.in-Ok.ensures.done lines shown)
 
 pub returns-then-warned-2 : goal.returns-then-warned-2
 returns-then-warned-2 g c =
     let at = goal.at.returns-then-warned-2 g c in
     let comes = came-to-end g at.In-Ok-None (running g at.After-step) in
-    well-done _ _ _ _ _ _ _ _ _ _ _
-    refl refl refl (g.met.W.Sink.took_both c.args.writer.now c.step.new.writer c.take_end.new.writer)
-    refl refl refl (g.met.M.Sink.took_both c.args.messages.now c.step.new.messages c.take_end.new.messages)
-    comes c.number-last.result c.number-last.ensures.value _ c.lines.warned c.in-Ok.warning _
+    well-done _ c.lines.invariant.0.0
+    (span-joins g.W.Sink c.args.writer.now c.step.new.writer c.take_end.new.writer
+    (g.met.W.Sink.took_both c.args.writer.now c.step.new.writer c.take_end.new.writer))
+    (span-joins g.M.Sink c.args.messages.now c.step.new.messages c.take_end.new.messages
+    (g.met.M.Sink.took_both c.args.messages.now c.step.new.messages c.take_end.new.messages))
+    _ comes c.number-last.result c.number-last.ensures.value _ c.lines.warned c.in-Ok.warning _
     c.lines.invariant.0.3
     (c.if-warned-2.true ∙ sym (ap (λ (b : Bool). b || c.in-Ok.warning) c.if-warned-2.true))
     (end-done g at.In-Ok comes.shown)
@@ -125,10 +129,12 @@ pub returns-else-warned-2 : goal.returns-else-warned-2
 returns-else-warned-2 g c =
     let at = goal.at.returns-else-warned-2 g c in
     let comes = came-to-end g at.In-Ok-None (running g at.After-step) in
-    well-done _ _ _ _ _ _ _ _ _ _ _
-    refl refl refl (g.met.W.Sink.took_both c.args.writer.now c.step.new.writer c.take_end.new.writer)
-    refl refl refl (g.met.M.Sink.took_both c.args.messages.now c.step.new.messages c.take_end.new.messages)
-    comes c.number-last.result c.number-last.ensures.value _ c.lines.warned c.in-Ok.warning _
+    well-done _ c.lines.invariant.0.0
+    (span-joins g.W.Sink c.args.writer.now c.step.new.writer c.take_end.new.writer
+    (g.met.W.Sink.took_both c.args.writer.now c.step.new.writer c.take_end.new.writer))
+    (span-joins g.M.Sink c.args.messages.now c.step.new.messages c.take_end.new.messages
+    (g.met.M.Sink.took_both c.args.messages.now c.step.new.messages c.take_end.new.messages))
+    _ comes c.number-last.result c.number-last.ensures.value _ c.lines.warned c.in-Ok.warning _
     c.lines.invariant.0.3
     (ap (λ (b : Bool). b || c.in-Ok.warning) (sym c.if-warned-2.false)) (end-done g at.In-Ok comes.shown)
 
@@ -149,16 +155,15 @@ returns-in-Err-take_end g c =
     let lines = c.lines.invariant.0.0 in
     let writer : Device = span g.W.Sink c.step.new.writer c.take_end.new.writer in
     let messages : Device = span g.M.Sink c.step.new.messages c.take_end.new.messages in
-    let halted : IsHalted ((g.E.Engine.filter c.args.engine.now).so_far lines)
-    ((g.E.Engine.filter c.args.engine.now).whole lines) None (length lines) writer messages [] []
-    c.in-Err-take_end.halt =
-    subst (λ (f : Filter). IsHalted (f.so_far lines) (f.whole lines) None (length lines) writer messages [] []
-    c.in-Err-take_end.halt) (c.step.ensures.filter ∙ c.lines.invariant.3)
-    (c.in-Err-take_end.ensures.cut lines comes.shown) in
-    inr (inr (inl (stopped-end _ _ _ _ _ _ _ _ _ _ _
-    refl refl refl (g.met.W.Sink.took_both c.args.writer.now c.step.new.writer c.take_end.new.writer)
-    refl refl refl (g.met.M.Sink.took_both c.args.messages.now c.step.new.messages c.take_end.new.messages)
-    comes c.number-last.result c.number-last.ensures.value c.in-Err-take_end.halt halted)))
+    let ends : EndEndsRun (g.E.Engine.filter c.args.engine.now) lines writer messages c.in-Err-take_end.halt =
+    subst (λ (f : Filter). EndEndsRun f lines writer messages c.in-Err-take_end.halt)
+    (c.step.ensures.filter ∙ c.lines.invariant.3) (c.in-Err-take_end.ensures.cut lines comes.shown) in
+    inr (inl (stopped-end _ lines
+    (span-joins g.W.Sink c.args.writer.now c.step.new.writer c.take_end.new.writer
+    (g.met.W.Sink.took_both c.args.writer.now c.step.new.writer c.take_end.new.writer))
+    (span-joins g.M.Sink c.args.messages.now c.step.new.messages c.take_end.new.messages
+    (g.met.M.Sink.took_both c.args.messages.now c.step.new.messages c.take_end.new.messages))
+    _ comes c.number-last.result c.number-last.ensures.value c.in-Err-take_end.halt ends))
 
 pub returns-in-Err : goal.returns-in-Err
 returns-in-Err g c =
@@ -169,8 +174,7 @@ returns-in-Err g c =
     let lines = c.lines.invariant.0.0 in
     let stops : StopsAt (g.E.Engine.filter c.args.engine.now) input writer messages now lines c.in-Err.halt =
     subst (λ (f : Filter). StopsAt f input writer messages now lines c.in-Err.halt) c.lines.invariant.3
-    (c.in-Err.ensures.stops c.args.reader.now c.args.writer.now c.args.messages.now lines
+    (c.in-Err.ensures.goes c.args.reader.now c.args.writer.now c.args.messages.now lines
     c.lines.invariant.0.1
     (running g (goal.at.returns-in-Err g c).After-step)) in
-    stopped-on _ (g.E.Engine.has_ended c.step.new.engine) input writer messages now lines c.number.result
-    c.lines.warned c.in-Err.halt c.number.ensures.value stops
+    inl (record { lines = lines; stops = stops; last_is = c.number.ensures.value })

@@ -1,4 +1,4 @@
-use Rattle.std.proofs.Common.{◌≡◌, ◌+◌, ℕ, List, [], length, IfErr, IfOk, ap, subst, ◌∙◌, ◌<◌, ◌≤◌}
+use Rattle.std.proofs.Common.{◌≡◌, ◌+◌, ℕ, List, [], length, IfErr, IfOk, ap, refl, subst, ◌∙◌, ◌<◌, ◌≤◌}
 use Rattle.std.proofs.Common.{rules}
 use Rattle.std.proofs.lemmas.Bool.{lt-ltb}
 use Rattle.std.proofs.lemmas.Result.{IfErr-weaker, IfOk-weaker}
@@ -23,7 +23,7 @@ returns-then-content-gt-LINE_LIMIT-clause-done g c = λ (lines : List InputLine)
     (λ warned done. kept-of_done _ _ _ _ _ c.args.output.now c.take_overlong.new.writer c.args.messages.now
     c.take_overlong.new.messages warned (λ t took. took) (λ t took. took)
     (λ good. ap (λ (t : SinkTally). t.failures) good) (λ good. ap (λ (t : SinkTally). t.failures) good) done)
-    (c.take_overlong.ensures.done lines (piece_line whole c.args.is_ended) shown (lt-ltb _ _ long))
+    (c.take_overlong.ensures.taken.done lines (piece_line whole c.args.is_ended) shown (lt-ltb _ _ long))
 
 pub returns-then-content-gt-LINE_LIMIT-clause-stops :
     goal.returns-then-content-gt-LINE_LIMIT-clause-stops
@@ -36,7 +36,7 @@ returns-then-content-gt-LINE_LIMIT-clause-stops g c = λ (lines : List InputLine
     c.take_overlong.new.messages
     (λ t took. took) (λ t took. took) (λ failed. ap (λ (t : SinkTally). t.failures) failed)
     (λ failed. ap (λ (t : SinkTally). t.failures) failed) halt cut)
-    (c.take_overlong.ensures.cut lines (piece_line whole c.args.is_ended) shown (lt-ltb _ _ long))
+    (c.take_overlong.ensures.taken.cut lines (piece_line whole c.args.is_ended) shown (lt-ltb _ _ long))
 
 pub returns-clause-done : goal.returns-clause-done
 returns-clause-done g c = λ (lines : List InputLine) (whole : List ℕ) shown kept.
@@ -55,7 +55,7 @@ returns-clause-done g c = λ (lines : List InputLine) (whole : List ℕ) shown k
     (λ warned done. kept-of_done _ _ _ _ _ c.args.output.now c.take_line.new.writer c.args.messages.now
     c.take_line.new.messages warned (λ t took. took) (λ t took. took)
     (λ good. ap (λ (t : SinkTally). t.failures) good) (λ good. ap (λ (t : SinkTally). t.failures) good) done)
-    (c.take_line.ensures.done lines shown))
+    (c.take_line.ensures.taken.done lines _ shown refl))
 
 pub returns-clause-stops : goal.returns-clause-stops
 returns-clause-stops g c = λ (lines : List InputLine) (whole : List ℕ) shown kept.
@@ -74,4 +74,4 @@ returns-clause-stops g c = λ (lines : List InputLine) (whole : List ℕ) shown 
     c.take_line.new.messages
     (λ t took. took) (λ t took. took) (λ failed. ap (λ (t : SinkTally). t.failures) failed)
     (λ failed. ap (λ (t : SinkTally). t.failures) failed) halt cut)
-    (c.take_line.ensures.cut lines shown))
+    (c.take_line.ensures.taken.cut lines _ shown refl))

@@ -1,0 +1,140 @@
+-- A device over two stretches of a run, and over both.
+use Rattle.std.proofs.Common.{◌≡◌, ℕ, ◌+◌, ◌≤◌, List, [], ◌∷◌, ◌++◌, length, take, refl, sym, ap}
+use Rattle.std.proofs.Common.{subst, ◌∙◌, arith, append_assoc, append-nil, length-append}
+use Rattle.std.proofs.Math.Seq.{take-append-add}
+use Rattle.std.proofs.lemmas.List.{take-append-le}
+use Rattle.crx_lines.specs.declared.device.Sink.{Ghosts}
+use Rattle.crx_lines.specs.meaning.Devices.{with_failed_write}
+use Rattle.crx_base.specs.declared.fault.At.{At}
+use Rattle.crx_runs.specs.meaning.Messages.{warning_text, notices_text}
+use Rattle.crx_runs.specs.meaning.Spans.{Device, TookAll, TookPart, IsPart, span}
+use Rattle.crx_runs.specs.Endings.{resumed}
+
+-- the messages of some warnings and of others
+pub notices-append : (xs ys : List At) → notices_text (xs ++ ys) ≡ notices_text xs ++ notices_text ys
+notices-append [] ys = refl
+notices-append (x ∷ xs) ys = ap (λ (t : List ℕ). warning_text x ++ t) (notices-append xs ys)
+    ∙ sym (append_assoc (warning_text x) (notices_text xs) (notices_text ys))
+
+-- the first stretch, the second, and both
+pub record Joins (first second both : Device) : Type 0 where
+  pub same : second.before ≡ first.after
+  pub start : both.before ≡ first.before
+  pub end : both.after ≡ second.after
+  pub joined : (xs ys : List ℕ) → first.took xs → second.took ys → both.took (xs ++ ys)
+  pub flushed : second.flushed → both.flushed
+
+pub span-joins : {S : Type 0} (sink : Ghosts S) (a b c : S)
+    → ((xs ys : List ℕ) → sink.took a xs b → sink.took b ys c → sink.took a (xs ++ ys) c)
+    → Joins (span sink a b) (span sink b c) (span sink a c)
+span-joins sink a b c took_both =
+    record { same = refl; start = refl; end = refl; joined = took_both; flushed = λ f. f }
+
+pub all-all : {first second both : Device} → Joins first second both → (xs ys : List ℕ)
+    → TookAll first xs → TookAll second ys → TookAll both (xs ++ ys)
+all-all j xs ys a b = (j.joined xs ys a.0 b.0, j.end ∙ b.1 ∙ j.same ∙ a.1 ∙ sym j.start)
+
+pub took-still : {first second both : Device} → Joins first second both → (xs : List ℕ)
+    → first.took xs → second.took [] → both.took xs
+took-still {both = both} j xs a b = subst both.took (append-nil xs) (j.joined xs [] a b)
+
+pub all-still : {first second both : Device} → Joins first second both → (xs : List ℕ)
+    → TookAll first xs → TookAll second [] → TookAll both xs
+all-still {both = both} j xs a b = subst (TookAll both) (append-nil xs) (all-all j xs [] a b)
+
+-- a part that was taken, and nothing after it
+pub part-still : {first second both : Device} → Joins first second both → (xs all : List ℕ)
+    → IsPart first xs all → TookAll second [] → IsPart both xs all
+part-still j xs all a b = record {
+  count = a.count;
+  some = a.some;
+  less = a.less;
+  took = took-still j (take a.count all) a.took b.0;
+  failed = j.end ∙ b.1 ∙ j.same ∙ a.failed ∙ ap with_failed_write (sym j.start);
+}
+
+-- a part of a text is one of a longer text
+pub part-more : {device : Device} (xs all more whole : List ℕ) → whole ≡ all ++ more → IsPart device xs all
+    → IsPart device xs whole
+part-more {device = device} xs all more whole is p = record {
+  count = p.count;
+  some = p.some;
+  less = omega (arith, p.less, ap length is, length-append all more);
+  took = subst device.took (sym (ap (take p.count) is ∙ take-append-le p.count all more (omega (arith, p.less))))
+      p.took;
+  failed = p.failed;
+}
+
+-- ---- a device that took a text before
+
+pub all-resumed : (device : Device) (xs all more : List ℕ) → all ≡ xs ++ more → TookAll device more
+    → TookAll (resumed device xs) all
+all-resumed device xs all more is a = ((more, is, a.0), a.1)
+
+pub none-resumed : (device : Device) (xs all : List ℕ) → all ≡ xs → TookAll device []
+    → TookAll (resumed device xs) all
+none-resumed device xs all is a = all-resumed device xs all [] (is ∙ sym (append-nil xs)) a
+
+-- a part of a text, after what was taken before; there may be more of it than was tried
+pub part-resumed : {device : Device} (start xs ys more all : List ℕ) → length start ≤ length xs
+    → all ≡ (xs ++ ys) ++ more → IsPart device [] ys → IsPart (resumed device xs) start all
+part-resumed start xs ys more all within is p =
+    let n = p.count in
+    let front : take (length xs + n) all ≡ xs ++ take n ys =
+    ap (take (length xs + n)) is ∙ take-append-le
+    (length xs + n) (xs ++ ys) more (omega (arith, p.less, length-append xs ys)) ∙ take-append-add xs ys n in
+    record {
+      count = length xs + n;
+      some = omega arith;
+      less = omega (arith, p.less, ap length is, length-append (xs ++ ys) more, length-append xs ys);
+      took = (take n ys, front, p.took);
+      failed = p.failed;
+    }
+
+-- what a device took, another took as well, and counted the same
+pub record Carries (one other : Device) : Type 0 where
+  pub took : (text : List ℕ) → one.took text → other.took text
+  pub before : other.before ≡ one.before
+  pub after : other.after ≡ one.after
+
+pub carried-all : {one other : Device} → Carries one other → (xs : List ℕ) → TookAll one xs → TookAll other xs
+carried-all c xs a = (c.took xs a.0, c.after ∙ a.1 ∙ sym c.before)
+
+pub carried-part : {one other : Device} → Carries one other → (xs all : List ℕ) → IsPart one xs all
+    → IsPart other xs all
+carried-part c xs all p = record {
+  count = p.count;
+  some = p.some;
+  less = p.less;
+  took = c.took (take p.count all) p.took;
+  failed = c.after ∙ p.failed ∙ ap with_failed_write (sym c.before);
+}
+
+-- what came after a text, over both stretches
+pub carry : {first second both : Device} → Joins first second both → (xs : List ℕ) → TookAll first xs
+    → Carries (resumed second xs) both
+carry {both = both} j xs a = record {
+  took = λ text t. subst both.took (sym t.1) (j.joined xs t.0 a.0 t.2);
+  before = j.start ∙ sym a.1 ∙ sym j.same;
+  after = j.end;
+}
+
+-- a text, and a part of the next
+pub part-then : {first second both : Device} → Joins first second both → (xs ys : List ℕ)
+    → TookAll first xs → TookPart second ys → IsPart both xs (xs ++ ys)
+part-then j xs ys a b = carried-part (carry j xs a) xs (xs ++ ys) (part-resumed xs xs ys [] (xs ++ ys)
+    (omega arith) (sym (append-nil (xs ++ ys)))
+    (record { count = b.0.0; some = omega arith; less = b.0.1; took = b.0.2; failed = b.1 }))
+
+-- and what came after two texts, over both stretches after the first text
+pub carry-on : {first second both : Device} → Joins first second both → (xs ys all : List ℕ)
+    → all ≡ xs ++ ys → TookAll first ys → Carries (resumed second all) (resumed both xs)
+carry-on j xs ys all is a = record {
+  took = λ text t. (
+    ys ++ t.0,
+    t.1 ∙ ap (λ (l : List ℕ). l ++ t.0) is ∙ append_assoc xs ys t.0,
+    j.joined ys t.0 a.0 t.2,
+  );
+  before = j.start ∙ sym a.1 ∙ sym j.same;
+  after = j.end;
+}

@@ -1,0 +1,177 @@
+-- How a run goes on or ends at a line, from one stretch of it to the next.
+use Rattle.std.proofs.Common.{◌≡◌, ◌⊎◌, inl, inr, ℕ, ◌<◌, List, [], ◌++◌, length, Option, Some, None}
+use Rattle.std.proofs.Common.{Bool, Result, Ok, Err, IfOk, IfErr}
+use Rattle.std.proofs.Common.{refl, sym, ap, ◌∙◌, subst, arith, append_assoc, append-nil, length-append}
+use Rattle.crx_base.specs.declared.fault.At.{At}
+use Rattle.crx_base.specs.declared.fault.Fault.TheVariants.{OutOfMemory}
+use Rattle.crx_runs.specs.declared.taking.Halt.{Halt}
+use Rattle.crx_runs.specs.declared.taking.Halt.TheVariants.{Fault, Unwritten, Unreported}
+use Rattle.crx_runs.specs.Engines.{EndsWith}
+use Rattle.crx_runs.specs.meaning.Messages.{notices_text}
+use Rattle.crx_runs.specs.meaning.Results.{Course}
+use Rattle.crx_runs.specs.meaning.Spans.{Device, TookAll, AreNext}
+use Rattle.crx_runs.specs.Endings.{Adds, IsAllOut, EndsAt, EndsFrom, resumed}
+use Rattle.crx_runs.specs.Taking.{IsDone, IsSettled}
+use Rattle.crx_runs.proofs.DeviceSpans.{Joins, Carries, all-all, all-resumed, none-resumed, part-resumed}
+use Rattle.crx_runs.proofs.DeviceSpans.{carried-all, carried-part, carry, notices-append}
+
+none-some : {A : Type 0} (x : A) → ◌≡◌ {A = Option A} None (Some x) → ⊥
+none-some x e = cc
+
+-- an ending, by devices that took at least the same
+pub carried-ends : {writer writer' messages messages' : Device} → Carries writer writer'
+    → Carries messages messages'
+    → (memory : Option (List At)) (number : ℕ) (before after : Course) (halt : Halt)
+    → EndsAt memory number writer messages before after halt
+    → EndsAt memory number writer' messages' before after halt
+carried-ends w m memory number before after (Fault at) (inl e) = inl (record {
+  notices = e.notices;
+  allowed = e.allowed;
+  fault = e.fault;
+  place = e.place;
+  next = e.next;
+  wrote = carried-all w before.output e.wrote;
+  reported = carried-all m (notices_text (before.warnings ++ e.notices)) e.reported;
+})
+carried-ends w m memory number before after (Fault at) (inr e) = inr (record {
+  notices = e.notices;
+  ends = e.ends;
+  wrote = carried-all w after.output e.wrote;
+  reported = carried-all m (notices_text after.warnings) e.reported;
+})
+carried-ends w m memory number before after Unwritten e = record {
+  text = e.text;
+  notices = e.notices;
+  adds = e.adds;
+  wrote = carried-part w before.output after.output e.wrote;
+  reported = carried-all m (notices_text after.warnings) e.reported;
+}
+carried-ends w m memory number before after Unreported e = record {
+  notices = e.notices;
+  next = e.next;
+  wrote = carried-all w before.output e.wrote;
+  reported = carried-part m (notices_text before.warnings) (notices_text (before.warnings ++ e.notices)) e.reported;
+}
+
+module _ {writer1 writer2 writer messages1 messages2 messages : Device}
+    (w : Joins writer1 writer2 writer) (m : Joins messages1 messages2 messages)
+    (before after : Course) (out : IsAllOut writer1 messages1 before) where
+  -- all that came before is out, and what is added
+  pub out-more : (text : List ℕ) (notices : List At) → Adds before after text notices
+      → TookAll writer2 text → TookAll messages2 (notices_text notices) → IsAllOut writer messages after
+  out-more text notices adds wrote reported = record {
+    good = adds.good;
+    wrote = subst (TookAll writer) (sym adds.output) (all-all w before.output text out.wrote wrote);
+    reported = subst (TookAll messages)
+        (sym (ap notices_text adds.warnings ∙ notices-append before.warnings notices))
+        (all-all m (notices_text before.warnings) (notices_text notices) out.reported reported);
+  }
+
+  -- all that came before is out, and then the run ended
+  pub ends-after : (memory : Option (List At)) (number : ℕ) (halt : Halt)
+      → EndsFrom memory number writer2 messages2 before after halt
+      → EndsAt memory number writer messages before after halt
+  ends-after memory number halt e =
+      carried-ends (carry w before.output out.wrote) (carry m (notices_text before.warnings) out.reported)
+      memory number before after halt e
+
+-- a step at a line, or at the end, by devices that took before what the lines before make, and earlier warnings
+module _ (writer messages : Device) (before after : Course) (earlier told : List At)
+    (told_is : told ≡ before.warnings ++ earlier) (memory : Option (List At)) (number : ℕ) where
+  abbrev pub Ends : Halt → Type 0
+  Ends halt = EndsAt memory number (resumed writer before.output) (resumed messages (notices_text told))
+      before after halt
+
+  more-told : (notices : List At) → before.warnings ++ (earlier ++ notices) ≡ told ++ notices
+  more-told notices = sym (append_assoc before.warnings earlier notices)
+      ∙ ap (λ (l : List At). l ++ notices) (sym told_is)
+
+  -- a fault was answered
+  pub answer-ends : (at : At) → (earlier ≡ []) ⊎ AreNext before after earlier
+      → ((at.fault ≡ OutOfMemory) × (at.line ≡ number) × (memory ≡ Some earlier))
+      ⊎ EndsWith before after earlier at
+      → TookAll writer [] → TookAll messages [] → Ends (Fault at)
+  answer-ends at next (inl out) wrote reported = inl (record {
+    notices = earlier;
+    allowed = out.2;
+    fault = out.0;
+    place = out.1;
+    next = next;
+    wrote = none-resumed writer before.output before.output refl wrote;
+    reported = none-resumed messages (notices_text told) (notices_text (before.warnings ++ earlier))
+        (ap notices_text (sym told_is)) reported;
+  })
+  answer-ends at next (inr ends) wrote reported = inr (record {
+    notices = earlier;
+    ends = ends;
+    wrote = none-resumed writer before.output after.output ends.output wrote;
+    reported = none-resumed messages (notices_text told) (notices_text after.warnings)
+        (ap notices_text (ends.warnings ∙ sym told_is)) reported;
+  })
+
+  -- what a step made couldn't be written or reported
+  step-ends : (text : List ℕ) (notices : List At)
+      → (0 < length text → Adds before after text (earlier ++ notices))
+      → AreNext before after (earlier ++ notices)
+      → (halt : Halt) → EndsAt None 0 writer messages (record { output = []; warnings = []; fault = None })
+      (record { output = text; warnings = notices; fault = None }) halt → Ends halt
+  step-ends text notices adds next (Fault at) (inl e) = absurd (none-some e.notices e.allowed)
+  step-ends text notices adds next (Fault at) (inr e) = absurd (none-some at e.ends.fault)
+  step-ends text notices adds next Unwritten e =
+      let a = adds (omega (arith, e.wrote.less)) in
+      record {
+        text = text;
+        notices = earlier ++ notices;
+        adds = a;
+        wrote = part-resumed before.output before.output text [] after.output (omega arith)
+            (a.output ∙ sym (append-nil (before.output ++ text))) e.wrote;
+        reported = all-resumed messages (notices_text told) (notices_text after.warnings) (notices_text notices)
+            (ap notices_text (a.warnings ∙ more-told notices) ∙ notices-append told notices) e.reported;
+      }
+  step-ends text notices adds next Unreported e = record {
+    notices = earlier ++ notices;
+    next = next;
+    wrote = none-resumed writer before.output before.output refl e.wrote;
+    reported = part-resumed (notices_text before.warnings) (notices_text told) (notices_text e.notices)
+        (notices_text e.next.0) (notices_text (before.warnings ++ (earlier ++ notices)))
+        (omega (
+          arith,
+          ap length (ap notices_text told_is ∙ notices-append before.warnings earlier),
+          length-append (notices_text before.warnings) (notices_text earlier),
+        ))
+        (ap notices_text (more-told notices) ∙ ap (λ (l : List At). notices_text (told ++ l)) e.next.1
+        ∙ notices-append told (e.notices ++ e.next.0)
+        ∙ ap (λ (t : List ℕ). notices_text told ++ t) (notices-append e.notices e.next.0)
+        ∙ sym (append_assoc (notices_text told) (notices_text e.notices) (notices_text e.next.0)))
+        e.reported;
+  }
+
+  -- or it could
+  pub step-comes : (text : List ℕ) (notices : List At)
+      → (0 < length text → Adds before after text (earlier ++ notices))
+      → AreNext before after (earlier ++ notices) → (result : Result Bool Halt)
+      → IsSettled writer messages (record { output = text; warnings = notices; fault = None }) result
+      → IfErr result Ends
+  step-comes text notices adds next (Ok warned) s = tt
+  step-comes text notices adds next (Err halt) s = step-ends text notices adds next halt s
+
+-- what a step made was written and reported
+pub step-done : (before after : Course) (shown : Type 0) (writer messages : Device) (text : List ℕ)
+    (notices : List At)
+    → shown → Adds before after text notices → (result : Result Bool Halt)
+    → IsSettled writer messages (record { output = text; warnings = notices; fault = None }) result
+    → IfOk result (IsDone before after shown writer messages)
+step-done before after shown writer messages text notices is adds (Ok warned) s = record {
+  is_shown = is;
+  text = text;
+  notices = notices;
+  adds = adds;
+  wrote = s.0.wrote;
+  reported = s.0.reported;
+  flag = s.1;
+}
+step-done before after shown writer messages text notices is adds (Err halt) s = tt
+
+pub all-next : (before after : Course) (notices : List At) → after.warnings ≡ before.warnings ++ notices
+    → AreNext before after notices
+all-next before after notices is = ([], is ∙ sym (append-nil (before.warnings ++ notices)))

@@ -1,0 +1,351 @@
+-- A line that an engine takes, at once or a second time.
+use Rattle.std.proofs.Common.{◌≡◌, ◌⊎◌, inl, inr, ℕ, ◌+◌, Bool, true, false, List, [], ◌∷◌, ◌++◌, length}
+use Rattle.std.proofs.Common.{Some, None, Result, Ok, Err, IfOk, IfErr, OnOk, refl, sym, ap, subst, ◌∙◌, arith}
+use Rattle.std.proofs.Common.{append_assoc, append-nil}
+use Rattle.std.specs.Prelude.{⊤}
+use Rattle.crx_base.specs.meaning.Lines.{InputLine, lines_text}
+use Rattle.crx_base.specs.declared.fault.At.{At}
+use Rattle.crx_base.specs.declared.fault.Fault.TheVariants.{OutOfMemory}
+use Rattle.crx_runs.specs.declared.engine.Engine.{Ghosts}
+use Rattle.crx_runs.specs.declared.engine.Step.{Step}
+use Rattle.crx_runs.specs.declared.engine.Step.TheVariants.{Quiet, Ready, Warned}
+use Rattle.crx_runs.specs.declared.taking.Halt.{Halt}
+use Rattle.crx_runs.specs.declared.taking.Halt.TheVariants.{Fault, Unwritten}
+use Rattle.crx_runs.specs.Endings.{Adds, LineEndsRun, EndEndsRun}
+use Rattle.crx_runs.specs.Engines.{Awaited, awaited_notices, EngineAnswers, IsDrainedAfter, RunsOutAt, EndsWith}
+use Rattle.crx_runs.specs.Engines.{Concludes}
+use Rattle.crx_runs.specs.meaning.Filters.{Filter, with_next}
+use Rattle.crx_runs.specs.meaning.Messages.{notices_text}
+use Rattle.crx_runs.specs.meaning.Results.{Course}
+use Rattle.crx_runs.specs.meaning.Spans.{Device, TookAll, TookPart, AreNext}
+use Rattle.crx_runs.specs.Taking.{HasAnswered, IsDone, IsSettled, KeepsLines, LineIsTaken, made_by}
+use Rattle.crx_runs.specs.Taking.{step_notices}
+use Rattle.crx_runs.proofs.DeviceSpans.{Joins, all-all, carry-on, notices-append}
+use Rattle.crx_runs.proofs.LineEndings.{Ends, all-next, answer-ends, carried-ends, step-comes, step-done}
+
+-- a line that was answered so doesn't come a second time
+abbrev pub Stays : Step → Type 0
+Stays Quiet = ⊤
+Stays Ready = ⊤
+Stays (Warned notice true) = ⊥
+Stays (Warned notice false) = ⊤
+
+-- what a line adds that doesn't come a second time
+answers-add : (filter : Filter) (shows : List InputLine → List Awaited → Type 0) (ready : List (List ℕ))
+    (lines : List InputLine) (notices : List Awaited) (line : InputLine) (step : Step) → Stays step
+    → IsDrainedAfter step ready → EngineAnswers filter shows ready lines notices line (Ok step)
+    → shows (with_next lines line) [] × Adds (filter.so_far lines) (filter.so_far (with_next lines line))
+    (lines_text ready) (awaited_notices notices ++ step_notices step)
+answers-add filter shows ready lines notices line Quiet stays drained a = (
+  a.0,
+  record {
+    output = a.1.output ∙ ap (λ (r : List (List ℕ)). (filter.so_far lines).output ++ lines_text r) (sym drained);
+    warnings = a.1.warnings
+        ∙ ap (λ (l : List At). (filter.so_far lines).warnings ++ l) (sym (append-nil (awaited_notices notices)));
+    good = a.1.good;
+  },
+)
+answers-add filter shows ready lines notices line Ready stays drained a = (
+  a.0,
+  record {
+    output = a.1.output;
+    warnings = a.1.warnings
+        ∙ ap (λ (l : List At). (filter.so_far lines).warnings ++ l) (sym (append-nil (awaited_notices notices)));
+    good = a.1.good;
+  },
+)
+answers-add filter shows ready lines notices line (Warned notice true) stays drained a = absurd stays
+answers-add filter shows ready lines notices line (Warned notice false) stays drained a = (
+  a.0,
+  record {
+    output = a.1.output ∙ ap (λ (r : List (List ℕ)). (filter.so_far lines).output ++ lines_text r) (sym drained);
+    warnings = a.1.warnings;
+    good = a.1.good;
+  },
+)
+
+-- a line comes a second time once at most
+stays-then : (filter : Filter) (shows : List InputLine → List Awaited → Type 0) (ready : List (List ℕ))
+    (lines : List InputLine) (first : Awaited) (line : InputLine) (step : Step)
+    → EngineAnswers filter shows ready lines (first ∷ []) line (Ok step) → Stays step
+stays-then filter shows ready lines first line Quiet a = tt
+stays-then filter shows ready lines first line Ready a = tt
+stays-then filter shows ready lines first line (Warned notice true) a = absurd (omega (arith, ap length a.1))
+stays-then filter shows ready lines first line (Warned notice false) a = tt
+
+either-out : (filter : Filter) (lines : List InputLine) (line : InputLine) (notices : List At) (at : At)
+    → RunsOutAt filter lines line notices at
+    ⊎ EndsWith (filter.so_far lines) (filter.so_far (with_next lines line)) notices at
+    → ((at.fault ≡ OutOfMemory) × (at.line ≡ length lines + 1) × (filter.memory_after lines line ≡ Some notices))
+    ⊎ EndsWith (filter.so_far lines) (filter.so_far (with_next lines line)) notices at
+either-out filter lines line notices at (inl r) = inl (r.fault, r.place, r.allowed)
+either-out filter lines line notices at (inr e) = inr e
+
+on-ok : {A E : Type 0} {X : Type 0} (result : Result A E) → X → OnOk result X
+on-ok (Ok a) x = x
+on-ok (Err e) x = tt
+
+-- lines that were ready were written in part
+pub ready-cut : (writer messages : Device) (ready : List (List ℕ)) → TookPart writer (lines_text ready)
+    → TookAll messages [] → IsSettled writer messages (made_by ready Ready) (Err Unwritten)
+ready-cut writer messages ready part none = record {
+  text = lines_text ready;
+  notices = [];
+  adds = record { output = refl; warnings = refl; good = refl };
+  wrote = record {
+    count = part.0.0;
+    some = omega arith;
+    less = part.0.1;
+    took = part.0.2;
+    failed = part.1;
+  };
+  reported = none;
+}
+
+-- what a second step comes to, for both
+abbrev pub then_of : Bool → Result Bool Halt → Result Bool Halt
+then_of warned (Ok second) = Ok warned
+then_of warned (Err halt) = Err halt
+
+then-ok : (X : Type 0) (warned : Bool) (result : Result Bool Halt) → OnOk result X
+    → OnOk (then_of warned result) X
+then-ok X warned (Ok second) x = x
+then-ok X warned (Err halt) x = tt
+
+then-err : {P Q : Halt → Type 0} (warned : Bool) (result : Result Bool Halt) → ((halt : Halt) → P halt → Q halt)
+    → IfErr result P → IfErr (then_of warned result) Q
+then-err warned (Ok second) f p = tt
+then-err warned (Err halt) f p = f halt p
+
+then-done : {writer1 writer2 writer messages1 messages2 messages : Device}
+    → Joins writer1 writer2 writer → Joins messages1 messages2 messages
+    → (before after : Course) (shown : Type 0) (notice : At) (text : List ℕ) (notices : List At)
+    → shown → Adds before after text (notice ∷ notices)
+    → (warned : Bool) → TookAll writer1 [] → TookAll messages1 (notices_text (notice ∷ [])) → warned ≡ true
+    → (result : Result Bool Halt)
+    → IsSettled writer2 messages2 (record { output = text; warnings = notices; fault = None }) result
+    → IfOk (then_of warned result) (IsDone before after shown writer messages)
+then-done {messages = messages} w m before after shown notice text notices is adds warned wrote reported flag
+    (Ok second) s =
+    record {
+      is_shown = is;
+      text = text;
+      notices = notice ∷ notices;
+      adds = adds;
+      wrote = all-all w [] text wrote s.0.wrote;
+      reported = subst (TookAll messages) (sym (notices-append (notice ∷ []) notices))
+          (all-all m (notices_text (notice ∷ [])) (notices_text notices) reported s.0.reported);
+      flag = flag;
+    }
+then-done w m before after shown notice text notices is adds warned wrote reported flag (Err halt) s = tt
+
+module _ {E : Type 0} (engine : Ghosts E) (before now : E) (can_be : InputLine → Type 0) where
+  -- a line with a fault
+  pub line-refused : (at : At) (writer messages : Device) → HasAnswered engine before now can_be (Err at)
+      → TookAll writer [] → TookAll messages []
+      → LineIsTaken engine before now can_be writer messages (Err (Fault at))
+  line-refused at writer messages a wrote reported = record {
+    filter = a.filter;
+    running = tt;
+    drained = tt;
+    done = λ lines line shown is. tt;
+    cut = λ (lines : List InputLine) (line : InputLine) shown is.
+        let filter = engine.filter before in
+        answer-ends writer messages (filter.so_far lines) (filter.so_far (with_next lines line)) []
+        (filter.so_far lines).warnings (sym (append-nil (filter.so_far lines).warnings))
+        (filter.memory_after lines line) (length lines + 1) at (inl refl)
+        (either-out filter lines line [] at (a.answers lines [] line shown tt is)) wrote reported;
+  }
+
+  -- a line that doesn't come a second time
+  pub line-settled : (step : Step) (new : E) (writer messages : Device) (result : Result Bool Halt)
+      → HasAnswered engine before now can_be (Ok step) → Stays step → KeepsLines engine now new
+      → OnOk result (engine.ready new ≡ [])
+      → IsSettled writer messages (made_by (engine.ready now) step) result
+      → LineIsTaken engine before new can_be writer messages result
+  line-settled step new writer messages result a stays kept drained settled =
+      let filter = engine.filter before in
+      let ready = engine.ready now in
+      let adds = λ (lines : List InputLine) (line : InputLine)
+      (shown : engine.shows before lines []) (is : can_be line).
+      answers-add filter (engine.shows now) ready lines [] line step stays a.drained
+      (a.answers lines [] line shown tt is) in
+      record {
+        filter = kept.filter ∙ a.filter;
+        running = on-ok result (kept.running a.running);
+        drained = drained;
+        done = λ (lines : List InputLine) (line : InputLine) shown is.
+            let goes = adds lines line shown is in
+            step-done (filter.so_far lines) (filter.so_far (with_next lines line))
+            (engine.shows new (with_next lines line) []) writer messages (lines_text ready) (step_notices step)
+            (kept.shows (with_next lines line) [] goes.0) goes.1 result settled;
+        cut = λ (lines : List InputLine) (line : InputLine) shown is.
+            let goes = adds lines line shown is in
+            let old = filter.so_far lines in
+            let then = filter.so_far (with_next lines line) in
+            step-comes writer messages old then [] old.warnings (sym (append-nil old.warnings))
+            (filter.memory_after lines line) (length lines + 1) (lines_text ready) (step_notices step)
+            (λ some. goes.1) (all-next old then (step_notices step) goes.1.warnings) result settled;
+      }
+
+  -- a line whose warning couldn't be reported, at which reading was to go on
+  again-unreported : (notice : At) (new : E) (writer messages : Device) (halt : Halt)
+      → HasAnswered engine before now can_be (Ok (Warned notice true)) → KeepsLines engine now new
+      → IsSettled writer messages (made_by (engine.ready now) (Warned notice true)) (Err halt)
+      → LineIsTaken engine before new can_be writer messages (Err halt)
+  again-unreported notice new writer messages halt a kept settled = record {
+    filter = kept.filter ∙ a.filter;
+    running = tt;
+    drained = tt;
+    done = λ lines line shown is. tt;
+    cut = λ (lines : List InputLine) (line : InputLine) shown is.
+        let filter = engine.filter before in
+        let old = filter.so_far lines in
+        let then = filter.so_far (with_next lines line) in
+        let next = (a.answers lines [] line shown tt is).2 in
+        step-comes writer messages old then [] old.warnings (sym (append-nil old.warnings))
+        (filter.memory_after lines line) (length lines + 1) (lines_text (engine.ready now)) (notice ∷ [])
+        (λ some. absurd (omega (
+          arith,
+          some,
+          ap (λ (r : List (List ℕ)). length (lines_text r)) a.drained,
+        )))
+        (next.0, next.1 ∙ sym (append_assoc old.warnings (notice ∷ []) next.0)) (Err halt) settled;
+  }
+
+  -- either of both
+  pub line-failed : (step : Step) (new : E) (writer messages : Device) (halt : Halt)
+      → HasAnswered engine before now can_be (Ok step) → KeepsLines engine now new
+      → IsSettled writer messages (made_by (engine.ready now) step) (Err halt)
+      → LineIsTaken engine before new can_be writer messages (Err halt)
+  line-failed Quiet new writer messages halt a kept s =
+      line-settled Quiet new writer messages (Err halt) a tt kept tt s
+  line-failed Ready new writer messages halt a kept s =
+      line-settled Ready new writer messages (Err halt) a tt kept tt s
+  line-failed (Warned notice true) new writer messages halt a kept s =
+      again-unreported notice new writer messages halt a kept s
+  line-failed (Warned notice false) new writer messages halt a kept s =
+      line-settled (Warned notice false) new writer messages (Err halt) a tt kept tt s
+
+  -- a line that comes a second time, after its warning
+  module _ (notice : At) (a : HasAnswered engine before now can_be (Ok (Warned notice true)))
+      (mid : E) (kept : KeepsLines engine now mid) {writer1 writer2 writer messages1 messages2 messages : Device}
+      (w : Joins writer1 writer2 writer) (m : Joins messages1 messages2 messages) (warned : Bool)
+      (settled : IsSettled writer1 messages1 (made_by (engine.ready now) (Warned notice true)) (Ok warned))
+      (then : E) where
+    abbrev its : Filter
+    its = engine.filter before
+
+    abbrev awaited : InputLine → List Awaited
+    awaited line = record { notice = notice; line = line } ∷ []
+
+    first-wrote : TookAll writer1 []
+    first-wrote = subst (λ (r : List (List ℕ)). TookAll writer1 (lines_text r)) a.drained settled.0.wrote
+
+    first-next : (lines : List InputLine) (line : InputLine) → engine.shows before lines [] → can_be line
+        → AreNext (its.so_far lines) (its.so_far (with_next lines line)) (notice ∷ [])
+    first-next lines line shown is =
+        let next = (a.answers lines [] line shown tt is).2 in
+        (next.0, next.1 ∙ sym (append_assoc (its.so_far lines).warnings (notice ∷ []) next.0))
+
+    second-answers : (answer : Result Step At) → HasAnswered engine mid then can_be answer
+        → (lines : List InputLine) (line : InputLine) → engine.shows before lines [] → can_be line
+        → EngineAnswers its (engine.shows then) (engine.ready then) lines (awaited line) line answer
+    second-answers answer b lines line shown is =
+        subst (λ (f : Filter). EngineAnswers f (engine.shows then) (engine.ready then) lines (awaited line) line
+        answer) (kept.filter ∙ a.filter)
+        (b.answers lines (awaited line) line
+        (kept.shows lines (awaited line) (a.answers lines [] line shown tt is).0) refl is)
+
+    second-ends : (lines : List InputLine) (line : InputLine) (halt : Halt)
+        → Ends writer2 messages2 (its.so_far lines) (its.so_far (with_next lines line)) (notice ∷ [])
+        ((its.so_far lines).warnings ++ notice ∷ []) refl (its.memory_after lines line)
+        (length lines + 1) halt
+        → LineEndsRun its lines line writer messages halt
+    second-ends lines line halt e =
+        let old = its.so_far lines in
+        carried-ends (carry-on w old.output [] old.output (sym (append-nil old.output)) first-wrote)
+        (carry-on m (notices_text old.warnings) (notices_text (notice ∷ []))
+        (notices_text (old.warnings ++ notice ∷ [])) (notices-append old.warnings (notice ∷ []))
+        settled.0.reported)
+        (its.memory_after lines line) (length lines + 1) old (its.so_far (with_next lines line)) halt e
+
+    pub again-refused : (at : At) → HasAnswered engine mid then can_be (Err at)
+        → TookAll writer2 [] → TookAll messages2 []
+        → LineIsTaken engine before then can_be writer messages (Err (Fault at))
+    again-refused at b wrote reported = record {
+      filter = b.filter ∙ kept.filter ∙ a.filter;
+      running = tt;
+      drained = tt;
+      done = λ lines line shown is. tt;
+      cut = λ (lines : List InputLine) (line : InputLine) shown is.
+          second-ends lines line (Fault at)
+          (answer-ends writer2 messages2 (its.so_far lines) (its.so_far (with_next lines line))
+          (notice ∷ []) ((its.so_far lines).warnings ++ notice ∷ []) refl (its.memory_after lines line)
+          (length lines + 1) at (inr (first-next lines line shown is))
+          (either-out its lines line (notice ∷ []) at (second-answers (Err at) b lines line shown is))
+          wrote reported);
+    }
+
+    pub again-settled : (step : Step) (new : E) (result : Result Bool Halt)
+        → HasAnswered engine mid then can_be (Ok step) → KeepsLines engine then new
+        → OnOk result (engine.ready new ≡ [])
+        → IsSettled writer2 messages2 (made_by (engine.ready then) step) result
+        → LineIsTaken engine before new can_be writer messages (then_of warned result)
+    again-settled step new result b kept2 drained settled2 =
+        let ready = engine.ready then in
+        let adds = λ (lines : List InputLine) (line : InputLine)
+        (shown : engine.shows before lines []) (is : can_be line).
+        let answers = second-answers (Ok step) b lines line shown is in
+        answers-add its (engine.shows then) ready lines (awaited line) line step
+        (stays-then its (engine.shows then) ready lines (record { notice = notice; line = line }) line step
+        answers) b.drained answers in
+        record {
+          filter = kept2.filter ∙ b.filter ∙ kept.filter ∙ a.filter;
+          running = then-ok _ warned result (on-ok result (kept2.running b.running));
+          drained = then-ok _ warned result drained;
+          done = λ (lines : List InputLine) (line : InputLine) shown is.
+              let goes = adds lines line shown is in
+              then-done w m (its.so_far lines) (its.so_far (with_next lines line))
+              (engine.shows new (with_next lines line) []) notice (lines_text ready) (step_notices step)
+              (kept2.shows (with_next lines line) [] goes.0) goes.1 warned first-wrote settled.0.reported
+              settled.1 result settled2;
+          cut = λ (lines : List InputLine) (line : InputLine) shown is.
+              let goes = adds lines line shown is in
+              let old = its.so_far lines in
+              let new_course = its.so_far (with_next lines line) in
+              then-err warned result (second-ends lines line)
+              (step-comes writer2 messages2 old new_course (notice ∷ []) (old.warnings ++ notice ∷ []) refl
+              (its.memory_after lines line) (length lines + 1) (lines_text ready) (step_notices step)
+              (λ some. goes.1) (all-next old new_course (notice ∷ step_notices step) goes.1.warnings) result
+              settled2);
+        }
+
+-- the end of the input
+concludes-add : (filter : Filter) (ready : List (List ℕ)) (lines : List InputLine) (step : Step)
+    → IsDrainedAfter step ready → Concludes filter ready lines (Ok step)
+    → Adds (filter.so_far lines) (filter.whole lines) (lines_text ready) (step_notices step)
+concludes-add filter ready lines Quiet drained a = record {
+  output = a.1.output ∙ ap (λ (r : List (List ℕ)). (filter.so_far lines).output ++ lines_text r) (sym drained);
+  warnings = a.1.warnings;
+  good = a.1.good;
+}
+concludes-add filter ready lines Ready drained a =
+    record { output = a.output; warnings = a.warnings; good = a.good }
+concludes-add filter ready lines (Warned notice again) drained a = record {
+  output = a.1.output ∙ ap (λ (r : List (List ℕ)). (filter.so_far lines).output ++ lines_text r) (sym drained);
+  warnings = a.1.warnings;
+  good = a.1.good;
+}
+
+pub end-comes : (filter : Filter) (ready : List (List ℕ)) (lines : List InputLine) (step : Step)
+    (writer messages : Device) (result : Result Bool Halt)
+    → IsDrainedAfter step ready → Concludes filter ready lines (Ok step)
+    → IsSettled writer messages (made_by ready step) result
+    → IfErr result (EndEndsRun filter lines writer messages)
+end-comes filter ready lines step writer messages result drained a settled =
+    let old = filter.so_far lines in
+    let adds = concludes-add filter ready lines step drained a in
+    step-comes writer messages old (filter.whole lines) [] old.warnings (sym (append-nil old.warnings)) None
+    (length lines) (lines_text ready) (step_notices step) (λ some. adds)
+    (all-next old (filter.whole lines) (step_notices step) adds.warnings) result settled
