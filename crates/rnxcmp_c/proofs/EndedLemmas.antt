@@ -1,5 +1,5 @@
 -- What the result of a run brings back, saves and judges follows from what it is, by the laws.
-use Rattle.std.proofs.Common.{◌≡◌, ◌⊎◌, inl, inr, ⊎_elim, ℕ, List, ap, sym, ◌∙◌, subst}
+use Rattle.std.proofs.Common.{◌≡◌, ◌⊎◌, inl, inr, ⊎_elim, ℕ, List, true, ap, sym, ◌∙◌, subst}
 use Rattle.crx_base.specs.meaning.Faults.{code_of_fault}
 use Rattle.crx_base.specs.declared.fault.Fault.TheVariants.{InputTooLong}
 use Rattle.crx_base.specs.meaning.Choices.{Choices}
@@ -14,8 +14,33 @@ use Rattle.rnxcmp_c.specs.meaning.Answers.{BothTexts, HasNoMemory, fault_code_in
 use Rattle.rnxcmp_c.specs.meaning.Handles.{LacksLastMessage, RunHasEnded, RunHasResult, StopsAtLimit}
 use Rattle.rnxcmp_c.specs.meaning.Handles.{StopsForMemory, StopsWhenFull, Task, run_for}
 use Rattle.rnxcmp_c.specs.meaning.Ended.{CheckPromises, ExpansionPromises}
+use Rattle.rnxcmp_c.specs.meaning.Lossless.{CallBringsBackWhatPasses}
+use Rattle.rnxcmp_c.specs.meaning.Promises.{CallBringsBackWhatWasCompacted, CallSavesAllElse}
+use Rattle.rnxcmp_c.specs.meaning.Stretches.{CallKeepsUndamaged, CallWritesWholeUnits}
 use Rattle.rnxcmp_c.proofs.Kept.{brings-back, judges-status, saves-all_else}
 use Rattle.rnxcmp_c.proofs.Lossless.{brings-back_passed}
+
+-- what holds of the result of an expansion holds of what it brings back, saves and keeps
+pub record KeepsPromises (holds : FilterResult → Type 0) (choices : Choices) (text : List ℕ) : Type 0 where
+  pub whole : holds (expanded text choices)
+  pub lossless : CallBringsBackWhatPasses holds text
+  pub way_back : CallBringsBackWhatWasCompacted holds text
+  pub salvage : choices.skip ≡ true → CallSavesAllElse holds text
+  pub damage : choices.skip ≡ true → CallKeepsUndamaged holds text
+  pub whole_units : CallWritesWholeUnits holds text
+
+pub keeps-promises : (holds : FilterResult → Type 0) (choices : Choices) (text : List ℕ)
+    → holds (expanded text choices) → KeepsPromises holds choices text
+keeps-promises holds choices text whole = record {
+  whole = whole;
+  lossless = brings-back_passed holds choices text whole;
+  way_back = brings-back holds choices text whole;
+  salvage = λ skips. saves-all_else holds choices text skips whole;
+  damage = λ skips file compacting dated damage.
+      (expanded text choices, rest-kept file compacting choices text dated skips damage, whole);
+  whole_units = λ file compacting dated first.
+      (expanded text choices, whole-first file compacting choices text dated first, whole);
+}
 
 module _ (fed : List ℕ) (made kept : BothTexts) (answer : Answer) where
   abbrev Has : FilterResult → Type 0
@@ -72,15 +97,15 @@ module _ (fed : List ℕ) (made kept : BothTexts) (answer : Answer) where
 
   pub run-expansion : (choices : Choices) → Has (expanded fed choices)
       → ExpansionPromises choices fed made kept answer
-  run-expansion choices whole = record {
-    lossless = brings-back_passed Has choices fed whole;
-    way_back = brings-back Has choices fed whole;
-    salvage = λ skips. saves-all_else Has choices fed skips whole;
-    damage = λ skips file compacting dated damage.
-        (expanded fed choices, rest-kept file compacting choices fed dated skips damage, whole);
-    whole_units = λ file compacting dated first.
-        (expanded fed choices, whole-first file compacting choices fed dated first, whole);
-  }
+  run-expansion choices whole =
+      let kept = keeps-promises Has choices fed whole in
+      record {
+        lossless = kept.lossless;
+        way_back = kept.way_back;
+        salvage = kept.salvage;
+        damage = kept.damage;
+        whole_units = kept.whole_units;
+      }
 
   pub run-check : Has (checked fed) → CheckPromises fed answer
   run-check whole =

@@ -14,65 +14,55 @@ use Rattle.rnxcmp_c.specs.meaning.Answers.{bare_answer}
 use Rattle.rnxcmp_c.specs.declared.answer.Answer.{Answer}
 use Rattle.rnxcmp_c.specs.declared.answer.TheConstants.{MISUSED}
 use Rattle.rnxcmp_c.specs.declared.reader.Reader.{Reader}
-use Rattle.rnxcmp_c.proofs.PieceLemmas.{none-or}
 
 module _ (task : Task) (old new : Reader) (past : HandlePast) (bytes allowed : List ℕ) (used : ℕ)
-    (answer : Answer) where
-  pub fed-bytes : allowed ≡ take (INPUT_LIMIT - old.fed) bytes → answer ≡ answer_now new
-      → ReaderRuns task old past
-      → (length allowed ≡ 0 → 0 < length bytes → (used ≡ 0) × ReaderHasPassed task new past)
-      → ((0 < length bytes → 0 < length allowed) → HasFed past.fed task new (fed_with past
-      (take used allowed)))
-      → ((0 < length bytes → 0 < length allowed) → IsFed old new (length allowed) used)
-      → ((0 < length bytes → 0 < length allowed) → new.outcome ≡ None → 0 < used
-      → StopsSoon (filter_for task) past allowed used)
+    (answer : Answer) (first : allowed ≡ take (INPUT_LIMIT - old.fed) bytes) (answers : answer ≡ answer_now new)
+    (runs : ReaderRuns task old past) where
+  same : allowed ≡ allowed_after past bytes
+  same = first ∙ ap (λ n. take (INPUT_LIMIT - n) bytes) runs.counted
+
+  -- an input may have some of them, or there are none
+  pub fed-bytes : (0 < length bytes → 0 < length allowed)
+      → HasFed past.fed task new (fed_with past (take used allowed)) → IsFed old new (length allowed) used
+      → (new.outcome ≡ None → 0 < used → StopsSoon (filter_for task) past allowed used)
       → FeedsBytes task old new past bytes used answer
-  fed-bytes first answers runs over fed count soon =
-      let same : allowed ≡ allowed_after past bytes =
-      first ∙ ap (λ n. take (INPUT_LIMIT - n) bytes) runs.counted in
-      let left : ℕ = INPUT_LIMIT - length past.fed in
-      let some : 0 < length (allowed_after past bytes) → 0 < length bytes → 0 < length allowed =
-      λ h _. subst (λ (l : List ℕ). 0 < length l) (sym same) h in
-      let within : used ≤ length allowed =
-      ⊎_elim
-      (λ none. ⊎_elim (λ empty. (count (λ h. absurd (omega (arith, h, empty)))).within)
-      (λ h. omega (arith, (over none h).0)) (none-or (length bytes)))
-      (λ h. (count (λ _. h)).within) (none-or (length allowed)) in
-      record {
-        answers = answers;
-        within = subst (λ (l : List ℕ). used ≤ length l) same within;
-        over = λ h none. over (ap length same ∙ none) h;
-        fed = λ h. subst (λ (l : List ℕ). HasFed past.fed task new (fed_with past l))
-            (ap (take used) same ∙ take-take used left bytes
-            (omega (arith, within, ap length same, length-take left bytes)))
-            (fed (λ b. subst (λ (l : List ℕ). 0 < length l) (sym same) (h b)));
-        some = λ h. (count (some h)).some (subst (λ (l : List ℕ). 0 < length l) (sym same) h);
-        all = λ none h. (count (λ _. omega (arith, h, ap length same))).all none
-            (omega (arith, h, ap length same));
-        soon = λ none h. subst (λ (l : List ℕ). StopsSoon (filter_for task) past l used) same
-            (soon (λ _. omega (arith, h, within)) none h);
-        still = λ h. (count (some h)).still;
-        ended = λ h is. (count (some h)).ended is ∙ ap length same;
-      }
+  fed-bytes some fed count soon = record {
+    answers = answers;
+    within = omega (arith, count.within, ap length same);
+    over = λ h none. absurd (omega (arith, some h, none, ap length same));
+    fed = λ h. subst (λ (l : List ℕ). HasFed past.fed task new (fed_with past l))
+        (ap (take used) same ∙ take-take used (INPUT_LIMIT - length past.fed) bytes
+        (omega (arith, count.within, ap length same, length-take (INPUT_LIMIT - length past.fed) bytes))) fed;
+    some = λ h. count.some (omega (arith, h, ap length same));
+    all = λ none h. count.all none (omega (arith, h, ap length same));
+    soon = λ none h. subst (λ (l : List ℕ). StopsSoon (filter_for task) past l used) same (soon none h);
+    still = λ h. count.still;
+    ended = λ h is. count.ended is ∙ ap length same;
+  }
 
-  pub fed-by : allowed ≡ take (INPUT_LIMIT - old.fed) bytes → answer ≡ answer_now new
-      → (outcome : Option Outcome)
-      → is_some outcome ≡ false → StandsBy task old past outcome
-      → (ReaderRuns task old past → length allowed ≡ 0 → 0 < length bytes
-      → (used ≡ 0) × ReaderHasPassed task new past)
-      → (ReaderRuns task old past → (0 < length bytes → 0 < length allowed)
-      → HasFed past.fed task new (fed_with past (take used allowed)))
-      → ((0 < length bytes → 0 < length allowed) → IsFed old new (length allowed) used)
-      → (ReaderRuns task old past → (0 < length bytes → 0 < length allowed) → new.outcome ≡ None → 0 < used
-      → StopsSoon (filter_for task) past allowed used)
-      → FeedsBy task old new past bytes used answer outcome
-  fed-by first answers None none runs over fed count soon =
-      fed-bytes first answers runs (over runs) (fed runs) count (soon runs)
-  fed-by first answers (Some outcome) none stands over fed count soon = absurd (cc)
+  -- there are some, and an input may have none of them
+  pub passed-bytes : 0 < length bytes → length allowed ≡ 0 → used ≡ 0 → ReaderHasPassed task new past
+      → FeedsBytes task old new past bytes used answer
+  passed-bytes some empty none passed = record {
+    answers = answers;
+    within = omega (arith, none);
+    over = λ more full. (none, passed);
+    fed = λ h. absurd (omega (arith, h some, empty, ap length same));
+    some = λ h. absurd (omega (arith, h, empty, ap length same));
+    all = λ goes_on h. absurd (omega (arith, h, empty, ap length same));
+    soon = λ goes_on h. absurd (omega (arith, h, none));
+    still = λ h. absurd (omega (arith, h, empty, ap length same));
+    ended = λ h. absurd (omega (arith, h, empty, ap length same));
+  }
 
--- the run has ended before
-pub misused-by : (task : Task) (reader : Reader) (past : HandlePast) (bytes : List ℕ) (answer : Answer)
-    → answer ≡ bare_answer MISUSED 0 0 → (outcome : Option Outcome) → is_some outcome ≡ true
-    → FeedsBy task reader reader past bytes 0 answer outcome
-misused-by task reader past bytes answer misused None some = absurd (cc)
-misused-by task reader past bytes answer misused (Some outcome) some = (misused, refl, refl)
+-- a run that hasn't ended goes on
+pub runs-where_none : (task : Task) (reader : Reader) (past : HandlePast) (outcome : Option Outcome)
+    → is_some outcome ≡ false → StandsBy task reader past outcome → ReaderRuns task reader past
+runs-where_none task reader past None none runs = runs
+runs-where_none task reader past (Some outcome) none stands = absurd (cc)
+
+pub fed-by : (task : Task) (old new : Reader) (past : HandlePast) (bytes : List ℕ) (used : ℕ) (answer : Answer)
+    (outcome : Option Outcome) → is_some outcome ≡ false → FeedsBytes task old new past bytes used answer
+    → FeedsBy task old new past bytes used answer outcome
+fed-by task old new past bytes used answer None none feeds = feeds
+fed-by task old new past bytes used answer (Some outcome) none feeds = absurd (cc)

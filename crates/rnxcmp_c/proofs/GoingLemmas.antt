@@ -107,6 +107,51 @@ more-text : (whole taken kept more then : List ℕ) (after : List ℕ) → after
 more-text whole taken kept more then after grows is was =
     grows ∙ ap (λ t. t ++ more) is ∙ append_assoc taken kept more ∙ ap (λ t. taken ++ t) (sym was)
 
+-- both texts are as they were
+text-kept : {course : Course} {old new : Held} {past : HandlePast} → IsText course old past
+    → waiting new.output ≡ waiting old.output → waiting new.messages ≡ waiting old.messages
+    → IsText course new past
+text-kept {course} {old} {new} {past} text output messages = record {
+  wrote = text.wrote ∙ ap (λ t. past.output ++ t) (sym output);
+  reported = text.reported ∙ ap (λ t. past.messages ++ t) (sym messages);
+}
+
+-- whatever was fed since
+text-fed : {course : Course} {held : Held} {past : HandlePast} {fed : List ℕ} → IsText course held past
+    → IsText course held (record past { fed = fed })
+text-fed text = record { wrote = text.wrote; reported = text.reported }
+
+text-grows : (before after : Course) (shown : Type 0) (old new : Held) (past : HandlePast)
+    → IsText before old past → MovesOn before after shown old new → IsText after new past
+text-grows before after shown old new past text moved =
+    let kept = moved.kept in
+    record {
+      wrote = more-text before.output past.output (waiting old.output) kept.text (waiting new.output) _
+          kept.output_is text.wrote kept.wrote;
+      reported = more-text (notices_text before.warnings) past.messages (waiting old.messages)
+          (notices_text kept.notices)
+          (waiting new.messages) _
+          (ap notices_text kept.warnings_are ∙ notices-both before.warnings kept.notices)
+          text.reported kept.reported;
+    }
+
+flag-grows : (before after : Course) (shown : Type 0) (old new : Held)
+    → old.warned ≡ are_some before.warnings → MovesOn before after shown old new
+    → new.warned ≡ are_some after.warnings
+flag-grows before after shown old new flag moved =
+    moved.flag ∙ ap (λ b. b || moved.warned) flag ∙ ap (λ b. are_some before.warnings || b) moved.kept.flag
+    ∙ sym (some-both before.warnings moved.kept.notices) ∙ ap are_some (sym moved.kept.warnings_are)
+
+text-ends : (before after : Course) (old new : Held) (past : HandlePast) (at : At) → IsText before old past
+    → EndsThere before after old.output new.output old.messages new.messages at → IsText after new past
+text-ends before after old new past at text ends = record {
+  wrote = ends.output_is ∙ text.wrote ∙ ap (λ t. past.output ++ t) (sym ends.wrote);
+  reported = more-text (notices_text before.warnings) past.messages (waiting old.messages)
+      (notices_text ends.notices)
+      (waiting new.messages) _ (ap notices_text ends.warnings_are ∙ notices-both before.warnings ends.notices)
+      text.reported ends.reported;
+}
+
 -- both texts where memory ran out at a line, or at the end
 pub cut-by : (before after : Course) (memory : Option (List At)) (old new : Held) (past : HandlePast)
     → before.fault ≡ None → IsText before old past → StopsShort memory before after old new
@@ -200,12 +245,8 @@ module _ (filter : Filter) (shows : List InputLine → List Awaited → Type 0)
       record {
         shown = subst (λ ls. shows ls []) (sym still) is.shown;
         good = subst (λ ls. (filter.so_far ls).fault ≡ None) (sym still) is.good;
-        text = record {
-          wrote = ap (λ ls. (filter.so_far ls).output) still ∙ is.text.wrote
-              ∙ ap (λ t. past.output ++ t) (sym same.output);
-          reported = ap (λ ls. notices_text (filter.so_far ls).warnings) still ∙ is.text.reported
-              ∙ ap (λ t. past.messages ++ t) (sym same.messages);
-        };
+        text = subst (λ ls. IsText (filter.so_far ls) new (fed_with past bytes)) (sym still)
+            (text-fed (text-kept is.text same.output same.messages));
         flag = same.warned ∙ is.flag ∙ ap (λ ls. are_some (filter.so_far ls).warnings) (sym still);
         number = same.number ∙ is.number ∙ ap length (sym still);
         tail = tail;
@@ -280,42 +321,36 @@ module _ (filter : Filter) (shows : List InputLine → List Awaited → Type 0)
         ∙ ap (λ ls. ended_lines_of past.fed ++ ls) (ended_lines-first bytes_all more whole)
         ∙ sym (append_assoc (ended_lines_of past.fed) (line ∷ []) (ended_lines_of more))
 
+    mid-text : IsText (filter.so_far lines) mid past
+    mid-text = text-kept is.text same.output same.messages
+
+    mid-good : AreUnfailed mid
+    mid-good = record {
+      output = same.output_good ∙ is.unfailed.output;
+      messages = same.messages_good ∙ is.unfailed.messages;
+    }
+
     pub goes-on : (then : List InputLine → List Awaited → Type 0) (new : Held)
-        → MovesWithin (filter.so_far (ended_lines_of past.fed)) (filter.so_far (with_next
-        (ended_lines_of past.fed) line))
-        (then (with_next (ended_lines_of past.fed) line) []) mid new
-        → new.number ≡ mid.number + 1 → new.tail.bytes.items ≡ []
+        → MovesWithin (filter.so_far lines) (filter.so_far (with_next lines line)) (then (with_next lines line) [])
+        mid new → new.number ≡ mid.number + 1 → new.tail.bytes.items ≡ []
         → IsGoing filter then new (fed_with past fed)
     goes-on then new within number empty =
         let moved = within.moved in
         let kept = moved.kept in
-        let before = filter.so_far (ended_lines_of past.fed) in
         let over : (F : List ℕ → List InputLine) (more : List ℕ)
-        → F (past.fed ++ (fed ++ more)) ≡ with_next (ended_lines_of past.fed) line ++ F more
+        → F (past.fed ++ (fed ++ more)) ≡ with_next lines line ++ F more
         → F ((past.fed ++ fed) ++ more) ≡ ended_lines_of (past.fed ++ fed) ++ F more =
         λ F more first. ap F (append_assoc past.fed fed more) ∙ first ∙ ap (λ ls. ls ++ F more) (sym one-more)
         in
         record {
           shown = subst (λ ls. then ls []) (sym one-more) kept.is_shown;
           good = subst (λ ls. (filter.so_far ls).fault ≡ None) (sym one-more) kept.good;
-          text = record {
-            wrote = ap (λ ls. (filter.so_far ls).output) one-more
-                ∙ more-text before.output past.output (waiting held.output) kept.text (waiting new.output) _
-                kept.output_is is.text.wrote (kept.wrote ∙ ap (λ t. t ++ kept.text) same.output);
-            reported = ap (λ ls. notices_text (filter.so_far ls).warnings) one-more
-                ∙ more-text (notices_text before.warnings) past.messages (waiting held.messages)
-                (notices_text kept.notices)
-                (waiting new.messages) _ (ap notices_text kept.warnings_are
-                ∙ notices-both before.warnings kept.notices)
-                is.text.reported (kept.reported ∙ ap (λ t. t ++ notices_text kept.notices) same.messages);
-          };
-          flag = moved.flag ∙ ap (λ b. b || moved.warned) (same.warned ∙ is.flag)
-              ∙ ap (λ b. are_some before.warnings || b) kept.flag
-              ∙ sym (some-both before.warnings kept.notices)
-              ∙ ap are_some (sym kept.warnings_are) ∙ ap (λ ls. are_some (filter.so_far ls).warnings)
-              (sym one-more);
+          text = subst (λ ls. IsText (filter.so_far ls) new (fed_with past fed)) (sym one-more)
+              (text-fed (text-grows _ _ _ mid new past mid-text moved));
+          flag = flag-grows _ _ _ mid new (same.warned ∙ is.flag) moved
+              ∙ ap (λ ls. are_some (filter.so_far ls).warnings) (sym one-more);
           number = number ∙ ap (λ n. n + 1) (same.number ∙ is.number)
-              ∙ sym (length-append (ended_lines_of past.fed) (line ∷ [])) ∙ ap length (sym one-more);
+              ∙ sym (length-append lines (line ∷ [])) ∙ ap length (sym one-more);
           tail = [];
           kept = empty;
           no_feed = λ k d h. absurd (omega (arith, h));
@@ -342,14 +377,16 @@ module _ (filter : Filter) (shows : List InputLine → List Awaited → Type 0)
                 ap (λ ls. length (filter.so_far ls).output) one-more,
               );
           unfailed = record {
-            output = kept.output_good ∙ same.output_good ∙ is.unfailed.output;
-            messages = kept.messages_good ∙ same.messages_good ∙ is.unfailed.messages;
+            output = kept.output_good ∙ mid-good.output;
+            messages = kept.messages_good ∙ mid-good.messages;
           };
         }
 
+    abbrev then-fed : List ℕ → HandlePast
+    then-fed rest = fed_with past (piece ++ 10 ∷ rest)
+
     line-then : (rest more : List ℕ) → (others : List InputLine)
-        × (lines_of ((past.fed ++ (piece ++ 10 ∷ rest)) ++ more) ≡ with_next (ended_lines_of past.fed) line
-        ++ others)
+        × (lines_of ((then-fed rest).fed ++ more) ≡ with_next lines line ++ others)
     line-then rest more = (
       lines_of (rest ++ more),
       ap lines_of (append_assoc past.fed (piece ++ 10 ∷ rest) more
@@ -358,66 +395,46 @@ module _ (filter : Filter) (shows : List InputLine → List Awaited → Type 0)
           ∙ line-first (rest ++ more),
     )
 
+    line-after : (rest more : List ℕ) → (others : List InputLine)
+        × (lines_of ((then-fed rest).fed ++ more) ≡ lines ++ line ∷ others)
+    line-after rest more =
+        let all = line-then rest more in
+        (all.0, all.1 ∙ append_assoc lines (line ∷ []) all.0)
+
     -- the output would be longer than it may be
     passes-there : (new : Held) (rest : List ℕ)
-        → PassesLimit (filter.so_far (ended_lines_of past.fed)) (filter.so_far (with_next
-        (ended_lines_of past.fed) line)) mid new
-        → IsPastLimit filter new (fed_with past (piece ++ 10 ∷ rest))
+        → PassesLimit (filter.so_far lines) (filter.so_far (with_next lines line)) mid new
+        → IsPastLimit filter new (then-fed rest)
     passes-there new rest passes =
         let there : 0 < held.limit = subst (λ (n : ℕ). 0 < n) same.limit passes.limited in
-        let before = filter.so_far (ended_lines_of past.fed) in
-        let after = filter.so_far (with_next (ended_lines_of past.fed) line) in
-        let all : held.left + length before.output ≡ held.limit = is.left there in
+        let all : held.left + length (filter.so_far lines).output ≡ held.limit = is.left there in
         record {
-          lines = ended_lines_of past.fed;
+          lines = lines;
           line = line;
-          first = λ more. (
-            (line-then rest more).0,
-            (line-then rest more).1
-                ∙ append_assoc (ended_lines_of past.fed) (line ∷ []) (line-then rest more).0,
-          );
+          first = line-after rest;
           good = is.good;
           limited = omega (arith, there, passes.limit, same.limit);
           within = omega (arith, all, passes.limit, same.limit);
           over = omega (arith, all, passes.over, passes.limit, same.limit, same.left);
-          text = record {
-            wrote = is.text.wrote ∙ ap (λ t. past.output ++ t) (sym (passes.output_is ∙ same.output));
-            reported = is.text.reported
-                ∙ ap (λ t. past.messages ++ t) (sym (passes.messages_are ∙ same.messages));
-          };
+          text = text-fed (text-kept mid-text passes.output_is passes.messages_are);
         }
 
     breaks-there : (new : Held) (rest : List ℕ) (at : At)
-        → EndsThere (filter.so_far (ended_lines_of past.fed))
-        (filter.so_far (with_next (ended_lines_of past.fed) line))
-        mid.output new.output mid.messages new.messages at
-        → IsBroken filter new (fed_with past (piece ++ 10 ∷ rest)) at
-    breaks-there new rest at ends =
-        let before = filter.so_far (ended_lines_of past.fed) in
-        record {
-          lines = with_next (ended_lines_of past.fed) line;
-          first = λ more. line-then rest more;
-          fault = ends.fault;
-          text = record {
-            wrote = ends.output_is ∙ is.text.wrote
-                ∙ ap (λ t. past.output ++ t) (sym (ends.wrote ∙ same.output));
-            reported = more-text (notices_text before.warnings) past.messages (waiting held.messages)
-                (notices_text ends.notices) (waiting new.messages) _
-                (ap notices_text ends.warnings_are ∙ notices-both before.warnings ends.notices)
-                is.text.reported
-                (ends.reported ∙ ap (λ t. t ++ notices_text ends.notices) same.messages);
-          };
-        }
+        → EndsThere (filter.so_far lines) (filter.so_far (with_next lines line)) mid.output new.output
+        mid.messages new.messages at → IsBroken filter new (then-fed rest) at
+    breaks-there new rest at ends = record {
+      lines = with_next lines line;
+      first = line-then rest;
+      fault = ends.fault;
+      text = text-fed (text-ends _ _ mid new past at mid-text ends);
+    }
 
-    breaks-short : (new : Held) (rest : List ℕ) (at : At) → RanOutAt (length (ended_lines_of past.fed) + 1) at
-        → StopsShort (filter.memory_after (ended_lines_of past.fed) line)
-        (filter.so_far (ended_lines_of past.fed)) (filter.so_far (with_next (ended_lines_of past.fed) line))
-        mid new
-        → RunsShort past.fed filter new (fed_with past (piece ++ 10 ∷ rest)) at
+    breaks-short : (new : Held) (rest : List ℕ) (at : At) → RanOutAt (length lines + 1) at
+        → StopsShort (filter.memory_after lines line) (filter.so_far lines)
+        (filter.so_far (with_next lines line)) mid new
+        → RunsShort past.fed filter new (then-fed rest) at
     breaks-short new rest at memory short =
-        let lines : List InputLine = ended_lines_of past.fed in
-        let more : ended_lines_of (past.fed ++
-        (piece ++ 10 ∷ rest)) ≡ with_next lines line ++ ended_lines_of rest =
+        let more : ended_lines_of (then-fed rest).fed ≡ with_next lines line ++ ended_lines_of rest =
         ap (λ t. ended_lines_of (past.fed ++ t)) (sym (append_assoc piece (10 ∷ []) rest))
         ∙ ended-first rest in
         record {
@@ -434,25 +451,14 @@ module _ (filter : Filter) (shows : List InputLine → List Awaited → Type 0)
           );
           lines = lines;
           line = line;
-          first = λ others. (
-            (line-then rest others).0,
-            (line-then rest others).1 ∙ append_assoc lines (line ∷ []) (line-then rest others).0,
-          );
+          first = line-after rest;
           number = memory.1;
-          cut = cut-by (filter.so_far lines) (filter.so_far (with_next lines line)) _ mid new
-              (fed_with past (piece ++ 10 ∷ rest)) is.good (record {
-                wrote = is.text.wrote ∙ ap (λ t. past.output ++ t) (sym same.output);
-                reported = is.text.reported ∙ ap (λ t. past.messages ++ t) (sym same.messages);
-              }) short;
-          lacking = lacking-by _ _ _ mid new (record {
-            output = same.output_good ∙ is.unfailed.output;
-            messages = same.messages_good ∙ is.unfailed.messages;
-          }) short;
+          cut = cut-by _ _ _ mid new (then-fed rest) is.good (text-fed mid-text) short;
+          lacking = lacking-by _ _ _ mid new mid-good short;
         }
 
     breaks-kept : (new : Held) → AddsWithin mid new → IsKeptWithin new past
-    breaks-kept new adds = adds-kept (filter.so_far (ended_lines_of past.fed)) mid new past
-        (is.text.wrote ∙ ap (λ t. past.output ++ t) (sym same.output))
+    breaks-kept new adds = adds-kept (filter.so_far lines) mid new past mid-text.wrote
         (λ limited. omega (
           arith,
           is.left (subst (λ (n : ℕ). 0 < n) same.limit limited),
@@ -461,10 +467,8 @@ module _ (filter : Filter) (shows : List InputLine → List Awaited → Type 0)
         )) adds
 
     pub breaks : (new : Held) (rest : List ℕ) (stop : Stop)
-        → StepStops (length (ended_lines_of past.fed) + 1)
-        (filter.memory_after (ended_lines_of past.fed) line) (filter.so_far (ended_lines_of past.fed))
-        (filter.so_far (with_next (ended_lines_of past.fed) line)) mid new stop
-        → RunBreaks past.fed filter new (fed_with past (piece ++ 10 ∷ rest)) stop
+        → StepStops (length lines + 1) (filter.memory_after lines line) (filter.so_far lines)
+        (filter.so_far (with_next lines line)) mid new stop → RunBreaks past.fed filter new (then-fed rest) stop
     breaks new rest (Fault at) (inl memory, adds) =
         (inl (breaks-short new rest at memory.0 memory.1), breaks-kept new adds)
     breaks new rest (Fault at) (inr ends, adds) = (inr (breaks-there new rest at ends), breaks-kept new adds)
@@ -502,37 +506,6 @@ ended-more filter shows held past more going = omega (
 )
 
 -- ---- the end
-
-text-grows : (before after : Course) (shown : Type 0) (old new : Held) (past : HandlePast)
-    → IsText before old past → MovesOn before after shown old new → IsText after new past
-text-grows before after shown old new past text moved =
-    let kept = moved.kept in
-    record {
-      wrote = more-text before.output past.output (waiting old.output) kept.text (waiting new.output) _
-          kept.output_is text.wrote kept.wrote;
-      reported = more-text (notices_text before.warnings) past.messages (waiting old.messages)
-          (notices_text kept.notices)
-          (waiting new.messages) _
-          (ap notices_text kept.warnings_are ∙ notices-both before.warnings kept.notices)
-          text.reported kept.reported;
-    }
-
-flag-grows : (before after : Course) (shown : Type 0) (old new : Held)
-    → old.warned ≡ are_some before.warnings → MovesOn before after shown old new
-    → new.warned ≡ are_some after.warnings
-flag-grows before after shown old new flag moved =
-    moved.flag ∙ ap (λ b. b || moved.warned) flag ∙ ap (λ b. are_some before.warnings || b) moved.kept.flag
-    ∙ sym (some-both before.warnings moved.kept.notices) ∙ ap are_some (sym moved.kept.warnings_are)
-
-text-ends : (before after : Course) (old new : Held) (past : HandlePast) (at : At) → IsText before old past
-    → EndsThere before after old.output new.output old.messages new.messages at → IsText after new past
-text-ends before after old new past at text ends = record {
-  wrote = ends.output_is ∙ text.wrote ∙ ap (λ t. past.output ++ t) (sym ends.wrote);
-  reported = more-text (notices_text before.warnings) past.messages (waiting old.messages)
-      (notices_text ends.notices)
-      (waiting new.messages) _ (ap notices_text ends.warnings_are ∙ notices-both before.warnings ends.notices)
-      text.reported ends.reported;
-}
 
 -- a line, or the end, ended the run
 abbrev AtLine : ℕ → Option (List At) → Course → Course → Held → Held → At → Type 0
@@ -598,10 +571,7 @@ module _ (filter : Filter) (mid : Held) (past : HandlePast) (lines : List InputL
     limited = omega (arith, passes.limited, passes.limit);
     within = omega (arith, left passes.limited, passes.limit);
     over = omega (arith, left passes.limited, passes.over, passes.limit);
-    text = record {
-      wrote = text.wrote ∙ ap (λ t. past.output ++ t) (sym passes.output_is);
-      reported = text.reported ∙ ap (λ t. past.messages ++ t) (sym passes.messages_are);
-    };
+    text = text-kept text passes.output_is passes.messages_are;
   }
 
   pub ends-stopped : (flag : mid.warned ≡ are_some (filter.so_far lines).warnings) → AreUnfailed mid
@@ -617,35 +587,35 @@ module _ (filter : Filter) (mid : Held) (past : HandlePast) (lines : List InputL
 
 module _ (filter : Filter) (shows : List InputLine → List Awaited → Type 0)
     (held : Held) (past : HandlePast) (is : IsGoing filter shows held past) where
-  pub all-cut : lines_of past.fed ≡ ended_lines_of past.fed ++ lines_of is.tail
+  abbrev ended : List InputLine
+  ended = ended_lines_of past.fed
+
+  pub all-cut : lines_of past.fed ≡ ended ++ lines_of is.tail
   all-cut =
       ap lines_of (sym (append-nil past.fed)) ∙ is.cut []
-      ∙ ap (λ t. ended_lines_of past.fed ++ lines_of t) (append-nil is.tail)
+      ∙ ap (λ t. ended ++ lines_of t) (append-nil is.tail)
 
   -- nothing is after the last LF
-  pub all-ended : held.tail.bytes.items ≡ [] → lines_of past.fed ≡ ended_lines_of past.fed
+  pub all-ended : held.tail.bytes.items ≡ [] → lines_of past.fed ≡ ended
   all-ended none =
-      all-cut ∙ ap (λ t. ended_lines_of past.fed ++ lines_of t) (none-where_none is.tail (sym is.kept ∙ none))
-      ∙ append-nil (ended_lines_of past.fed)
+      all-cut ∙ ap (λ t. ended ++ lines_of t) (none-where_none is.tail (sym is.kept ∙ none))
+      ∙ append-nil ended
 
   -- a line without LF is there
   pub all-but_last : 0 < length held.tail.bytes.items
-      → lines_of past.fed ≡ with_next (ended_lines_of past.fed) (piece_line is.tail false)
+      → lines_of past.fed ≡ with_next ended (piece_line is.tail false)
   all-but_last some =
-      all-cut ∙ ap (λ ls. ended_lines_of past.fed ++ ls) (lines-last is.tail is.no_feed
+      all-cut ∙ ap (λ ls. ended ++ ls) (lines-last is.tail is.no_feed
       (omega (arith, some, ap length is.kept, length-take LINE_ROOM is.tail)))
 
   -- that line was taken
   module _ (mid : Held) (some : 0 < length held.tail.bytes.items) where
     abbrev last : List InputLine
-    last = with_next (ended_lines_of past.fed) (piece_line is.tail false)
+    last = with_next ended (piece_line is.tail false)
 
-    module _ (shown : Type 0)
-        (moved : MovesOn (filter.so_far (ended_lines_of past.fed)) (filter.so_far last) shown held mid) where
+    module _ (shown : Type 0) (moved : MovesOn (filter.so_far ended) (filter.so_far last) shown held mid) where
       pub last-text : IsText (filter.so_far last) mid past
-      last-text = text-grows (filter.so_far (ended_lines_of past.fed))
-          (filter.so_far last) shown held mid past is.text
-          moved
+      last-text = text-grows _ _ shown held mid past is.text moved
 
       pub last-sound : (filter.so_far last).fault ≡ None
       last-sound = moved.kept.good
@@ -657,17 +627,13 @@ module _ (filter : Filter) (shows : List InputLine → List Awaited → Type 0)
       }
 
       pub last-flag : mid.warned ≡ are_some (filter.so_far last).warnings
-      last-flag = flag-grows (filter.so_far (ended_lines_of past.fed))
-          (filter.so_far last) shown held mid is.flag moved
+      last-flag = flag-grows _ _ shown held mid is.flag moved
 
     -- it ended the run
     pub last-fails : IsLawful filter → (at : At)
-        → AtLine (length (ended_lines_of past.fed) + 1)
-        (filter.memory_after (ended_lines_of past.fed) (piece_line is.tail false))
-        (filter.so_far (ended_lines_of past.fed)) (filter.so_far last) held mid at
-        → LineFails filter mid past at
+        → AtLine (length ended + 1) (filter.memory_after ended (piece_line is.tail false)) (filter.so_far ended)
+        (filter.so_far last) held mid at → LineFails filter mid past at
     last-fails lawful at (inl memory) =
-        let ended : List InputLine = ended_lines_of past.fed in
         let whole : lines_of past.fed ≡ last = all-but_last some in
         inl (record {
           ran_out = (
@@ -678,34 +644,31 @@ module _ (filter : Filter) (shows : List InputLine → List Awaited → Type 0)
           others = piece_line is.tail false ∷ [];
           first = whole;
           number = memory.0.1;
-          cut = cut-by (filter.so_far ended) (filter.so_far last) _ held mid past is.good is.text memory.1;
-          lacking = lacking-by (filter.so_far ended) (filter.so_far last) _ held mid is.unfailed memory.1;
+          cut = cut-by _ _ _ held mid past is.good is.text memory.1;
+          lacking = lacking-by _ _ _ held mid is.unfailed memory.1;
         })
     last-fails lawful at (inr ends) =
         let decided : filter.whole (lines_of past.fed) ≡ filter.so_far last =
         ap filter.whole (all-but_last some ∙ sym (append-nil last)) ∙ lawful.decided last [] at ends.fault in
         inr (subst (λ c. IsFailed c mid past at) (sym decided) (record {
           fault = ends.fault;
-          text = text-ends (filter.so_far (ended_lines_of past.fed))
-              (filter.so_far last) held mid past at is.text ends;
+          text = text-ends _ _ held mid past at is.text ends;
         }))
 
     pub last-left : (shown : Type 0)
-        → MovesWithin (filter.so_far (ended_lines_of past.fed)) (filter.so_far last) shown held mid
+        → MovesWithin (filter.so_far ended) (filter.so_far last) shown held mid
         → IsLeft filter last mid
     last-left shown moved limited =
         let before : 0 < held.limit = subst (λ (n : ℕ). 0 < n) moved.limit limited in
         omega (arith, is.left before, moved.left before, moved.limit)
 
     pub last-stopped : IsLawful filter → (stop : Stop)
-        → StepStops (length (ended_lines_of past.fed) + 1)
-        (filter.memory_after (ended_lines_of past.fed) (piece_line is.tail false))
-        (filter.so_far (ended_lines_of past.fed)) (filter.so_far last) held mid stop
-        → RunFails filter mid past stop
+        → StepStops (length ended + 1) (filter.memory_after ended (piece_line is.tail false)) (filter.so_far ended)
+        (filter.so_far last) held mid stop → RunFails filter mid past stop
     last-stopped lawful (Fault at) stops = (
       last-fails lawful at stops.0,
-      adds-kept (filter.so_far (ended_lines_of past.fed)) held mid past is.text.wrote is.left stops.1,
+      adds-kept (filter.so_far ended) held mid past is.text.wrote is.left stops.1,
     )
     last-stopped lawful Limit passes =
-        passes-after filter held past (ended_lines_of past.fed) is.text is.left mid is.good
+        passes-after filter held past ended is.text is.left mid is.good
         (piece_line is.tail false ∷ []) (all-but_last some) passes

@@ -14,9 +14,7 @@ use Rattle.crx_filter.proofs.standard.CheckStandard.{named-where_not}
 use Rattle.crx_filter.proofs.wayback.WayBack.{comes-back}
 use Rattle.crx_filter.proofs.wayback.Standard.{normal-comes_back, standard-comes_back}
 use Rattle.crx_filter.proofs.damage.DamageStays.{saved-lines}
-use Rattle.rnxcmp_c.specs.Collecting.{HasNone, IsRun}
-use Rattle.rnxcmp_c.specs.declared.runs.Run.{Run}
-use Rattle.rnxcmp_c.specs.meaning.Answers.{AnswersWithin, BothTexts, ExceedsLimit, HasNoMemory, IsAnswer}
+use Rattle.rnxcmp_c.specs.meaning.Answers.{BothTexts, IsAnswer}
 use Rattle.rnxcmp_c.specs.meaning.Answers.{status_in}
 use Rattle.rnxcmp_c.specs.meaning.Promises.{CallBringsBackWhatWasCompacted, CallJudgesStandard}
 use Rattle.rnxcmp_c.specs.meaning.Promises.{CallSavesAllElse}
@@ -75,20 +73,3 @@ judges-standard file answer before after is fits =
     let room : ℕ = length before.output in
     judges-status file answer.status (IsAnswer.status is
     ∙ status-where_it_fits (checked file) room (subst (λ n. n ≤ room) (IsAnswer.output_length is) fits))
-
--- ---- the limit of the output
-
-pub answers-run : (whole : FilterResult) (output messages most : ℕ) (run : Run) (answer : Answer)
-    (before after : BothTexts)
-    → IsRun whole output messages most run → IsAnswer whole answer before after
-    → AnswersWithin most whole answer before after
-answers-run whole output messages most run answer before after is answered =
-    record { within = λ few. answered; over = λ more. absurd (is.within more) }
-
-pub answers-none : (whole : FilterResult) (most : ℕ) (answer : Answer) (before : BothTexts)
-    → HasNone (ExceedsLimit most whole.output) answer → (HasNoMemory answer → ⊥)
-    → AnswersWithin most whole answer before before
-answers-none whole most answer before (inl over) memory =
-    record { within = λ few. absurd (few over.1); over = λ more. (over.0, refl) }
-answers-none whole most answer before (inr out) memory =
-    absurd (memory (ap (λ (a : Answer). a.code) out.1))

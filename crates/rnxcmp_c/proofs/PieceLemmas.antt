@@ -7,13 +7,7 @@ use Rattle.std.proofs.lemmas.List.{take_all}
 use Rattle.crx_base.specs.declared.limits.TheConstants.{LINE_LIMIT}
 use Rattle.crx_base.specs.meaning.Lines.{without_return}
 use Rattle.crx_lines.proofs.ReturnLemmas.{length-without_return}
-use Rattle.crx_runs.specs.Taking.{IsDone}
-use Rattle.crx_runs.specs.meaning.Results.{Course}
-use Rattle.crx_runs.specs.meaning.Spans.{Device}
-use Rattle.rnxcmp_c.specs.Going.{IsKept}
-use Rattle.rnxcmp_c.specs.Waiting.{waiting}
 use Rattle.rnxcmp_c.specs.declared.limits.TheConstants.{LINE_ROOM}
-use Rattle.rnxcmp_c.specs.declared.pending.Pending.{Pending}
 
 either : (b : Bool) → (b ≡ true) ⊎ (b ≡ false)
 either true = inl refl
@@ -50,28 +44,3 @@ pub whole-where_not_long : (bytes whole : List ℕ) → bytes ≡ take LINE_ROOM
 whole-where_not_long bytes whole kept short =
     kept ∙ whole-where_short LINE_ROOM whole
     (omega (arith, short, (length-without_return bytes).1, ap length kept))
-
--- a line that was done was kept
-pub kept-of_done : (before after : Course) (shown : Type 0) (writer messages : Device)
-    (output then_output kept then_kept : Pending) (warned : Bool)
-    → ((t : List ℕ) → writer.took t → waiting then_output ≡ waiting output ++ t)
-    → ((t : List ℕ) → messages.took t → waiting then_kept ≡ waiting kept ++ t)
-    → (writer.after ≡ writer.before → then_output.failures ≡ output.failures)
-    → (messages.after ≡ messages.before → then_kept.failures ≡ kept.failures)
-    → IsDone before after shown writer messages warned
-    → IsKept before after shown output then_output kept then_kept warned
-kept-of_done before after shown writer messages output then_output kept then_kept warned wrote reported
-    written told
-    done = record {
-      is_shown = done.is_shown;
-      good = done.adds.good;
-      text = done.text;
-      notices = done.notices;
-      output_is = done.adds.output;
-      warnings_are = done.adds.warnings;
-      wrote = wrote done.text done.wrote.0;
-      reported = reported _ done.reported.0;
-      output_good = written done.wrote.1;
-      messages_good = told done.reported.1;
-      flag = done.flag;
-    }

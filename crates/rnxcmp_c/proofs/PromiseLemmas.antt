@@ -26,7 +26,10 @@ use Rattle.rnxcmp_c.specs.Handles.{RunIsOutOfMemory, RunIsOverLimit, RunIsTooLon
 use Rattle.rnxcmp_c.specs.Handles.{fault_now, shows_of, status_now, too_long_after, Feeds, FeedsBy}
 use Rattle.rnxcmp_c.specs.Handles.{FeedsBytes, HasEndedBy, HasFedBy, HasPassedBy, ReaderHasEnded}
 use Rattle.rnxcmp_c.specs.Holding.{texts_of_held}
-use Rattle.rnxcmp_c.specs.Opened.{have_ended, run_in, texts_in}
+use Rattle.rnxcmp_c.specs.Opened.{EndsHandle, FeedsHandle, HandleStands, Holds, has_ended, have_ended, run_in}
+use Rattle.rnxcmp_c.specs.Opened.{run_state, texts_in, texts_kept}
+use Rattle.rnxcmp_c.specs.declared.handle.Handle.{Handle}
+use Rattle.rnxcmp_c.specs.Handles.{Ends}
 use Rattle.rnxcmp_c.specs.Past.{AsksMemory, HandlePast, HidesFault, IsShortOfMemory, allowed_after, fed_with}
 use Rattle.rnxcmp_c.specs.Past.{filter_for, limit_for, memory_next, past_of, result_for, texts_made}
 use Rattle.rnxcmp_c.specs.Waiting.{waiting}
@@ -41,7 +44,8 @@ use Rattle.rnxcmp_c.specs.meaning.Handles.{StopsForMemory, StopsWhenFull, TakesB
 use Rattle.rnxcmp_c.specs.meaning.Handles.{Check, handle_answer, joined_texts, run_for, with_one_more}
 use Rattle.rnxcmp_c.proofs.Cut.{begins-next}
 use Rattle.rnxcmp_c.proofs.GoingLemmas.{begins-then, notices-both}
-use Rattle.rnxcmp_c.proofs.HandleLemmas.{feeds-answer, none-fed}
+use Rattle.rnxcmp_c.proofs.HandleLemmas.{ends-answer, ends-misused, ends-stands, feeds-answer, feeds-misused}
+use Rattle.rnxcmp_c.proofs.HandleLemmas.{feeds-stands, none-fed, one-held}
 use Rattle.rnxcmp_c.proofs.PieceLemmas.{none-or}
 use Rattle.rnxcmp_c.proofs.ReaderLemmas.{fault-at, faulty-status, filter-is, lawful-for, output-for}
 
@@ -504,18 +508,6 @@ module _ (task : Task) (old new : Reader) (fed : List ℕ) (taken : BothTexts) (
       (none-or (length bytes))
   feeds-ended (Some outcome) runs ended feeds = absurd (cc)
 
-  pub handle-was_ended : (readers : List Reader) → readers ≡ new ∷ [] → is_some old.outcome ≡ false
-      → have_ended readers ≡ true → Feeds task old new past bytes used answer
-      → RunWasEnded (run_for task) fed (fed ++ take used bytes) (drop used bytes)
-      (joined_texts taken (texts_in readers)) (texts_in readers) answer
-  handle-was_ended readers holds runs ended feeds =
-      subst (λ (l : List Reader). RunWasEnded (run_for task) fed (fed ++ take used bytes) (drop used bytes)
-      (joined_texts taken (texts_in l)) (texts_in l) answer) (sym holds)
-      (subst (λ (a : Answer). RunWasEnded (run_for task) fed (fed ++ take used bytes) (drop used bytes)
-      (joined_texts taken (texts_of_held new.held)) (texts_of_held new.held) a)
-      (sym (feeds-answer task old new past answer bytes used old.outcome runs feeds))
-      (feeds-ended old.outcome runs (sym (ap have_ended holds) ∙ ended) feeds))
-
   -- all were taken, or much is ready
   takes-all : (outcome : Option Outcome) → new.outcome ≡ outcome
       → FeedsBytes task old new past bytes used answer
@@ -578,38 +570,132 @@ module _ (task : Task) (old new : Reader) (fed : List ℕ) (taken : BothTexts) (
       }
   takes-bytes (Some outcome) runs feeds = absurd (cc)
 
-  pub handle-takes : (olds news : List Reader) → olds ≡ old ∷ [] → news ≡ new ∷ [] → have_ended olds ≡ false
-      → Feeds task old new past bytes used answer
-      → TakesBytes (run_for task) fed taken bytes used (texts_in olds) (texts_in news) (have_ended news)
-  handle-takes olds news held holds runs feeds =
-      subst (λ (l : List Reader). TakesBytes (run_for task) fed taken bytes used (texts_in l) (texts_in news)
-      (have_ended news))
-      (sym held)
-      (subst (λ (l : List Reader). TakesBytes (run_for task) fed taken bytes used (texts_of_held old.held)
-      (texts_in l) (have_ended l)) (sym holds)
-      (takes-bytes old.outcome (sym (ap have_ended held) ∙ runs) feeds))
+-- ---- a handle
 
--- the same of a handle
-module _ (task : Task) (readers : List Reader) (reader : Reader) (fed : List ℕ) (taken : BothTexts)
-    (answer : Answer) (holds : readers ≡ reader ∷ []) (answers : answer ≡ answer_now reader) where
-  pub handle-promise : ReaderStands task reader (past_of fed taken)
-      → HandlePromise (run_in readers) (run_for task) fed
-      (joined_texts taken (texts_in readers)) (texts_in readers) answer
-  handle-promise stands =
-      subst (λ (l : List Reader). HandlePromise (run_in l) (run_for task) fed
-      (joined_texts taken (texts_in l)) (texts_in l) answer) (sym holds)
-      (subst (λ (a : Answer). HandlePromise reader.outcome (run_for task) fed
-      (joined_texts taken (texts_of_held reader.held)) (texts_of_held reader.held) a)
-      (sym answers)
-      (reader-promise task reader (past_of fed taken) stands))
+-- what is so of a reader is so of what a handle holds
+held-as : (P : List Reader → Answer → Type 0) (handle : Handle) (reader : Reader) (answer : Answer)
+    → Holds handle reader → answer ≡ answer_now reader → P (reader ∷ []) (answer_now reader)
+    → P handle.place.held answer
+held-as P handle reader answer holds answers here =
+    subst (λ (l : List Reader). P l answer) (sym holds) (subst (P (reader ∷ [])) (sym answers) here)
 
-  pub handle-ended : ReaderHasEnded task reader (past_of fed taken)
-      → (have_ended readers ≡ true) × RunHasEnded (Last task reader (past_of fed taken))
-      (joined_texts taken (texts_in readers)) (texts_in readers) answer
-  handle-ended ended =
-      subst (λ (l : List Reader). (have_ended l ≡ true) × RunHasEnded (Last task reader (past_of fed taken))
-      (joined_texts taken (texts_in l)) (texts_in l) answer) (sym holds)
-      (subst (λ (a : Answer). (is_some reader.outcome ≡ true)
-      × RunHasEnded (Last task reader (past_of fed taken))
-      (joined_texts taken (texts_of_held reader.held)) (texts_of_held reader.held) a) (sym answers)
-      (reader-ended task reader (past_of fed taken) ended))
+-- a handle stands as the reader does that it holds
+pub stood : {task : Task} {handle : Handle} {fed : List ℕ} {taken : BothTexts} {reader : Reader}
+    → Holds handle reader → HandleStands task handle fed taken → ReaderStands task reader (past_of fed taken)
+stood {task} {handle} {fed} {taken} {reader} holds stands =
+    subst (λ (r : Reader). ReaderStands task r (past_of fed taken))
+    (one-held handle.place.held stands.reader reader stands.holds holds) stands.stands
+
+pub handle-promise : {task : Task} {handle : Handle} {fed : List ℕ} {taken : BothTexts} {reader : Reader}
+    {answer : Answer} → HandleStands task handle fed taken → Holds handle reader → answer ≡ answer_now reader
+    → HandlePromise (run_state handle) (run_for task) fed (joined_texts taken (texts_kept handle))
+    (texts_kept handle) answer
+handle-promise {task} {handle} {fed} {taken} {reader} {answer} stands holds answers =
+    held-as (λ (l : List Reader) (a : Answer). HandlePromise (run_in l) (run_for task) fed
+    (joined_texts taken (texts_in l)) (texts_in l) a) handle reader answer holds answers
+    (reader-promise task reader (past_of fed taken) (stood holds stands))
+
+-- a reader was taken out of a handle, was fed or ended, and was put back
+module _ {old new : Handle} {before after : Reader} (held : Holds old before) (holds : Holds new after)
+    (is_open : new.is_open ≡ true) where
+  pub handle-feeds : {bytes : List ℕ} {used : ℕ} {answer : Answer}
+      → ((task : Task) (past : HandlePast) → ReaderStands task before past
+      → Feeds task before after past bytes used answer)
+      → (task : Task) (fed : List ℕ) (taken : BothTexts) → HandleStands task old fed taken
+      → FeedsHandle task old new fed taken bytes used answer
+  handle-feeds {bytes} {used} {answer} fed_by task fed taken stands =
+      let past : HandlePast = past_of fed taken in
+      let feeds = fed_by task past (stood held stands) in
+      record {
+        before = before;
+        after = after;
+        held = held;
+        holds = holds;
+        feeds = feeds;
+        stands = record {
+          reader = after;
+          is_open = is_open;
+          holds = holds;
+          stands = feeds-stands task before after past bytes used answer before.outcome (stood held stands) feeds;
+        };
+        misused = λ ended.
+            let none = feeds-misused task before after past answer bytes used before.outcome
+            (sym (ap have_ended held) ∙ ended) feeds in
+            (none.0, none.1, holds ∙ ap (λ (r : Reader). r ∷ []) none.2 ∙ sym held);
+      }
+
+  pub handle-ends : {answer : Answer}
+      → ((task : Task) (past : HandlePast) → ReaderStands task before past → Ends task before after past answer)
+      → (task : Task) (fed : List ℕ) (taken : BothTexts) → HandleStands task old fed taken
+      → EndsHandle task old new fed taken answer
+  handle-ends {answer} ended_by task fed taken stands =
+      let past : HandlePast = past_of fed taken in
+      let ends = ended_by task past (stood held stands) in
+      record {
+        before = before;
+        after = after;
+        held = held;
+        holds = holds;
+        ends = ends;
+        stands = record {
+          reader = after;
+          is_open = is_open;
+          holds = holds;
+          stands = ends-stands task before after past answer before.outcome (stood held stands) ends;
+        };
+        misused = λ ended.
+            let none = ends-misused task before after past answer before.outcome
+            (sym (ap have_ended held) ∙ ended) ends in
+            (none.0, holds ∙ ap (λ (r : Reader). r ∷ []) none.1 ∙ sym held);
+      }
+
+-- what is promised of a handle that was fed
+module _ {task : Task} {old new : Handle} {fed : List ℕ} {taken : BothTexts} {bytes : List ℕ} {used : ℕ}
+    {answer : Answer} (is : FeedsHandle task old new fed taken bytes used answer)
+    (runs : has_ended old ≡ false) where
+  went-on : is_some is.before.outcome ≡ false
+  went-on = sym (ap have_ended is.held) ∙ runs
+
+  answered : answer ≡ answer_now is.after
+  answered = feeds-answer task is.before is.after (past_of fed taken) answer bytes used is.before.outcome went-on
+      is.feeds
+
+  pub feeds-promise : HandlePromise (run_state new) (run_for task) (fed ++ take used bytes)
+      (joined_texts taken (texts_kept new)) (texts_kept new) answer
+  feeds-promise = handle-promise is.stands is.holds answered
+
+  pub feeds-takes : TakesBytes (run_for task) fed taken bytes used (texts_kept old) (texts_kept new) (has_ended new)
+  feeds-takes =
+      subst (λ (l : List Reader). TakesBytes (run_for task) fed taken bytes used (texts_in l) (texts_kept new)
+      (has_ended new)) (sym is.held)
+      (subst (λ (l : List Reader). TakesBytes (run_for task) fed taken bytes used (texts_of_held is.before.held)
+      (texts_in l) (have_ended l)) (sym is.holds)
+      (takes-bytes task is.before is.after fed taken bytes used answer is.before.outcome went-on is.feeds))
+
+  pub feeds-was_ended : has_ended new ≡ true
+      → RunWasEnded (run_for task) fed (fed ++ take used bytes) (drop used bytes)
+      (joined_texts taken (texts_kept new)) (texts_kept new) answer
+  feeds-was_ended ended =
+      held-as (λ (l : List Reader) (a : Answer). RunWasEnded (run_for task) fed (fed ++ take used bytes)
+      (drop used bytes) (joined_texts taken (texts_in l)) (texts_in l) a) new is.after answer is.holds answered
+      (feeds-ended task is.before is.after fed taken bytes used answer is.before.outcome went-on
+      (sym (ap have_ended is.holds) ∙ ended) is.feeds)
+
+-- and of one whose input has ended
+module _ {task : Task} {old new : Handle} {fed : List ℕ} {taken : BothTexts} {answer : Answer}
+    (is : EndsHandle task old new fed taken answer) (runs : has_ended old ≡ false) where
+  came-to-end : ReaderHasEnded task is.after (past_of fed taken) × (answer ≡ answer_now is.after)
+  came-to-end = ends-answer task is.before is.after (past_of fed taken) answer is.before.outcome
+      (sym (ap have_ended is.held) ∙ runs) is.ends
+
+  pub ends-promise : HandlePromise (run_state new) (run_for task) fed (joined_texts taken (texts_kept new))
+      (texts_kept new) answer
+  ends-promise = handle-promise is.stands is.holds came-to-end.1
+
+  pub ends-was_ended : (has_ended new ≡ true) × RunHasEnded (Last task is.after (past_of fed taken))
+      (joined_texts taken (texts_kept new)) (texts_kept new) answer
+  ends-was_ended =
+      held-as (λ (l : List Reader) (a : Answer). (have_ended l ≡ true)
+      × RunHasEnded (Last task is.after (past_of fed taken)) (joined_texts taken (texts_in l)) (texts_in l) a)
+      new is.after answer is.holds came-to-end.1
+      (reader-ended task is.after (past_of fed taken) came-to-end.0)

@@ -4,6 +4,7 @@ use Rattle.std.proofs.Common.{ap, ◌∙◌, subst}
 use Rattle.std.proofs.Common.{◌<◌, ◌≤◌, ◌+◌, ◌∷◌, is_some, arith, length, append-nil, append_assoc}
 use Rattle.std.proofs.Common.{length-append, take}
 use Rattle.crx_base.specs.meaning.Lines.{InputLine, lines_of}
+use Rattle.crx_base.specs.meaning.Seen.{ended_lines_of}
 use Rattle.crx_base.specs.declared.limits.TheConstants.{INPUT_LIMIT}
 use Rattle.crx_base.specs.declared.fault.At.{At}
 use Rattle.crx_base.specs.declared.fault.Fault.{Fault as FaultOf}
@@ -27,8 +28,8 @@ use Rattle.rnxcmp_c.specs.Going.{EndsPastLimit, IsPastLimit, RunBreaks, RunFails
 use Rattle.rnxcmp_c.specs.declared.stop.Stop.{Stop}
 use Rattle.rnxcmp_c.specs.declared.stop.Stop.TheVariants.{Fault, Limit}
 use Rattle.rnxcmp_c.specs.Handles.{IsOf, ReaderIsOver, IsPut, IsPutDown, IsPutSilently, EndsRunBy, ReaderRuns}
-use Rattle.rnxcmp_c.specs.Handles.{RunIsOutOfMemory, RunIsOverLimit, HasPassedBy, shows_of, too_long_after}
-use Rattle.rnxcmp_c.specs.Handles.{HasFedBy, HasEndedBy, engine_filter, has_ended_of}
+use Rattle.rnxcmp_c.specs.Handles.{IsSaid, RunIsOutOfMemory, RunIsOverLimit, RunIsTooLong, HasPassedBy, shows_of, too_long_after}
+use Rattle.rnxcmp_c.specs.Handles.{EngineGoesOn, HasFedBy, HasEndedBy, engine_filter, has_ended_of}
 use Rattle.rnxcmp_c.specs.meaning.Answers.{KeepsToLimit, line_in}
 use Rattle.rnxcmp_c.specs.Handles.{status_at_end}
 use Rattle.rnxcmp_c.specs.Past.{HandlePast, limit_for, result_for}
@@ -50,6 +51,11 @@ filter-is (Expand choices limit) (Checking e) is = absurd is
 filter-is Check (Compacting e) is = absurd is
 filter-is Check (Expanding e) is = absurd is
 filter-is Check (Checking e) is = refl
+
+-- a run goes on by an engine, and by what it is
+pub going-as : {one other : AnyEngine} {held : Held} {past : HandlePast} → one ≡ other
+    → EngineGoesOn one held past → EngineGoesOn other held past
+going-as {one} {other} {held} {past} same = subst (λ (e : AnyEngine). EngineGoesOn e held past) same
 
 pub lawful-for : (task : Task) → IsLawful (filter_for task)
 lawful-for (Compact choices limit) = compaction-lawful choices
@@ -407,7 +413,6 @@ pub passed-over : (task : Task) (before reader : Reader) (outcome : Outcome) (pa
     (Some outcome)
     → HasPassedBy task reader past (Some outcome)
 passed-over task before reader outcome past runs full put =
-    let filter = filter_for task in
     let mid = before.held in
     let going = subst (λ (f : Filter). IsGoing f (shows_of before.engine) mid past)
     (filter-is task before.engine runs.is_of) runs.going in
@@ -417,34 +422,31 @@ passed-over task before reader outcome past runs full put =
     let few : KeepsToLimit (limit_for task) (past.output ++ waiting mid.output) = λ limited.
     let before : 0 < mid.limit = subst (λ (n : ℕ). 0 < n) (sym runs.limit) limited in
     omega (arith, going.left before, runs.limit, ap length going.text.wrote) in
+    let passed : outcome.status ≡ 1 → waiting reader.held.output ≡ waiting mid.output
+    → IsSaid (too_long_after past.fed) (notices_text ((filter_for task).so_far (ended_lines_of past.fed)).warnings)
+    (past.messages ++ waiting reader.held.messages) outcome.fault
+    → RunIsTooLong (filter_for task) (limit_for task) reader outcome past = λ status output said. record {
+      full = full;
+      status = status;
+      good = going.good;
+      output = going.text.wrote ∙ ap (λ t. past.output ++ t) (sym output);
+      said = said;
+      within = subst (λ t. KeepsToLimit (limit_for task) (past.output ++ t)) (sym output) few;
+    } in
     ⊎_elim
-    (λ silently. record {
-      full = full;
-      status = silently.status;
-      good = going.good;
-      output = going.text.wrote ∙ ap (λ t. past.output ++ t) (sym silently.output);
-      said = inr (
-        silently.fault
-            ∙ ap (λ (n : ℕ). let a : At = record { line = n + 1; fault = OutOfMemory } in Some a)
-            going.number,
-        going.text.reported ∙ ap (λ t. past.messages ++ t) (sym silently.messages),
-      );
-      within = subst (λ t. KeepsToLimit (limit_for task) (past.output ++ t)) (sym silently.output) few;
-    })
-    (λ down. record {
-      full = full;
-      status = down.status;
-      good = going.good;
-      output = going.text.wrote ∙ ap (λ t. past.output ++ t) (sym down.output);
-      said = inl (
-        down.fault ∙ ap (λ (a : At). Some a) same,
-        ap (λ t. t ++ error_text (Some (too_long_after past.fed))) going.text.reported
-            ∙ ap (λ (a : At). (past.messages ++ waiting mid.messages) ++ error_text (Some a)) (sym same)
-            ∙ append_assoc past.messages (waiting mid.messages) (error_text (Some at))
-            ∙ ap (λ t. past.messages ++ t) (sym down.messages),
-      );
-      within = subst (λ t. KeepsToLimit (limit_for task) (past.output ++ t)) (sym down.output) few;
-    })
+    (λ silently. passed silently.status silently.output (inr (
+      silently.fault
+          ∙ ap (λ (n : ℕ). let a : At = record { line = n + 1; fault = OutOfMemory } in Some a)
+          going.number,
+      going.text.reported ∙ ap (λ t. past.messages ++ t) (sym silently.messages),
+    )))
+    (λ down. passed down.status down.output (inl (
+      down.fault ∙ ap (λ (a : At). Some a) same,
+      ap (λ t. t ++ error_text (Some (too_long_after past.fed))) going.text.reported
+          ∙ ap (λ (a : At). (past.messages ++ waiting mid.messages) ++ error_text (Some a)) (sym same)
+          ∙ append_assoc past.messages (waiting mid.messages) (error_text (Some at))
+          ∙ ap (λ t. past.messages ++ t) (sym down.messages),
+    )))
     put
 
 -- ---- the end
@@ -475,41 +477,30 @@ checked-well None found reader outcome past good none status text = record {
 }
 checked-well (Some at) found reader outcome past good none status text = absurd (cc)
 
-pub all-over : (task : Task) (engine then : AnyEngine) → IsOf task engine → IsOf task then
-    → (reader : Reader) (outcome : Outcome) (past : HandlePast) → reader.held.limit ≡ limit_for task
-    → outcome.fault ≡ None → outcome.status ≡ status_at_end then reader.held.warned
-    → IsAll ((engine_filter engine).whole (lines_of past.fed)) reader.held past
-    → has_ended_of then (lines_of past.fed)
-    → ReaderIsOver (limit_for task) (result_for task past.fed) reader outcome past
-all-over (Compact choices limit) engine (Compacting c) is now reader outcome past limited none status all
-    ended =
-    course-well limit _ reader outcome past limited none status
-    (subst (λ (f : Filter). IsAll (f.whole (lines_of past.fed)) reader.held past) (filter-is
-    (Compact choices limit) engine is) all)
-all-over (Compact choices limit) engine (Expanding c) is now reader outcome past limited none status all ended
-    =
-    absurd now
-all-over (Compact choices limit) engine (Checking c) is now reader outcome past limited none status all ended
-    =
-    absurd now
-all-over (Expand choices limit) engine (Compacting c) is now reader outcome past limited none status all ended
-    =
-    absurd now
-all-over (Expand choices limit) engine (Expanding c) is now reader outcome past limited none status all ended
-    =
-    course-well limit _ reader outcome past limited none status
-    (subst (λ (f : Filter). IsAll (f.whole (lines_of past.fed)) reader.held past) (filter-is
-    (Expand choices limit) engine is) all)
-all-over (Expand choices limit) engine (Checking c) is now reader outcome past limited none status all ended =
-    absurd now
-all-over Check engine (Compacting c) is now reader outcome past limited none status all ended =
-    absurd now
-all-over Check engine (Expanding c) is now reader outcome past limited none status all ended =
-    absurd now
-all-over Check engine (Checking c) is now reader outcome past limited none status all ended =
-    let whole : IsAll (check_filter.whole (lines_of past.fed)) reader.held past =
-    subst (λ (f : Filter). IsAll (f.whole (lines_of past.fed)) reader.held past)
-    (filter-is Check engine is) all in
-    checked-well (whole_of past.fed).fault (findings_of (lines_of past.fed)) reader outcome past whole.good
-    none
-    (status ∙ ap report_status ended) whole.text
+module _ (engine : AnyEngine) (reader : Reader) (outcome : Outcome) (past : HandlePast)
+    (none : outcome.fault ≡ None) where
+  pub all-over : (task : Task) (then : AnyEngine) → IsOf task engine → IsOf task then
+      → reader.held.limit ≡ limit_for task → outcome.status ≡ status_at_end then reader.held.warned
+      → IsAll ((engine_filter engine).whole (lines_of past.fed)) reader.held past
+      → has_ended_of then (lines_of past.fed)
+      → ReaderIsOver (limit_for task) (result_for task past.fed) reader outcome past
+  all-over (Compact choices limit) (Compacting c) is now limited status all ended =
+      course-well limit _ reader outcome past limited none status
+      (subst (λ (f : Filter). IsAll (f.whole (lines_of past.fed)) reader.held past)
+      (filter-is (Compact choices limit) engine is) all)
+  all-over (Compact choices limit) (Expanding c) is now limited status all ended = absurd now
+  all-over (Compact choices limit) (Checking c) is now limited status all ended = absurd now
+  all-over (Expand choices limit) (Compacting c) is now limited status all ended = absurd now
+  all-over (Expand choices limit) (Expanding c) is now limited status all ended =
+      course-well limit _ reader outcome past limited none status
+      (subst (λ (f : Filter). IsAll (f.whole (lines_of past.fed)) reader.held past)
+      (filter-is (Expand choices limit) engine is) all)
+  all-over (Expand choices limit) (Checking c) is now limited status all ended = absurd now
+  all-over Check (Compacting c) is now limited status all ended = absurd now
+  all-over Check (Expanding c) is now limited status all ended = absurd now
+  all-over Check (Checking c) is now limited status all ended =
+      let whole : IsAll (check_filter.whole (lines_of past.fed)) reader.held past =
+      subst (λ (f : Filter). IsAll (f.whole (lines_of past.fed)) reader.held past)
+      (filter-is Check engine is) all in
+      checked-well (whole_of past.fed).fault (findings_of (lines_of past.fed)) reader outcome past whole.good none
+      (status ∙ ap report_status ended) whole.text

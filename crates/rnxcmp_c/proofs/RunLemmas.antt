@@ -1,6 +1,8 @@
 -- What was collected of a whole run is its result, or its output is longer than it may be.
-use Rattle.std.proofs.Common.{◌≡◌, ⊎_elim, inl, inr, ℕ, ◌≤◌, List, [], ◌++◌, length, take, Option, Some, None}
-use Rattle.std.proofs.Common.{sym, ap, ◌∙◌, subst, arith, append-nil, length-append}
+use Rattle.std.proofs.Common.{◌≡◌, ⊎_elim, inl, inr, ℕ, ◌<◌, ◌≤◌, List, [], ◌++◌, length, take, Option, Some, None}
+use Rattle.std.proofs.Common.{sym, ap, ◌∙◌, subst, arith, append-nil, length-append, length-take}
+use Rattle.std.proofs.lemmas.Grind.{common_steps}
+use Rattle.rnxcmp_c.proofs.PieceLemmas.{within-or}
 use Rattle.std.proofs.lemmas.List.{take_all}
 use Rattle.crx_base.specs.meaning.Lines.{lines_of}
 use Rattle.crx_base.specs.meaning.Seen.{ended_lines_of}
@@ -16,12 +18,17 @@ use Rattle.crx_runs.specs.meaning.Interruptions.{IsFrontPart, complete_lines}
 use Rattle.crx_runs.specs.meaning.Results.{Begins, FilterResult}
 use Rattle.crx_runs.specs.meaning.Runs.{FaultIs, IsResult, NoneFailed, RunsAs}
 use Rattle.crx_runs.specs.meaning.Spans.{Device, Input}
-use Rattle.rnxcmp_c.specs.Collecting.{EndsWithout, HasNone, IsCollected, IsEmpty, IsRun}
+use Rattle.rnxcmp_c.specs.Collecting.{AnswersRun, IsCollected, IsEmpty}
 use Rattle.rnxcmp_c.specs.Counting.{Took}
 use Rattle.rnxcmp_c.specs.declared.answer.Answer.{Answer}
 use Rattle.rnxcmp_c.specs.declared.devices.Counted.{Counted}
-use Rattle.rnxcmp_c.specs.declared.runs.Run.{Run}
-use Rattle.rnxcmp_c.specs.meaning.Answers.{ExceedsLimit, fault_code_in}
+use Rattle.rnxcmp_c.specs.declared.answer.TheConstants.{NO_ROOM}
+use Rattle.rnxcmp_c.specs.meaning.Answers.{AnswersAlone, AnswersWithin, BothTexts, HasNoMemory, bare_answer}
+use Rattle.rnxcmp_c.specs.meaning.Answers.{fault_code_in, line_in, placed}
+use Rattle.rnxcmp_c.specs.meaning.Handles.{Task}
+use Rattle.rnxcmp_c.specs.Past.{filter_for, result_for}
+use Rattle.rnxcmp_c.proofs.ReaderLemmas.{lawful-for, output-for}
+use Rattle.std.specs.Prelude.{nat_le, if◌then◌else◌}
 use Rattle.rnxcmp_c.proofs.GoingLemmas.{begins-then}
 
 not-memory : (fault : Option At) → (fault_code_in fault ≡ code_of_fault OutOfMemory → ⊥)
@@ -39,52 +46,78 @@ module _ (room most : ℕ) (before after : Counted) (empty : IsEmpty room most b
   count-is : after.count ≡ length text
   count-is = omega (arith, took.count, empty.count)
 
-module _ (result_of : List ℕ → FilterResult) (filter : Filter) (lawful : IsLawful filter)
-    (written_by : (input : List ℕ) → (result_of input).output ≡ (filter.whole (lines_of input)).output)
-    (input : Input) (given rest text : List ℕ) (same : text ≡ given ++ rest) (ends : input.at_end → rest ≡ [])
-    (within : length text ≤ INPUT_LIMIT) (writer messages : Device) (outcome : Outcome)
-    (runs : RunsAs result_of filter input given writer messages outcome.status outcome.fault)
-    (room told most counted_most told_most : ℕ)
-    (output_before output_after messages_before messages_after : Counted)
-    (empty : IsEmpty room counted_most output_before) (none_told : IsEmpty told told_most messages_before)
+-- a text was put into a room as far as it fits, and then all of it
+placed-taken : (text room : List ℕ) → placed (take (length room) text) room ≡ placed text room
+placed-taken text room = ⊎_elim
+    (λ fits. ap (λ t. placed t room) (take_all (length room) text fits))
+    (λ more. grind (arith, common_steps, length-take (length room) text))
+    (within-or (length text) (length room))
+
+module _ {outcome : Outcome} {output messages : Counted} {most : ℕ} {answer : Answer} {before after : BothTexts} where
+  -- an answer that says that memory ran out has no texts
+  pub answers-alone : AnswersRun outcome output messages most answer before after → HasNoMemory answer
+      → AnswersAlone 1 answer.line (code_of_fault OutOfMemory) answer before after
+  answers-alone (inl is) memory = absurd (is.memory (sym (ap (λ (a : Answer). a.code) is.answer_is) ∙ memory))
+  answers-alone (inr (ends, same)) memory = ⊎_elim
+      (λ over. absurd (omega (arith, memory, ap (λ (a : Answer). a.code) over.0)))
+      (λ out. (out ∙ ap (λ n. bare_answer 1 n (code_of_fault OutOfMemory)) (sym (ap (λ (a : Answer). a.line) out)), same))
+      ends.answer_is
+
+-- what a run wrote and reported for a task, to sinks with the rooms of a call
+module _ (task : Task) {input : Input} {given : List ℕ} {writer messages : Device} {outcome : Outcome}
+    (runs : RunsAs (result_for task) (filter_for task) input given writer messages outcome.status outcome.fault)
+    {rest text : List ℕ} (same : text ≡ given ++ rest) (ends : input.at_end → rest ≡ [])
+    (within : length text ≤ INPUT_LIMIT) (before after : BothTexts) {counted_most told_most : ℕ}
+    {output_before output_after messages_before messages_after : Counted}
+    (empty : IsEmpty (length before.output) counted_most output_before)
+    (none_told : IsEmpty (length before.messages) told_most messages_before)
     (wrote : (t : List ℕ) → writer.took t → Took output_before t output_after)
     (reported : (t : List ℕ) → messages.took t → Took messages_before t messages_after) where
-  pub run-of : NoneFailed input.start.failures input.counted.failures
-      → (output_after.failures ≡ 0 → NoneFailed writer.before.failures writer.after.failures)
-      → (messages_after.failures ≡ 0 → NoneFailed messages.before.failures messages.after.failures)
-      → (run : Run) → IsCollected outcome output_after messages_after most run
-      → IsRun (result_of text) room told most run
-  run-of read unfailed unfailed_told run is =
-      let memory = not-memory outcome.fault
-      (subst (λ (o : Outcome). fault_code_in o.fault ≡ code_of_fault OutOfMemory → ⊥) is.outcome_is is.memory)
-      in
-      let made : IsResult (result_of text) writer messages outcome.status outcome.fault =
-      subst (λ (l : List ℕ). IsResult (result_of l) writer messages outcome.status outcome.fault) (sym same)
-      (runs.whole read (unfailed is.output_good) (unfailed_told is.messages_good) memory rest ends
+  abbrev whole : FilterResult
+  whole = result_for task text
+
+  run-placed : {most : ℕ} {answer : Answer} → NoneFailed input.start.failures input.counted.failures
+      → (NoneFailed output_before.failures output_after.failures
+      → NoneFailed writer.before.failures writer.after.failures)
+      → (NoneFailed messages_before.failures messages_after.failures
+      → NoneFailed messages.before.failures messages.after.failures)
+      → IsCollected outcome output_after messages_after most answer before after
+      → AnswersWithin most whole answer before after
+  run-placed read unfailed unfailed_told is =
+      let made : IsResult whole writer messages outcome.status outcome.fault =
+      subst (λ (l : List ℕ). IsResult (result_for task l) writer messages outcome.status outcome.fault) (sym same)
+      (runs.whole read (unfailed (is.output_good ∙ sym empty.good, omega (arith, empty.good)))
+      (unfailed_told (is.messages_good ∙ sym none_told.good, omega (arith, none_told.good)))
+      (not-memory outcome.fault is.memory) rest ends
       (subst (λ (l : List ℕ). length l ≤ INPUT_LIMIT) same within)) in
-      let output = wrote (result_of text).output made.output in
-      let messages_all = reported (result_of text).messages made.messages_are in
-      let count = count-is room counted_most output_before output_after empty (result_of text).output output
-      in
+      let output = wrote whole.output made.output in
+      let told = reported whole.messages made.messages_are in
+      let count = count-is _ _ output_before output_after empty whole.output output in
+      let told_count = count-is _ _ messages_before messages_after none_told whole.messages told in
       record {
-        within = λ over. ⊎_elim (λ none. absurd (omega (arith, none, over.0)))
-            (λ few. absurd (omega (arith, few, over.1, count))) is.within;
-        output_kept = is.output_is
-            ∙ kept-is room counted_most output_before output_after empty (result_of text).output output;
-        output_length = is.output_count ∙ count;
-        messages_kept = is.messages_are
-            ∙ kept-is told told_most messages_before messages_after none_told
-            (result_of text).messages messages_all;
-        messages_length = is.messages_count
-            ∙ count-is told told_most messages_before messages_after none_told
-            (result_of text).messages messages_all;
-        status = ap (λ (o : Outcome). o.status) is.outcome_is ∙ made.status_is;
-        fault = ap (λ (o : Outcome). o.fault) is.outcome_is ∙ made.fault_is;
+        within = λ few. record {
+          status = ap (λ (a : Answer). a.status) is.answer_is
+              ∙ ap (λ n. if nat_le n (length before.output) then outcome.status else NO_ROOM) count
+              ∙ ap (λ s. if nat_le (length whole.output) (length before.output) then s else NO_ROOM) made.status_is;
+          code = ap (λ (a : Answer). a.code) is.answer_is ∙ ap fault_code_in made.fault_is;
+          line = ap (λ (a : Answer). a.line) is.answer_is ∙ ap line_in made.fault_is;
+          output_length = ap (λ (a : Answer). a.output_length) is.answer_is ∙ count;
+          messages_length = ap (λ (a : Answer). a.messages_length) is.answer_is ∙ told_count;
+          output = is.output_is
+              ∙ ap (λ t. placed t before.output) (kept-is _ _ output_before output_after empty whole.output output)
+              ∙ placed-taken whole.output before.output;
+          messages = is.messages_are
+              ∙ ap (λ t. placed t before.messages)
+              (kept-is _ _ messages_before messages_after none_told whole.messages told)
+              ∙ placed-taken whole.messages before.messages;
+        };
+        over = λ more. ⊎_elim (λ none. absurd (omega (arith, none, more.0)))
+            (λ few. absurd (omega (arith, few, more.1, count))) is.within;
       }
 
   -- what was written by then is first in the whole output
-  first-written : IsFrontPart filter input given writer
-      → (written : List ℕ) × Took output_before written output_after × Begins (result_of text).output written
+  first-written : IsFrontPart (filter_for task) input given writer
+      → (written : List ℕ) × Took output_before written output_after × Begins whole.output written
   first-written front =
       let written : List ℕ = front.written in
       let first = ended_lines-come_first given in
@@ -94,46 +127,45 @@ module _ (result_of : List ℕ → FilterResult) (filter : Filter) (lawful : IsL
       ap ended_lines_of (take_all INPUT_LIMIT given short) in
       let all : lines_of text ≡ ended_lines_of given ++ lines_of (first.0 ++ rest) = ap lines_of same
       ∙ first.2 rest in
-      let to : (t : List ℕ) → Begins (filter.whole (lines_of text)).output t
-      → Begins (result_of text).output t =
-      λ t begins. subst (λ (l : List ℕ). Begins l t) (sym (written_by text)) begins in (
+      let to : (t : List ℕ) → Begins ((filter_for task).whole (lines_of text)).output t
+      → Begins whole.output t =
+      λ t begins. subst (λ (l : List ℕ). Begins l t) (sym (output-for task text)) begins in (
         written,
         wrote written front.wrote,
         ⊎_elim
-            (λ (b : Begins (filter.so_far (complete_lines given)).output written). to written
+            (λ (b : Begins ((filter_for task).so_far (complete_lines given)).output written). to written
             (begins-then _ _ _
-            (subst (λ ls. Begins (filter.whole ls).output (filter.so_far (ended_lines_of given)).output)
+            (subst (λ ls. Begins ((filter_for task).whole ls).output ((filter_for task).so_far (ended_lines_of given)).output)
             (sym all)
-            (lawful.goes_on (ended_lines_of given) (lines_of (first.0 ++ rest))))
-            (subst (λ ls. Begins (filter.so_far ls).output written) complete b)))
-            (λ e. to written (subst (λ (l : List ℕ). Begins (filter.whole (lines_of l)).output written)
+            ((lawful-for task).goes_on (ended_lines_of given) (lines_of (first.0 ++ rest))))
+            (subst (λ ls. Begins ((filter_for task).so_far ls).output written) complete b)))
+            (λ e. to written (subst (λ (l : List ℕ). Begins ((filter_for task).whole (lines_of l)).output written)
             (sym (same ∙ ap (λ r. given ++ r) (ends e.0) ∙ append-nil given)) e.1))
             front.first,
       )
 
-  pub none-of : (answer : Answer) → EndsWithout outcome output_after messages_after most answer
-      → HasNone (ExceedsLimit most (result_of text).output) answer
-  none-of answer ends_so =
+  pub answers-within : {most : ℕ} {answer : Answer} → NoneFailed input.start.failures input.counted.failures
+      → (NoneFailed output_before.failures output_after.failures
+      → NoneFailed writer.before.failures writer.after.failures)
+      → (NoneFailed messages_before.failures messages_after.failures
+      → NoneFailed messages.before.failures messages.after.failures)
+      → AnswersRun outcome output_after messages_after most answer before after → (HasNoMemory answer → ⊥)
+      → AnswersWithin most whole answer before after
+  answers-within {most} read unfailed unfailed_told (inl is) memory = run-placed read unfailed unfailed_told is
+  answers-within {most} read unfailed unfailed_told (inr (none, unchanged)) memory =
       let part = first-written runs.front in
       ⊎_elim
-      (λ over. inl (
-        over.0,
-        (
-          over.1,
-          omega (
-            arith,
-            over.2,
-            count-is room counted_most output_before output_after empty part.0 part.1,
-            ap length part.2.same,
-            length-append part.0 part.2.rest,
-          ),
-        ),
-      ))
-      (λ memory. inr (_, memory)) ends_so.answer_is
-
--- where there is no limit, no output is longer than it may be
-pub none-over : (output : List ℕ) (answer : Answer) {most : ℕ} → most ≡ 0
-    → HasNone (ExceedsLimit most output) answer
-    → HasNone ⊥ answer
-none-over output answer none (inl over) = absurd (omega (arith, none, over.1.0))
-none-over output answer none (inr memory) = inr memory
+      (λ over.
+      let longer : most < length whole.output = omega (
+        arith,
+        over.2,
+        count-is _ _ output_before output_after empty part.0 part.1,
+        ap length part.2.same,
+        length-append part.0 part.2.rest,
+      ) in
+      record {
+        within = λ few. absurd (few (over.1, longer));
+        over = λ more. (over.0, unchanged);
+      })
+      (λ out. absurd (memory (ap (λ (a : Answer). a.code) out)))
+      none.answer_is

@@ -223,11 +223,11 @@ module _ (number : ℕ) (memory : Option (List At)) (before after : Course) (old
 -- whatever a step came to, its output was counted after a mark
 module _ (number : ℕ) (memory : Option (List At)) (before after : Course) (shown : Type 0)
     (old mid : Held) where
-  abbrev Kept : Result Bool Halt → Type 0
+  abbrev pub Kept : Result Bool Halt → Type 0
   Kept taken = IfOk taken
       (λ warned. IsKept before after shown old.output mid.output old.messages mid.messages warned)
 
-  abbrev Ended : Result Bool Halt → Type 0
+  abbrev pub Ended : Result Bool Halt → Type 0
   Ended taken =
       IfErr taken (λ halt. StopsBy number memory before after old.output mid.output old.messages mid.messages
       halt)

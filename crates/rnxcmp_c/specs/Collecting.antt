@@ -1,14 +1,13 @@
 -- What was collected of a run over the caller's input.
-use Rattle.std.specs.Prelude.{◌≡◌, ◌⊎◌, ◌<◌, ◌≤◌, ℕ, true, false, [], length, take, vec_capacity}
+use Rattle.std.specs.Prelude.{◌≡◌, ◌⊎◌, ◌<◌, ◌≤◌, ℕ, true, false, [], length, nat_le, vec_capacity}
+use Rattle.std.specs.Prelude.{if◌then◌else◌}
 use Rattle.crx_base.specs.meaning.Faults.{code_of_fault}
 use Rattle.crx_base.specs.declared.fault.Fault.TheVariants.{OutOfMemory}
-use Rattle.crx_runs.specs.meaning.Results.{FilterResult}
 use Rattle.crx_runs.specs.declared.outcome.Outcome.{Outcome}
-use Rattle.rnxcmp_c.specs.meaning.Answers.{HasNoMemory, ExceedsLimit, bare_answer, fault_code_in, line_in}
+use Rattle.rnxcmp_c.specs.meaning.Answers.{BothTexts, HasNoMemory, bare_answer, fault_code_in, line_in, placed}
 use Rattle.rnxcmp_c.specs.declared.answer.Answer.{Answer}
-use Rattle.rnxcmp_c.specs.declared.answer.TheConstants.{OUTPUT_LIMIT}
+use Rattle.rnxcmp_c.specs.declared.answer.TheConstants.{NO_ROOM, OUTPUT_LIMIT}
 use Rattle.rnxcmp_c.specs.declared.devices.Counted.{Counted}
-use Rattle.rnxcmp_c.specs.declared.runs.Run.{Run}
 
 -- a sink that took nothing yet
 pub record IsEmpty (room most : ℕ) (sink : Counted) : Type 0 where
@@ -25,32 +24,23 @@ pub record IsCountedAlike (before after : Counted) : Type 0 where
   pub flushes : after.flushes ≡ before.flushes
   pub flushed : after.flushed ≡ before.flushed
 
--- a run wrote, reported and answered this, and as much of both texts was kept as there is room for; its output isn't
--- longer than it may be
-pub record IsRun (whole : FilterResult) (output messages most : ℕ) (run : Run) : Type 0 where
-  pub within : ExceedsLimit most whole.output → ⊥
-  pub output_kept : run.output.items ≡ take output whole.output
-  pub output_length : run.output_length ≡ length whole.output
-  pub messages_kept : run.messages.items ≡ take messages whole.messages
-  pub messages_length : run.messages_length ≡ length whole.messages
-  pub status : run.outcome.status ≡ whole.status
-  pub fault : run.outcome.fault ≡ whole.fault
-
--- it didn't end since memory ran out
-abbrev pub HasMemory : Run → Type 0
-HasMemory run = fault_code_in run.outcome.fault ≡ code_of_fault OutOfMemory → ⊥
-
--- a run is what was collected of it, and memory ran out nowhere
-pub record IsCollected (outcome : Outcome) (output messages : Counted) (most : ℕ) (run : Run) : Type 0 where
+-- a call answered the outcome of a run, whose output isn't longer than it may be, and put what was collected of
+-- both texts into the rooms; memory ran out nowhere
+pub record IsCollected (outcome : Outcome) (output messages : Counted) (most : ℕ) (answer : Answer)
+    (before after : BothTexts) : Type 0 where
   pub within : (most ≡ 0) ⊎ (output.count ≤ most)
-  pub outcome_is : run.outcome ≡ outcome
-  pub output_is : run.output.items ≡ output.bytes.items
-  pub output_count : run.output_length ≡ output.count
-  pub messages_are : run.messages.items ≡ messages.bytes.items
-  pub messages_count : run.messages_length ≡ messages.count
-  pub memory : HasMemory run
+  pub memory : fault_code_in outcome.fault ≡ code_of_fault OutOfMemory → ⊥
   pub output_good : output.failures ≡ 0
   pub messages_good : messages.failures ≡ 0
+  pub answer_is : answer ≡ record {
+    line = line_in outcome.fault;
+    output_length = output.count;
+    messages_length = messages.count;
+    status = if nat_le output.count (length before.output) then outcome.status else NO_ROOM;
+    code = fault_code_in outcome.fault;
+  }
+  pub output_is : after.output ≡ placed output.bytes.items before.output
+  pub messages_are : after.messages ≡ placed messages.bytes.items before.messages
 
 -- a text couldn't be kept as far as there is room for it, or is as long as a number can say
 abbrev pub IsLost : Counted → Type 0
@@ -64,7 +54,8 @@ pub record EndsWithout (outcome : Outcome) (output messages : Counted) (most : �
   pub asked : HasNoMemory answer → (fault_code_in outcome.fault ≡ code_of_fault OutOfMemory)
       ⊎ (IsLost output ⊎ IsLost messages)
 
--- the answer where there is no result: memory ran out, or the output is longer than it may be
-abbrev pub HasNone : Type 0 → Answer → Type 0
-HasNone over answer = ((answer ≡ bare_answer OUTPUT_LIMIT 0 0) × over)
-    ⊎ ((line : ℕ) × (answer ≡ bare_answer 1 line (code_of_fault OutOfMemory)))
+-- the answer of a run with what was collected of it; where there is none, the rooms stay as they are
+abbrev pub AnswersRun : Outcome → Counted → Counted → ℕ → Answer → BothTexts → BothTexts → Type 0
+AnswersRun outcome output messages most answer before after =
+    IsCollected outcome output messages most answer before after
+    ⊎ (EndsWithout outcome output messages most answer × (after ≡ before))

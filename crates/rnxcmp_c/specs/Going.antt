@@ -1,6 +1,6 @@
 -- A run between two calls, by the bytes that were fed and the texts that were taken.
 use Rattle.std.specs.Prelude.{◌≡◌, ◌⊎◌, ◌<◌, ◌≤◌, ℕ, ◌+◌, Bool, true, ◌||◌, List, [], ◌∷◌, ◌++◌, length, take}
-use Rattle.std.specs.Prelude.{Option, Some, None, is_some}
+use Rattle.std.specs.Prelude.{Option, Some, None, is_some, Result, IfErr, IfOk, OnOk}
 use Rattle.crx_base.specs.meaning.Lines.{InputLine, line_of, lines_of}
 use Rattle.crx_base.specs.meaning.Seen.{ended_lines_of}
 use Rattle.crx_lines.specs.Reading.{HasNoFeed}
@@ -32,6 +32,10 @@ piece_line bytes is_ended = line_of (record { bytes = bytes; is_ended = is_ended
 -- an engine takes a line, or the end: nothing that it made is left to be written, and its run is open
 abbrev pub IsReady : List (List ℕ) → Type 0 → Type 0
 IsReady ready is_open = (ready ≡ []) × is_open
+
+-- the same run goes on: its filter is the same, and so is the limit of its output
+abbrev pub IsSameRun : Filter → Filter → Held → Held → Type 0
+IsSameRun filter then old new = (then ≡ filter) × (new.limit ≡ old.limit)
 
 -- ---- one line, or the end
 
@@ -168,31 +172,29 @@ pub record IsTaken (old new : Held) (length count : ℕ) : Type 0 where
 
 -- ---- one line, by the filter
 
--- a line that comes after some lines was taken
-abbrev pub LineIsKept : Filter → (List InputLine → List Awaited → Type 0) → List InputLine → InputLine
-    → Pending → Pending → Pending → Pending → Bool → Type 0
-LineIsKept filter shows lines line output then_output messages then_messages = λ warned.
-    IsKept (filter.so_far lines) (filter.so_far (with_next lines line)) (shows (with_next lines line) [])
-    output then_output messages then_messages warned
+-- a line that comes after some lines was given to an engine: it was taken, or it ended the run
+abbrev pub LineIsGiven : Result Bool Halt → Filter → (List InputLine → List Awaited → Type 0) → List InputLine
+    → InputLine → Pending → Pending → Pending → Pending → Type 0
+LineIsGiven given filter shows lines line output then_output messages then_messages =
+    IfOk given (λ warned. IsKept (filter.so_far lines) (filter.so_far (with_next lines line))
+    (shows (with_next lines line) []) output then_output messages then_messages warned)
+    × IfErr given (λ halt. StopsBy (length lines + 1) (filter.memory_after lines line) (filter.so_far lines)
+    (filter.so_far (with_next lines line)) output then_output messages then_messages halt)
 
--- it ended the run
-abbrev pub LineHalts : Filter → List InputLine → InputLine → Pending → Pending → Pending → Pending → Halt
-    → Type 0
-LineHalts filter lines line output then_output messages then_messages = λ halt.
-    StopsBy (length lines + 1) (filter.memory_after lines line) (filter.so_far lines)
-    (filter.so_far (with_next lines line)) output then_output messages then_messages halt
+-- the same where the output is to stay within its limit
+abbrev pub LineIsTaken : Result Unit Stop → Filter → (List InputLine → List Awaited → Type 0) → List InputLine
+    → InputLine → Held → Held → Type 0
+LineIsTaken taken filter shows lines line old new =
+    OnOk taken (MovesWithin (filter.so_far lines) (filter.so_far (with_next lines line))
+    (shows (with_next lines line) []) old new)
+    × IfErr taken (λ stop. StepStops (length lines + 1) (filter.memory_after lines line) (filter.so_far lines)
+    (filter.so_far (with_next lines line)) old new stop)
 
--- it was taken, and the output stays within its limit; or it ended the run
-abbrev pub LineMovesOn : Filter → (List InputLine → List Awaited → Type 0) → List InputLine → InputLine
-    → Held → Held → Type 0
-LineMovesOn filter shows lines line old new =
-    MovesWithin (filter.so_far lines) (filter.so_far (with_next lines line))
-    (shows (with_next lines line) []) old new
-
-abbrev pub LineStopsRun : Filter → List InputLine → InputLine → Held → Held → Stop → Type 0
-LineStopsRun filter lines line old new = λ stop.
-    StepStops (length lines + 1) (filter.memory_after lines line) (filter.so_far lines)
-    (filter.so_far (with_next lines line)) old new stop
+-- and of the end that comes after some lines
+abbrev pub EndIsTaken : Result Unit Stop → Filter → Type 0 → List InputLine → Held → Held → Type 0
+EndIsTaken taken filter has_ended lines old new =
+    OnOk taken (MovesWithin (filter.so_far lines) (filter.whole lines) has_ended old new)
+    × IfErr taken (λ stop. StepStops old.number None (filter.so_far lines) (filter.whole lines) old new stop)
 
 -- a text was written and reported: what was taken of it, and then what is kept
 pub record IsText (course : Course) (held : Held) (past : HandlePast) : Type 0 where
@@ -327,3 +329,9 @@ LineFails filter held past at = EndsShort filter held past at
 abbrev pub RunFails : Filter → Held → HandlePast → Stop → Type 0
 RunFails filter held past (Fault at) = LineFails filter held past at × IsKeptWithin held past
 RunFails filter held past Limit = EndsPastLimit filter held past
+
+-- the last line was taken, and then the end; or one of them ended the run
+abbrev pub LastIsTaken : Result Unit Stop → Filter → Type 0 → Held → HandlePast → Type 0
+LastIsTaken taken filter has_ended held past =
+    OnOk taken (has_ended × IsAll (filter.whole (lines_of past.fed)) held past)
+    × IfErr taken (RunFails filter held past)

@@ -37,7 +37,7 @@ pub struct Answer {
 }
 
 /// An answer without texts.
-fn bare(status: u32, line: u64, code: u32) -> Answer
+pub(crate) fn bare(status: u32, line: u64, code: u32) -> Answer
     ensures { result ≡ bare_answer status line code }
 {
     Answer {
@@ -47,34 +47,6 @@ fn bare(status: u32, line: u64, code: u32) -> Answer
         status,
         code,
     }
-}
-
-/// All went well, and there is nothing else to say.
-pub(crate) fn good() -> Answer
-    ensures { result ≡ bare_answer 0 0 0 }
-{
-    bare(0, 0, 0)
-}
-
-/// The date is refused.
-pub(crate) fn date_refused() -> Answer
-    ensures { result ≡ bare_answer BAD_DATE 0 0 }
-{
-    bare(BAD_DATE, 0, 0)
-}
-
-/// The handle isn't open, or its run has ended.
-pub(crate) fn misused() -> Answer
-    ensures { result ≡ bare_answer MISUSED 0 0 }
-{
-    bare(MISUSED, 0, 0)
-}
-
-/// The output is longer than its limit.
-pub(crate) fn over_limit() -> Answer
-    ensures { result ≡ bare_answer OUTPUT_LIMIT 0 0 }
-{
-    bare(OUTPUT_LIMIT, 0, 0)
 }
 
 /// The input is longer than the limit.

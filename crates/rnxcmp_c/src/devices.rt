@@ -53,14 +53,16 @@ impl Source for Given<'_> {
 /// once it has as many as it may take.
 #[derive(Drop)]
 pub struct Counted {
-    bytes: Vec<u8>,
+    /// What is kept.
+    pub(crate) bytes: Vec<u8>,
     /// How many are kept at most.
     room: usize,
     /// How many were taken in all.
-    count: usize,
+    pub(crate) count: usize,
     /// How many are taken at most.
     most: usize,
-    failures: u64,
+    /// How many writes failed.
+    pub(crate) failures: u64,
     flushes: u64,
     flushed: bool,
     /// Whether memory ran out.
@@ -89,28 +91,6 @@ impl Counted {
             flushed: false,
             lost: false,
         }
-    }
-
-    /// Whether a write failed.
-    pub(crate) fn has_failed(&self) -> bool
-        ensures good { result ≡ false → self.now.failures ≡ 0 }
-        ensures failed { result ≡ true → self.now.failures ≢ 0 }
-    {
-        self.failures != 0
-    }
-
-    /// How many bytes were taken.
-    pub(crate) fn count(&self) -> usize
-        ensures { result ≡ self.now.count }
-    {
-        self.count
-    }
-
-    /// The bytes that were kept.
-    pub(crate) fn into_bytes(self) -> Vec<u8>
-        ensures { result ≡ self.bytes }
-    {
-        self.bytes
     }
 
     /// Takes so many of some bytes; `false` says that there was no memory for those that are to be kept.

@@ -4,7 +4,7 @@ ghost use Rattle.std.specs.Prelude.{◌≡◌, ◌<◌, ◌≤◌, ◌+◌, [], 
 ghost use Rattle.crx_base.specs.declared.limits.TheConstants.{INPUT_LIMIT};
 ghost use Rattle.crx_base.specs.meaning.Lines.{lines_of};
 ghost use Rattle.crx_runs.specs.Lawful.{IsLawful};
-ghost use Rattle.rnxcmp_c.specs.Going.{IsAll, IsTaken, RunBreaks, RunFails};
+ghost use Rattle.rnxcmp_c.specs.Going.{IsTaken, LastIsTaken, RunBreaks};
 ghost use Rattle.rnxcmp_c.specs.Holding.{ready_in};
 ghost use Rattle.rnxcmp_c.specs.declared.limits.TheConstants.{READY_LIMIT};
 ghost use Rattle.rnxcmp_c.specs.Handles.{EngineGoesOn, EngineIsReady, IsOf, engine_filter, has_ended_of, status_at_end};
@@ -63,12 +63,8 @@ pub(crate) fn end_engine(engine: &mut AnyEngine, held: &mut Held) -> Result<(), 
         × (length past.fed ≤ INPUT_LIMIT) }
     ensures of { (task : Task) → IsOf task engine.old → IsOf task engine.new }
     ensures limit { held.new.limit ≡ held.old.limit }
-    ensures ended { (past : HandlePast) → EngineGoesOn engine.old held.old past
-        → OnOk result (has_ended_of engine.new (lines_of past.fed)) }
-    ensures done { (past : HandlePast) → EngineGoesOn engine.old held.old past
-        → OnOk result (IsAll ((engine_filter engine.old).whole (lines_of past.fed)) held.new past) }
-    ensures fails { (past : HandlePast) → EngineGoesOn engine.old held.old past
-        → IfErr result (RunFails (engine_filter engine.old) held.new past) }
+    ensures ends { (past : HandlePast) → EngineGoesOn engine.old held.old past
+        → LastIsTaken result (engine_filter engine.old) (has_ended_of engine.new (lines_of past.fed)) held.new past }
 {
     match engine {
         AnyEngine::Compacting(compactor) => take_last(compactor, held),

@@ -19,19 +19,12 @@ ghost use Rattle.rnxcmp_c.specs.declared.answer.TheConstants.{BAD_DATE};
 ghost use Rattle.rnxcmp_c.specs.meaning.Promises.{CallBringsBackWhatWasCompacted, CallJudgesStandard, CallSavesAllElse};
 ghost use Rattle.rnxcmp_c.specs.meaning.Stretches.{CallKeepsUndamaged, CallWritesWholeUnits};
 
-use crate::answer::{Answer, date_refused, too_long};
-use crate::runs::{Bounds, compaction, examination, expansion};
+use crate::answer::{Answer, BAD_DATE, bare, too_long};
+use crate::devices::{Counted, Given};
+use crate::runs::{answer_of, taken_at_most};
 use crx_base::limits::INPUT_LIMIT;
-use crx_filter::Options;
+use crx_filter::{Options, check, compact, expand};
 use std::alloc::Global;
-
-/// Whether an input has more bytes than the limit.
-fn is_too_long(input: &[u8]) -> bool
-    ensures long { result ≡ true → INPUT_LIMIT < length input.now }
-    ensures within { result ≡ false → length input.now ≤ INPUT_LIMIT }
-{
-    input.len() as u64 > INPUT_LIMIT
-}
 
 /// Compacts RINEX 3.0x: an epoch in full at each that `every` divides (0: only where one must be), with a warning for an epoch with a
 /// fault where `skip` says so, the date of the second line, and at most `max_output` bytes of output (0: no limit).
@@ -59,20 +52,16 @@ pub extern "C" fn rnxcmp_c_compact(
         (rooms output.old messages.old) (rooms output.new messages.new) }
 {
     let Ok(options) = Options::new(Some(every), skip, date) else {
-        return date_refused();
+        return bare(BAD_DATE, 0, 0);
     };
-    if is_too_long(input) {
+    if input.len() as u64 > INPUT_LIMIT {
         return too_long();
     }
-    let bounds = Bounds {
-        output: output.len(),
-        messages: messages.len(),
-        most: max_output,
-    };
-    match compaction(alloc, input, options, bounds) {
-        Ok(run) => run.answer(output, messages),
-        Err(answer) => answer,
-    }
+    let mut reader = Given::new(input);
+    let mut written = Counted::new(alloc, output.len(), taken_at_most(max_output));
+    let mut reported = Counted::new(alloc, messages.len(), usize::MAX);
+    let outcome = compact(alloc, &mut reader, &mut written, &mut reported, options);
+    answer_of(outcome, written, reported, max_output, output, messages)
 }
 
 /// The choices of an expansion: it uses alone whether faults are skipped.
@@ -122,18 +111,20 @@ pub extern "C" fn rnxcmp_c_expand(
         → CallWritesWholeUnits (λ whole. AnswersWithin max_output whole result
         (rooms output.old messages.old) (rooms output.new messages.new)) input.now }
 {
-    if is_too_long(input) {
+    if input.len() as u64 > INPUT_LIMIT {
         return too_long();
     }
-    let bounds = Bounds {
-        output: output.len(),
-        messages: messages.len(),
-        most: max_output,
-    };
-    match expansion(alloc, input, expansion_options(skip), bounds) {
-        Ok(run) => run.answer(output, messages),
-        Err(answer) => answer,
-    }
+    let mut reader = Given::new(input);
+    let mut written = Counted::new(alloc, output.len(), taken_at_most(max_output));
+    let mut reported = Counted::new(alloc, messages.len(), usize::MAX);
+    let outcome = expand(
+        alloc,
+        &mut reader,
+        &mut written,
+        &mut reported,
+        expansion_options(skip),
+    );
+    answer_of(outcome, written, reported, max_output, output, messages)
 }
 
 /// Checks RINEX 3.0x: the output is the report.
@@ -158,16 +149,12 @@ pub extern "C" fn rnxcmp_c_check(
     ensures standard { length input.now ≤ INPUT_LIMIT → (HasNoMemory result → ⊥)
         → result.output_length ≤ length output.old → CallJudgesStandard result.status input.now }
 {
-    if is_too_long(input) {
+    if input.len() as u64 > INPUT_LIMIT {
         return too_long();
     }
-    let bounds = Bounds {
-        output: output.len(),
-        messages: messages.len(),
-        most: 0,
-    };
-    match examination(alloc, input, bounds) {
-        Ok(run) => run.answer(output, messages),
-        Err(answer) => answer,
-    }
+    let mut reader = Given::new(input);
+    let mut written = Counted::new(alloc, output.len(), usize::MAX);
+    let mut reported = Counted::new(alloc, messages.len(), usize::MAX);
+    let outcome = check(alloc, &mut reader, &mut written, &mut reported);
+    answer_of(outcome, written, reported, 0, output, messages)
 }

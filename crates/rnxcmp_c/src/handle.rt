@@ -12,13 +12,13 @@ ghost use Rattle.crx_base.specs.meaning.Lines.{lines_of};
 ghost use Rattle.rnxcmp_c.specs.Handles.{IsFresh};
 ghost use Rattle.rnxcmp_c.specs.meaning.Handles.{HandlePromise, RunHasEnded, RunWasEnded, StopsAtLimit, StopsForMemory, TakesBytes, Task, joined_texts, run_for};
 ghost use Rattle.rnxcmp_c.specs.Holding.{HoldsNothing};
-ghost use Rattle.rnxcmp_c.specs.Opened.{AnswersHandle, EndedAlike, EndsHandle, FeedsHandle, HandleStands, Holds, IsSoundHandle, IsUnchanged, has_ended, messages_kept, output_kept, run_state, texts_kept};
+ghost use Rattle.rnxcmp_c.specs.Opened.{AnswersOpening, EndsHandle, FeedsHandle, HandleStands, HandsOut, Holds, IsSoundHandle, IsUnchanged, OpensFor, OpensHandle, has_ended, messages_kept, output_kept, run_state, texts_kept};
 ghost use Rattle.rnxcmp_c.specs.declared.reader.Reader.{Reader};
-ghost use Rattle.rnxcmp_c.specs.meaning.Answers.{BothTexts, HasNoMemory, bare_answer, placed, rooms};
+ghost use Rattle.rnxcmp_c.specs.meaning.Answers.{BothTexts, HasNoMemory, bare_answer, rooms};
 ghost use Rattle.rnxcmp_c.specs.meaning.Ended.{CheckPromises, ExpansionPromises};
 ghost use Rattle.rnxcmp_c.specs.declared.answer.TheConstants.{MISUSED, OUTPUT_LIMIT};
 
-use crate::answer::{Answer, BAD_DATE, date_refused, good, misused, out_of_memory};
+use crate::answer::{Answer, BAD_DATE, MISUSED, bare, out_of_memory};
 use crate::engines::AnyEngine;
 use crate::exports::expansion_options;
 use crate::held::Held;
@@ -38,17 +38,6 @@ pub struct Handle {
     is_open: bool,
 }
 
-/// A closed handle.
-fn closed() -> Handle
-    ensures place { result.place.held ≡ [] }
-    ensures closed { result.is_open ≡ false }
-{
-    Handle {
-        place: Place::empty(),
-        is_open: false,
-    }
-}
-
 /// Takes the reader out of a handle, which is closed then.
 fn take_out(handle: &mut Handle, alloc: Global) -> Box<Reader>
     requires { (reader : Reader) × Holds handle.old reader }
@@ -56,7 +45,11 @@ fn take_out(handle: &mut Handle, alloc: Global) -> Box<Reader>
     ensures place { handle.new.place.held ≡ [] }
     ensures closed { handle.new.is_open ≡ false }
 {
-    let held = replace(handle, closed());
+    let closed = Handle {
+        place: Place::empty(),
+        is_open: false,
+    };
+    let held = replace(handle, closed);
     held.place.into_loose(alloc).into_box()
 }
 
@@ -73,11 +66,10 @@ fn put_in(handle: &mut Handle, reader: Box<Reader>)
 
 /// Opens a closed handle for a run of this engine, with what is held beside it.
 fn open(alloc: Global, handle: &mut Handle, engine: AnyEngine, held: Held) -> Answer
+    requires closed { handle.old.is_open ≡ false }
     ensures opened { (task : Task) → IsFresh task engine → HoldsNothing (run_for task).limit held
-        → result.status ≡ 0 → HandleStands task handle.new [] (rooms [] []) }
-    ensures running { result.status ≡ 0 → has_ended handle.new ≡ false }
-    ensures answer { (result ≡ bare_answer 0 0 0) ⊎ (result ≡ bare_answer 1 0 (code_of_fault OutOfMemory)) }
-    ensures unchanged { (result.status ≡ 0 → ⊥) → IsUnchanged handle.old handle.new }
+        → OpensFor task handle.old handle.new result }
+    ensures answer { AnswersOpening result }
 {
     let reader = Reader {
         engine,
@@ -88,7 +80,7 @@ fn open(alloc: Global, handle: &mut Handle, engine: AnyEngine, held: Held) -> An
     match on_heap(alloc, reader) {
         Some(reader) => {
             put_in(handle, reader);
-            good()
+            bare(0, 0, 0)
         }
         None => out_of_memory(0),
     }
@@ -115,21 +107,16 @@ pub extern "C" fn rnxcmp_c_open_compact(
     date: &[u8],
     max_output: u64,
 ) -> Answer
-    ensures opened { result.status ≡ 0
-        → HandleStands (Task.Compact (choices_of (Some every) skip date.now) max_output) handle.new []
-        (rooms [] []) }
-    ensures running { result.status ≡ 0 → has_ended handle.new ≡ false }
-    ensures unchanged { (result.status ≡ 0 → ⊥) → IsUnchanged handle.old handle.new }
-    ensures misused { handle.old.is_open ≡ true → result ≡ bare_answer MISUSED 0 0 }
+    ensures opened { OpensFor (Task.Compact (choices_of (Some every) skip date.now) max_output) handle.old
+        handle.new result }
     ensures date { handle.old.is_open ≡ false → is_date date.now ≡ false → result ≡ bare_answer BAD_DATE 0 0 }
-    ensures answer { handle.old.is_open ≡ false → is_date date.now ≡ true
-        → (result ≡ bare_answer 0 0 0) ⊎ (result ≡ bare_answer 1 0 (code_of_fault OutOfMemory)) }
+    ensures answer { handle.old.is_open ≡ false → is_date date.now ≡ true → AnswersOpening result }
 {
     if handle.is_open {
-        return misused();
+        return bare(MISUSED, 0, 0);
     }
     let Ok(options) = Options::new(Some(every), skip, date) else {
-        return date_refused();
+        return bare(BAD_DATE, 0, 0);
     };
     let Ok(held) = Held::new(alloc, max_output) else {
         return out_of_memory(0);
@@ -148,16 +135,12 @@ pub extern "C" fn rnxcmp_c_open_expand(
     skip: bool,
     max_output: u64,
 ) -> Answer
-    ensures opened { result.status ≡ 0 → (choices : Choices) × (choices.skip ≡ skip)
-        × HandleStands (Task.Expand choices max_output) handle.new [] (rooms [] []) }
-    ensures running { result.status ≡ 0 → has_ended handle.new ≡ false }
-    ensures unchanged { (result.status ≡ 0 → ⊥) → IsUnchanged handle.old handle.new }
-    ensures misused { handle.old.is_open ≡ true → result ≡ bare_answer MISUSED 0 0 }
-    ensures answer { handle.old.is_open ≡ false
-        → (result ≡ bare_answer 0 0 0) ⊎ (result ≡ bare_answer 1 0 (code_of_fault OutOfMemory)) }
+    ensures opened { OpensHandle (λ opened. (choices : Choices) × (choices.skip ≡ skip)
+        × HandleStands (Task.Expand choices max_output) opened [] (rooms [] [])) handle.old handle.new result }
+    ensures answer { handle.old.is_open ≡ false → AnswersOpening result }
 {
     if handle.is_open {
-        return misused();
+        return bare(MISUSED, 0, 0);
     }
     let Ok(held) = Held::new(alloc, max_output) else {
         return out_of_memory(0);
@@ -171,15 +154,11 @@ pub extern "C" fn rnxcmp_c_open_expand(
 /// Opens a closed handle for a check.
 #[unsafe(no_mangle)]
 pub extern "C" fn rnxcmp_c_open_check(alloc: Global, handle: &mut Handle) -> Answer
-    ensures opened { result.status ≡ 0 → HandleStands Task.Check handle.new [] (rooms [] []) }
-    ensures running { result.status ≡ 0 → has_ended handle.new ≡ false }
-    ensures unchanged { (result.status ≡ 0 → ⊥) → IsUnchanged handle.old handle.new }
-    ensures misused { handle.old.is_open ≡ true → result ≡ bare_answer MISUSED 0 0 }
-    ensures answer { handle.old.is_open ≡ false
-        → (result ≡ bare_answer 0 0 0) ⊎ (result ≡ bare_answer 1 0 (code_of_fault OutOfMemory)) }
+    ensures opened { OpensFor Task.Check handle.old handle.new result }
+    ensures answer { handle.old.is_open ≡ false → AnswersOpening result }
 {
     if handle.is_open {
-        return misused();
+        return bare(MISUSED, 0, 0);
     }
     let Ok(held) = Held::new(alloc, 0) else {
         return out_of_memory(0);
@@ -205,8 +184,6 @@ pub extern "C" fn rnxcmp_c_feed(
         → (result ≡ bare_answer MISUSED 0 0) × (used.new ≡ 0) × IsUnchanged handle.old handle.new }
     ensures feeds { (task : Task) (fed : List ℕ) (taken : BothTexts) → HandleStands task handle.old fed taken
         → FeedsHandle task handle.old handle.new fed taken bytes.now used.new result }
-    ensures stands { (task : Task) (fed : List ℕ) (taken : BothTexts) → HandleStands task handle.old fed taken
-        → HandleStands task handle.new (fed ++ take used.new bytes.now) taken }
     ensures promise { (task : Task) (fed : List ℕ) (taken : BothTexts)
         → HandleStands task handle.old fed taken → has_ended handle.old ≡ false
         → HandlePromise (run_state handle.new) (run_for task) (fed ++ take used.new bytes.now)
@@ -219,15 +196,11 @@ pub extern "C" fn rnxcmp_c_feed(
         → HandleStands task handle.old fed taken → has_ended handle.old ≡ false → has_ended handle.new ≡ true
         → RunWasEnded (run_for task) fed (fed ++ take used.new bytes.now) (drop used.new bytes.now)
         (joined_texts taken (texts_kept handle.new)) (texts_kept handle.new) result }
-    ensures misused { (task : Task) (fed : List ℕ) (taken : BothTexts)
-        → HandleStands task handle.old fed taken → has_ended handle.old ≡ true
-        → (result ≡ bare_answer MISUSED 0 0) × (used.new ≡ 0)
-        × (handle.new.place.held ≡ handle.old.place.held) }
     ensures sound { IsSoundHandle handle.new }
 {
     *used = 0;
     if !handle.is_open {
-        return misused();
+        return bare(MISUSED, 0, 0);
     }
     let mut reader = take_out(handle, alloc);
     let (count, answer) = reader.take_in(bytes);
@@ -244,8 +217,6 @@ pub extern "C" fn rnxcmp_c_end(alloc: Global, handle: &mut Handle) -> Answer
         → (result ≡ bare_answer MISUSED 0 0) × IsUnchanged handle.old handle.new }
     ensures ends { (task : Task) (fed : List ℕ) (taken : BothTexts) → HandleStands task handle.old fed taken
         → EndsHandle task handle.old handle.new fed taken result }
-    ensures stands { (task : Task) (fed : List ℕ) (taken : BothTexts) → HandleStands task handle.old fed taken
-        → HandleStands task handle.new fed taken }
     ensures promise { (task : Task) (fed : List ℕ) (taken : BothTexts)
         → HandleStands task handle.old fed taken → has_ended handle.old ≡ false
         → HandlePromise (run_state handle.new) (run_for task) fed (joined_texts taken (texts_kept handle.new))
@@ -256,9 +227,6 @@ pub extern "C" fn rnxcmp_c_end(alloc: Global, handle: &mut Handle) -> Answer
         × RunHasEnded (λ ended. (ended ≡ (run_for task).result fed) ⊎ (StopsAtLimit (run_for task) fed ended
         ⊎ StopsForMemory (λ line. line ≡ length (lines_of fed)) (run_for task) fed ended))
         (joined_texts taken (texts_kept handle.new)) (texts_kept handle.new) result }
-    ensures misused { (task : Task) (fed : List ℕ) (taken : BothTexts)
-        → HandleStands task handle.old fed taken → has_ended handle.old ≡ true
-        → (result ≡ bare_answer MISUSED 0 0) × (handle.new.place.held ≡ handle.old.place.held) }
     ensures expansion { (choices : Choices) (limit : ℕ) (fed : List ℕ) (taken : BothTexts)
         → HandleStands (Task.Expand choices limit) handle.old fed taken → has_ended handle.old ≡ false
         → (HasNoMemory result → ⊥) → (result.status ≡ OUTPUT_LIMIT → ⊥)
@@ -270,7 +238,7 @@ pub extern "C" fn rnxcmp_c_end(alloc: Global, handle: &mut Handle) -> Answer
     ensures sound { IsSoundHandle handle.new }
 {
     if !handle.is_open {
-        return misused();
+        return bare(MISUSED, 0, 0);
     }
     let mut reader = take_out(handle, alloc);
     let answer = reader.take_end();
@@ -291,22 +259,12 @@ pub extern "C" fn rnxcmp_c_take(
     ensures closed { handle.old.is_open ≡ false
         → (result ≡ bare_answer MISUSED 0 0) × IsUnchanged handle.old handle.new
         × (output.new ≡ output.old) × (messages.new ≡ messages.old) }
-    ensures output { handle.old.is_open ≡ true
-        → output.new ≡ placed (output_kept handle.old.place.held) output.old }
-    ensures messages { handle.old.is_open ≡ true
-        → messages.new ≡ placed (messages_kept handle.old.place.held) messages.old }
-    ensures output_left { handle.old.is_open ≡ true
-        → output_kept handle.new.place.held ≡ drop (length output.old) (output_kept handle.old.place.held) }
-    ensures messages_left { handle.old.is_open ≡ true
-        → messages_kept handle.new.place.held ≡ drop (length messages.old) (messages_kept handle.old.place.held) }
-    ensures answer { handle.old.is_open ≡ true → AnswersHandle handle.new result }
-    ensures same { handle.old.is_open ≡ true → (reader : Reader) → Holds handle.old reader
-        → EndedAlike reader handle.new }
+    ensures taken { handle.old.is_open ≡ true → HandsOut handle.old.place.held handle.new.place.held
+        (rooms output.old messages.old) (rooms output.new messages.new) result }
     ensures stands { (task : Task) (fed : List ℕ) (taken : BothTexts) → HandleStands task handle.old fed taken
         → HandleStands task handle.new fed (joined_texts taken
         (rooms (take (length output.old) (output_kept handle.old.place.held))
         (take (length messages.old) (messages_kept handle.old.place.held)))) }
-    ensures still { run_state handle.new ≡ run_state handle.old }
     ensures promise { (task : Task) (fed : List ℕ) (taken : BothTexts)
         → HandleStands task handle.old fed taken → (run_state handle.new ≡ run_state handle.old)
         × HandlePromise (run_state handle.new) (run_for task) fed (joined_texts (joined_texts taken
@@ -326,7 +284,7 @@ pub extern "C" fn rnxcmp_c_take(
     ensures sound { IsSoundHandle handle.new }
 {
     if !handle.is_open {
-        return misused();
+        return bare(MISUSED, 0, 0);
     }
     let mut reader = take_out(handle, alloc);
     let answer = reader.hand_out(output, messages);

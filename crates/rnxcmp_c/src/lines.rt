@@ -6,7 +6,7 @@ ghost use Rattle.crx_base.specs.declared.limits.TheConstants.{INPUT_LIMIT};
 ghost use Rattle.crx_base.specs.meaning.Lines.{InputLine, ends_with_return, lines_of, without_return};
 ghost use Rattle.crx_lines.specs.Reading.{HasNoFeed};
 ghost use Rattle.crx_runs.specs.Lawful.{IsLawful};
-ghost use Rattle.rnxcmp_c.specs.Going.{IsAll, IsGoing, IsReady, IsTaken, LineHalts, LineIsKept, LineMovesOn, LineStopsRun, MovesWithin, RunBreaks, RunFails, StepStops, piece_line};
+ghost use Rattle.rnxcmp_c.specs.Going.{EndIsTaken, IsGoing, IsReady, IsSameRun, IsTaken, LastIsTaken, LineIsGiven, LineIsTaken, RunBreaks, piece_line};
 ghost use Rattle.rnxcmp_c.specs.Past.{HandlePast, StopsSoon, fed_with};
 ghost use Rattle.rnxcmp_c.specs.Holding.{IsCounted, StopsCounted, ready_in};
 ghost use Rattle.rnxcmp_c.specs.Waiting.{waiting};
@@ -56,14 +56,9 @@ fn give_line<E: Engine>(
     requires within { number ≤ INPUT_LIMIT }
     ensures filter { E.filter engine.new ≡ E.filter engine.old }
     ensures ready { OnOk result (IsReady (E.ready engine.new) (E.is_open engine.new)) }
-    ensures done { (lines : List InputLine) (whole : List ℕ) → E.shows engine.old lines []
-        → bytes.now ≡ take LINE_ROOM whole
-        → IfOk result (LineIsKept (E.filter engine.old) (E.shows engine.new) lines (piece_line whole is_ended)
-        output.old output.new messages.old messages.new) }
-    ensures stops { (lines : List InputLine) (whole : List ℕ) → E.shows engine.old lines []
-        → bytes.now ≡ take LINE_ROOM whole
-        → IfErr result (LineHalts (E.filter engine.old) lines (piece_line whole is_ended)
-        output.old output.new messages.old messages.new) }
+    ensures step { (lines : List InputLine) (whole : List ℕ) → E.shows engine.old lines []
+        → bytes.now ≡ take LINE_ROOM whole → LineIsGiven result (E.filter engine.old) (E.shows engine.new) lines
+        (piece_line whole is_ended) output.old output.new messages.old messages.new }
 {
     let content = content_of(bytes);
     if content.len() > LINE_LIMIT {
@@ -114,19 +109,12 @@ fn take_within<E: Engine>(engine: &mut E, held: &mut Held, is_ended: bool) -> Re
     requires next { held.old.number ≡ E.taken engine.old }
     requires shown { (lines : List InputLine) × E.shows engine.old lines [] }
     requires within { held.old.number < INPUT_LIMIT }
-    ensures filter { E.filter engine.new ≡ E.filter engine.old }
-    ensures limit { held.new.limit ≡ held.old.limit }
+    ensures same { IsSameRun (E.filter engine.old) (E.filter engine.new) held.old held.new }
     ensures ready { OnOk result (IsReady (E.ready engine.new) (E.is_open engine.new)) }
-    ensures number { OnOk result (held.new.number ≡ held.old.number + 1) }
-    ensures tail { OnOk result (held.new.tail.bytes.items ≡ []) }
-    ensures done { (lines : List InputLine) (whole : List ℕ) → E.shows engine.old lines []
-        → held.old.tail.bytes.items ≡ take LINE_ROOM whole
-        → OnOk result (LineMovesOn (E.filter engine.old) (E.shows engine.new) lines
-        (piece_line whole is_ended) held.old held.new) }
-    ensures stops { (lines : List InputLine) (whole : List ℕ) → E.shows engine.old lines []
-        → held.old.tail.bytes.items ≡ take LINE_ROOM whole
-        → IfErr result (LineStopsRun (E.filter engine.old) lines
-        (piece_line whole is_ended) held.old held.new) }
+    ensures next { OnOk result ((held.new.number ≡ held.old.number + 1) × (held.new.tail.bytes.items ≡ [])) }
+    ensures step { (lines : List InputLine) (whole : List ℕ) → E.shows engine.old lines []
+        → held.old.tail.bytes.items ≡ take LINE_ROOM whole → LineIsTaken result (E.filter engine.old)
+        (E.shows engine.new) lines (piece_line whole is_ended) held.old held.new }
 {
     let mark = held.mark();
     let number = held.number + 1;
@@ -148,9 +136,8 @@ fn take_to_line_end<E: Engine>(engine: &mut E, held: &mut Held, bytes: &[u8]) ->
     requires ready { IsReady (E.ready engine.old) (E.is_open engine.old) }
     requires going { (past : HandlePast) × IsGoing (E.filter engine.old) (E.shows engine.old) held.old past
         × (length past.fed + length bytes.now ≤ INPUT_LIMIT) }
-    ensures filter { E.filter engine.new ≡ E.filter engine.old }
+    ensures same { IsSameRun (E.filter engine.old) (E.filter engine.new) held.old held.new }
     ensures ready { OnOk result (IsReady (E.ready engine.new) (E.is_open engine.new)) }
-    ensures limit { held.new.limit ≡ held.old.limit }
     ensures count { IfOk result (λ n. (n ≤ length bytes.now) × (0 < length bytes.now → 0 < n)) }
     ensures piece { IfOk result (λ n. HasNoFeed (take (n - 1) bytes.now)) }
     ensures going { (past : HandlePast) → IsGoing (E.filter engine.old) (E.shows engine.old) held.old past
@@ -189,9 +176,8 @@ pub(crate) fn take_bytes<E: Engine>(
     requires ready { IsReady (E.ready engine.old) (E.is_open engine.old) }
     requires going { (past : HandlePast) × IsGoing (E.filter engine.old) (E.shows engine.old) held.old past
         × (length past.fed + length bytes.now ≤ INPUT_LIMIT) }
-    ensures filter { E.filter engine.new ≡ E.filter engine.old }
+    ensures same { IsSameRun (E.filter engine.old) (E.filter engine.new) held.old held.new }
     ensures ready { OnOk result (IsReady (E.ready engine.new) (E.is_open engine.new)) }
-    ensures limit { held.new.limit ≡ held.old.limit }
     ensures count { IfOk result (IsTaken held.old held.new (length bytes.now)) }
     ensures soon { (past : HandlePast) → IsGoing (E.filter engine.old) (E.shows engine.old) held.old past
         → IfOk result (λ n. 0 < n → StopsSoon (E.filter engine.old) past bytes.now n) }
@@ -215,14 +201,9 @@ fn end_within<E: Engine>(engine: &mut E, held: &mut Held) -> Result<(), Stop>
     requires ready { IsReady (E.ready engine.old) (E.is_open engine.old) }
     requires shown { (lines : List InputLine) × E.shows engine.old lines [] }
     requires within { E.taken engine.old ≤ INPUT_LIMIT }
-    ensures filter { E.filter engine.new ≡ E.filter engine.old }
-    ensures limit { held.new.limit ≡ held.old.limit }
-    ensures done { (lines : List InputLine) → E.shows engine.old lines []
-        → OnOk result (MovesWithin ((E.filter engine.old).so_far lines) ((E.filter engine.old).whole lines)
-        (E.has_ended engine.new lines) held.old held.new) }
-    ensures stops { (lines : List InputLine) → E.shows engine.old lines []
-        → IfErr result (StepStops held.old.number None ((E.filter engine.old).so_far lines)
-        ((E.filter engine.old).whole lines) held.old held.new) }
+    ensures same { IsSameRun (E.filter engine.old) (E.filter engine.new) held.old held.new }
+    ensures step { (lines : List InputLine) → E.shows engine.old lines [] → EndIsTaken result (E.filter engine.old)
+        (E.has_ended engine.new lines) lines held.old held.new }
 {
     let mark = held.mark();
     let number = held.number;
@@ -244,14 +225,9 @@ pub(crate) fn take_last<E: Engine>(engine: &mut E, held: &mut Held) -> Result<()
     requires lawful { IsLawful (E.filter engine.old) }
     requires going { (past : HandlePast) × IsGoing (E.filter engine.old) (E.shows engine.old) held.old past
         × (length past.fed ≤ INPUT_LIMIT) }
-    ensures filter { E.filter engine.new ≡ E.filter engine.old }
-    ensures limit { held.new.limit ≡ held.old.limit }
-    ensures ended { (past : HandlePast) → IsGoing (E.filter engine.old) (E.shows engine.old) held.old past
-        → OnOk result (E.has_ended engine.new (lines_of past.fed)) }
-    ensures done { (past : HandlePast) → IsGoing (E.filter engine.old) (E.shows engine.old) held.old past
-        → OnOk result (IsAll ((E.filter engine.old).whole (lines_of past.fed)) held.new past) }
-    ensures fails { (past : HandlePast) → IsGoing (E.filter engine.old) (E.shows engine.old) held.old past
-        → IfErr result (RunFails (E.filter engine.old) held.new past) }
+    ensures same { IsSameRun (E.filter engine.old) (E.filter engine.new) held.old held.new }
+    ensures ends { (past : HandlePast) → IsGoing (E.filter engine.old) (E.shows engine.old) held.old past
+        → LastIsTaken result (E.filter engine.old) (E.has_ended engine.new (lines_of past.fed)) held.new past }
 {
     if is_blank(held.tail.as_slice()) {
         return end_within(engine, held);

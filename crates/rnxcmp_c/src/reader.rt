@@ -1,15 +1,15 @@
 //! A run that goes on from call to call.
 
-ghost use Rattle.std.specs.Prelude.{drop, ◌≡◌, ◌<◌, ◌≤◌, ◌+◌, ◌-◌, false, length, take, true, None, Some};
+ghost use Rattle.std.specs.Prelude.{◌≡◌, ◌<◌, ◌≤◌, ◌+◌, ◌-◌, false, true, [], ◌∷◌, length, take, None, Some};
 ghost use Rattle.crx_base.specs.declared.limits.TheConstants.{INPUT_LIMIT};
 ghost use Rattle.rnxcmp_c.specs.Handles.{Ends, Feeds, HasFed, IsFed, IsPut, EndsRunBy, ReaderHasEnded, ReaderHasPassed, ReaderRuns, ReaderStands, answer_now};
+ghost use Rattle.rnxcmp_c.specs.Opened.{HandsOut};
 ghost use Rattle.rnxcmp_c.specs.Past.{HandlePast, StopsSoon, fed_with, filter_for, taken_with};
 ghost use Rattle.rnxcmp_c.specs.meaning.Handles.{Task};
 ghost use Rattle.rnxcmp_c.specs.Waiting.{waiting};
-ghost use Rattle.rnxcmp_c.specs.declared.answer.TheConstants.{OUTPUT_LIMIT};
-ghost use Rattle.rnxcmp_c.specs.meaning.Answers.{placed};
+ghost use Rattle.rnxcmp_c.specs.meaning.Answers.{rooms};
 
-use crate::answer::{Answer, OUTPUT_LIMIT, code_in, line_in, misused};
+use crate::answer::{Answer, MISUSED, OUTPUT_LIMIT, bare, code_in, line_in};
 use crate::engines::{AnyEngine, end_engine, feed_engine, status_at_end};
 use crate::held::Held;
 use crate::stop::Stop;
@@ -50,23 +50,16 @@ fn put_down(held: &mut Held, at: At) -> Outcome
     }
 }
 
-/// How the run ends whose output would be longer than it may be.
-fn limit_outcome() -> Outcome
-    ensures { result ≡ record { status = OUTPUT_LIMIT; fault = None } }
-{
-    Outcome {
-        status: OUTPUT_LIMIT as u8,
-        fault: None,
-    }
-}
-
 /// How a run ends by what stopped it.
 fn outcome_of(held: &mut Held, stop: Stop) -> Outcome
     ensures { EndsRunBy held.old held.new result stop }
 {
     match stop {
         Stop::Fault(at) => put_down(held, at),
-        Stop::Limit => limit_outcome(),
+        Stop::Limit => Outcome {
+            status: OUTPUT_LIMIT as u8,
+            fault: None,
+        },
     }
 }
 
@@ -80,7 +73,7 @@ fn is_past(allowed: &[u8], bytes: &[u8]) -> bool
 
 impl Reader {
     /// Takes some bytes of the input, as long as little enough waits to be taken, and answers how many.
-    pub(crate) fn feed(&mut self, bytes: &[u8]) -> usize
+    fn feed(&mut self, bytes: &[u8]) -> usize
         requires goes_on { self.old.outcome ≡ None }
         requires running { (task : Task) × (past : HandlePast) × ReaderRuns task self.old past
             × (length past.fed + length bytes.now ≤ INPUT_LIMIT) }
@@ -103,7 +96,7 @@ impl Reader {
     }
 
     /// Takes the end of the input.
-    pub(crate) fn end(&mut self)
+    fn end(&mut self)
         requires { (task : Task) × (past : HandlePast) × ReaderRuns task self.old past }
         ensures { (task : Task) (past : HandlePast) → ReaderRuns task self.old past
             → ReaderHasEnded task self.new past }
@@ -133,7 +126,7 @@ impl Reader {
     }
 
     /// Its state.
-    pub(crate) fn answer(&self) -> Answer
+    fn answer(&self) -> Answer
         ensures { result ≡ answer_now self.now }
     {
         let (status, fault) = match self.outcome {
@@ -159,30 +152,6 @@ impl Reader {
         &bytes[..count]
     }
 
-    /// Takes some bytes of the input, of which an input may have these, and answers how many.
-    fn take_allowed(&mut self, bytes: &[u8], allowed: &[u8]) -> usize
-        requires goes_on { self.old.outcome ≡ None }
-        requires allowed { allowed.now ≡ take (INPUT_LIMIT - self.old.fed) bytes.now }
-        requires running { (task : Task) × (past : HandlePast) × ReaderRuns task self.old past }
-        ensures over { length allowed.now ≡ 0 → 0 < length bytes.now
-            → (task : Task) (past : HandlePast) → ReaderRuns task self.old past
-            → (result ≡ 0) × ReaderHasPassed task self.new past }
-        ensures fed { (0 < length bytes.now → 0 < length allowed.now)
-            → (task : Task) (past : HandlePast) → ReaderRuns task self.old past
-            → HasFed past.fed task self.new (fed_with past (take result allowed.now)) }
-        ensures count { (0 < length bytes.now → 0 < length allowed.now)
-            → IsFed self.old self.new (length allowed.now) result }
-        ensures soon { (0 < length bytes.now → 0 < length allowed.now)
-            → (task : Task) (past : HandlePast) → ReaderRuns task self.old past
-            → self.new.outcome ≡ None → 0 < result → StopsSoon (filter_for task) past allowed.now result }
-    {
-        if is_past(allowed, bytes) {
-            self.pass_limit();
-            return 0;
-        }
-        self.feed(allowed)
-    }
-
     /// Takes some bytes of the input, if its run goes on, and answers how many.
     pub(crate) fn take_in(&mut self, bytes: &[u8]) -> (usize, Answer)
         requires { (task : Task) × (past : HandlePast) × ReaderStands task self.old past }
@@ -190,12 +159,15 @@ impl Reader {
             → Feeds task self.old self.new past bytes.now result.0 result.1 }
     {
         if self.outcome.is_some() {
-            return (0, misused());
+            return (0, bare(MISUSED, 0, 0));
         }
-        let first = self.allowed(bytes);
-        let used = self.take_allowed(bytes, first);
-        let answer = self.answer();
-        (used, answer)
+        let allowed = self.allowed(bytes);
+        if is_past(allowed, bytes) {
+            self.pass_limit();
+            return (0, self.answer());
+        }
+        let used = self.feed(allowed);
+        (used, self.answer())
     }
 
     /// Takes the end of the input, if its run goes on.
@@ -205,7 +177,7 @@ impl Reader {
             → Ends task self.old self.new past result }
     {
         if self.outcome.is_some() {
-            return misused();
+            return bare(MISUSED, 0, 0);
         }
         self.end();
         self.answer()
@@ -213,14 +185,8 @@ impl Reader {
 
     /// Moves what waits of the output and of the messages to the front of two rooms, as far as it fits.
     pub(crate) fn hand_out(&mut self, output: &mut [u8], messages: &mut [u8]) -> Answer
-        ensures output { output.new ≡ placed (waiting self.old.held.output) output.old }
-        ensures messages { messages.new ≡ placed (waiting self.old.held.messages) messages.old }
-        ensures answer { result ≡ answer_now self.new }
-        ensures same { self.new.outcome ≡ self.old.outcome }
-        ensures output_left { waiting self.new.held.output
-            ≡ drop (length output.old) (waiting self.old.held.output) }
-        ensures messages_left { waiting self.new.held.messages
-            ≡ drop (length messages.old) (waiting self.old.held.messages) }
+        ensures taken { HandsOut (self.old ∷ []) (self.new ∷ []) (rooms output.old messages.old)
+            (rooms output.new messages.new) result }
         ensures stands { (task : Task) (past : HandlePast) → ReaderStands task self.old past
             → ReaderStands task self.new (taken_with past
             (take (length output.old) (waiting self.old.held.output))

@@ -5,72 +5,64 @@ use Rattle.rnxcmp_c.specs.Past.{HandlePast, fed_with, StopsSoon}
 use Rattle.rnxcmp_c.specs.Handles.{engine_filter, shows_of}
 use Rattle.rnxcmp_c.specs.declared.engines.AnyEngine.{AnyEngine}
 use Rattle.rnxcmp_c.specs.declared.engines.AnyEngine.TheVariants.{Compacting, Expanding}
+use Rattle.rnxcmp_c.proofs.ReaderLemmas.{going-as}
 use Rattle.rnxcmp_c.proofs.engines.feed_engine.Goals as goal
 
 pub returns-in-Compacting-clause-going : goal.returns-in-Compacting-clause-going
 returns-in-Compacting-clause-going c = λ (past : HandlePast) is.
     subst (λ (f : Filter). IfOk c.take_bytes.result
     (λ n. IsGoing f (shows_of (Compacting c.take_bytes.new.engine))
-    c.take_bytes.new.held (fed_with past (take n c.args.bytes.now)))) (sym c.take_bytes.ensures.filter)
-    (c.take_bytes.ensures.going past (subst (λ (e : AnyEngine). IsGoing (engine_filter e)
-    (shows_of e) c.args.held.now past) c.in-Compacting.is is))
+    c.take_bytes.new.held (fed_with past (take n c.args.bytes.now)))) (sym c.take_bytes.ensures.same.0)
+    (c.take_bytes.ensures.going past (going-as c.in-Compacting.is is))
 
 pub returns-in-Expanding-clause-going : goal.returns-in-Expanding-clause-going
 returns-in-Expanding-clause-going c = λ (past : HandlePast) is.
     subst (λ (f : Filter). IfOk c.take_bytes-in-Expanding.result
     (λ n. IsGoing f (shows_of (Expanding c.take_bytes-in-Expanding.new.engine))
     c.take_bytes-in-Expanding.new.held (fed_with past (take n c.args.bytes.now))))
-    (sym c.take_bytes-in-Expanding.ensures.filter)
+    (sym c.take_bytes-in-Expanding.ensures.same.0)
     (c.take_bytes-in-Expanding.ensures.going past
-    (subst (λ (e : AnyEngine). IsGoing (engine_filter e)
-    (shows_of e) c.args.held.now past) c.in-Expanding.is is))
+    (going-as c.in-Expanding.is is))
 
 pub returns-in-Compacting-clause-breaks : goal.returns-in-Compacting-clause-breaks
 returns-in-Compacting-clause-breaks c = λ (past : HandlePast) is.
     subst (λ (e : AnyEngine). IfErr c.take_bytes.result (RunBreaks past.fed
     (engine_filter e) c.take_bytes.new.held
     (fed_with past c.args.bytes.now))) (sym c.in-Compacting.is)
-    (c.take_bytes.ensures.breaks past (subst (λ (e : AnyEngine). IsGoing (engine_filter e)
-    (shows_of e) c.args.held.now past) c.in-Compacting.is is))
+    (c.take_bytes.ensures.breaks past (going-as c.in-Compacting.is is))
 
 pub returns-in-Expanding-clause-breaks : goal.returns-in-Expanding-clause-breaks
 returns-in-Expanding-clause-breaks c = λ (past : HandlePast) is.
     subst (λ (e : AnyEngine). IfErr c.take_bytes-in-Expanding.result (RunBreaks past.fed
     (engine_filter e) c.take_bytes-in-Expanding.new.held
     (fed_with past c.args.bytes.now))) (sym c.in-Expanding.is)
-    (c.take_bytes-in-Expanding.ensures.breaks past (subst (λ (e : AnyEngine). IsGoing (engine_filter e)
-    (shows_of e) c.args.held.now past) c.in-Expanding.is is))
+    (c.take_bytes-in-Expanding.ensures.breaks past (going-as c.in-Expanding.is is))
 
 pub returns-in-Checking-clause-breaks : goal.returns-in-Checking-clause-breaks
 returns-in-Checking-clause-breaks c = λ (past : HandlePast) is.
     subst (λ (e : AnyEngine). IfErr c.take_bytes-in-Checking.result (RunBreaks past.fed
     (engine_filter e) c.take_bytes-in-Checking.new.held
     (fed_with past c.args.bytes.now))) (sym c.in-Checking.is)
-    (c.take_bytes-in-Checking.ensures.breaks past (subst (λ (e : AnyEngine). IsGoing (engine_filter e)
-    (shows_of e) c.args.held.now past) c.in-Checking.is is))
+    (c.take_bytes-in-Checking.ensures.breaks past (going-as c.in-Checking.is is))
 
 pub returns-in-Checking-clause-going : goal.returns-in-Checking-clause-going
 returns-in-Checking-clause-going c = λ (past : HandlePast) is.
-    c.take_bytes-in-Checking.ensures.going past (subst (λ (e : AnyEngine). IsGoing (engine_filter e)
-    (shows_of e) c.args.held.now past) c.in-Checking.is is)
+    c.take_bytes-in-Checking.ensures.going past (going-as c.in-Checking.is is)
 
 pub returns-in-Compacting-clause-soon : goal.returns-in-Compacting-clause-soon
 returns-in-Compacting-clause-soon c = λ (past : HandlePast) is.
     subst (λ (e : AnyEngine). IfOk c.take_bytes.result
     (λ n. 0 < n → StopsSoon (engine_filter e) past c.args.bytes.now n)) (sym c.in-Compacting.is)
-    (c.take_bytes.ensures.soon past (subst (λ (e : AnyEngine). IsGoing (engine_filter e)
-    (shows_of e) c.args.held.now past) c.in-Compacting.is is))
+    (c.take_bytes.ensures.soon past (going-as c.in-Compacting.is is))
 
 pub returns-in-Expanding-clause-soon : goal.returns-in-Expanding-clause-soon
 returns-in-Expanding-clause-soon c = λ (past : HandlePast) is.
     subst (λ (e : AnyEngine). IfOk c.take_bytes-in-Expanding.result
     (λ n. 0 < n → StopsSoon (engine_filter e) past c.args.bytes.now n)) (sym c.in-Expanding.is)
-    (c.take_bytes-in-Expanding.ensures.soon past (subst (λ (e : AnyEngine). IsGoing (engine_filter e)
-    (shows_of e) c.args.held.now past) c.in-Expanding.is is))
+    (c.take_bytes-in-Expanding.ensures.soon past (going-as c.in-Expanding.is is))
 
 pub returns-in-Checking-clause-soon : goal.returns-in-Checking-clause-soon
 returns-in-Checking-clause-soon c = λ (past : HandlePast) is.
     subst (λ (e : AnyEngine). IfOk c.take_bytes-in-Checking.result
     (λ n. 0 < n → StopsSoon (engine_filter e) past c.args.bytes.now n)) (sym c.in-Checking.is)
-    (c.take_bytes-in-Checking.ensures.soon past (subst (λ (e : AnyEngine). IsGoing (engine_filter e)
-    (shows_of e) c.args.held.now past) c.in-Checking.is is))
+    (c.take_bytes-in-Checking.ensures.soon past (going-as c.in-Checking.is is))

@@ -1,19 +1,30 @@
+use Rattle.std.proofs.Common.{refl, sym, ◌∙◌, arith}
 use Rattle.rnxcmp_c.specs.meaning.Answers.{rooms}
+use Rattle.rnxcmp_c.specs.meaning.Handles.{Check}
 use Rattle.rnxcmp_c.proofs.Kept.{judges-standard}
 use Rattle.rnxcmp_c.proofs.Lossless.{says-so}
+use Rattle.rnxcmp_c.proofs.RunLemmas.{answers-alone, answers-within}
 use Rattle.rnxcmp_c.proofs.exports.rnxcmp_c_check.Goals as goal
 
-pub returns-in-Ok-clause-lossless : goal.returns-in-Ok-clause-lossless
-returns-in-Ok-clause-lossless c within memory =
-    says-so c.args.input.now c.answer.result
-    (rooms c.args.output.now c.args.messages.now) (rooms c.answer.new.output c.answer.new.messages)
-    (c.answer.ensures.result _ 0 c.in-Ok.ensures.run)
+pub returns-clause-memory : goal.returns-clause-memory
+returns-clause-memory c memory = answers-alone c.answer_of.ensures memory
 
-pub returns-in-Ok-clause-standard : goal.returns-in-Ok-clause-standard
-returns-in-Ok-clause-standard c within memory fits =
-    judges-standard c.args.input.now c.answer.result
-    (rooms c.args.output.now c.args.messages.now) (rooms c.answer.new.output c.answer.new.messages)
-    (c.answer.ensures.result _ 0 c.in-Ok.ensures.run) fits
+pub returns-clause-runs : goal.returns-clause-runs
+returns-clause-runs c within memory =
+    let run = c.check-outcome in
+    let before = rooms c.args.output.now c.args.messages.now in
+    let after = rooms c.answer_of.new.output_room c.answer_of.new.messages_room in
+    (answers-within Check run.ensures.runs.2 (sym c.new-reader.ensures ∙ run.ensures.runs.1)
+    (λ ended. ended) within before after c.new-written.ensures c.new-reported.ensures (λ t took. took)
+    (λ t took. took) (refl, omega arith) (λ none. none) (λ none. none) c.answer_of.ensures memory).within
+    (λ over. omega (arith, over.0))
 
-pub returns-in-Ok-clause-runs : goal.returns-in-Ok-clause-runs
-returns-in-Ok-clause-runs c within memory = c.answer.ensures.result _ 0 c.in-Ok.ensures.run
+pub returns-clause-lossless : goal.returns-clause-lossless
+returns-clause-lossless c within memory =
+    says-so c.args.input.now c.answer_of.result (rooms c.args.output.now c.args.messages.now)
+    (rooms c.answer_of.new.output_room c.answer_of.new.messages_room) (returns-clause-runs c within memory)
+
+pub returns-clause-standard : goal.returns-clause-standard
+returns-clause-standard c within memory fits =
+    judges-standard c.args.input.now c.answer_of.result (rooms c.args.output.now c.args.messages.now)
+    (rooms c.answer_of.new.output_room c.answer_of.new.messages_room) (returns-clause-runs c within memory) fits

@@ -1,29 +1,21 @@
-use Rattle.std.proofs.Common.{Some, length, subst}
+use Rattle.std.proofs.Common.{Some, refl, sym, ◌∙◌, subst, arith}
 use Rattle.crx_base.specs.meaning.Choices.{Choices, choices_of}
 use Rattle.crx_filter.specs.meaning.Compacted.{compacted}
-use Rattle.rnxcmp_c.specs.Collecting.{HasNone, IsRun}
-use Rattle.rnxcmp_c.specs.meaning.Answers.{ExceedsLimit, rooms}
-use Rattle.rnxcmp_c.proofs.Kept.{answers-none, answers-run}
+use Rattle.rnxcmp_c.specs.meaning.Answers.{AnswersWithin, rooms}
+use Rattle.rnxcmp_c.specs.meaning.Handles.{Compact}
+use Rattle.rnxcmp_c.proofs.RunLemmas.{answers-alone, answers-within}
 use Rattle.rnxcmp_c.proofs.exports.rnxcmp_c_compact.Goals as goal
 
-pub returns-in-Ok-compaction-clause-runs : goal.returns-in-Ok-compaction-clause-runs
-returns-in-Ok-compaction-clause-runs c dated within memory =
-    let whole = compacted c.args.input.now (choices_of (Some c.args.every) c.args.skip c.args.date.now) in
-    let is : IsRun whole (length c.args.output.now)
-    (length c.args.messages.now) c.args.max_output c.in-Ok-compaction.run' =
-    subst (λ (o : Choices). IsRun (compacted c.args.input.now o) (length c.args.output.now)
-    (length c.args.messages.now) c.args.max_output c.in-Ok-compaction.run')
-    c.in-Ok.ensures.value.0 c.in-Ok-compaction.ensures.run in
-    answers-run whole (length c.args.output.now)
-    (length c.args.messages.now) c.args.max_output c.in-Ok-compaction.run'
-    c.answer.result (rooms c.args.output.now c.args.messages.now)
-    (rooms c.answer.new.output c.answer.new.messages) is
-    (c.answer.ensures.result whole c.args.max_output is)
+pub returns-clause-memory : goal.returns-clause-memory
+returns-clause-memory c memory = answers-alone c.answer_of.ensures memory
 
-pub returns-in-Err-clause-runs : goal.returns-in-Err-clause-runs
-returns-in-Err-clause-runs c dated within memory =
-    let whole = compacted c.args.input.now (choices_of (Some c.args.every) c.args.skip c.args.date.now) in
-    answers-none whole c.args.max_output c.in-Err.answer (rooms c.args.output.now c.args.messages.now)
-    (subst (λ (o : Choices). HasNone (ExceedsLimit c.args.max_output (compacted c.args.input.now o).output)
-    c.in-Err.answer)
-    c.in-Ok.ensures.value.0 c.in-Err.ensures.none) memory
+pub returns-clause-runs : goal.returns-clause-runs
+returns-clause-runs c dated within memory =
+    let run = c.compact-outcome in
+    let before = rooms c.args.output.now c.args.messages.now in
+    let after = rooms c.answer_of.new.output_room c.answer_of.new.messages_room in
+    subst (λ (o : Choices). AnswersWithin c.args.max_output (compacted c.args.input.now o) c.answer_of.result
+    before after) c.in-Ok.ensures.value.0
+    (answers-within (Compact c.in-Ok.options 0) run.ensures.runs.2 (sym c.new-reader.ensures ∙ run.ensures.runs.1)
+    (λ ended. ended) within before after c.new-written.ensures c.new-reported.ensures (λ t took. took)
+    (λ t took. took) (refl, omega arith) (λ none. none) (λ none. none) c.answer_of.ensures memory)

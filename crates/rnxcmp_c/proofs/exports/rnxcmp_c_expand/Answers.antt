@@ -1,132 +1,63 @@
-use Rattle.std.proofs.Common.{map, subst, sym, ◌∙◌}
+use Rattle.std.proofs.Common.{◌≤◌, length, map, refl, subst, sym, ◌∙◌, arith}
+use Rattle.crx_base.specs.declared.limits.TheConstants.{INPUT_LIMIT}
 use Rattle.crx_base.specs.meaning.Lines.{lines_of}
 use Rattle.crx_base.specs.meaning.Seen.{seen}
-use Rattle.crx_filter.specs.meaning.Expanded.{expanded, expanded_unit, whole_compact}
-use Rattle.crx_runs.specs.meaning.Results.{FilterResult}
+use Rattle.crx_filter.specs.meaning.Expanded.{expanded_unit, whole_compact}
 use Rattle.crx_filter.specs.meaning.Written.{result_of}
-use Rattle.rnxcmp_c.proofs.Lossless.{brings-back_passed}
-use Rattle.crx_filter.proofs.stretches.StretchesSaved.{rest-kept, whole-first}
-use Rattle.rnxcmp_c.specs.meaning.Answers.{AnswersWithin, rooms}
-use Rattle.rnxcmp_c.proofs.Kept.{answers-none, answers-run, brings-back, saves-all_else}
+use Rattle.crx_runs.specs.meaning.Results.{FilterResult}
+use Rattle.rnxcmp_c.specs.meaning.Answers.{AnswersWithin, HasNoMemory, rooms}
+use Rattle.rnxcmp_c.specs.meaning.Handles.{Expand}
+use Rattle.rnxcmp_c.proofs.EndedLemmas.{KeepsPromises, keeps-promises}
+use Rattle.rnxcmp_c.proofs.RunLemmas.{answers-alone, answers-within}
 use Rattle.rnxcmp_c.proofs.exports.rnxcmp_c_expand.Goals as goal
+use Rattle.rnxcmp_c.proofs.exports.rnxcmp_c_expand.Goals.{After-answer_of}
+
+pub returns-clause-memory : goal.returns-clause-memory
+returns-clause-memory c memory = answers-alone c.answer_of.ensures memory
+
+promised : (c : After-answer_of) → length c.args.input.now ≤ INPUT_LIMIT
+    → (HasNoMemory c.answer_of.result → ⊥)
+    → KeepsPromises (λ whole. AnswersWithin c.args.max_output whole c.answer_of.result
+    (rooms c.args.output.now c.args.messages.now)
+    (rooms c.answer_of.new.output_room c.answer_of.new.messages_room)) c.expansion_options.result c.args.input.now
+promised c within memory =
+    let run = c.expand-outcome in
+    let before = rooms c.args.output.now c.args.messages.now in
+    let after = rooms c.answer_of.new.output_room c.answer_of.new.messages_room in
+    keeps-promises (λ (whole : FilterResult). AnswersWithin c.args.max_output whole c.answer_of.result before after)
+    _ _
+    (answers-within (Expand c.expansion_options.result 0) run.ensures.runs.2
+    (sym c.new-reader.ensures ∙ run.ensures.runs.1)
+    (λ ended. ended) within before after c.new-written.ensures c.new-reported.ensures (λ t took. took)
+    (λ t took. took) (refl, omega arith) (λ none. none) (λ none. none) c.answer_of.ensures memory)
 
 -- of the choices alone whether faults are skipped counts
-pub returns-in-Ok-clause-runs : goal.returns-in-Ok-clause-runs
-returns-in-Ok-clause-runs c within memory choices same =
-    let before = rooms c.args.output.now c.args.messages.now in
-    let after = rooms c.answer.new.output c.answer.new.messages in
+pub returns-clause-runs : goal.returns-clause-runs
+returns-clause-runs c within memory choices same =
     subst (λ skip. AnswersWithin c.args.max_output (result_of expanded_unit
-    (whole_compact skip (map seen (lines_of c.args.input.now)))) c.answer.result before after)
-    (c.expansion_options.ensures ∙ sym same)
-    (answers-run (expanded c.args.input.now c.expansion_options.result) _ _ c.args.max_output c.in-Ok.run'
-    c.answer.result before after c.in-Ok.ensures.run (c.answer.ensures.result _ _ c.in-Ok.ensures.run))
+    (whole_compact skip (map seen (lines_of c.args.input.now)))) c.answer_of.result
+    (rooms c.args.output.now c.args.messages.now)
+    (rooms c.answer_of.new.output_room c.answer_of.new.messages_room)) (c.expansion_options.ensures ∙ sym same)
+    (promised (goal.at.returns-clause-runs c).After-answer_of within memory).whole
 
-pub returns-in-Ok-clause-lossless : goal.returns-in-Ok-clause-lossless
-returns-in-Ok-clause-lossless c within memory =
-    let before = rooms c.args.output.now c.args.messages.now in
-    let after = rooms c.answer.new.output c.answer.new.messages in
-    brings-back_passed (λ (whole : FilterResult). AnswersWithin c.args.max_output whole c.answer.result before
-    after)
-    c.expansion_options.result c.args.input.now
-    (answers-run (expanded c.args.input.now c.expansion_options.result) _ _ c.args.max_output c.in-Ok.run'
-    c.answer.result before after c.in-Ok.ensures.run (c.answer.ensures.result _ _ c.in-Ok.ensures.run))
+pub returns-clause-lossless : goal.returns-clause-lossless
+returns-clause-lossless c within memory =
+    (promised (goal.at.returns-clause-lossless c).After-answer_of within memory).lossless
 
-pub returns-in-Ok-clause-way_back : goal.returns-in-Ok-clause-way_back
-returns-in-Ok-clause-way_back c within memory =
-    let before = rooms c.args.output.now c.args.messages.now in
-    let after = rooms c.answer.new.output c.answer.new.messages in
-    brings-back (λ (whole : FilterResult). AnswersWithin c.args.max_output whole c.answer.result before after)
-    c.expansion_options.result c.args.input.now
-    (answers-run (expanded c.args.input.now c.expansion_options.result) _ _ c.args.max_output c.in-Ok.run'
-    c.answer.result before after c.in-Ok.ensures.run (c.answer.ensures.result _ _ c.in-Ok.ensures.run))
+pub returns-clause-way_back : goal.returns-clause-way_back
+returns-clause-way_back c within memory =
+    (promised (goal.at.returns-clause-way_back c).After-answer_of within memory).way_back
 
-pub returns-in-Ok-clause-salvage : goal.returns-in-Ok-clause-salvage
-returns-in-Ok-clause-salvage c within memory skips =
-    let before = rooms c.args.output.now c.args.messages.now in
-    let after = rooms c.answer.new.output c.answer.new.messages in
-    saves-all_else (λ (whole : FilterResult). AnswersWithin c.args.max_output whole c.answer.result before
-    after)
-    c.expansion_options.result c.args.input.now (c.expansion_options.ensures ∙ skips)
-    (answers-run (expanded c.args.input.now c.expansion_options.result) _ _ c.args.max_output c.in-Ok.run'
-    c.answer.result before after c.in-Ok.ensures.run (c.answer.ensures.result _ _ c.in-Ok.ensures.run))
+pub returns-clause-salvage : goal.returns-clause-salvage
+returns-clause-salvage c within memory skips =
+    (promised (goal.at.returns-clause-salvage c).After-answer_of within memory).salvage
+    (c.expansion_options.ensures ∙ skips)
 
--- of the choices alone whether faults are skipped counts
-pub returns-in-Err-clause-runs : goal.returns-in-Err-clause-runs
-returns-in-Err-clause-runs c within memory choices same =
-    let before = rooms c.args.output.now c.args.messages.now in
-    let after = rooms c.args.output.now c.args.messages.now in
-    subst (λ skip. AnswersWithin c.args.max_output (result_of expanded_unit
-    (whole_compact skip (map seen (lines_of c.args.input.now)))) c.in-Err.answer before after)
-    (c.expansion_options.ensures ∙ sym same)
-    (answers-none (expanded c.args.input.now c.expansion_options.result) c.args.max_output c.in-Err.answer
-    before c.in-Err.ensures.none memory)
+pub returns-clause-damage : goal.returns-clause-damage
+returns-clause-damage c within memory skips =
+    (promised (goal.at.returns-clause-damage c).After-answer_of within memory).damage
+    (c.expansion_options.ensures ∙ skips)
 
-pub returns-in-Err-clause-way_back : goal.returns-in-Err-clause-way_back
-returns-in-Err-clause-way_back c within memory =
-    let before = rooms c.args.output.now c.args.messages.now in
-    let after = rooms c.args.output.now c.args.messages.now in
-    brings-back (λ (whole : FilterResult). AnswersWithin c.args.max_output whole c.in-Err.answer before after)
-    c.expansion_options.result c.args.input.now
-    (answers-none (expanded c.args.input.now c.expansion_options.result) c.args.max_output c.in-Err.answer
-    before c.in-Err.ensures.none memory)
-
-pub returns-in-Err-clause-salvage : goal.returns-in-Err-clause-salvage
-returns-in-Err-clause-salvage c within memory skips =
-    let before = rooms c.args.output.now c.args.messages.now in
-    let after = rooms c.args.output.now c.args.messages.now in
-    saves-all_else (λ (whole : FilterResult). AnswersWithin c.args.max_output whole c.in-Err.answer before
-    after)
-    c.expansion_options.result c.args.input.now (c.expansion_options.ensures ∙ skips)
-    (answers-none (expanded c.args.input.now c.expansion_options.result) c.args.max_output c.in-Err.answer
-    before c.in-Err.ensures.none memory)
-
-pub returns-in-Ok-clause-damage : goal.returns-in-Ok-clause-damage
-returns-in-Ok-clause-damage c within memory skips file compacting dated damage =
-    let before = rooms c.args.output.now c.args.messages.now in
-    let after = rooms c.answer.new.output c.answer.new.messages in (
-      expanded c.args.input.now c.expansion_options.result,
-      rest-kept file compacting c.expansion_options.result c.args.input.now dated
-          (c.expansion_options.ensures ∙ skips)
-          damage,
-      (answers-run (expanded c.args.input.now c.expansion_options.result) _ _ c.args.max_output c.in-Ok.run'
-          c.answer.result before after c.in-Ok.ensures.run (c.answer.ensures.result _ _ c.in-Ok.ensures.run)),
-    )
-
-pub returns-in-Ok-clause-whole_units : goal.returns-in-Ok-clause-whole_units
-returns-in-Ok-clause-whole_units c within memory file compacting dated whole =
-    let before = rooms c.args.output.now c.args.messages.now in
-    let after = rooms c.answer.new.output c.answer.new.messages in (
-      expanded c.args.input.now c.expansion_options.result,
-      whole-first file compacting c.expansion_options.result c.args.input.now dated whole,
-      (answers-run (expanded c.args.input.now c.expansion_options.result) _ _ c.args.max_output c.in-Ok.run'
-          c.answer.result before after c.in-Ok.ensures.run (c.answer.ensures.result _ _ c.in-Ok.ensures.run)),
-    )
-
-pub returns-in-Err-clause-damage : goal.returns-in-Err-clause-damage
-returns-in-Err-clause-damage c within memory skips file compacting dated damage =
-    let before = rooms c.args.output.now c.args.messages.now in (
-      expanded c.args.input.now c.expansion_options.result,
-      rest-kept file compacting c.expansion_options.result c.args.input.now dated
-          (c.expansion_options.ensures ∙ skips)
-          damage,
-      (answers-none (expanded c.args.input.now c.expansion_options.result) c.args.max_output c.in-Err.answer
-          before c.in-Err.ensures.none memory),
-    )
-
-pub returns-in-Err-clause-whole_units : goal.returns-in-Err-clause-whole_units
-returns-in-Err-clause-whole_units c within memory file compacting dated whole =
-    let before = rooms c.args.output.now c.args.messages.now in (
-      expanded c.args.input.now c.expansion_options.result,
-      whole-first file compacting c.expansion_options.result c.args.input.now dated whole,
-      (answers-none (expanded c.args.input.now c.expansion_options.result) c.args.max_output c.in-Err.answer
-          before c.in-Err.ensures.none memory),
-    )
-
-pub returns-in-Err-clause-lossless : goal.returns-in-Err-clause-lossless
-returns-in-Err-clause-lossless c within memory =
-    let before = rooms c.args.output.now c.args.messages.now in
-    brings-back_passed (λ (whole : FilterResult). AnswersWithin c.args.max_output whole c.in-Err.answer before
-    before)
-    c.expansion_options.result c.args.input.now
-    (answers-none (expanded c.args.input.now c.expansion_options.result) c.args.max_output c.in-Err.answer
-    before c.in-Err.ensures.none memory)
+pub returns-clause-whole_units : goal.returns-clause-whole_units
+returns-clause-whole_units c within memory =
+    (promised (goal.at.returns-clause-whole_units c).After-answer_of within memory).whole_units

@@ -84,10 +84,10 @@ bytes-preserved g c =
             c.in_ok-count.ensures.piece)
             (omega (arith, more, length-take-le count left c.in_ok-count.ensures.count.0)) low,
       ),
-      c.take_to_line_end.ensures.filter ∙ i.1,
+      c.take_to_line_end.ensures.same.0 ∙ i.1,
       c.in_ok-count.ensures.ready.0,
       c.in_ok-count.ensures.ready.1,
-      c.take_to_line_end.ensures.limit ∙ i.4,
+      c.take_to_line_end.ensures.same.1 ∙ i.4,
     )
 
 pub returns-in_err-count-clause-breaks : goal.returns-in_err-count-clause-breaks

@@ -14,40 +14,23 @@ counted-requires-clause-output g c =
     let taken = c.give_line-taken in
     let mid : Held = record c.args.held.now { output = taken.new.output; messages = taken.new.messages } in
     let kept = c.args.held.now.tail.bytes.items in
-    let all = c.as_slice.ensures ∙ sym (take_all LINE_ROOM kept c.args.held.now.tail.within) in
+    let step = taken.ensures.step c.requires.shown.0 kept c.requires.shown.1
+    (c.as_slice.ensures ∙ sym (take_all LINE_ROOM kept c.args.held.now.tail.within)) in
     subst (λ (n : ℕ). n ≤ length (waiting mid.output)) (sym c.mark-mark.ensures.output)
-    (more-output-either _ _ _ _ _ c.args.held.now mid taken.result
-    (taken.ensures.done c.requires.shown.0 kept c.requires.shown.1 all)
-    (taken.ensures.stops c.requires.shown.0 kept c.requires.shown.1 all))
+    (more-output-either _ _ _ _ _ c.args.held.now mid taken.result step.0 step.1)
 
 pub counted-requires-clause-messages : goal.counted-requires-clause-messages
 counted-requires-clause-messages g c =
     let taken = c.give_line-taken in
     let mid : Held = record c.args.held.now { output = taken.new.output; messages = taken.new.messages } in
     let kept = c.args.held.now.tail.bytes.items in
-    let all = c.as_slice.ensures ∙ sym (take_all LINE_ROOM kept c.args.held.now.tail.within) in
+    let step = taken.ensures.step c.requires.shown.0 kept c.requires.shown.1
+    (c.as_slice.ensures ∙ sym (take_all LINE_ROOM kept c.args.held.now.tail.within)) in
     subst (λ (n : ℕ). n ≤ length (waiting mid.messages)) (sym c.mark-mark.ensures.messages)
-    (more-messages-either _ _ _ _ _ c.args.held.now mid taken.result
-    (taken.ensures.done c.requires.shown.0 kept c.requires.shown.1 all)
-    (taken.ensures.stops c.requires.shown.0 kept c.requires.shown.1 all))
+    (more-messages-either _ _ _ _ _ c.args.held.now mid taken.result step.0 step.1)
 
-pub returns-clause-done : goal.returns-clause-done
-returns-clause-done g c = λ (lines : List InputLine) (whole : List ℕ) shown kept.
-    let taken = c.give_line-taken in
-    let mid : Held = record c.args.held.now {
-      tail = c.clear.new.self;
-      number = c.args.held.now.number + 1;
-      output = taken.new.output;
-      messages = taken.new.messages;
-    } in
-    on_ok_weaker c.counted.result
-    (λ counted. step-stays 0 None _ _ _ c.args.held.now mid c.counted.new.held c.mark-mark.result
-    c.mark-mark.ensures.output c.mark-mark.ensures.messages refl refl refl taken.result
-    (taken.ensures.done lines whole shown (c.as_slice.ensures ∙ kept)) counted)
-    c.counted.ensures.good
-
-pub returns-clause-stops : goal.returns-clause-stops
-returns-clause-stops g c = λ (lines : List InputLine) (whole : List ℕ) shown kept.
+pub returns-clause-step : goal.returns-clause-step
+returns-clause-step g c = λ (lines : List InputLine) (whole : List ℕ) shown kept.
     let taken = c.give_line-taken in
     let mid : Held = record c.args.held.now {
       tail = c.clear.new.self;
@@ -57,11 +40,15 @@ returns-clause-stops g c = λ (lines : List InputLine) (whole : List ℕ) shown 
     } in
     let number : c.args.held.now.number ≡ length lines =
     c.requires.next ∙ g.met.E.Engine.counted c.args.engine.now lines [] shown in
-    IfErr-weaker c.counted.result _ _
-    (λ stop s. step-stops _ _ _ _ _ c.args.held.now mid c.counted.new.held c.mark-mark.result
-    c.mark-mark.ensures.output c.mark-mark.ensures.messages refl refl taken.result
-    (taken.ensures.done lines whole shown (c.as_slice.ensures ∙ kept))
-    (taken.ensures.stops lines whole shown (c.as_slice.ensures ∙ kept)) stop s)
-    (subst (λ (n : ℕ). IfErr c.counted.result (StopsCounted taken.result c.mark-mark.result n mid
-    c.counted.new.held))
-    (ap (λ n. n + 1) number) c.counted.ensures.stops)
+    let step = taken.ensures.step lines whole shown (c.as_slice.ensures ∙ kept) in (
+      on_ok_weaker c.counted.result
+          (λ counted. step-stays 0 None _ _ _ c.args.held.now mid c.counted.new.held c.mark-mark.result
+          c.mark-mark.ensures.output c.mark-mark.ensures.messages refl refl refl taken.result step.0 counted)
+          c.counted.ensures.good,
+      IfErr-weaker c.counted.result _ _
+          (λ stop s. step-stops _ _ _ _ _ c.args.held.now mid c.counted.new.held c.mark-mark.result
+          c.mark-mark.ensures.output c.mark-mark.ensures.messages refl refl taken.result step.0 step.1 stop s)
+          (subst (λ (n : ℕ). IfErr c.counted.result (StopsCounted taken.result c.mark-mark.result n mid
+          c.counted.new.held))
+          (ap (λ n. n + 1) number) c.counted.ensures.stops),
+    )

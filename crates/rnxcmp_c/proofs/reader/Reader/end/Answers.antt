@@ -6,12 +6,13 @@ use Rattle.rnxcmp_c.proofs.reader.Reader.end.Goals as goal
 
 pub returns-in-Ok : goal.returns-in-Ok
 returns-in-Ok c = λ (task : Task) (past : HandlePast) is.
-    inr (inr (all-over task c.args.self.now.engine c.end_engine.new.engine is.is_of
-    (c.end_engine.ensures.of task is.is_of) _ _ past (c.end_engine.ensures.limit ∙ is.limit) refl
-    c.status_at_end.ensures (c.in-Ok.ensures.done past is.going) (c.in-Ok.ensures.ended past is.going)))
+    let ends = c.in-Ok.ensures.ends past is.going in
+    inr (inr (all-over c.args.self.now.engine _ _ past refl task c.end_engine.new.engine is.is_of
+    (c.end_engine.ensures.of task is.is_of) (c.end_engine.ensures.limit ∙ is.limit) c.status_at_end.ensures
+    ends.0.1 ends.0.0))
 
 pub returns-in-Err : goal.returns-in-Err
 returns-in-Err c = λ (task : Task) (past : HandlePast) is.
     stops-at_end task c.args.self.now.engine is.is_of _ c.end_engine.new.held
     (c.in-Err.ensures.limit ∙ is.limit)
-    c.outcome_of.result past c.in-Err.stop (c.in-Err.ensures.fails past is.going) c.outcome_of.ensures
+    c.outcome_of.result past c.in-Err.stop (c.in-Err.ensures.ends past is.going).1 c.outcome_of.ensures

@@ -1,10 +1,20 @@
-use Rattle.std.proofs.Common.{List, ℕ, length, take, sym, ap, ◌∙◌, ◌++◌}
+use Rattle.std.proofs.Common.{List, ℕ, length, take, rules, sym, ap, ◌∙◌, ◌++◌}
 use Rattle.std.proofs.lemmas.List.{take-append-drop}
 use Rattle.rnxcmp_c.specs.Past.{HandlePast}
 use Rattle.rnxcmp_c.specs.meaning.Handles.{Task}
 use Rattle.rnxcmp_c.specs.Waiting.{waiting}
 use Rattle.rnxcmp_c.proofs.TakenLemmas.{taken-stands}
 use Rattle.rnxcmp_c.proofs.reader.Reader.hand_out.Goals as goal
+
+pub returns-clause-taken : goal.returns-clause-taken
+returns-clause-taken c = record {
+  output = c.hand_out.ensures.room;
+  messages = c.hand_out-2.ensures.room;
+  output_left = c.hand_out.ensures.left;
+  messages_left = c.hand_out-2.ensures.left;
+  same = search rules;
+  answered = search rules;
+}
 
 pub returns-clause-stands : goal.returns-clause-stands
 returns-clause-stands c = λ (task : Task) (past : HandlePast) stands.

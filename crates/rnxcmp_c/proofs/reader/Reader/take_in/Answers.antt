@@ -1,21 +1,51 @@
-use Rattle.std.proofs.Common.{sym, ◌∙◌}
+use Rattle.std.proofs.Common.{◌-◌, refl, sym, ap, ◌∙◌, arith, length, length-take}
+use Rattle.crx_base.specs.declared.limits.TheConstants.{INPUT_LIMIT}
 use Rattle.rnxcmp_c.specs.Past.{HandlePast}
 use Rattle.rnxcmp_c.specs.meaning.Handles.{Task}
-use Rattle.rnxcmp_c.proofs.FedLemmas.{fed-by, misused-by}
+use Rattle.rnxcmp_c.proofs.FedLemmas.{fed-by, fed-bytes, passed-bytes, runs-where_none}
 use Rattle.rnxcmp_c.proofs.reader.Reader.take_in.Goals as goal
 
-pub returns-then-is_some : goal.returns-then-is_some
-returns-then-is_some c = λ (task : Task) (past : HandlePast) stands.
-    misused-by task c.args.self.now past c.args.bytes.now c.misused.result c.misused.ensures
-    c.args.self.now.outcome
-    (sym c.is_some.ensures ∙ c.if-is_some.true)
+pub feed-used-requires-clause-running : goal.feed-used-requires-clause-running
+feed-used-requires-clause-running c =
+    let old = c.args.self.now in
+    let runs = runs-where_none c.requires.0 old c.requires.1 old.outcome
+    (sym c.is_some.ensures ∙ c.if-is_some.false) c.requires.2 in (
+      c.requires.0,
+      c.requires.1,
+      runs,
+      omega (
+        arith,
+        runs.counted,
+        runs.within,
+        ap length c.allowed-allowed.ensures,
+        length-take (INPUT_LIMIT - old.fed) c.args.bytes.now,
+      ),
+    )
+
+pub returns-then-is_past : goal.returns-then-is_past
+returns-then-is_past c = λ (task : Task) (past : HandlePast) stands.
+    let old = c.args.self.now in
+    let none = sym c.is_some.ensures ∙ c.if-is_some.false in
+    let runs = runs-where_none task old past old.outcome none stands in
+    let full = c.is_past.ensures.past c.if-is_past.true in
+    fed-by task old _ past c.args.bytes.now 0 _ old.outcome none
+    (passed-bytes task old _ past c.args.bytes.now c.allowed-allowed.result.now 0 _ c.allowed-allowed.ensures
+    c.answer.ensures runs full.1 full.0 refl (c.pass_limit.ensures task past runs (omega (
+      arith,
+      runs.counted,
+      runs.within,
+      full.0,
+      full.1,
+      ap length c.allowed-allowed.ensures,
+      length-take (INPUT_LIMIT - old.fed) c.args.bytes.now,
+    ))))
 
 pub returns : goal.returns
 returns c = λ (task : Task) (past : HandlePast) stands.
-    let made = c.take_allowed-used.ensures in
-    fed-by task c.args.self.now c.take_allowed-used.new.self past c.args.bytes.now c.allowed-first.result.now
-    c.take_allowed-used.result c.answer-answer.result c.allowed-first.ensures c.answer-answer.ensures
-    c.args.self.now.outcome (sym c.is_some.ensures ∙ c.if-is_some.false) stands
-    (λ runs none some. made.over none some task past runs)
-    (λ runs some. made.fed some task past runs) made.count
-    (λ runs some. made.soon some task past runs)
+    let old = c.args.self.now in
+    let none = sym c.is_some.ensures ∙ c.if-is_some.false in
+    let runs = runs-where_none task old past old.outcome none stands in
+    fed-by task old _ past c.args.bytes.now c.feed-used.result _ old.outcome none
+    (fed-bytes task old _ past c.args.bytes.now c.allowed-allowed.result.now c.feed-used.result _
+    c.allowed-allowed.ensures c.answer-2.ensures runs (c.is_past.ensures.within c.if-is_past.false)
+    (c.feed-used.ensures.fed task past runs) c.feed-used.ensures.count (c.feed-used.ensures.soon task past runs))
