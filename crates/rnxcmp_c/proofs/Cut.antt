@@ -1,18 +1,11 @@
 -- What ended a run at a line, by what is kept.
-use Rattle.std.proofs.Common.{◌≡◌, inl, inr, ℕ, Bool, true, List, [], ◌∷◌, ◌++◌, take, drop, Option, Some, None}
-use Rattle.std.proofs.Common.{refl, sym, ap, ◌∙◌, append-nil, append_assoc, arith, length, length-append}
-use Rattle.std.proofs.lemmas.List.{append_cancel_left, take-append-drop}
-use Rattle.crx_base.specs.declared.fault.At.{At}
+use Rattle.rnxcmp_c.proofs.Words.{◌≡◌, inl, inr, ℕ, Bool, true, List, [], ◌∷◌, ◌++◌, take, drop, Option, Some}
+use Rattle.rnxcmp_c.proofs.Words.{None, refl, sym, ap, ◌∙◌, append-nil, append_assoc, arith, length}
+use Rattle.rnxcmp_c.proofs.Words.{length-append, take-append-drop, At, notices_text, Begins, Course, Halt}
+use Rattle.rnxcmp_c.proofs.Words.{Unwritten, Unreported, AreNext, Device, waiting, Pending, IsKept, StopsBy}
 use Rattle.crx_lines.specs.meaning.Devices.{SinkTally}
-use Rattle.crx_runs.specs.meaning.Messages.{notices_text}
-use Rattle.crx_runs.specs.meaning.Results.{Begins, Course}
-use Rattle.crx_runs.specs.declared.taking.Halt.{Halt}
-use Rattle.crx_runs.specs.declared.taking.Halt.TheVariants.{Fault, Unwritten, Unreported}
-use Rattle.crx_runs.specs.meaning.Spans.{AreNext, Device}
+use Rattle.crx_runs.specs.declared.taking.Halt.TheVariants.{Fault}
 use Rattle.crx_runs.specs.Taking.{IsCut, IsDone, IsHalted}
-use Rattle.rnxcmp_c.specs.Waiting.{waiting}
-use Rattle.rnxcmp_c.specs.declared.pending.Pending.{Pending}
-use Rattle.rnxcmp_c.specs.Going.{IsKept, StopsBy}
 use Rattle.rnxcmp_c.proofs.GoingLemmas.{notices-both}
 
 none-not-some : {notices : List At} → ◌≡◌ {A = Option (List At)} None (Some notices) → ⊥

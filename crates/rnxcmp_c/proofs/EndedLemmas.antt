@@ -1,21 +1,12 @@
 -- What the result of a run brings back, saves and judges follows from what it is, by the laws.
-use Rattle.std.proofs.Common.{◌≡◌, ◌⊎◌, inl, inr, ⊎_elim, ℕ, List, true, ap, sym, ◌∙◌, subst}
-use Rattle.crx_base.specs.meaning.Faults.{code_of_fault}
-use Rattle.crx_base.specs.declared.fault.Fault.TheVariants.{InputTooLong}
-use Rattle.crx_base.specs.meaning.Choices.{Choices}
-use Rattle.crx_filter.specs.meaning.Expanded.{expanded}
-use Rattle.crx_filter.specs.meaning.Standard.{checked}
-use Rattle.crx_filter.proofs.standard.Lossless.{what-passes}
+use Rattle.rnxcmp_c.proofs.Words.{◌≡◌, ◌⊎◌, inl, inr, ⊎_elim, ℕ, List, true, ap, sym, ◌∙◌, subst}
+use Rattle.rnxcmp_c.proofs.Words.{code_of_fault, InputTooLong, Choices, expanded, checked, what-passes}
+use Rattle.rnxcmp_c.proofs.Words.{FilterResult, Answer, OUTPUT_LIMIT, BothTexts, HasNoMemory, fault_code_in}
+use Rattle.rnxcmp_c.proofs.Words.{LacksLastMessage, RunHasEnded, RunHasResult, StopsAtLimit, StopsForMemory}
+use Rattle.rnxcmp_c.proofs.Words.{StopsWhenFull, Task, run_for, CallBringsBackWhatPasses}
+use Rattle.rnxcmp_c.proofs.Words.{CallBringsBackWhatWasCompacted, CallSavesAllElse}
 use Rattle.crx_filter.proofs.stretches.StretchesSaved.{rest-kept, whole-first}
-use Rattle.crx_runs.specs.meaning.Results.{FilterResult}
-use Rattle.rnxcmp_c.specs.declared.answer.Answer.{Answer}
-use Rattle.rnxcmp_c.specs.declared.answer.TheConstants.{OUTPUT_LIMIT}
-use Rattle.rnxcmp_c.specs.meaning.Answers.{BothTexts, HasNoMemory, fault_code_in}
-use Rattle.rnxcmp_c.specs.meaning.Handles.{LacksLastMessage, RunHasEnded, RunHasResult, StopsAtLimit}
-use Rattle.rnxcmp_c.specs.meaning.Handles.{StopsForMemory, StopsWhenFull, Task, run_for}
 use Rattle.rnxcmp_c.specs.meaning.Ended.{CheckPromises, ExpansionPromises}
-use Rattle.rnxcmp_c.specs.meaning.Lossless.{CallBringsBackWhatPasses}
-use Rattle.rnxcmp_c.specs.meaning.Promises.{CallBringsBackWhatWasCompacted, CallSavesAllElse}
 use Rattle.rnxcmp_c.specs.meaning.Stretches.{CallKeepsUndamaged, CallWritesWholeUnits}
 use Rattle.rnxcmp_c.proofs.Kept.{brings-back, judges-status, saves-all_else}
 use Rattle.rnxcmp_c.proofs.Lossless.{brings-back_passed}

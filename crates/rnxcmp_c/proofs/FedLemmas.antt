@@ -1,19 +1,10 @@
 -- What became of a run by some bytes, of which it may have as many as an input may have.
-use Rattle.std.proofs.Common.{◌≡◌, ⊎_elim, ℕ, ◌-◌, ◌<◌, ◌≤◌, true, false, List, length, take, Option, Some}
-use Rattle.std.proofs.Common.{None, is_some}
-use Rattle.std.proofs.Common.{refl, sym, ap, ◌∙◌, subst, arith, length-take}
+use Rattle.rnxcmp_c.proofs.Words.{◌≡◌, ℕ, ◌-◌, ◌<◌, false, List, length, take, Option, Some, None, is_some}
+use Rattle.rnxcmp_c.proofs.Words.{ap, ◌∙◌, subst, arith, length-take, INPUT_LIMIT, Outcome, FeedsBy}
+use Rattle.rnxcmp_c.proofs.Words.{FeedsBytes, HasFed, ReaderRuns, StandsBy, answer_now, HandlePast, fed_with}
+use Rattle.rnxcmp_c.proofs.Words.{Task, StopsSoon, allowed_after, filter_for, Answer, Reader}
 use Rattle.std.proofs.lemmas.List.{take-take}
-use Rattle.crx_base.specs.declared.limits.TheConstants.{INPUT_LIMIT}
-use Rattle.crx_runs.specs.declared.outcome.Outcome.{Outcome}
-use Rattle.rnxcmp_c.specs.Handles.{FeedsBy, FeedsBytes, HasFed, IsFed, ReaderHasPassed, ReaderRuns, StandsBy}
-use Rattle.rnxcmp_c.specs.Handles.{answer_now}
-use Rattle.rnxcmp_c.specs.Past.{HandlePast, fed_with}
-use Rattle.rnxcmp_c.specs.meaning.Handles.{Task}
-use Rattle.rnxcmp_c.specs.Past.{StopsSoon, allowed_after, filter_for}
-use Rattle.rnxcmp_c.specs.meaning.Answers.{bare_answer}
-use Rattle.rnxcmp_c.specs.declared.answer.Answer.{Answer}
-use Rattle.rnxcmp_c.specs.declared.answer.TheConstants.{MISUSED}
-use Rattle.rnxcmp_c.specs.declared.reader.Reader.{Reader}
+use Rattle.rnxcmp_c.specs.Handles.{IsFed, ReaderHasPassed}
 
 module _ (task : Task) (old new : Reader) (past : HandlePast) (bytes allowed : List ℕ) (used : ℕ)
     (answer : Answer) (first : allowed ≡ take (INPUT_LIMIT - old.fed) bytes) (answers : answer ≡ answer_now new)

@@ -1,35 +1,23 @@
 -- A run goes on by the bytes that are fed.
-use Rattle.std.proofs.Common.{◌≡◌, ◌≢◌, ◌⊎◌, inl, inr, ℕ, ◌+◌, ◌-◌, ◌<◌, ◌≤◌, true, false, ◌||◌, List, []}
-use Rattle.std.proofs.Common.{◌∷◌, ◌++◌, ⊎_elim}
-use Rattle.std.proofs.Common.{length, take, drop, slice_index, None, refl, sym, ap, ◌∙◌, subst, arith}
-use Rattle.std.proofs.Common.{append-nil}
-use Rattle.std.proofs.Common.{Option, append_assoc, is_some, length-append, length-take}
-use Rattle.std.proofs.Math.Seq.{take-append-add}
-use Rattle.std.proofs.lemmas.List.{drop_more, get_or-take, take-append-drop, take-append-le}
+use Rattle.rnxcmp_c.proofs.Words.{◌≡◌, ◌⊎◌, inl, inr, ℕ, ◌+◌, ◌-◌, ◌<◌, ◌≤◌, true, false, ◌||◌, List, [], ◌∷◌}
+use Rattle.rnxcmp_c.proofs.Words.{◌++◌, ⊎_elim, length, take, drop, None, refl, sym, ap, ◌∙◌, subst, arith}
+use Rattle.rnxcmp_c.proofs.Words.{append-nil, Option, append_assoc, is_some, length-append, length-take}
+use Rattle.rnxcmp_c.proofs.Words.{take-append-add, take-append-drop, take-append-le, InputLine, lines_of}
+use Rattle.rnxcmp_c.proofs.Words.{ended_lines_of, HasNoFeed, At, IsLawful, Filter, with_next, notices_text}
+use Rattle.rnxcmp_c.proofs.Words.{Begins, Course, are_some, Held, waiting, IsText, IsGoing, MovesOn}
+use Rattle.rnxcmp_c.proofs.Words.{EndsThere, HandlePast, fed_with, StopsSoon, with_one_more, piece_line}
+use Rattle.rnxcmp_c.proofs.Words.{IsAll, IsCutBy, LineFails, RanOutAt, RunsShort, StopsShort, EndsPastLimit}
+use Rattle.rnxcmp_c.proofs.Words.{IsPastLimit, MovesWithin, PassesLimit, RunBreaks, RunFails, StepStops}
+use Rattle.rnxcmp_c.proofs.Words.{IsMemoryLacking, ready_in, LINE_ROOM, READY_LIMIT, Stop, Fault, Limit}
+use Rattle.std.proofs.Common.{◌≢◌, slice_index}
+use Rattle.std.proofs.lemmas.List.{drop_more, get_or-take}
 use Rattle.std.proofs.lemmas.List.Elements.{All-append, All-from_get_or}
-use Rattle.crx_base.specs.meaning.Lines.{InputLine, lines_of}
-use Rattle.crx_base.specs.meaning.Seen.{ended_lines_of}
-use Rattle.crx_lines.specs.Reading.{HasNoFeed}
-use Rattle.crx_base.specs.declared.fault.At.{At}
 use Rattle.crx_lines.proofs.ProgressLemmas.{lines-first, lines-last, ended_lines-first, ended_lines-none}
 use Rattle.crx_runs.specs.Engines.{Awaited}
-use Rattle.crx_runs.specs.Lawful.{IsLawful}
-use Rattle.crx_runs.specs.meaning.Filters.{Filter, with_next}
-use Rattle.crx_runs.specs.meaning.Messages.{notices_text, warning_text}
-use Rattle.crx_runs.specs.meaning.Results.{Begins, Course, are_some}
-use Rattle.rnxcmp_c.specs.declared.held.Held.{Held}
-use Rattle.rnxcmp_c.specs.Waiting.{waiting}
+use Rattle.crx_runs.specs.meaning.Messages.{warning_text}
 use Rattle.rnxcmp_c.specs.Counting.{take-of_taken}
-use Rattle.rnxcmp_c.specs.Going.{IsText, IsGoing, IsBroken, MovesOn, EndsThere}
-use Rattle.rnxcmp_c.specs.Past.{HandlePast, fed_with, StopsSoon}
-use Rattle.rnxcmp_c.specs.meaning.Handles.{with_one_more}
-use Rattle.rnxcmp_c.specs.Going.{piece_line, IsAll, IsCutBy, IsFailed, LineFails, RanOutAt, RunsShort}
-use Rattle.rnxcmp_c.specs.Going.{StopsShort, AddsWithin, EndsPastLimit, IsKeptWithin, IsPastLimit}
-use Rattle.rnxcmp_c.specs.Going.{MovesWithin, PassesLimit, RunBreaks, RunFails, StepStops}
-use Rattle.rnxcmp_c.specs.Holding.{AreUnfailed, IsMemoryLacking, ready_in}
-use Rattle.rnxcmp_c.specs.declared.limits.TheConstants.{LINE_ROOM, READY_LIMIT}
-use Rattle.rnxcmp_c.specs.declared.stop.Stop.{Stop}
-use Rattle.rnxcmp_c.specs.declared.stop.Stop.TheVariants.{Fault, Limit}
+use Rattle.rnxcmp_c.specs.Going.{IsBroken, IsFailed, AddsWithin, IsKeptWithin}
+use Rattle.rnxcmp_c.specs.Holding.{AreUnfailed}
 use Rattle.rnxcmp_c.proofs.PieceLemmas.{none-where_none}
 
 -- lines that were ended are no more, where the bytes that follow have no LF

@@ -1,33 +1,18 @@
 -- A handle stays sound from call to call.
-use Rattle.std.proofs.Common.{◌≡◌, inl, inr, ℕ, ◌<◌, ◌≤◌, List, [], ◌∷◌, length, Option, Some, None, is_some}
-use Rattle.std.proofs.Common.{true, false}
-use Rattle.std.proofs.Common.{take}
-use Rattle.std.proofs.Common.{◌++◌, arith, refl, sym, ap, ◌∙◌, subst, append-nil, length-append, ⊎_elim}
-use Rattle.crx_base.specs.meaning.Lines.{lines_of}
-use Rattle.crx_base.specs.meaning.Seen.{ended_lines_of}
-use Rattle.crx_lines.proofs.ProgressLemmas.{ended_lines-come_first}
-use Rattle.crx_runs.specs.Lawful.{IsLawful}
-use Rattle.crx_runs.specs.meaning.Messages.{notices_text}
-use Rattle.crx_runs.specs.meaning.Results.{Course, FilterResult, are_some}
-use Rattle.crx_runs.specs.declared.outcome.Outcome.{Outcome}
-use Rattle.rnxcmp_c.specs.Handles.{IsFresh, ReaderRuns, ReaderEndsBy, FeedsBy, HasEndedBy, HasFedBy}
-use Rattle.rnxcmp_c.specs.Handles.{HasPassedBy, ReaderIsOver, ReaderStands, RunIsOverLimit, ReaderHasEnded}
-use Rattle.rnxcmp_c.specs.Handles.{answer_now}
+use Rattle.rnxcmp_c.proofs.Words.{◌≡◌, inl, inr, ℕ, ◌<◌, ◌≤◌, List, [], ◌∷◌, length, Option, Some, None}
+use Rattle.rnxcmp_c.proofs.Words.{is_some, true, false, take, ◌++◌, arith, refl, sym, ap, ◌∙◌, subst}
+use Rattle.rnxcmp_c.proofs.Words.{append-nil, length-append, ⊎_elim, lines_of, ended_lines_of}
+use Rattle.rnxcmp_c.proofs.Words.{ended_lines-come_first, IsLawful, notices_text, Course, are_some, Outcome}
+use Rattle.rnxcmp_c.proofs.Words.{ReaderRuns, FeedsBy, HasEndedBy, HasFedBy, HasPassedBy, ReaderIsOver}
+use Rattle.rnxcmp_c.proofs.Words.{ReaderStands, RunIsOverLimit, ReaderHasEnded, answer_now, StandsBy}
+use Rattle.rnxcmp_c.proofs.Words.{RunIsOutOfMemory, HandlePast, fed_with, limit_for, nothing_fed, result_for}
+use Rattle.rnxcmp_c.proofs.Words.{Task, allowed_after, IsLineEnded, bare_answer, Answer, AnyEngine, Held}
+use Rattle.rnxcmp_c.proofs.Words.{Reader}
+use Rattle.rnxcmp_c.specs.Handles.{IsFresh, ReaderEndsBy}
 use Rattle.rnxcmp_c.specs.Holding.{HoldsNothing}
 use Rattle.rnxcmp_c.proofs.PieceLemmas.{none-or}
-use Rattle.rnxcmp_c.specs.Handles.{IsLineReached, StandsBy, RunIsOutOfMemory}
-use Rattle.rnxcmp_c.specs.Past.{HandlePast, fed_with, limit_for, nothing_fed, result_for}
-use Rattle.rnxcmp_c.specs.meaning.Handles.{Task}
-use Rattle.rnxcmp_c.specs.Past.{allowed_after, filter_for}
-use Rattle.rnxcmp_c.specs.Going.{IsLineEnded}
-use Rattle.crx_runs.specs.meaning.Filters.{Filter}
-use Rattle.rnxcmp_c.specs.meaning.Answers.{bare_answer, line_in}
-use Rattle.rnxcmp_c.specs.declared.answer.Answer.{Answer}
 use Rattle.rnxcmp_c.specs.declared.answer.TheConstants.{MISUSED}
-use Rattle.rnxcmp_c.specs.declared.engines.AnyEngine.{AnyEngine}
-use Rattle.rnxcmp_c.specs.declared.held.Held.{Held}
 use Rattle.rnxcmp_c.proofs.ReaderLemmas.{filter-is, lawful-for}
-use Rattle.rnxcmp_c.specs.declared.reader.Reader.{Reader}
 
 first_or : Reader → List Reader → Reader
 first_or other [] = other
@@ -47,19 +32,13 @@ ended-within fed =
     omega (arith, ap length all, length-append (ended_lines_of fed) (lines_of (first.0 ++ [])))
 
 -- memory ran out at a line of more kinds
-line-weaker : (filter : Filter) (limit : ℕ) (P Q : ℕ → Type 0) (input : List ℕ) (result : FilterResult)
-    (reader : Reader) (outcome : Outcome) (past : HandlePast)
-    → ((n : ℕ) → P n → Q n) → RunIsOutOfMemory filter limit P input result reader outcome past
-    → RunIsOutOfMemory filter limit Q input result reader outcome past
-line-weaker filter limit P Q input result reader outcome past weaker ran = record {
+line-weaker : {task : Task} {P Q : ℕ → Type 0} {input : List ℕ} {reader : Reader} {outcome : Outcome}
+    {past : HandlePast} → ((n : ℕ) → P n → Q n) → RunIsOutOfMemory task P input reader outcome past
+    → RunIsOutOfMemory task Q input reader outcome past
+line-weaker weaker ran = record {
   memory = ran.memory;
   status = ran.status;
-  made = ⊎_elim (λ by. inl (record {
-    at = weaker
-        (line_in outcome.fault) by.at;
-    made = by.made;
-    lacking = by.lacking;
-  }))
+  made = ⊎_elim (λ by. inl (record { at = weaker _ by.at; made = by.made; lacking = by.lacking }))
       (λ hidden. inr hidden) ran.made;
   within = ran.within;
 }
@@ -69,30 +48,21 @@ fed-stands : (before : List ℕ) (task : Task) (reader : Reader) (past : HandleP
     → HasFedBy before task reader past outcome → StandsBy task reader past outcome
 fed-stands before task reader past None fed = fed
 fed-stands before task reader past (Some outcome) (inl memory) =
-    inl (line-weaker (filter_for task) (limit_for task) _ (IsLineReached past.fed) past.fed
-    (result_for task past.fed)
-    reader outcome past
-    (λ n at. omega (arith, at.1, ended-within past.fed))
-    (subst (λ (bytes : List ℕ). RunIsOutOfMemory (filter_for task) (limit_for task)
-    (IsLineEnded before past.fed) bytes
-    (result_for task bytes) reader outcome past)
+    inl (line-weaker (λ n at. omega (arith, at.1, ended-within past.fed))
+    (subst (λ (bytes : List ℕ). RunIsOutOfMemory task (IsLineEnded before past.fed) bytes reader outcome past)
     (append-nil past.fed) (memory [])))
 fed-stands before task reader past (Some outcome) (inr (inl limit)) =
-    inr (inl (subst (λ (bytes : List ℕ). RunIsOverLimit (filter_for task) (limit_for task) bytes
-    (result_for task bytes) reader outcome past) (append-nil past.fed) (limit [])))
+    inr (inl (subst (λ (bytes : List ℕ). RunIsOverLimit task bytes reader outcome past) (append-nil past.fed)
+    (limit [])))
 fed-stands before task reader past (Some outcome) (inr (inr over)) =
-    inr (inr (inr (subst (λ (bytes : List ℕ). ReaderIsOver (limit_for task)
-    (result_for task bytes) reader outcome past)
-    (append-nil past.fed) (over.1 []))))
+    inr (inr (inr (subst (λ (bytes : List ℕ). ReaderIsOver (limit_for task) (result_for task bytes) reader outcome
+    past) (append-nil past.fed) (over.1 []))))
 
 ended-stands : (task : Task) (reader : Reader) (past : HandlePast) (outcome : Option Outcome)
     → HasEndedBy task reader past outcome → StandsBy task reader past outcome
 ended-stands task reader past None ended = absurd ended
 ended-stands task reader past (Some outcome) (inl memory) =
-    inl (line-weaker (filter_for task) (limit_for task) _ (IsLineReached past.fed) past.fed
-    (result_for task past.fed)
-    reader outcome past
-    (λ n last. omega (arith, last)) memory)
+    inl (line-weaker (λ n last. omega (arith, last)) memory)
 ended-stands task reader past (Some outcome) (inr (inl limit)) = inr (inl limit)
 ended-stands task reader past (Some outcome) (inr (inr over)) = inr (inr (inr over))
 

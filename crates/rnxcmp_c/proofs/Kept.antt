@@ -1,25 +1,18 @@
 -- What the answers of calls bring back, save and judge follows from what they are, by the laws.
-use Rattle.std.proofs.Common.{inl, inr, ℕ, ◌≡◌, ◌≤◌, List, length, Option, Some, None, refl, ap, sym, subst}
-use Rattle.std.proofs.Common.{◌∙◌, cond}
-use Rattle.std.specs.Prelude.{◌↔◌, true}
+use Rattle.rnxcmp_c.proofs.Words.{ℕ, ◌≡◌, ◌≤◌, List, length, Option, Some, None, refl, ap, sym, subst, ◌∙◌}
+use Rattle.rnxcmp_c.proofs.Words.{true, lines_of, Choices, compacted, expanded, FilterResult, Findings}
+use Rattle.rnxcmp_c.proofs.Words.{checked, checked_by, findings_of, report_status, BothTexts, IsAnswer}
+use Rattle.rnxcmp_c.proofs.Words.{status_in, CallBringsBackWhatWasCompacted, CallSavesAllElse, Answer}
+use Rattle.rnxcmp_c.proofs.Words.{NO_ROOM}
+use Rattle.std.proofs.Common.{cond}
+use Rattle.std.specs.Prelude.{◌↔◌}
 use Rattle.std.proofs.lemmas.Bool.{le-leb}
-use Rattle.crx_base.specs.meaning.Lines.{lines_of}
-use Rattle.crx_base.specs.meaning.Choices.{Choices}
-use Rattle.crx_filter.specs.meaning.Compacted.{compacted}
-use Rattle.crx_filter.specs.meaning.Expanded.{expanded}
 use Rattle.crx_filter.specs.meaning.WayBack.{HasNormalForm}
-use Rattle.crx_runs.specs.meaning.Results.{FilterResult}
-use Rattle.crx_filter.specs.meaning.Standard.{Findings, checked, checked_by, findings_of, report_status}
 use Rattle.crx_filter.proofs.standard.CheckStandard.{named-where_not}
 use Rattle.crx_filter.proofs.wayback.WayBack.{comes-back}
 use Rattle.crx_filter.proofs.wayback.Standard.{normal-comes_back, standard-comes_back}
 use Rattle.crx_filter.proofs.damage.DamageStays.{saved-lines}
-use Rattle.rnxcmp_c.specs.meaning.Answers.{BothTexts, IsAnswer}
-use Rattle.rnxcmp_c.specs.meaning.Answers.{status_in}
-use Rattle.rnxcmp_c.specs.meaning.Promises.{CallBringsBackWhatWasCompacted, CallJudgesStandard}
-use Rattle.rnxcmp_c.specs.meaning.Promises.{CallSavesAllElse}
-use Rattle.rnxcmp_c.specs.declared.answer.Answer.{Answer}
-use Rattle.rnxcmp_c.specs.declared.answer.TheConstants.{NO_ROOM}
+use Rattle.rnxcmp_c.specs.meaning.Promises.{CallJudgesStandard}
 
 -- ---- the way back
 

@@ -13,3 +13,4 @@ pub mod ReaderLemmas
 pub mod RunLemmas
 pub mod TakenLemmas
 pub mod WithinLemmas
+pub mod Words

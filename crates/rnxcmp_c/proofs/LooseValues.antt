@@ -1,23 +1,20 @@
 -- The machine values of a `Loose` and of a `OnceBox`. Assumes `Logic`.
-use Rattle.std.proofs.Common.{◌≡◌, ℕ, List, [], ◌∷◌, ◌++◌, refl, subst}
+use Rattle.rnxcmp_c.proofs.Words.{◌≡◌, ℕ, List, [], ◌∷◌, ◌++◌, refl, subst, Ura, Val, vstruct, vcons, vnil}
+use Rattle.rnxcmp_c.proofs.Words.{Logic, Item, Goal, Step, step, ‵, ◌$◌, fjoin, fpack, feq_i, Valss, RawPtr}
+use Rattle.rnxcmp_c.proofs.Words.{Ptr, ptr_val, nothing, within, shape}
 use mathlib.Core.Bool.{true, ◌&&◌}
 use lib.Dec.{T}
-use seplogic.Ra.Ura.{Ura}
 use mir.Syntax.{impl, tnil, dnil}
 use mir.Raw.{raw as bare}
-use mir.Val.{Val, vptr, vstruct, vcons, vnil, of_list, has_ty, WT}
+use mir.Val.{vptr, of_list, has_ty, WT}
 use base.Logic.{never, fst∗}
-use types.Logic.{Logic, sem}
-use types.Kit.{Item, Goal, Seq, Step, step, ‵, ◌$◌, move, drop, fsplit, fjoin, fpick, fpack, feq_i, feq_l}
-use denote.RattleType.{RattleType, Valss}
-use denote.Builtin.{RawPtr}
+use types.Logic.{sem}
+use types.Kit.{Seq, move, drop, fsplit, fpick, feq_l}
+use denote.RattleType.{RattleType}
 use denote.Memory.{lone}
-use denote.RawPtr.{Ptr, block_ptr, null_ptr, ptr_val, in_a_block}
-use denote.Steps.{nothing}
+use denote.RawPtr.{block_ptr, null_ptr, in_a_block}
 use denote.Param.{layout}
 use denote.Param.Laws.{Laws}
-use denote.Struct.Struct.{within}
-use denote.Struct.Owning.{shape}
 use Rattle.core.specs.declared.alloc.Allocator.{Ghosts}
 use Rattle.core.proofs.alloc.Calls.{Al, handle_tells}
 use Rattle.core.proofs.cell.Inside.{Good}

@@ -1,16 +1,9 @@
 -- What passes a check comes back, in the caller's memory, by the law.
-use Rattle.std.proofs.Common.{ℕ, ◌≡◌, List, length, ap, sym, subst, ◌∙◌, arith}
-use Rattle.std.specs.Prelude.{nat_le}
-use Rattle.crx_base.specs.meaning.Choices.{Choices}
-use Rattle.crx_filter.specs.meaning.Expanded.{expanded}
-use Rattle.crx_filter.specs.meaning.Standard.{checked}
+use Rattle.rnxcmp_c.proofs.Words.{ℕ, ◌≡◌, List, length, ap, sym, subst, ◌∙◌, arith, nat_le, Choices, expanded}
+use Rattle.rnxcmp_c.proofs.Words.{checked, FilterResult, what-passes, IsAnswer, BothTexts, status_in}
+use Rattle.rnxcmp_c.proofs.Words.{CallBringsBackWhatPasses, Answer}
 use Rattle.crx_filter.proofs.Choosing.{by_bool}
-use Rattle.crx_runs.specs.meaning.Results.{FilterResult}
 use Rattle.crx_filter.specs.meaning.Lossless.{SaysThatItComesBack}
-use Rattle.crx_filter.proofs.standard.Lossless.{what-passes}
-use Rattle.rnxcmp_c.specs.meaning.Answers.{IsAnswer, BothTexts, status_in}
-use Rattle.rnxcmp_c.specs.meaning.Lossless.{CallBringsBackWhatPasses}
-use Rattle.rnxcmp_c.specs.declared.answer.Answer.{Answer}
 
 pub brings-back_passed : (holds : FilterResult → Type 0) (expanding : Choices) (text : List ℕ)
     → holds (expanded text expanding) → CallBringsBackWhatPasses holds text

@@ -1,13 +1,10 @@
 -- What is kept of a line says of the whole line all that counts: whether it is too long, and else its bytes.
-use Rattle.std.proofs.Common.{◌≡◌, ◌⊎◌, inl, inr, ⊎_elim, ℕ, ◌<◌, ◌≤◌, Bool, true, false, nat_lt, List, []}
-use Rattle.std.proofs.Common.{◌++◌, length, take}
-use Rattle.std.proofs.Common.{refl, sym, ap, ◌∙◌, subst, arith, length-take}
+use Rattle.rnxcmp_c.proofs.Words.{◌≡◌, ◌⊎◌, inl, inr, ⊎_elim, ℕ, ◌<◌, ◌≤◌, Bool, true, false, List, []}
+use Rattle.rnxcmp_c.proofs.Words.{length, take, refl, sym, ap, ◌∙◌, subst, arith, length-take, take_all}
+use Rattle.rnxcmp_c.proofs.Words.{LINE_LIMIT, without_return, LINE_ROOM}
+use Rattle.std.proofs.Common.{nat_lt}
 use Rattle.std.proofs.lemmas.Bool.{ltb-true, ltb-false}
-use Rattle.std.proofs.lemmas.List.{take_all}
-use Rattle.crx_base.specs.declared.limits.TheConstants.{LINE_LIMIT}
-use Rattle.crx_base.specs.meaning.Lines.{without_return}
 use Rattle.crx_lines.proofs.ReturnLemmas.{length-without_return}
-use Rattle.rnxcmp_c.specs.declared.limits.TheConstants.{LINE_ROOM}
 
 either : (b : Bool) → (b ≡ true) ⊎ (b ≡ false)
 either true = inl refl

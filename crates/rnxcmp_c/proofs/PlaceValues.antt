@@ -1,17 +1,8 @@
 -- The machine value of a `Place`. Assumes `Logic`.
-use Rattle.std.proofs.Common.{List, [], ◌∷◌, refl}
-use seplogic.Ra.Ura.{Ura}
-use mir.Val.{Val, vstruct, vcons, vnil}
-use types.Logic.{Logic}
-use types.Kit.{Item, Goal, Step, step, ‵, ◌$◌, fjoin, fpack, feq_i}
-use denote.RattleType.{Valss}
-use denote.Builtin.{RawPtr}
-use denote.RawPtr.{Ptr, ptr_val}
-use denote.Steps.{nothing}
-use denote.Struct.Struct.{within}
-use denote.Struct.Owning.{shape}
+use Rattle.rnxcmp_c.proofs.Words.{List, [], ◌∷◌, refl, Ura, Val, vstruct, vcons, vnil, Logic, Item, Goal}
+use Rattle.rnxcmp_c.proofs.Words.{Step, step, ‵, ◌$◌, fjoin, fpack, feq_i, Valss, RawPtr, Ptr, ptr_val}
+use Rattle.rnxcmp_c.proofs.Words.{nothing, within, shape, Reader}
 use Rattle.rnxcmp_c.specs.Places.{place_owns}
-use Rattle.rnxcmp_c.specs.declared.reader.Reader.{Reader}
 use Rattle.rnxcmp_c.specs.contracts.place.Place as place
 
 abbrev pub word : Ptr → Val

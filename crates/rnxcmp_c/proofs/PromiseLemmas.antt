@@ -1,47 +1,34 @@
 -- What the state of a reader says of its run, in the words of the promise.
-use Rattle.std.proofs.Common.{◌≡◌, ◌⊎◌, inl, inr, ⊎_elim, ℕ, ◌-◌, ◌<◌, ◌≤◌, List, [], ◌∷◌, ◌++◌, length, map}
-use Rattle.std.proofs.Common.{reverse, take, drop, append_assoc, Option, Some, None, is_some, true, false}
-use Rattle.std.proofs.Common.{arith, refl, sym, ap, ◌∙◌, subst, append-nil, length-append}
+use Rattle.rnxcmp_c.proofs.Words.{◌≡◌, ◌⊎◌, inl, inr, ⊎_elim, ℕ, ◌-◌, ◌<◌, ◌≤◌, List, [], ◌∷◌, ◌++◌, length}
+use Rattle.rnxcmp_c.proofs.Words.{map, take, drop, append_assoc, Option, Some, None, is_some, true, false}
+use Rattle.rnxcmp_c.proofs.Words.{arith, refl, sym, ap, ◌∙◌, subst, append-nil, length-append, InputLine}
+use Rattle.rnxcmp_c.proofs.Words.{lines_of, ended_lines_of, seen, At, OutOfMemory, whole_compact, Filter}
+use Rattle.rnxcmp_c.proofs.Words.{with_next, error_text, notices_text, Begins, Course, FilterResult}
+use Rattle.rnxcmp_c.proofs.Words.{result_of_course, AreNext, Outcome, IsGoing, IsLineEnded, IsLastLine}
+use Rattle.rnxcmp_c.proofs.Words.{IsLineReached, ReaderIsOver, ReaderRuns, ReaderStands, RunIsOutOfMemory}
+use Rattle.rnxcmp_c.proofs.Words.{RunIsOverLimit, RunIsTooLong, StandsBy, answer_now, shows_of}
+use Rattle.rnxcmp_c.proofs.Words.{too_long_after, FeedsBy, FeedsBytes, HasEndedBy, HasFedBy, HasPassedBy}
+use Rattle.rnxcmp_c.proofs.Words.{ReaderHasEnded, texts_of_held, Holds, have_ended, Handle, HandlePast}
+use Rattle.rnxcmp_c.proofs.Words.{HidesFault, allowed_after, fed_with, filter_for, limit_for, memory_next}
+use Rattle.rnxcmp_c.proofs.Words.{past_of, result_for, texts_made, waiting, Answer, OUTPUT_LIMIT, Held}
+use Rattle.rnxcmp_c.proofs.Words.{READY_LIMIT, Reader, BothTexts, line_in, RunHasEnded, StopsAtLimit}
+use Rattle.rnxcmp_c.proofs.Words.{StopsForMemory, StopsWhenFull, Task, Compact, Expand, Check, handle_answer}
+use Rattle.rnxcmp_c.proofs.Words.{run_for, with_one_more}
+use Rattle.std.proofs.Common.{reverse}
 use Rattle.std.proofs.lemmas.List.{map-append, reverse-append}
-use Rattle.crx_base.specs.meaning.Lines.{InputLine, lines_of}
-use Rattle.crx_base.specs.meaning.Seen.{ReadLine, ended_lines_of, seen}
-use Rattle.crx_base.specs.declared.fault.At.{At}
-use Rattle.crx_base.specs.declared.fault.Fault.TheVariants.{OutOfMemory}
+use Rattle.crx_base.specs.meaning.Seen.{ReadLine}
 use Rattle.crx_filter.specs.meaning.Compacted.{rinex_place, whole_rinex}
 use Rattle.crx_filter.specs.meaning.Directions.{compact_reading, rinex_reading}
-use Rattle.crx_filter.specs.meaning.Expanded.{whole_compact}
 use Rattle.crx_filter.specs.meaning.Items.{Item, Accepted, Warned}
 use Rattle.crx_filter.specs.meaning.Written.{warnings_in}
 use Rattle.crx_filter.proofs.reading.CompactPrefixes.{whole-more}
 use Rattle.crx_filter.proofs.reading.Forward.{rinex-forward}
 use Rattle.crx_filter.proofs.reading.Prefixes.{AreMore, whole-items}
-use Rattle.crx_runs.specs.meaning.Filters.{Filter, with_next}
-use Rattle.crx_runs.specs.meaning.Messages.{error_text, notices_text}
-use Rattle.crx_runs.specs.meaning.Results.{Begins, Course, FilterResult, result_of_course}
-use Rattle.crx_runs.specs.meaning.Spans.{AreNext}
-use Rattle.crx_runs.specs.declared.outcome.Outcome.{Outcome}
-use Rattle.rnxcmp_c.specs.Going.{IsGoing, IsLineEnded}
-use Rattle.rnxcmp_c.specs.Handles.{IsLastLine, IsLineReached, ReaderIsOver, ReaderRuns, ReaderStands}
-use Rattle.rnxcmp_c.specs.Handles.{RunIsOutOfMemory, RunIsOverLimit, RunIsTooLong, StandsBy, answer_now}
-use Rattle.rnxcmp_c.specs.Handles.{fault_now, shows_of, status_now, too_long_after, Feeds, FeedsBy}
-use Rattle.rnxcmp_c.specs.Handles.{FeedsBytes, HasEndedBy, HasFedBy, HasPassedBy, ReaderHasEnded}
-use Rattle.rnxcmp_c.specs.Holding.{texts_of_held}
-use Rattle.rnxcmp_c.specs.Opened.{EndsHandle, FeedsHandle, HandleStands, Holds, has_ended, have_ended, run_in}
-use Rattle.rnxcmp_c.specs.Opened.{run_state, texts_in, texts_kept}
-use Rattle.rnxcmp_c.specs.declared.handle.Handle.{Handle}
-use Rattle.rnxcmp_c.specs.Handles.{Ends}
-use Rattle.rnxcmp_c.specs.Past.{AsksMemory, HandlePast, HidesFault, IsShortOfMemory, allowed_after, fed_with}
-use Rattle.rnxcmp_c.specs.Past.{filter_for, limit_for, memory_next, past_of, result_for, texts_made}
-use Rattle.rnxcmp_c.specs.Waiting.{waiting}
-use Rattle.rnxcmp_c.specs.declared.answer.Answer.{Answer}
-use Rattle.rnxcmp_c.specs.declared.answer.TheConstants.{OUTPUT_LIMIT}
-use Rattle.rnxcmp_c.specs.declared.held.Held.{Held}
-use Rattle.rnxcmp_c.specs.declared.limits.TheConstants.{READY_LIMIT}
-use Rattle.rnxcmp_c.specs.declared.reader.Reader.{Reader}
-use Rattle.rnxcmp_c.specs.meaning.Answers.{BothTexts, line_in}
-use Rattle.rnxcmp_c.specs.meaning.Handles.{HandlePromise, RunHasEnded, RunWasEnded, StopsAtLimit}
-use Rattle.rnxcmp_c.specs.meaning.Handles.{StopsForMemory, StopsWhenFull, TakesBytes, Task, Compact, Expand}
-use Rattle.rnxcmp_c.specs.meaning.Handles.{Check, handle_answer, joined_texts, run_for, with_one_more}
+use Rattle.rnxcmp_c.specs.Handles.{fault_now, status_now, Feeds, Ends}
+use Rattle.rnxcmp_c.specs.Opened.{EndsHandle, FeedsHandle, HandleStands, has_ended, run_in, run_state}
+use Rattle.rnxcmp_c.specs.Opened.{texts_in, texts_kept}
+use Rattle.rnxcmp_c.specs.Past.{AsksMemory, IsShortOfMemory}
+use Rattle.rnxcmp_c.specs.meaning.Handles.{HandlePromise, RunWasEnded, TakesBytes, joined_texts}
 use Rattle.rnxcmp_c.proofs.Cut.{begins-next}
 use Rattle.rnxcmp_c.proofs.GoingLemmas.{begins-then, notices-both}
 use Rattle.rnxcmp_c.proofs.HandleLemmas.{ends-answer, ends-misused, ends-stands, feeds-answer, feeds-misused}
@@ -227,8 +214,7 @@ module _ (task : Task) (reader : Reader) (past : HandlePast) where
 
   -- at a line, or at the end
   stopped-short : (is_line : ℕ → Type 0) (outcome : Outcome) (input : List ℕ)
-      → RunIsOutOfMemory (filter_for task) (limit_for task) is_line input
-      (result_for task input) reader outcome past
+      → RunIsOutOfMemory task is_line input reader outcome past
       → is_line (line_in outcome.fault) → IsShortOfMemory (filter_for task) input (line_in outcome.fault) made
       → Ended (Short is_line input) (Some outcome)
   stopped-short is_line outcome input ran there by =
@@ -284,8 +270,7 @@ module _ (task : Task) (reader : Reader) (past : HandlePast) where
 
   -- for the message of a fault
   hidden-fault : (is_line : ℕ → Type 0) (outcome : Outcome) (input : List ℕ)
-      → RunIsOutOfMemory (filter_for task) (limit_for task) is_line input
-      (result_for task input) reader outcome past
+      → RunIsOutOfMemory task is_line input reader outcome past
       → HidesFault (result_for task input) (line_in outcome.fault) made → Ended (Failed input) (Some outcome)
   hidden-fault is_line outcome input ran hidden =
       let found = some-at (result_for task input).fault hidden.faulty in
@@ -305,8 +290,7 @@ module _ (task : Task) (reader : Reader) (past : HandlePast) where
       }
 
   short-of_memory : (is_line : ℕ → Type 0) (outcome : Outcome) (input : List ℕ)
-      → RunIsOutOfMemory (filter_for task) (limit_for task) is_line input
-      (result_for task input) reader outcome past
+      → RunIsOutOfMemory task is_line input reader outcome past
       → Ended (λ result. Failed input result ⊎ Short is_line input result) (Some outcome)
   short-of_memory is_line outcome input ran = ⊎_elim
       (λ by. ended-as _ _ made kept _ (λ result is. inr is)
@@ -315,7 +299,7 @@ module _ (task : Task) (reader : Reader) (past : HandlePast) where
       (hidden-fault is_line outcome input ran hidden))
       ran.made
 
-  is-full : (outcome : Outcome) → RunIsTooLong (filter_for task) (limit_for task) reader outcome past
+  is-full : (outcome : Outcome) → RunIsTooLong task reader outcome past
       → Ended (StopsWhenFull (run_for task) past.fed) (Some outcome)
   is-full outcome long =
       let at : At = too_long_after past.fed in
@@ -344,7 +328,7 @@ module _ (task : Task) (reader : Reader) (past : HandlePast) where
       }
 
   over-limit : (outcome : Outcome) (input : List ℕ)
-      → RunIsOverLimit (filter_for task) (limit_for task) input (result_for task input) reader outcome past
+      → RunIsOverLimit task input reader outcome past
       → Ended (Limited input) (Some outcome)
   over-limit outcome input over =
       let before : Course = (filter_for task).so_far over.lines in

@@ -1,45 +1,26 @@
 -- A reader's run has ended as the whole run of its input does.
-use Rattle.std.proofs.Common.{◌≡◌, ◌⊎◌, inl, inr, ⊎_elim, ℕ, List, [], ◌++◌, Option, Some, None, refl, sym}
-use Rattle.std.proofs.Common.{ap, ◌∙◌, subst}
-use Rattle.std.proofs.Common.{◌<◌, ◌≤◌, ◌+◌, ◌∷◌, is_some, arith, length, append-nil, append_assoc}
-use Rattle.std.proofs.Common.{length-append, take}
-use Rattle.crx_base.specs.meaning.Lines.{InputLine, lines_of}
-use Rattle.crx_base.specs.meaning.Seen.{ended_lines_of}
-use Rattle.crx_base.specs.declared.limits.TheConstants.{INPUT_LIMIT}
-use Rattle.crx_base.specs.declared.fault.At.{At}
+use Rattle.rnxcmp_c.proofs.Words.{◌≡◌, ◌⊎◌, inl, inr, ⊎_elim, ℕ, List, [], ◌++◌, Option, Some, None, refl}
+use Rattle.rnxcmp_c.proofs.Words.{sym, ap, ◌∙◌, subst, ◌<◌, ◌≤◌, ◌+◌, ◌∷◌, is_some, arith, length, append-nil}
+use Rattle.rnxcmp_c.proofs.Words.{append_assoc, length-append, take, InputLine, lines_of, ended_lines_of}
+use Rattle.rnxcmp_c.proofs.Words.{INPUT_LIMIT, At, InputTooLong, OutOfMemory, compaction_filter}
+use Rattle.rnxcmp_c.proofs.Words.{expansion_filter, IsLawful, Filter, with_next, error_text, notices_text}
+use Rattle.rnxcmp_c.proofs.Words.{Begins, Course, result_of_course, Findings, checked_by, findings_of}
+use Rattle.rnxcmp_c.proofs.Words.{report_status, check-lawful, compaction-lawful, expansion-lawful, Outcome}
+use Rattle.rnxcmp_c.proofs.Words.{FaultIs, IsMemoryLacking, waiting, IsAll, IsCutBy, IsGoing, IsText}
+use Rattle.rnxcmp_c.proofs.Words.{LineFails, RunsShort, EndsPastLimit, IsPastLimit, RunBreaks, RunFails, Stop}
+use Rattle.rnxcmp_c.proofs.Words.{Fault, Limit, ReaderIsOver, ReaderRuns, IsSaid, RunIsOutOfMemory}
+use Rattle.rnxcmp_c.proofs.Words.{RunIsOverLimit, RunIsTooLong, HasPassedBy, shows_of, too_long_after}
+use Rattle.rnxcmp_c.proofs.Words.{HasFedBy, HasEndedBy, engine_filter, has_ended_of, KeepsToLimit, line_in}
+use Rattle.rnxcmp_c.proofs.Words.{HandlePast, limit_for, result_for, Task, Compact, Expand, Check, filter_for}
+use Rattle.rnxcmp_c.proofs.Words.{memory_next, with_one_more, AnyEngine, Compacting, Expanding, Checking}
+use Rattle.rnxcmp_c.proofs.Words.{Held, Reader, HidesFault, texts_made, texts_of_held}
 use Rattle.crx_base.specs.declared.fault.Fault.{Fault as FaultOf}
-use Rattle.crx_base.specs.declared.fault.Fault.TheVariants.{InputTooLong, OutOfMemory}
-use Rattle.crx_filter.specs.meaning.Directions.{check_filter, compaction_filter, expansion_filter}
-use Rattle.crx_filter.specs.meaning.Directions.{report_unless}
-use Rattle.crx_runs.specs.Lawful.{IsLawful}
-use Rattle.crx_runs.specs.meaning.Filters.{Filter, with_next}
-use Rattle.crx_runs.specs.meaning.Messages.{error_text, notices_text}
-use Rattle.crx_runs.specs.meaning.Results.{Begins, Course, FilterResult, good_status, result_of_course}
-use Rattle.crx_runs.specs.meaning.Results.{status_after}
-use Rattle.crx_filter.specs.meaning.Standard.{Findings, checked_by, findings_of, report_status, whole_of}
-use Rattle.crx_filter.proofs.following.CheckLawful.{check-lawful}
-use Rattle.crx_filter.proofs.following.Lawful.{compaction-lawful, expansion-lawful}
-use Rattle.crx_runs.specs.declared.outcome.Outcome.{Outcome}
-use Rattle.crx_runs.specs.meaning.Runs.{FaultIs}
-use Rattle.rnxcmp_c.specs.Holding.{IsMemoryLacking}
-use Rattle.rnxcmp_c.specs.Waiting.{waiting}
-use Rattle.rnxcmp_c.specs.Going.{Breaks, EndsShort, IsAll, IsCutBy, IsGoing, IsText, LineFails, RunsShort}
-use Rattle.rnxcmp_c.specs.Going.{EndsPastLimit, IsPastLimit, RunBreaks, RunFails, line_reached}
-use Rattle.rnxcmp_c.specs.declared.stop.Stop.{Stop}
-use Rattle.rnxcmp_c.specs.declared.stop.Stop.TheVariants.{Fault, Limit}
-use Rattle.rnxcmp_c.specs.Handles.{IsOf, ReaderIsOver, IsPut, IsPutDown, IsPutSilently, EndsRunBy, ReaderRuns}
-use Rattle.rnxcmp_c.specs.Handles.{IsSaid, RunIsOutOfMemory, RunIsOverLimit, RunIsTooLong, HasPassedBy, shows_of, too_long_after}
-use Rattle.rnxcmp_c.specs.Handles.{EngineGoesOn, HasFedBy, HasEndedBy, engine_filter, has_ended_of}
-use Rattle.rnxcmp_c.specs.meaning.Answers.{KeepsToLimit, line_in}
+use Rattle.crx_filter.specs.meaning.Directions.{check_filter, report_unless}
+use Rattle.crx_runs.specs.meaning.Results.{good_status, status_after}
+use Rattle.crx_filter.specs.meaning.Standard.{whole_of}
+use Rattle.rnxcmp_c.specs.Going.{Breaks, EndsShort, line_reached}
+use Rattle.rnxcmp_c.specs.Handles.{IsOf, IsPut, IsPutDown, IsPutSilently, EndsRunBy, EngineGoesOn}
 use Rattle.rnxcmp_c.specs.Handles.{status_at_end}
-use Rattle.rnxcmp_c.specs.Past.{HandlePast, limit_for, result_for}
-use Rattle.rnxcmp_c.specs.meaning.Handles.{Task, Compact, Expand, Check}
-use Rattle.rnxcmp_c.specs.Past.{filter_for, memory_next}
-use Rattle.rnxcmp_c.specs.meaning.Handles.{with_one_more}
-use Rattle.rnxcmp_c.specs.declared.engines.AnyEngine.{AnyEngine}
-use Rattle.rnxcmp_c.specs.declared.engines.AnyEngine.TheVariants.{Compacting, Expanding, Checking}
-use Rattle.rnxcmp_c.specs.declared.held.Held.{Held}
-use Rattle.rnxcmp_c.specs.declared.reader.Reader.{Reader}
 
 pub filter-is : (task : Task) (engine : AnyEngine) → IsOf task engine → engine_filter engine ≡ filter_for task
 filter-is (Compact choices limit) (Compacting e) is = is
@@ -174,10 +155,9 @@ reached-lines lines [] = ap length (sym (append-nil lines))
 reached-lines lines (line ∷ others) = sym (length-append lines (line ∷ []))
 
 -- the run is out of memory at such a line
-module _ (filter : Filter) (limit : ℕ) (is_line : ℕ → Type 0) (input : List ℕ) (result : FilterResult)
-    (reader : Reader) (mid : Held) (outcome : Outcome) (past : HandlePast) (line : ℕ)
-    (short : IsShort mid reader.held outcome line)
-    (few : KeepsToLimit limit (past.output ++ waiting mid.output)) where
+module _ (task : Task) (is_line : ℕ → Type 0) (input : List ℕ) (reader : Reader) (mid : Held) (outcome : Outcome)
+    (past : HandlePast) (line : ℕ) (short : IsShort mid reader.held outcome line)
+    (few : KeepsToLimit (limit_for task) (past.output ++ waiting mid.output)) where
   abbrev last : List ℕ → Type 0
   last text = (text ≡ [])
       ⊎ (text ≡ error_text (Some (record { line = line_in outcome.fault; fault = OutOfMemory })))
@@ -193,10 +173,10 @@ module _ (filter : Filter) (limit : ℕ) (is_line : ℕ → Type 0) (input : Lis
 
   short-at : is_line line → (lines others : List InputLine) → lines_of input ≡ lines ++ others
       → line ≡ line_reached lines others
-      → IsCutBy (filter.so_far lines) (with_one_more filter lines others) (memory_next filter lines others)
-      mid past
-      → IsMemoryLacking (is_some (memory_next filter lines others)) mid
-      → RunIsOutOfMemory filter limit is_line input result reader outcome past
+      → IsCutBy ((filter_for task).so_far lines) (with_one_more (filter_for task) lines others)
+      (memory_next (filter_for task) lines others) mid past
+      → IsMemoryLacking (is_some (memory_next (filter_for task) lines others)) mid
+      → RunIsOutOfMemory task is_line input reader outcome past
   short-at at lines others first number cut lacking =
       let said = said-or_not in
       record {
@@ -217,7 +197,7 @@ module _ (filter : Filter) (limit : ℕ) (is_line : ℕ → Type 0) (input : Lis
             made = record {
               good = cut.made.good;
               output = cut.made.output ∙ ap (λ t. past.output ++ t) (sym short.output);
-              messages = sym (append_assoc (notices_text (filter.so_far lines).warnings)
+              messages = sym (append_assoc (notices_text ((filter_for task).so_far lines).warnings)
                   (notices_text cut.notices) said.0)
                   ∙ ap (λ t. t ++ said.0) cut.made.messages
                   ∙ append_assoc past.messages (waiting mid.messages) said.0
@@ -230,7 +210,7 @@ module _ (filter : Filter) (limit : ℕ) (is_line : ℕ → Type 0) (input : Lis
               (λ messages. inr (λ none. messages (sym short.messages_good ∙ none))) failed))
               lacking;
         });
-        within = subst (λ t. KeepsToLimit limit (past.output ++ t)) (sym short.output) few;
+        within = subst (λ t. KeepsToLimit (limit_for task) (past.output ++ t)) (sym short.output) few;
       }
 
 module _ (task : Task) (engine : AnyEngine) (is : IsOf task engine)
@@ -240,33 +220,30 @@ module _ (task : Task) (engine : AnyEngine) (is : IsOf task engine)
   fault-hidden : (is_line : ℕ → Type 0) (input : List ℕ) (course : Course)
       → (filter_for task).whole (lines_of input) ≡ course → course.fault ≡ Some at → IsText course mid past
       → IsPutSilently mid reader.held outcome at
-      → RunIsOutOfMemory (filter_for task) (limit_for task) is_line input
-      (result_for task input) reader outcome past
+      → RunIsOutOfMemory task is_line input reader outcome past
   fault-hidden is_line input course whole fault text put =
       let same : result_of_course course ≡ result_for task input =
       sym (ap result_of_course whole)
       ∙ result-faulty task input at (ap (λ (c : Course). c.fault) whole ∙ fault) in
-      subst (λ r. RunIsOutOfMemory (filter_for task)
-      (limit_for task) is_line input r reader outcome past) same (record {
+      record {
         memory = subst (FaultIs OutOfMemory) (sym put.fault) refl;
         status = put.status;
-        made = inr (record {
-          faulty = ap (λ (f : Option At). is_some f) fault;
-          line_is = ap line_in put.fault ∙ ap line_in (sym fault);
-          output_is = text.wrote ∙ ap (λ t. past.output ++ t) (sym put.output);
-          messages_are = ap (λ t. t ++ error_text course.fault)
-              (text.reported ∙ ap (λ t. past.messages ++ t) (sym put.messages));
-        });
+        made = inr (subst (λ r. HidesFault r (line_in outcome.fault)
+            (texts_made past (texts_of_held reader.held))) same (record {
+              faulty = ap (λ (f : Option At). is_some f) fault;
+              line_is = ap line_in put.fault ∙ ap line_in (sym fault);
+              output_is = text.wrote ∙ ap (λ t. past.output ++ t) (sym put.output);
+              messages_are = ap (λ t. t ++ error_text course.fault)
+                  (text.reported ∙ ap (λ t. past.messages ++ t) (sym put.messages));
+            }));
         within = subst (λ t. KeepsToLimit (limit_for task) (past.output ++ t)) (sym put.output) few;
-      })
+      }
 
   pub breaks-over : (before : List ℕ) → Breaks before (engine_filter engine) mid past at
       → IsPut mid reader.held at (Some outcome) → HasFedBy before task reader past (Some outcome)
   breaks-over before (inl short) put =
       let ran = subst (λ (f : Filter). RunsShort before f mid past at) (filter-is task engine is) short in
-      inl (λ more. short-at (filter_for task) (limit_for task) _ (past.fed ++ more) (result_for task
-      (past.fed ++ more))
-      reader mid outcome past at.line (put-short mid reader.held outcome at ran.fault put) few
+      inl (λ more. short-at task _ (past.fed ++ more) reader mid outcome past at.line (put-short mid reader.held outcome at ran.fault put) few
       ran.there ran.lines (ran.line ∷ (ran.first more).0) (ran.first more).1 ran.number
       ran.cut ran.lacking)
   breaks-over before (inr broken) put =
@@ -299,9 +276,7 @@ module _ (task : Task) (engine : AnyEngine) (is : IsOf task engine)
       → HasEndedBy task reader past (Some outcome)
   fails-over (inl before) put =
       let ran = subst (λ (f : Filter). EndsShort f mid past at) (filter-is task engine is) before in
-      inl (short-at (filter_for task) (limit_for task) _ past.fed
-      (result_for task past.fed) reader mid outcome past
-      at.line (put-short mid reader.held outcome at ran.ran_out.0 put) few ran.ran_out.1 ran.lines ran.others
+      inl (short-at task _ past.fed reader mid outcome past at.line (put-short mid reader.held outcome at ran.ran_out.0 put) few ran.ran_out.1 ran.lines ran.others
       ran.first
       ran.number ran.cut ran.lacking)
   fails-over (inr failed) put =
@@ -339,7 +314,7 @@ module _ (task : Task) (reader : Reader) (mid : Held) (outcome : Outcome) (past 
       → 0 < limit_for task → length ((filter_for task).so_far lines).output ≤ limit_for task
       → limit_for task < length (with_one_more (filter_for task) lines others).output
       → ((filter_for task).so_far lines).fault ≡ None → IsText ((filter_for task).so_far lines) mid past
-      → RunIsOverLimit (filter_for task) (limit_for task) input (result_for task input) reader outcome past
+      → RunIsOverLimit task input reader outcome past
   is-over_limit input lines others first limited within over good text =
       let filter = filter_for task in
       let longer : Begins (result_for task input).output (with_one_more filter lines others).output =
@@ -425,7 +400,7 @@ passed-over task before reader outcome past runs full put =
     let passed : outcome.status ≡ 1 → waiting reader.held.output ≡ waiting mid.output
     → IsSaid (too_long_after past.fed) (notices_text ((filter_for task).so_far (ended_lines_of past.fed)).warnings)
     (past.messages ++ waiting reader.held.messages) outcome.fault
-    → RunIsTooLong (filter_for task) (limit_for task) reader outcome past = λ status output said. record {
+    → RunIsTooLong task reader outcome past = λ status output said. record {
       full = full;
       status = status;
       good = going.good;

@@ -1,34 +1,22 @@
 -- What was collected of a whole run is its result, or its output is longer than it may be.
-use Rattle.std.proofs.Common.{◌≡◌, ⊎_elim, inl, inr, ℕ, ◌<◌, ◌≤◌, List, [], ◌++◌, length, take, Option, Some, None}
-use Rattle.std.proofs.Common.{sym, ap, ◌∙◌, subst, arith, append-nil, length-append, length-take}
+use Rattle.rnxcmp_c.proofs.Words.{◌≡◌, ⊎_elim, inl, inr, ℕ, ◌<◌, ◌≤◌, List, [], ◌++◌, length, take, Option}
+use Rattle.rnxcmp_c.proofs.Words.{Some, None, sym, ap, ◌∙◌, subst, arith, append-nil, length-append}
+use Rattle.rnxcmp_c.proofs.Words.{length-take, take_all, lines_of, ended_lines_of, code_of_fault, At}
+use Rattle.rnxcmp_c.proofs.Words.{OutOfMemory, INPUT_LIMIT, ended_lines-come_first, Outcome, Begins}
+use Rattle.rnxcmp_c.proofs.Words.{FilterResult, FaultIs, Device, Answer, NO_ROOM, AnswersWithin, BothTexts}
+use Rattle.rnxcmp_c.proofs.Words.{HasNoMemory, bare_answer, fault_code_in, line_in, placed, Task, filter_for}
+use Rattle.rnxcmp_c.proofs.Words.{result_for, nat_le}
 use Rattle.std.proofs.lemmas.Grind.{common_steps}
 use Rattle.rnxcmp_c.proofs.PieceLemmas.{within-or}
-use Rattle.std.proofs.lemmas.List.{take_all}
-use Rattle.crx_base.specs.meaning.Lines.{lines_of}
-use Rattle.crx_base.specs.meaning.Seen.{ended_lines_of}
-use Rattle.crx_base.specs.meaning.Faults.{code_of_fault}
-use Rattle.crx_base.specs.declared.fault.At.{At}
-use Rattle.crx_base.specs.declared.fault.Fault.TheVariants.{OutOfMemory}
-use Rattle.crx_base.specs.declared.limits.TheConstants.{INPUT_LIMIT}
-use Rattle.crx_lines.proofs.ProgressLemmas.{ended_lines-come_first}
-use Rattle.crx_runs.specs.Lawful.{IsLawful}
-use Rattle.crx_runs.specs.declared.outcome.Outcome.{Outcome}
-use Rattle.crx_runs.specs.meaning.Filters.{Filter}
 use Rattle.crx_runs.specs.meaning.Interruptions.{IsFrontPart, complete_lines}
-use Rattle.crx_runs.specs.meaning.Results.{Begins, FilterResult}
-use Rattle.crx_runs.specs.meaning.Runs.{FaultIs, IsResult, NoneFailed, RunsAs}
-use Rattle.crx_runs.specs.meaning.Spans.{Device, Input}
+use Rattle.crx_runs.specs.meaning.Runs.{IsResult, NoneFailed, RunsAs}
+use Rattle.crx_runs.specs.meaning.Spans.{Input}
 use Rattle.rnxcmp_c.specs.Collecting.{AnswersRun, IsCollected, IsEmpty}
 use Rattle.rnxcmp_c.specs.Counting.{Took}
-use Rattle.rnxcmp_c.specs.declared.answer.Answer.{Answer}
 use Rattle.rnxcmp_c.specs.declared.devices.Counted.{Counted}
-use Rattle.rnxcmp_c.specs.declared.answer.TheConstants.{NO_ROOM}
-use Rattle.rnxcmp_c.specs.meaning.Answers.{AnswersAlone, AnswersWithin, BothTexts, HasNoMemory, bare_answer}
-use Rattle.rnxcmp_c.specs.meaning.Answers.{fault_code_in, line_in, placed}
-use Rattle.rnxcmp_c.specs.meaning.Handles.{Task}
-use Rattle.rnxcmp_c.specs.Past.{filter_for, result_for}
+use Rattle.rnxcmp_c.specs.meaning.Answers.{AnswersAlone}
 use Rattle.rnxcmp_c.proofs.ReaderLemmas.{lawful-for, output-for}
-use Rattle.std.specs.Prelude.{nat_le, if◌then◌else◌}
+use Rattle.std.specs.Prelude.{if◌then◌else◌}
 use Rattle.rnxcmp_c.proofs.GoingLemmas.{begins-then}
 
 not-memory : (fault : Option At) → (fault_code_in fault ≡ code_of_fault OutOfMemory → ⊥)

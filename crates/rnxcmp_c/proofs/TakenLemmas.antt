@@ -1,19 +1,12 @@
 -- What was taken from a handle was kept before, and its run's state doesn't change by that.
-use Rattle.std.proofs.Common.{◌≡◌, ⊎_elim, inl, inr, ℕ, List, ◌++◌, Option, Some, None, sym, ap, ◌∙◌}
-use Rattle.std.proofs.Common.{subst, append_assoc}
-use Rattle.crx_base.specs.meaning.Seen.{ended_lines_of}
-use Rattle.crx_runs.specs.declared.outcome.Outcome.{Outcome}
-use Rattle.crx_runs.specs.meaning.Messages.{error_text, notices_text}
-use Rattle.crx_runs.specs.meaning.Results.{Course}
-use Rattle.rnxcmp_c.specs.Handles.{IsLineReached, IsSaid, RanOutBy, ReaderStands, StandsBy, too_long_after}
-use Rattle.rnxcmp_c.specs.Holding.{texts_of_held}
-use Rattle.rnxcmp_c.specs.Past.{HandlePast, HidesFault, IsMadeByLines, filter_for, limit_for}
-use Rattle.rnxcmp_c.specs.meaning.Handles.{Task}
-use Rattle.rnxcmp_c.specs.Past.{result_for, taken_with, texts_made}
-use Rattle.rnxcmp_c.specs.meaning.Answers.{KeepsToLimit, line_in}
-use Rattle.rnxcmp_c.specs.Waiting.{waiting}
-use Rattle.rnxcmp_c.specs.declared.pending.Pending.{Pending}
-use Rattle.rnxcmp_c.specs.declared.reader.Reader.{Reader}
+use Rattle.rnxcmp_c.proofs.Words.{◌≡◌, ⊎_elim, inl, inr, ℕ, List, ◌++◌, Option, Some, None, sym, ap, ◌∙◌}
+use Rattle.rnxcmp_c.proofs.Words.{subst, append_assoc, ended_lines_of, Outcome, error_text, notices_text}
+use Rattle.rnxcmp_c.proofs.Words.{Course, IsLineReached, IsSaid, ReaderStands, StandsBy, too_long_after}
+use Rattle.rnxcmp_c.proofs.Words.{texts_of_held, HandlePast, HidesFault, filter_for, limit_for, Task}
+use Rattle.rnxcmp_c.proofs.Words.{result_for, taken_with, texts_made, KeepsToLimit, line_in, waiting, Pending}
+use Rattle.rnxcmp_c.proofs.Words.{Reader}
+use Rattle.rnxcmp_c.specs.Handles.{RanOutBy}
+use Rattle.rnxcmp_c.specs.Past.{IsMadeByLines}
 
 -- what was taken, and then what is kept
 regrouped : (taken given kept before : List ℕ) → before ≡ given ++ kept
@@ -47,8 +40,8 @@ module _ (task : Task) (old : Reader) (past : HandlePast) (output messages : Pen
   }
 
   ran-out : (outcome : Outcome)
-      → RanOutBy (filter_for task) (IsLineReached past.fed) past.fed old (line_in outcome.fault) past
-      → RanOutBy (filter_for task) (IsLineReached past.fed) past.fed new (line_in outcome.fault) then
+      → RanOutBy task (IsLineReached past.fed) past.fed old (line_in outcome.fault) past
+      → RanOutBy task (IsLineReached past.fed) past.fed new (line_in outcome.fault) then
   ran-out outcome by = record {
     at = by.at;
     made = record {

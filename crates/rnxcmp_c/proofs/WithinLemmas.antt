@@ -1,23 +1,17 @@
 -- The output stays within its limit, or what a line made is let go of.
-use Rattle.std.proofs.Common.{◌≡◌, ℕ, ◌+◌, ◌<◌, ◌≤◌, List, [], ◌++◌, length, take, refl, sym, ap}
-use Rattle.std.proofs.Common.{◌∙◌, subst, arith, length-append, ◌⊎◌, inl, inr, ⊎_elim, append-nil, is_some}
-use Rattle.std.proofs.Common.{Bool, ◌||◌, Option, Result, Ok, Err, IfErr, IfOk}
+use Rattle.rnxcmp_c.proofs.Words.{◌≡◌, ℕ, ◌+◌, ◌<◌, ◌≤◌, List, [], ◌++◌, length, take, refl, sym, ap, ◌∙◌}
+use Rattle.rnxcmp_c.proofs.Words.{subst, arith, length-append, ◌⊎◌, inl, inr, ⊎_elim, append-nil, is_some}
+use Rattle.rnxcmp_c.proofs.Words.{Bool, ◌||◌, Option, IfErr, IfOk, At, OutOfMemory, Halt, Unwritten}
+use Rattle.rnxcmp_c.proofs.Words.{Unreported, notices_text, Begins, Course, EndsThere, IsKept, MovesOn}
+use Rattle.rnxcmp_c.proofs.Words.{MovesWithin, PassesLimit, RanOutAt, StepStops, StopsBy, StopsShort}
+use Rattle.rnxcmp_c.proofs.Words.{StopsCounted, waiting, Held, Stop, Fault, Limit}
+use Rattle.std.proofs.Common.{Result, Ok, Err}
 use Rattle.std.proofs.lemmas.List.{take_at}
 use Rattle.std.proofs.lemmas.Result.{IfErr-at_err, IfOk-at_ok}
-use Rattle.crx_base.specs.declared.fault.At.{At}
-use Rattle.crx_base.specs.declared.fault.Fault.TheVariants.{OutOfMemory}
-use Rattle.crx_runs.specs.declared.taking.Halt.{Halt}
-use Rattle.crx_runs.specs.declared.taking.Halt.TheVariants.{Fault as Faulty, Unwritten, Unreported}
-use Rattle.crx_runs.specs.meaning.Messages.{notices_text}
-use Rattle.crx_runs.specs.meaning.Results.{Begins, Course}
-use Rattle.rnxcmp_c.specs.Going.{EndsThere, IsKept, LosesText, MovesOn, MovesWithin, PassesLimit, RanOutAt}
-use Rattle.rnxcmp_c.specs.Going.{StepStops, StopsBy, StopsShort}
-use Rattle.rnxcmp_c.specs.Holding.{AreCutTo, IsCounted, IsCutBack, StaysWithin, StopsCounted}
-use Rattle.rnxcmp_c.specs.Waiting.{waiting}
-use Rattle.rnxcmp_c.specs.declared.held.Held.{Held}
+use Rattle.crx_runs.specs.declared.taking.Halt.TheVariants.{Fault as Faulty}
+use Rattle.rnxcmp_c.specs.Going.{LosesText}
+use Rattle.rnxcmp_c.specs.Holding.{AreCutTo, IsCounted, IsCutBack, StaysWithin}
 use Rattle.rnxcmp_c.specs.declared.held.Mark.{Mark}
-use Rattle.rnxcmp_c.specs.declared.stop.Stop.{Stop}
-use Rattle.rnxcmp_c.specs.declared.stop.Stop.TheVariants.{Fault, Limit}
 
 ok-not-err : {T : Type 0} (done : T) (halt : Halt) → ◌≡◌ {A = Result T Halt} (Ok done) (Err halt) → ⊥
 ok-not-err done halt e = cc
@@ -27,24 +21,31 @@ cut-to : (old mid new more : List ℕ) (mark : ℕ) → mid ≡ old ++ more → 
     → new ≡ old
 cut-to old mid new more mark grew marked cut = cut ∙ ap (take mark) grew ∙ take_at old more mark (sym marked)
 
-module _ (before after : Course) (shown : Type 0) (old mid new : Held) (warned : Bool)
+-- what of both texts was kept of a line, or of the end, that was taken or ended the run
+pub record HasPart (before after : Course) (old mid : Held) : Type 0 where
+  pub text : List ℕ
+  pub told : List ℕ
+  pub wrote : waiting mid.output ≡ waiting old.output ++ text
+  pub first : (text ≡ []) ⊎ Begins after.output (before.output ++ text)
+  pub reported : waiting mid.messages ≡ waiting old.messages ++ told
+
+module _ (before after : Course) (shown : Type 0) (old mid : Held) (warned : Bool)
     (kept : IsKept before after shown old.output mid.output old.messages mid.messages warned) where
-  pub more-output : length (waiting old.output) ≤ length (waiting mid.output)
-  more-output = omega (arith, ap length kept.wrote, length-append (waiting old.output) kept.text)
+  kept-part : HasPart before after old mid
+  kept-part = record {
+    text = kept.text;
+    told = notices_text kept.notices;
+    wrote = kept.wrote;
+    first = inr (record { rest = []; same = kept.output_is ∙ sym (append-nil (before.output ++ kept.text)) });
+    reported = kept.reported;
+  }
 
-  pub more-messages : length (waiting old.messages) ≤ length (waiting mid.messages)
-  more-messages = omega (
-    arith,
-    ap length kept.reported,
-    length-append (waiting old.messages) (notices_text kept.notices),
-  )
-
-  pub stays-within : (mark : Mark) → mark.output ≡ length (waiting old.output) → mid.limit ≡ old.limit
+  stays-within : (new : Held) (mark : Mark) → mark.output ≡ length (waiting old.output) → mid.limit ≡ old.limit
       → mid.left ≡ old.left → mid.warned ≡ old.warned
       → new ≡ record mid { left = new.left; warned = mid.warned || warned }
       → (0 < mid.limit → new.left + length (waiting mid.output) ≡ mid.left + mark.output)
       → MovesWithin before after shown old new
-  stays-within mark marked limit left flag same counted = record {
+  stays-within new mark marked limit left flag same counted = record {
     moved = subst (λ (h : Held). MovesOn before after shown old h) (sym same) (record {
       warned = warned;
       kept = kept;
@@ -62,35 +63,6 @@ module _ (before after : Course) (shown : Type 0) (old mid new : Held) (warned :
       length-append before.output kept.text,
     );
   }
-
-  pub passes-limit : (mark : Mark) → mark.output ≡ length (waiting old.output)
-      → mark.messages ≡ length (waiting old.messages) → mid.limit ≡ old.limit → mid.left ≡ old.left
-      → IsCutBack mark mid new → PassesLimit before after old new
-  passes-limit mark marked told limit left back = record {
-    limited = subst (λ (n : ℕ). 0 < n) limit back.limited;
-    limit = back.cut.limit ∙ limit;
-    over = omega (
-      arith,
-      back.over,
-      marked,
-      left,
-      ap length kept.wrote,
-      length-append (waiting old.output) kept.text,
-      ap length kept.output_is,
-      length-append before.output kept.text,
-    );
-    output_is = cut-to _ _ _ kept.text mark.output kept.wrote marked back.cut.output_is;
-    messages_are = cut-to _ _ _ (notices_text kept.notices) mark.messages kept.reported told
-        back.cut.messages_are;
-  }
-
--- what of both texts was kept of a line, or of the end, that ended the run
-pub record HasPart (before after : Course) (old mid : Held) : Type 0 where
-  pub text : List ℕ
-  pub told : List ℕ
-  pub wrote : waiting mid.output ≡ waiting old.output ++ text
-  pub first : (text ≡ []) ⊎ Begins after.output (before.output ++ text)
-  pub reported : waiting mid.messages ≡ waiting old.messages ++ told
 
 module _ (number : ℕ) (memory : Option (List At)) (before after : Course) (old mid : Held) where
   abbrev Stops : Halt → Type 0
@@ -232,18 +204,20 @@ module _ (number : ℕ) (memory : Option (List At)) (before after : Course) (sho
       IfErr taken (λ halt. StopsBy number memory before after old.output mid.output old.messages mid.messages
       halt)
 
+  part-either : (taken : Result Bool Halt) → Kept taken → Ended taken → HasPart before after old mid
+  part-either (Ok warned) kept stopped = kept-part before after shown old mid warned kept
+  part-either (Err halt) kept stopped = part-of number memory before after old mid halt stopped
+
   pub more-output-either : (taken : Result Bool Halt) → Kept taken → Ended taken
       → length (waiting old.output) ≤ length (waiting mid.output)
-  more-output-either (Ok warned) kept stopped = more-output before after shown old mid mid warned kept
-  more-output-either (Err halt) kept stopped =
-      let part = part-of number memory before after old mid halt stopped in
+  more-output-either taken kept stopped =
+      let part = part-either taken kept stopped in
       omega (arith, ap length part.wrote, length-append (waiting old.output) part.text)
 
   pub more-messages-either : (taken : Result Bool Halt) → Kept taken → Ended taken
       → length (waiting old.messages) ≤ length (waiting mid.messages)
-  more-messages-either (Ok warned) kept stopped = more-messages before after shown old mid mid warned kept
-  more-messages-either (Err halt) kept stopped =
-      let part = part-of number memory before after old mid halt stopped in
+  more-messages-either taken kept stopped =
+      let part = part-either taken kept stopped in
       omega (arith, ap length part.reported, length-append (waiting old.messages) part.told)
 
   module _ (new : Held) (mark : Mark) (marked : mark.output ≡ length (waiting old.output))
@@ -252,35 +226,26 @@ module _ (number : ℕ) (memory : Option (List At)) (before after : Course) (sho
     pub step-stays : mid.warned ≡ old.warned → (taken : Result Bool Halt) → Kept taken
         → IsCounted taken mark mid new → MovesWithin before after shown old new
     step-stays flag taken kept counted =
-        stays-within before after shown old mid new counted.warned
+        stays-within before after shown old mid counted.warned
         (IfOk-at_ok
         (λ warned. IsKept before after shown old.output mid.output old.messages mid.messages warned)
-        counted.is_taken kept) mark marked limit left flag counted.same counted.left
+        counted.is_taken kept) new mark marked limit left flag counted.same counted.left
 
     pub step-stops : (taken : Result Bool Halt) → Kept taken → Ended taken → (stop : Stop)
         → StopsCounted taken mark number mid new stop → StepStops number memory before after old new stop
+    step-stops taken kept stopped Limit back =
+        stops-over number memory before after old mid new mark marked told limit left
+        (part-either taken kept stopped) back
     step-stops (Ok warned) kept stopped (Fault at) (inl stays) =
         absurd (ok-not-err warned (Faulty at) stays.0)
     step-stops (Ok warned) kept stopped (Fault at) (inr lost) =
         ⊎_elim (λ e. absurd (ok-not-err warned Unwritten e))
         (λ e. absurd (ok-not-err warned Unreported e)) lost.0
-    step-stops (Ok warned) kept stopped Limit back =
-        passes-limit before after shown old mid new warned kept mark marked told limit left back
     step-stops (Err halt) kept stopped (Fault at) (inl stays) =
         stops-within number memory before after old mid new mark marked told limit left at
-        (IfErr-at_err (λ h. StopsBy number memory before after old.output mid.output old.messages mid.messages
-        h)
-        stays.0 stopped) stays.1
+        (IfErr-at_err (Stops number memory before after old mid) stays.0 stopped) stays.1
     step-stops (Err halt) kept stopped (Fault at) (inr lost) =
         stops-lost number memory before after old mid new mark marked told limit left at lost.1
-        (⊎_elim
-        (λ e. IfErr-at_err (λ h. StopsBy number memory before after old.output mid.output old.messages
-        mid.messages h)
-        e stopped)
-        (λ e. IfErr-at_err (λ h. StopsBy number memory before after old.output mid.output old.messages
-        mid.messages h)
-        e stopped) lost.0)
+        (⊎_elim (λ e. IfErr-at_err (Stops number memory before after old mid) e stopped)
+        (λ e. IfErr-at_err (Stops number memory before after old mid) e stopped) lost.0)
         lost.2.0 lost.2.1 lost.2.2
-    step-stops (Err halt) kept stopped Limit back =
-        stops-over number memory before after old mid new mark marked told limit left
-        (part-of number memory before after old mid halt stopped) back

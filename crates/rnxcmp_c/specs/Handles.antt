@@ -118,36 +118,36 @@ pub record ReaderIsOver (limit : ℕ) (result : FilterResult) (reader : Reader) 
 
 -- memory ran out at such a line, or at the end, which takes memory, or a write to one of the texts failed;
 -- what was taken of both texts and then what is kept is what is made before it
-pub record RanOutBy (filter : Filter) (is_line : ℕ → Type 0) (input : List ℕ) (reader : Reader) (line : ℕ)
+pub record RanOutBy (task : Task) (is_line : ℕ → Type 0) (input : List ℕ) (reader : Reader) (line : ℕ)
     (past : HandlePast) : Type 0 where
   pub at : is_line line
-  pub made : IsShortOfMemory filter input line (texts_made past (texts_of_held reader.held))
-  pub lacking : IsMemoryLacking (is_some (memory_next filter made.lines made.others)) reader.held
+  pub made : IsShortOfMemory (filter_for task) input line (texts_made past (texts_of_held reader.held))
+  pub lacking : IsMemoryLacking (is_some (memory_next (filter_for task) made.lines made.others)) reader.held
 
 -- memory ran out, which is status 1: at such a line, or for the message of the fault that the result has; the
 -- output is within its limit
-pub record RunIsOutOfMemory (filter : Filter) (limit : ℕ) (is_line : ℕ → Type 0) (input : List ℕ)
-    (result : FilterResult) (reader : Reader) (outcome : Outcome) (past : HandlePast) : Type 0 where
+pub record RunIsOutOfMemory (task : Task) (is_line : ℕ → Type 0) (input : List ℕ) (reader : Reader)
+    (outcome : Outcome) (past : HandlePast) : Type 0 where
   pub memory : FaultIs OutOfMemory outcome.fault
   pub status : outcome.status ≡ 1
-  pub made : RanOutBy filter is_line input reader (line_in outcome.fault) past
-      ⊎ HidesFault result (line_in outcome.fault) (texts_made past (texts_of_held reader.held))
-  pub within : KeepsToLimit limit (past.output ++ waiting reader.held.output)
+  pub made : RanOutBy task is_line input reader (line_in outcome.fault) past
+      ⊎ HidesFault (result_for task input) (line_in outcome.fault) (texts_made past (texts_of_held reader.held))
+  pub within : KeepsToLimit (limit_for task) (past.output ++ waiting reader.held.output)
 
 -- the output would be longer than it may be. What was taken of both texts and then what is kept is what the first lines
 -- make, as many as make no more than it may have
-pub record RunIsOverLimit (filter : Filter) (limit : ℕ) (input : List ℕ)
-    (result : FilterResult) (reader : Reader) (outcome : Outcome) (past : HandlePast) : Type 0 where
+pub record RunIsOverLimit (task : Task) (input : List ℕ) (reader : Reader) (outcome : Outcome)
+    (past : HandlePast) : Type 0 where
   pub status : outcome.status ≡ OUTPUT_LIMIT
   pub fault : outcome.fault ≡ None
-  pub limited : 0 < limit
-  pub longer : limit < length result.output
+  pub limited : 0 < limit_for task
+  pub longer : limit_for task < length (result_for task input).output
   pub lines : List InputLine
   pub others : List InputLine
   pub first : lines_of input ≡ lines ++ others
-  pub within : length (filter.so_far lines).output ≤ limit
-  pub over : limit < length (with_one_more filter lines others).output
-  pub made : IsMadeByLines (filter.so_far lines) [] (texts_made past (texts_of_held reader.held))
+  pub within : length ((filter_for task).so_far lines).output ≤ limit_for task
+  pub over : limit_for task < length (with_one_more (filter_for task) lines others).output
+  pub made : IsMadeByLines ((filter_for task).so_far lines) [] (texts_made past (texts_of_held reader.held))
 
 -- the message of a fault came after the warnings, and the fault ended the run; or there was no memory for it
 abbrev pub IsSaid : At → List ℕ → List ℕ → Option At → Type 0
@@ -157,16 +157,16 @@ IsSaid at warnings messages fault = ((fault ≡ Some at) × (warnings ++ error_t
 -- as many bytes were fed as an input may have, and there was one more: a fault after the lines that an LF ended. What was
 -- taken of both texts and then what is kept is what these make, and the message of the fault; the output is within its
 -- limit
-pub record RunIsTooLong (filter : Filter) (limit : ℕ) (reader : Reader) (outcome : Outcome) (past : HandlePast)
-    : Type 0 where
+pub record RunIsTooLong (task : Task) (reader : Reader) (outcome : Outcome) (past : HandlePast) : Type 0 where
   pub full : length past.fed ≡ INPUT_LIMIT
   pub status : outcome.status ≡ 1
-  pub good : (filter.so_far (ended_lines_of past.fed)).fault ≡ None
-  pub output : (filter.so_far (ended_lines_of past.fed)).output ≡ past.output ++ waiting reader.held.output
-  pub said : IsSaid (too_long_after past.fed) (notices_text (filter.so_far
-      (ended_lines_of past.fed)).warnings)
+  pub good : ((filter_for task).so_far (ended_lines_of past.fed)).fault ≡ None
+  pub output : ((filter_for task).so_far (ended_lines_of past.fed)).output
+      ≡ past.output ++ waiting reader.held.output
+  pub said : IsSaid (too_long_after past.fed)
+      (notices_text ((filter_for task).so_far (ended_lines_of past.fed)).warnings)
       (past.messages ++ waiting reader.held.messages) outcome.fault
-  pub within : KeepsToLimit limit (past.output ++ waiting reader.held.output)
+  pub within : KeepsToLimit (limit_for task) (past.output ++ waiting reader.held.output)
 
 -- the number of the last line of the bytes that were fed
 abbrev pub IsLastLine : List ℕ → ℕ → Type 0
@@ -181,11 +181,8 @@ IsLineReached fed line = line ≤ length (lines_of fed)
 abbrev pub StandsBy : Task → Reader → HandlePast → Option Outcome → Type 0
 StandsBy task reader past None = ReaderRuns task reader past
 StandsBy task reader past (Some outcome) =
-    RunIsOutOfMemory (filter_for task) (limit_for task) (IsLineReached past.fed) past.fed
-    (result_for task past.fed)
-    reader outcome past
-    ⊎ (RunIsOverLimit (filter_for task) (limit_for task) past.fed (result_for task past.fed) reader outcome past
-    ⊎ (RunIsTooLong (filter_for task) (limit_for task) reader outcome past
+    RunIsOutOfMemory task (IsLineReached past.fed) past.fed reader outcome past
+    ⊎ (RunIsOverLimit task past.fed reader outcome past ⊎ (RunIsTooLong task reader outcome past
     ⊎ ReaderIsOver (limit_for task) (result_for task past.fed) reader outcome past))
 
 abbrev pub ReaderStands : Task → Reader → HandlePast → Type 0
@@ -195,12 +192,9 @@ ReaderStands task reader past = StandsBy task reader past reader.outcome
 -- the result is that of every input that begins with them, and the status of a fault is 1
 abbrev pub HasFedBy : List ℕ → Task → Reader → HandlePast → Option Outcome → Type 0
 HasFedBy before task reader past None = ReaderRuns task reader past
-HasFedBy before task reader past (Some outcome) = ((more : List ℕ) → RunIsOutOfMemory (filter_for task)
-    (limit_for task)
-    (IsLineEnded before past.fed) (past.fed ++ more)
-    (result_for task (past.fed ++ more)) reader outcome past)
-    ⊎ (((more : List ℕ) → RunIsOverLimit (filter_for task) (limit_for task) (past.fed ++ more)
-    (result_for task (past.fed ++ more)) reader outcome past)
+HasFedBy before task reader past (Some outcome) =
+    ((more : List ℕ) → RunIsOutOfMemory task (IsLineEnded before past.fed) (past.fed ++ more) reader outcome past)
+    ⊎ (((more : List ℕ) → RunIsOverLimit task (past.fed ++ more) reader outcome past)
     ⊎ ((outcome.status ≡ 1)
     × ((more : List ℕ) → ReaderIsOver (limit_for task) (result_for task (past.fed ++ more)) reader outcome past)))
 
@@ -210,9 +204,9 @@ HasFed before task reader past = HasFedBy before task reader past reader.outcome
 -- after its end
 abbrev pub HasEndedBy : Task → Reader → HandlePast → Option Outcome → Type 0
 HasEndedBy task reader past None = ⊥
-HasEndedBy task reader past (Some outcome) = RunIsOutOfMemory (filter_for task) (limit_for task)
-    (IsLastLine past.fed) past.fed (result_for task past.fed) reader outcome past
-    ⊎ (RunIsOverLimit (filter_for task) (limit_for task) past.fed (result_for task past.fed) reader outcome past
+HasEndedBy task reader past (Some outcome) =
+    RunIsOutOfMemory task (IsLastLine past.fed) past.fed reader outcome past
+    ⊎ (RunIsOverLimit task past.fed reader outcome past
     ⊎ ReaderIsOver (limit_for task) (result_for task past.fed) reader outcome past)
 
 abbrev pub ReaderHasEnded : Task → Reader → HandlePast → Type 0
@@ -221,8 +215,7 @@ ReaderHasEnded task reader past = HasEndedBy task reader past reader.outcome
 -- after a byte more than an input may have
 abbrev pub HasPassedBy : Task → Reader → HandlePast → Option Outcome → Type 0
 HasPassedBy task reader past None = ⊥
-HasPassedBy task reader past (Some outcome) = RunIsTooLong (filter_for task)
-    (limit_for task) reader outcome past
+HasPassedBy task reader past (Some outcome) = RunIsTooLong task reader outcome past
 
 abbrev pub ReaderHasPassed : Task → Reader → HandlePast → Type 0
 ReaderHasPassed task reader past = HasPassedBy task reader past reader.outcome

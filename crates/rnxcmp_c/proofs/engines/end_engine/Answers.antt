@@ -1,13 +1,7 @@
-use Rattle.std.proofs.Common.{sym, subst}
-use Rattle.crx_base.specs.meaning.Lines.{lines_of}
+use Rattle.rnxcmp_c.proofs.Words.{sym, subst, lines_of, HandlePast, engine_filter, has_ended_of, AnyEngine}
+use Rattle.rnxcmp_c.proofs.Words.{Compacting, Expanding, Checking, compactor_seen, check-lawful}
+use Rattle.rnxcmp_c.proofs.Words.{compaction-lawful, expansion-lawful}
 use Rattle.rnxcmp_c.specs.Going.{LastIsTaken}
-use Rattle.rnxcmp_c.specs.Past.{HandlePast}
-use Rattle.rnxcmp_c.specs.Handles.{engine_filter, has_ended_of}
-use Rattle.rnxcmp_c.specs.declared.engines.AnyEngine.{AnyEngine}
-use Rattle.rnxcmp_c.specs.declared.engines.AnyEngine.TheVariants.{Compacting, Expanding, Checking}
-use Rattle.crx_filter.specs.CompactorState.{compactor_seen}
-use Rattle.crx_filter.proofs.following.CheckLawful.{check-lawful}
-use Rattle.crx_filter.proofs.following.Lawful.{compaction-lawful, expansion-lawful}
 use Rattle.rnxcmp_c.proofs.ReaderLemmas.{going-as}
 use Rattle.rnxcmp_c.proofs.engines.end_engine.Goals as goal
 

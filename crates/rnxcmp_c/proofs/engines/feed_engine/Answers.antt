@@ -1,10 +1,6 @@
-use Rattle.std.proofs.Common.{◌<◌, IfErr, IfOk, take, sym, subst}
-use Rattle.crx_runs.specs.meaning.Filters.{Filter}
-use Rattle.rnxcmp_c.specs.Going.{IsGoing, RunBreaks}
-use Rattle.rnxcmp_c.specs.Past.{HandlePast, fed_with, StopsSoon}
-use Rattle.rnxcmp_c.specs.Handles.{engine_filter, shows_of}
-use Rattle.rnxcmp_c.specs.declared.engines.AnyEngine.{AnyEngine}
-use Rattle.rnxcmp_c.specs.declared.engines.AnyEngine.TheVariants.{Compacting, Expanding}
+use Rattle.rnxcmp_c.proofs.Words.{◌<◌, IfErr, IfOk, take, sym, subst, Filter, IsGoing, RunBreaks, HandlePast}
+use Rattle.rnxcmp_c.proofs.Words.{fed_with, StopsSoon, engine_filter, shows_of, AnyEngine, Compacting}
+use Rattle.rnxcmp_c.proofs.Words.{Expanding}
 use Rattle.rnxcmp_c.proofs.ReaderLemmas.{going-as}
 use Rattle.rnxcmp_c.proofs.engines.feed_engine.Goals as goal
 

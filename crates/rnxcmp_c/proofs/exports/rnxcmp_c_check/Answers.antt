@@ -1,6 +1,4 @@
-use Rattle.std.proofs.Common.{refl, sym, ◌∙◌, arith}
-use Rattle.rnxcmp_c.specs.meaning.Answers.{rooms}
-use Rattle.rnxcmp_c.specs.meaning.Handles.{Check}
+use Rattle.rnxcmp_c.proofs.Words.{refl, sym, ◌∙◌, arith, rooms, Check}
 use Rattle.rnxcmp_c.proofs.Kept.{judges-standard}
 use Rattle.rnxcmp_c.proofs.Lossless.{says-so}
 use Rattle.rnxcmp_c.proofs.RunLemmas.{answers-alone, answers-within}

@@ -1,8 +1,5 @@
-use Rattle.std.proofs.Common.{Some, refl, sym, ◌∙◌, subst, arith}
-use Rattle.crx_base.specs.meaning.Choices.{Choices, choices_of}
-use Rattle.crx_filter.specs.meaning.Compacted.{compacted}
-use Rattle.rnxcmp_c.specs.meaning.Answers.{AnswersWithin, rooms}
-use Rattle.rnxcmp_c.specs.meaning.Handles.{Compact}
+use Rattle.rnxcmp_c.proofs.Words.{refl, sym, ◌∙◌, subst, arith, Choices, compacted, AnswersWithin, rooms}
+use Rattle.rnxcmp_c.proofs.Words.{Compact}
 use Rattle.rnxcmp_c.proofs.RunLemmas.{answers-alone, answers-within}
 use Rattle.rnxcmp_c.proofs.exports.rnxcmp_c_compact.Goals as goal
 

@@ -1,16 +1,11 @@
-use Rattle.std.proofs.Common.{◌≤◌, length, map, refl, subst, sym, ◌∙◌, arith}
-use Rattle.crx_base.specs.declared.limits.TheConstants.{INPUT_LIMIT}
-use Rattle.crx_base.specs.meaning.Lines.{lines_of}
-use Rattle.crx_base.specs.meaning.Seen.{seen}
-use Rattle.crx_filter.specs.meaning.Expanded.{expanded_unit, whole_compact}
+use Rattle.rnxcmp_c.proofs.Words.{◌≤◌, length, map, refl, subst, sym, ◌∙◌, arith, INPUT_LIMIT, lines_of, seen}
+use Rattle.rnxcmp_c.proofs.Words.{whole_compact, FilterResult, AnswersWithin, HasNoMemory, rooms, Expand}
+use Rattle.crx_filter.specs.meaning.Expanded.{expanded_unit}
 use Rattle.crx_filter.specs.meaning.Written.{result_of}
-use Rattle.crx_runs.specs.meaning.Results.{FilterResult}
-use Rattle.rnxcmp_c.specs.meaning.Answers.{AnswersWithin, HasNoMemory, rooms}
-use Rattle.rnxcmp_c.specs.meaning.Handles.{Expand}
 use Rattle.rnxcmp_c.proofs.EndedLemmas.{KeepsPromises, keeps-promises}
 use Rattle.rnxcmp_c.proofs.RunLemmas.{answers-alone, answers-within}
-use Rattle.rnxcmp_c.proofs.exports.rnxcmp_c_expand.Goals as goal
 use Rattle.rnxcmp_c.proofs.exports.rnxcmp_c_expand.Goals.{After-answer_of}
+use Rattle.rnxcmp_c.proofs.exports.rnxcmp_c_expand.Goals as goal
 
 pub returns-clause-memory : goal.returns-clause-memory
 returns-clause-memory c memory = answers-alone c.answer_of.ensures memory

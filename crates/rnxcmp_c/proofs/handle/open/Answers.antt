@@ -1,9 +1,5 @@
-use Rattle.std.proofs.Common.{[], ◌∷◌, rules, sym, ap, ◌∙◌, subst, refl}
-use Rattle.rnxcmp_c.specs.Handles.{ReaderStands}
-use Rattle.rnxcmp_c.specs.Opened.{have_ended}
-use Rattle.rnxcmp_c.specs.Past.{limit_for, nothing_fed}
-use Rattle.rnxcmp_c.specs.meaning.Handles.{Task}
-use Rattle.rnxcmp_c.specs.declared.reader.Reader.{Reader}
+use Rattle.rnxcmp_c.proofs.Words.{[], ◌∷◌, rules, sym, ap, ◌∙◌, subst, refl, ReaderStands, have_ended}
+use Rattle.rnxcmp_c.proofs.Words.{limit_for, nothing_fed, Task, Reader}
 use Rattle.rnxcmp_c.proofs.HandleLemmas.{fresh-stands}
 use Rattle.rnxcmp_c.proofs.handle.open.Goals as goal
 

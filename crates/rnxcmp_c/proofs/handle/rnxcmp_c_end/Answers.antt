@@ -1,15 +1,9 @@
-use Rattle.std.proofs.Common.{ℕ, List, [], ◌∷◌, sym, ap, ◌∙◌}
-use Rattle.crx_base.specs.meaning.Choices.{Choices}
-use Rattle.rnxcmp_c.specs.Handles.{IsLastLine}
-use Rattle.rnxcmp_c.specs.Opened.{Holds}
-use Rattle.rnxcmp_c.specs.Past.{past_of}
-use Rattle.rnxcmp_c.specs.meaning.Answers.{BothTexts}
-use Rattle.rnxcmp_c.specs.meaning.Handles.{Task, Expand, Check}
-use Rattle.rnxcmp_c.specs.declared.reader.Reader.{Reader}
+use Rattle.rnxcmp_c.proofs.Words.{ℕ, List, [], ◌∷◌, sym, ap, ◌∙◌, Choices, IsLastLine, Holds, past_of}
+use Rattle.rnxcmp_c.proofs.Words.{BothTexts, Task, Expand, Check, Reader}
 use Rattle.rnxcmp_c.proofs.EndedLemmas.{result-where, run-check, run-expansion}
 use Rattle.rnxcmp_c.proofs.PromiseLemmas.{ends-promise, ends-was_ended, handle-ends, stood}
-use Rattle.rnxcmp_c.proofs.handle.rnxcmp_c_end.Goals as goal
 use Rattle.rnxcmp_c.proofs.handle.rnxcmp_c_end.Goals.{After-deref_mut}
+use Rattle.rnxcmp_c.proofs.handle.rnxcmp_c_end.Goals as goal
 
 pub take_out-reader-requires : goal.take_out-reader-requires
 take_out-reader-requires c =

@@ -1,12 +1,7 @@
-use Rattle.std.proofs.Common.{ℕ, List, [], ◌∷◌, sym, ap, ◌∙◌}
-use Rattle.rnxcmp_c.specs.Opened.{Holds}
-use Rattle.rnxcmp_c.specs.Past.{past_of}
-use Rattle.rnxcmp_c.specs.meaning.Answers.{BothTexts}
-use Rattle.rnxcmp_c.specs.meaning.Handles.{Task}
-use Rattle.rnxcmp_c.specs.declared.reader.Reader.{Reader}
+use Rattle.rnxcmp_c.proofs.Words.{ℕ, List, [], ◌∷◌, sym, ap, ◌∙◌, Holds, past_of, BothTexts, Task, Reader}
 use Rattle.rnxcmp_c.proofs.PromiseLemmas.{feeds-promise, feeds-takes, feeds-was_ended, handle-feeds, stood}
-use Rattle.rnxcmp_c.proofs.handle.rnxcmp_c_feed.Goals as goal
 use Rattle.rnxcmp_c.proofs.handle.rnxcmp_c_feed.Goals.{After-deref_mut}
+use Rattle.rnxcmp_c.proofs.handle.rnxcmp_c_feed.Goals as goal
 
 pub take_out-reader-requires : goal.take_out-reader-requires
 take_out-reader-requires c =

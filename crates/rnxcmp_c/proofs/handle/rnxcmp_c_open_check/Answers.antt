@@ -1,4 +1,4 @@
-use Rattle.rnxcmp_c.specs.meaning.Handles.{Check}
+use Rattle.rnxcmp_c.proofs.Words.{Check}
 use Rattle.rnxcmp_c.proofs.handle.rnxcmp_c_open_check.Goals as goal
 
 pub returns-clause-opened : goal.returns-clause-opened

@@ -1,11 +1,7 @@
-use Rattle.std.proofs.Common.{◌≡◌, [], sym, ap, ◌∙◌}
+use Rattle.rnxcmp_c.proofs.Words.{◌≡◌, [], sym, ap, ◌∙◌, compactor_seen, compaction_filter, Seen, Choices}
+use Rattle.rnxcmp_c.proofs.Words.{Compact}
 use Rattle.crx_rinex.specs.meaning.EpochPlaces.{OpenEpoch}
 use Rattle.crx_filter.specs.CompactionByLine.{Written, compaction_seen}
-use Rattle.crx_filter.specs.CompactorState.{compactor_seen}
-use Rattle.crx_filter.specs.meaning.Directions.{compaction_filter}
-use Rattle.crx_filter.specs.LineByLine.{Seen}
-use Rattle.crx_base.specs.meaning.Choices.{Choices}
-use Rattle.rnxcmp_c.specs.meaning.Handles.{Compact}
 use Rattle.rnxcmp_c.proofs.handle.rnxcmp_c_open_compact.Goals as goal
 
 pub returns-in-Ok-new-2-clause-opened : goal.returns-in-Ok-new-2-clause-opened

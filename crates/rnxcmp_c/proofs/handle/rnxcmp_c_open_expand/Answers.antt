@@ -1,11 +1,7 @@
-use Rattle.std.proofs.Common.{◌≡◌, [], Option, sym, ap, ◌∙◌}
+use Rattle.rnxcmp_c.proofs.Words.{◌≡◌, [], Option, sym, ap, ◌∙◌, expansion_filter, Seen, Choices, Expand}
 use Rattle.crx_compact.specs.OpenEpochs.{OpenRawEpoch}
 use Rattle.crx_compact.specs.Tails.{Tail}
-use Rattle.crx_filter.specs.meaning.Directions.{expansion_filter}
 use Rattle.crx_filter.specs.ExpansionByLine.{expansion_seen}
-use Rattle.crx_filter.specs.LineByLine.{Seen}
-use Rattle.crx_base.specs.meaning.Choices.{Choices}
-use Rattle.rnxcmp_c.specs.meaning.Handles.{Expand}
 use Rattle.rnxcmp_c.proofs.handle.rnxcmp_c_open_expand.Goals as goal
 
 pub returns-in-Ok-new-clause-opened : goal.returns-in-Ok-new-clause-opened

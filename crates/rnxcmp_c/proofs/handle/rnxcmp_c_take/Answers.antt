@@ -1,15 +1,11 @@
-use Rattle.std.proofs.Common.{ℕ, List, [], ◌∷◌, length, take, sym, ap, ◌∙◌, subst}
-use Rattle.crx_base.specs.meaning.Choices.{Choices}
-use Rattle.rnxcmp_c.specs.Handles.{IsLineReached, ReaderStands}
-use Rattle.rnxcmp_c.specs.Opened.{HandsOut, Holds, messages_kept, output_kept}
-use Rattle.rnxcmp_c.specs.Past.{past_of, taken_with}
-use Rattle.rnxcmp_c.specs.meaning.Answers.{BothTexts, rooms}
-use Rattle.rnxcmp_c.specs.meaning.Handles.{Task, Expand, Check}
-use Rattle.rnxcmp_c.specs.declared.reader.Reader.{Reader}
+use Rattle.rnxcmp_c.proofs.Words.{ℕ, List, [], ◌∷◌, length, take, sym, ap, ◌∙◌, subst, Choices, IsLineReached}
+use Rattle.rnxcmp_c.proofs.Words.{ReaderStands, Holds, past_of, taken_with, BothTexts, rooms, Task, Expand}
+use Rattle.rnxcmp_c.proofs.Words.{Check, Reader}
+use Rattle.rnxcmp_c.specs.Opened.{HandsOut, messages_kept, output_kept}
 use Rattle.rnxcmp_c.proofs.EndedLemmas.{ended-where, result-where, run-check, run-expansion}
 use Rattle.rnxcmp_c.proofs.PromiseLemmas.{handle-promise, stood}
-use Rattle.rnxcmp_c.proofs.handle.rnxcmp_c_take.Goals as goal
 use Rattle.rnxcmp_c.proofs.handle.rnxcmp_c_take.Goals.{After-deref_mut}
+use Rattle.rnxcmp_c.proofs.handle.rnxcmp_c_take.Goals as goal
 
 pub take_out-reader-requires : goal.take_out-reader-requires
 take_out-reader-requires c =

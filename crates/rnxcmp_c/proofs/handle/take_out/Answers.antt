@@ -1,5 +1,4 @@
-use Rattle.std.proofs.Common.{ap, ◌∙◌}
-use Rattle.rnxcmp_c.specs.declared.handle.Handle.{Handle}
+use Rattle.rnxcmp_c.proofs.Words.{ap, ◌∙◌, Handle}
 use Rattle.rnxcmp_c.proofs.handle.take_out.Goals as goal
 
 pub into_loose-requires : goal.into_loose-requires

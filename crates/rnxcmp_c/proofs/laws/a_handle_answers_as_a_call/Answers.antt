@@ -1,12 +1,9 @@
-use Rattle.std.proofs.Common.{◌≡◌, ◌≤◌, inl, inr, ⊎_elim, ℕ, List, length, arith, refl, sym, ap, ◌∙◌, subst}
-use Rattle.crx_base.specs.meaning.Lines.{InputLine}
-use Rattle.crx_runs.specs.meaning.Results.{Begins, Course, FilterResult}
-use Rattle.rnxcmp_c.specs.Past.{filter_for, result_for}
-use Rattle.rnxcmp_c.specs.declared.answer.Answer.{Answer}
-use Rattle.rnxcmp_c.specs.meaning.Answers.{BothTexts, ExceedsLimit, fault_code_in, line_in, placed, rooms}
-use Rattle.rnxcmp_c.specs.meaning.Answers.{status_in}
-use Rattle.rnxcmp_c.specs.meaning.Handles.{LacksLastMessage, RunHasResult, StopsAtLimit, Task, handle_answer}
-use Rattle.rnxcmp_c.specs.meaning.Handles.{run_for, with_one_more}
+use Rattle.rnxcmp_c.proofs.Words.{◌≡◌, ◌≤◌, inl, inr, ⊎_elim, ℕ, List, length, arith, refl, sym, ap, ◌∙◌}
+use Rattle.rnxcmp_c.proofs.Words.{subst, InputLine, Begins, Course, FilterResult, filter_for, result_for}
+use Rattle.rnxcmp_c.proofs.Words.{Answer, BothTexts, fault_code_in, line_in, placed, rooms, status_in}
+use Rattle.rnxcmp_c.proofs.Words.{LacksLastMessage, RunHasResult, StopsAtLimit, Task, handle_answer, run_for}
+use Rattle.rnxcmp_c.proofs.Words.{with_one_more}
+use Rattle.rnxcmp_c.specs.meaning.Answers.{ExceedsLimit}
 use Rattle.rnxcmp_c.proofs.Kept.{status-where_it_fits}
 use Rattle.rnxcmp_c.proofs.ReaderLemmas.{lawful-for, length-begins, one_more-first, output-for}
 use Rattle.rnxcmp_c.proofs.laws.a_handle_answers_as_a_call.Goals as goal

@@ -1,10 +1,7 @@
-use Rattle.std.proofs.Common.{◌≡◌, refl, ap, arith}
+use Rattle.rnxcmp_c.proofs.Words.{◌≡◌, refl, ap, arith, AnyEngine, Compacting, Expanding, Checking, Held}
+use Rattle.rnxcmp_c.proofs.Words.{Reader}
 use Rattle.std.proofs.lemmas.List.{length-drop}
 use Rattle.rnxcmp_c.specs.Holdings.{engine_with}
-use Rattle.rnxcmp_c.specs.declared.engines.AnyEngine.{AnyEngine}
-use Rattle.rnxcmp_c.specs.declared.engines.AnyEngine.TheVariants.{Compacting, Expanding, Checking}
-use Rattle.rnxcmp_c.specs.declared.held.Held.{Held}
-use Rattle.rnxcmp_c.specs.declared.reader.Reader.{Reader}
 use Rattle.rnxcmp_c.proofs.laws.handle_holds.Goals as goal
 
 -- an engine with all parts of another is that other

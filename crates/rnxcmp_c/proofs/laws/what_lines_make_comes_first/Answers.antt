@@ -1,8 +1,4 @@
-use Rattle.std.proofs.Common.{ℕ, List, ◌++◌}
-use Rattle.crx_base.specs.meaning.Lines.{InputLine, lines_of}
-use Rattle.crx_base.specs.declared.fault.At.{At}
-use Rattle.crx_lines.proofs.ProgressLemmas.{ended_lines-come_first}
-use Rattle.rnxcmp_c.specs.meaning.Handles.{Task}
+use Rattle.rnxcmp_c.proofs.Words.{ℕ, List, ◌++◌, InputLine, lines_of, At, ended_lines-come_first, Task}
 use Rattle.rnxcmp_c.proofs.PromiseLemmas.{messages-own, output-first}
 use Rattle.rnxcmp_c.proofs.laws.what_lines_make_comes_first.Goals as goal
 

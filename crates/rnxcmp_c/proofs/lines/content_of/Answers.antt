@@ -1,6 +1,6 @@
-use Rattle.std.proofs.Common.{sym, ap, ◌∙◌, eq-eqb}
+use Rattle.rnxcmp_c.proofs.Words.{sym, ap, ◌∙◌, without_return}
+use Rattle.std.proofs.Common.{eq-eqb}
 use Rattle.std.proofs.lemmas.Bool.{ne_eqb}
-use Rattle.crx_base.specs.meaning.Lines.{without_return}
 use Rattle.crx_lines.proofs.ReturnLemmas.{without_return-cr, without_return-other}
 use Rattle.rnxcmp_c.proofs.lines.content_of.Goals as goal
 

@@ -1,4 +1,4 @@
-use Rattle.std.proofs.Common.{inr, refl, rules}
+use Rattle.rnxcmp_c.proofs.Words.{inr, refl, rules}
 use Rattle.rnxcmp_c.proofs.lines.counted.Goals as goal
 
 pub returns-in-Err-Unwritten-clause-stops : goal.returns-in-Err-Unwritten-clause-stops

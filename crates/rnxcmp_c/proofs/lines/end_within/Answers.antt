@@ -1,14 +1,11 @@
-use Rattle.std.proofs.Common.{ℕ, ◌≤◌, List, [], None, length, refl, sym, subst}
-use Rattle.std.proofs.lemmas.Result.{IfErr-weaker, IfOk-weaker, on_ok_weaker}
-use Rattle.crx_base.specs.meaning.Lines.{InputLine}
-use Rattle.rnxcmp_c.specs.Waiting.{waiting}
-use Rattle.rnxcmp_c.specs.declared.held.Held.{Held}
+use Rattle.rnxcmp_c.proofs.Words.{ℕ, ◌≤◌, List, [], None, length, refl, sym, subst, IfErr-weaker, IfOk-weaker}
+use Rattle.rnxcmp_c.proofs.Words.{on_ok_weaker, InputLine, waiting, Held}
 use Rattle.rnxcmp_c.proofs.Cut.{halted-stops, kept-where_done}
 use Rattle.rnxcmp_c.proofs.WithinLemmas.{Ended, Kept, more-messages-either, more-output-either, step-stays}
 use Rattle.rnxcmp_c.proofs.WithinLemmas.{step-stops}
 use Rattle.rnxcmp_c.proofs.lines.end_within.Given.{Over}
-use Rattle.rnxcmp_c.proofs.lines.end_within.Goals as goal
 use Rattle.rnxcmp_c.proofs.lines.end_within.Goals.{After-take_end-taken}
+use Rattle.rnxcmp_c.proofs.lines.end_within.Goals as goal
 
 abbrev mid : (g : Over) → After-take_end-taken g → Held
 mid g c = record c.args.held.now {

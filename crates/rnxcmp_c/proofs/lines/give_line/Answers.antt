@@ -1,15 +1,12 @@
-use Rattle.std.proofs.Common.{◌≡◌, ℕ, List, length, ap, subst, ◌∙◌, ◌<◌, ◌≤◌}
-use Rattle.std.proofs.Common.{rules}
+use Rattle.rnxcmp_c.proofs.Words.{◌≡◌, ℕ, List, length, ap, subst, ◌∙◌, ◌<◌, ◌≤◌, rules, IfErr-weaker}
+use Rattle.rnxcmp_c.proofs.Words.{IfOk-weaker, InputLine, LINE_LIMIT, piece_line}
 use Rattle.std.proofs.lemmas.Bool.{lt-ltb}
-use Rattle.std.proofs.lemmas.Result.{IfErr-weaker, IfOk-weaker}
-use Rattle.crx_base.specs.meaning.Lines.{InputLine}
-use Rattle.crx_base.specs.declared.limits.TheConstants.{LINE_LIMIT}
 use Rattle.crx_lines.specs.Reading.{line_shown}
-use Rattle.rnxcmp_c.specs.Going.{LineIsGiven, piece_line}
+use Rattle.rnxcmp_c.specs.Going.{LineIsGiven}
 use Rattle.rnxcmp_c.proofs.Cut.{cut-stops, kept-where_done}
 use Rattle.rnxcmp_c.proofs.PieceLemmas.{long-where_long, whole-where_not_long}
-use Rattle.rnxcmp_c.proofs.lines.give_line.Goals as goal
 use Rattle.rnxcmp_c.proofs.lines.give_line.Goals.{then-is_ended, else-is_ended}
+use Rattle.rnxcmp_c.proofs.lines.give_line.Goals as goal
 
 pub returns-then-content-gt-LINE_LIMIT-clause-step : goal.returns-then-content-gt-LINE_LIMIT-clause-step
 returns-then-content-gt-LINE_LIMIT-clause-step g c = λ (lines : List InputLine) (whole : List ℕ) shown kept.

@@ -1,4 +1,4 @@
-use Rattle.std.proofs.Common.{sym, ap, ◌∙◌}
+use Rattle.rnxcmp_c.proofs.Words.{sym, ap, ◌∙◌}
 use Rattle.crx_base.specs.meaning.Lines.{ends_with_return}
 use Rattle.crx_lines.proofs.ReturnLemmas.{ends_with_return-push}
 use Rattle.rnxcmp_c.proofs.lines.has_return.Goals as goal

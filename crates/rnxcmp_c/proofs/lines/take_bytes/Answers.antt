@@ -1,15 +1,8 @@
-use Rattle.std.proofs.Common.{rules, ℕ, ◌≡◌, ◌+◌, ◌-◌, ◌<◌, ◌≤◌, List, ◌++◌, length, take, drop, sym, ap, ◌∙◌}
-use Rattle.std.proofs.Common.{subst, arith, append_assoc}
-use Rattle.std.proofs.Common.{length-append, length-take-le, ⊎_elim}
-use Rattle.std.proofs.lemmas.List.{take-append-drop, take-append-le}
-use Rattle.crx_lines.specs.Reading.{HasNoFeed}
-use Rattle.std.proofs.lemmas.Result.{err_from_is_err_and}
-use Rattle.crx_runs.specs.meaning.Filters.{Filter}
-use Rattle.rnxcmp_c.specs.Going.{RunBreaks, IsGoing}
-use Rattle.rnxcmp_c.specs.Past.{HandlePast, fed_with, StopsSoon}
-use Rattle.rnxcmp_c.specs.Holding.{ready_in}
-use Rattle.rnxcmp_c.specs.declared.held.Held.{Held}
-use Rattle.rnxcmp_c.specs.declared.limits.TheConstants.{READY_LIMIT}
+use Rattle.rnxcmp_c.proofs.Words.{rules, ℕ, ◌≡◌, ◌+◌, ◌-◌, ◌<◌, ◌≤◌, List, ◌++◌, length, take, drop, sym, ap}
+use Rattle.rnxcmp_c.proofs.Words.{◌∙◌, subst, arith, append_assoc, length-append, ⊎_elim, take-append-drop}
+use Rattle.rnxcmp_c.proofs.Words.{take-append-le, HasNoFeed, err_from_is_err_and, Filter, RunBreaks, IsGoing}
+use Rattle.rnxcmp_c.proofs.Words.{HandlePast, fed_with, StopsSoon, ready_in, Held, READY_LIMIT}
+use Rattle.std.proofs.Common.{length-take-le}
 use Rattle.rnxcmp_c.proofs.GoingLemmas.{breaks-after, ended-more, soon-by}
 use Rattle.rnxcmp_c.proofs.PieceLemmas.{none-or}
 use Rattle.rnxcmp_c.proofs.lines.take_bytes.Goals as goal

@@ -1,8 +1,5 @@
-use Rattle.std.proofs.Common.{◌≡◌, ◌<◌, List, [], ℕ, ◌++◌, length}
-use Rattle.rnxcmp_c.specs.Going.{IsGoing}
-use Rattle.rnxcmp_c.specs.Past.{HandlePast, fed_with, StopsSoon}
-use Rattle.rnxcmp_c.specs.Holding.{ready_in}
-use Rattle.rnxcmp_c.specs.declared.limits.TheConstants.{READY_LIMIT}
+use Rattle.rnxcmp_c.proofs.Words.{◌≡◌, ◌<◌, List, [], ℕ, ◌++◌, length, IsGoing, HandlePast, fed_with}
+use Rattle.rnxcmp_c.proofs.Words.{StopsSoon, ready_in, READY_LIMIT}
 use Rattle.rnxcmp_c.proofs.lines.take_bytes.Given as goal
 
 abbrev pub invariant-bytes : goal.invariant-bytes

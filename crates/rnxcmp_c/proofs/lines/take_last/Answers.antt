@@ -1,12 +1,8 @@
-use Rattle.std.proofs.Common.{◌≡◌, ℕ, ◌+◌, ◌<◌, List, [], ◌∷◌, length, sym, ap, subst}
-use Rattle.std.proofs.Common.{false, ◌∙◌, arith, length-append, length-take}
-use Rattle.rnxcmp_c.specs.declared.limits.TheConstants.{LINE_ROOM}
-use Rattle.std.proofs.lemmas.Result.{on_ok_weaker, IfErr-weaker, err_from_is_err_and}
-use Rattle.crx_base.specs.meaning.Lines.{InputLine}
-use Rattle.crx_base.specs.meaning.Seen.{ended_lines_of}
-use Rattle.crx_runs.specs.meaning.Filters.{Filter, with_next}
-use Rattle.rnxcmp_c.specs.Going.{EndIsTaken, piece_line}
-use Rattle.rnxcmp_c.specs.Past.{HandlePast}
+use Rattle.rnxcmp_c.proofs.Words.{◌≡◌, ℕ, ◌+◌, ◌<◌, List, [], ◌∷◌, length, sym, ap, subst, false, ◌∙◌, arith}
+use Rattle.rnxcmp_c.proofs.Words.{length-append, length-take, LINE_ROOM, on_ok_weaker, IfErr-weaker}
+use Rattle.rnxcmp_c.proofs.Words.{err_from_is_err_and, ended_lines_of, Filter, with_next, piece_line}
+use Rattle.rnxcmp_c.proofs.Words.{HandlePast}
+use Rattle.rnxcmp_c.specs.Going.{EndIsTaken}
 use Rattle.rnxcmp_c.proofs.GoingLemmas.{all-ended, all-but_last, ends-well, ends-stopped, last-text}
 use Rattle.rnxcmp_c.proofs.GoingLemmas.{last-flag, last-good, last-left, last-sound, last-stopped}
 use Rattle.rnxcmp_c.proofs.lines.take_last.Given.{Over}

@@ -1,12 +1,7 @@
-use Rattle.std.proofs.Common.{◌≡◌, ℕ, ◌+◌, ◌-◌, List, [], ◌∷◌, ◌++◌, length, take, drop, refl, sym, ap, ◌∙◌}
-use Rattle.std.proofs.Common.{subst, arith}
-use Rattle.std.proofs.lemmas.List.{take_all, take_more}
-use Rattle.std.proofs.lemmas.Result.{err_from_is_err_and}
-use Rattle.crx_base.specs.meaning.Seen.{ended_lines_of}
-use Rattle.crx_lines.specs.Reading.{HasNoFeed}
-use Rattle.rnxcmp_c.specs.Going.{RunBreaks, IsGoing}
-use Rattle.rnxcmp_c.specs.Past.{HandlePast, fed_with}
-use Rattle.rnxcmp_c.specs.declared.held.Held.{Held}
+use Rattle.rnxcmp_c.proofs.Words.{◌≡◌, ℕ, ◌+◌, ◌-◌, List, [], ◌∷◌, ◌++◌, length, take, drop, refl, sym, ap}
+use Rattle.rnxcmp_c.proofs.Words.{◌∙◌, subst, arith, take_all, err_from_is_err_and, ended_lines_of, HasNoFeed}
+use Rattle.rnxcmp_c.proofs.Words.{RunBreaks, IsGoing, HandlePast, fed_with, Held}
+use Rattle.std.proofs.lemmas.List.{take_more}
 use Rattle.rnxcmp_c.specs.declared.piece.Piece.{Piece}
 use Rattle.rnxcmp_c.proofs.GoingLemmas.{IsSame, breaks, cut-at, goes-on, keeps-going, mid-kept}
 use Rattle.rnxcmp_c.proofs.GoingLemmas.{no_feed-before}

@@ -1,11 +1,6 @@
-use Rattle.std.proofs.Common.{◌≡◌, ℕ, ◌+◌, ◌≤◌, List, [], None, IfErr, length, refl, ap, sym, subst, ◌∙◌}
-use Rattle.std.proofs.lemmas.List.{take_all}
-use Rattle.std.proofs.lemmas.Result.{IfErr-weaker, on_ok_weaker}
-use Rattle.crx_base.specs.meaning.Lines.{InputLine}
-use Rattle.rnxcmp_c.specs.Holding.{StopsCounted}
-use Rattle.rnxcmp_c.specs.Waiting.{waiting}
-use Rattle.rnxcmp_c.specs.declared.held.Held.{Held}
-use Rattle.rnxcmp_c.specs.declared.limits.TheConstants.{LINE_ROOM}
+use Rattle.rnxcmp_c.proofs.Words.{◌≡◌, ℕ, ◌+◌, ◌≤◌, List, [], None, IfErr, length, refl, ap, sym, subst, ◌∙◌}
+use Rattle.rnxcmp_c.proofs.Words.{take_all, IfErr-weaker, on_ok_weaker, InputLine, StopsCounted, waiting}
+use Rattle.rnxcmp_c.proofs.Words.{Held, LINE_ROOM}
 use Rattle.rnxcmp_c.proofs.WithinLemmas.{more-messages-either, more-output-either, step-stays, step-stops}
 use Rattle.rnxcmp_c.proofs.lines.take_within.Goals as goal
 

@@ -1,5 +1,5 @@
-use Rattle.std.proofs.Common.{inl, inr, List, ◌++◌, ℕ, length, refl, ap, subst, ◌∙◌}
-use Rattle.rnxcmp_c.specs.Waiting.{IsTextRefused, waiting}
+use Rattle.rnxcmp_c.proofs.Words.{inl, inr, List, ◌++◌, ℕ, length, refl, ap, subst, ◌∙◌, waiting}
+use Rattle.rnxcmp_c.specs.Waiting.{IsTextRefused}
 use Rattle.rnxcmp_c.proofs.reader.put_down.Goals as goal
 
 pub returns-then-add : goal.returns-then-add

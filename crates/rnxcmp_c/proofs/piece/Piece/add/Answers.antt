@@ -1,8 +1,8 @@
-use Rattle.std.proofs.Common.{ℕ, ◌≡◌, ◌+◌, ◌-◌, ◌++◌, List, length, min, take, sym, ap, ◌∙◌, arith, vec_len}
+use Rattle.rnxcmp_c.proofs.Words.{ℕ, ◌≡◌, ◌+◌, ◌-◌, ◌++◌, List, length, take, sym, ap, ◌∙◌, arith}
+use Rattle.rnxcmp_c.proofs.Words.{take-append-add, LINE_ROOM}
+use Rattle.std.proofs.Common.{min, vec_len}
 use Rattle.std.proofs.lemmas.List.{take_min}
 use Rattle.std.proofs.Math.Nat.{min_comm}
-use Rattle.std.proofs.Math.Seq.{take-append-add}
-use Rattle.rnxcmp_c.specs.declared.limits.TheConstants.{LINE_ROOM}
 use Rattle.rnxcmp_c.proofs.piece.Piece.add.Goals as goal
 
 pub returns : goal.returns

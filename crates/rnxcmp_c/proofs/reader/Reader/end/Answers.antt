@@ -1,6 +1,4 @@
-use Rattle.std.proofs.Common.{◌∙◌, inr, refl}
-use Rattle.rnxcmp_c.specs.Past.{HandlePast}
-use Rattle.rnxcmp_c.specs.meaning.Handles.{Task}
+use Rattle.rnxcmp_c.proofs.Words.{◌∙◌, inr, refl, HandlePast, Task}
 use Rattle.rnxcmp_c.proofs.ReaderLemmas.{all-over, stops-at_end}
 use Rattle.rnxcmp_c.proofs.reader.Reader.end.Goals as goal
 

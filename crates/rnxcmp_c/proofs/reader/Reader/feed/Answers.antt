@@ -1,11 +1,5 @@
-use Rattle.std.proofs.Common.{ℕ, ◌∙◌, List, Some, length, sym, subst, arith}
-use Rattle.std.proofs.lemmas.List.{take_all}
-use Rattle.rnxcmp_c.specs.Handles.{HasFed}
-use Rattle.rnxcmp_c.specs.Past.{HandlePast, fed_with}
-use Rattle.rnxcmp_c.specs.meaning.Handles.{Task}
-use Rattle.rnxcmp_c.specs.Past.{StopsSoon}
-use Rattle.rnxcmp_c.specs.declared.reader.Reader.{Reader}
-use Rattle.crx_runs.specs.meaning.Filters.{Filter}
+use Rattle.rnxcmp_c.proofs.Words.{ℕ, ◌∙◌, List, Some, length, sym, subst, arith, take_all, HasFed, HandlePast}
+use Rattle.rnxcmp_c.proofs.Words.{fed_with, Task, StopsSoon, Reader, Filter}
 use Rattle.rnxcmp_c.proofs.ReaderLemmas.{filter-is, stops-over}
 use Rattle.rnxcmp_c.proofs.reader.Reader.feed.Goals as goal
 

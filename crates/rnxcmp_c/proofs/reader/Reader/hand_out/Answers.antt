@@ -1,8 +1,5 @@
-use Rattle.std.proofs.Common.{List, ℕ, length, take, rules, sym, ap, ◌∙◌, ◌++◌}
-use Rattle.std.proofs.lemmas.List.{take-append-drop}
-use Rattle.rnxcmp_c.specs.Past.{HandlePast}
-use Rattle.rnxcmp_c.specs.meaning.Handles.{Task}
-use Rattle.rnxcmp_c.specs.Waiting.{waiting}
+use Rattle.rnxcmp_c.proofs.Words.{List, ℕ, length, take, rules, sym, ap, ◌∙◌, ◌++◌, take-append-drop}
+use Rattle.rnxcmp_c.proofs.Words.{HandlePast, Task, waiting}
 use Rattle.rnxcmp_c.proofs.TakenLemmas.{taken-stands}
 use Rattle.rnxcmp_c.proofs.reader.Reader.hand_out.Goals as goal
 

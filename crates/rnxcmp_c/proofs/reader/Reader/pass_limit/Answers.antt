@@ -1,5 +1,4 @@
-use Rattle.rnxcmp_c.specs.Past.{HandlePast}
-use Rattle.rnxcmp_c.specs.meaning.Handles.{Task}
+use Rattle.rnxcmp_c.proofs.Words.{HandlePast, Task}
 use Rattle.rnxcmp_c.proofs.ReaderLemmas.{passed-over}
 use Rattle.rnxcmp_c.proofs.reader.Reader.pass_limit.Goals as goal
 

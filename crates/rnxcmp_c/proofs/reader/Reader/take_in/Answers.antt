@@ -1,7 +1,5 @@
-use Rattle.std.proofs.Common.{◌-◌, refl, sym, ap, ◌∙◌, arith, length, length-take}
-use Rattle.crx_base.specs.declared.limits.TheConstants.{INPUT_LIMIT}
-use Rattle.rnxcmp_c.specs.Past.{HandlePast}
-use Rattle.rnxcmp_c.specs.meaning.Handles.{Task}
+use Rattle.rnxcmp_c.proofs.Words.{◌-◌, refl, sym, ap, ◌∙◌, arith, length, length-take, INPUT_LIMIT}
+use Rattle.rnxcmp_c.proofs.Words.{HandlePast, Task}
 use Rattle.rnxcmp_c.proofs.FedLemmas.{fed-by, fed-bytes, passed-bytes, runs-where_none}
 use Rattle.rnxcmp_c.proofs.reader.Reader.take_in.Goals as goal
 

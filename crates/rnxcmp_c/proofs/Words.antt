@@ -1,0 +1,79 @@
+-- The words in which these proofs speak: the definitions of this crate, of the crates below, and of std.
+pub use Rattle.std.proofs.Common.{◌≡◌, inl, inr, ℕ, Bool, true, List, [], ◌∷◌, ◌++◌, take, drop, Option, Some}
+pub use Rattle.std.proofs.Common.{None, refl, sym, ap, ◌∙◌, append-nil, append_assoc, arith, length}
+pub use Rattle.std.proofs.Common.{length-append, ◌⊎◌, ⊎_elim, subst, ◌-◌, ◌<◌, false, is_some, length-take}
+pub use Rattle.std.proofs.Common.{◌+◌, ◌≤◌, ◌||◌, map, IfErr, IfOk, rules}
+pub use Rattle.std.proofs.Math.Seq.{take-append-add}
+pub use Rattle.std.proofs.lemmas.List.{take-append-drop, take-append-le, take_all}
+pub use Rattle.std.proofs.lemmas.Result.{IfErr-weaker, IfOk-weaker, on_ok_weaker, err_from_is_err_and}
+pub use Rattle.std.specs.Prelude.{nat_le}
+pub use Rattle.crx_base.specs.declared.fault.At.{At}
+pub use Rattle.crx_base.specs.declared.fault.Fault.TheVariants.{InputTooLong, OutOfMemory}
+pub use Rattle.crx_base.specs.declared.limits.TheConstants.{INPUT_LIMIT, LINE_LIMIT}
+pub use Rattle.crx_base.specs.meaning.Choices.{Choices}
+pub use Rattle.crx_base.specs.meaning.Faults.{code_of_fault}
+pub use Rattle.crx_base.specs.meaning.Lines.{InputLine, lines_of, without_return}
+pub use Rattle.crx_base.specs.meaning.Seen.{ended_lines_of, seen}
+pub use Rattle.crx_filter.proofs.following.CheckLawful.{check-lawful}
+pub use Rattle.crx_filter.proofs.following.Lawful.{compaction-lawful, expansion-lawful}
+pub use Rattle.crx_filter.proofs.standard.Lossless.{what-passes}
+pub use Rattle.crx_filter.specs.CompactorState.{compactor_seen}
+pub use Rattle.crx_filter.specs.LineByLine.{Seen}
+pub use Rattle.crx_filter.specs.meaning.Compacted.{compacted}
+pub use Rattle.crx_filter.specs.meaning.Directions.{compaction_filter, expansion_filter}
+pub use Rattle.crx_filter.specs.meaning.Expanded.{expanded, whole_compact}
+pub use Rattle.crx_filter.specs.meaning.Standard.{checked, Findings, checked_by, findings_of, report_status}
+pub use Rattle.crx_lines.proofs.ProgressLemmas.{ended_lines-come_first}
+pub use Rattle.crx_lines.specs.Reading.{HasNoFeed}
+pub use Rattle.crx_runs.specs.Lawful.{IsLawful}
+pub use Rattle.crx_runs.specs.declared.outcome.Outcome.{Outcome}
+pub use Rattle.crx_runs.specs.declared.taking.Halt.{Halt}
+pub use Rattle.crx_runs.specs.declared.taking.Halt.TheVariants.{Unwritten, Unreported}
+pub use Rattle.crx_runs.specs.meaning.Filters.{Filter, with_next}
+pub use Rattle.crx_runs.specs.meaning.Messages.{notices_text, error_text}
+pub use Rattle.crx_runs.specs.meaning.Results.{Begins, Course, FilterResult, are_some, result_of_course}
+pub use Rattle.crx_runs.specs.meaning.Runs.{FaultIs}
+pub use Rattle.crx_runs.specs.meaning.Spans.{AreNext, Device}
+pub use Rattle.rnxcmp_c.specs.Going.{IsKept, StopsBy, IsText, IsGoing, MovesOn, EndsThere, piece_line, IsAll}
+pub use Rattle.rnxcmp_c.specs.Going.{IsCutBy, LineFails, RanOutAt, RunsShort, StopsShort, EndsPastLimit}
+pub use Rattle.rnxcmp_c.specs.Going.{IsPastLimit, MovesWithin, PassesLimit, RunBreaks, RunFails, StepStops}
+pub use Rattle.rnxcmp_c.specs.Going.{IsLineEnded}
+pub use Rattle.rnxcmp_c.specs.Handles.{FeedsBy, FeedsBytes, HasFed, ReaderRuns, StandsBy, answer_now}
+pub use Rattle.rnxcmp_c.specs.Handles.{HasEndedBy, HasFedBy, HasPassedBy, ReaderIsOver, ReaderStands}
+pub use Rattle.rnxcmp_c.specs.Handles.{RunIsOverLimit, ReaderHasEnded, RunIsOutOfMemory, IsLastLine}
+pub use Rattle.rnxcmp_c.specs.Handles.{IsLineReached, RunIsTooLong, shows_of, too_long_after, IsSaid}
+pub use Rattle.rnxcmp_c.specs.Handles.{engine_filter, has_ended_of}
+pub use Rattle.rnxcmp_c.specs.Holding.{IsMemoryLacking, ready_in, texts_of_held, StopsCounted}
+pub use Rattle.rnxcmp_c.specs.Opened.{Holds, have_ended}
+pub use Rattle.rnxcmp_c.specs.Past.{HandlePast, fed_with, StopsSoon, allowed_after, filter_for, limit_for}
+pub use Rattle.rnxcmp_c.specs.Past.{nothing_fed, result_for, HidesFault, memory_next, past_of, texts_made}
+pub use Rattle.rnxcmp_c.specs.Past.{taken_with}
+pub use Rattle.rnxcmp_c.specs.Waiting.{waiting}
+pub use Rattle.rnxcmp_c.specs.declared.answer.Answer.{Answer}
+pub use Rattle.rnxcmp_c.specs.declared.answer.TheConstants.{OUTPUT_LIMIT, NO_ROOM}
+pub use Rattle.rnxcmp_c.specs.declared.engines.AnyEngine.{AnyEngine}
+pub use Rattle.rnxcmp_c.specs.declared.engines.AnyEngine.TheVariants.{Compacting, Expanding, Checking}
+pub use Rattle.rnxcmp_c.specs.declared.handle.Handle.{Handle}
+pub use Rattle.rnxcmp_c.specs.declared.held.Held.{Held}
+pub use Rattle.rnxcmp_c.specs.declared.limits.TheConstants.{LINE_ROOM, READY_LIMIT}
+pub use Rattle.rnxcmp_c.specs.declared.pending.Pending.{Pending}
+pub use Rattle.rnxcmp_c.specs.declared.reader.Reader.{Reader}
+pub use Rattle.rnxcmp_c.specs.declared.stop.Stop.{Stop}
+pub use Rattle.rnxcmp_c.specs.declared.stop.Stop.TheVariants.{Fault, Limit}
+pub use Rattle.rnxcmp_c.specs.meaning.Answers.{BothTexts, HasNoMemory, fault_code_in, bare_answer, IsAnswer}
+pub use Rattle.rnxcmp_c.specs.meaning.Answers.{status_in, line_in, KeepsToLimit, AnswersWithin, placed, rooms}
+pub use Rattle.rnxcmp_c.specs.meaning.Handles.{LacksLastMessage, RunHasEnded, RunHasResult, StopsAtLimit}
+pub use Rattle.rnxcmp_c.specs.meaning.Handles.{StopsForMemory, StopsWhenFull, Task, run_for, with_one_more}
+pub use Rattle.rnxcmp_c.specs.meaning.Handles.{Compact, Expand, Check, handle_answer}
+pub use Rattle.rnxcmp_c.specs.meaning.Lossless.{CallBringsBackWhatPasses}
+pub use Rattle.rnxcmp_c.specs.meaning.Promises.{CallBringsBackWhatWasCompacted, CallSavesAllElse}
+pub use denote.Builtin.{RawPtr}
+pub use denote.RattleType.{Valss}
+pub use denote.RawPtr.{Ptr, ptr_val}
+pub use denote.Steps.{nothing}
+pub use denote.Struct.Owning.{shape}
+pub use denote.Struct.Struct.{within}
+pub use mir.Val.{Val, vstruct, vcons, vnil}
+pub use seplogic.Ra.Ura.{Ura}
+pub use types.Kit.{Item, Goal, Step, step, ‵, ◌$◌, fjoin, fpack, feq_i}
+pub use types.Logic.{Logic}
