@@ -6,9 +6,10 @@ use Rattle.rnxcmp_c.proofs.Words.{take-append-add, take-append-drop, take-append
 use Rattle.rnxcmp_c.proofs.Words.{ended_lines_of, HasNoFeed, At, IsLawful, Filter, with_next, notices_text}
 use Rattle.rnxcmp_c.proofs.Words.{Begins, Course, are_some, Held, waiting, IsText, IsGoing, MovesOn}
 use Rattle.rnxcmp_c.proofs.Words.{EndsThere, HandlePast, fed_with, StopsSoon, with_one_more, piece_line}
-use Rattle.rnxcmp_c.proofs.Words.{IsAll, IsCutBy, LineFails, RanOutAt, RunsShort, StopsShort, EndsPastLimit}
-use Rattle.rnxcmp_c.proofs.Words.{IsPastLimit, MovesWithin, PassesLimit, RunBreaks, RunFails, StepStops}
-use Rattle.rnxcmp_c.proofs.Words.{IsMemoryLacking, ready_in, LINE_ROOM, READY_LIMIT, Stop, Fault, Limit}
+use Rattle.rnxcmp_c.proofs.Words.{IsAll, IsCutBy, LineFails, RanOutAt, StopsShort, EndsPastLimit, IsPastLimit}
+use Rattle.rnxcmp_c.proofs.Words.{MovesWithin, PassesLimit, RunBreaks, RunFails, StepStops, IsMemoryLacking}
+use Rattle.rnxcmp_c.proofs.Words.{ready_in, LINE_ROOM, READY_LIMIT, Stop, Fault, Limit}
+use Rattle.rnxcmp_c.specs.Going.{RunsShort, IsBroken, IsFailed, AddsWithin, IsKeptWithin}
 use Rattle.std.proofs.Common.{◌≢◌, slice_index}
 use Rattle.std.proofs.lemmas.List.{drop_more, get_or-take}
 use Rattle.std.proofs.lemmas.List.Elements.{All-append, All-from_get_or}
@@ -16,7 +17,6 @@ use Rattle.crx_lines.proofs.ProgressLemmas.{lines-first, lines-last, ended_lines
 use Rattle.crx_runs.specs.Engines.{Awaited}
 use Rattle.crx_runs.specs.meaning.Messages.{warning_text}
 use Rattle.rnxcmp_c.specs.Counting.{take-of_taken}
-use Rattle.rnxcmp_c.specs.Going.{IsBroken, IsFailed, AddsWithin, IsKeptWithin}
 use Rattle.rnxcmp_c.specs.Holding.{AreUnfailed}
 use Rattle.rnxcmp_c.proofs.PieceLemmas.{none-where_none}
 

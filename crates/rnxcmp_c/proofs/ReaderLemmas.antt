@@ -1,26 +1,25 @@
 -- A reader's run has ended as the whole run of its input does.
 use Rattle.rnxcmp_c.proofs.Words.{◌≡◌, ◌⊎◌, inl, inr, ⊎_elim, ℕ, List, [], ◌++◌, Option, Some, None, refl}
 use Rattle.rnxcmp_c.proofs.Words.{sym, ap, ◌∙◌, subst, ◌<◌, ◌≤◌, ◌+◌, ◌∷◌, is_some, arith, length, append-nil}
-use Rattle.rnxcmp_c.proofs.Words.{append_assoc, length-append, take, InputLine, lines_of, ended_lines_of}
-use Rattle.rnxcmp_c.proofs.Words.{INPUT_LIMIT, At, InputTooLong, OutOfMemory, compaction_filter}
-use Rattle.rnxcmp_c.proofs.Words.{expansion_filter, IsLawful, Filter, with_next, error_text, notices_text}
-use Rattle.rnxcmp_c.proofs.Words.{Begins, Course, result_of_course, Findings, checked_by, findings_of}
-use Rattle.rnxcmp_c.proofs.Words.{report_status, check-lawful, compaction-lawful, expansion-lawful, Outcome}
-use Rattle.rnxcmp_c.proofs.Words.{FaultIs, IsMemoryLacking, waiting, IsAll, IsCutBy, IsGoing, IsText}
-use Rattle.rnxcmp_c.proofs.Words.{LineFails, RunsShort, EndsPastLimit, IsPastLimit, RunBreaks, RunFails, Stop}
-use Rattle.rnxcmp_c.proofs.Words.{Fault, Limit, ReaderIsOver, ReaderRuns, IsSaid, RunIsOutOfMemory}
-use Rattle.rnxcmp_c.proofs.Words.{RunIsOverLimit, RunIsTooLong, HasPassedBy, shows_of, too_long_after}
-use Rattle.rnxcmp_c.proofs.Words.{HasFedBy, HasEndedBy, engine_filter, has_ended_of, KeepsToLimit, line_in}
-use Rattle.rnxcmp_c.proofs.Words.{HandlePast, limit_for, result_for, Task, Compact, Expand, Check, filter_for}
-use Rattle.rnxcmp_c.proofs.Words.{memory_next, with_one_more, AnyEngine, Compacting, Expanding, Checking}
-use Rattle.rnxcmp_c.proofs.Words.{Held, Reader, HidesFault, texts_made, texts_of_held}
+use Rattle.rnxcmp_c.proofs.Words.{append_assoc, length-append, take, InputLine, lines_of, INPUT_LIMIT, At}
+use Rattle.rnxcmp_c.proofs.Words.{InputTooLong, OutOfMemory, compaction_filter, expansion_filter, IsLawful}
+use Rattle.rnxcmp_c.proofs.Words.{Filter, with_next, error_text, notices_text, Begins, Course}
+use Rattle.rnxcmp_c.proofs.Words.{result_of_course, Findings, checked_by, findings_of, report_status}
+use Rattle.rnxcmp_c.proofs.Words.{check-lawful, compaction-lawful, expansion-lawful, Outcome, FaultIs}
+use Rattle.rnxcmp_c.proofs.Words.{IsMemoryLacking, waiting, IsAll, IsCutBy, IsGoing, IsText, LineFails}
+use Rattle.rnxcmp_c.proofs.Words.{EndsPastLimit, IsPastLimit, RunBreaks, RunFails, Stop, Fault, Limit}
+use Rattle.rnxcmp_c.proofs.Words.{ReaderIsOver, ReaderRuns, RunIsOutOfMemory, RunIsOverLimit, RunIsTooLong}
+use Rattle.rnxcmp_c.proofs.Words.{shows_of, too_long_after, HasFedBy, HasEndedBy, engine_filter, has_ended_of}
+use Rattle.rnxcmp_c.proofs.Words.{KeepsToLimit, line_in, HandlePast, limit_for, result_for, Task, Compact}
+use Rattle.rnxcmp_c.proofs.Words.{Expand, Check, filter_for, memory_next, with_one_more, AnyEngine}
+use Rattle.rnxcmp_c.proofs.Words.{Compacting, Expanding, Checking, Held, Reader, HidesFault, texts_made}
+use Rattle.rnxcmp_c.proofs.Words.{texts_of_held}
 use Rattle.crx_base.specs.declared.fault.Fault.{Fault as FaultOf}
 use Rattle.crx_filter.specs.meaning.Directions.{check_filter, report_unless}
 use Rattle.crx_runs.specs.meaning.Results.{good_status, status_after}
 use Rattle.crx_filter.specs.meaning.Standard.{whole_of}
-use Rattle.rnxcmp_c.specs.Going.{Breaks, EndsShort, line_reached}
-use Rattle.rnxcmp_c.specs.Handles.{IsOf, IsPut, IsPutDown, IsPutSilently, EndsRunBy, EngineGoesOn}
-use Rattle.rnxcmp_c.specs.Handles.{status_at_end}
+use Rattle.rnxcmp_c.specs.Going.{Breaks, line_reached}
+use Rattle.rnxcmp_c.specs.Handles.{IsOf, IsPut, EndsRunBy, EngineGoesOn, status_at_end}
 
 pub filter-is : (task : Task) (engine : AnyEngine) → IsOf task engine → engine_filter engine ≡ filter_for task
 filter-is (Compact choices limit) (Compacting e) is = is
@@ -73,22 +72,6 @@ faulty-status (Expand choices limit) input at is =
     ap (status_after ((expansion_filter choices).whole (lines_of input)).warnings) is
 faulty-status Check input at is = checked-status (whole_of input).fault (findings_of (lines_of input)) at is
 
-course-over : (limit : ℕ) (course : Course) (reader : Reader) (mid : Held) (outcome : Outcome)
-    (past : HandlePast)
-    (at : At) → course.fault ≡ Some at → IsText course mid past
-    → KeepsToLimit limit (past.output ++ waiting mid.output)
-    → IsPutDown mid reader.held outcome at → ReaderIsOver limit (result_of_course course) reader outcome past
-course-over limit course reader mid outcome past at fault text within put = record {
-  status = put.status ∙ ap (status_after course.warnings) (sym fault);
-  fault = put.fault ∙ sym fault;
-  output = text.wrote ∙ ap (λ t. past.output ++ t) (sym put.output);
-  messages = ap (λ t. t ++ error_text course.fault) text.reported
-      ∙ ap (λ f. (past.messages ++ (waiting mid.messages)) ++ error_text f) fault
-      ∙ append_assoc past.messages (waiting mid.messages) (error_text (Some at))
-      ∙ ap (λ t. past.messages ++ t) (sym put.messages);
-  within = subst (λ t. KeepsToLimit limit (past.output ++ t)) (sym put.output) within;
-}
-
 -- ---- memory
 
 checked-output : (fault : Option At) (found : Findings)
@@ -103,46 +86,6 @@ output-for (Compact choices limit) input = refl
 output-for (Expand choices limit) input = refl
 output-for Check input = checked-output (whole_of input).fault (findings_of (lines_of input))
 
--- memory ran out at this line, before a fault was put down or for its message
-record IsShort (mid new : Held) (outcome : Outcome) (line : ℕ) : Type 0 where
-  pub memory : FaultIs OutOfMemory outcome.fault
-  pub status : outcome.status ≡ 1
-  pub line_is : line_in outcome.fault ≡ line
-  pub output : (waiting new.output) ≡ (waiting mid.output)
-  pub messages : ((waiting new.messages) ≡ (waiting mid.messages))
-      ⊎ ((waiting new.messages) ≡ (waiting mid.messages) ++ error_text outcome.fault)
-  pub output_good : new.output.failures ≡ mid.output.failures
-  pub messages_good : new.messages.failures ≡ mid.messages.failures
-
-put-silently : (mid new : Held) (outcome : Outcome) (at : At) → IsPutSilently mid new outcome at
-    → IsShort mid new outcome at.line
-put-silently mid new outcome at put = record {
-  memory = subst (FaultIs OutOfMemory) (sym put.fault) refl;
-  status = put.status;
-  line_is = ap line_in put.fault;
-  output = put.output;
-  messages = inl put.messages;
-  output_good = put.output_good;
-  messages_good = put.messages_good;
-}
-
-put-down : (mid new : Held) (outcome : Outcome) (at : At)
-    → at.fault ≡ OutOfMemory → IsPutDown mid new outcome at → IsShort mid new outcome at.line
-put-down mid new outcome at memory put = record {
-  memory = subst (FaultIs OutOfMemory) (sym put.fault) memory;
-  status = put.status;
-  line_is = ap line_in put.fault;
-  output = put.output;
-  messages = inr (put.messages ∙ ap (λ f. (waiting mid.messages) ++ error_text f) (sym put.fault));
-  output_good = put.output_good;
-  messages_good = put.messages_good;
-}
-
-put-short : (mid new : Held) (outcome : Outcome) (at : At)
-    → at.fault ≡ OutOfMemory → IsPut mid new at (Some outcome) → IsShort mid new outcome at.line
-put-short mid new outcome at memory (inl put) = put-silently mid new outcome at put
-put-short mid new outcome at memory (inr put) = put-down mid new outcome at memory put
-
 -- a fault that says that memory ran out, by its line
 pub fault-at : (fault : Option At) → FaultIs OutOfMemory fault
     → fault ≡ Some (record { line = line_in fault; fault = OutOfMemory })
@@ -154,142 +97,146 @@ reached-lines : (lines others : List InputLine) → line_reached lines others �
 reached-lines lines [] = ap length (sym (append-nil lines))
 reached-lines lines (line ∷ others) = sym (length-append lines (line ∷ []))
 
--- the run is out of memory at such a line
-module _ (task : Task) (is_line : ℕ → Type 0) (input : List ℕ) (reader : Reader) (mid : Held) (outcome : Outcome)
-    (past : HandlePast) (line : ℕ) (short : IsShort mid reader.held outcome line)
-    (few : KeepsToLimit (limit_for task) (past.output ++ waiting mid.output)) where
-  abbrev last : List ℕ → Type 0
-  last text = (text ≡ [])
-      ⊎ (text ≡ error_text (Some (record { line = line_in outcome.fault; fault = OutOfMemory })))
+-- a fault was put down that ended a run
+module _ (task : Task) (reader : Reader) (mid : Held) (outcome : Outcome) (past : HandlePast) (at : At)
+    (few : KeepsToLimit (limit_for task) (past.output ++ waiting mid.output))
+    (put : IsPut mid reader.held at outcome) where
+  kept : KeepsToLimit (limit_for task) (past.output ++ waiting reader.held.output)
+  kept = subst (λ t. KeepsToLimit (limit_for task) (past.output ++ t)) (sym put.output) few
 
-  said-or_not : (text : List ℕ) × last text × (waiting reader.held.messages ≡ waiting mid.messages ++ text)
-  said-or_not = ⊎_elim (λ same. ([], inl refl, same ∙ sym (append-nil (waiting mid.messages))))
-      (λ more. (
-        error_text outcome.fault,
-        inr (ap error_text (fault-at outcome.fault short.memory)),
-        more,
-      ))
-      short.messages
+  -- it says that memory ran out
+  module _ (memory : at.fault ≡ OutOfMemory) where
+    no-memory : FaultIs OutOfMemory outcome.fault
+    no-memory = ⊎_elim (λ down. subst (FaultIs OutOfMemory) (sym down.0) memory)
+        (λ silently. subst (FaultIs OutOfMemory) (sym silently.0) refl) put.said
 
-  short-at : is_line line → (lines others : List InputLine) → lines_of input ≡ lines ++ others
-      → line ≡ line_reached lines others
-      → IsCutBy ((filter_for task).so_far lines) (with_one_more (filter_for task) lines others)
-      (memory_next (filter_for task) lines others) mid past
-      → IsMemoryLacking (is_some (memory_next (filter_for task) lines others)) mid
-      → RunIsOutOfMemory task is_line input reader outcome past
-  short-at at lines others first number cut lacking =
-      let said = said-or_not in
-      record {
-        memory = short.memory;
-        status = short.status;
-        made = inl (record {
-          at = subst is_line (sym short.line_is) at;
-          made = record {
-            lines = lines;
-            others = others;
-            first = first;
-            line_is = short.line_is ∙ number ∙ reached-lines lines others;
-            notices = cut.notices;
-            asked = cut.asked;
-            own = cut.own;
-            last = said.0;
-            last_is = said.1;
+    line-is : line_in outcome.fault ≡ at.line
+    line-is = ⊎_elim (λ down. ap line_in down.0) (λ silently. ap line_in silently.0) put.said
+
+    abbrev Last : List ℕ → Type 0
+    Last text = (text ≡ [])
+        ⊎ (text ≡ error_text (Some (record { line = line_in outcome.fault; fault = OutOfMemory })))
+
+    said-or_not : (text : List ℕ) × Last text × (waiting reader.held.messages ≡ waiting mid.messages ++ text)
+    said-or_not = ⊎_elim
+        (λ down. (
+          error_text outcome.fault,
+          inr (ap error_text (fault-at outcome.fault no-memory)),
+          down.1 ∙ ap (λ f. waiting mid.messages ++ error_text f) (sym down.0),
+        ))
+        (λ silently. ([], inl refl, silently.1 ∙ sym (append-nil (waiting mid.messages))))
+        put.said
+
+    short-at : (is_line : ℕ → Type 0) (input : List ℕ) → is_line at.line
+        → (lines others : List InputLine) → lines_of input ≡ lines ++ others
+        → at.line ≡ line_reached lines others
+        → IsCutBy ((filter_for task).so_far lines) (with_one_more (filter_for task) lines others)
+        (memory_next (filter_for task) lines others) mid past
+        → IsMemoryLacking (is_some (memory_next (filter_for task) lines others)) mid
+        → RunIsOutOfMemory task is_line input reader outcome past
+    short-at is_line input there lines others first number cut lacking =
+        let said = said-or_not in
+        record {
+          memory = no-memory;
+          status = put.status;
+          made = inl (record {
+            at = subst is_line (sym line-is) there;
             made = record {
-              good = cut.made.good;
-              output = cut.made.output ∙ ap (λ t. past.output ++ t) (sym short.output);
-              messages = sym (append_assoc (notices_text ((filter_for task).so_far lines).warnings)
-                  (notices_text cut.notices) said.0)
-                  ∙ ap (λ t. t ++ said.0) cut.made.messages
-                  ∙ append_assoc past.messages (waiting mid.messages) said.0
-                  ∙ ap (λ t. past.messages ++ t) (sym said.2);
+              lines = lines;
+              others = others;
+              first = first;
+              line_is = line-is ∙ number ∙ reached-lines lines others;
+              notices = cut.notices;
+              asked = cut.asked;
+              own = cut.own;
+              last = said.0;
+              last_is = said.1;
+              made = record {
+                good = cut.made.good;
+                output = cut.made.output ∙ ap (λ t. past.output ++ t) (sym put.output);
+                messages = sym (append_assoc (notices_text ((filter_for task).so_far lines).warnings)
+                    (notices_text cut.notices) said.0)
+                    ∙ ap (λ t. t ++ said.0) cut.made.messages
+                    ∙ append_assoc past.messages (waiting mid.messages) said.0
+                    ∙ ap (λ t. past.messages ++ t) (sym said.2);
+              };
             };
-          };
-          lacking = ⊎_elim (λ takes. inl takes)
-              (λ failed. inr (⊎_elim
-              (λ output. inl (λ none. output (sym short.output_good ∙ none)))
-              (λ messages. inr (λ none. messages (sym short.messages_good ∙ none))) failed))
-              lacking;
-        });
-        within = subst (λ t. KeepsToLimit (limit_for task) (past.output ++ t)) (sym short.output) few;
-      }
+            lacking = ⊎_elim (λ takes. inl takes)
+                (λ failed. inr (⊎_elim
+                (λ output. inl (λ none. output (sym put.output_good ∙ none)))
+                (λ messages. inr (λ none. messages (sym put.messages_good ∙ none))) failed))
+                lacking;
+          });
+          within = kept;
+        }
 
-module _ (task : Task) (engine : AnyEngine) (is : IsOf task engine)
-    (reader : Reader) (mid : Held) (outcome : Outcome) (past : HandlePast) (at : At)
-    (few : KeepsToLimit (limit_for task) (past.output ++ waiting mid.output)) where
-  -- a fault of the result whose message couldn't be kept
-  fault-hidden : (is_line : ℕ → Type 0) (input : List ℕ) (course : Course)
-      → (filter_for task).whole (lines_of input) ≡ course → course.fault ≡ Some at → IsText course mid past
-      → IsPutSilently mid reader.held outcome at
-      → RunIsOutOfMemory task is_line input reader outcome past
-  fault-hidden is_line input course whole fault text put =
-      let same : result_of_course course ≡ result_for task input =
-      sym (ap result_of_course whole)
-      ∙ result-faulty task input at (ap (λ (c : Course). c.fault) whole ∙ fault) in
-      record {
-        memory = subst (FaultIs OutOfMemory) (sym put.fault) refl;
-        status = put.status;
-        made = inr (subst (λ r. HidesFault r (line_in outcome.fault)
-            (texts_made past (texts_of_held reader.held))) same (record {
-              faulty = ap (λ (f : Option At). is_some f) fault;
-              line_is = ap line_in put.fault ∙ ap line_in (sym fault);
-              output_is = text.wrote ∙ ap (λ t. past.output ++ t) (sym put.output);
-              messages_are = ap (λ t. t ++ error_text course.fault)
-                  (text.reported ∙ ap (λ t. past.messages ++ t) (sym put.messages));
-            }));
-        within = subst (λ t. KeepsToLimit (limit_for task) (past.output ++ t)) (sym put.output) few;
-      }
+  -- it is the fault of a result
+  module _ (input : List ℕ) (course : Course) (whole : (filter_for task).whole (lines_of input) ≡ course)
+      (fault : course.fault ≡ Some at) (text : IsText course mid past) where
+    same-result : result_of_course course ≡ result_for task input
+    same-result = sym (ap result_of_course whole)
+        ∙ result-faulty task input at (ap (λ (c : Course). c.fault) whole ∙ fault)
 
-  pub breaks-over : (before : List ℕ) → Breaks before (engine_filter engine) mid past at
-      → IsPut mid reader.held at (Some outcome) → HasFedBy before task reader past (Some outcome)
-  breaks-over before (inl short) put =
-      let ran = subst (λ (f : Filter). RunsShort before f mid past at) (filter-is task engine is) short in
-      inl (λ more. short-at task _ (past.fed ++ more) reader mid outcome past at.line (put-short mid reader.held outcome at ran.fault put) few
-      ran.there ran.lines (ran.line ∷ (ran.first more).0) (ran.first more).1 ran.number
-      ran.cut ran.lacking)
-  breaks-over before (inr broken) put =
+    -- whose message was kept, or couldn't be kept
+    fault-said : outcome.fault ≡ Some at
+        → waiting reader.held.messages ≡ waiting mid.messages ++ error_text (Some at)
+        → ReaderIsOver (limit_for task) (result_for task input) reader outcome past
+    fault-said said messages =
+        subst (λ r. ReaderIsOver (limit_for task) r reader outcome past) same-result (record {
+          status = put.status ∙ ap (status_after course.warnings) (sym fault);
+          fault = said ∙ sym fault;
+          output = text.wrote ∙ ap (λ t. past.output ++ t) (sym put.output);
+          messages = ap (λ t. t ++ error_text course.fault) text.reported
+              ∙ ap (λ f. (past.messages ++ waiting mid.messages) ++ error_text f) fault
+              ∙ append_assoc past.messages (waiting mid.messages) (error_text (Some at))
+              ∙ ap (λ t. past.messages ++ t) (sym messages);
+          within = kept;
+        })
+
+    fault-hidden : (is_line : ℕ → Type 0)
+        → outcome.fault ≡ Some (record { line = at.line; fault = OutOfMemory })
+        → waiting reader.held.messages ≡ waiting mid.messages
+        → RunIsOutOfMemory task is_line input reader outcome past
+    fault-hidden is_line hidden messages = record {
+      memory = subst (FaultIs OutOfMemory) (sym hidden) refl;
+      status = put.status;
+      made = inr (subst (λ r. HidesFault r (line_in outcome.fault) (texts_made past (texts_of_held reader.held)))
+          same-result (record {
+            faulty = ap (λ (f : Option At). is_some f) fault;
+            line_is = ap line_in hidden ∙ ap line_in (sym fault);
+            output_is = text.wrote ∙ ap (λ t. past.output ++ t) (sym put.output);
+            messages_are = ap (λ t. t ++ error_text course.fault)
+                (text.reported ∙ ap (λ t. past.messages ++ t) (sym messages));
+          }));
+      within = kept;
+    }
+
+  breaks-over : (before : List ℕ) → Breaks before (filter_for task) mid past at
+      → HasFedBy before task reader past (Some outcome)
+  breaks-over before (inl ran) = inl (λ more. short-at ran.fault _ (past.fed ++ more) ran.there ran.lines
+      (ran.line ∷ (ran.first more).0) (ran.first more).1 ran.number ran.cut ran.lacking)
+  breaks-over before (inr broken) =
       let filter = filter_for task in
-      let fault : (filter.so_far broken.lines).fault ≡ Some at =
-      subst (λ (f : Filter). (f.so_far broken.lines).fault ≡ Some at) (filter-is task engine is) broken.fault
-      in
-      let text : IsText (filter.so_far broken.lines) mid past =
-      subst (λ (f : Filter). IsText (f.so_far broken.lines) mid past) (filter-is task engine is) broken.text
-      in
       let whole : (more : List ℕ) → filter.whole (lines_of (past.fed ++ more)) ≡ filter.so_far broken.lines =
       λ more.
       ap filter.whole (broken.first more).1
-      ∙ (lawful-for task).decided broken.lines (broken.first more).0 at fault in
-      ⊎_elim (λ silently. inl (λ more.
-      fault-hidden _ (past.fed ++ more) (filter.so_far broken.lines) (whole more) fault text silently))
+      ∙ (lawful-for task).decided broken.lines (broken.first more).0 at broken.fault in
+      ⊎_elim
       (λ down. inr (inr (
-        down.status,
-        λ more.
-            subst (λ r. ReaderIsOver (limit_for task) r reader outcome past)
-            (sym (ap result_of_course (whole more))
-            ∙ result-faulty task (past.fed ++ more) at (ap (λ (c : Course). c.fault) (whole more) ∙ fault))
-            (course-over (limit_for task) (filter.so_far broken.lines) reader mid outcome past at fault text
-            few down),
+        put.status,
+        λ more. fault-said (past.fed ++ more) _ (whole more) broken.fault broken.text down.0 down.1,
       )))
-      put
+      (λ silently. inl (λ more.
+      fault-hidden (past.fed ++ more) _ (whole more) broken.fault broken.text _ silently.0 silently.1))
+      put.said
 
-  pub fails-over : LineFails (engine_filter engine) mid past at
-      → IsPut mid reader.held at (Some outcome)
-      → HasEndedBy task reader past (Some outcome)
-  fails-over (inl before) put =
-      let ran = subst (λ (f : Filter). EndsShort f mid past at) (filter-is task engine is) before in
-      inl (short-at task _ past.fed reader mid outcome past at.line (put-short mid reader.held outcome at ran.ran_out.0 put) few ran.ran_out.1 ran.lines ran.others
-      ran.first
+  fails-over : LineFails (filter_for task) mid past at → HasEndedBy task reader past (Some outcome)
+  fails-over (inl ran) = inl (short-at ran.ran_out.0 _ past.fed ran.ran_out.1 ran.lines ran.others ran.first
       ran.number ran.cut ran.lacking)
-  fails-over (inr failed) put =
-      let whole = (filter_for task).whole (lines_of past.fed) in
-      let same : (engine_filter engine).whole (lines_of past.fed) ≡ whole =
-      ap (λ (f : Filter). f.whole (lines_of past.fed)) (filter-is task engine is) in
-      let fault : whole.fault ≡ Some at = subst (λ (c : Course). c.fault ≡ Some at) same failed.fault in
-      let text : IsText whole mid past = subst (λ (c : Course). IsText c mid past) same failed.text in
-      ⊎_elim (λ silently. inl (fault-hidden _ past.fed whole refl fault text silently))
-      (λ down. inr (inr (subst (λ r. ReaderIsOver (limit_for task) r reader outcome past)
-      (result-faulty task past.fed at fault)
-      (course-over (limit_for task) whole reader mid outcome past at fault text few down))))
-      put
+  fails-over (inr failed) = ⊎_elim
+      (λ down. inr (inr (fault-said past.fed _ refl failed.fault failed.text down.0 down.1)))
+      (λ silently. inl (fault-hidden past.fed _ refl failed.fault failed.text _ silently.0 silently.1))
+      put.said
 
 -- ---- the limit of the output
 
@@ -339,54 +286,49 @@ module _ (task : Task) (reader : Reader) (mid : Held) (outcome : Outcome) (past 
         };
       }
 
-  module _ (engine : AnyEngine) (is : IsOf task engine) (limit : mid.limit ≡ limit_for task) where
+  module _ (limit : mid.limit ≡ limit_for task) where
     limited-by : 0 < mid.limit → 0 < limit_for task
     limited-by = subst (λ (n : ℕ). 0 < n) limit
 
-    pub passes-over : (before : List ℕ) → IsPastLimit (engine_filter engine) mid past
+    passes-over : (before : List ℕ) → IsPastLimit (filter_for task) mid past
         → HasFedBy before task reader past (Some outcome)
-    passes-over before limited =
-        let passes = subst (λ (f : Filter). IsPastLimit f mid past) (filter-is task engine is) limited in
+    passes-over before passes =
         inr (inl (λ more. is-over_limit (past.fed ++ more) passes.lines (passes.line ∷ (passes.first more).0)
         (passes.first more).1 (limited-by passes.limited) (omega (arith, passes.within, limit))
         (omega (arith, passes.over, limit)) passes.good passes.text))
 
-    pub passes-at_end : EndsPastLimit (engine_filter engine) mid past
-        → HasEndedBy task reader past (Some outcome)
-    passes-at_end before =
-        let passes = subst (λ (f : Filter). EndsPastLimit f mid past) (filter-is task engine is) before in
+    passes-at_end : EndsPastLimit (filter_for task) mid past → HasEndedBy task reader past (Some outcome)
+    passes-at_end passes =
         inr (inl (is-over_limit past.fed passes.lines passes.others passes.first (limited-by passes.limited)
         (omega (arith, passes.within, limit)) (omega (arith, passes.over, limit)) passes.good passes.text))
 
 -- what stopped a run is how it has ended
-pub stops-over : (before : List ℕ) (task : Task) (engine : AnyEngine) → IsOf task engine → (reader : Reader)
-    (mid : Held)
-    → mid.limit ≡ limit_for task → (outcome : Outcome) (past : HandlePast) (stop : Stop)
-    → RunBreaks before (engine_filter engine) mid past stop → EndsRunBy mid reader.held outcome stop
-    → HasFedBy before task reader past (Some outcome)
-stops-over before task engine is reader mid limit outcome past (Fault at) breaks put =
-    breaks-over task engine is reader mid outcome past at
-    (subst (λ n. KeepsToLimit n (past.output ++ waiting mid.output)) limit breaks.1) before breaks.0 put
-stops-over before task engine is reader mid limit outcome past Limit breaks stopped =
-    passes-over task reader mid outcome past stopped engine is limit before breaks
+module _ (task : Task) (engine : AnyEngine) (is : IsOf task engine) (reader : Reader) (mid : Held)
+    (limit : mid.limit ≡ limit_for task) (outcome : Outcome) (past : HandlePast) where
+  pub stops-over : (before : List ℕ) (stop : Stop) → RunBreaks before (engine_filter engine) mid past stop
+      → EndsRunBy mid reader.held outcome stop → HasFedBy before task reader past (Some outcome)
+  stops-over before (Fault at) breaks put =
+      breaks-over task reader mid outcome past at
+      (subst (λ n. KeepsToLimit n (past.output ++ waiting mid.output)) limit breaks.1) put before
+      (subst (λ (f : Filter). Breaks before f mid past at) (filter-is task engine is) breaks.0)
+  stops-over before Limit breaks stopped = passes-over task reader mid outcome past stopped limit before
+      (subst (λ (f : Filter). IsPastLimit f mid past) (filter-is task engine is) breaks)
 
-pub stops-at_end : (task : Task) (engine : AnyEngine) → IsOf task engine → (reader : Reader) (mid : Held)
-    → mid.limit ≡ limit_for task → (outcome : Outcome) (past : HandlePast) (stop : Stop)
-    → RunFails (engine_filter engine) mid past stop → EndsRunBy mid reader.held outcome stop
-    → HasEndedBy task reader past (Some outcome)
-stops-at_end task engine is reader mid limit outcome past (Fault at) fails put =
-    fails-over task engine is reader mid outcome past at
-    (subst (λ n. KeepsToLimit n (past.output ++ waiting mid.output)) limit fails.1) fails.0 put
-stops-at_end task engine is reader mid limit outcome past Limit fails stopped =
-    passes-at_end task reader mid outcome past stopped engine is limit fails
+  pub stops-at_end : (stop : Stop) → RunFails (engine_filter engine) mid past stop
+      → EndsRunBy mid reader.held outcome stop → HasEndedBy task reader past (Some outcome)
+  stops-at_end (Fault at) fails put =
+      fails-over task reader mid outcome past at
+      (subst (λ n. KeepsToLimit n (past.output ++ waiting mid.output)) limit fails.1) put
+      (subst (λ (f : Filter). LineFails f mid past at) (filter-is task engine is) fails.0)
+  stops-at_end Limit fails stopped = passes-at_end task reader mid outcome past stopped limit
+      (subst (λ (f : Filter). EndsPastLimit f mid past) (filter-is task engine is) fails)
 
 -- ---- the limit of the input
 
 pub passed-over : (task : Task) (before reader : Reader) (outcome : Outcome) (past : HandlePast)
     → ReaderRuns task before past → length past.fed ≡ INPUT_LIMIT
-    → IsPut before.held reader.held (record { line = before.held.number + 1; fault = InputTooLong })
-    (Some outcome)
-    → HasPassedBy task reader past (Some outcome)
+    → IsPut before.held reader.held (record { line = before.held.number + 1; fault = InputTooLong }) outcome
+    → RunIsTooLong task reader outcome past
 passed-over task before reader outcome past runs full put =
     let mid = before.held in
     let going = subst (λ (f : Filter). IsGoing f (shows_of before.engine) mid past)
@@ -394,35 +336,38 @@ passed-over task before reader outcome past runs full put =
     let at : At = record { line = mid.number + 1; fault = InputTooLong } in
     let same : at ≡ too_long_after past.fed =
     ap (λ (n : ℕ). let a : At = record { line = n + 1; fault = InputTooLong } in a) going.number in
-    let few : KeepsToLimit (limit_for task) (past.output ++ waiting mid.output) = λ limited.
-    let before : 0 < mid.limit = subst (λ (n : ℕ). 0 < n) (sym runs.limit) limited in
-    omega (arith, going.left before, runs.limit, ap length going.text.wrote) in
-    let passed : outcome.status ≡ 1 → waiting reader.held.output ≡ waiting mid.output
-    → IsSaid (too_long_after past.fed) (notices_text ((filter_for task).so_far (ended_lines_of past.fed)).warnings)
-    (past.messages ++ waiting reader.held.messages) outcome.fault
-    → RunIsTooLong task reader outcome past = λ status output said. record {
+    record {
       full = full;
-      status = status;
+      status = put.status;
       good = going.good;
-      output = going.text.wrote ∙ ap (λ t. past.output ++ t) (sym output);
-      said = said;
-      within = subst (λ t. KeepsToLimit (limit_for task) (past.output ++ t)) (sym output) few;
-    } in
-    ⊎_elim
-    (λ silently. passed silently.status silently.output (inr (
-      silently.fault
-          ∙ ap (λ (n : ℕ). let a : At = record { line = n + 1; fault = OutOfMemory } in Some a)
-          going.number,
-      going.text.reported ∙ ap (λ t. past.messages ++ t) (sym silently.messages),
-    )))
-    (λ down. passed down.status down.output (inl (
-      down.fault ∙ ap (λ (a : At). Some a) same,
-      ap (λ t. t ++ error_text (Some (too_long_after past.fed))) going.text.reported
-          ∙ ap (λ (a : At). (past.messages ++ waiting mid.messages) ++ error_text (Some a)) (sym same)
-          ∙ append_assoc past.messages (waiting mid.messages) (error_text (Some at))
-          ∙ ap (λ t. past.messages ++ t) (sym down.messages),
-    )))
-    put
+      output = going.text.wrote ∙ ap (λ t. past.output ++ t) (sym put.output);
+      said = ⊎_elim
+          (λ down. inl (
+            down.0 ∙ ap (λ (a : At). Some a) same,
+            ap (λ t. t ++ error_text (Some (too_long_after past.fed))) going.text.reported
+                ∙ ap (λ (a : At). (past.messages ++ waiting mid.messages) ++ error_text (Some a)) (sym same)
+                ∙ append_assoc past.messages (waiting mid.messages) (error_text (Some at))
+                ∙ ap (λ t. past.messages ++ t) (sym down.1),
+          ))
+          (λ silently. inr (
+            silently.0
+                ∙ ap (λ (n : ℕ). let a : At = record { line = n + 1; fault = OutOfMemory } in Some a)
+                going.number,
+            going.text.reported ∙ ap (λ t. past.messages ++ t) (sym silently.1),
+          ))
+          put.said;
+      within = λ limited.
+          let before : 0 < mid.limit = subst (λ (n : ℕ). 0 < n) (sym runs.limit) limited in
+          omega (
+            arith,
+            going.left before,
+            runs.limit,
+            ap length going.text.wrote,
+            ap length put.output,
+            length-append past.output (waiting mid.output),
+            length-append past.output (waiting reader.held.output),
+          );
+    }
 
 -- ---- the end
 

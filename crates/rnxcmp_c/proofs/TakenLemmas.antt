@@ -1,11 +1,11 @@
 -- What was taken from a handle was kept before, and its run's state doesn't change by that.
 use Rattle.rnxcmp_c.proofs.Words.{◌≡◌, ⊎_elim, inl, inr, ℕ, List, ◌++◌, Option, Some, None, sym, ap, ◌∙◌}
 use Rattle.rnxcmp_c.proofs.Words.{subst, append_assoc, ended_lines_of, Outcome, error_text, notices_text}
-use Rattle.rnxcmp_c.proofs.Words.{Course, IsLineReached, IsSaid, ReaderStands, StandsBy, too_long_after}
+use Rattle.rnxcmp_c.proofs.Words.{Course, IsLineReached, ReaderStands, StandsBy, too_long_after}
 use Rattle.rnxcmp_c.proofs.Words.{texts_of_held, HandlePast, HidesFault, filter_for, limit_for, Task}
 use Rattle.rnxcmp_c.proofs.Words.{result_for, taken_with, texts_made, KeepsToLimit, line_in, waiting, Pending}
 use Rattle.rnxcmp_c.proofs.Words.{Reader}
-use Rattle.rnxcmp_c.specs.Handles.{RanOutBy}
+use Rattle.rnxcmp_c.specs.Handles.{IsSaid, RanOutBy}
 use Rattle.rnxcmp_c.specs.Past.{IsMadeByLines}
 
 -- what was taken, and then what is kept

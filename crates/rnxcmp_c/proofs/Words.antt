@@ -35,14 +35,13 @@ pub use Rattle.crx_runs.specs.meaning.Results.{Begins, Course, FilterResult, are
 pub use Rattle.crx_runs.specs.meaning.Runs.{FaultIs}
 pub use Rattle.crx_runs.specs.meaning.Spans.{AreNext, Device}
 pub use Rattle.rnxcmp_c.specs.Going.{IsKept, StopsBy, IsText, IsGoing, MovesOn, EndsThere, piece_line, IsAll}
-pub use Rattle.rnxcmp_c.specs.Going.{IsCutBy, LineFails, RanOutAt, RunsShort, StopsShort, EndsPastLimit}
-pub use Rattle.rnxcmp_c.specs.Going.{IsPastLimit, MovesWithin, PassesLimit, RunBreaks, RunFails, StepStops}
-pub use Rattle.rnxcmp_c.specs.Going.{IsLineEnded}
+pub use Rattle.rnxcmp_c.specs.Going.{IsCutBy, LineFails, RanOutAt, StopsShort, EndsPastLimit, IsPastLimit}
+pub use Rattle.rnxcmp_c.specs.Going.{MovesWithin, PassesLimit, RunBreaks, RunFails, StepStops, IsLineEnded}
 pub use Rattle.rnxcmp_c.specs.Handles.{FeedsBy, FeedsBytes, HasFed, ReaderRuns, StandsBy, answer_now}
 pub use Rattle.rnxcmp_c.specs.Handles.{HasEndedBy, HasFedBy, HasPassedBy, ReaderIsOver, ReaderStands}
 pub use Rattle.rnxcmp_c.specs.Handles.{RunIsOverLimit, ReaderHasEnded, RunIsOutOfMemory, IsLastLine}
-pub use Rattle.rnxcmp_c.specs.Handles.{IsLineReached, RunIsTooLong, shows_of, too_long_after, IsSaid}
-pub use Rattle.rnxcmp_c.specs.Handles.{engine_filter, has_ended_of}
+pub use Rattle.rnxcmp_c.specs.Handles.{IsLineReached, RunIsTooLong, shows_of, too_long_after, engine_filter}
+pub use Rattle.rnxcmp_c.specs.Handles.{has_ended_of}
 pub use Rattle.rnxcmp_c.specs.Holding.{IsMemoryLacking, ready_in, texts_of_held, StopsCounted}
 pub use Rattle.rnxcmp_c.specs.Opened.{Holds, have_ended}
 pub use Rattle.rnxcmp_c.specs.Past.{HandlePast, fed_with, StopsSoon, allowed_after, filter_for, limit_for}

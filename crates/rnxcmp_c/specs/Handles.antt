@@ -220,32 +220,21 @@ HasPassedBy task reader past (Some outcome) = RunIsTooLong task reader outcome p
 abbrev pub ReaderHasPassed : Task → Reader → HandlePast → Type 0
 ReaderHasPassed task reader past = HasPassedBy task reader past reader.outcome
 
--- a fault was put down: its message was kept, and its status is 1
-pub record IsPutDown (old new : Held) (outcome : Outcome) (at : At) : Type 0 where
+-- a fault was put down, which is status 1: its message was kept; or that was refused, which is out of memory at
+-- its line, and both texts are as they were
+pub record IsPut (old new : Held) (at : At) (outcome : Outcome) : Type 0 where
   pub status : outcome.status ≡ 1
-  pub fault : outcome.fault ≡ Some at
   pub output : waiting new.output ≡ waiting old.output
-  pub messages : waiting new.messages ≡ waiting old.messages ++ error_text (Some at)
   pub output_good : new.output.failures ≡ old.output.failures
   pub messages_good : new.messages.failures ≡ old.messages.failures
-
--- its message was refused, which is out of memory at its line; both texts are as they were
-pub record IsPutSilently (old new : Held) (outcome : Outcome) (at : At) : Type 0 where
-  pub status : outcome.status ≡ 1
-  pub fault : outcome.fault ≡ Some (record { line = at.line; fault = OutOfMemory })
-  pub output : waiting new.output ≡ waiting old.output
-  pub messages : waiting new.messages ≡ waiting old.messages
-  pub output_good : new.output.failures ≡ old.output.failures
-  pub messages_good : new.messages.failures ≡ old.messages.failures
-  pub refused : IsTextRefused old.messages (length (error_text (Some at)))
-
-abbrev pub IsPut : Held → Held → At → Option Outcome → Type 0
-IsPut old new at None = ⊥
-IsPut old new at (Some outcome) = IsPutSilently old new outcome at ⊎ IsPutDown old new outcome at
+  pub said : ((outcome.fault ≡ Some at) × (waiting new.messages ≡ waiting old.messages ++ error_text (Some at)))
+      ⊎ ((outcome.fault ≡ Some (record { line = at.line; fault = OutOfMemory }))
+      × (waiting new.messages ≡ waiting old.messages)
+      × IsTextRefused old.messages (length (error_text (Some at))))
 
 -- how a run has ended by what stopped it
 abbrev pub EndsRunBy : Held → Held → Outcome → Stop → Type 0
-EndsRunBy old new outcome (Fault at) = IsPut old new at (Some outcome)
+EndsRunBy old new outcome (Fault at) = IsPut old new at outcome
 EndsRunBy old new outcome Limit = (outcome ≡ record { status = OUTPUT_LIMIT; fault = None }) × (new ≡ old)
 
 -- of so many bytes that may be fed some were taken: at least one where little enough waited, and not all only where much

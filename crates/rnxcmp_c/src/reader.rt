@@ -33,7 +33,7 @@ pub struct Reader {
 
 /// Puts down the fault that ended a run: its message, and what the run answers from now on.
 fn put_down(held: &mut Held, at: At) -> Outcome
-    ensures { IsPut held.old held.new at (Some result) }
+    ensures { IsPut held.old held.new at result }
 {
     if held.messages.add(message(Severity::Error, at).bytes()) {
         return Outcome {

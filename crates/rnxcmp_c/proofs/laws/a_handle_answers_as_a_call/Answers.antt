@@ -9,31 +9,23 @@ use Rattle.rnxcmp_c.proofs.ReaderLemmas.{lawful-for, length-begins, one_more-fir
 use Rattle.rnxcmp_c.proofs.laws.a_handle_answers_as_a_call.Goals as goal
 
 -- an answer by its parts
+abbrev answer-of : ℕ → ℕ → ℕ → ℕ → ℕ → Answer
+answer-of line output messages status code = record {
+  line = line;
+  output_length = output;
+  messages_length = messages;
+  status = status;
+  code = code;
+}
+
 answer-is : (one other : Answer) (made : BothTexts) → one.status ≡ other.status → one.line ≡ other.line
     → one.code ≡ other.code → one.output_length ≡ length made.output
     → one.messages_length ≡ length made.messages
     → one ≡ record other { output_length = length made.output; messages_length = length made.messages }
 answer-is one other made status line code output messages =
-    ap (λ (n : ℕ). let a : Answer = record one { status = n } in a) status
-    ∙ ap (λ (n : ℕ). let a : Answer = record one { status = other.status; line = n } in a) line
-    ∙ ap (λ (n : ℕ). let a : Answer = record one {
-      status = other.status;
-      line = other.line;
-      code = n;
-    } in a) code
-    ∙ ap (λ (n : ℕ). let a : Answer = record one {
-      status = other.status;
-      line = other.line;
-      code = other.code;
-      output_length = n;
-    } in a) output
-    ∙ ap (λ (n : ℕ). let a : Answer = record one {
-      status = other.status;
-      line = other.line;
-      code = other.code;
-      output_length = length made.output;
-      messages_length = n;
-    } in a) messages
+    let all : answer-of one.line one.output_length one.messages_length one.status one.code
+    ≡ answer-of other.line (length made.output) (length made.messages) other.status other.code = cc in
+    all
 
 pub returns-clause-same : goal.returns-clause-same
 returns-clause-same c = λ (task : Task) (fed : List ℕ) (made kept : BothTexts) (answer call : Answer)

@@ -3,27 +3,29 @@ use Rattle.rnxcmp_c.specs.Waiting.{IsTextRefused}
 use Rattle.rnxcmp_c.proofs.reader.put_down.Goals as goal
 
 pub returns-then-add : goal.returns-then-add
-returns-then-add c =
-    inr (record {
-      status = refl;
-      fault = refl;
-      output = refl;
-      messages = c.add.ensures.taken c.if-add.true
-          ∙ ap (λ (t : List ℕ). waiting c.args.held.now.messages ++ t)
-          (c.bytes.ensures.value ∙ c.message.ensures.value);
-      output_good = refl;
-      messages_good = c.add.ensures.counts.failures;
-    })
+returns-then-add c = record {
+  status = refl;
+  output = refl;
+  output_good = refl;
+  messages_good = c.add.ensures.counts.failures;
+  said = inl (
+    refl,
+    c.add.ensures.taken c.if-add.true
+        ∙ ap (λ (t : List ℕ). waiting c.args.held.now.messages ++ t)
+        (c.bytes.ensures.value ∙ c.message.ensures.value),
+  );
+}
 
 pub returns : goal.returns
-returns c =
-    inl (record {
-      status = refl;
-      fault = refl;
-      output = refl;
-      messages = c.add.ensures.unchanged c.if-add.false;
-      output_good = refl;
-      messages_good = c.add.ensures.counts.failures;
-      refused = subst (λ (t : List ℕ). IsTextRefused c.args.held.now.messages (length t))
-          (c.bytes.ensures.value ∙ c.message.ensures.value) (c.add.ensures.refused c.if-add.false);
-    })
+returns c = record {
+  status = refl;
+  output = refl;
+  output_good = refl;
+  messages_good = c.add.ensures.counts.failures;
+  said = inr (
+    refl,
+    c.add.ensures.unchanged c.if-add.false,
+    subst (λ (t : List ℕ). IsTextRefused c.args.held.now.messages (length t))
+        (c.bytes.ensures.value ∙ c.message.ensures.value) (c.add.ensures.refused c.if-add.false),
+  );
+}

@@ -13,9 +13,8 @@ returns-in-Err-clause-fed c = λ (task : Task) (past : HandlePast) is.
     } in
     subst (λ (fed : List ℕ). HasFed past.fed task new (fed_with past fed)) (sym (take_all
     (length bytes) bytes (omega arith)))
-    (stops-over past.fed task c.args.self.now.engine is.is_of new c.feed_engine.new.held
-    (c.in-Err.ensures.limit ∙ is.limit)
-    c.outcome_of.result (fed_with past bytes) c.in-Err.stop (c.in-Err.ensures.breaks past is.going)
+    (stops-over task c.args.self.now.engine is.is_of new c.feed_engine.new.held (c.in-Err.ensures.limit ∙ is.limit)
+    c.outcome_of.result (fed_with past bytes) past.fed c.in-Err.stop (c.in-Err.ensures.breaks past is.going)
     c.outcome_of.ensures)
 
 pub returns-in-Ok-clause-soon : goal.returns-in-Ok-clause-soon
