@@ -9,6 +9,7 @@ mod LooseValues
 pub mod PieceLemmas
 mod PlaceValues
 pub mod PromiseLemmas
+pub mod RawWords
 pub mod ReaderLemmas
 pub mod RunLemmas
 pub mod TakenLemmas

@@ -1,24 +1,18 @@
 -- The machine values of a `Loose` and of a `OnceBox`. Assumes `Logic`.
-use Rattle.rnxcmp_c.proofs.Words.{◌≡◌, ℕ, List, [], ◌∷◌, ◌++◌, refl, subst, Ura, Val, vstruct, vcons, vnil}
-use Rattle.rnxcmp_c.proofs.Words.{Logic, Item, Goal, Step, step, ‵, ◌$◌, fjoin, fpack, feq_i, Valss, RawPtr}
-use Rattle.rnxcmp_c.proofs.Words.{Ptr, ptr_val, nothing, within, shape}
+use Rattle.rnxcmp_c.proofs.RawWords.{◌≡◌, List, [], ◌∷◌, ◌++◌, refl, subst, Ura, Val, vstruct, vcons, vnil}
+use Rattle.rnxcmp_c.proofs.RawWords.{Logic, Item, Goal, Step, step, ‵, ◌$◌, fjoin, fpack, feq_i, Valss}
+use Rattle.rnxcmp_c.proofs.RawWords.{RawPtr, Ptr, ptr_val, nothing, within, shape, dnil, vptr, of_list, never}
+use Rattle.rnxcmp_c.proofs.RawWords.{fst∗, sem, move, drop, fsplit, fpick, feq_l, RattleType, lone, block_ptr}
+use Rattle.rnxcmp_c.proofs.RawWords.{null_ptr, in_a_block, layout, Al, handle_tells, Good, box_owns}
+use Rattle.std.proofs.Common.{ℕ}
 use mathlib.Core.Bool.{true, ◌&&◌}
 use lib.Dec.{T}
-use mir.Syntax.{impl, tnil, dnil}
+use mir.Syntax.{impl, tnil}
 use mir.Raw.{raw as bare}
-use mir.Val.{vptr, of_list, has_ty, WT}
-use base.Logic.{never, fst∗}
-use types.Logic.{sem}
-use types.Kit.{Seq, move, drop, fsplit, fpick, feq_l}
-use denote.RattleType.{RattleType}
-use denote.Memory.{lone}
-use denote.RawPtr.{block_ptr, null_ptr, in_a_block}
-use denote.Param.{layout}
+use mir.Val.{has_ty, WT}
+use types.Kit.{Seq}
 use denote.Param.Laws.{Laws}
 use Rattle.core.specs.declared.alloc.Allocator.{Ghosts}
-use Rattle.core.proofs.alloc.Calls.{Al, handle_tells}
-use Rattle.core.proofs.cell.Inside.{Good}
-use Rattle.std_alloc.specs.Box.Ownership.{box_owns}
 use Rattle.std_alloc.proofs.ResultValues.{and_tt}
 use Rattle.rnxcmp_c.specs.contracts.loose.Loose as loose
 

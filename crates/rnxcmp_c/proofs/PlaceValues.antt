@@ -1,8 +1,7 @@
 -- The machine value of a `Place`. Assumes `Logic`.
-use Rattle.rnxcmp_c.proofs.Words.{List, [], ◌∷◌, refl, Ura, Val, vstruct, vcons, vnil, Logic, Item, Goal}
-use Rattle.rnxcmp_c.proofs.Words.{Step, step, ‵, ◌$◌, fjoin, fpack, feq_i, Valss, RawPtr, Ptr, ptr_val}
-use Rattle.rnxcmp_c.proofs.Words.{nothing, within, shape, Reader}
-use Rattle.rnxcmp_c.specs.Places.{place_owns}
+use Rattle.rnxcmp_c.proofs.RawWords.{List, [], ◌∷◌, refl, Ura, Val, vstruct, vcons, vnil, Logic, Item, Goal}
+use Rattle.rnxcmp_c.proofs.RawWords.{Step, step, ‵, ◌$◌, fjoin, fpack, feq_i, Valss, RawPtr, Ptr, ptr_val}
+use Rattle.rnxcmp_c.proofs.RawWords.{nothing, within, shape, Reader, place_owns}
 use Rattle.rnxcmp_c.specs.contracts.place.Place as place
 
 abbrev pub word : Ptr → Val

@@ -9,11 +9,11 @@ use Rattle.rnxcmp_c.proofs.Words.{IsLineReached, ReaderIsOver, ReaderRuns, Reade
 use Rattle.rnxcmp_c.proofs.Words.{RunIsOverLimit, RunIsTooLong, StandsBy, answer_now, shows_of}
 use Rattle.rnxcmp_c.proofs.Words.{too_long_after, FeedsBy, FeedsBytes, HasEndedBy, HasFedBy, HasPassedBy}
 use Rattle.rnxcmp_c.proofs.Words.{ReaderHasEnded, texts_of_held, Holds, have_ended, Handle, HandlePast}
-use Rattle.rnxcmp_c.proofs.Words.{HidesFault, allowed_after, fed_with, filter_for, limit_for, memory_next}
-use Rattle.rnxcmp_c.proofs.Words.{past_of, result_for, texts_made, waiting, Answer, OUTPUT_LIMIT, Held}
-use Rattle.rnxcmp_c.proofs.Words.{READY_LIMIT, Reader, BothTexts, line_in, RunHasEnded, StopsAtLimit}
-use Rattle.rnxcmp_c.proofs.Words.{StopsForMemory, StopsWhenFull, Task, Compact, Expand, Check, handle_answer}
-use Rattle.rnxcmp_c.proofs.Words.{run_for, with_one_more}
+use Rattle.rnxcmp_c.proofs.Words.{allowed_after, fed_with, filter_for, limit_for, memory_next, past_of}
+use Rattle.rnxcmp_c.proofs.Words.{result_for, texts_made, waiting, Answer, OUTPUT_LIMIT, Held, READY_LIMIT}
+use Rattle.rnxcmp_c.proofs.Words.{Reader, BothTexts, line_in, RunHasEnded, StopsAtLimit, StopsForMemory}
+use Rattle.rnxcmp_c.proofs.Words.{StopsWhenFull, Task, Compact, Expand, Check, handle_answer, run_for}
+use Rattle.rnxcmp_c.proofs.Words.{with_one_more}
 use Rattle.std.proofs.Common.{reverse}
 use Rattle.std.proofs.lemmas.List.{map-append, reverse-append}
 use Rattle.crx_base.specs.meaning.Seen.{ReadLine}
@@ -27,7 +27,7 @@ use Rattle.crx_filter.proofs.reading.Prefixes.{AreMore, whole-items}
 use Rattle.rnxcmp_c.specs.Handles.{fault_now, status_now, Feeds, Ends}
 use Rattle.rnxcmp_c.specs.Opened.{EndsHandle, FeedsHandle, HandleStands, has_ended, run_in, run_state}
 use Rattle.rnxcmp_c.specs.Opened.{texts_in, texts_kept}
-use Rattle.rnxcmp_c.specs.Past.{AsksMemory, IsShortOfMemory}
+use Rattle.rnxcmp_c.specs.Past.{AsksMemory}
 use Rattle.rnxcmp_c.specs.meaning.Handles.{HandlePromise, RunWasEnded, TakesBytes, joined_texts}
 use Rattle.rnxcmp_c.proofs.Cut.{begins-next}
 use Rattle.rnxcmp_c.proofs.GoingLemmas.{begins-then, notices-both}
@@ -131,11 +131,6 @@ module _ (task : Task) (input : List ℕ) (lines : List InputLine) where
 abbrev answer_by : Option Outcome → Reader → Answer
 answer_by outcome reader = handle_answer (status_now outcome) (fault_now outcome) (texts_of_held reader.held)
 
-answers-same : (kept : BothTexts) (status then : ℕ) (fault found : Option At) → status ≡ then → fault ≡ found
-    → handle_answer status fault kept ≡ handle_answer then found kept
-answers-same kept status then fault found same is =
-    ap (λ s. handle_answer s fault kept) same ∙ ap (λ f. handle_answer then f kept) is
-
 -- a run that has ended with one of some results has ended with one of more
 ended-as : (P Q : FilterResult → Type 0) (made kept : BothTexts) (answer : Answer)
     → ((result : FilterResult) → P result → Q result) → RunHasEnded P made kept answer
@@ -182,6 +177,11 @@ module _ (task : Task) (reader : Reader) (past : HandlePast) where
   abbrev Ended : (FilterResult → Type 0) → Option Outcome → Type 0
   Ended is_one outcome = RunHasEnded is_one made kept (answer_by outcome reader)
 
+  answered-by : (outcome : Outcome) {status : ℕ} {fault : Option At} → outcome.status ≡ status
+      → outcome.fault ≡ fault → answer_by (Some outcome) reader ≡ handle_answer status fault kept
+  answered-by outcome {status} same is =
+      ap (λ s. handle_answer s outcome.fault kept) same ∙ ap (λ f. handle_answer status f kept) is
+
   -- the result of an input, that at the limit of the output, or that of a run for which memory ran out
   abbrev Whole : List ℕ → FilterResult → Type 0
   Whole input result = result ≡ result_for task input
@@ -212,26 +212,25 @@ module _ (task : Task) (reader : Reader) (past : HandlePast) where
             omega (arith, going.left before, runs.limit, ap length going.text.wrote);
       }
 
-  -- at a line, or at the end
-  stopped-short : (is_line : ℕ → Type 0) (outcome : Outcome) (input : List ℕ)
+  -- at a line, or at the end; or for the message of a fault
+  short-of_memory : (is_line : ℕ → Type 0) (outcome : Outcome) (input : List ℕ)
       → RunIsOutOfMemory task is_line input reader outcome past
-      → is_line (line_in outcome.fault) → IsShortOfMemory (filter_for task) input (line_in outcome.fault) made
-      → Ended (Short is_line input) (Some outcome)
-  stopped-short is_line outcome input ran there by =
+      → Ended (λ result. Failed input result ⊎ Short is_line input result) (Some outcome)
+  short-of_memory is_line outcome input ran = ⊎_elim
+      (λ out.
+      let by = out.made in
       let at : At = record { line = line_in outcome.fault; fault = OutOfMemory } in
       let before : Course = (filter_for task).so_far by.lines in
       let warned : List ℕ = notices_text before.warnings in
       let own : List ℕ = notices_text by.notices in
-      let answered : answer_by (Some outcome) reader ≡ handle_answer 1 (Some at) kept =
-      answers-same kept outcome.status 1 outcome.fault (Some at) ran.status
-      (fault-at outcome.fault ran.memory) in
+      let answered = answered-by outcome ran.status (fault-at outcome.fault ran.memory) in
       record {
         result = result_of_course (record {
           output = before.output;
           warnings = before.warnings ++ by.notices;
           fault = Some at;
         });
-        is = record {
+        is = inr (record {
           lines = by.lines;
           others = by.others;
           first = by.first;
@@ -242,12 +241,12 @@ module _ (task : Task) (reader : Reader) (past : HandlePast) where
           after_is = refl;
           line = line_in outcome.fault;
           line_is = by.line_is;
-          there = there;
+          there = out.at;
           notices = by.notices;
           own = by.own;
           asked = asks (filter_for task) by.lines by.others by.notices by.asked;
           result_is = refl;
-        };
+        });
         ends = ⊎_elim
             (λ none. inr (record {
               at = at;
@@ -266,37 +265,22 @@ module _ (task : Task) (reader : Reader) (past : HandlePast) where
                   ∙ by.made.messages;
             }))
             by.last_is;
-      }
-
-  -- for the message of a fault
-  hidden-fault : (is_line : ℕ → Type 0) (outcome : Outcome) (input : List ℕ)
-      → RunIsOutOfMemory task is_line input reader outcome past
-      → HidesFault (result_for task input) (line_in outcome.fault) made → Ended (Failed input) (Some outcome)
-  hidden-fault is_line outcome input ran hidden =
+      })
+      (λ hidden.
       let found = some-at (result_for task input).fault hidden.faulty in
       record {
         result = result_for task input;
-        is = (refl, faulty-status task input found.0 found.1);
+        is = inl (refl, faulty-status task input found.0 found.1);
         ends = inr (record {
           at = found.0;
           faulty = found.1;
-          answered = answers-same kept outcome.status 1 outcome.fault _ ran.status
-              (fault-at outcome.fault ran.memory
+          answered = answered-by outcome ran.status (fault-at outcome.fault ran.memory
               ∙ ap (λ (n : ℕ). let a : At = record { line = n; fault = OutOfMemory } in Some a)
               (hidden.line_is ∙ ap line_in found.1));
           output = hidden.output_is;
           messages = hidden.messages_are ∙ ap (λ f. made.messages ++ error_text f) found.1;
         });
-      }
-
-  short-of_memory : (is_line : ℕ → Type 0) (outcome : Outcome) (input : List ℕ)
-      → RunIsOutOfMemory task is_line input reader outcome past
-      → Ended (λ result. Failed input result ⊎ Short is_line input result) (Some outcome)
-  short-of_memory is_line outcome input ran = ⊎_elim
-      (λ by. ended-as _ _ made kept _ (λ result is. inr is)
-      (stopped-short is_line outcome input ran by.at by.made))
-      (λ hidden. ended-as _ _ made kept _ (λ result is. inl is)
-      (hidden-fault is_line outcome input ran hidden))
+      })
       ran.made
 
   is-full : (outcome : Outcome) → RunIsTooLong task reader outcome past
@@ -313,14 +297,14 @@ module _ (task : Task) (reader : Reader) (past : HandlePast) where
         is = record { full = long.full; good = long.good; result_is = refl };
         ends = ⊎_elim
             (λ said. inl (record {
-              answered = answers-same kept outcome.status 1 outcome.fault (Some at) long.status said.0;
+              answered = answered-by outcome long.status said.0;
               output = long.output;
               messages = said.1;
             }))
             (λ hidden. inr (record {
               at = at;
               faulty = refl;
-              answered = answers-same kept outcome.status 1 outcome.fault _ long.status hidden.0;
+              answered = answered-by outcome long.status hidden.0;
               output = long.output;
               messages = ap (λ t. t ++ error_text (Some at)) hidden.1;
             }))
@@ -354,7 +338,7 @@ module _ (task : Task) (reader : Reader) (past : HandlePast) where
           result_is = refl;
         };
         ends = inl (record {
-          answered = answers-same kept outcome.status OUTPUT_LIMIT outcome.fault None over.status over.fault;
+          answered = answered-by outcome over.status over.fault;
           output = over.made.output;
           messages = sym (append-nil (notices_text before.warnings)) ∙ over.made.messages;
         });
@@ -367,7 +351,7 @@ module _ (task : Task) (reader : Reader) (past : HandlePast) where
     result = result_for task input;
     is = refl;
     ends = inl (record {
-      answered = answers-same kept outcome.status _ outcome.fault _ over.status over.fault;
+      answered = answered-by outcome over.status over.fault;
       output = over.output;
       messages = over.messages;
     });

@@ -45,7 +45,7 @@ pub use Rattle.rnxcmp_c.specs.Handles.{has_ended_of}
 pub use Rattle.rnxcmp_c.specs.Holding.{IsMemoryLacking, ready_in, texts_of_held, StopsCounted}
 pub use Rattle.rnxcmp_c.specs.Opened.{Holds, have_ended}
 pub use Rattle.rnxcmp_c.specs.Past.{HandlePast, fed_with, StopsSoon, allowed_after, filter_for, limit_for}
-pub use Rattle.rnxcmp_c.specs.Past.{nothing_fed, result_for, HidesFault, memory_next, past_of, texts_made}
+pub use Rattle.rnxcmp_c.specs.Past.{nothing_fed, result_for, memory_next, past_of, texts_made, HidesFault}
 pub use Rattle.rnxcmp_c.specs.Past.{taken_with}
 pub use Rattle.rnxcmp_c.specs.Waiting.{waiting}
 pub use Rattle.rnxcmp_c.specs.declared.answer.Answer.{Answer}
@@ -66,13 +66,3 @@ pub use Rattle.rnxcmp_c.specs.meaning.Handles.{StopsForMemory, StopsWhenFull, Ta
 pub use Rattle.rnxcmp_c.specs.meaning.Handles.{Compact, Expand, Check, handle_answer}
 pub use Rattle.rnxcmp_c.specs.meaning.Lossless.{CallBringsBackWhatPasses}
 pub use Rattle.rnxcmp_c.specs.meaning.Promises.{CallBringsBackWhatWasCompacted, CallSavesAllElse}
-pub use denote.Builtin.{RawPtr}
-pub use denote.RattleType.{Valss}
-pub use denote.RawPtr.{Ptr, ptr_val}
-pub use denote.Steps.{nothing}
-pub use denote.Struct.Owning.{shape}
-pub use denote.Struct.Struct.{within}
-pub use mir.Val.{Val, vstruct, vcons, vnil}
-pub use seplogic.Ra.Ura.{Ura}
-pub use types.Kit.{Item, Goal, Step, step, ‵, ◌$◌, fjoin, fpack, feq_i}
-pub use types.Logic.{Logic}

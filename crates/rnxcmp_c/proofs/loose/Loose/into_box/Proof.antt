@@ -1,43 +1,27 @@
 -- `into_box` makes the box again.
-use Rattle.std.proofs.Common.{◌≡◌, List, [], ◌∷◌, ◌++◌, refl, sym, ap, subst}
-use mir.Syntax.{a_type, dcons, dnil}
-use mir.Val.{Val, vptr}
-use mir.MapTy.{inst_fn}
-use base.Logic.{SProp, ent, id⊢}
-use base.Fml.{ftrue, flft}
-use prog.Wp.{WpFn}
-use types.Kit.{‵, raw, ◌⊛◌, some, later, at_ret, ◌$◌, ◌∵◌, !, qed, by, move, keep, drop, split, split3, join}
-use types.Kit.{fsplit, fjoin, pick, suffices, use1, await, rewrite, feq_i}
-use types.Run.{stop, fld, of_opd, no_more, and_then, first, blocks, exec, returns, enter}
-use types.ByLocal.{alloc_all, pass_all, free_all, look_at, get, get_in, sets, lands_last, env}
-use types.Part.{sub, whole}
-use contract.Monad.{fact}
+use Rattle.rnxcmp_c.proofs.RawWords.{◌≡◌, List, [], ◌∷◌, ◌++◌, refl, sym, ap, subst, a_type, dcons, dnil, Val}
+use Rattle.rnxcmp_c.proofs.RawWords.{vptr, inst_fn, SProp, ent, id⊢, ftrue, flft, WpFn, ‵, raw, ◌⊛◌, some}
+use Rattle.rnxcmp_c.proofs.RawWords.{later, ◌$◌, ◌∵◌, !, qed, by, move, keep, drop, split, split3, join}
+use Rattle.rnxcmp_c.proofs.RawWords.{fsplit, fjoin, pick, suffices, use1, await, rewrite, feq_i, stop, fld}
+use Rattle.rnxcmp_c.proofs.RawWords.{of_opd, no_more, and_then, returns, enter, alloc_all, pass_all, free_all}
+use Rattle.rnxcmp_c.proofs.RawWords.{look_at, get, get_in, sets, sub, whole, fact, tables, no, RattleType}
+use Rattle.rnxcmp_c.proofs.RawWords.{owns, types_at, plain, block_ptr, nothing, only, param, layout, bounded}
+use Rattle.rnxcmp_c.proofs.RawWords.{param_laws, triple_of, Stays, stay_dropped, walk_of, Goes-blank, fm}
+use Rattle.rnxcmp_c.proofs.RawWords.{Good, box_out, box_in, proved_at, leaves}
+use types.Kit.{at_ret}
+use types.Run.{first, blocks, exec}
+use types.ByLocal.{lands_last, env}
 use contract.BorrowLft.{◌⊑◌}
-use contract.Running.{tables}
-use denote.Exit.{no}
-use denote.RattleType.{RattleType, owns}
-use denote.Signature.{types_at, plain}
-use denote.RawPtr.{block_ptr}
-use denote.Steps.{nothing, only}
-use denote.Param.{param, layout, bounded}
-use denote.Param.Laws.{param_laws}
 use denote.Triple.Clauses.{Lasts, lasts}
-use denote.Triple.Spec.{triple_of}
 use denote.Triple.Call.{calls_at_last}
-use denote.Triple.Walked.{Stays, stay_dropped, walk_of}
-use Rattle.core.proofs.alloc.Calls.{Goes-blank}
 use Rattle.core.proofs.alloc.Shapes.{after}
-use Rattle.core.proofs.atomic.Steps.{fm}
-use Rattle.core.proofs.cell.Inside.{Good}
-use Rattle.std_alloc.proofs.BoxSteps.Form as box
-use Rattle.std_alloc.proofs.BoxSteps.Steps.{box_out, box_in}
-use Rattle.std.proofs.raw_atomic.Walks.{proved_at, leaves}
 use Rattle.rnxcmp_c.proofs.LooseValues.{both, Loose, loose_good, loose_out}
-use Rattle.std_alloc.specs.contracts.boxed.Box.from_raw as callee
 use Rattle.std_alloc.proofs.boxed.Box.from_raw.Met.{met}
 use Rattle.rnxcmp_c.specs.contracts.loose.Loose.into_box.{ended, clauses}
 use Rattle.rnxcmp_c.specs.contracts.loose.Loose.into_box.Key.{name as #self}
 use Rattle.rnxcmp_c.proofs.loose.Loose.into_box.Statement.{statement}
+use Rattle.std_alloc.proofs.BoxSteps.Form as box
+use Rattle.std_alloc.specs.contracts.boxed.Box.from_raw as callee
 use Rattle.rnxcmp_c.proofs.loose.Loose.into_box.Code as code
 
 pub into_box_spec : {M : Type 1} → statement M

@@ -1,19 +1,10 @@
 -- `empty` makes a null pointer, which owns nothing.
-use Rattle.std.proofs.Common.{◌≡◌, List, [], ◌∷◌, refl, lit<}
-use mir.Val.{Val}
-use base.Logic.{SProp, emp}
-use base.Fml.{ftrue}
-use types.Kit.{‵, raw, ◌⊛◌, ◌$◌, ◌∵◌, !, qed, by, keep, drop, use0}
-use types.Run.{lit, no_more, and_then, returns, enter}
-use types.ByLocal.{alloc_all, pass_all, free_all, look_at, sets}
-use types.Part.{agg}
-use contract.Monad.{fact, fact_i}
-use contract.Running.{tables}
-use denote.RawPtr.{null_ptr}
-use denote.Steps.{nothing}
-use denote.Triple.Walked.{walk_of}
-use Rattle.std.proofs.raw_atomic.Walks.{proved_at, leaves}
-use Rattle.rnxcmp_c.specs.declared.reader.Reader.{Reader}
+use Rattle.rnxcmp_c.proofs.RawWords.{◌≡◌, List, [], ◌∷◌, refl, Val, SProp, emp, ftrue, ‵, raw, ◌⊛◌, ◌$◌, ◌∵◌}
+use Rattle.rnxcmp_c.proofs.RawWords.{ !, qed, by, keep, drop, use0, no_more, and_then, returns, enter}
+use Rattle.rnxcmp_c.proofs.RawWords.{alloc_all, pass_all, free_all, look_at, sets, agg, fact, fact_i, tables}
+use Rattle.rnxcmp_c.proofs.RawWords.{null_ptr, nothing, walk_of, proved_at, leaves, Reader}
+use Rattle.std.proofs.Common.{lit<}
+use types.Run.{lit}
 use Rattle.rnxcmp_c.proofs.PlaceValues.{word, place_in}
 use Rattle.rnxcmp_c.specs.contracts.place.Place.empty.{ended, clauses}
 use Rattle.rnxcmp_c.specs.contracts.place.Place.empty.Key.{name as #self}

@@ -1,40 +1,25 @@
 -- `into_loose` moves the pointer, and what the place owned goes with it.
-use Rattle.std.proofs.Common.{◌≡◌, List, [], ◌∷◌, ◌++◌, refl, sym, ap, ◌∙◌, subst}
+use Rattle.rnxcmp_c.proofs.RawWords.{◌≡◌, List, [], ◌∷◌, ◌++◌, refl, sym, ap, ◌∙◌, subst, Val, vptr, vstruct}
+use Rattle.rnxcmp_c.proofs.RawWords.{of_list, SProp, ent, id⊢, never, fst∗, ftrue, fsep, WpFn, sem, ‵, raw}
+use Rattle.rnxcmp_c.proofs.RawWords.{◌⊛◌, ◌$◌, ◌∵◌, !, qed, move, drop, split, join, fsplit, fjoin, fpick}
+use Rattle.rnxcmp_c.proofs.RawWords.{suffices, rewrite, feq_l, done, stop, fld, of_opd, no_more, and_then}
+use Rattle.rnxcmp_c.proofs.RawWords.{returns, enter, alloc_all, pass_all, free_all, look_at, get, get_in}
+use Rattle.rnxcmp_c.proofs.RawWords.{sets, agg, sub, whole, fact, tables, yes, RattleType, plain, Ptr}
+use Rattle.rnxcmp_c.proofs.RawWords.{block_ptr, null_ptr, ptr_val, in_a_block, lone, nothing, heard, says}
+use Rattle.rnxcmp_c.proofs.RawWords.{Stays, stay_dropped, walk_of, ends_at, Goes-dropped, proved_at, Al}
+use Rattle.rnxcmp_c.proofs.RawWords.{handle_tells, box_owns, ghosts, place_owns, Reader}
 use mir.Raw.{raw as bare}
-use mir.Val.{Val, vptr, vstruct, of_list}
-use base.Logic.{SProp, ent, id⊢, never, fst∗}
-use base.Fml.{ftrue, fsep}
-use prog.Wp.{WpFn}
-use types.Logic.{sem}
-use types.Kit.{‵, raw, ◌⊛◌, ◌$◌, ◌∵◌, !, qed, move, drop, split, join, fsplit, fjoin, fpick, suffices}
-use types.Kit.{rewrite, feq_l, done}
-use types.Run.{stop, fld, of_opd, no_more, and_then, returns, enter}
-use types.ByLocal.{alloc_all, pass_all, free_all, look_at, get, get_in, sets}
-use types.Part.{agg, sub, whole}
-use contract.Monad.{fact}
-use contract.Running.{tables}
-use denote.Exit.{yes}
-use denote.RattleType.{RattleType}
-use denote.Signature.{plain}
-use denote.RawPtr.{Ptr, block_ptr, null_ptr, ptr_val, in_a_block}
-use denote.Memory.{lone}
-use denote.Steps.{nothing, heard}
-use denote.Triple.Walked.{says, Stays, stay_dropped, walk_of, ends_at, Goes-dropped}
-use Rattle.std.proofs.raw_atomic.Walks.{proved_at}
-use Rattle.core.proofs.alloc.Calls.{Al, handle_tells}
-use Rattle.std_alloc.specs.Box.Ownership.{box_owns}
-use Rattle.std_heap.specs.contracts.Global as heap
-use Rattle.std_heap.specs.contracts.GlobalAllocator.TheImpl.{ghosts, dict}
-use Rattle.std_heap.proofs.Global.TheLaws as heap_laws
-use Rattle.rnxcmp_c.specs.Places.{heap, place_owns}
-use Rattle.rnxcmp_c.specs.declared.reader.Reader.{Reader}
-use Rattle.rnxcmp_c.specs.contracts.reader.Reader as reader
-use Rattle.rnxcmp_c.specs.contracts.place.Place as place
+use Rattle.std_heap.specs.contracts.GlobalAllocator.TheImpl.{dict}
+use Rattle.rnxcmp_c.specs.Places.{heap}
 use Rattle.rnxcmp_c.proofs.LooseValues.{both, loose_good, loose_in}
 use Rattle.rnxcmp_c.proofs.PlaceValues.{word}
 use Rattle.rnxcmp_c.specs.contracts.place.Place.into_loose.{ended, clauses}
 use Rattle.rnxcmp_c.specs.contracts.place.Place.into_loose.Key.{name as #self}
 use Rattle.rnxcmp_c.proofs.place.Place.into_loose.Statement.{statement}
+use Rattle.std_heap.specs.contracts.Global as heap
+use Rattle.std_heap.proofs.Global.TheLaws as heap_laws
+use Rattle.rnxcmp_c.specs.contracts.reader.Reader as reader
+use Rattle.rnxcmp_c.specs.contracts.place.Place as place
 use Rattle.rnxcmp_c.proofs.place.Place.into_loose.Code as code
 
 pub into_loose_spec : {M : Type 1} → statement M

@@ -1,30 +1,19 @@
 -- `of` moves the pointer, and what the parts owned goes with it.
-use Rattle.std.proofs.Common.{List, [], ◌∷◌, ◌++◌, refl, sym, subst}
-use mir.Val.{Val, vptr}
-use base.Logic.{SProp, ent, emp, id⊢}
-use base.Fml.{ftrue, fsep}
-use prog.Wp.{WpFn}
-use types.Kit.{‵, raw, ◌⊛◌, ◌$◌, ◌∵◌, !, qed, move, keep, drop, split, join, fsplit, fjoin, suffices, done}
-use types.Run.{stop, fld, of_opd, no_more, and_then, returns, enter}
-use types.ByLocal.{alloc_all, pass_all, free_all, look_at, get, get_in, sets}
-use types.Part.{agg, sub, whole}
-use contract.Running.{tables}
-use denote.Exit.{yes}
-use denote.RattleType.{RattleType}
-use denote.Signature.{plain}
-use denote.RawPtr.{block_ptr}
-use denote.Steps.{nothing}
-use denote.Triple.Walked.{says, Stays, stay_dropped, walk_of, ends_at, Goes-dropped}
-use Rattle.std.proofs.raw_atomic.Walks.{proved_at}
-use Rattle.std_heap.specs.contracts.Global as heap
-use Rattle.std_heap.specs.contracts.GlobalAllocator.TheImpl.{ghosts}
-use Rattle.std_heap.proofs.Global.TheLaws as heap_laws
-use Rattle.rnxcmp_c.specs.contracts.reader.Reader as reader
+use Rattle.rnxcmp_c.proofs.RawWords.{List, [], ◌∷◌, ◌++◌, refl, sym, subst, Val, vptr, SProp, ent, emp, id⊢}
+use Rattle.rnxcmp_c.proofs.RawWords.{ftrue, fsep, WpFn, ‵, raw, ◌⊛◌, ◌$◌, ◌∵◌, !, qed, move, keep, drop}
+use Rattle.rnxcmp_c.proofs.RawWords.{split, join, fsplit, fjoin, suffices, done, stop, fld, of_opd, no_more}
+use Rattle.rnxcmp_c.proofs.RawWords.{and_then, returns, enter, alloc_all, pass_all, free_all, look_at, get}
+use Rattle.rnxcmp_c.proofs.RawWords.{get_in, sets, agg, sub, whole, tables, yes, RattleType, plain, block_ptr}
+use Rattle.rnxcmp_c.proofs.RawWords.{nothing, says, Stays, stay_dropped, walk_of, ends_at, Goes-dropped}
+use Rattle.rnxcmp_c.proofs.RawWords.{proved_at, ghosts}
 use Rattle.rnxcmp_c.proofs.LooseValues.{both, Loose, loose_good, loose_out}
 use Rattle.rnxcmp_c.proofs.PlaceValues.{word, place_in}
 use Rattle.rnxcmp_c.specs.contracts.place.Place.of.{ended, clauses}
 use Rattle.rnxcmp_c.specs.contracts.place.Place.of.Key.{name as #self}
 use Rattle.rnxcmp_c.proofs.place.Place.of.Statement.{statement}
+use Rattle.std_heap.specs.contracts.Global as heap
+use Rattle.std_heap.proofs.Global.TheLaws as heap_laws
+use Rattle.rnxcmp_c.specs.contracts.reader.Reader as reader
 use Rattle.rnxcmp_c.proofs.place.Place.of.Code as code
 
 pub of_spec : {M : Type 1} → statement M
