@@ -1,14 +1,14 @@
 -- A run goes on by the bytes that are fed.
-use Rattle.rnxcmp_c.proofs.Words.{◌≡◌, ◌⊎◌, inl, inr, ℕ, ◌+◌, ◌-◌, ◌<◌, ◌≤◌, true, false, ◌||◌, List, [], ◌∷◌}
-use Rattle.rnxcmp_c.proofs.Words.{◌++◌, ⊎_elim, length, take, drop, None, refl, sym, ap, ◌∙◌, subst, arith}
-use Rattle.rnxcmp_c.proofs.Words.{append-nil, Option, append_assoc, is_some, length-append, length-take}
-use Rattle.rnxcmp_c.proofs.Words.{take-append-add, take-append-drop, take-append-le, InputLine, lines_of}
-use Rattle.rnxcmp_c.proofs.Words.{ended_lines_of, HasNoFeed, At, IsLawful, Filter, with_next, notices_text}
-use Rattle.rnxcmp_c.proofs.Words.{Begins, Course, are_some, Held, waiting, IsText, IsGoing, MovesOn}
-use Rattle.rnxcmp_c.proofs.Words.{EndsThere, HandlePast, fed_with, StopsSoon, with_one_more, piece_line}
-use Rattle.rnxcmp_c.proofs.Words.{IsAll, IsCutBy, LineFails, RanOutAt, StopsShort, EndsPastLimit, IsPastLimit}
-use Rattle.rnxcmp_c.proofs.Words.{MovesWithin, PassesLimit, RunBreaks, RunFails, StepStops, IsMemoryLacking}
-use Rattle.rnxcmp_c.proofs.Words.{ready_in, LINE_ROOM, READY_LIMIT, Stop, Fault, Limit}
+use Rattle.rnxcmp_c.proofs.Words.{Some, ◌≡◌, inl, inr, ℕ, ◌+◌, ◌-◌, ◌<◌, ◌≤◌, true, false, ◌||◌, List, []}
+use Rattle.rnxcmp_c.proofs.Words.{◌∷◌, ◌++◌, ⊎_elim, length, take, drop, None, refl, sym, ap, ◌∙◌, subst}
+use Rattle.rnxcmp_c.proofs.Words.{arith, append-nil, Option, append_assoc, is_some, length-append}
+use Rattle.rnxcmp_c.proofs.Words.{length-take, take-append-add, take-append-drop, take-append-le, InputLine}
+use Rattle.rnxcmp_c.proofs.Words.{lines_of, ended_lines_of, HasNoFeed, At, IsLawful, Filter, with_next}
+use Rattle.rnxcmp_c.proofs.Words.{notices_text, Begins, Course, are_some, Held, waiting, IsText, IsGoing}
+use Rattle.rnxcmp_c.proofs.Words.{MovesOn, EndsThere, HandlePast, fed_with, StopsSoon, with_one_more}
+use Rattle.rnxcmp_c.proofs.Words.{piece_line, IsAll, IsCutBy, RanOutAt, StopsShort, IsPastLimit, MovesWithin}
+use Rattle.rnxcmp_c.proofs.Words.{PassesLimit, RunBreaks, RunFails, StepStops, IsMemoryLacking, ready_in}
+use Rattle.rnxcmp_c.proofs.Words.{LINE_ROOM, READY_LIMIT, Stop, Fault, Limit, line_reached, memory_next}
 use Rattle.rnxcmp_c.specs.Going.{RunsShort, IsBroken, IsFailed, AddsWithin, IsKeptWithin}
 use Rattle.std.proofs.Common.{◌≢◌, slice_index}
 use Rattle.std.proofs.lemmas.List.{drop_more, get_or-take}
@@ -495,90 +495,83 @@ ended-more filter shows held past more going = omega (
 
 -- ---- the end
 
--- a line, or the end, ended the run
-abbrev AtLine : ℕ → Option (List At) → Course → Course → Held → Held → At → Type 0
-AtLine number memory before after old new at = (RanOutAt number at × StopsShort memory before after old new)
-    ⊎ EndsThere before after old.output new.output old.messages new.messages at
+-- what is held once some lines were taken
+pub record IsHeldAfter (filter : Filter) (held : Held) (past : HandlePast) (lines : List InputLine) : Type 0 where
+  pub text : IsText (filter.so_far lines) held past
+  pub sound : (filter.so_far lines).fault ≡ None
+  pub flag : held.warned ≡ are_some (filter.so_far lines).warnings
+  pub unfailed : AreUnfailed held
+  pub left : 0 < held.limit → held.left + length (filter.so_far lines).output ≡ held.limit
+  pub number : held.number ≡ length lines
 
--- what a limit leaves after some lines
-abbrev IsLeft : Filter → List InputLine → Held → Type 0
-IsLeft filter lines held = 0 < held.limit → held.left + length (filter.so_far lines).output ≡ held.limit
-
--- the end after some lines
-module _ (filter : Filter) (mid : Held) (past : HandlePast) (lines : List InputLine)
-    (text : IsText (filter.so_far lines) mid past)
-    (flag : mid.warned ≡ are_some (filter.so_far lines).warnings)
-    (good : AreUnfailed mid) (whole : lines_of past.fed ≡ lines) (new : Held) where
-  pub ends-well : (shown : Type 0) → IsLeft filter lines mid
+module _ {filter : Filter} {mid : Held} {past : HandlePast} {lines : List InputLine}
+    (is : IsHeldAfter filter mid past lines) (new : Held) where
+  -- the end was taken
+  pub ends-well : lines_of past.fed ≡ lines → (shown : Type 0)
       → MovesWithin (filter.so_far lines) (filter.whole lines) shown mid new
       → IsAll (filter.whole (lines_of past.fed)) new past
-  ends-well shown left within =
+  ends-well whole shown within =
       let moved = within.moved in
-      let grown : IsText (filter.whole lines) new past =
-      text-grows (filter.so_far lines) (filter.whole lines) shown mid new past text moved in
+      let grown : IsText (filter.whole lines) new past = text-grows _ _ shown mid new past is.text moved in
       subst (λ ls. IsAll (filter.whole ls) new past) (sym whole) (record {
         good = moved.kept.good;
         text = grown;
-        flag = flag-grows (filter.so_far lines) (filter.whole lines) shown mid new flag moved;
+        flag = flag-grows _ _ shown mid new is.flag moved;
         within = λ limited.
             let before : 0 < mid.limit = subst (λ (n : ℕ). 0 < n) within.limit limited in
-            omega (arith, left before, within.left before, within.limit, ap length grown.wrote);
+            omega (arith, is.left before, within.left before, within.limit, ap length grown.wrote);
       })
 
-  pub ends-badly : (filter.so_far lines).fault ≡ None → (number : ℕ) → number ≡ length lines → (at : At)
-      → AtLine number None (filter.so_far lines) (filter.whole lines) mid new at
-      → LineFails filter new past at
-  ends-badly sound number last at (inl memory) =
-      inl (record {
-        ran_out = (memory.0.0, memory.0.1 ∙ last ∙ ap length (sym whole));
-        lines = lines;
-        others = [];
-        first = whole ∙ sym (append-nil lines);
-        number = memory.0.1 ∙ last;
-        cut = cut-by (filter.so_far lines) (filter.whole lines) None mid new past sound text memory.1;
-        lacking = lacking-by (filter.so_far lines) (filter.whole lines) None mid new good memory.1;
-      })
-  ends-badly sound number last at (inr ends) =
-      inr (subst (λ ls. IsFailed (filter.whole ls) new past at) (sym whole) (record {
-        fault = ends.fault;
-        text = text-ends (filter.so_far lines) (filter.whole lines) mid new past at text ends;
-      }))
-
--- the end, or a line before it, ended the run after some lines
-module _ (filter : Filter) (mid : Held) (past : HandlePast) (lines : List InputLine)
-    (text : IsText (filter.so_far lines) mid past) (left : IsLeft filter lines mid) (new : Held)
-    (sound : (filter.so_far lines).fault ≡ None) where
-  pub passes-after : (others : List InputLine) → lines_of past.fed ≡ lines ++ others
-      → PassesLimit (filter.so_far lines) (with_one_more filter lines others) mid new
-      → EndsPastLimit filter new past
-  passes-after others first passes = record {
+  -- the next line, or the end, ended the run
+  pub stopped-after : (others : List InputLine) → lines_of past.fed ≡ lines ++ others
+      → ((at : At) → (with_one_more filter lines others).fault ≡ Some at
+      → filter.whole (lines_of past.fed) ≡ with_one_more filter lines others)
+      → (number : ℕ) → number ≡ line_reached lines others → number ≡ length (lines_of past.fed) → (stop : Stop)
+      → StepStops number (memory_next filter lines others) (filter.so_far lines)
+      (with_one_more filter lines others) mid new stop
+      → RunFails filter new past stop
+  stopped-after others first decided number reached last (Fault at) (inl memory, adds) = (
+    inl (record {
+      ran_out = (memory.0.0, memory.0.1 ∙ last);
+      lines = lines;
+      others = others;
+      first = first;
+      number = memory.0.1 ∙ reached;
+      cut = cut-by _ _ _ mid new past is.sound is.text memory.1;
+      lacking = lacking-by _ _ _ mid new is.unfailed memory.1;
+    }),
+    adds-kept (filter.so_far lines) mid new past is.text.wrote is.left adds,
+  )
+  stopped-after others first decided number reached last (Fault at) (inr ends, adds) = (
+    inr (subst (λ c. IsFailed c new past at) (sym (decided at ends.fault)) (record {
+      fault = ends.fault;
+      text = text-ends _ _ mid new past at is.text ends;
+    })),
+    adds-kept (filter.so_far lines) mid new past is.text.wrote is.left adds,
+  )
+  stopped-after others first decided number reached last Limit passes = record {
     lines = lines;
     others = others;
     first = first;
-    good = sound;
+    good = is.sound;
     limited = omega (arith, passes.limited, passes.limit);
-    within = omega (arith, left passes.limited, passes.limit);
-    over = omega (arith, left passes.limited, passes.over, passes.limit);
-    text = text-kept text passes.output_is passes.messages_are;
+    within = omega (arith, is.left passes.limited, passes.limit);
+    over = omega (arith, is.left passes.limited, passes.over, passes.limit);
+    text = text-kept is.text passes.output_is passes.messages_are;
   }
 
-  pub ends-stopped : (flag : mid.warned ≡ are_some (filter.so_far lines).warnings) → AreUnfailed mid
-      → (whole : lines_of past.fed ≡ lines) → (number : ℕ) → number ≡ length lines → (stop : Stop)
-      → StepStops number None (filter.so_far lines) (filter.whole lines) mid new stop
+  pub ends-stopped : lines_of past.fed ≡ lines → (stop : Stop)
+      → StepStops mid.number None (filter.so_far lines) (filter.whole lines) mid new stop
       → RunFails filter new past stop
-  ends-stopped flag good whole number last (Fault at) stops = (
-    ends-badly filter mid past lines text flag good whole new sound number last at stops.0,
-    adds-kept (filter.so_far lines) mid new past text.wrote left stops.1,
-  )
-  ends-stopped flag good whole number last Limit passes =
-      passes-after [] (whole ∙ sym (append-nil lines)) passes
+  ends-stopped whole stop stops = stopped-after [] (whole ∙ sym (append-nil lines))
+      (λ at fault. ap filter.whole whole) mid.number is.number (is.number ∙ ap length (sym whole)) stop stops
 
 module _ (filter : Filter) (shows : List InputLine → List Awaited → Type 0)
     (held : Held) (past : HandlePast) (is : IsGoing filter shows held past) where
   abbrev ended : List InputLine
   ended = ended_lines_of past.fed
 
-  pub all-cut : lines_of past.fed ≡ ended ++ lines_of is.tail
+  all-cut : lines_of past.fed ≡ ended ++ lines_of is.tail
   all-cut =
       ap lines_of (sym (append-nil past.fed)) ∙ is.cut []
       ∙ ap (λ t. ended ++ lines_of t) (append-nil is.tail)
@@ -589,74 +582,52 @@ module _ (filter : Filter) (shows : List InputLine → List Awaited → Type 0)
       all-cut ∙ ap (λ t. ended ++ lines_of t) (none-where_none is.tail (sym is.kept ∙ none))
       ∙ append-nil ended
 
+  pub held-going : IsHeldAfter filter held past ended
+  held-going = record {
+    text = is.text;
+    sound = is.good;
+    flag = is.flag;
+    unfailed = is.unfailed;
+    left = is.left;
+    number = is.number;
+  }
+
+  abbrev last : List InputLine
+  last = with_next ended (piece_line is.tail false)
+
   -- a line without LF is there
-  pub all-but_last : 0 < length held.tail.bytes.items
-      → lines_of past.fed ≡ with_next ended (piece_line is.tail false)
+  pub all-but_last : 0 < length held.tail.bytes.items → lines_of past.fed ≡ last
   all-but_last some =
       all-cut ∙ ap (λ ls. ended ++ ls) (lines-last is.tail is.no_feed
       (omega (arith, some, ap length is.kept, length-take LINE_ROOM is.tail)))
 
   -- that line was taken
-  module _ (mid : Held) (some : 0 < length held.tail.bytes.items) where
-    abbrev last : List InputLine
-    last = with_next ended (piece_line is.tail false)
-
-    module _ (shown : Type 0) (moved : MovesOn (filter.so_far ended) (filter.so_far last) shown held mid) where
-      pub last-text : IsText (filter.so_far last) mid past
-      last-text = text-grows _ _ shown held mid past is.text moved
-
-      pub last-sound : (filter.so_far last).fault ≡ None
-      last-sound = moved.kept.good
-
-      pub last-good : AreUnfailed mid
-      last-good = record {
-        output = moved.kept.output_good ∙ is.unfailed.output;
-        messages = moved.kept.messages_good ∙ is.unfailed.messages;
+  pub held-last : (mid : Held) (shown : Type 0)
+      → MovesWithin (filter.so_far ended) (filter.so_far last) shown held mid → mid.number ≡ held.number + 1
+      → IsHeldAfter filter mid past last
+  held-last mid shown within number =
+      let moved = within.moved in
+      record {
+        text = text-grows _ _ shown held mid past is.text moved;
+        sound = moved.kept.good;
+        flag = flag-grows _ _ shown held mid is.flag moved;
+        unfailed = record {
+          output = moved.kept.output_good ∙ is.unfailed.output;
+          messages = moved.kept.messages_good ∙ is.unfailed.messages;
+        };
+        left = λ limited.
+            let before : 0 < held.limit = subst (λ (n : ℕ). 0 < n) within.limit limited in
+            omega (arith, is.left before, within.left before, within.limit);
+        number = number ∙ ap (λ n. n + 1) is.number ∙ sym (length-append ended (piece_line is.tail false ∷ []));
       }
 
-      pub last-flag : mid.warned ≡ are_some (filter.so_far last).warnings
-      last-flag = flag-grows _ _ shown held mid is.flag moved
-
-    -- it ended the run
-    pub last-fails : IsLawful filter → (at : At)
-        → AtLine (length ended + 1) (filter.memory_after ended (piece_line is.tail false)) (filter.so_far ended)
-        (filter.so_far last) held mid at → LineFails filter mid past at
-    last-fails lawful at (inl memory) =
-        let whole : lines_of past.fed ≡ last = all-but_last some in
-        inl (record {
-          ran_out = (
-            memory.0.0,
-            memory.0.1 ∙ sym (ap length whole ∙ length-append ended (piece_line is.tail false ∷ [])),
-          );
-          lines = ended;
-          others = piece_line is.tail false ∷ [];
-          first = whole;
-          number = memory.0.1;
-          cut = cut-by _ _ _ held mid past is.good is.text memory.1;
-          lacking = lacking-by _ _ _ held mid is.unfailed memory.1;
-        })
-    last-fails lawful at (inr ends) =
-        let decided : filter.whole (lines_of past.fed) ≡ filter.so_far last =
-        ap filter.whole (all-but_last some ∙ sym (append-nil last)) ∙ lawful.decided last [] at ends.fault in
-        inr (subst (λ c. IsFailed c mid past at) (sym decided) (record {
-          fault = ends.fault;
-          text = text-ends _ _ held mid past at is.text ends;
-        }))
-
-    pub last-left : (shown : Type 0)
-        → MovesWithin (filter.so_far ended) (filter.so_far last) shown held mid
-        → IsLeft filter last mid
-    last-left shown moved limited =
-        let before : 0 < held.limit = subst (λ (n : ℕ). 0 < n) moved.limit limited in
-        omega (arith, is.left before, moved.left before, moved.limit)
-
-    pub last-stopped : IsLawful filter → (stop : Stop)
-        → StepStops (length ended + 1) (filter.memory_after ended (piece_line is.tail false)) (filter.so_far ended)
-        (filter.so_far last) held mid stop → RunFails filter mid past stop
-    last-stopped lawful (Fault at) stops = (
-      last-fails lawful at stops.0,
-      adds-kept (filter.so_far ended) held mid past is.text.wrote is.left stops.1,
-    )
-    last-stopped lawful Limit passes =
-        passes-after filter held past ended is.text is.left mid is.good
-        (piece_line is.tail false ∷ []) (all-but_last some) passes
+  -- it ended the run
+  pub last-stopped : (mid : Held) → 0 < length held.tail.bytes.items → IsLawful filter → (stop : Stop)
+      → StepStops (length ended + 1) (filter.memory_after ended (piece_line is.tail false)) (filter.so_far ended)
+      (filter.so_far last) held mid stop → RunFails filter mid past stop
+  last-stopped mid some lawful stop stops =
+      let whole : lines_of past.fed ≡ last = all-but_last some in
+      stopped-after held-going mid (piece_line is.tail false ∷ []) whole
+      (λ at fault. ap filter.whole (whole ∙ sym (append-nil last)) ∙ lawful.decided last [] at fault)
+      (length ended + 1) refl (sym (ap length whole ∙ length-append ended (piece_line is.tail false ∷ []))) stop
+      stops

@@ -6,19 +6,18 @@ use Rattle.rnxcmp_c.proofs.Words.{InputTooLong, OutOfMemory, compaction_filter, 
 use Rattle.rnxcmp_c.proofs.Words.{Filter, with_next, error_text, notices_text, Begins, Course}
 use Rattle.rnxcmp_c.proofs.Words.{result_of_course, Findings, checked_by, findings_of, report_status}
 use Rattle.rnxcmp_c.proofs.Words.{check-lawful, compaction-lawful, expansion-lawful, Outcome, FaultIs}
-use Rattle.rnxcmp_c.proofs.Words.{IsMemoryLacking, waiting, IsAll, IsCutBy, IsGoing, IsText, LineFails}
-use Rattle.rnxcmp_c.proofs.Words.{EndsPastLimit, IsPastLimit, RunBreaks, RunFails, Stop, Fault, Limit}
-use Rattle.rnxcmp_c.proofs.Words.{ReaderIsOver, ReaderRuns, RunIsOutOfMemory, RunIsOverLimit, RunIsTooLong}
-use Rattle.rnxcmp_c.proofs.Words.{shows_of, too_long_after, HasFedBy, HasEndedBy, engine_filter, has_ended_of}
-use Rattle.rnxcmp_c.proofs.Words.{KeepsToLimit, line_in, HandlePast, limit_for, result_for, Task, Compact}
-use Rattle.rnxcmp_c.proofs.Words.{Expand, Check, filter_for, memory_next, with_one_more, AnyEngine}
-use Rattle.rnxcmp_c.proofs.Words.{Compacting, Expanding, Checking, Held, Reader, HidesFault, texts_made}
-use Rattle.rnxcmp_c.proofs.Words.{texts_of_held}
+use Rattle.rnxcmp_c.proofs.Words.{IsMemoryLacking, waiting, IsAll, IsCutBy, IsGoing, IsText, IsPastLimit}
+use Rattle.rnxcmp_c.proofs.Words.{RunBreaks, RunFails, Stop, Fault, Limit, ReaderIsOver, ReaderRuns}
+use Rattle.rnxcmp_c.proofs.Words.{RunIsOutOfMemory, RunIsOverLimit, RunIsTooLong, shows_of, too_long_after}
+use Rattle.rnxcmp_c.proofs.Words.{HasFedBy, HasEndedBy, engine_filter, has_ended_of, KeepsToLimit, line_in}
+use Rattle.rnxcmp_c.proofs.Words.{HandlePast, limit_for, result_for, Task, Compact, Expand, Check, filter_for}
+use Rattle.rnxcmp_c.proofs.Words.{memory_next, with_one_more, AnyEngine, Compacting, Expanding, Checking}
+use Rattle.rnxcmp_c.proofs.Words.{Held, Reader, HidesFault, texts_made, texts_of_held, line_reached}
+use Rattle.rnxcmp_c.specs.Going.{LineFails, EndsPastLimit, Breaks}
 use Rattle.crx_base.specs.declared.fault.Fault.{Fault as FaultOf}
 use Rattle.crx_filter.specs.meaning.Directions.{check_filter, report_unless}
 use Rattle.crx_runs.specs.meaning.Results.{good_status, status_after}
 use Rattle.crx_filter.specs.meaning.Standard.{whole_of}
-use Rattle.rnxcmp_c.specs.Going.{Breaks, line_reached}
 use Rattle.rnxcmp_c.specs.Handles.{IsOf, IsPut, EndsRunBy, EngineGoesOn, status_at_end}
 
 pub filter-is : (task : Task) (engine : AnyEngine) → IsOf task engine → engine_filter engine ≡ filter_for task

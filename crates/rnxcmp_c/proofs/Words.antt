@@ -35,8 +35,8 @@ pub use Rattle.crx_runs.specs.meaning.Results.{Begins, Course, FilterResult, are
 pub use Rattle.crx_runs.specs.meaning.Runs.{FaultIs}
 pub use Rattle.crx_runs.specs.meaning.Spans.{AreNext, Device}
 pub use Rattle.rnxcmp_c.specs.Going.{IsKept, StopsBy, IsText, IsGoing, MovesOn, EndsThere, piece_line, IsAll}
-pub use Rattle.rnxcmp_c.specs.Going.{IsCutBy, LineFails, RanOutAt, StopsShort, EndsPastLimit, IsPastLimit}
-pub use Rattle.rnxcmp_c.specs.Going.{MovesWithin, PassesLimit, RunBreaks, RunFails, StepStops, IsLineEnded}
+pub use Rattle.rnxcmp_c.specs.Going.{IsCutBy, RanOutAt, StopsShort, IsPastLimit, MovesWithin, PassesLimit}
+pub use Rattle.rnxcmp_c.specs.Going.{RunBreaks, RunFails, StepStops, line_reached, IsLineEnded}
 pub use Rattle.rnxcmp_c.specs.Handles.{FeedsBy, FeedsBytes, HasFed, ReaderRuns, StandsBy, answer_now}
 pub use Rattle.rnxcmp_c.specs.Handles.{HasEndedBy, HasFedBy, HasPassedBy, ReaderIsOver, ReaderStands}
 pub use Rattle.rnxcmp_c.specs.Handles.{RunIsOverLimit, ReaderHasEnded, RunIsOutOfMemory, IsLastLine}
@@ -44,8 +44,8 @@ pub use Rattle.rnxcmp_c.specs.Handles.{IsLineReached, RunIsTooLong, shows_of, to
 pub use Rattle.rnxcmp_c.specs.Handles.{has_ended_of}
 pub use Rattle.rnxcmp_c.specs.Holding.{IsMemoryLacking, ready_in, texts_of_held, StopsCounted}
 pub use Rattle.rnxcmp_c.specs.Opened.{Holds, have_ended}
-pub use Rattle.rnxcmp_c.specs.Past.{HandlePast, fed_with, StopsSoon, allowed_after, filter_for, limit_for}
-pub use Rattle.rnxcmp_c.specs.Past.{nothing_fed, result_for, memory_next, past_of, texts_made, HidesFault}
+pub use Rattle.rnxcmp_c.specs.Past.{HandlePast, fed_with, StopsSoon, allowed_after, filter_for, memory_next}
+pub use Rattle.rnxcmp_c.specs.Past.{limit_for, nothing_fed, result_for, past_of, texts_made, HidesFault}
 pub use Rattle.rnxcmp_c.specs.Past.{taken_with}
 pub use Rattle.rnxcmp_c.specs.Waiting.{waiting}
 pub use Rattle.rnxcmp_c.specs.declared.answer.Answer.{Answer}

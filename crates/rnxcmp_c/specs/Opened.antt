@@ -34,6 +34,10 @@ IsSoundHandle handle = handle.is_open ≡ true
 abbrev pub IsUnchanged : Handle → Handle → Type 0
 IsUnchanged old new = new ≡ old
 
+-- a handle that isn't open was misused, and nothing was done to it
+abbrev pub RefusesMisuse : Handle → Handle → Answer → Type 0
+RefusesMisuse old new answer = (answer ≡ bare_answer MISUSED 0 0) × IsUnchanged old new
+
 -- the texts that are kept
 abbrev pub output_kept : List Reader → List ℕ
 output_kept [] = []

@@ -1,7 +1,6 @@
 //! What a call answers, and how its texts come into the caller's memory.
 
 ghost use Rattle.std.specs.Prelude.{◌≡◌};
-ghost use Rattle.crx_runs.specs.meaning.Results.{FilterResult};
 ghost use Rattle.crx_base.specs.declared.fault.Fault.TheVariants.{InputTooLong, OutOfMemory};
 ghost use Rattle.crx_base.specs.meaning.Faults.{code_of_fault};
 ghost use Rattle.rnxcmp_c.specs.meaning.Answers.{bare_answer, fault_code_in, line_in, placed};

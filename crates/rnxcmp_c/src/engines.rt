@@ -1,9 +1,8 @@
 //! The engines of the three tasks, as one type.
 
-ghost use Rattle.std.specs.Prelude.{◌≡◌, ◌<◌, ◌≤◌, ◌+◌, [], length, take, OnErr, OnOk, IfOk, IfErr};
+ghost use Rattle.std.specs.Prelude.{◌≡◌, ◌<◌, ◌≤◌, ◌+◌, length, take, OnErr, OnOk, IfOk, IfErr};
 ghost use Rattle.crx_base.specs.declared.limits.TheConstants.{INPUT_LIMIT};
 ghost use Rattle.crx_base.specs.meaning.Lines.{lines_of};
-ghost use Rattle.crx_runs.specs.Lawful.{IsLawful};
 ghost use Rattle.rnxcmp_c.specs.Going.{IsTaken, LastIsTaken, RunBreaks};
 ghost use Rattle.rnxcmp_c.specs.Holding.{ready_in};
 ghost use Rattle.rnxcmp_c.specs.declared.limits.TheConstants.{READY_LIMIT};

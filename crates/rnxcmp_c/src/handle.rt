@@ -6,17 +6,17 @@
 
 ghost use Rattle.std.specs.Prelude.{◌≡◌, ◌⊎◌, ◌++◌, ℕ, List, [], IfSome, drop, length, take, Some, true, false};
 ghost use Rattle.crx_base.specs.meaning.Choices.{Choices, choices_of, is_date};
-ghost use Rattle.crx_base.specs.declared.fault.Fault.TheVariants.{InputTooLong, OutOfMemory};
+ghost use Rattle.crx_base.specs.declared.fault.Fault.TheVariants.{InputTooLong};
 ghost use Rattle.crx_base.specs.meaning.Faults.{code_of_fault};
 ghost use Rattle.crx_base.specs.meaning.Lines.{lines_of};
 ghost use Rattle.rnxcmp_c.specs.Handles.{IsFresh};
 ghost use Rattle.rnxcmp_c.specs.meaning.Handles.{HandlePromise, RunHasEnded, RunWasEnded, StopsAtLimit, StopsForMemory, TakesBytes, Task, joined_texts, run_for};
 ghost use Rattle.rnxcmp_c.specs.Holding.{HoldsNothing};
-ghost use Rattle.rnxcmp_c.specs.Opened.{AnswersOpening, EndsHandle, FeedsHandle, HandleStands, HandsOut, Holds, IsSoundHandle, IsUnchanged, OpensFor, OpensHandle, has_ended, messages_kept, output_kept, run_state, texts_kept};
+ghost use Rattle.rnxcmp_c.specs.Opened.{AnswersOpening, EndsHandle, FeedsHandle, HandleStands, HandsOut, Holds, IsSoundHandle, IsUnchanged, OpensFor, OpensHandle, RefusesMisuse, has_ended, messages_kept, output_kept, run_state, texts_kept};
 ghost use Rattle.rnxcmp_c.specs.declared.reader.Reader.{Reader};
 ghost use Rattle.rnxcmp_c.specs.meaning.Answers.{BothTexts, HasNoMemory, bare_answer, rooms};
 ghost use Rattle.rnxcmp_c.specs.meaning.Ended.{CheckPromises, ExpansionPromises};
-ghost use Rattle.rnxcmp_c.specs.declared.answer.TheConstants.{MISUSED, OUTPUT_LIMIT};
+ghost use Rattle.rnxcmp_c.specs.declared.answer.TheConstants.{OUTPUT_LIMIT};
 
 use crate::answer::{Answer, BAD_DATE, MISUSED, bare, out_of_memory};
 use crate::engines::AnyEngine;
@@ -180,8 +180,7 @@ pub extern "C" fn rnxcmp_c_feed(
     used: &mut usize,
 ) -> Answer
     requires sound { IsSoundHandle handle.old }
-    ensures closed { handle.old.is_open ≡ false
-        → (result ≡ bare_answer MISUSED 0 0) × (used.new ≡ 0) × IsUnchanged handle.old handle.new }
+    ensures closed { handle.old.is_open ≡ false → RefusesMisuse handle.old handle.new result × (used.new ≡ 0) }
     ensures feeds { (task : Task) (fed : List ℕ) (taken : BothTexts) → HandleStands task handle.old fed taken
         → FeedsHandle task handle.old handle.new fed taken bytes.now used.new result }
     ensures promise { (task : Task) (fed : List ℕ) (taken : BothTexts)
@@ -213,8 +212,7 @@ pub extern "C" fn rnxcmp_c_feed(
 #[unsafe(no_mangle)]
 pub extern "C" fn rnxcmp_c_end(alloc: Global, handle: &mut Handle) -> Answer
     requires sound { IsSoundHandle handle.old }
-    ensures closed { handle.old.is_open ≡ false
-        → (result ≡ bare_answer MISUSED 0 0) × IsUnchanged handle.old handle.new }
+    ensures closed { handle.old.is_open ≡ false → RefusesMisuse handle.old handle.new result }
     ensures ends { (task : Task) (fed : List ℕ) (taken : BothTexts) → HandleStands task handle.old fed taken
         → EndsHandle task handle.old handle.new fed taken result }
     ensures promise { (task : Task) (fed : List ℕ) (taken : BothTexts)
@@ -256,8 +254,7 @@ pub extern "C" fn rnxcmp_c_take(
     messages: &mut [u8],
 ) -> Answer
     requires sound { IsSoundHandle handle.old }
-    ensures closed { handle.old.is_open ≡ false
-        → (result ≡ bare_answer MISUSED 0 0) × IsUnchanged handle.old handle.new
+    ensures closed { handle.old.is_open ≡ false → RefusesMisuse handle.old handle.new result
         × (output.new ≡ output.old) × (messages.new ≡ messages.old) }
     ensures taken { handle.old.is_open ≡ true → HandsOut handle.old.place.held handle.new.place.held
         (rooms output.old messages.old) (rooms output.new messages.new) result }

@@ -1,7 +1,6 @@
 //! Lines out of the bytes that are fed, through an engine.
 
-ghost use Rattle.std.specs.Prelude.{◌≡◌, ◌⊎◌, ◌≤◌, ◌<◌, ◌+◌, ◌-◌, ℕ, List, [], length, take, drop, None, false, true, OnOk, OnErr, IfOk, IfErr};
-ghost use Rattle.crx_base.specs.declared.fault.Fault.TheVariants.{OutOfMemory};
+ghost use Rattle.std.specs.Prelude.{◌≡◌, ◌≤◌, ◌<◌, ◌+◌, ◌-◌, ℕ, List, [], length, take, drop, false, true, OnOk, OnErr, IfOk, IfErr};
 ghost use Rattle.crx_base.specs.declared.limits.TheConstants.{INPUT_LIMIT};
 ghost use Rattle.crx_base.specs.meaning.Lines.{InputLine, ends_with_return, lines_of, without_return};
 ghost use Rattle.crx_lines.specs.Reading.{HasNoFeed};

@@ -1,6 +1,6 @@
 //! A text of a handle that its caller takes piece by piece.
 
-ghost use Rattle.std.specs.Prelude.{◌≡◌, ◌≢◌, ◌<◌, ◌≤◌, ◌+◌, ◌++◌, [], Some, drop, false, length, take, true, IfOk, OnErr, OnOk};
+ghost use Rattle.std.specs.Prelude.{◌≡◌, ◌<◌, ◌≤◌, ◌+◌, ◌++◌, [], Some, drop, false, length, take, true, IfOk, OnErr, OnOk};
 ghost use Rattle.std.proofs.KnownBytes.{Appends-nil, Appends-trans};
 ghost use Rattle.crx_lines.specs.meaning.Devices.{one_more};
 ghost use Rattle.rnxcmp_c.specs.declared.limits.TheConstants.{WAITING_LIMIT};

@@ -1,10 +1,10 @@
-use Rattle.rnxcmp_c.proofs.Words.{◌≡◌, ℕ, ◌+◌, ◌<◌, List, [], ◌∷◌, length, sym, ap, subst, false, ◌∙◌, arith}
+use Rattle.rnxcmp_c.proofs.Words.{◌≡◌, ℕ, ◌<◌, List, [], ◌∷◌, length, sym, ap, subst, false, ◌∙◌, arith}
 use Rattle.rnxcmp_c.proofs.Words.{length-append, length-take, LINE_ROOM, on_ok_weaker, IfErr-weaker}
 use Rattle.rnxcmp_c.proofs.Words.{err_from_is_err_and, ended_lines_of, Filter, with_next, piece_line}
 use Rattle.rnxcmp_c.proofs.Words.{HandlePast}
 use Rattle.rnxcmp_c.specs.Going.{EndIsTaken}
-use Rattle.rnxcmp_c.proofs.GoingLemmas.{all-ended, all-but_last, ends-well, ends-stopped, last-text}
-use Rattle.rnxcmp_c.proofs.GoingLemmas.{last-flag, last-good, last-left, last-sound, last-stopped}
+use Rattle.rnxcmp_c.proofs.GoingLemmas.{all-ended, all-but_last, ends-well, ends-stopped, held-going}
+use Rattle.rnxcmp_c.proofs.GoingLemmas.{held-last, last-stopped}
 use Rattle.rnxcmp_c.proofs.lines.take_last.Given.{Over}
 use Rattle.rnxcmp_c.proofs.lines.take_last.Goals.{Else-is_blank}
 use Rattle.rnxcmp_c.proofs.lines.take_last.Goals as goal
@@ -17,23 +17,21 @@ is-some g c = subst (λ (l : List ℕ). 0 < length l) c.as_slice.ensures
 pub returns-then-is_blank-clause-ends : goal.returns-then-is_blank-clause-ends
 returns-then-is_blank-clause-ends g c = λ (past : HandlePast) is.
     let filter = g.E.Engine.filter c.args.engine.now in
+    let shows = g.E.Engine.shows c.args.engine.now in
     let held = c.args.held.now in
     let new = c.end_within.new.held in
-    let ended = ended_lines_of past.fed in
     let none : held.tail.bytes.items ≡ [] = sym c.as_slice.ensures
     ∙ c.is_blank.ensures.none c.if-is_blank.true in
-    let whole = all-ended filter (g.E.Engine.shows c.args.engine.now) held past is none in
-    let step = c.end_within.ensures.step ended is.shown in (
+    let whole = all-ended filter shows held past is none in
+    let after = held-going filter shows held past is in
+    let step = c.end_within.ensures.step (ended_lines_of past.fed) is.shown in (
       on_ok_weaker c.end_within.result
           (λ within. (
             subst (g.E.Engine.has_ended c.end_within.new.engine) (sym whole) within.moved.kept.is_shown,
-            ends-well filter held past ended is.text is.flag is.unfailed whole new _ is.left within,
+            ends-well after new whole _ within,
           ))
           step.0,
-      IfErr-weaker c.end_within.result _ _
-          (λ stop stops. ends-stopped filter held past ended is.text is.left new is.good is.flag is.unfailed
-          whole held.number is.number stop stops)
-          step.1,
+      IfErr-weaker c.end_within.result _ _ (λ stop stops. ends-stopped after new whole stop stops) step.1,
     )
 
 pub returns-clause-ends : goal.returns-clause-ends
@@ -46,27 +44,18 @@ returns-clause-ends g c = λ (past : HandlePast) is.
     let some = is-some g (goal.at.returns-clause-ends g c).Else-is_blank in
     let lines = with_next (ended_lines_of past.fed) (piece_line is.tail false) in
     let within = (c.in_ok-take_within.ensures.step (ended_lines_of past.fed) is.tail is.shown is.kept).0 in
-    let moved = within.moved in
     let whole = all-but_last filter shows held past is some in
-    let text = last-text filter shows held past is mid some _ moved in
-    let flag = last-flag filter shows held past is mid some _ moved in
-    let good = last-good filter shows held past is mid some _ moved in
-    let left = last-left filter shows held past is mid some _ within in
-    let last : mid.number ≡ length lines = c.in_ok-take_within.ensures.next.0 ∙ ap (λ n. n + 1) is.number
-    ∙ sym (length-append (ended_lines_of past.fed) (piece_line is.tail false ∷ [])) in
+    let after = held-last filter shows held past is mid _ within c.in_ok-take_within.ensures.next.0 in
     let then : Type 0 = g.E.Engine.has_ended c.end_within-2.new.engine lines in
     let step = subst (λ (f : Filter). EndIsTaken c.end_within-2.result f then lines mid new)
-    c.in_ok-take_within.ensures.same.0 (c.end_within-2.ensures.step lines moved.kept.is_shown) in (
+    c.in_ok-take_within.ensures.same.0 (c.end_within-2.ensures.step lines within.moved.kept.is_shown) in (
       on_ok_weaker c.end_within-2.result
           (λ e. (
             subst (g.E.Engine.has_ended c.end_within-2.new.engine) (sym whole) e.moved.kept.is_shown,
-            ends-well filter mid past lines text flag good whole new then left e,
+            ends-well after new whole then e,
           ))
           step.0,
-      IfErr-weaker c.end_within-2.result _ _
-          (λ stop e. ends-stopped filter mid past lines text left new
-          (last-sound filter shows held past is mid some _ moved) flag good whole mid.number last stop e)
-          step.1,
+      IfErr-weaker c.end_within-2.result _ _ (λ stop e. ends-stopped after new whole stop e) step.1,
     )
 
 pub returns-in_err-take_within-clause-ends : goal.returns-in_err-take_within-clause-ends
