@@ -1,16 +1,16 @@
 -- The output stays within its limit, or what a line made is let go of.
-use Rattle.rnxcmp_c.proofs.Words.{◌≡◌, ℕ, ◌+◌, ◌<◌, ◌≤◌, List, [], ◌++◌, length, take, refl, sym, ap, ◌∙◌}
-use Rattle.rnxcmp_c.proofs.Words.{subst, arith, length-append, ◌⊎◌, inl, inr, ⊎_elim, append-nil, is_some}
-use Rattle.rnxcmp_c.proofs.Words.{Bool, ◌||◌, Option, IfErr, IfOk, At, OutOfMemory, Halt, Unwritten}
-use Rattle.rnxcmp_c.proofs.Words.{Unreported, notices_text, Begins, Course, EndsThere, IsKept, MovesOn}
-use Rattle.rnxcmp_c.proofs.Words.{MovesWithin, PassesLimit, RanOutAt, StepStops, StopsBy, StopsShort}
-use Rattle.rnxcmp_c.proofs.Words.{StopsCounted, waiting, Held, Stop, Fault, Limit}
+use Rattle.rnxcmp_c.proofs.Words.{◌≡◌, ℕ, ◌+◌, ◌<◌, List, [], ◌++◌, length, take, refl, sym, ap, ◌∙◌, subst}
+use Rattle.rnxcmp_c.proofs.Words.{arith, length-append, ◌⊎◌, inl, inr, ⊎_elim, append-nil, is_some, Bool}
+use Rattle.rnxcmp_c.proofs.Words.{◌||◌, Option, IfErr, IfOk, At, OutOfMemory, Halt, Unwritten, Unreported}
+use Rattle.rnxcmp_c.proofs.Words.{notices_text, Begins, Course, EndsThere, IsKept, MovesOn, MovesWithin}
+use Rattle.rnxcmp_c.proofs.Words.{PassesLimit, RanOutAt, StepStops, StopsBy, StopsShort, StopsCounted}
+use Rattle.rnxcmp_c.proofs.Words.{waiting, Held, Stop, Fault, Limit}
 use Rattle.std.proofs.Common.{Result, Ok, Err}
 use Rattle.std.proofs.lemmas.List.{take_at}
 use Rattle.std.proofs.lemmas.Result.{IfErr-at_err, IfOk-at_ok}
 use Rattle.crx_runs.specs.declared.taking.Halt.TheVariants.{Fault as Faulty}
 use Rattle.rnxcmp_c.specs.Going.{LosesText}
-use Rattle.rnxcmp_c.specs.Holding.{AreCutTo, IsCounted, IsCutBack, StaysWithin}
+use Rattle.rnxcmp_c.specs.Holding.{AreCutTo, IsCounted, IsCutBack, StaysWithin, IsMark, IsMarkWithin}
 use Rattle.rnxcmp_c.specs.declared.held.Mark.{Mark}
 
 ok-not-err : {T : Type 0} (done : T) (halt : Halt) → ◌≡◌ {A = Result T Halt} (Ok done) (Err halt) → ⊥
@@ -40,7 +40,7 @@ module _ (before after : Course) (shown : Type 0) (old mid : Held) (warned : Boo
     reported = kept.reported;
   }
 
-  stays-within : (new : Held) (mark : Mark) → mark.output ≡ length (waiting old.output) → mid.limit ≡ old.limit
+  stays-within : (new : Held) (mark : Mark) → IsMark mark old → mid.limit ≡ old.limit
       → mid.left ≡ old.left → mid.warned ≡ old.warned
       → new ≡ record mid { left = new.left; warned = mid.warned || warned }
       → (0 < mid.limit → new.left + length (waiting mid.output) ≡ mid.left + mark.output)
@@ -55,7 +55,7 @@ module _ (before after : Course) (shown : Type 0) (old mid : Held) (warned : Boo
     left = λ limited. omega (
       arith,
       counted (subst (λ (n : ℕ). 0 < n) (sym limit) limited),
-      marked,
+      marked.output,
       left,
       ap length kept.wrote,
       length-append (waiting old.output) kept.text,
@@ -118,18 +118,17 @@ module _ (number : ℕ) (memory : Option (List At)) (before after : Course) (old
       inr (subst (λ (h : Held). EndsThere before after old.output h.output old.messages h.messages at)
       (sym same) ends)
 
-  lost-stops : (new counted : Held) (mark : Mark) → mark.output ≡ length (waiting old.output)
-      → mark.messages ≡ length (waiting old.messages) → counted ≡ record mid { left = counted.left }
+  lost-stops : (new counted : Held) (mark : Mark) → IsMark mark old → counted ≡ record mid { left = counted.left }
       → AreCutTo mark counted new → LosesText before after old.output mid.output old.messages mid.messages
       → StopsShort memory before after old new
-  lost-stops new counted mark marked told same cut loses = record {
+  lost-stops new counted mark marked same cut loses = record {
     notices = [];
     asked = inr (refl, ⊎_elim (λ output. inl output.longer) (λ messages. inr messages.longer) loses.lost);
     own = inl refl;
     wrote = cut-to _ _ _ loses.text mark.output
-        (ap (λ (h : Held). waiting h.output) same ∙ loses.wrote) marked cut.output_is;
+        (ap (λ (h : Held). waiting h.output) same ∙ loses.wrote) marked.output cut.output_is;
     reported = cut-to _ _ _ loses.told mark.messages
-        (ap (λ (h : Held). waiting h.messages) same ∙ loses.reported) told cut.messages_are
+        (ap (λ (h : Held). waiting h.messages) same ∙ loses.reported) marked.messages cut.messages_are
         ∙ sym (append-nil (waiting old.messages));
     lacking = inr (⊎_elim
         (λ output. inl (cut.output_good ∙ ap (λ (h : Held). h.output.failures) same ∙ output.failed))
@@ -137,8 +136,7 @@ module _ (number : ℕ) (memory : Option (List At)) (before after : Course) (old
         loses.lost);
   }
 
-  module _ (new : Held) (mark : Mark) (marked : mark.output ≡ length (waiting old.output))
-      (told : mark.messages ≡ length (waiting old.messages)) (limit : mid.limit ≡ old.limit)
+  module _ (new : Held) (mark : Mark) (marked : IsMark mark old) (limit : mid.limit ≡ old.limit)
       (left : mid.left ≡ old.left) where
     stops-within : (at : At) → Stops (Faulty at) → StaysWithin mark.output mid new
         → StepStops number memory before after old new (Fault at)
@@ -149,7 +147,7 @@ module _ (number : ℕ) (memory : Option (List At)) (before after : Course) (old
         left = λ limited. omega (
           arith,
           stays.left (subst (λ (n : ℕ). 0 < n) (sym limit) limited),
-          marked,
+          marked.output,
           left,
           ap (λ (h : Held). length (waiting h.output)) stays.same,
         );
@@ -161,7 +159,7 @@ module _ (number : ℕ) (memory : Option (List At)) (before after : Course) (old
         → (counted : Held) → StaysWithin mark.output mid counted → AreCutTo mark counted new
         → StepStops number memory before after old new (Fault at)
     stops-lost at is loses counted stays cut =
-        let short = lost-stops new counted mark marked told stays.same cut loses in (
+        let short = lost-stops new counted mark marked stays.same cut loses in (
           inl ((ap (λ (a : At). a.fault) is, ap (λ (a : At). a.line) is), short),
           record {
             limit = cut.limit ∙ ap (λ (h : Held). h.limit) stays.same ∙ limit;
@@ -176,11 +174,11 @@ module _ (number : ℕ) (memory : Option (List At)) (before after : Course) (old
       over =
           let wrote = length-append (waiting old.output) part.text in
           ⊎_elim
-          (λ none. omega (arith, back.over, marked, ap length part.wrote, wrote, ap length none))
+          (λ none. omega (arith, back.over, marked.output, ap length part.wrote, wrote, ap length none))
           (λ begins. omega (
             arith,
             back.over,
-            marked,
+            marked.output,
             left,
             ap length part.wrote,
             wrote,
@@ -188,8 +186,8 @@ module _ (number : ℕ) (memory : Option (List At)) (before after : Course) (old
             length-append (before.output ++ part.text) begins.rest,
             length-append before.output part.text,
           )) part.first;
-      output_is = cut-to _ _ _ part.text mark.output part.wrote marked back.cut.output_is;
-      messages_are = cut-to _ _ _ part.told mark.messages part.reported told back.cut.messages_are;
+      output_is = cut-to _ _ _ part.text mark.output part.wrote marked.output back.cut.output_is;
+      messages_are = cut-to _ _ _ part.told mark.messages part.reported marked.messages back.cut.messages_are;
     }
 
 -- whatever a step came to, its output was counted after a mark
@@ -208,20 +206,21 @@ module _ (number : ℕ) (memory : Option (List At)) (before after : Course) (sho
   part-either (Ok warned) kept stopped = kept-part before after shown old mid warned kept
   part-either (Err halt) kept stopped = part-of number memory before after old mid halt stopped
 
-  pub more-output-either : (taken : Result Bool Halt) → Kept taken → Ended taken
-      → length (waiting old.output) ≤ length (waiting mid.output)
-  more-output-either taken kept stopped =
+  pub marks-within : (mark : Mark) → IsMark mark old → (taken : Result Bool Halt) → Kept taken → Ended taken
+      → IsMarkWithin mark mid
+  marks-within mark marked taken kept stopped =
       let part = part-either taken kept stopped in
-      omega (arith, ap length part.wrote, length-append (waiting old.output) part.text)
+      record {
+        output = omega (arith, marked.output, ap length part.wrote, length-append (waiting old.output) part.text);
+        messages = omega (
+          arith,
+          marked.messages,
+          ap length part.reported,
+          length-append (waiting old.messages) part.told,
+        );
+      }
 
-  pub more-messages-either : (taken : Result Bool Halt) → Kept taken → Ended taken
-      → length (waiting old.messages) ≤ length (waiting mid.messages)
-  more-messages-either taken kept stopped =
-      let part = part-either taken kept stopped in
-      omega (arith, ap length part.reported, length-append (waiting old.messages) part.told)
-
-  module _ (new : Held) (mark : Mark) (marked : mark.output ≡ length (waiting old.output))
-      (told : mark.messages ≡ length (waiting old.messages)) (limit : mid.limit ≡ old.limit)
+  module _ (new : Held) (mark : Mark) (marked : IsMark mark old) (limit : mid.limit ≡ old.limit)
       (left : mid.left ≡ old.left) where
     pub step-stays : mid.warned ≡ old.warned → (taken : Result Bool Halt) → Kept taken
         → IsCounted taken mark mid new → MovesWithin before after shown old new
@@ -234,7 +233,7 @@ module _ (number : ℕ) (memory : Option (List At)) (before after : Course) (sho
     pub step-stops : (taken : Result Bool Halt) → Kept taken → Ended taken → (stop : Stop)
         → StopsCounted taken mark number mid new stop → StepStops number memory before after old new stop
     step-stops taken kept stopped Limit back =
-        stops-over number memory before after old mid new mark marked told limit left
+        stops-over number memory before after old mid new mark marked limit left
         (part-either taken kept stopped) back
     step-stops (Ok warned) kept stopped (Fault at) (inl stays) =
         absurd (ok-not-err warned (Faulty at) stays.0)
@@ -242,10 +241,10 @@ module _ (number : ℕ) (memory : Option (List At)) (before after : Course) (sho
         ⊎_elim (λ e. absurd (ok-not-err warned Unwritten e))
         (λ e. absurd (ok-not-err warned Unreported e)) lost.0
     step-stops (Err halt) kept stopped (Fault at) (inl stays) =
-        stops-within number memory before after old mid new mark marked told limit left at
+        stops-within number memory before after old mid new mark marked limit left at
         (IfErr-at_err (Stops number memory before after old mid) stays.0 stopped) stays.1
     step-stops (Err halt) kept stopped (Fault at) (inr lost) =
-        stops-lost number memory before after old mid new mark marked told limit left at lost.1
+        stops-lost number memory before after old mid new mark marked limit left at lost.1
         (⊎_elim (λ e. IfErr-at_err (Stops number memory before after old mid) e stopped)
         (λ e. IfErr-at_err (Stops number memory before after old mid) e stopped) lost.0)
         lost.2.0 lost.2.1 lost.2.2

@@ -1,5 +1,5 @@
 -- What is held of a run between two calls, and how it is counted.
-use Rattle.std.specs.Prelude.{◌≡◌, ◌≢◌, ◌⊎◌, ◌<◌, ℕ, ◌+◌, Bool, true, false, ◌||◌, [], length, take, Result, Ok, Err}
+use Rattle.std.specs.Prelude.{◌≡◌, ◌≢◌, ◌⊎◌, ◌<◌, ◌≤◌, ℕ, ◌+◌, Bool, true, false, ◌||◌, [], length, take, Result, Ok, Err}
 use Rattle.crx_base.specs.declared.fault.Fault.TheVariants.{OutOfMemory}
 use Rattle.crx_runs.specs.declared.taking.Halt.{Halt}
 use Rattle.crx_runs.specs.declared.taking.Halt.TheVariants.{Fault as Faulty, Unwritten, Unreported}
@@ -37,6 +37,15 @@ pub record HoldsNothing (limit : ℕ) (held : Held) : Type 0 where
   pub output : waiting held.output ≡ []
   pub messages : waiting held.messages ≡ []
   pub unfailed : AreUnfailed held
+
+-- a mark is how much waits of both texts, or no more than that
+pub record IsMark (mark : Mark) (held : Held) : Type 0 where
+  pub output : mark.output ≡ length (waiting held.output)
+  pub messages : mark.messages ≡ length (waiting held.messages)
+
+pub record IsMarkWithin (mark : Mark) (held : Held) : Type 0 where
+  pub output : mark.output ≤ length (waiting held.output)
+  pub messages : mark.messages ≤ length (waiting held.messages)
 
 -- but for what the output may still have, which is less by what was added after so many bytes
 pub record StaysWithin (mark : ℕ) (old new : Held) : Type 0 where

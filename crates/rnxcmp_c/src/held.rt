@@ -36,7 +36,7 @@ pub(crate) struct Mark {
 impl Held {
     ghost use Rattle.std.specs.Prelude.{◌≡◌, ◌<◌, ◌≤◌, false, length, true, IfOk};
     ghost use Rattle.rnxcmp_c.specs.Waiting.{waiting};
-    ghost use Rattle.rnxcmp_c.specs.Holding.{AreCutTo, HoldsNothing, IsCutBack, StaysWithin, ready_in};
+    ghost use Rattle.rnxcmp_c.specs.Holding.{AreCutTo, HoldsNothing, IsCutBack, IsMark, IsMarkWithin, StaysWithin, ready_in};
     ghost use Rattle.rnxcmp_c.specs.declared.limits.TheConstants.{READY_LIMIT};
 
     /// What is held before the first byte.
@@ -66,8 +66,7 @@ impl Held {
 
     /// How much waits now.
     pub(crate) fn mark(&self) -> Mark
-        ensures output { result.output ≡ length (waiting self.now.output) }
-        ensures messages { result.messages ≡ length (waiting self.now.messages) }
+        ensures { IsMark result self.now }
     {
         Mark {
             output: self.output.count(),
@@ -77,8 +76,7 @@ impl Held {
 
     /// Counts the output since a mark; where it is more than there may be, lets go of it and of the messages since, and answers `false`.
     pub(crate) fn count_since(&mut self, mark: Mark) -> bool
-        requires output { mark.output ≤ length (waiting self.old.output) }
-        requires messages { mark.messages ≤ length (waiting self.old.messages) }
+        requires { IsMarkWithin mark self.old }
         ensures good { result ≡ true → StaysWithin mark.output self.old self.new }
         ensures over { result ≡ false → IsCutBack mark self.old self.new }
     {
@@ -96,8 +94,7 @@ impl Held {
 
     /// Lets go of what came of both texts since a mark.
     pub(crate) fn cut_back(&mut self, mark: Mark)
-        requires output { mark.output ≤ length (waiting self.old.output) }
-        requires messages { mark.messages ≤ length (waiting self.old.messages) }
+        requires { IsMarkWithin mark self.old }
         ensures { AreCutTo mark self.old self.new }
     {
         self.output.cut(mark.output);

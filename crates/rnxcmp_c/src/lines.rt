@@ -7,7 +7,7 @@ ghost use Rattle.crx_lines.specs.Reading.{HasNoFeed};
 ghost use Rattle.crx_runs.specs.Lawful.{IsLawful};
 ghost use Rattle.rnxcmp_c.specs.Going.{EndIsTaken, IsGoing, IsReady, IsSameRun, IsTaken, LastIsTaken, LineIsGiven, LineIsTaken, RunBreaks, piece_line};
 ghost use Rattle.rnxcmp_c.specs.Past.{HandlePast, StopsSoon, fed_with};
-ghost use Rattle.rnxcmp_c.specs.Holding.{IsCounted, StopsCounted, ready_in};
+ghost use Rattle.rnxcmp_c.specs.Holding.{IsCounted, IsMarkWithin, StopsCounted, ready_in};
 ghost use Rattle.rnxcmp_c.specs.Waiting.{waiting};
 ghost use Rattle.rnxcmp_c.specs.declared.limits.TheConstants.{LINE_ROOM, READY_LIMIT};
 
@@ -76,8 +76,7 @@ fn give_line<E: Engine>(
 /// mind whether there was a warning. Where one of the texts couldn't be kept, memory ran out at the line of this number, and what came of
 /// both since the mark is let go of.
 fn counted(held: &mut Held, mark: Mark, number: u64, taken: Result<bool, Halt>) -> Result<(), Stop>
-    requires output { mark.output ≤ length (waiting held.old.output) }
-    requires messages { mark.messages ≤ length (waiting held.old.messages) }
+    requires { IsMarkWithin mark held.old }
     ensures limit { held.new.limit ≡ held.old.limit }
     ensures good { OnOk result (IsCounted taken mark held.old held.new) }
     ensures stops { IfErr result (StopsCounted taken mark number held.old held.new) }

@@ -1,8 +1,7 @@
-use Rattle.rnxcmp_c.proofs.Words.{ℕ, ◌≤◌, List, [], None, length, refl, sym, subst, IfErr-weaker, IfOk-weaker}
-use Rattle.rnxcmp_c.proofs.Words.{on_ok_weaker, InputLine, waiting, Held}
+use Rattle.rnxcmp_c.proofs.Words.{List, [], None, refl, IfErr-weaker, IfOk-weaker, on_ok_weaker, InputLine}
+use Rattle.rnxcmp_c.proofs.Words.{Held}
 use Rattle.rnxcmp_c.proofs.Cut.{halted-stops, kept-where_done}
-use Rattle.rnxcmp_c.proofs.WithinLemmas.{Ended, Kept, more-messages-either, more-output-either, step-stays}
-use Rattle.rnxcmp_c.proofs.WithinLemmas.{step-stops}
+use Rattle.rnxcmp_c.proofs.WithinLemmas.{Ended, Kept, marks-within, step-stays, step-stops}
 use Rattle.rnxcmp_c.proofs.lines.end_within.Given.{Over}
 use Rattle.rnxcmp_c.proofs.lines.end_within.Goals.{After-take_end-taken}
 use Rattle.rnxcmp_c.proofs.lines.end_within.Goals as goal
@@ -33,19 +32,12 @@ came g c lines shown =
           held.number _ halt cut) (taken.ensures.cut lines shown),
     )
 
-pub counted-requires-clause-output : goal.counted-requires-clause-output
-counted-requires-clause-output g c =
-    let at = (goal.at.counted-requires-clause-output g c).After-take_end-taken in
+pub counted-requires : goal.counted-requires
+counted-requires g c =
+    let at = (goal.at.counted-requires g c).After-take_end-taken in
     let step = came g at c.requires.shown.0 c.requires.shown.1 in
-    subst (λ (n : ℕ). n ≤ length (waiting (mid g at).output)) (sym c.mark-mark.ensures.output)
-    (more-output-either _ _ _ _ _ c.args.held.now (mid g at) c.take_end-taken.result step.0 step.1)
-
-pub counted-requires-clause-messages : goal.counted-requires-clause-messages
-counted-requires-clause-messages g c =
-    let at = (goal.at.counted-requires-clause-messages g c).After-take_end-taken in
-    let step = came g at c.requires.shown.0 c.requires.shown.1 in
-    subst (λ (n : ℕ). n ≤ length (waiting (mid g at).messages)) (sym c.mark-mark.ensures.messages)
-    (more-messages-either _ _ _ _ _ c.args.held.now (mid g at) c.take_end-taken.result step.0 step.1)
+    marks-within _ _ _ _ _ c.args.held.now (mid g at) c.mark-mark.result c.mark-mark.ensures
+    c.take_end-taken.result step.0 step.1
 
 pub returns-clause-step : goal.returns-clause-step
 returns-clause-step g c = λ (lines : List InputLine) shown.
@@ -53,10 +45,10 @@ returns-clause-step g c = λ (lines : List InputLine) shown.
     let step = came g at lines shown in (
       on_ok_weaker c.counted.result
           (λ counted. step-stays 0 None _ _ _ c.args.held.now (mid g at) c.counted.new.held c.mark-mark.result
-          c.mark-mark.ensures.output c.mark-mark.ensures.messages refl refl refl c.take_end-taken.result step.0
+          c.mark-mark.ensures refl refl refl c.take_end-taken.result step.0
           counted) c.counted.ensures.good,
       IfErr-weaker c.counted.result _ _
           (λ stop s. step-stops _ _ _ _ _ c.args.held.now (mid g at) c.counted.new.held c.mark-mark.result
-          c.mark-mark.ensures.output c.mark-mark.ensures.messages refl refl c.take_end-taken.result step.0
+          c.mark-mark.ensures refl refl c.take_end-taken.result step.0
           step.1 stop s) c.counted.ensures.stops,
     )
