@@ -7,11 +7,10 @@ use Rattle.rnxcmp_c.proofs.Words.{ReaderRuns, FeedsBy, HasEndedBy, HasFedBy, Has
 use Rattle.rnxcmp_c.proofs.Words.{ReaderStands, RunIsOverLimit, ReaderHasEnded, answer_now, StandsBy}
 use Rattle.rnxcmp_c.proofs.Words.{RunIsOutOfMemory, HandlePast, fed_with, limit_for, nothing_fed, result_for}
 use Rattle.rnxcmp_c.proofs.Words.{Task, allowed_after, IsLineEnded, bare_answer, Answer, AnyEngine, Held}
-use Rattle.rnxcmp_c.proofs.Words.{Reader}
+use Rattle.rnxcmp_c.proofs.Words.{Reader, MISUSED}
 use Rattle.rnxcmp_c.specs.Handles.{IsFresh, ReaderEndsBy}
 use Rattle.rnxcmp_c.specs.Holding.{HoldsNothing}
 use Rattle.rnxcmp_c.proofs.PieceLemmas.{none-or}
-use Rattle.rnxcmp_c.specs.declared.answer.TheConstants.{MISUSED}
 use Rattle.rnxcmp_c.proofs.ReaderLemmas.{filter-is, lawful-for}
 
 first_or : Reader → List Reader → Reader

@@ -13,7 +13,7 @@ use Rattle.rnxcmp_c.proofs.Words.{allowed_after, fed_with, filter_for, limit_for
 use Rattle.rnxcmp_c.proofs.Words.{result_for, texts_made, waiting, Answer, OUTPUT_LIMIT, Held, READY_LIMIT}
 use Rattle.rnxcmp_c.proofs.Words.{Reader, BothTexts, line_in, RunHasEnded, StopsAtLimit, StopsForMemory}
 use Rattle.rnxcmp_c.proofs.Words.{StopsWhenFull, Task, Compact, Expand, Check, handle_answer, run_for}
-use Rattle.rnxcmp_c.proofs.Words.{with_one_more}
+use Rattle.rnxcmp_c.proofs.Words.{with_one_more, bare_answer, MISUSED}
 use Rattle.std.proofs.Common.{reverse}
 use Rattle.std.proofs.lemmas.List.{map-append, reverse-append}
 use Rattle.crx_base.specs.meaning.Seen.{ReadLine}
@@ -571,99 +571,109 @@ module _ {old new : Handle} {before after : Reader} (held : Holds old before) (h
       → Feeds task before after past bytes used answer)
       → (task : Task) (fed : List ℕ) (taken : BothTexts) → HandleStands task old fed taken
       → FeedsHandle task old new fed taken bytes used answer
-  handle-feeds {bytes} {used} {answer} fed_by task fed taken stands =
-      let past : HandlePast = past_of fed taken in
-      let feeds = fed_by task past (stood held stands) in
-      record {
-        before = before;
-        after = after;
-        held = held;
-        holds = holds;
-        feeds = feeds;
-        stands = record {
-          reader = after;
-          is_open = is_open;
-          holds = holds;
-          stands = feeds-stands task before after past bytes used answer before.outcome (stood held stands) feeds;
-        };
-        misused = λ ended.
-            let none = feeds-misused task before after past answer bytes used before.outcome
-            (sym (ap have_ended held) ∙ ended) feeds in
-            (none.0, none.1, holds ∙ ap (λ (r : Reader). r ∷ []) none.2 ∙ sym held);
-      }
+  handle-feeds fed_by task fed taken stands = record {
+    before = before;
+    after = after;
+    held = held;
+    holds = holds;
+    is_open = is_open;
+    feeds = fed_by task (past_of fed taken) (stood held stands);
+  }
 
   pub handle-ends : {answer : Answer}
       → ((task : Task) (past : HandlePast) → ReaderStands task before past → Ends task before after past answer)
       → (task : Task) (fed : List ℕ) (taken : BothTexts) → HandleStands task old fed taken
       → EndsHandle task old new fed taken answer
-  handle-ends {answer} ended_by task fed taken stands =
-      let past : HandlePast = past_of fed taken in
-      let ends = ended_by task past (stood held stands) in
-      record {
-        before = before;
-        after = after;
-        held = held;
-        holds = holds;
-        ends = ends;
-        stands = record {
-          reader = after;
-          is_open = is_open;
-          holds = holds;
-          stands = ends-stands task before after past answer before.outcome (stood held stands) ends;
-        };
-        misused = λ ended.
-            let none = ends-misused task before after past answer before.outcome
-            (sym (ap have_ended held) ∙ ended) ends in
-            (none.0, holds ∙ ap (λ (r : Reader). r ∷ []) none.1 ∙ sym held);
-      }
+  handle-ends ended_by task fed taken stands = record {
+    before = before;
+    after = after;
+    held = held;
+    holds = holds;
+    is_open = is_open;
+    ends = ended_by task (past_of fed taken) (stood held stands);
+  }
 
 -- what is promised of a handle that was fed
 module _ {task : Task} {old new : Handle} {fed : List ℕ} {taken : BothTexts} {bytes : List ℕ} {used : ℕ}
     {answer : Answer} (is : FeedsHandle task old new fed taken bytes used answer)
-    (runs : has_ended old ≡ false) where
-  went-on : is_some is.before.outcome ≡ false
-  went-on = sym (ap have_ended is.held) ∙ runs
+    (stands : HandleStands task old fed taken) where
+  pub feeds-on : HandleStands task new (fed ++ take used bytes) taken
+  feeds-on = record {
+    reader = is.after;
+    is_open = is.is_open;
+    holds = is.holds;
+    stands = feeds-stands task is.before is.after (past_of fed taken) bytes used answer is.before.outcome
+        (stood is.held stands) is.feeds;
+  }
 
-  answered : answer ≡ answer_now is.after
-  answered = feeds-answer task is.before is.after (past_of fed taken) answer bytes used is.before.outcome went-on
-      is.feeds
+  pub feeds-refused : has_ended old ≡ true
+      → (answer ≡ bare_answer MISUSED 0 0) × (used ≡ 0) × (new.place.held ≡ old.place.held)
+  feeds-refused ended =
+      let none = feeds-misused task is.before is.after (past_of fed taken) answer bytes used is.before.outcome
+      (sym (ap have_ended is.held) ∙ ended) is.feeds in
+      (none.0, none.1, is.holds ∙ ap (λ (r : Reader). r ∷ []) none.2 ∙ sym is.held)
 
-  pub feeds-promise : HandlePromise (run_state new) (run_for task) (fed ++ take used bytes)
-      (joined_texts taken (texts_kept new)) (texts_kept new) answer
-  feeds-promise = handle-promise is.stands is.holds answered
+  module _ (runs : has_ended old ≡ false) where
+    went-on : is_some is.before.outcome ≡ false
+    went-on = sym (ap have_ended is.held) ∙ runs
 
-  pub feeds-takes : TakesBytes (run_for task) fed taken bytes used (texts_kept old) (texts_kept new) (has_ended new)
-  feeds-takes =
-      subst (λ (l : List Reader). TakesBytes (run_for task) fed taken bytes used (texts_in l) (texts_kept new)
-      (has_ended new)) (sym is.held)
-      (subst (λ (l : List Reader). TakesBytes (run_for task) fed taken bytes used (texts_of_held is.before.held)
-      (texts_in l) (have_ended l)) (sym is.holds)
-      (takes-bytes task is.before is.after fed taken bytes used answer is.before.outcome went-on is.feeds))
+    answered : answer ≡ answer_now is.after
+    answered = feeds-answer task is.before is.after (past_of fed taken) answer bytes used is.before.outcome went-on
+        is.feeds
 
-  pub feeds-was_ended : has_ended new ≡ true
-      → RunWasEnded (run_for task) fed (fed ++ take used bytes) (drop used bytes)
-      (joined_texts taken (texts_kept new)) (texts_kept new) answer
-  feeds-was_ended ended =
-      held-as (λ (l : List Reader) (a : Answer). RunWasEnded (run_for task) fed (fed ++ take used bytes)
-      (drop used bytes) (joined_texts taken (texts_in l)) (texts_in l) a) new is.after answer is.holds answered
-      (feeds-ended task is.before is.after fed taken bytes used answer is.before.outcome went-on
-      (sym (ap have_ended is.holds) ∙ ended) is.feeds)
+    pub feeds-promise : HandlePromise (run_state new) (run_for task) (fed ++ take used bytes)
+        (joined_texts taken (texts_kept new)) (texts_kept new) answer
+    feeds-promise = handle-promise feeds-on is.holds answered
+
+    pub feeds-takes : TakesBytes (run_for task) fed taken bytes used (texts_kept old) (texts_kept new) (has_ended new)
+    feeds-takes =
+        subst (λ (l : List Reader). TakesBytes (run_for task) fed taken bytes used (texts_in l) (texts_kept new)
+        (has_ended new)) (sym is.held)
+        (subst (λ (l : List Reader). TakesBytes (run_for task) fed taken bytes used (texts_of_held is.before.held)
+        (texts_in l) (have_ended l)) (sym is.holds)
+        (takes-bytes task is.before is.after fed taken bytes used answer is.before.outcome went-on is.feeds))
+
+    pub feeds-was_ended : has_ended new ≡ true
+        → RunWasEnded (run_for task) fed (fed ++ take used bytes) (drop used bytes)
+        (joined_texts taken (texts_kept new)) (texts_kept new) answer
+    feeds-was_ended ended =
+        held-as (λ (l : List Reader) (a : Answer). RunWasEnded (run_for task) fed (fed ++ take used bytes)
+        (drop used bytes) (joined_texts taken (texts_in l)) (texts_in l) a) new is.after answer is.holds answered
+        (feeds-ended task is.before is.after fed taken bytes used answer is.before.outcome went-on
+        (sym (ap have_ended is.holds) ∙ ended) is.feeds)
 
 -- and of one whose input has ended
 module _ {task : Task} {old new : Handle} {fed : List ℕ} {taken : BothTexts} {answer : Answer}
-    (is : EndsHandle task old new fed taken answer) (runs : has_ended old ≡ false) where
-  came-to-end : ReaderHasEnded task is.after (past_of fed taken) × (answer ≡ answer_now is.after)
-  came-to-end = ends-answer task is.before is.after (past_of fed taken) answer is.before.outcome
-      (sym (ap have_ended is.held) ∙ runs) is.ends
+    (is : EndsHandle task old new fed taken answer) (stands : HandleStands task old fed taken) where
+  pub ends-on : HandleStands task new fed taken
+  ends-on = record {
+    reader = is.after;
+    is_open = is.is_open;
+    holds = is.holds;
+    stands = ends-stands task is.before is.after (past_of fed taken) answer is.before.outcome
+        (stood is.held stands) is.ends;
+  }
 
-  pub ends-promise : HandlePromise (run_state new) (run_for task) fed (joined_texts taken (texts_kept new))
-      (texts_kept new) answer
-  ends-promise = handle-promise is.stands is.holds came-to-end.1
+  pub ends-refused : has_ended old ≡ true
+      → (answer ≡ bare_answer MISUSED 0 0) × (new.place.held ≡ old.place.held)
+  ends-refused ended =
+      let none = ends-misused task is.before is.after (past_of fed taken) answer is.before.outcome
+      (sym (ap have_ended is.held) ∙ ended) is.ends in
+      (none.0, is.holds ∙ ap (λ (r : Reader). r ∷ []) none.1 ∙ sym is.held)
 
-  pub ends-was_ended : (has_ended new ≡ true) × RunHasEnded (Last task is.after (past_of fed taken))
-      (joined_texts taken (texts_kept new)) (texts_kept new) answer
-  ends-was_ended =
-      held-as (λ (l : List Reader) (a : Answer). (have_ended l ≡ true)
-      × RunHasEnded (Last task is.after (past_of fed taken)) (joined_texts taken (texts_in l)) (texts_in l) a)
-      new is.after answer is.holds came-to-end.1
-      (reader-ended task is.after (past_of fed taken) came-to-end.0)
+  module _ (runs : has_ended old ≡ false) where
+    came-to-end : ReaderHasEnded task is.after (past_of fed taken) × (answer ≡ answer_now is.after)
+    came-to-end = ends-answer task is.before is.after (past_of fed taken) answer is.before.outcome
+        (sym (ap have_ended is.held) ∙ runs) is.ends
+
+    pub ends-promise : HandlePromise (run_state new) (run_for task) fed (joined_texts taken (texts_kept new))
+        (texts_kept new) answer
+    ends-promise = handle-promise ends-on is.holds came-to-end.1
+
+    pub ends-was_ended : (has_ended new ≡ true) × RunHasEnded (Last task is.after (past_of fed taken))
+        (joined_texts taken (texts_kept new)) (texts_kept new) answer
+    ends-was_ended =
+        held-as (λ (l : List Reader) (a : Answer). (have_ended l ≡ true)
+        × RunHasEnded (Last task is.after (past_of fed taken)) (joined_texts taken (texts_in l)) (texts_in l) a)
+        new is.after answer is.holds came-to-end.1
+        (reader-ended task is.after (past_of fed taken) came-to-end.0)

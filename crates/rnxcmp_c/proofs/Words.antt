@@ -49,7 +49,7 @@ pub use Rattle.rnxcmp_c.specs.Past.{limit_for, nothing_fed, result_for, past_of,
 pub use Rattle.rnxcmp_c.specs.Past.{taken_with}
 pub use Rattle.rnxcmp_c.specs.Waiting.{waiting}
 pub use Rattle.rnxcmp_c.specs.declared.answer.Answer.{Answer}
-pub use Rattle.rnxcmp_c.specs.declared.answer.TheConstants.{OUTPUT_LIMIT, NO_ROOM}
+pub use Rattle.rnxcmp_c.specs.declared.answer.TheConstants.{OUTPUT_LIMIT, MISUSED, NO_ROOM}
 pub use Rattle.rnxcmp_c.specs.declared.engines.AnyEngine.{AnyEngine}
 pub use Rattle.rnxcmp_c.specs.declared.engines.AnyEngine.TheVariants.{Compacting, Expanding, Checking}
 pub use Rattle.rnxcmp_c.specs.declared.handle.Handle.{Handle}

@@ -1,12 +1,12 @@
 -- What a handle is, between two calls.
-use Rattle.std.specs.Prelude.{◌≡◌, ◌⊎◌, ℕ, Bool, true, false, List, [], ◌∷◌, ◌++◌, length, take, drop}
+use Rattle.std.specs.Prelude.{◌≡◌, ◌⊎◌, ℕ, Bool, true, List, [], ◌∷◌, length, drop}
 use Rattle.std.specs.Prelude.{Option, None, is_some}
 use Rattle.crx_base.specs.declared.fault.Fault.TheVariants.{OutOfMemory}
 use Rattle.crx_base.specs.meaning.Faults.{code_of_fault}
 use Rattle.crx_runs.specs.declared.outcome.Outcome.{Outcome}
 use Rattle.rnxcmp_c.specs.Handles.{Ends, Feeds, ReaderStands, fault_now, status_now}
 use Rattle.rnxcmp_c.specs.Past.{past_of}
-use Rattle.rnxcmp_c.specs.meaning.Answers.{BothTexts, bare_answer, placed, rooms}
+use Rattle.rnxcmp_c.specs.meaning.Answers.{BothTexts, bare_answer, placed}
 use Rattle.rnxcmp_c.specs.meaning.Handles.{Task, handle_answer}
 use Rattle.rnxcmp_c.specs.declared.answer.Answer.{Answer}
 use Rattle.rnxcmp_c.specs.declared.answer.TheConstants.{MISUSED}
@@ -69,33 +69,24 @@ run_state handle = run_in handle.place.held
 abbrev pub has_ended : Handle → Bool
 has_ended handle = is_some (run_state handle)
 
--- a handle was opened: with status 0 it stands so, and its run goes on; else nothing was done to it, and one
--- that is open stays as it is
-pub record OpensHandle (stands : Handle → Type 0) (old new : Handle) (answer : Answer) : Type 0 where
-  pub opened : answer.status ≡ 0 → stands new
-  pub running : answer.status ≡ 0 → has_ended new ≡ false
+-- a call to open a handle that answers no status 0 has done nothing to it, and one that is open stays as it is
+pub record KeepsHandle (old new : Handle) (answer : Answer) : Type 0 where
   pub unchanged : (answer.status ≡ 0 → ⊥) → IsUnchanged old new
   pub misused : old.is_open ≡ true → answer ≡ bare_answer MISUSED 0 0
-
--- for the run of a task, before its first byte
-abbrev pub OpensFor : Task → Handle → Handle → Answer → Type 0
-OpensFor task old new answer = OpensHandle (λ handle. HandleStands task handle [] (rooms [] [])) old new answer
 
 -- all went well, or there was no memory
 abbrev pub AnswersOpening : Answer → Type 0
 AnswersOpening answer = (answer ≡ bare_answer 0 0 0) ⊎ (answer ≡ bare_answer 1 0 (code_of_fault OutOfMemory))
 
--- what became of a handle's run by some bytes: it stands so then; one that had ended takes none
+-- what became of a handle's run by some bytes
 pub record FeedsHandle (task : Task) (old new : Handle) (fed : List ℕ) (taken : BothTexts) (bytes : List ℕ)
     (used : ℕ) (answer : Answer) : Type 0 where
   pub before : Reader
   pub after : Reader
   pub held : Holds old before
   pub holds : Holds new after
+  pub is_open : new.is_open ≡ true
   pub feeds : Feeds task before after (past_of fed taken) bytes used answer
-  pub stands : HandleStands task new (fed ++ take used bytes) taken
-  pub misused : has_ended old ≡ true → (answer ≡ bare_answer MISUSED 0 0) × (used ≡ 0)
-      × (new.place.held ≡ old.place.held)
 
 -- and by the end of the input
 pub record EndsHandle (task : Task) (old new : Handle) (fed : List ℕ) (taken : BothTexts) (answer : Answer)
@@ -104,9 +95,8 @@ pub record EndsHandle (task : Task) (old new : Handle) (fed : List ℕ) (taken :
   pub after : Reader
   pub held : Holds old before
   pub holds : Holds new after
+  pub is_open : new.is_open ≡ true
   pub ends : Ends task before after (past_of fed taken) answer
-  pub stands : HandleStands task new fed taken
-  pub misused : has_ended old ≡ true → (answer ≡ bare_answer MISUSED 0 0) × (new.place.held ≡ old.place.held)
 
 -- what is kept of both texts was put into two rooms as far as it fits, and what is left of them is kept; how the
 -- run is was answered, which is the same, and how much is left

@@ -12,11 +12,11 @@ ghost use Rattle.crx_base.specs.meaning.Lines.{lines_of};
 ghost use Rattle.rnxcmp_c.specs.Handles.{IsFresh};
 ghost use Rattle.rnxcmp_c.specs.meaning.Handles.{HandlePromise, RunHasEnded, RunWasEnded, StopsAtLimit, StopsForMemory, TakesBytes, Task, joined_texts, run_for};
 ghost use Rattle.rnxcmp_c.specs.Holding.{HoldsNothing};
-ghost use Rattle.rnxcmp_c.specs.Opened.{AnswersOpening, EndsHandle, FeedsHandle, HandleStands, HandsOut, Holds, IsSoundHandle, IsUnchanged, OpensFor, OpensHandle, RefusesMisuse, has_ended, messages_kept, output_kept, run_state, texts_kept};
+ghost use Rattle.rnxcmp_c.specs.Opened.{AnswersOpening, EndsHandle, FeedsHandle, HandleStands, Holds, IsSoundHandle, IsUnchanged, KeepsHandle, RefusesMisuse, has_ended, messages_kept, output_kept, run_state, texts_kept};
 ghost use Rattle.rnxcmp_c.specs.declared.reader.Reader.{Reader};
-ghost use Rattle.rnxcmp_c.specs.meaning.Answers.{BothTexts, HasNoMemory, bare_answer, rooms};
+ghost use Rattle.rnxcmp_c.specs.meaning.Answers.{BothTexts, HasNoMemory, bare_answer, placed, rooms};
 ghost use Rattle.rnxcmp_c.specs.meaning.Ended.{CheckPromises, ExpansionPromises};
-ghost use Rattle.rnxcmp_c.specs.declared.answer.TheConstants.{OUTPUT_LIMIT};
+ghost use Rattle.rnxcmp_c.specs.declared.answer.TheConstants.{MISUSED, OUTPUT_LIMIT};
 
 use crate::answer::{Answer, BAD_DATE, MISUSED, bare, out_of_memory};
 use crate::engines::AnyEngine;
@@ -66,9 +66,10 @@ fn put_in(handle: &mut Handle, reader: Box<Reader>)
 
 /// Opens a closed handle for a run of this engine, with what is held beside it.
 fn open(alloc: Global, handle: &mut Handle, engine: AnyEngine, held: Held) -> Answer
-    requires closed { handle.old.is_open ≡ false }
     ensures opened { (task : Task) → IsFresh task engine → HoldsNothing (run_for task).limit held
-        → OpensFor task handle.old handle.new result }
+        → result.status ≡ 0 → HandleStands task handle.new [] (rooms [] []) }
+    ensures running { result.status ≡ 0 → has_ended handle.new ≡ false }
+    ensures unchanged { (result.status ≡ 0 → ⊥) → IsUnchanged handle.old handle.new }
     ensures answer { AnswersOpening result }
 {
     let reader = Reader {
@@ -107,8 +108,11 @@ pub extern "C" fn rnxcmp_c_open_compact(
     date: &[u8],
     max_output: u64,
 ) -> Answer
-    ensures opened { OpensFor (Task.Compact (choices_of (Some every) skip date.now) max_output) handle.old
-        handle.new result }
+    ensures opened { result.status ≡ 0
+        → HandleStands (Task.Compact (choices_of (Some every) skip date.now) max_output) handle.new []
+        (rooms [] []) }
+    ensures running { result.status ≡ 0 → has_ended handle.new ≡ false }
+    ensures kept { KeepsHandle handle.old handle.new result }
     ensures date { handle.old.is_open ≡ false → is_date date.now ≡ false → result ≡ bare_answer BAD_DATE 0 0 }
     ensures answer { handle.old.is_open ≡ false → is_date date.now ≡ true → AnswersOpening result }
 {
@@ -135,8 +139,10 @@ pub extern "C" fn rnxcmp_c_open_expand(
     skip: bool,
     max_output: u64,
 ) -> Answer
-    ensures opened { OpensHandle (λ opened. (choices : Choices) × (choices.skip ≡ skip)
-        × HandleStands (Task.Expand choices max_output) opened [] (rooms [] [])) handle.old handle.new result }
+    ensures opened { result.status ≡ 0 → (choices : Choices) × (choices.skip ≡ skip)
+        × HandleStands (Task.Expand choices max_output) handle.new [] (rooms [] []) }
+    ensures running { result.status ≡ 0 → has_ended handle.new ≡ false }
+    ensures kept { KeepsHandle handle.old handle.new result }
     ensures answer { handle.old.is_open ≡ false → AnswersOpening result }
 {
     if handle.is_open {
@@ -154,7 +160,9 @@ pub extern "C" fn rnxcmp_c_open_expand(
 /// Opens a closed handle for a check.
 #[unsafe(no_mangle)]
 pub extern "C" fn rnxcmp_c_open_check(alloc: Global, handle: &mut Handle) -> Answer
-    ensures opened { OpensFor Task.Check handle.old handle.new result }
+    ensures opened { result.status ≡ 0 → HandleStands Task.Check handle.new [] (rooms [] []) }
+    ensures running { result.status ≡ 0 → has_ended handle.new ≡ false }
+    ensures kept { KeepsHandle handle.old handle.new result }
     ensures answer { handle.old.is_open ≡ false → AnswersOpening result }
 {
     if handle.is_open {
@@ -183,6 +191,8 @@ pub extern "C" fn rnxcmp_c_feed(
     ensures closed { handle.old.is_open ≡ false → RefusesMisuse handle.old handle.new result × (used.new ≡ 0) }
     ensures feeds { (task : Task) (fed : List ℕ) (taken : BothTexts) → HandleStands task handle.old fed taken
         → FeedsHandle task handle.old handle.new fed taken bytes.now used.new result }
+    ensures stands { (task : Task) (fed : List ℕ) (taken : BothTexts) → HandleStands task handle.old fed taken
+        → HandleStands task handle.new (fed ++ take used.new bytes.now) taken }
     ensures promise { (task : Task) (fed : List ℕ) (taken : BothTexts)
         → HandleStands task handle.old fed taken → has_ended handle.old ≡ false
         → HandlePromise (run_state handle.new) (run_for task) (fed ++ take used.new bytes.now)
@@ -195,6 +205,10 @@ pub extern "C" fn rnxcmp_c_feed(
         → HandleStands task handle.old fed taken → has_ended handle.old ≡ false → has_ended handle.new ≡ true
         → RunWasEnded (run_for task) fed (fed ++ take used.new bytes.now) (drop used.new bytes.now)
         (joined_texts taken (texts_kept handle.new)) (texts_kept handle.new) result }
+    ensures misused { (task : Task) (fed : List ℕ) (taken : BothTexts)
+        → HandleStands task handle.old fed taken → has_ended handle.old ≡ true
+        → (result ≡ bare_answer MISUSED 0 0) × (used.new ≡ 0)
+        × (handle.new.place.held ≡ handle.old.place.held) }
     ensures sound { IsSoundHandle handle.new }
 {
     *used = 0;
@@ -215,6 +229,8 @@ pub extern "C" fn rnxcmp_c_end(alloc: Global, handle: &mut Handle) -> Answer
     ensures closed { handle.old.is_open ≡ false → RefusesMisuse handle.old handle.new result }
     ensures ends { (task : Task) (fed : List ℕ) (taken : BothTexts) → HandleStands task handle.old fed taken
         → EndsHandle task handle.old handle.new fed taken result }
+    ensures stands { (task : Task) (fed : List ℕ) (taken : BothTexts) → HandleStands task handle.old fed taken
+        → HandleStands task handle.new fed taken }
     ensures promise { (task : Task) (fed : List ℕ) (taken : BothTexts)
         → HandleStands task handle.old fed taken → has_ended handle.old ≡ false
         → HandlePromise (run_state handle.new) (run_for task) fed (joined_texts taken (texts_kept handle.new))
@@ -225,6 +241,9 @@ pub extern "C" fn rnxcmp_c_end(alloc: Global, handle: &mut Handle) -> Answer
         × RunHasEnded (λ ended. (ended ≡ (run_for task).result fed) ⊎ (StopsAtLimit (run_for task) fed ended
         ⊎ StopsForMemory (λ line. line ≡ length (lines_of fed)) (run_for task) fed ended))
         (joined_texts taken (texts_kept handle.new)) (texts_kept handle.new) result }
+    ensures misused { (task : Task) (fed : List ℕ) (taken : BothTexts)
+        → HandleStands task handle.old fed taken → has_ended handle.old ≡ true
+        → (result ≡ bare_answer MISUSED 0 0) × (handle.new.place.held ≡ handle.old.place.held) }
     ensures expansion { (choices : Choices) (limit : ℕ) (fed : List ℕ) (taken : BothTexts)
         → HandleStands (Task.Expand choices limit) handle.old fed taken → has_ended handle.old ≡ false
         → (HasNoMemory result → ⊥) → (result.status ≡ OUTPUT_LIMIT → ⊥)
@@ -256,12 +275,19 @@ pub extern "C" fn rnxcmp_c_take(
     requires sound { IsSoundHandle handle.old }
     ensures closed { handle.old.is_open ≡ false → RefusesMisuse handle.old handle.new result
         × (output.new ≡ output.old) × (messages.new ≡ messages.old) }
-    ensures taken { handle.old.is_open ≡ true → HandsOut handle.old.place.held handle.new.place.held
-        (rooms output.old messages.old) (rooms output.new messages.new) result }
+    ensures output { handle.old.is_open ≡ true
+        → output.new ≡ placed (output_kept handle.old.place.held) output.old }
+    ensures messages { handle.old.is_open ≡ true
+        → messages.new ≡ placed (messages_kept handle.old.place.held) messages.old }
+    ensures output_left { handle.old.is_open ≡ true
+        → output_kept handle.new.place.held ≡ drop (length output.old) (output_kept handle.old.place.held) }
+    ensures messages_left { handle.old.is_open ≡ true
+        → messages_kept handle.new.place.held ≡ drop (length messages.old) (messages_kept handle.old.place.held) }
     ensures stands { (task : Task) (fed : List ℕ) (taken : BothTexts) → HandleStands task handle.old fed taken
         → HandleStands task handle.new fed (joined_texts taken
         (rooms (take (length output.old) (output_kept handle.old.place.held))
         (take (length messages.old) (messages_kept handle.old.place.held)))) }
+    ensures still { run_state handle.new ≡ run_state handle.old }
     ensures promise { (task : Task) (fed : List ℕ) (taken : BothTexts)
         → HandleStands task handle.old fed taken → (run_state handle.new ≡ run_state handle.old)
         × HandlePromise (run_state handle.new) (run_for task) fed (joined_texts (joined_texts taken

@@ -1,7 +1,8 @@
 use Rattle.rnxcmp_c.proofs.Words.{ℕ, List, [], ◌∷◌, sym, ap, ◌∙◌, Choices, IsLastLine, Holds, past_of}
 use Rattle.rnxcmp_c.proofs.Words.{BothTexts, Task, Expand, Check, Reader}
 use Rattle.rnxcmp_c.proofs.EndedLemmas.{result-where, run-check, run-expansion}
-use Rattle.rnxcmp_c.proofs.PromiseLemmas.{ends-promise, ends-was_ended, handle-ends, stood}
+use Rattle.rnxcmp_c.proofs.PromiseLemmas.{ends-on, ends-promise, ends-refused, ends-was_ended, handle-ends}
+use Rattle.rnxcmp_c.proofs.PromiseLemmas.{stood}
 use Rattle.rnxcmp_c.proofs.handle.rnxcmp_c_end.Goals.{After-deref_mut}
 use Rattle.rnxcmp_c.proofs.handle.rnxcmp_c_end.Goals as goal
 
@@ -23,13 +24,21 @@ returns-clause-ends c = λ (task : Task) (fed : List ℕ) (taken : BothTexts) st
     handle-ends (held (goal.at.returns-clause-ends c).After-deref_mut) c.put_in.ensures.reader
     c.put_in.ensures.opened c.take_end-answer.ensures task fed taken stands
 
+pub returns-clause-stands : goal.returns-clause-stands
+returns-clause-stands c = λ (task : Task) (fed : List ℕ) (taken : BothTexts) stands.
+    ends-on (returns-clause-ends c task fed taken stands) stands
+
+pub returns-clause-misused : goal.returns-clause-misused
+returns-clause-misused c = λ (task : Task) (fed : List ℕ) (taken : BothTexts) stands ended.
+    ends-refused (returns-clause-ends c task fed taken stands) stands ended
+
 pub returns-clause-promise : goal.returns-clause-promise
 returns-clause-promise c = λ (task : Task) (fed : List ℕ) (taken : BothTexts) stands runs.
-    ends-promise (returns-clause-ends c task fed taken stands) runs
+    ends-promise (returns-clause-ends c task fed taken stands) stands runs
 
 pub returns-clause-ended : goal.returns-clause-ended
 returns-clause-ended c = λ (task : Task) (fed : List ℕ) (taken : BothTexts) stands runs.
-    ends-was_ended (returns-clause-ends c task fed taken stands) runs
+    ends-was_ended (returns-clause-ends c task fed taken stands) stands runs
 
 pub returns-clause-expansion : goal.returns-clause-expansion
 returns-clause-expansion c = λ (choices : Choices) (limit : ℕ) (fed : List ℕ) (taken : BothTexts)
@@ -47,4 +56,4 @@ returns-clause-check c = λ (fed : List ℕ) (taken : BothTexts) stands runs mem
 pub returns-clause-sound : goal.returns-clause-sound
 returns-clause-sound c = λ is_open.
     let sound = c.requires.sound c.if-not-handle.false in
-    (sound.0, _, _, (returns-clause-ends c sound.0 sound.1 sound.2 sound.3).stands)
+    (sound.0, _, _, returns-clause-stands c sound.0 sound.1 sound.2 sound.3)

@@ -1,5 +1,6 @@
 use Rattle.rnxcmp_c.proofs.Words.{ℕ, List, [], ◌∷◌, sym, ap, ◌∙◌, Holds, past_of, BothTexts, Task, Reader}
-use Rattle.rnxcmp_c.proofs.PromiseLemmas.{feeds-promise, feeds-takes, feeds-was_ended, handle-feeds, stood}
+use Rattle.rnxcmp_c.proofs.PromiseLemmas.{feeds-on, feeds-promise, feeds-refused, feeds-takes}
+use Rattle.rnxcmp_c.proofs.PromiseLemmas.{feeds-was_ended, handle-feeds, stood}
 use Rattle.rnxcmp_c.proofs.handle.rnxcmp_c_feed.Goals.{After-deref_mut}
 use Rattle.rnxcmp_c.proofs.handle.rnxcmp_c_feed.Goals as goal
 
@@ -21,19 +22,27 @@ returns-clause-feeds c = λ (task : Task) (fed : List ℕ) (taken : BothTexts) s
     handle-feeds (held (goal.at.returns-clause-feeds c).After-deref_mut) c.put_in.ensures.reader
     c.put_in.ensures.opened c.take_in-count.ensures task fed taken stands
 
+pub returns-clause-stands : goal.returns-clause-stands
+returns-clause-stands c = λ (task : Task) (fed : List ℕ) (taken : BothTexts) stands.
+    feeds-on (returns-clause-feeds c task fed taken stands) stands
+
+pub returns-clause-misused : goal.returns-clause-misused
+returns-clause-misused c = λ (task : Task) (fed : List ℕ) (taken : BothTexts) stands ended.
+    feeds-refused (returns-clause-feeds c task fed taken stands) stands ended
+
 pub returns-clause-promise : goal.returns-clause-promise
 returns-clause-promise c = λ (task : Task) (fed : List ℕ) (taken : BothTexts) stands runs.
-    feeds-promise (returns-clause-feeds c task fed taken stands) runs
+    feeds-promise (returns-clause-feeds c task fed taken stands) stands runs
 
 pub returns-clause-takes : goal.returns-clause-takes
 returns-clause-takes c = λ (task : Task) (fed : List ℕ) (taken : BothTexts) stands runs.
-    feeds-takes (returns-clause-feeds c task fed taken stands) runs
+    feeds-takes (returns-clause-feeds c task fed taken stands) stands runs
 
 pub returns-clause-ended : goal.returns-clause-ended
 returns-clause-ended c = λ (task : Task) (fed : List ℕ) (taken : BothTexts) stands runs ended.
-    feeds-was_ended (returns-clause-feeds c task fed taken stands) runs ended
+    feeds-was_ended (returns-clause-feeds c task fed taken stands) stands runs ended
 
 pub returns-clause-sound : goal.returns-clause-sound
 returns-clause-sound c = λ is_open.
     let sound = c.requires.sound c.if-not-handle.false in
-    (sound.0, _, _, (returns-clause-feeds c sound.0 sound.1 sound.2 sound.3).stands)
+    (sound.0, _, _, returns-clause-stands c sound.0 sound.1 sound.2 sound.3)

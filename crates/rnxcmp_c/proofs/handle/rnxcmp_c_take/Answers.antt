@@ -4,7 +4,7 @@ use Rattle.rnxcmp_c.proofs.Words.{Check, Reader}
 use Rattle.rnxcmp_c.specs.Opened.{HandsOut, messages_kept, output_kept}
 use Rattle.rnxcmp_c.proofs.EndedLemmas.{ended-where, result-where, run-check, run-expansion}
 use Rattle.rnxcmp_c.proofs.PromiseLemmas.{handle-promise, stood}
-use Rattle.rnxcmp_c.proofs.handle.rnxcmp_c_take.Goals.{After-deref_mut}
+use Rattle.rnxcmp_c.proofs.handle.rnxcmp_c_take.Goals.{After-deref_mut, After-put_in}
 use Rattle.rnxcmp_c.proofs.handle.rnxcmp_c_take.Goals as goal
 
 pub take_out-reader-requires : goal.take_out-reader-requires
@@ -15,14 +15,31 @@ take_out-reader-requires c =
 held : (c : After-deref_mut) → Holds c.args.handle.now c.deref_mut.result.now
 held c = c.take_out-reader.ensures.reader ∙ ap (λ (r : Reader). r ∷ []) (sym c.deref_mut.ensures.value)
 
-pub returns-clause-taken : goal.returns-clause-taken
-returns-clause-taken c = λ is_open.
+given : (c : After-put_in) → HandsOut c.args.handle.now.place.held c.put_in.new.handle.place.held
+    (rooms c.args.output.now c.args.messages.now)
+    (rooms c.hand_out-answer.new.output c.hand_out-answer.new.messages) c.hand_out-answer.result
+given c =
     let before = rooms c.args.output.now c.args.messages.now in
     let after = rooms c.hand_out-answer.new.output c.hand_out-answer.new.messages in
     subst (λ (l : List Reader). HandsOut l c.put_in.new.handle.place.held before after c.hand_out-answer.result)
-    (sym (held (goal.at.returns-clause-taken c).After-deref_mut))
+    (ap (λ (r : Reader). r ∷ []) c.deref_mut.ensures.value ∙ sym c.take_out-reader.ensures.reader)
     (subst (λ (l : List Reader). HandsOut (c.deref_mut.result.now ∷ []) l before after c.hand_out-answer.result)
     (sym c.put_in.ensures.reader) c.hand_out-answer.ensures.taken)
+
+pub returns-clause-output : goal.returns-clause-output
+returns-clause-output c = λ is_open. (given (goal.at.returns-clause-output c).After-put_in).output
+
+pub returns-clause-messages : goal.returns-clause-messages
+returns-clause-messages c = λ is_open. (given (goal.at.returns-clause-messages c).After-put_in).messages
+
+pub returns-clause-output_left : goal.returns-clause-output_left
+returns-clause-output_left c = λ is_open. (given (goal.at.returns-clause-output_left c).After-put_in).output_left
+
+pub returns-clause-messages_left : goal.returns-clause-messages_left
+returns-clause-messages_left c = λ is_open. (given (goal.at.returns-clause-messages_left c).After-put_in).messages_left
+
+pub returns-clause-still : goal.returns-clause-still
+returns-clause-still c = (given (goal.at.returns-clause-still c).After-put_in).same
 
 pub returns-clause-stands : goal.returns-clause-stands
 returns-clause-stands c = λ (task : Task) (fed : List ℕ) (taken : BothTexts) stands.
@@ -39,7 +56,7 @@ returns-clause-stands c = λ (task : Task) (fed : List ℕ) (taken : BothTexts) 
 
 pub returns-clause-promise : goal.returns-clause-promise
 returns-clause-promise c = λ (task : Task) (fed : List ℕ) (taken : BothTexts) stands. (
-  (returns-clause-taken c c.if-not-handle.false).same,
+  returns-clause-still c,
   handle-promise (returns-clause-stands c task fed taken stands) c.put_in.ensures.reader
       c.hand_out-answer.ensures.taken.answered,
 )
