@@ -4,9 +4,8 @@ use Rattle.rnxcmp_c.proofs.Words.{arith, length-append, ◌⊎◌, inl, inr, ⊎
 use Rattle.rnxcmp_c.proofs.Words.{◌||◌, Option, IfErr, IfOk, At, OutOfMemory, Halt, Unwritten, Unreported}
 use Rattle.rnxcmp_c.proofs.Words.{notices_text, Begins, Course, EndsThere, IsKept, MovesOn, MovesWithin}
 use Rattle.rnxcmp_c.proofs.Words.{PassesLimit, RanOutAt, StepStops, StopsBy, StopsShort, StopsCounted}
-use Rattle.rnxcmp_c.proofs.Words.{waiting, Held, Stop, Fault, Limit}
+use Rattle.rnxcmp_c.proofs.Words.{waiting, Held, Stop, Fault, Limit, take_at}
 use Rattle.std.proofs.Common.{Result, Ok, Err}
-use Rattle.std.proofs.lemmas.List.{take_at}
 use Rattle.std.proofs.lemmas.Result.{IfErr-at_err, IfOk-at_ok}
 use Rattle.crx_runs.specs.declared.taking.Halt.TheVariants.{Fault as Faulty}
 use Rattle.rnxcmp_c.specs.Going.{LosesText}

@@ -4,7 +4,7 @@ pub use Rattle.std.proofs.Common.{None, refl, sym, ap, ◌∙◌, append-nil, ap
 pub use Rattle.std.proofs.Common.{length-append, ◌⊎◌, ⊎_elim, subst, ◌-◌, ◌<◌, false, is_some, length-take}
 pub use Rattle.std.proofs.Common.{◌+◌, ◌≤◌, ◌||◌, map, IfErr, IfOk, rules}
 pub use Rattle.std.proofs.Math.Seq.{take-append-add}
-pub use Rattle.std.proofs.lemmas.List.{take-append-drop, take-append-le, take_all}
+pub use Rattle.std.proofs.lemmas.List.{take-append-drop, take-append-le, take_all, take_at}
 pub use Rattle.std.proofs.lemmas.Result.{IfErr-weaker, IfOk-weaker, on_ok_weaker, err_from_is_err_and}
 pub use Rattle.std.specs.Prelude.{nat_le}
 pub use Rattle.crx_base.specs.declared.fault.At.{At}

@@ -21,7 +21,7 @@ use Rattle.rnxcmp_c.specs.declared.limits.TheConstants.{LINE_ROOM, READY_LIMIT}
 use Rattle.rnxcmp_c.specs.Holding.{AreUnfailed, IsMemoryLacking, texts_of_held, ready_in}
 use Rattle.rnxcmp_c.specs.meaning.Answers.{KeepsToLimit}
 use Rattle.rnxcmp_c.specs.meaning.Handles.{with_one_more}
-use Rattle.rnxcmp_c.specs.Past.{AsksMemory, HandlePast, IsMadeByLines, memory_next, texts_made}
+use Rattle.rnxcmp_c.specs.Past.{AsksMemory, HandlePast, IsMadeByLines, fed_with, memory_next, texts_made}
 use Rattle.rnxcmp_c.specs.declared.stop.Stop.{Stop}
 use Rattle.rnxcmp_c.specs.declared.stop.Stop.TheVariants.{Fault, Limit}
 
@@ -278,6 +278,13 @@ IsKeptWithin held past = KeepsToLimit held.limit (past.output ++ waiting held.ou
 abbrev pub RunBreaks : List ℕ → Filter → Held → HandlePast → Stop → Type 0
 RunBreaks before filter held past (Fault at) = Breaks before filter held past at × IsKeptWithin held past
 RunBreaks before filter held past Limit = IsPastLimit filter held past
+
+-- of some bytes so many were taken, and the run goes on; or they ended it
+abbrev pub GoesOnOrBreaks : Result ℕ Stop → Filter → (List InputLine → List Awaited → Type 0) → Held → HandlePast
+    → List ℕ → Type 0
+GoesOnOrBreaks taken filter shows held past bytes =
+    IfOk taken (λ n. IsGoing filter shows held (fed_with past (take n bytes)))
+    × IfErr taken (RunBreaks past.fed filter held (fed_with past bytes))
 
 -- ---- the end
 

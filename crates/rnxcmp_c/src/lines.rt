@@ -5,8 +5,8 @@ ghost use Rattle.crx_base.specs.declared.limits.TheConstants.{INPUT_LIMIT};
 ghost use Rattle.crx_base.specs.meaning.Lines.{InputLine, ends_with_return, lines_of, without_return};
 ghost use Rattle.crx_lines.specs.Reading.{HasNoFeed};
 ghost use Rattle.crx_runs.specs.Lawful.{IsLawful};
-ghost use Rattle.rnxcmp_c.specs.Going.{EndIsTaken, IsGoing, IsReady, IsSameRun, IsTaken, LastIsTaken, LineIsGiven, LineIsTaken, RunBreaks, piece_line};
-ghost use Rattle.rnxcmp_c.specs.Past.{HandlePast, StopsSoon, fed_with};
+ghost use Rattle.rnxcmp_c.specs.Going.{EndIsTaken, GoesOnOrBreaks, IsGoing, IsReady, IsSameRun, IsTaken, LastIsTaken, LineIsGiven, LineIsTaken, piece_line};
+ghost use Rattle.rnxcmp_c.specs.Past.{HandlePast, StopsSoon};
 ghost use Rattle.rnxcmp_c.specs.Holding.{IsCounted, IsMarkWithin, StopsCounted, ready_in};
 ghost use Rattle.rnxcmp_c.specs.Waiting.{waiting};
 ghost use Rattle.rnxcmp_c.specs.declared.limits.TheConstants.{LINE_ROOM, READY_LIMIT};
@@ -138,11 +138,8 @@ fn take_to_line_end<E: Engine>(engine: &mut E, held: &mut Held, bytes: &[u8]) ->
     ensures ready { OnOk result (IsReady (E.ready engine.new) (E.is_open engine.new)) }
     ensures count { IfOk result (λ n. (n ≤ length bytes.now) × (0 < length bytes.now → 0 < n)) }
     ensures piece { IfOk result (λ n. HasNoFeed (take (n - 1) bytes.now)) }
-    ensures going { (past : HandlePast) → IsGoing (E.filter engine.old) (E.shows engine.old) held.old past
-        → IfOk result (λ n. IsGoing (E.filter engine.old) (E.shows engine.new) held.new
-        (fed_with past (take n bytes.now))) }
-    ensures breaks { (past : HandlePast) → IsGoing (E.filter engine.old) (E.shows engine.old) held.old past
-        → IfErr result (RunBreaks past.fed (E.filter engine.old) held.new (fed_with past bytes.now)) }
+    ensures fed { (past : HandlePast) → IsGoing (E.filter engine.old) (E.shows engine.old) held.old past
+        → GoesOnOrBreaks result (E.filter engine.old) (E.shows engine.new) held.new past bytes.now }
 {
     match feed_from(bytes, 0) {
         None => {
@@ -180,11 +177,8 @@ pub(crate) fn take_bytes<E: Engine>(
     ensures soon { (past : HandlePast) → IsGoing (E.filter engine.old) (E.shows engine.old) held.old past
         → IfOk result (λ n. 0 < n → StopsSoon (E.filter engine.old) past bytes.now n) }
     ensures low { OnErr result (ready_in held.old < READY_LIMIT) }
-    ensures going { (past : HandlePast) → IsGoing (E.filter engine.old) (E.shows engine.old) held.old past
-        → IfOk result (λ n. IsGoing (E.filter engine.old)
-        (E.shows engine.new) held.new (fed_with past (take n bytes.now))) }
-    ensures breaks { (past : HandlePast) → IsGoing (E.filter engine.old) (E.shows engine.old) held.old past
-        → IfErr result (RunBreaks past.fed (E.filter engine.old) held.new (fed_with past bytes.now)) }
+    ensures fed { (past : HandlePast) → IsGoing (E.filter engine.old) (E.shows engine.old) held.old past
+        → GoesOnOrBreaks result (E.filter engine.old) (E.shows engine.new) held.new past bytes.now }
 {
     let mut left = bytes;
     'bytes: while !left.is_empty() && held.is_low() {

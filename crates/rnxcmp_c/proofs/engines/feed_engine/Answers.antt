@@ -9,7 +9,7 @@ returns-in-Compacting-clause-going c = λ (past : HandlePast) is.
     subst (λ (f : Filter). IfOk c.take_bytes.result
     (λ n. IsGoing f (shows_of (Compacting c.take_bytes.new.engine))
     c.take_bytes.new.held (fed_with past (take n c.args.bytes.now)))) (sym c.take_bytes.ensures.same.0)
-    (c.take_bytes.ensures.going past (going-as c.in-Compacting.is is))
+    (c.take_bytes.ensures.fed past (going-as c.in-Compacting.is is)).0
 
 pub returns-in-Expanding-clause-going : goal.returns-in-Expanding-clause-going
 returns-in-Expanding-clause-going c = λ (past : HandlePast) is.
@@ -17,33 +17,32 @@ returns-in-Expanding-clause-going c = λ (past : HandlePast) is.
     (λ n. IsGoing f (shows_of (Expanding c.take_bytes-in-Expanding.new.engine))
     c.take_bytes-in-Expanding.new.held (fed_with past (take n c.args.bytes.now))))
     (sym c.take_bytes-in-Expanding.ensures.same.0)
-    (c.take_bytes-in-Expanding.ensures.going past
-    (going-as c.in-Expanding.is is))
+    (c.take_bytes-in-Expanding.ensures.fed past (going-as c.in-Expanding.is is)).0
 
 pub returns-in-Compacting-clause-breaks : goal.returns-in-Compacting-clause-breaks
 returns-in-Compacting-clause-breaks c = λ (past : HandlePast) is.
     subst (λ (e : AnyEngine). IfErr c.take_bytes.result (RunBreaks past.fed
     (engine_filter e) c.take_bytes.new.held
     (fed_with past c.args.bytes.now))) (sym c.in-Compacting.is)
-    (c.take_bytes.ensures.breaks past (going-as c.in-Compacting.is is))
+    (c.take_bytes.ensures.fed past (going-as c.in-Compacting.is is)).1
 
 pub returns-in-Expanding-clause-breaks : goal.returns-in-Expanding-clause-breaks
 returns-in-Expanding-clause-breaks c = λ (past : HandlePast) is.
     subst (λ (e : AnyEngine). IfErr c.take_bytes-in-Expanding.result (RunBreaks past.fed
     (engine_filter e) c.take_bytes-in-Expanding.new.held
     (fed_with past c.args.bytes.now))) (sym c.in-Expanding.is)
-    (c.take_bytes-in-Expanding.ensures.breaks past (going-as c.in-Expanding.is is))
+    (c.take_bytes-in-Expanding.ensures.fed past (going-as c.in-Expanding.is is)).1
 
 pub returns-in-Checking-clause-breaks : goal.returns-in-Checking-clause-breaks
 returns-in-Checking-clause-breaks c = λ (past : HandlePast) is.
     subst (λ (e : AnyEngine). IfErr c.take_bytes-in-Checking.result (RunBreaks past.fed
     (engine_filter e) c.take_bytes-in-Checking.new.held
     (fed_with past c.args.bytes.now))) (sym c.in-Checking.is)
-    (c.take_bytes-in-Checking.ensures.breaks past (going-as c.in-Checking.is is))
+    (c.take_bytes-in-Checking.ensures.fed past (going-as c.in-Checking.is is)).1
 
 pub returns-in-Checking-clause-going : goal.returns-in-Checking-clause-going
 returns-in-Checking-clause-going c = λ (past : HandlePast) is.
-    c.take_bytes-in-Checking.ensures.going past (going-as c.in-Checking.is is)
+    (c.take_bytes-in-Checking.ensures.fed past (going-as c.in-Checking.is is)).0
 
 pub returns-in-Compacting-clause-soon : goal.returns-in-Compacting-clause-soon
 returns-in-Compacting-clause-soon c = λ (past : HandlePast) is.

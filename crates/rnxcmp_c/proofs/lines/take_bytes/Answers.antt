@@ -1,7 +1,7 @@
 use Rattle.rnxcmp_c.proofs.Words.{rules, ℕ, ◌≡◌, ◌+◌, ◌-◌, ◌<◌, ◌≤◌, List, ◌++◌, length, take, drop, sym, ap}
 use Rattle.rnxcmp_c.proofs.Words.{◌∙◌, subst, arith, append_assoc, length-append, ⊎_elim, take-append-drop}
 use Rattle.rnxcmp_c.proofs.Words.{take-append-le, HasNoFeed, err_from_is_err_and, Filter, RunBreaks, IsGoing}
-use Rattle.rnxcmp_c.proofs.Words.{HandlePast, fed_with, StopsSoon, ready_in, Held, READY_LIMIT}
+use Rattle.rnxcmp_c.proofs.Words.{HandlePast, fed_with, StopsSoon, ready_in, Held, READY_LIMIT, take_at}
 use Rattle.std.proofs.Common.{length-take-le}
 use Rattle.rnxcmp_c.proofs.GoingLemmas.{breaks-after, ended-more, soon-by}
 use Rattle.rnxcmp_c.proofs.PieceLemmas.{none-or}
@@ -58,15 +58,10 @@ bytes-preserved g c =
         (λ (past : HandlePast) is.
             let going = subst (λ (f : Filter). IsGoing f shows c.bytes.held (fed_with past done)) (sym i.1)
             (i.0.2 past is) in
-            subst (λ (fed : List ℕ). IsGoing first then held (record {
-              fed = fed;
-              output = past.output;
-              messages =
-                  past.messages;
-            }))
+            subst (λ (fed : List ℕ). IsGoing first then held (record past { fed = fed }))
             (append_assoc past.fed done some)
             (subst (λ (f : Filter). IsGoing f then held (fed_with (fed_with past done) some)) i.1
-            (c.in_ok-count.ensures.going (fed_with past done) going))),
+            (c.in_ok-count.ensures.fed (fed_with past done) going).0)),
         (λ none. absurd (omega (arith, none, long, more))),
         λ long. ⊎_elim (λ none. subst (λ (h : Held). ready_in h < READY_LIMIT) (i.0.3 none) low)
             (λ some. i.0.4 some) (none-or (length done)),
@@ -83,8 +78,8 @@ bytes-preserved g c =
       c.take_to_line_end.ensures.same.1 ∙ i.4,
     )
 
-pub returns-in_err-count-clause-breaks : goal.returns-in_err-count-clause-breaks
-returns-in_err-count-clause-breaks g c = λ (past : HandlePast) is.
+pub returns-in_err-count-clause-fed : goal.returns-in_err-count-clause-fed
+returns-in_err-count-clause-fed g c = λ (past : HandlePast) is.
     let i = c.bytes.invariant in
     let done : List ℕ = i.0.0 in
     let left = c.bytes.left.now in
@@ -95,17 +90,15 @@ returns-in_err-count-clause-breaks g c = λ (past : HandlePast) is.
     let going = subst (λ (f : Filter). IsGoing f shows c.bytes.held (fed_with past done)) (sym i.1)
     (i.0.2 past is) in
     let p = err_from_is_err_and c.from_residual.result c.from_residual.ensures.1 in
-    rw (p.1, p.2)
-    (subst (λ (fed : List ℕ). RunBreaks past.fed first held (record {
-      fed = fed;
-      output = past.output;
-      messages = past.messages;
-    }) stop)
-    (append_assoc past.fed done left ∙ ap (λ (l : List ℕ). past.fed ++ l) (sym i.0.1))
-    (breaks-after first past.fed (past.fed ++ done) held (fed_with (fed_with past done) left) stop
-    (ended-more first (g.E.Engine.shows c.args.engine.now) c.args.held.now past done is)
-    (subst (λ (f : Filter). RunBreaks (past.fed ++ done) f held (fed_with (fed_with past done) left) stop) i.1
-    (c.in_err-count.ensures.breaks (fed_with past done) going))))
+    rw (p.1, p.2) (
+      tt,
+      subst (λ (fed : List ℕ). RunBreaks past.fed first held (record past { fed = fed }) stop)
+          (append_assoc past.fed done left ∙ ap (λ (l : List ℕ). past.fed ++ l) (sym i.0.1))
+          (breaks-after first past.fed (past.fed ++ done) held (fed_with (fed_with past done) left) stop
+          (ended-more first (g.E.Engine.shows c.args.engine.now) c.args.held.now past done is)
+          (subst (λ (f : Filter). RunBreaks (past.fed ++ done) f held (fed_with (fed_with past done) left) stop)
+          i.1 (c.in_err-count.ensures.fed (fed_with past done) going).1)),
+    )
 
 pub returns-in_err-count-clause-low : goal.returns-in_err-count-clause-low
 returns-in_err-count-clause-low g c =
@@ -116,6 +109,19 @@ returns-in_err-count-clause-low g c =
     (λ some. i.0.4 some) (none-or (length i.0.0)) in
     let p = err_from_is_err_and c.from_residual.result c.from_residual.ensures.1 in
     rw p.1 before
+
+pub returns-clause-fed : goal.returns-clause-fed
+returns-clause-fed g c = λ (past : HandlePast) is.
+    let i = c.bytes.invariant in
+    let done : List ℕ = i.0.0 in
+    let left = c.bytes.left.now in
+    let count : ℕ = length c.args.bytes.now - length left in
+    let same : length done ≡ count = omega (arith, ap length i.0.1, length-append done left) in (
+      subst (λ (l : List ℕ). IsGoing (g.E.Engine.filter c.args.engine.now) (g.E.Engine.shows c.bytes.engine)
+          c.bytes.held (fed_with past l)) (sym (ap (take count) i.0.1 ∙ take_at done left count same))
+          (i.0.2 past is),
+      tt,
+    )
 
 pub returns-clause-soon : goal.returns-clause-soon
 returns-clause-soon g c = λ (past : HandlePast) is more.
