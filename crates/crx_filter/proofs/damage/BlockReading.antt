@@ -1,16 +1,13 @@
 -- The reading of a block of compact text whose lines but the first don't begin with >: some epochs, and then
--- it ends
--- between two units, inside an epoch, or, after a warning, looking for a line that begins with >.
-use Rattle.crx_filter.proofs.Words.{ℕ, zero, suc, ◌≡◌, ◌+◌, ◌-◌, ◌<◌, max, ◌⊎◌, inl, inr, true, false, cond}
-use Rattle.crx_filter.proofs.Words.{List, [], ◌∷◌, ◌++◌, length, drop, refl, ap, sym, ◌∙◌, subst, arith}
-use Rattle.crx_filter.proofs.Words.{append_assoc, ⊤, ◌&&◌, ◌==◌, AllByRecursion, length-drop, character_at}
-use Rattle.crx_filter.proofs.Words.{ReadLine, Content, Overlong, At, Fault, Truncated, begins_epoch}
-use Rattle.crx_filter.proofs.Words.{is_event_flag, is_event_line, Place, Here, Wrong, Wanted, one_line}
-use Rattle.crx_filter.proofs.Words.{FileUnit, Observation, ReadEpoch, epoch_at, Item, Accepted, Warned}
-use Rattle.crx_filter.proofs.Words.{records_left, types_in_force, Reading, AtLines, Looking, is_skipped}
-use Rattle.crx_filter.proofs.Words.{looked_for, reading_within, reading_from, is_skippable, raws_kept}
-use Rattle.crx_filter.proofs.Words.{event_line, as_observation, compact_epoch_place, compact_place}
-use Rattle.crx_filter.proofs.Words.{IsBetweenUnits}
+-- it ends between two units, inside an epoch, or, after a warning, looking for a line that begins with >.
+use Rattle.crx_filter.proofs.Words
+use Words.{ℕ, zero, suc, ◌≡◌, ◌+◌, ◌-◌, ◌<◌, max, ◌⊎◌, inl, inr, true, false, cond, List, [], ◌∷◌, ◌++◌}
+use Words.{length, drop, refl, ap, sym, ◌∙◌, subst, arith, append_assoc, ⊤, ◌&&◌, ◌==◌, AllByRecursion}
+use Words.{length-drop, character_at, ReadLine, Content, Overlong, At, Fault, Truncated, begins_epoch}
+use Words.{is_event_flag, is_event_line, Place, Here, Wrong, Wanted, one_line, FileUnit, Observation}
+use Words.{ReadEpoch, epoch_at, Item, Accepted, Warned, records_left, types_in_force, Reading, AtLines}
+use Words.{Looking, is_skipped, looked_for, reading_within, reading_from, is_skippable, raws_kept, event_line}
+use Words.{as_observation, compact_epoch_place, compact_place, IsBetweenUnits}
 use Rattle.crx_filter.proofs.reading.Resuming.{by_place, here-within, wrong-stays, within-here, within-wrong}
 use Rattle.crx_filter.proofs.reading.Resuming.{within-wanted, fault-skipped, looked-on}
 use Rattle.crx_filter.proofs.following.Following.{body-place}
@@ -55,9 +52,7 @@ place-between items lines h = body-place (λ (before : List (Item ReadEpoch)).
 pub place-inside : (items : List (Item ReadEpoch)) (line : List ℕ) (lines : List ReadLine)
     → IsBetweenUnits items → is_event_line line ≡ false → compact_place items (Content line ∷ lines)
     ≡ as_observation (epoch_at (types_in_force items) (raws_kept items) (Content line ∷ lines))
-place-inside items line lines h e = place-between items (Content line ∷ lines) h
-    ∙ ap (λ b. cond b (one_line (event_line line))
-    (as_observation (epoch_at (types_in_force items) (raws_kept items) (Content line ∷ lines)))) e
+place-inside items line lines h e = cc (place-between items (Content line ∷ lines) h, e)
 
 pub observation-here : (p : Place ReadEpoch) (unit : FileUnit ReadEpoch) (count : ℕ)
     → as_observation p ≡ Here unit count → (read : ReadEpoch) × (unit ≡ Observation read)
@@ -85,8 +80,7 @@ fault-here items (Content line ∷ lines) offset fault h text e =
 
 pub skipped-here : (items : List (Item ReadEpoch)) (fault : Fault)
     → IsBetweenUnits items → is_skippable fault ≡ true → is_skipped true items fault ≡ true
-skipped-here items fault h may = ap (λ b. b && ((records_left items == 0) && is_skippable fault)) h.header
-    ∙ ap (λ n. (n == 0) && is_skippable fault) h.none ∙ may
+skipped-here items fault h may = cc
 
 -- the next line that begins with > cuts an epoch off
 pub place-cut : (items : List (Item ReadEpoch)) (first : List ℕ) (lines : List ReadLine) (line : List ℕ)
@@ -95,14 +89,13 @@ pub place-cut : (items : List (Item ReadEpoch)) (first : List ℕ) (lines : List
     → compact_place items (Content first ∷ (lines ++ Content line ∷ rest))
     ≡ Wrong (suc (length lines)) Truncated
 place-cut items first lines line rest h none begins e =
-    let wanted : epoch_at (types_in_force items) (raws_kept items) (Content first ∷ lines) ≡ Wanted =
-    observation-wanted _ (sym (place-inside items first lines h none) ∙ e) in
-    let cut : compact_place items (Content first ∷ (lines ++ Content line ∷ []))
-    ≡ Wrong (suc (length lines)) Truncated = place-inside items first (lines ++ Content line ∷ []) h none
-    ∙ ap as_observation (epoch-cut (types_in_force items) (raws_kept items) first lines line begins wanted) in
+    let cut : compact_place items (Content first ∷ (lines ++ Content line ∷ [])) ≡ Wrong (suc (length lines))
+    Truncated = place-inside items first (lines ++ Content line ∷ []) h none
+    ∙ ap as_observation (epoch-cut (types_in_force items) (raws_kept items) first lines line begins
+    (observation-wanted _ (sym (place-inside items first lines h none) ∙ e))) in
     ap (λ ls. compact_place items (Content first ∷ ls)) (sym (append_assoc lines (Content line ∷ []) rest))
-    ∙ wrong-stays compact_place compact-forward items
-    (Content first ∷ (lines ++ Content line ∷ [])) rest (suc (length lines)) Truncated cut
+    ∙ wrong-stays compact_place compact-forward items (Content first ∷ (lines ++ Content line ∷ [])) rest
+    (suc (length lines)) Truncated cut
 
 -- ---- the reading
 
@@ -146,47 +139,35 @@ pub within-block : (units : ℕ) (items : List (Item ReadEpoch)) (number : ℕ) 
     → length lines < units → IsBetweenUnits items → IsBlockText lines
     → IsBlockRead items (reading_within compact_place true units items number lines)
 within-block zero items number lines few h text = absurd (omega (arith, few))
-within-block (suc units) items number lines few h text = by_place (compact_place items lines)
-    (λ unit count e.
+within-block (suc units) items number lines few h text = by_place (compact_place items lines) (λ unit count e.
     let epoch = epoch-here items lines unit count h text e in
-    let read : ReadEpoch = epoch.0 in
+    let read = epoch.0 in
     let within = here-within compact_place compact-forward items lines unit count e in
     let some = within.0 in
-    let in_lines = within.1 in
-    let left : length (drop count lines) ≡ length lines - count = length-drop count lines in
-    let rest : IsBlockRead (Accepted (Observation read) ∷ items) (reading_within compact_place true units
-    (Accepted (Observation read) ∷ items) (number + count) (drop count lines)) =
-    within-block units (Accepted (Observation read) ∷ items) (number + count)
-    (drop count lines) (omega (arith, few, some, in_lines, left)) (record { header = h.header; none = refl })
+    let rest = within-block units (Accepted (Observation read) ∷ items) (number + count) (drop count lines)
+    (omega (arith, few, some, within.1, length-drop count lines)) (record { header = h.header; none = refl })
     (inside-text (drop count lines) (block-drop count lines some text)) in
-    let same : reading_within compact_place true (suc units) items number lines ≡ reading_within
-    compact_place true units (Accepted (Observation read) ∷ items) (number + count) (drop count lines) =
-    within-here compact_place true units items number lines unit count e ∙ ap (λ u.
-    reading_within compact_place true units (Accepted u ∷ items) (number + count) (drop count lines))
-    epoch.1 in
+    let same : reading_within compact_place true (suc units) items number lines ≡ reading_within compact_place
+    true units (Accepted (Observation read) ∷ items) (number + count) (drop count lines) = cc
+    (within-here compact_place true units items number lines unit count e, epoch.1) in
     record {
       reads = read ∷ rest.reads;
-      ends = subst (EndsBlock (with_reads (Accepted (Observation read) ∷ items) rest.reads))
-          (sym same) rest.ends;
-    })
-    (λ offset fault e.
+      ends = subst (EndsBlock (with_reads (Accepted (Observation read) ∷ items) rest.reads)) (cc) rest.ends;
+    }) (λ offset fault e.
     let at : At = record { line = number + offset; fault = fault } in
-    let on : is_skipped true items fault ≡ true =
-    skipped-here items fault h (fault-here items lines offset fault h text e) in
     let none = none-found (reading_within compact_place true units (Warned at ∷ items)) (Warned at ∷ items)
-    (number + max offset 1) (drop (max offset 1) lines) (block-drop (max offset 1) lines
-    (omega arith) text) in
+    (number + max offset 1) (drop (max offset 1) lines) (block-drop (max offset 1) lines (omega arith) text)
+    in
     record {
       reads = [];
       ends = inr (
         at,
         none.0,
         within-wrong compact_place true units items number lines offset fault e
-            ∙ fault-skipped true (reading_within compact_place true units) items number lines offset fault on
-            ∙ none.1,
+            ∙ fault-skipped true (reading_within compact_place true units) items number lines offset fault
+            (skipped-here items fault h (fault-here items lines offset fault h text e)) ∙ none.1,
       );
-    })
-    (λ e. record {
+    }) (λ e. record {
       reads = [];
       ends = inl (number, lines, text, e, within-wanted compact_place true units items number lines e);
     })

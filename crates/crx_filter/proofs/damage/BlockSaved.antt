@@ -1,13 +1,12 @@
 -- What is read after a damaged block is what the undamaged text has there.
-use Rattle.crx_filter.proofs.Words.{ℕ, ◌≡◌, ◌+◌, ◌≤◌, true, false, cond, List, [], ◌∷◌, ◌++◌, map, length}
-use Rattle.crx_filter.proofs.Words.{Option, None, refl, ap, sym, ◌∙◌, subst, append_assoc, append-nil}
-use Rattle.crx_filter.proofs.Words.{and_parts, pieces_of, lines_of, ReadLine, Content, Overlong, seen, At}
-use Rattle.crx_filter.proofs.Words.{Epoch, begins_epoch, is_event_line, Observation, ReadEpoch, Choices, Item}
-use Rattle.crx_filter.proofs.Words.{Accepted, Warned, header_has_ended, records_announced, records_left}
-use Rattle.crx_filter.proofs.Words.{types_in_force, Reading, WholeReading, AtLines, reading_from}
-use Rattle.crx_filter.proofs.Words.{ended_reading, continued_reading, AreInPlace, compact_unit, compact_lines}
-use Rattle.crx_filter.proofs.Words.{version_line, program_line, compact_place, HaveNoReturns, IsBetweenUnits}
-use Rattle.crx_filter.proofs.Words.{GoOnAlike, starts_anew, lines_of_epochs, with_epochs, IsDamaged}
+use Rattle.crx_filter.proofs.Words
+use Words.{ℕ, ◌≡◌, ◌+◌, ◌≤◌, true, false, cond, List, [], ◌∷◌, ◌++◌, map, length, Option, None, refl, ap, sym}
+use Words.{◌∙◌, subst, append_assoc, append-nil, and_parts, pieces_of, lines_of, ReadLine, Content, Overlong}
+use Words.{seen, At, Epoch, begins_epoch, is_event_line, Observation, ReadEpoch, Choices, Item, Accepted}
+use Words.{Warned, header_has_ended, records_announced, records_left, types_in_force, Reading, WholeReading}
+use Words.{AtLines, reading_from, ended_reading, continued_reading, AreInPlace, compact_unit, compact_lines}
+use Words.{version_line, program_line, compact_place, HaveNoReturns, IsBetweenUnits, GoOnAlike, starts_anew}
+use Words.{lines_of_epochs, with_epochs, IsDamaged}
 use Rattle.crx_filter.proofs.reading.Resuming.{within-wanted, resumed}
 use Rattle.crx_filter.proofs.reading.Anew.{depends-on_types}
 use Rattle.crx_filter.proofs.reading.ForwardCompact.{compact-forward}
@@ -33,9 +32,7 @@ epochs-append before (epoch ∷ one) two = epochs-append (Accepted (Observation 
 pub epochs-in_place : (before : List (Item Epoch)) (epochs : List Epoch)
     → AreInPlace (with_epochs before epochs) → AreInPlace before
 epochs-in_place before [] h = h
-epochs-in_place before (epoch ∷ later) h = let more = epochs-in_place
-    (Accepted (Observation epoch) ∷ before) later h in
-    more.1
+epochs-in_place before (epoch ∷ later) h = (epochs-in_place (Accepted (Observation epoch) ∷ before) later h).1
 
 pub rest-in_place : (later before : List (Item Epoch)) → AreInPlace (later ++ before) → AreInPlace before
 rest-in_place [] before h = h
@@ -87,8 +84,7 @@ up_to every items more h =
 -- ---- after the block
 
 -- a reading that ended well, after these items and at most one warning, with what an undamaged reading has
--- after the
--- block
+-- after the block
 pub record IsSaved (items block all : List (Item ReadEpoch)) (whole : WholeReading ReadEpoch) : Type 0 where
   pub warnings : List At
   pub few : length warnings ≤ 1
@@ -152,34 +148,26 @@ pub tail-saved : (every : Option ℕ) (after block : List (Item Epoch)) (before 
     → IsSaved (with_reads before b.reads) (read_back every block) (read_back every (after ++ block))
     (ended_reading true (reading_from compact_place true before number (lines ++ tail)))
 tail-saved every after block before number lines [] b h e anew between types =
-    let r : Reading ReadEpoch = reading_from compact_place true before number lines in
-    let end : EndsAfter (with_reads before b.reads) (ended_reading true r) = block-ends before r b between in
-    let y : List (Item ReadEpoch) = read_back every block in
+    let end = block-ends before (reading_from compact_place true before number lines) b between in
+    let y = read_back every block in
     record {
       warnings = end.warnings;
       few = end.few;
       more = [];
-      rest = ap (λ (s : Reading ReadEpoch). s.items)
-          (sym (within-wanted compact_place true 0 y 0 [] (compact-forward.wants y))
-          ∙ ap (λ ls. reading_from compact_place true y 0 ls) (sym e)
+      rest = ap (λ (s : Reading ReadEpoch). s.items) (sym (within-wanted compact_place true 0 y 0 []
+          (compact-forward.wants y)) ∙ ap (λ ls. reading_from compact_place true y 0 ls) (sym e)
           ∙ reads-on every true 0 after block h.in_place);
-      same = ap (λ ls. ended_reading true (reading_from compact_place true before number ls))
-          (append-nil lines) ∙ end.same;
+      same = cc (append-nil lines, end.same);
     }
 tail-saved every after block before number lines (Overlong ∷ tail) b h e anew between types = absurd (cc)
 tail-saved every after block before number lines (Content line ∷ tail) b h e anew between types =
-    let r : Reading ReadEpoch = reading_from compact_place true before number lines in
-    let begins : begins_epoch line ≡ true = (and_parts
-    (begins_epoch line) (cond (is_event_line line) (starts_anew (records_announced line) tail) true)
-    anew).0 in
-    subst (λ (s : Reading ReadEpoch). IsSaved
-    (with_reads before b.reads) (read_back every block) (read_back every (after ++ block))
-    (ended_reading true s))
-    (sym (resumed compact_place compact-forward true before number lines (Content line ∷ tail)))
-    (anew-saved every after block (with_reads before b.reads)
-    (continued_reading compact_place true r (Content line
-    ∷ tail)) line tail h e anew (reads-between before b.reads between) (reads-types before b.reads ∙ types)
-    (block-goes_on before r b line tail between begins))
+    let r = reading_from compact_place true before number lines in
+    let begins = (and_parts (begins_epoch line) (cond (is_event_line line) (starts_anew
+    (records_announced line) tail) true) anew).0 in
+    rw (resumed compact_place compact-forward true before number lines (Content line ∷ tail))
+    (anew-saved every after block (with_reads before b.reads) (continued_reading compact_place true r
+    (Content line ∷ tail)) line tail h e anew (reads-between before b.reads between)
+    (reads-types before b.reads ∙ types) (block-goes_on before r b line tail between begins))
 
 -- ---- a damaged text, and what is known of it
 

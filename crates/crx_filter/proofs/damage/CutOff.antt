@@ -1,12 +1,11 @@
 -- Where an epoch of compact text wants more lines, a line that begins with > cuts it off.
-use Rattle.crx_filter.proofs.Words.{ℕ, suc, ◌≡◌, ◌+◌, ◌-◌, true, cond, List, [], ◌∷◌, ◌++◌, length, drop}
-use Rattle.crx_filter.proofs.Words.{Result, Ok, Err, refl, ap, sym, ◌∙◌, subst, arith, drop-append-le}
-use Rattle.crx_filter.proofs.Words.{length-drop, without_end_blanks, code_of, ReadLine, Content, Overlong}
-use Rattle.crx_filter.proofs.Words.{Fault, BadClock, Truncated, begins_epoch, Count, Place, Here, Wrong}
-use Rattle.crx_filter.proofs.Words.{Wanted, after_lines, then_place, one_line, first_line, IsSteady, Remains}
-use Rattle.crx_filter.proofs.Words.{Satellite, RawEpoch, Past, past_of_line, BegunEpoch, ReadEpoch}
-use Rattle.crx_filter.proofs.Words.{epoch_begun, clock_line_read, cell_read, satellite_line_read, rows_read}
-use Rattle.crx_filter.proofs.Words.{epoch_of_rows, epoch_after_line, epoch_at}
+use Rattle.crx_filter.proofs.Words
+use Words.{ℕ, suc, ◌≡◌, ◌+◌, ◌-◌, true, cond, List, [], ◌∷◌, ◌++◌, length, drop, Result, Ok, Err, refl, ap}
+use Words.{sym, ◌∙◌, subst, arith, drop-append-le, length-drop, without_end_blanks, code_of, ReadLine}
+use Words.{Content, Overlong, Fault, BadClock, Truncated, begins_epoch, Count, Place, Here, Wrong, Wanted}
+use Words.{after_lines, then_place, one_line, first_line, IsSteady, Remains, Satellite, RawEpoch, Past}
+use Words.{past_of_line, BegunEpoch, ReadEpoch, epoch_begun, clock_line_read, cell_read, satellite_line_read}
+use Words.{rows_read, epoch_of_rows, epoch_after_line, epoch_at}
 use Rattle.crx_rinex.proofs.Steady.{steady-first_line}
 use Rattle.crx_compact.proofs.Marks.{row_of_line}
 use Rattle.crx_compact.proofs.reading.SteadyEpochs.{steady-rows_read}
@@ -39,18 +38,15 @@ cut-then first next steady one two lines line begins e = by-first (first lines) 
         (first (lines ++ Content line ∷ [])) (lines ++ Content line ∷ []) next
         ≡ Wrong (length lines) Truncated
     by-first (Here x count) f =
-        let stays : Remains (length lines) (Here x count) (first (lines ++ Content line ∷ [])) = subst
-        (λ p. Remains (length lines) p (first (lines ++ Content line ∷ []))) f
-        (steady lines (Content line ∷ [])) in
+        let stays = subst
+        (λ p. Remains (length lines) p (first (lines ++ Content line ∷ []))) f (steady lines
+        (Content line ∷ [])) in
         let within = stays.0 in
-        let rest : drop count (lines ++ Content line ∷ []) ≡ drop count lines ++ Content line ∷ [] =
-        drop-append-le count lines (Content line ∷ []) within in
-        let wanted : next x (drop count lines) ≡ Wanted =
-        after-wanted count (next x (drop count lines)) (sym (ap (λ p. then_place p lines next) f) ∙ e) in
-        let left : length (drop count lines) ≡ length lines - count = length-drop count lines in
-        let counted : count + length (drop count lines) ≡ length lines = omega (arith, within, left) in
+        let wanted = after-wanted _ _ (sym (ap (λ p. then_place p lines next) f) ∙ e) in
+        let counted : count + length (drop count lines) ≡ length lines = omega
+        (arith, within, length-drop count lines) in
         ap (λ p. then_place p (lines ++ Content line ∷ []) next) stays.1
-        ∙ ap (λ ls. after_lines count (next x ls)) rest
+        ∙ ap (λ ls. after_lines count (next x ls)) (drop-append-le count lines (Content line ∷ []) within)
         ∙ ap (after_lines count) (two x (drop count lines) line begins wanted)
         ∙ ap (λ n. Wrong n Truncated) counted
     by-first (Wrong k fault) f = let never = sym (ap (λ p. then_place p lines next) f) ∙ e in absurd (cc)
@@ -60,8 +56,7 @@ cut-then first next steady one two lines line begins e = by-first (first lines) 
 
 clock-cut : (past : Past) (line : List ℕ) → begins_epoch line ≡ true → clock_line_read past line
     ≡ Err Truncated
-clock-cut past line begins = ap
-    (λ b. cond b (Err Truncated) (cell_read BadClock past.clock (code_of (without_end_blanks line)))) begins
+clock-cut past line begins = cc
 
 row-cut : (past : Past) (satellite : Satellite) (line : List ℕ)
     → begins_epoch line ≡ true → satellite_line_read past satellite line ≡ Err Truncated
@@ -93,10 +88,8 @@ begun-cut : (r : Result BegunEpoch Fault) (first : ReadLine) (lines : List ReadL
     → then_place (one_line r) (first ∷ (lines ++ Content line ∷ []))
     (λ begun others. epoch_after_line begun others) ≡ Wrong (suc (length lines)) Truncated
 begun-cut (Ok begun) first lines line begins e =
-    let inside : epoch_after_line begun lines ≡ Wanted = after-wanted 1 (epoch_after_line begun lines) e in
     let counted : 1 + length lines ≡ suc (length lines) = omega arith in
-    ap (after_lines 1) (after_line-cut begun lines line begins inside)
-    ∙ ap {B = Place ReadEpoch} (λ n. Wrong n Truncated) counted
+    cc (after_line-cut begun lines line begins (after-wanted _ _ e), counted)
 begun-cut (Err fault) first lines line begins e = absurd (cc)
 
 -- an epoch whose first line has come
@@ -104,5 +97,4 @@ pub epoch-cut : (types : List Count) (older : List RawEpoch) (first : List ℕ) 
     (line : List ℕ) → begins_epoch line ≡ true → epoch_at types older (Content first ∷ lines) ≡ Wanted
     → epoch_at types older (Content first ∷ (lines ++ Content line ∷ []))
     ≡ Wrong (suc (length lines)) Truncated
-epoch-cut types older first lines line begins e =
-    begun-cut (epoch_begun types first (past_of_line older first)) (Content first) lines line begins e
+epoch-cut types older first lines line begins e = begun-cut _ _ _ _ begins e

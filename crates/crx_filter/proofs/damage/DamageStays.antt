@@ -1,18 +1,15 @@
 -- Damage to compact text stays in its block: what an expansion writes and reports, from the lines of the
--- damaged text
--- on.
-use Rattle.crx_filter.proofs.Words.{ℕ, suc, ◌≡◌, ◌+◌, ◌⊎◌, inl, inr, true, List, [], ◌∷◌, ◌++◌, map, length}
-use Rattle.crx_filter.proofs.Words.{drop, take, reverse, Option, None, refl, ap, sym, ◌∙◌, subst}
-use Rattle.crx_filter.proofs.Words.{append_assoc, append-nil, AllByRecursion, flat_map, list_all, map-append}
-use Rattle.crx_filter.proofs.Words.{drop-append_seam, Piece, pieces_of, lines_of, ReadLine, Content, seen, At}
-use Rattle.crx_filter.proofs.Words.{Epoch, IsWholeEpoch, printed_epoch, lines_text, Observation, epoch_line}
-use Rattle.crx_filter.proofs.Words.{ReadEpoch, LinesCanStand, Choices, is_date, Item, Accepted}
-use Rattle.crx_filter.proofs.Words.{header_has_ended, records_left, types_in_force, Reading, WholeReading}
-use Rattle.crx_filter.proofs.Words.{reading_from, ended_reading, notices_text, warnings_in, result_of}
-use Rattle.crx_filter.proofs.Words.{marked_epochs, compact_unit, compact_lines, version_line, program_line}
-use Rattle.crx_filter.proofs.Words.{whole_rinex, compact_place, expanded_unit, whole_compact, expanded}
-use Rattle.crx_filter.proofs.Words.{expanded_lines, whole_of, printed_items, AreInPlace, ItemsAreRead}
-use Rattle.crx_filter.proofs.Words.{IsBetweenUnits, lines_of_epochs, with_epochs, lines_after, IsDamaged}
+-- damaged text on.
+use Rattle.crx_filter.proofs.Words
+use Words.{ℕ, suc, ◌≡◌, ◌+◌, ◌⊎◌, inl, inr, true, List, [], ◌∷◌, ◌++◌, map, length, drop, take, reverse}
+use Words.{Option, None, refl, ap, sym, ◌∙◌, subst, append_assoc, append-nil, AllByRecursion, flat_map}
+use Words.{list_all, map-append, drop-append_seam, Piece, pieces_of, lines_of, ReadLine, Content, seen, At}
+use Words.{Epoch, IsWholeEpoch, printed_epoch, lines_text, Observation, epoch_line, ReadEpoch, LinesCanStand}
+use Words.{Choices, is_date, Item, Accepted, header_has_ended, records_left, types_in_force, Reading}
+use Words.{WholeReading, reading_from, ended_reading, notices_text, warnings_in, result_of, marked_epochs}
+use Words.{compact_unit, compact_lines, version_line, program_line, whole_rinex, compact_place, expanded_unit}
+use Words.{whole_compact, expanded, expanded_lines, whole_of, printed_items, AreInPlace, ItemsAreRead}
+use Words.{IsBetweenUnits, lines_of_epochs, with_epochs, lines_after, IsDamaged}
 use Rattle.std.proofs.lemmas.List.{append_cancel_left, take-append-drop}
 use Rattle.crx_runs.specs.meaning.Results.{status_after}
 use Rattle.crx_filter.specs.meaning.Damage.{IsSalvaged}
@@ -96,31 +93,27 @@ module _ (choices : Choices) (before : List (Item Epoch)) (first : Epoch)
   all-clean : AllByRecursion IsClean (lines_back choices.every (block_of before first others))
       × AllByRecursion IsClean (lines_on choices.every after (block_of before first others))
   all-clean = all-parts IsClean (lines_back choices.every (block_of before first others))
-      (lines_on choices.every after (block_of before first others))
-      (subst (AllByRecursion IsClean) (written-on choices.every after (block_of before first others))
-      (lines-clean choices.every (after ++ (block_of before first others)) p.settled.in_place p.settled.copied
-      p.no_returns))
+      (lines_on choices.every after (block_of before first others)) (rw (← written-on choices.every after
+      (block_of before first others)) (lines-clean choices.every (after ++ (block_of before first others))
+      p.settled.in_place p.settled.copied p.no_returns))
 
   block-clean : AllByRecursion IsClean (lines_back choices.every before)
       × AllByRecursion IsClean (lines_of_epochs choices before (first ∷ others))
-  block-clean =
-      all-parts IsClean (lines_back choices.every before) (lines_of_epochs choices before (first ∷ others))
-      (subst (AllByRecursion IsClean) (epochs-lines choices before (first ∷ others)) all-clean.0)
+  block-clean = all-parts IsClean (lines_back choices.every before) (lines_of_epochs choices before
+      (first ∷ others)) (rw (← epochs-lines choices before (first ∷ others)) all-clean.0)
 
   front-clean : is_date choices.date ≡ true → AllByRecursion IsClean (front_of choices before first)
   front-clean dated = (
     version-clean,
     (
-      program-clean choices.date dated,
-      all-append IsClean (lines_back choices.every before)
-          (first_line_of choices before first ∷ []) block-clean.0 ((block-clean.1).0, tt),
+      program-clean _ dated,
+      all-append _ _ _ block-clean.0 ((block-clean.1).0, tt),
     ),
   )
 
   front-same : compact_lines choices before ++ take 1 (compact_unit choices before (Observation first))
       ≡ (front_of choices before first)
-  front-same = ap (λ ls. ls ++ first_line_of choices before first ∷ [])
-      (lines-same choices before first-in_place.1 (started before before-header))
+  front-same = cc (lines-same choices before first-in_place.1 (started before before-header))
 
   pub lines-parts : compact_lines choices (after ++ (block_of before first others)) ≡ compact_lines choices
       (block_of before first others) ++ lines_on choices.every after (block_of before first others)
@@ -158,14 +151,12 @@ module _ (choices : Choices) (before : List (Item Epoch)) (first : Epoch)
       ++ (map seen (lines_of instead) ++ map Content (lines_on choices.every after
       (block_of before first others)))
   lines-cut instead dated ends =
-      let rest : List (List ℕ) = lines_after choices
-      (block_of before first others) (after ++ block_of before first others) in
-      ap (λ t. map seen (lines_of t)) (append_assoc (lines_text (compact_lines choices before
-      ++ take 1 (compact_unit choices before (Observation first)))) instead (lines_text rest))
+      let rest = lines_after choices (block_of before first others) (after ++ block_of before first others) in
+      ap (λ t. map seen (lines_of t)) (append_assoc (lines_text (compact_lines choices before ++ take 1
+      (compact_unit choices before (Observation first)))) instead (lines_text rest))
       ∙ ap (λ ls. map seen (lines_of (lines_text ls ++ (instead ++ lines_text rest)))) front-same
-      ∙ ap (λ ls. map seen (lines_of (lines_text (front_of choices before first)
-      ++ (instead ++ lines_text ls)))) after-same
-      ∙ damaged-cut (front_of choices before first) instead (lines_on choices.every after
+      ∙ ap (λ ls. map seen (lines_of (lines_text (front_of choices before first) ++ (instead ++ lines_text
+      ls)))) after-same ∙ damaged-cut (front_of choices before first) instead (lines_on choices.every after
       (block_of before first others)) (front-clean dated) all-clean.1 (none-after instead ends)
 
   -- the reading of the block's lines up to its end is that of the lines before and these
@@ -185,11 +176,10 @@ module _ (choices : Choices) (before : List (Item Epoch)) (first : Epoch)
       (3 + length (lines_back choices.every before)) lines))
       → AllByRecursion (IsWholeEpoch (types_in_force before)) (epochs_in b.reads)
   epochs-whole lines b =
-      let r : Reading ReadEpoch = reading_from compact_place true
-      (read_back choices.every before) (3 + length (lines_back choices.every before)) lines in
-      subst (λ types. AllByRecursion (IsWholeEpoch types) (epochs_in b.reads)) before-types
-      (whole-block (read_back choices.every before) b.reads r b.ends
-      (subst (λ (s : Reading ReadEpoch). ItemsAreRead compact_place s.items) (block-reading lines)
+      let r = reading_from compact_place true (read_back choices.every before) (3 + length
+      (lines_back choices.every before)) lines in
+      rw before-types at (whole-block (read_back choices.every before) b.reads r b.ends (subst
+      (λ (s : Reading ReadEpoch). ItemsAreRead compact_place s.items) (block-reading lines)
       (items-read compact_place true 3 (map Content (lines_back choices.every before) ++ lines))))
 
   -- ---- the block's own epochs
@@ -197,10 +187,9 @@ module _ (choices : Choices) (before : List (Item Epoch)) (first : Epoch)
   -- the epochs of a block up to one of them are in place
   own-in_place : (count : ℕ) → AreInPlace (with_epochs before (take (suc count) (first ∷ others)))
   own-in_place count = epochs-in_place (with_epochs before (take (suc count) (first ∷ others)))
-      (drop (suc count) (first ∷ others))
-      (subst AreInPlace (epochs-append before (take (suc count) (first ∷ others))
-      (drop (suc count) (first ∷ others))) (subst (λ es. AreInPlace (with_epochs before es))
-      (sym (take-append-drop (suc count) (first ∷ others))) block-in_place))
+      (drop (suc count) (first ∷ others)) (subst AreInPlace (epochs-append before (take (suc count)
+      (first ∷ others)) (drop (suc count) (first ∷ others))) (rw (take-append-drop (suc count)
+      (first ∷ others)) block-in_place))
 
   -- where the lines begin with those of some of its epochs, what is read goes on after these
   own-reading : (lines rest : List (List ℕ)) (count : ℕ)
@@ -211,23 +200,20 @@ module _ (choices : Choices) (before : List (Item Epoch)) (first : Epoch)
       (read_back choices.every (with_epochs before (take (suc count) (first ∷ others)))) (3 + length
       (lines_back choices.every (with_epochs before (take (suc count) (first ∷ others))))) (map Content rest)
   own-reading lines rest count e =
-      let own : List Epoch = take (suc count) (first ∷ others) in
-      let own_lines : List (List ℕ) = lines_of_epochs choices before own in
-      let old : List (List ℕ) = lines_back choices.every before in
-      let same : Content (first_line_of choices before first) ∷ map Content lines
-      ≡ map Content own_lines ++ map Content rest =
-      ap (λ ls. Content (first_line_of choices before first) ∷ map Content ls) e
-      ∙ ap (λ ls. Content (first_line_of choices before first) ∷ ls)
-      (map-append Content (drop 1 own_lines) rest) in
+      let own = take (suc count) (first ∷ others) in
+      let own_lines = lines_of_epochs choices before own in
+      let old = lines_back choices.every before in
+      let same : Content (first_line_of choices before first) ∷ map Content lines ≡ map Content own_lines ++
+      map Content rest = cc (e, map-append Content (drop 1 own_lines) rest) in
       let joined : map Content (lines_back choices.every (with_epochs before own)) ++ map Content rest
-      ≡ map Content old ++ (map Content own_lines ++ map Content rest) =
-      ap (λ ls. map Content ls ++ map Content rest) (epochs-lines choices before own)
-      ∙ ap (λ ls. ls ++ map Content rest) (map-append Content old own_lines)
-      ∙ append_assoc (map Content old) (map Content own_lines) (map Content rest) in
+      ≡ map Content old ++ (map Content own_lines ++ map Content rest) = ap (λ ls. map Content ls ++ map
+      Content rest) (epochs-lines choices before own) ∙ ap (λ ls. ls ++ map Content rest)
+      (map-append Content old own_lines) ∙ append_assoc (map Content old) (map Content own_lines)
+      (map Content rest) in
       sym (block-reading (Content (first_line_of choices before first) ∷ map Content lines))
       ∙ ap (λ ls. reading_from compact_place true [] 3 (map Content old ++ ls)) same
-      ∙ ap (reading_from compact_place true [] 3) (sym joined)
-      ∙ up_to choices.every (with_epochs before own) (map Content rest) (own-in_place count)
+      ∙ ap (reading_from compact_place true [] 3) (sym joined) ∙ up_to choices.every (with_epochs before own)
+      (map Content rest) (own-in_place count)
 
   pub own-epochs : (lines : List (List ℕ)) (b : IsBlockRead (read_back choices.every before)
       (reading_from compact_place true (read_back choices.every before)
@@ -271,21 +257,16 @@ output-same : (every : Option ℕ) (before block all : List (Item Epoch)) (reads
     ≡ (printed_items before ++ flat_map printed_epoch (epochs_in reads))
     ++ drop (length (printed_items block)) (printed_items all)
 output-same every before block all reads warnings more rest =
-    let start : List (Item ReadEpoch) = read_back every before in
-    let items : List (Item ReadEpoch) = with_reads start reads in
-    let first : List (List ℕ) = printed_items before ++ flat_map printed_epoch (epochs_in reads) in
-    let parts : printed_items all ≡ printed_items block ++ expanded_lines more =
-    sym (printed-same every all) ∙ ap expanded_lines (sym rest)
-    ∙ lines-append more (read_back every block) ∙ ap (λ ls. ls ++ expanded_lines more)
-    (printed-same every block) in
-    let dropped : drop (length (printed_items block)) (printed_items all) ≡ expanded_lines more =
-    ap (drop (length (printed_items block))) parts ∙ drop-append_seam (printed_items block)
+    let start = read_back every before in
+    let items = with_reads start reads in
+    let first = printed_items before ++ flat_map printed_epoch (epochs_in reads) in
+    let parts : printed_items all ≡ printed_items block ++ expanded_lines more = cc
+    (printed-same every all, rest, lines-append more (read_back every block), printed-same every block) in
+    let dropped = ap (drop (length (printed_items block))) parts ∙ drop-append_seam (printed_items block)
     (expanded_lines more) in
-    let saved : expanded_lines (with_warnings warnings items) ≡ first =
-    lines-warned warnings items ∙ lines-read start reads
-    ∙ ap (λ ls. ls ++ flat_map printed_epoch (epochs_in reads)) (printed-same every before) in
-    lines-append more (with_warnings warnings items)
-    ∙ ap (λ ls. ls ++ expanded_lines more) saved ∙ ap (λ ls. first ++ ls) (sym dropped)
+    let saved = lines-warned warnings items ∙ lines-read start reads ∙ ap (λ ls. ls ++ flat_map printed_epoch
+    (epochs_in reads)) (printed-same every before) in
+    cc (lines-append more (with_warnings warnings items), saved, dropped)
 
 warnings-same : (every : Option ℕ) (before block all : List (Item Epoch)) (reads : List ReadEpoch)
     (warnings : List At) (more : List (Item ReadEpoch)) → more ++ read_back every block ≡ read_back every all
@@ -371,17 +352,13 @@ saved-lines input choices expanding damaged dated skips d =
 pub of-compaction : (input : List ℕ) (choices : Choices) (damaged : List ℕ)
     (d : IsDamaged input choices damaged) → IsOfCompaction input choices damaged d
 of-compaction input choices damaged d =
-    let p : IsPlaced choices d.before d.first d.others d.after = placed input choices damaged d in
-    let block : List (Item Epoch) = block_of d.before d.first d.others in
-    let head : List (List ℕ) = compact_lines choices d.before
-    ++ lines_of_epochs choices d.before (d.first ∷ d.others) in
-    let same : whole_rinex choices.skip (map seen (lines_of input)) ≡ whole_of input =
-    same-reading choices.skip (map seen (lines_of input)) d.standard.good in
-    ap (λ (w : WholeReading Epoch). lines_text (compact_lines choices w.items)) same
-    ∙ ap (λ all. lines_text (compact_lines choices all)) d.parts
+    let p = placed input choices damaged d in
+    let block = block_of d.before d.first d.others in
+    let head = compact_lines choices d.before ++ lines_of_epochs choices d.before (d.first ∷ d.others) in
+    ap (λ (w : WholeReading Epoch). lines_text (compact_lines choices w.items)) (same-reading choices.skip
+    (map seen (lines_of input)) d.standard.good) ∙ ap (λ all. lines_text (compact_lines choices all)) d.parts
     ∙ ap lines_text (lines-parts choices d.before d.first d.others d.after p)
-    ∙ ap (λ ls. lines_text (ls ++ lines_on choices.every d.after block))
-    (block-parts choices d.before d.first d.others d.after p)
-    ∙ text-append head (lines_on choices.every d.after block)
-    ∙ ap (λ ls. lines_text head ++ lines_text ls) (sym (after-same choices d.before d.first d.others
-    d.after p)) ∙ ap (λ all. lines_text head ++ lines_text (lines_after choices block all)) (sym d.parts)
+    ∙ ap (λ ls. lines_text (ls ++ lines_on choices.every d.after block)) (block-parts choices d.before d.first
+    d.others d.after p) ∙ text-append head (lines_on choices.every d.after block)
+    ∙ ap (λ ls. lines_text head ++ lines_text ls) (sym (after-same choices d.before d.first d.others d.after
+    p)) ∙ ap (λ all. lines_text head ++ lines_text (lines_after choices block all)) (sym d.parts)

@@ -1,6 +1,5 @@
 -- Damaged compact text, cut into lines: those that the compaction wrote before the block and after it, and
--- the lines in
--- place of the block's.
+-- the lines in place of the block's.
 use Rattle.crx_filter.proofs.Words.{ℕ, ◌≡◌, ◌≢◌, ◌⊎◌, inl, inr, Bool, true, false, not, cond, List, [], ◌∷◌}
 use Rattle.crx_filter.proofs.Words.{◌++◌, map, refl, ap, sym, ◌∙◌, subst, append_assoc, append-nil, ◌==◌}
 use Rattle.crx_filter.proofs.Words.{AllByRecursion, list_all, eqb_tells, map-append, flat_map-append}
@@ -67,15 +66,12 @@ pub front-cut : (lines : List (List ℕ)) (text : List ℕ) → AllByRecursion I
     → map seen (lines_of (lines_text lines ++ text)) ≡ map Content lines ++ map seen (lines_of text)
 front-cut [] text h = refl
 front-cut (line ∷ lines) text h =
-    let same : lines_text (line ∷ lines) ++ text ≡ line ++ 10 ∷ (lines_text lines ++ text) =
-    ap (λ t. t ++ text) (append_assoc line (10 ∷ []) (lines_text lines))
+    let same = ap (λ t. t ++ text) (append_assoc line (10 ∷ []) (lines_text lines))
     ∙ append_assoc line (10 ∷ lines_text lines) text in
-    let pieces : pieces_of (line ++ 10 ∷ (lines_text lines ++ text))
-    ≡ record { bytes = line; is_ended = true } ∷ pieces_of (lines_text lines ++ text) =
-    pieces-first line (lines_text lines ++ text) (IsClean.one_line h.0) in
-    ap (λ t. map seen (lines_of t)) same ∙ ap (λ ps. map seen (map line_of ps)) pieces
-    ∙ ap (λ l. l ∷ map seen (lines_of (lines_text lines ++ text))) (seen-clean line h.0)
-    ∙ ap (λ ls. Content line ∷ ls) (front-cut lines text h.1)
+    ap (λ t. map seen (lines_of t)) same ∙ ap (λ ps. map seen (map line_of ps)) (pieces-first line
+    (lines_text lines ++ text) (IsClean.one_line h.0)) ∙ ap (λ l. l ∷ map seen (lines_of
+    (lines_text lines ++ text))) (seen-clean line h.0) ∙ ap (λ ls. Content line ∷ ls)
+    (front-cut lines text h.1)
 
 -- the lines before a block and its first, those that come in place of the others, and those after it
 pub damaged-cut : (front : List (List ℕ)) (instead : List ℕ) (rest : List (List ℕ))
@@ -84,21 +80,16 @@ pub damaged-cut : (front : List (List ℕ)) (instead : List ℕ) (rest : List (L
     → map seen (lines_of (lines_text front ++ (instead ++ lines_text rest)))
     ≡ map Content front ++ (map seen (lines_of instead) ++ map Content rest)
 damaged-cut front instead rest h k (inl none) =
-    let last : map seen (lines_of instead) ≡ map seen (lines_of instead) ++ map Content rest =
-    subst (λ (ls : List (List ℕ)). map seen (lines_of instead)
-    ≡ map seen (lines_of instead) ++ map Content ls)
-    (sym none) (sym (append-nil (map seen (lines_of instead)))) in
-    let text : instead ++ lines_text rest ≡ instead =
-    ap (λ (ls : List (List ℕ)). instead ++ lines_text ls) none ∙ append-nil instead in
-    front-cut front (instead ++ lines_text rest) h ∙ ap (λ t. map Content front ++ map seen (lines_of t)) text
+    let last : map seen (lines_of instead) ≡ map seen (lines_of instead) ++ map Content rest = rw none
+    (sym (append-nil (map seen (lines_of instead)))) in
+    front-cut front (instead ++ lines_text rest) h ∙ ap (λ t. map Content front ++ map seen (lines_of t))
+    (ap (λ (ls : List (List ℕ)). instead ++ lines_text ls) none ∙ append-nil instead)
     ∙ ap (λ ls. map Content front ++ ls) last
 damaged-cut front instead rest h k (inr all) =
-    let last : map seen (lines_of (lines_text rest)) ≡ map Content rest =
-    ap (λ t. map seen (lines_of t)) (sym (append-nil (lines_text rest)))
-    ∙ front-cut rest [] k ∙ append-nil (map Content rest) in
-    front-cut front (instead ++ lines_text rest) h
-    ∙ ap (λ ls. map Content front ++ ls) (lines-append instead (lines_text rest)
-    (each-ended (pieces_of instead) all))
+    let last = ap (λ t. map seen (lines_of t)) (sym (append-nil (lines_text rest))) ∙ front-cut rest [] k
+    ∙ append-nil (map Content rest) in
+    front-cut front (instead ++ lines_text rest) h ∙ ap (λ ls. map Content front ++ ls)
+    (lines-append instead (lines_text rest) (each-ended (pieces_of instead) all))
     ∙ ap (λ ls. map Content front ++ (map seen (lines_of instead) ++ ls)) last
 
 -- ---- the lines in place of the block's
@@ -108,14 +99,13 @@ pub instead-inside : (lines : List InputLine) → list_all may_replace lines ≡
     → (map seen lines ≡ map Content (contents lines)) × AllByRecursion IsInside (map Content (contents lines))
 instead-inside [] e = (refl, tt)
 instead-inside (line ∷ lines) e =
-    let one : may_replace line ≡ true = (and_parts (may_replace line) (list_all may_replace lines) e).0 in
+    let one = (and_parts (may_replace line) (list_all may_replace lines) e).0 in
     let rest = instead-inside lines (and_parts (may_replace line) (list_all may_replace lines) e).1 in
-    let short : is_long line ≡ false =
-    not-true (is_long line) (and_parts (not (is_long line)) (not (begins_epoch line.content)) one).0 in
-    let inside : begins_epoch line.content ≡ false = not-true
-    (begins_epoch line.content) (and_parts (not (is_long line)) (not (begins_epoch line.content)) one).1 in (
-      ap (λ b. cond b Overlong (Content line.content) ∷ map seen lines) short
-          ∙ ap (λ ls. Content line.content ∷ ls) rest.0,
+    let short = not-true (is_long line) (and_parts (not (is_long line)) (not (begins_epoch line.content))
+    one).0 in
+    let inside = not-true (begins_epoch line.content) (and_parts (not (is_long line))
+    (not (begins_epoch line.content)) one).1 in (
+      cc,
       (inside, rest.1),
     )
 

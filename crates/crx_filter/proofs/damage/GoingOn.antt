@@ -1,13 +1,12 @@
 -- After a damaged block: reading goes on at the next line that begins with >, with at most one warning before
 -- it.
-use Rattle.crx_filter.proofs.Words.{ℕ, suc, ◌≡◌, ◌+◌, ◌≤◌, max, inl, inr, true, false, List, [], ◌∷◌, ◌++◌}
-use Rattle.crx_filter.proofs.Words.{length, drop, Some, None, refl, ap, sym, ◌∙◌, subst, arith, length-append}
-use Rattle.crx_filter.proofs.Words.{drop-append_seam, ReadLine, Content, Overlong, At, Truncated}
-use Rattle.crx_filter.proofs.Words.{begins_epoch, is_event_line, Wanted, ReadEpoch, Item, Warned}
-use Rattle.crx_filter.proofs.Words.{header_has_ended, records_left, types_in_force, Reading, WholeReading}
-use Rattle.crx_filter.proofs.Words.{AtLines, is_skipped, looked_for, reading_within, reading_from}
-use Rattle.crx_filter.proofs.Words.{fault_at_end, ended_with, ended_reading, continued_reading, compact_place}
-use Rattle.crx_filter.proofs.Words.{IsBetweenUnits}
+use Rattle.crx_filter.proofs.Words
+use Words.{ℕ, suc, ◌≡◌, ◌+◌, ◌≤◌, max, inl, inr, true, false, List, [], ◌∷◌, ◌++◌, length, drop, Some, None}
+use Words.{refl, ap, sym, ◌∙◌, subst, arith, length-append, drop-append_seam, ReadLine, Content, Overlong, At}
+use Words.{Truncated, begins_epoch, is_event_line, Wanted, ReadEpoch, Item, Warned, header_has_ended}
+use Words.{records_left, types_in_force, Reading, WholeReading, AtLines, is_skipped, looked_for}
+use Words.{reading_within, reading_from, fault_at_end, ended_with, ended_reading, continued_reading}
+use Words.{compact_place, IsBetweenUnits}
 use Rattle.crx_filter.proofs.reading.Resuming.{enough-units, within-wrong, fault-skipped, looked-here}
 use Rattle.crx_filter.proofs.reading.ForwardCompact.{compact-forward}
 use Rattle.crx_filter.proofs.damage.BlockReading.{IsBlockText, EndsBlock, IsBlockRead, with_reads}
@@ -44,32 +43,28 @@ pub open-goes_on : (items : List (Item ReadEpoch)) (number : ℕ) (first : List 
     → GoesOnAt items (Content line ∷ tail)
     (reading_from compact_place true items number (Content first ∷ (rest ++ Content line ∷ tail)))
 open-goes_on items number first rest line tail h no_event e begins =
-    let open_lines : List ReadLine = Content first ∷ rest in
-    let all : List ReadLine = open_lines ++ Content line ∷ tail in
-    let offset : ℕ = suc (length rest) in
+    let open_lines = Content first ∷ rest in
+    let all = open_lines ++ Content line ∷ tail in
+    let offset = suc (length rest) in
     let at : At = record { line = number + offset; fault = Truncated } in
-    let n : ℕ = max offset 1 in
-    let on : is_skipped true items Truncated ≡ true = skipped-here items Truncated h refl in
-    let read : List (Item ReadEpoch)
-    → ℕ → List ReadLine → Reading ReadEpoch = reading_within compact_place true (length all) in
+    let n = max offset 1 in
+    let read = reading_within compact_place true (length all) in
     let past : n ≡ length open_lines = omega arith in
-    let left : drop n all ≡ Content line ∷ tail = ap (λ k. drop k all) past
-    ∙ drop-append_seam open_lines (Content line ∷ tail) in
-    let counted : length all ≡ length open_lines + length (Content line ∷ tail) =
-    length-append open_lines (Content line ∷ tail) in
     record {
       warnings = at ∷ [];
       few = omega arith;
       number = number + n;
-      same = enough-units compact_place compact-forward true
-          (length all + 1) (suc (length all)) items number all (omega arith) (omega arith)
+      same = enough-units compact_place compact-forward true (length all + 1) (suc (length all)) items number
+          all (omega arith) (omega arith)
           ∙ within-wrong compact_place true (length all) items number all offset Truncated
           (place-cut items first rest line tail h no_event begins e)
-          ∙ fault-skipped true read items number all offset Truncated on
-          ∙ ap (λ ls. looked_for (read (Warned at ∷ items)) (Warned at ∷ items) (number + n) ls) left
+          ∙ fault-skipped true read items number all offset Truncated (skipped-here items Truncated h refl)
+          ∙ ap (λ ls. looked_for (read (Warned at ∷ items)) (Warned at ∷ items) (number + n) ls)
+          (ap (λ k. drop k all) past ∙ drop-append_seam open_lines (Content line ∷ tail))
           ∙ looked-here (read (Warned at ∷ items)) (Warned at ∷ items) (number + n) (Content line) tail begins
           ∙ enough-units compact_place compact-forward true (length all) (length (Content line ∷ tail) + 1)
-          (Warned at ∷ items) (number + n) (Content line ∷ tail) (omega (arith, counted)) (omega arith);
+          (Warned at ∷ items) (number + n) (Content line ∷ tail)
+          (omega (arith, length-append open_lines (Content line ∷ tail))) (omega arith);
     }
 
 cut-goes_on : (items : List (Item ReadEpoch)) (number : ℕ) (rest : List ReadLine) (line : List ℕ)
@@ -146,12 +141,9 @@ ends-inside (item ∷ before) number line rest h =
 ends-after : (items : List (Item ReadEpoch)) (r : Reading ReadEpoch)
     → IsBetweenUnits items → EndsBlock items r → EndsAfter items (ended_reading true r)
 ends-after items r h (inl (number, [], text, e, is)) =
-    record { warnings = []; few = omega arith; same = ap (ended_reading true) is ∙ ends-well items number h }
-ends-after items r h (inl (number, line ∷ rest, text, e, is)) =
-    subst (λ (s : Reading ReadEpoch). EndsAfter items (ended_reading true s))
-    (sym is) (ends-inside items number line rest h)
-ends-after items r h (inr (at, number, is)) =
-    record { warnings = at ∷ []; few = omega arith; same = ap (ended_reading true) is }
+    record { warnings = []; few = omega arith; same = cc (is, ends-well items number h) }
+ends-after items r h (inl (number, line ∷ rest, text, e, is)) = rw is (ends-inside items number line rest h)
+ends-after items r h (inr (at, number, is)) = record { warnings = at ∷ []; few = omega arith; same = cc }
 
 -- after a block that was read, at the end of the input
 pub block-ends : (items : List (Item ReadEpoch)) (r : Reading ReadEpoch) (h : IsBlockRead items r)

@@ -78,8 +78,7 @@ left-append (Accepted unit ∷ later) one two e = refl
 good-before : (items : List (Item ReadEpoch)) (reads : List ReadEpoch)
     → AreGoodEpochs (with_reads items reads) → AreGoodEpochs items
 good-before items [] h = h
-good-before items (read ∷ later) h = let more = good-before
-    (Accepted (Observation read) ∷ items) later h in more.1
+good-before items (read ∷ later) h = (good-before (Accepted (Observation read) ∷ items) later h).1
 
 whole-reads : (items : List (Item ReadEpoch)) (reads : List ReadEpoch)
     → AreGoodEpochs (with_reads items reads) → AllByRecursion (IsWholeEpoch (types_in_force items))
@@ -91,16 +90,13 @@ whole-reads items (read ∷ later) h =
 
 read-ends : (items : List (Item ReadEpoch)) (r : Reading ReadEpoch)
     → EndsBlock items r → ItemsAreRead compact_place r.items → ItemsAreRead compact_place items
-read-ends items r (inl (number, rest, text, e, is)) h =
-    subst (λ (s : Reading ReadEpoch). ItemsAreRead compact_place s.items) is h
-read-ends items r (inr (at, number, is)) h = let all =
-    subst (λ (s : Reading ReadEpoch). ItemsAreRead compact_place s.items) is h in all.1
+read-ends items r (inl (number, rest, text, e, is)) h = rw is at h
+read-ends items r (inr (at, number, is)) h = (rw is at h).1
 
 pub whole-block : (items : List (Item ReadEpoch)) (reads : List ReadEpoch) (r : Reading ReadEpoch)
     → EndsBlock (with_reads items reads) r → ItemsAreRead compact_place r.items
     → AllByRecursion (IsWholeEpoch (types_in_force items)) (epochs_in reads)
-whole-block items reads r ends h = whole-reads items reads (epochs-good (with_reads items reads)
-    (read-ends (with_reads items reads) r ends h))
+whole-block items reads r ends h = whole-reads _ _ (epochs-good _ (read-ends _ _ ends h))
 
 -- ---- which epochs were read
 
@@ -119,10 +115,8 @@ epochs-read items (read ∷ later) = epochs-read (Accepted (Observation read) �
 
 pub epochs-ended : (items : List (Item ReadEpoch)) (reads : List ReadEpoch) (r : Reading ReadEpoch)
     → EndsBlock (with_reads items reads) r → epochs_of r.items ≡ epochs_of items ++ epochs_in reads
-epochs-ended items reads r (inl (number, rest, text, e, is)) =
-    ap (λ (s : Reading ReadEpoch). epochs_of s.items) is ∙ epochs-read items reads
-epochs-ended items reads r (inr (at, number, is)) = ap (λ (s : Reading ReadEpoch). epochs_of s.items) is
-    ∙ epochs-read items reads
+epochs-ended items reads r (inl (number, rest, text, e, is)) = cc (is, epochs-read items reads)
+epochs-ended items reads r (inr (at, number, is)) = cc (is, epochs-read items reads)
 
 pub epochs-back : (every : Option ℕ) (before : List (Item Epoch)) (epochs : List Epoch)
     → epochs_of (read_back every (with_epochs before epochs)) ≡ epochs_of (read_back every before) ++ epochs

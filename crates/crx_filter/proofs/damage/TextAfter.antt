@@ -1,16 +1,13 @@
 -- The compact text that a compaction writes after a block: it is read, whatever the line numbers are, as its
--- units; and
--- all starts anew at its first line.
-use Rattle.crx_filter.proofs.Words.{ℕ, zero, suc, ◌≡◌, ◌+◌, ◌-◌, ◌<◌, Bool, true, false, cond, List, [], ◌∷◌}
-use Rattle.crx_filter.proofs.Words.{◌++◌, map, length, Option, refl, ap, sym, ◌∙◌, arith, length-append}
-use Rattle.crx_filter.proofs.Words.{append-nil, append_assoc, ◌&&◌, ◌||◌, map-append, length-map, and_parts}
-use Rattle.crx_filter.proofs.Words.{character_at, ReadLine, Content, Epoch, begins_epoch, is_event_flag}
-use Rattle.crx_filter.proofs.Words.{is_event_line, Here, HeaderLine, EventLine, EventRecord, Observation}
-use Rattle.crx_filter.proofs.Words.{Marked, compact_epoch, epoch_line, LinesCanStand, Choices, Item, Accepted}
-use Rattle.crx_filter.proofs.Words.{Warned, header_has_ended, records_announced, records_left, AtLines}
-use Rattle.crx_filter.proofs.Words.{reading_from, continued_reading, AreInPlace, written_lines}
-use Rattle.crx_filter.proofs.Words.{is_interrupted, is_at_every, is_in_full, marked_epochs, epochs_accepted}
-use Rattle.crx_filter.proofs.Words.{compact_place, starts_anew, BeginsAnew}
+-- units; and all starts anew at its first line.
+use Rattle.crx_filter.proofs.Words
+use Words.{ℕ, zero, suc, ◌≡◌, ◌+◌, ◌-◌, ◌<◌, Bool, true, false, cond, List, [], ◌∷◌, ◌++◌, map, length}
+use Words.{Option, refl, ap, sym, ◌∙◌, arith, length-append, append-nil, append_assoc, ◌&&◌, ◌||◌, map-append}
+use Words.{length-map, and_parts, character_at, ReadLine, Content, Epoch, begins_epoch, is_event_flag}
+use Words.{is_event_line, Here, HeaderLine, EventLine, EventRecord, Observation, Marked, compact_epoch}
+use Words.{epoch_line, LinesCanStand, Choices, Item, Accepted, Warned, header_has_ended, records_announced}
+use Words.{records_left, AtLines, reading_from, continued_reading, AreInPlace, written_lines, is_interrupted}
+use Words.{is_at_every, is_in_full, marked_epochs, epochs_accepted, compact_place, starts_anew, BeginsAnew}
 use Rattle.crx_compact.specs.Laws.{has_no_epochs}
 use Rattle.crx_filter.proofs.reading.Resuming.{within-wanted, resumed}
 use Rattle.crx_filter.proofs.reading.ForwardCompact.{compact-forward}
@@ -45,29 +42,25 @@ pub reads-on : (every : Option ℕ) (skip : Bool) (number : ℕ) (later before :
       items = read_back every (later ++ before);
       stop = AtLines (number + length (lines_on every later before)) [];
     }
-reads-on every skip number [] before h = within-wanted compact_place skip 0
-    (read_back every before) number [] (compact-forward.wants (read_back every before))
-    ∙ at-line (read_back every before) number (number + 0) (omega arith)
+reads-on every skip number [] before h = within-wanted compact_place skip 0 (read_back every before) number []
+    (compact-forward.wants (read_back every before)) ∙ at-line (read_back every before) number (number + 0)
+    (omega arith)
 reads-on every skip number (Warned at ∷ later) before h = reads-on every skip number later before h.1
 reads-on every skip number (Accepted unit ∷ later) before h =
-    let first : List (List ℕ) = lines_on every later before in
-    let more : List (List ℕ) = body_unit every (later ++ before) unit in
-    let same : length (map Content more) ≡ length more = length-map more Content in
-    let all : length (first ++ more) ≡ length first + length more = length-append first more in
-    let here : compact_place (read_back every (later ++ before)) (map Content more)
-    ≡ Here (unit_back every (later ++ before) unit) (length (map Content more)) =
-    unit-here every (later ++ before) unit h ∙ ap (λ n. Here (unit_back every (later ++ before) unit) n)
-    (sym same) in
-    ap (λ ls. reading_from compact_place skip (read_back every before) number ls)
-    (map-append Content first more)
-    ∙ resumed compact_place compact-forward skip (read_back every before) number (map Content first)
+    let first = lines_on every later before in
+    let more = body_unit every (later ++ before) unit in
+    let same = length-map more Content in
+    let all = length-append first more in
+    let here = unit-here every (later ++ before) unit h ∙ ap (λ n. Here (unit_back every (later ++ before)
+    unit) n) (cc) in
+    ap (λ ls. reading_from compact_place skip (read_back every before) number ls) (map-append Content first
+    more) ∙ resumed compact_place compact-forward skip (read_back every before) number (map Content first)
     (map Content more) ∙ ap (λ r. continued_reading compact_place skip r (map Content more))
-    (reads-on every skip number later before h.1)
-    ∙ one-unit compact_place compact-forward skip (read_back every (later ++ before))
-    (number + length first) (map Content more) (unit_back every (later ++ before) unit) here
-    ∙ at-line (Accepted (unit_back every (later ++ before) unit) ∷ read_back every (later ++ before))
-    (number + length first + length (map Content more)) (number + length (first ++ more))
-    (omega (arith, same, all))
+    (reads-on every skip number later before h.1) ∙ one-unit compact_place compact-forward skip
+    (read_back every (later ++ before)) (number + length first) (map Content more) (unit_back every
+    (later ++ before) unit) here ∙ at-line (Accepted (unit_back every (later ++ before) unit) ∷ read_back
+    every (later ++ before)) (number + length first + length (map Content more)) (number + length
+    (first ++ more)) (omega (arith, same, all))
 
 -- ---- all starts anew
 
@@ -117,15 +110,11 @@ event-begins line e = (and_parts (begins_epoch line) (is_event_flag (character_a
 anew-event : (line : List ℕ) (more : List ReadLine)
     → is_event_line line ≡ true → starts_anew 0 (Content line ∷ more)
     ≡ starts_anew (records_announced line) more
-anew-event line more e =
-    ap (λ b. b && cond (is_event_line line) (starts_anew (records_announced line) more) true)
-    (event-begins line e) ∙ ap (λ b. cond b (starts_anew (records_announced line) more) true) e
+anew-event line more e = cc (event-begins line e, e)
 
 anew-epoch : (line : List ℕ) (more : List ReadLine)
     → begins_epoch line ≡ true → is_event_line line ≡ false → starts_anew 0 (Content line ∷ more) ≡ true
-anew-epoch line more begins e =
-    ap (λ b. b && cond (is_event_line line) (starts_anew (records_announced line) more) true) begins
-    ∙ ap (λ b. cond b (starts_anew (records_announced line) more) true) e
+anew-epoch line more begins e = cc
 
 anew-record : (n : ℕ) (line : List ℕ) (more : List ReadLine)
     → 0 < n → starts_anew n (Content line ∷ more) ≡ starts_anew (n - 1) more
@@ -141,36 +130,32 @@ GoesAnew choices block items =
 goes-anew : (choices : Choices) (block items : List (Item Epoch)) → header_has_ended block ≡ true
     → records_left block
     ≡ 0 → AreInPlace (items ++ block) → BeginsAnew choices block items → GoesAnew choices block items
-goes-anew choices block [] header none h k more = ap (λ n. starts_anew n more) (sym none)
+goes-anew choices block [] header none h k more = cc
 goes-anew choices block (Accepted (HeaderLine line) ∷ items) header none h k more = let never = sym (h.0).0
     ∙ header-append items block header in absurd (cc)
-goes-anew choices block (Accepted (EventLine line) ∷ items) header none h k more =
-    ap (starts_anew 0) (one-more (lines_on choices.every items block) line more)
-    ∙ goes-anew choices block items header none h.1
+goes-anew choices block (Accepted (EventLine line) ∷ items) header none h k more = ap (starts_anew 0)
+    (one-more (lines_on choices.every items block) line more) ∙ goes-anew choices block items header none h.1
     (begins-rest choices block (Accepted (EventLine line)) items k) (Content line ∷ more)
     ∙ ap (λ n. cond (has_observation items) true (starts_anew n (Content line ∷ more))) (h.0).1
     ∙ ap (λ b. cond (has_observation items) true b) (anew-event line more (h.0).2)
-goes-anew choices block (Accepted (EventRecord line) ∷ items) header none h k more =
-    ap (starts_anew 0) (one-more (lines_on choices.every items block) line more)
-    ∙ goes-anew choices block items header none h.1
+goes-anew choices block (Accepted (EventRecord line) ∷ items) header none h k more = ap (starts_anew 0)
+    (one-more (lines_on choices.every items block) line more) ∙ goes-anew choices block items header none h.1
     (begins-rest choices block (Accepted (EventRecord line)) items k) (Content line ∷ more)
     ∙ ap (λ b. cond (has_observation items) true b) (anew-record (records_left (items ++ block)) line more
     (h.0).1)
 goes-anew choices block (Accepted (Observation epoch) ∷ items) header none h k more =
-    let before : List (Item Epoch) = items ++ block in
-    let m : Marked = marked_now choices.every before epoch in
-    let older : List Marked = marked_epochs choices.every before in
-    let lines : List (List ℕ) = compact_epoch (m ∷ older) in
-    let stands : LinesCanStand m older = epoch-stands choices.every before epoch h in
-    let first : List (List ℕ) = lines_on choices.every items block in
+    let before = items ++ block in
+    let m = marked_now choices.every before epoch in
+    let older = marked_epochs choices.every before in
+    let lines = compact_epoch (m ∷ older) in
+    let stands = epoch-stands choices.every before epoch h in
+    let first = lines_on choices.every items block in
     ap (λ ls. starts_anew 0 (ls ++ more)) (map-append Content first lines)
     ∙ ap (starts_anew 0) (append_assoc (map Content first) (map Content lines) more)
-    ∙ goes-anew choices block items header none h.1
-    (begins-rest choices block (Accepted (Observation epoch)) items k) (map Content lines ++ more)
-    ∙ by_observation (has_observation items) refl (starts_anew (records_left before)
-    (map Content lines ++ more))
-    (λ no_epoch.
-    ap (λ n. starts_anew n (map Content lines ++ more)) (h.0).1
+    ∙ goes-anew choices block items header none h.1 (begins-rest choices block (Accepted (Observation epoch))
+    items k) (map Content lines ++ more) ∙ by_observation (has_observation items) refl
+    (starts_anew (records_left before) (map Content lines ++ more))
+    (λ no_epoch. ap (λ n. starts_anew n (map Content lines ++ more)) (h.0).1
     ∙ anew-epoch (epoch_line m older) (map Content (tail_of lines) ++ more) (stands.first
     ∙ ap (λ b. b || has_no_epochs older) (first-full choices block epoch items k no_epoch))
     (stands.no_event).0)
@@ -183,9 +168,9 @@ goes-anew choices block (Accepted (Observation epoch) ∷ items) header none h k
         → (c : Bool) → (has_observation items ≡ false → c ≡ true) → cond b true c ≡ true
     by_observation true e c h = refl
     by_observation false e c h = h e
-goes-anew choices block (Warned at ∷ items) header none h k more =
-    goes-anew choices block items header none h.1 (begins-rest choices block (Warned at) items k) more
-    ∙ ap (λ n. cond (has_observation items) true (starts_anew n more)) (h.0).1
+goes-anew choices block (Warned at ∷ items) header none h k more = goes-anew choices block items header none
+    h.1 (begins-rest choices block (Warned at) items k) more ∙ ap (λ n. cond (has_observation items) true
+    (starts_anew n more)) (h.0).1
 
 no-more : (n : ℕ) → starts_anew n [] ≡ true
 no-more zero = refl

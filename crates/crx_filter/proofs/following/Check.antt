@@ -17,8 +17,7 @@ printed_after before = printed_unit
 check-same : AreSame checking totals_of printed_after no_choices
 check-same = record {
   same = λ items lines epoch count here. record {
-    kept = λ number phase types kept either. ap (λ (k : Totals). checking.kept_after
-        (seen_in no_choices number phase types k) (Observation epoch)) (either-same either);
+    kept = λ number phase types kept either. cc (either-same either);
     lines = λ number phase types kept either. refl;
   };
 }

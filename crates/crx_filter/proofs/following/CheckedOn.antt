@@ -1,13 +1,11 @@
 -- A check is given one line more.
-use Rattle.crx_filter.proofs.Words.{ℕ, ◌≡◌, ◌+◌, true, false, cond, List, [], ◌∷◌, ◌++◌, map, length, Option}
-use Rattle.crx_filter.proofs.Words.{Some, None, refl, ap, sym, ◌∙◌, subst, arith, length-append, append-nil}
-use Rattle.crx_filter.proofs.Words.{append_assoc, map-append, length-map, none-some, InputLine, ReadLine}
-use Rattle.crx_filter.proofs.Words.{seen, At, Epoch, last_line, Reading, rinex_reading, rinex_open, Seen}
-use Rattle.crx_filter.proofs.Words.{Step, made_in, seen_next, seen_of, phase_of, Fed, fed, fed_once}
-use Rattle.crx_filter.proofs.Words.{failed_by, is_again, fault_of_stop, printed_items, is_standard_line}
-use Rattle.crx_filter.proofs.Words.{first_not_standard, Totals, checking, totals_of, printed_open}
-use Rattle.crx_filter.proofs.Words.{printed_so_far, printed_made, earliest, CheckSeen, no_choices, check_seen}
-use Rattle.crx_filter.proofs.Words.{check_next, OpenEpoch}
+use Rattle.crx_filter.proofs.Words
+use Words.{ℕ, ◌≡◌, ◌+◌, true, false, cond, List, [], ◌∷◌, ◌++◌, map, length, Option, Some, None, refl, ap}
+use Words.{sym, ◌∙◌, subst, arith, length-append, append-nil, append_assoc, map-append, length-map, none-some}
+use Words.{InputLine, ReadLine, seen, At, Epoch, last_line, Reading, rinex_reading, rinex_open, Seen, Step}
+use Words.{made_in, seen_next, seen_of, phase_of, Fed, fed, fed_once, failed_by, is_again, fault_of_stop}
+use Words.{printed_items, is_standard_line, first_not_standard, Totals, checking, totals_of, printed_open}
+use Words.{printed_so_far, printed_made, earliest, CheckSeen, no_choices, check_seen, check_next, OpenEpoch}
 use Rattle.crx_filter.specs.CheckingLaws.{IsCheckedOn}
 use Rattle.crx_filter.proofs.following.Following.{fed-once}
 use Rattle.crx_filter.proofs.reading.StaysEnded.{rinex-stays}
@@ -23,8 +21,7 @@ reading_seen lines = seen_of checking rinex_open totals_of no_choices (length li
 
 pub same-seen : (lines : List InputLine) → CheckSeen.reading (check_seen lines)
     ≡ reading_seen (map seen lines)
-same-seen lines = ap (λ n. seen_of checking rinex_open totals_of no_choices n
-    (rinex_reading false (map seen lines))) (sym (length-map lines seen))
+same-seen lines = cc (length-map lines seen)
 
 once-again : (lines : List ReadLine) (line : ReadLine)
     → is_again (seen_next checking (reading_seen lines) line).answer ≡ false
@@ -51,32 +48,26 @@ record IsOneOn (lines : List ReadLine) (line : ReadLine) : Type 0 where
 
 one-on : (lines : List ReadLine) (line : ReadLine) → IsOneOn lines line
 one-on lines line =
-    let s : Seen OpenEpoch Totals = reading_seen lines in
-    let step : Step OpenEpoch Totals = seen_next checking s line in
-    let once : fed checking s line ≡ fed_once step = fed-once checking s line (once-again lines line) in
+    let s = reading_seen lines in
+    let step = seen_next checking s line in
+    let once = fed-once checking s line (once-again lines line) in
     let h = more-line check-carried_out 1 (length lines) (length (lines ++ line ∷ [])) lines
     (lines ++ line ∷ []) line (omega arith) (length-append lines (line ∷ [])) refl in
-    let before : Reading Epoch = rinex_reading false lines in
-    let after : Reading Epoch = rinex_reading false (lines ++ line ∷ []) in
-    let next : reading_seen (lines ++ line ∷ []) ≡ step.next = h.next
-    ∙ ap (λ (f : Fed OpenEpoch Totals). f.next) once in
-    let handed_out : printed_items after.items ≡ printed_items before.items ++ step.handed_out = h.handed_out
-    ∙ ap (λ (f : Fed OpenEpoch Totals). printed_items before.items ++ f.handed_out) once in
-    let failed : fault_of_stop after.stop ≡ failed_by step.answer = h.failed
-    ∙ ap (λ (f : Fed OpenEpoch Totals). f.failed) once in
-    let phase : phase_of rinex_open after ≡ step.next.phase =
-    ap (λ (t : Seen OpenEpoch Totals). t.phase) next in
+    let before = rinex_reading false lines in
+    let next = h.next ∙ ap (λ (f : Fed OpenEpoch Totals). f.next) once in
+    let handed_out = h.handed_out ∙ ap (λ (f : Fed OpenEpoch Totals). printed_items before.items ++
+    f.handed_out) once in
+    let failed = h.failed ∙ ap (λ (f : Fed OpenEpoch Totals). f.failed) once in
     record {
       fault = failed;
       next = next;
-      printed = λ none.
-          ap (λ ls. ls ++ printed_open (phase_of rinex_open after)) handed_out
-          ∙ ap (λ p. (printed_items before.items ++ step.handed_out) ++ printed_open p) phase
+      printed = λ none. ap (λ ls. ls ++ printed_open (phase_of rinex_open (rinex_reading false
+          (lines ++ line ∷ [])))) handed_out ∙ ap (λ p. (printed_items before.items ++ step.handed_out) ++
+          printed_open p) (ap (λ (t : Seen OpenEpoch Totals). t.phase) next)
           ∙ append_assoc (printed_items before.items) step.handed_out (printed_open step.next.phase)
-          ∙ ap (λ ls. printed_items before.items ++ ls)
-          (line-grows (length lines) s.phase s.types s.kept line (phase-reached lines) (sym failed ∙ none))
-          ∙ sym (append_assoc (printed_items before.items) (printed_open s.phase)
-          (given_back lines line ∷ []));
+          ∙ ap (λ ls. printed_items before.items ++ ls) (line-grows (length lines) s.phase s.types s.kept line
+          (phase-reached lines) (sym failed ∙ none)) ∙ sym (append_assoc (printed_items before.items)
+          (printed_open s.phase) (given_back lines line ∷ []));
     }
 
 -- ---- as many lines are printed as have come
@@ -97,27 +88,22 @@ good-before lines line none = one-less lines line none (fault_of_stop (rinex_rea
 
 all-before : (more lines : List ReadLine) → fault_of_stop (rinex_reading false (lines ++ more)).stop ≡ None
     → fault_of_stop (rinex_reading false lines).stop ≡ None
-all-before [] lines none = subst (λ ls. fault_of_stop (rinex_reading false ls).stop ≡ None)
-    (append-nil lines) none
+all-before [] lines none = rw (← append-nil lines) none
 all-before (line ∷ more) lines none = good-before lines line (all-before more (lines ++ line ∷ [])
-    (subst (λ ls. fault_of_stop (rinex_reading false ls).stop ≡ None)
-    (sym (append_assoc lines (line ∷ []) more)) none))
+    (rw (append_assoc lines (line ∷ []) more) none))
 
 as-many-on : (more lines : List ReadLine) → length (printed_of lines) ≡ length lines → fault_of_stop
     (rinex_reading false (lines ++ more)).stop ≡ None → length (printed_of (lines ++ more))
     ≡ length (lines ++ more)
-as-many-on [] lines h none = ap (λ ls. length (printed_of ls)) (append-nil lines)
-    ∙ h ∙ ap length (sym (append-nil lines))
+as-many-on [] lines h none = cc (append-nil lines, h, append-nil lines)
 as-many-on (line ∷ more) lines h none =
-    let same : (lines ++ line ∷ []) ++ more ≡ lines ++ line ∷ more = append_assoc lines (line ∷ []) more in
-    let good : fault_of_stop (rinex_reading false ((lines ++ line ∷ []) ++ more)).stop ≡ None =
-    subst (λ ls. fault_of_stop (rinex_reading false ls).stop ≡ None) (sym same) none in
-    let one = one-on lines line in
-    let first : length (printed_of (lines ++ line ∷ [])) ≡ length (lines ++ line ∷ []) =
-    ap length (one.printed (all-before more (lines ++ line ∷ []) good)) ∙ length-append
-    (printed_of lines) (given_back lines line ∷ []) ∙ ap (λ n. n + 1) h
+    let same = append_assoc lines (line ∷ []) more in
+    let good = subst (λ ls. fault_of_stop (rinex_reading false ls).stop ≡ None) (sym same) none in
+    let first : length (printed_of (lines ++ line ∷ [])) ≡ length (lines ++ line ∷ []) = ap length
+    ((one-on lines line).printed (all-before more (lines ++ line ∷ []) good))
+    ∙ length-append (printed_of lines) (given_back lines line ∷ []) ∙ ap (λ n. n + 1) h
     ∙ sym (length-append lines (line ∷ [])) in
-    subst (λ ls. length (printed_of ls) ≡ length ls) same (as-many-on more (lines ++ line ∷ []) first good)
+    rw same at (as-many-on more (lines ++ line ∷ []) first good)
 
 pub as-many : (lines : List ReadLine)
     → fault_of_stop (rinex_reading false lines).stop ≡ None → length (printed_of lines) ≡ length lines
@@ -135,13 +121,10 @@ first-on number (l ∷ lines) (t ∷ texts) line text e =
     let same : length texts ≡ length lines = omega (arith, e) in
     let rest = first-on (number + 1) lines texts line text same in
     let counted : (number + 1) + length lines ≡ number + length (l ∷ lines) = omega arith in
-    elim (is_standard_line l t) as (λ b. cond b (first_not_standard (number + 1) (lines ++ line ∷ []) (texts
-    ++ text ∷ [])) (Some number) ≡ earliest (cond b (first_not_standard (number + 1) lines texts)
-    (Some number))
-    (is_standard_line line text) (number + length (l ∷ lines))) [
-      | true ↦ rest
-          ∙ ap (λ n. earliest (first_not_standard (number + 1) lines texts)
-          (is_standard_line line text) n) counted
+    elim (is_standard_line l t) as (λ b. cond b (first_not_standard (number + 1) (lines ++ line ∷ [])
+    (texts ++ text ∷ [])) (Some number) ≡ earliest (cond b (first_not_standard (number + 1) lines texts)
+    (Some number)) (is_standard_line line text) (number + length (l ∷ lines))) [
+      | true ↦ cc
       | false ↦ refl
     ]
 
@@ -149,42 +132,24 @@ first-on number (l ∷ lines) (t ∷ texts) line text e =
 
 pub checked-on : (lines : List InputLine) (line : InputLine) → IsCheckedOn lines line
 checked-on lines line =
-    let split : map seen (lines ++ line ∷ []) ≡ map seen lines ++ seen line ∷ [] =
-    map-append seen lines (line ∷ []) in
+    let split = map-append seen lines (line ∷ []) in
     let one = one-on (map seen lines) (seen line) in
-    let same : CheckSeen.reading (check_seen lines) ≡ reading_seen (map seen lines) = same-seen lines in
+    let same = same-seen lines in
     record {
-      once = ap (λ (s : Seen OpenEpoch Totals). is_again (seen_next checking s (seen line)).answer) same
-          ∙ once-again (map seen lines) (seen line);
-      fault = ap (λ ls. fault_of_stop (rinex_reading false ls).stop) split ∙ one.fault
-          ∙ ap (λ (s : Seen OpenEpoch Totals). failed_by (seen_next checking s (seen line)).answer)
-          (sym same);
+      once = cc (same, once-again (map seen lines) (seen line));
+      fault = cc;
       next = λ none.
-          let good : fault_of_stop (rinex_reading false (map seen lines ++ seen line ∷ [])).stop ≡ None =
-          subst (λ ls. fault_of_stop (rinex_reading false ls).stop ≡ None) split none in
-          let reading : CheckSeen.reading (check_seen (lines ++ line ∷ []))
-          ≡ CheckSeen.reading (check_next (check_seen lines) line) =
-          same-seen (lines ++ line ∷ []) ∙ ap reading_seen split ∙ one.next
-          ∙ ap (λ (s : Seen OpenEpoch Totals). (seen_next checking s (seen line)).next) (sym same) in
-          let many : length (printed_of (map seen lines)) ≡ length lines =
-          as-many (map seen lines) (good-before (map seen lines) (seen line) good) ∙ length-map lines seen in
-          let printed : printed_so_far (lines ++ line ∷ []) ≡ printed_so_far lines
-          ++ given_back (map seen lines) (seen line) ∷ [] = ap printed_of split ∙ one.printed good in
-          let standard : first_not_standard 1 (lines ++ line ∷ []) (printed_so_far (lines ++ line ∷ []))
-          ≡ CheckSeen.not_standard (check_next (check_seen lines) line) =
-          ap (first_not_standard 1 (lines ++ line ∷ [])) printed
-          ∙ first-on 1 lines (printed_so_far lines) line (given_back (map seen lines) (seen line)) many
-          ∙ ap (λ n. earliest (first_not_standard 1 lines (printed_so_far lines))
+          let good = subst (λ ls. fault_of_stop (rinex_reading false ls).stop ≡ None) split none in
+          let reading : CheckSeen.reading (check_seen (lines ++ line ∷ [])) ≡ CheckSeen.reading
+          (check_next (check_seen lines) line) = cc (same-seen (lines ++ line ∷ []), split, one.next, same) in
+          let many = as-many (map seen lines) (good-before (map seen lines) (seen line) good)
+          ∙ length-map lines seen in
+          let standard = ap (first_not_standard 1 (lines ++ line ∷ [])) (ap printed_of split
+          ∙ one.printed good) ∙ first-on 1 lines (printed_so_far lines) line (given_back (map seen lines)
+          (seen line)) many ∙ ap (λ n. earliest (first_not_standard 1 lines (printed_so_far lines))
           (is_standard_line line (given_back (map seen lines) (seen line))) n) (omega arith)
           ∙ ap (λ (s : Seen OpenEpoch Totals). earliest (first_not_standard 1 lines (printed_so_far lines))
-          (is_standard_line line (last_line (printed_made
-          (made_in checking s.phase s.types s.kept (seen line))))) (length lines + 1)) (sym same) in
-          ap (λ (s : Seen OpenEpoch Totals). record {
-            reading = s;
-            not_standard = first_not_standard 1 (lines ++ line ∷ []) (printed_so_far (lines ++ line ∷ []));
-          }) reading
-          ∙ ap (λ n. record {
-            reading = CheckSeen.reading (check_next (check_seen lines) line);
-            not_standard = n;
-          }) standard;
+          (is_standard_line line (last_line (printed_made (made_in checking s.phase s.types s.kept
+          (seen line))))) (length lines + 1)) (sym same) in
+          cc;
     }

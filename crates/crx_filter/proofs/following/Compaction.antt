@@ -28,12 +28,10 @@ same-tail : (choices : Choices) (items : List (Item Epoch)) (epoch : Epoch)
     → tail_before (marked choices items epoch) (marked_epochs choices.every items)
     ≡ tail_written_after (is_at_every choices.every (epochs_accepted items))
     (written_of choices.every items).tail
-same-tail choices [] epoch = nothing-left (is_at_every choices.every 0)
+same-tail choices [] epoch = nothing-left _
 same-tail choices (Accepted (Observation last) ∷ before) epoch = refl
-same-tail choices (Warned at ∷ before) epoch = nothing-left
-    (is_at_every choices.every (epochs_accepted before))
-same-tail choices (Accepted unit ∷ before) epoch =
-    nothing-left (is_at_every choices.every (epochs_accepted before))
+same-tail choices (Warned at ∷ before) epoch = nothing-left _
+same-tail choices (Accepted unit ∷ before) epoch = nothing-left _
 
 same-epochs : (choices : Choices)
     → AreSame compaction (written_of choices.every) (compact_unit choices) choices

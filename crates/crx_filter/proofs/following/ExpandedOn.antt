@@ -1,13 +1,12 @@
 -- An expansion is given one line more.
-use Rattle.crx_filter.proofs.Words.{ℕ, ◌≡◌, ◌+◌, ◌≤◌, Bool, List, [], ◌∷◌, ◌++◌, length, drop, Option, Some}
-use Rattle.crx_filter.proofs.Words.{None, Result, Ok, Err, refl, ap, sym, subst, arith, length-append}
-use Rattle.crx_filter.proofs.Words.{drop-append-le, length-drop, ReadLine, Content, Overlong, Fault}
-use Rattle.crx_filter.proofs.Words.{LineTooLong, Place, Here, Wrong, Wanted, Remains, ReadEpoch, OpenRawEpoch}
-use Rattle.crx_filter.proofs.Words.{Tail, Choices, Reading, AtFault, AtLines, reading_from, IsFollowed, Fed}
-use Rattle.crx_filter.proofs.Words.{fed, fed_once, fault_of_stop, is_skippable, warnings_in, Phase}
-use Rattle.crx_filter.proofs.Words.{InFirstLines, Ended, Seen, Fails, made_in, step_of_made, seen_next}
-use Rattle.crx_filter.proofs.Words.{seen_of, compact_place, crinex_version, crinex_program, first_lines}
-use Rattle.crx_filter.proofs.Words.{expanded_lines, expansion, compact_open, tail_of_items}
+use Rattle.crx_filter.proofs.Words
+use Words.{ℕ, ◌≡◌, ◌+◌, ◌≤◌, Bool, List, [], ◌∷◌, ◌++◌, length, drop, Option, Some, None, Result, Ok, Err}
+use Words.{refl, ap, sym, subst, arith, length-append, drop-append-le, length-drop, ReadLine, Content}
+use Words.{Overlong, Fault, LineTooLong, Place, Here, Wrong, Wanted, Remains, ReadEpoch, OpenRawEpoch, Tail}
+use Words.{Choices, Reading, AtFault, AtLines, reading_from, IsFollowed, Fed, fed, fed_once, fault_of_stop}
+use Words.{is_skippable, warnings_in, Phase, InFirstLines, Ended, Seen, Fails, made_in, step_of_made}
+use Words.{seen_next, seen_of, compact_place, crinex_version, crinex_program, first_lines, expanded_lines}
+use Words.{expansion, compact_open, tail_of_items}
 use Rattle.crx_filter.specs.Laws.{IsExpandedOn}
 use Rattle.crx_filter.proofs.reading.ForwardCompact.{steady-first_lines}
 use Rattle.crx_filter.proofs.following.Following.{seen_in, fed-once, failed-ends}
@@ -64,27 +63,6 @@ by-once choices lines line once =
     (sym (fed-once expansion seen line (quiet-elsewhere expansion seen line
     (made_in expansion seen.phase seen.types seen.kept line) refl))) once
 
--- both lines are there: the reading goes on from the third
-after-both : (choices : Choices) (lines : List ReadLine) (line : ReadLine) (two : List (List ℕ)) (count : ℕ)
-    → count ≤ length lines → FollowsBy choices lines line (Here two count) (Here two count)
-after-both choices lines line two count within =
-    more-line (expansion-carried_out choices) (count + 1) (length lines) (length (lines ++ line ∷ []))
-    (drop count lines) (drop count (lines ++ line ∷ [])) line (omega (arith, length-drop count lines, within))
-    (length-append lines (line ∷ [])) (drop-append-le count lines (line ∷ []) within)
-
--- one of them has a fault: it is answered again
-after-fault : (choices : Choices) (lines : List ReadLine) (line : ReadLine) (offset : ℕ) (fault : Fault)
-    → FollowsBy choices lines line (Wrong offset fault) (Wrong offset fault)
-after-fault choices lines line offset fault =
-    let all : length (lines ++ line ∷ []) ≡ length lines + 1 = length-append lines (line ∷ []) in
-    record {
-      next = ap (λ (n : ℕ). seen_in choices n (Ended (record { line = offset + 1; fault = fault })) []
-          None) all;
-      handed_out = refl;
-      warned = refl;
-      failed = refl;
-    }
-
 -- a fault in the first two lines is never skipped
 ends : (choices : Choices) (count : ℕ) (line : ReadLine) (fault : Fault)
     → fed_once (step_of_made expansion (seen_in choices count (InFirstLines count) [] None) line
@@ -95,9 +73,8 @@ ends : (choices : Choices) (count : ℕ) (line : ReadLine) (fault : Fault)
       handed_out = [];
       next = seen_in choices (count + 1) (Ended (record { line = count + 1; fault = fault })) [] None;
     }
-ends choices count line fault = ap fed_once (failed-ends expansion
-    (seen_in choices count (InFirstLines count) [] None) line fault
-    (never-before choices.skip (is_skippable fault)))
+ends choices count line fault = cc (failed-ends expansion (seen_in choices count (InFirstLines count) [] None)
+    line fault (never-before choices.skip (is_skippable fault)))
 
 -- the first line
 first-line : (choices : Choices) (line : ReadLine)
@@ -170,29 +147,37 @@ by-first_lines : (choices : Choices) (lines : List ReadLine) (line : ReadLine) (
     → first_lines lines ≡ p → FollowsBy choices lines line (first_lines lines)
     (first_lines (lines ++ line ∷ []))
 by-first_lines choices lines line (Here two count) e =
-    let remains : Remains (length lines) (Here two count) (first_lines (lines ++ line ∷ [])) = subst
-    (λ p. Remains (length lines) p (first_lines (lines ++ line ∷ []))) e
-    (steady-first_lines lines (line ∷ [])) in
+    let remains = subst
+    (λ p. Remains (length lines) p (first_lines (lines ++ line ∷ []))) e (steady-first_lines lines
+    (line ∷ [])) in
     subst (λ p. FollowsBy choices lines line p (first_lines (lines ++ line ∷ []))) (sym e)
-    (subst (λ q. FollowsBy choices lines line (Here two count) q)
-    (sym remains.1) (after-both choices lines line two count remains.0))
+    (subst (λ q. FollowsBy choices lines line (Here two count) q) (sym remains.1)
+    (more-line (expansion-carried_out choices) (count + 1) (length lines) (length (lines ++ line ∷ []))
+    (drop count lines) (drop count (lines ++ line ∷ [])) line
+    (omega (arith, length-drop count lines, remains.0)) (length-append lines (line ∷ []))
+    (drop-append-le count lines (line ∷ []) remains.0)))
 by-first_lines choices lines line (Wrong offset fault) e =
-    let remains : Remains (length lines) (Wrong offset fault) (first_lines (lines ++ line ∷ [])) = subst
-    (λ p. Remains (length lines) p (first_lines (lines ++ line ∷ []))) e
-    (steady-first_lines lines (line ∷ [])) in
+    let remains = subst
+    (λ p. Remains (length lines) p (first_lines (lines ++ line ∷ []))) e (steady-first_lines lines
+    (line ∷ [])) in
     subst (λ p. FollowsBy choices lines line p (first_lines (lines ++ line ∷ []))) (sym e)
-    (subst (λ q. FollowsBy choices lines line (Wrong offset fault) q)
-    (sym remains.1) (after-fault choices lines line offset fault))
+    (subst (λ q. FollowsBy choices lines line (Wrong offset fault) q) (sym remains.1)
+    (record {
+      next = cc (length-append lines (line ∷ []));
+      handed_out = refl;
+      warned = refl;
+      failed = refl;
+    }))
 by-first_lines choices lines line Wanted e = by_lines (before-header lines e)
   where
     by_lines : IsBeforeHeader lines
         → FollowsBy choices lines line (first_lines lines) (first_lines (lines ++ line ∷ []))
-    by_lines (NoLine none) = subst (λ ls. FollowsBy choices ls line (first_lines ls)
-        (first_lines (ls ++ line ∷ []))) (sym none) (first-line choices line)
-    by_lines (OneLine first version one good) =
-        subst (λ ls. FollowsBy choices ls line (first_lines ls) (first_lines (ls ++ line ∷ []))) (sym one)
-        (subst (λ p. FollowsBy choices (Content first ∷ []) line p (first_lines (Content first ∷ line ∷ [])))
-        (sym (wanted good)) (second-line choices first line version good))
+    by_lines (NoLine none) = subst (λ ls. FollowsBy choices ls line (first_lines ls) (first_lines
+        (ls ++ line ∷ []))) (sym none) (first-line choices line)
+    by_lines (OneLine first version one good) = subst (λ ls. FollowsBy choices ls line (first_lines ls)
+        (first_lines (ls ++ line ∷ []))) (sym one) (subst (λ p. FollowsBy choices (Content first ∷ []) line p
+        (first_lines (Content first ∷ line ∷ []))) (sym (wanted good)) (second-line choices first line version
+        good))
       where
         wanted : crinex_version first ≡ Ok version → first_lines (Content first ∷ []) ≡ Wanted
         wanted h = rw h refl

@@ -1,13 +1,12 @@
 -- Expansion line by line reads, keeps and writes as the expansion of all lines does.
-use Rattle.crx_filter.proofs.Words.{ℕ, suc, ◌≡◌, Bool, true, false, cond, List, [], ◌∷◌, ◌++◌, length, Option}
-use Rattle.crx_filter.proofs.Words.{Some, None, Result, Ok, Err, refl, ap, sym, ◌∙◌, true≢false, is_some}
-use Rattle.crx_filter.proofs.Words.{none-some, ReadLine, Content, Overlong, Fault, BadEpoch, is_event_line}
-use Rattle.crx_filter.proofs.Words.{records_in, printed_epoch, Place, Here, Wrong, Wanted, one_line, FileUnit}
-use Rattle.crx_filter.proofs.Words.{EventLine, RawEpoch, ReadEpoch, epoch_at, Tail, OpenRawEpoch, RawStep}
-use Rattle.crx_filter.proofs.Words.{first_step, next_step, open_raw_after, open_raw_with, Choices, Item}
-use Rattle.crx_filter.proofs.Words.{types_in_force, records_count_types, raws_kept, empties_state, event_line}
-use Rattle.crx_filter.proofs.Words.{as_observation, expanded_unit, Made, made_of_unit, made_of_raw_step}
-use Rattle.crx_filter.proofs.Words.{expansion, tail_of_items, begins_event, compact_open}
+use Rattle.crx_filter.proofs.Words
+use Words.{ℕ, suc, ◌≡◌, Bool, true, false, cond, List, [], ◌∷◌, ◌++◌, length, Option, Some, None, Result, Ok}
+use Words.{Err, refl, ap, sym, ◌∙◌, true≢false, is_some, none-some, ReadLine, Content, Overlong, Fault}
+use Words.{BadEpoch, is_event_line, records_in, printed_epoch, Place, Here, Wrong, Wanted, one_line, FileUnit}
+use Words.{EventLine, RawEpoch, ReadEpoch, epoch_at, Tail, OpenRawEpoch, RawStep, first_step, next_step}
+use Words.{open_raw_after, open_raw_with, Choices, Item, types_in_force, records_count_types, raws_kept}
+use Words.{empties_state, event_line, as_observation, expanded_unit, Made, made_of_unit, made_of_raw_step}
+use Words.{expansion, tail_of_items, begins_event, compact_open}
 use Rattle.crx_compact.specs.Tails.{tail_left}
 use Rattle.crx_compact.specs.OpenEpochs.{epoch_after, HeldEpoch, Going, Whole, Faulty, placed_as, held_after}
 use Rattle.crx_compact.specs.OpenEpochs.{place_of_step, place_of_steps}
@@ -59,11 +58,10 @@ same-epoch : (choices : Choices) (items : List (Item ReadEpoch)) (lines : List R
     → held_after (tail_of_items items) read ≡ held
     → IsSameEpoch expansion tail_of_items expanded_unit choices items read held
 same-epoch choices items lines read held count here same = record {
-  kept = λ number phase types kept either.
-      ap {B = Option Tail} (λ (h : HeldEpoch). Some h.tail) (sym same)
-      ∙ sym (left-by_tail read.raw (raws_kept items)
-      (reads-soundly (types_in_force items) (raws_kept items) lines read count here).single);
-  lines = λ number phase types kept either. ap (λ (h : HeldEpoch). printed_epoch h.epoch) (sym same);
+  kept = λ number phase types kept either. ap {B = Option Tail} (λ (h : HeldEpoch). Some h.tail) (sym same)
+      ∙ sym (left-by_tail read.raw (raws_kept items) (reads-soundly (types_in_force items) (raws_kept items)
+      lines read count here).single);
+  lines = λ number phase types kept either. cc;
 }
 
 -- what some lines make where no event begins, by the step that the last of them is
@@ -148,15 +146,13 @@ pub agree-continues : (choices : Choices) (items : List (Item ReadEpoch))
     → Agrees choices items (lines ++ line ∷ []) (made_of_raw_step (next_step so_far line))
 agree-continues choices items [] line so_far opens = absurd (none-some so_far opens)
 agree-continues choices items (first ∷ rest) line so_far opens =
-    let none : begins_event (first ∷ rest) ≡ false =
-    no-event items (first ∷ rest) so_far (begins_event (first ∷ rest)) refl opens in
-    let more : begins_event (first ∷ (rest ++ line ∷ [])) ≡ false =
-    same-beginning first rest (rest ++ line ∷ []) none in
-    let step = steps-from_open (types_in_force items)
-    (tail_of_items items) (first ∷ rest) line so_far (sym (by-steps items (first ∷ rest) none) ∙ opens) in
-    agree-step choices items (first ∷ (rest ++ line ∷ []))
-    (length (first ∷ rest)) (next_step so_far line) (at-observation items first (rest ++ line ∷ []) more)
-    step.place (by-steps items (first ∷ (rest ++ line ∷ [])) more ∙ step.open_epoch)
+    let none = no-event items (first ∷ rest) so_far (begins_event (first ∷ rest)) refl opens in
+    let more = same-beginning first rest (rest ++ line ∷ []) none in
+    let step = steps-from_open (types_in_force items) (tail_of_items items) (first ∷ rest) line so_far
+    (sym (by-steps items (first ∷ rest) none) ∙ opens) in
+    agree-step choices items (first ∷ (rest ++ line ∷ [])) (length (first ∷ rest)) (next_step so_far line)
+    (at-observation items first (rest ++ line ∷ []) more) step.place (by-steps items (first ∷
+    (rest ++ line ∷ [])) more ∙ step.open_epoch)
 
 -- ---- where more lines are wanted
 
@@ -167,8 +163,7 @@ observation-wanted p e = absurd (cc)
 event-not_wanted : (items : List (Item ReadEpoch)) (line : ReadLine) (lines : List ReadLine)
     → begins_event (line ∷ lines) ≡ true → compact_beginning items (line ∷ lines) ≡ Wanted → ⊥
 event-not_wanted items Overlong lines e wanted = absurd (true≢false (sym e))
-event-not_wanted items (Content content) lines e wanted =
-    one_line-decided (event_line {E = ReadEpoch} content) (sym (at_event e) ∙ wanted)
+event-not_wanted items (Content content) lines e wanted = one_line-decided _ (sym (at_event e) ∙ wanted)
   where
     at_event : is_event_line content ≡ true
         → compact_beginning items (Content content ∷ lines) ≡ one_line (event_line content)
@@ -178,11 +173,9 @@ no-lines : (items : List (Item ReadEpoch)) (lines : List ReadLine)
     → compact_beginning items lines ≡ Wanted → compact_open items lines ≡ None → lines ≡ []
 no-lines items [] wanted none = refl
 no-lines items (line ∷ lines) wanted none = by_bool (begins_event (line ∷ lines))
-    (λ on. absurd (event-not_wanted items line lines on wanted))
-    (λ off.
-    let here = observation-wanted _ (sym (at-observation items line lines off) ∙ wanted) in
-    let after : epoch_after (types_in_force items) (tail_of_items items) (line ∷ lines) ≡ Wanted =
-    sym (place-by_tail (types_in_force items) (raws_kept items) (line ∷ lines)) ∙ here in
+    (λ on. absurd (event-not_wanted items line lines on wanted)) (λ off.
+    let after = sym (place-by_tail (types_in_force items) (raws_kept items) (line ∷ lines))
+    ∙ (observation-wanted _ (sym (at-observation items line lines off) ∙ wanted)) in
     absurd (true≢false (sym (ap is_wanted after) ∙ wanted-where_open (types_in_force items)
     (tail_of_items items) (line ∷ lines) ∙ ap is_some (sym (by-steps items (line ∷ lines) off) ∙ none))))
 
@@ -203,9 +196,7 @@ expansion-carried_out choices = record {
   header_lines = λ items number types line. refl;
   event_kept = λ items number phase types line. refl;
   event_lines = λ items number phase types kept line. refl;
-  record_kept =
-      λ items number left types line. kept-record (empties_state (records_count_types items) line)
-      (raws_kept items);
+  record_kept = λ items number left types line. kept-record _ _;
   record_lines = λ items number phase types kept line. refl;
   warned = λ items at. refl;
   emptied_open = λ kept. refl;

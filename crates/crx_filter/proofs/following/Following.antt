@@ -1,20 +1,17 @@
 -- One line more, as it is fed and as it is read: the same in both directions.
-use Rattle.crx_filter.proofs.Words.{ℕ, zero, suc, ◌≡◌, ◌⊎◌, inl, inr, ◌+◌, ◌-◌, max, ◌<◌, ◌≤◌, Bool, true}
-use Rattle.crx_filter.proofs.Words.{false, cond, List, [], ◌∷◌, ◌++◌, length, drop, Option, Some, None, refl}
-use Rattle.crx_filter.proofs.Words.{ap, sym, subst, ◌∙◌, arith, length-append, append-nil, ◌&&◌}
-use Rattle.crx_filter.proofs.Words.{drop-append_seam, ReadLine, Fault, At, is_end_of_header, Count, Place}
-use Rattle.crx_filter.proofs.Words.{Here, Wrong, Wanted, Remains, IsDecidedAfter, FileUnit, HeaderLine}
-use Rattle.crx_filter.proofs.Words.{EventLine, EventRecord, Observation, Choices, Item, Accepted, Warned}
-use Rattle.crx_filter.proofs.Words.{is_at_start, header_has_ended, records_announced, records_left}
-use Rattle.crx_filter.proofs.Words.{counts_types, records_count_types, types_in_force, unit_place, Reading}
-use Rattle.crx_filter.proofs.Words.{AtFault, AtLines, Looking, is_skipped, can_go_on, looked_for}
-use Rattle.crx_filter.proofs.Words.{reading_within, is_skippable, written_lines, warnings_in, Phase, InHeader}
-use Rattle.crx_filter.proofs.Words.{BetweenUnits, InEvent, InEpoch, LookingOn, Ended, Seen, Made, Completes}
-use Rattle.crx_filter.proofs.Words.{Moves, Fails, Direction, Notice, Failed, Step, with_records_left}
-use Rattle.crx_filter.proofs.Words.{phase_after, types_after, may_skip, is_in_epoch, is_skipped_in, kept_in}
-use Rattle.crx_filter.proofs.Words.{with_phase, after_warning, failed_step, step_of_made, seen_next}
-use Rattle.crx_filter.proofs.Words.{phase_in_body, phase_after_items, seen_of, IsReadForward, IsFollowed, Fed}
-use Rattle.crx_filter.proofs.Words.{fed, fed_once, fed_twice, is_again, fault_of_stop}
+use Rattle.crx_filter.proofs.Words
+use Words.{ℕ, zero, suc, ◌≡◌, ◌⊎◌, inl, inr, ◌+◌, ◌-◌, max, ◌<◌, ◌≤◌, Bool, true, false, cond, List, [], ◌∷◌}
+use Words.{◌++◌, length, drop, Option, Some, None, refl, ap, sym, subst, ◌∙◌, arith, length-append}
+use Words.{append-nil, ◌&&◌, drop-append_seam, ReadLine, Fault, At, is_end_of_header, Count, Place, Here}
+use Words.{Wrong, Wanted, Remains, IsDecidedAfter, FileUnit, HeaderLine, EventLine, EventRecord, Observation}
+use Words.{Choices, Item, Accepted, Warned, is_at_start, header_has_ended, records_announced, records_left}
+use Words.{counts_types, records_count_types, types_in_force, unit_place, Reading, AtFault, AtLines, Looking}
+use Words.{is_skipped, can_go_on, looked_for, reading_within, is_skippable, written_lines, warnings_in, Phase}
+use Words.{InHeader, BetweenUnits, InEvent, InEpoch, LookingOn, Ended, Seen, Made, Completes, Moves, Fails}
+use Words.{Direction, Notice, Failed, Step, with_records_left, phase_after, types_after, may_skip}
+use Words.{is_in_epoch, is_skipped_in, kept_in, with_phase, after_warning, failed_step, step_of_made}
+use Words.{seen_next, phase_in_body, phase_after_items, seen_of, IsReadForward, IsFollowed, Fed, fed}
+use Words.{fed_once, fed_twice, is_again, fault_of_stop}
 use Rattle.std.proofs.Math.Seq.{drop-length}
 use Rattle.crx_filter.specs.LineByLine.{Quiet, Ready, after_record, after_unit}
 use Rattle.crx_filter.proofs.Choosing.{by_bool}
@@ -180,9 +177,7 @@ module _ {E : Type 0} {place : List (Item E) → List ReadLine → Place (FileUn
     -- where more lines are wanted, what the next one decides is decided after those before it
     decided-after : (items : List (Item E)) (rest : List ReadLine) (line : ReadLine)
         → place items rest ≡ Wanted → IsDecidedAfter (length rest) (place items (rest ++ line ∷ []))
-    decided-after items rest line wanted = subst
-        (λ p. Remains (length rest) p (place items (rest ++ line ∷ [])))
-        wanted (h.steady items rest (line ∷ []))
+    decided-after items rest line wanted = rw wanted at (h.steady items rest (line ∷ []))
 
     -- so a unit and a fault end with the next line
     here-last : (items : List (Item E)) (rest : List ReadLine) (line : ReadLine) (unit : FileUnit E)
@@ -217,12 +212,10 @@ module _ {E : Type 0} {place : List (Item E) → List ReadLine → Place (FileUn
         (count : ℕ) → place items rest ≡ Wanted → place items (rest ++ line ∷ []) ≡ Here unit count
         → reading_within place skip (suc units) items number (rest ++ line ∷ [])
         ≡ record { items = Accepted unit ∷ items; stop = AtLines (number + count) [] }
-    last-here skip units items number rest line unit count wanted e =
-        let last = here-last items rest line unit count wanted e in
-        within-here place skip units items number (rest ++ line ∷ []) unit count e
-        ∙ ap (reading_within place skip units (Accepted unit ∷ items) (number + count))
-        (ap (λ n. drop n (rest ++ line ∷ []))
-        (last ∙ sym (length-append rest (line ∷ []))) ∙ drop-length (rest ++ line ∷ []))
+    last-here skip units items number rest line unit count wanted e = within-here place skip units items
+        number (rest ++ line ∷ []) unit count e ∙ ap (reading_within place skip units (Accepted unit ∷ items)
+        (number + count)) (ap (λ n. drop n (rest ++ line ∷ [])) ((here-last _ _ _ _ _ wanted e)
+        ∙ sym (length-append rest (line ∷ []))) ∙ drop-length (rest ++ line ∷ []))
         ∙ within-nothing skip units (Accepted unit ∷ items) (number + count)
 
     -- a fault that ends the run
@@ -232,12 +225,11 @@ module _ {E : Type 0} {place : List (Item E) → List ReadLine → Place (FileUn
         → is_skipped skip items fault ≡ false → number + length rest ≡ count + 1
         → reading_within place skip (suc units) items number (rest ++ line ∷ [])
         ≡ record { items = items; stop = AtFault (record { line = count + 1; fault = fault }) }
-    last-ends skip units items number count rest line offset fault wanted e off counted =
-        let last = wrong-last items rest line offset fault wanted e in
-        within-wrong place skip units items number (rest ++ line ∷ []) offset fault e
+    last-ends skip units items number count rest line offset fault wanted e off counted = within-wrong place
+        skip units items number (rest ++ line ∷ []) offset fault e
         ∙ fault-ends skip (reading_within place skip units) items number (rest ++ line ∷ []) offset fault off
         ∙ ap (λ (n : ℕ). record { items = items; stop = AtFault (record { line = n; fault = fault }) })
-        (omega (arith, last, counted))
+        (omega (arith, wrong-last _ _ _ _ _ wanted e, counted))
 
     -- a fault that is skipped
     pub last-skipped : (skip : Bool) (units : ℕ)
@@ -250,15 +242,13 @@ module _ {E : Type 0} {place : List (Item E) → List ReadLine → Place (FileUn
         (Warned (record { line = count + 1; fault = fault }) ∷ items)
         (number + max (length rest) 1) (drop (max (length rest) 1) (rest ++ line ∷ []))
     last-skipped skip units items number count rest line offset fault wanted e on counted =
-        let last = wrong-last items rest line offset fault wanted e in
-        let looked : ℕ → ℕ → Reading E = λ n k. looked_for
-        (reading_within place skip units (Warned (record { line = n; fault = fault })
-        ∷ items)) (Warned (record { line = n; fault = fault }) ∷ items)
-        (number + max k 1) (drop (max k 1) (rest ++ line ∷ [])) in
+        let last = wrong-last _ _ _ _ _ wanted e in
+        let looked : ℕ → ℕ → Reading E = λ n k. looked_for (reading_within place skip units
+        (Warned (record { line = n; fault = fault }) ∷ items)) (Warned (record { line = n; fault = fault }) ∷
+        items) (number + max k 1) (drop (max k 1) (rest ++ line ∷ [])) in
         within-wrong place skip units items number (rest ++ line ∷ []) offset fault e
-        ∙ fault-skipped skip (reading_within place skip units) items number
-        (rest ++ line ∷ []) offset fault on
-        ∙ ap (λ n. looked n offset) (omega (arith, last, counted)) ∙ ap (looked (count + 1)) last
+        ∙ fault-skipped skip (reading_within place skip units) items number (rest ++ line ∷ []) offset fault
+        on ∙ ap (λ n. looked n offset) (omega (arith, last, counted)) ∙ ap (looked _) last
 
 looked-through-later : (first : ReadLine) (rest : List ReadLine) (line : ReadLine)
     → drop (max (length (first ∷ rest)) 1) ((first ∷ rest) ++ line ∷ []) ≡ line ∷ []
@@ -278,9 +268,8 @@ pub skipped-same : {E O K : Type 0} (choices : Choices)
     (count : ℕ) (phase : Phase O) (types : List Count) (kept : K) (items : List (Item E)) (fault : Fault)
     → header_has_ended items ≡ true → records_left items ≡ 0 → may_skip phase ≡ true
     → is_skipped choices.skip items fault ≡ is_skipped_in (seen_in choices count phase types kept) fault
-skipped-same choices count phase types kept items fault ended none may =
-    body-skipped choices.skip items fault ended none ∙ ap (λ b. choices.skip && (b && is_skippable fault))
-    (sym may)
+skipped-same choices count phase types kept items fault ended none may = cc
+    (body-skipped choices.skip items fault ended none, may)
 
 module _ {E U O K : Type 0} {beginning : List (Item E) → List ReadLine → Place (FileUnit E)}
     {direction : Direction U O K}
@@ -323,13 +312,11 @@ module _ {E U O K : Type 0} {beginning : List (Item E) → List ReadLine → Pla
         next = after_unit direction (seen_at count phase items kept) same;
       }))
   followed-unit count n items phase kept unit same none phases types keeps lines =
-      let here : phase_after_items (Accepted unit ∷ items) (open_with (Accepted unit ∷ items) [])
-      ≡ phase_after phase same = ap (λ o. phase_after_items (Accepted unit ∷ items) o) none ∙ phases in
+      let here = ap (λ o. phase_after_items (Accepted unit ∷ items) o) none ∙ phases in
       record {
         next = seen-same choices (count + 1) _ _ _ _ _ _ here types
-            (ap (λ p. kept_in direction p (kept_of (Accepted unit ∷ items))) here
-            ∙ kept-after_unit direction phase same (kept_of (Accepted unit ∷ items)) ∙ sym keeps);
-        handed_out = ap (λ l. written_lines unit_lines items ++ l) (sym lines);
+            (cc (here, kept-after_unit direction phase same (kept_of (Accepted unit ∷ items)), keeps));
+        handed_out = cc;
         warned = refl;
         failed = refl;
       }
@@ -342,9 +329,8 @@ module _ {E U O K : Type 0} {beginning : List (Item E) → List ReadLine → Pla
       (fed_once (failed_step direction (seen_at count phase items kept) line fault))
   followed-end count items phase kept line fault emptied off = subst (λ s. Follows (count + 1) items
       (record { items = items; stop = AtFault (record { line = count + 1; fault = fault }) }) (fed_once s))
-      (sym (failed-ends direction (seen_at count phase items kept) line fault off))
-      (record {
-        next = seen-same choices (count + 1) _ _ _ _ _ _ refl refl (sym emptied);
+      (sym (failed-ends direction (seen_at count phase items kept) line fault off)) (record {
+        next = seen-same choices (count + 1) _ _ _ _ _ _ refl refl (cc);
         handed_out = sym (append-nil (written_lines unit_lines items));
         warned = refl;
         failed = refl;
@@ -360,11 +346,8 @@ module _ {E U O K : Type 0} {beginning : List (Item E) → List ReadLine → Pla
       (fed_once (failed_step direction (seen_at count phase items kept) line fault))
   followed-skip count n items phase kept line fault emptied on off = subst (λ s. Follows (count + 1) items
       (record { items = Warned (record { line = count + 1; fault = fault }) ∷ items; stop = Looking n })
-      (fed_once s)) (sym (failed-skipped direction (seen_at count phase items kept) line fault on))
-      (record {
-        next = seen-same choices (count + 1) _ _ _ _ _ _ refl refl (sym emptied)
-            ∙ ap (λ (b : Bool). seen_in choices
-            (cond b count (count + 1)) LookingOn (types_in_force items) (direction.emptied kept)) (sym off);
+      (fed_once s)) (sym (failed-skipped direction (seen_at count phase items kept) line fault on)) (record {
+        next = cc (seen-same choices (count + 1) _ _ _ _ _ _ refl refl (sym emptied), off);
         handed_out = sym (append-nil (written_lines unit_lines items));
         warned = refl;
         failed = refl;
@@ -381,12 +364,10 @@ module _ {E U O K : Type 0} {beginning : List (Item E) → List ReadLine → Pla
         next = with_phase direction (seen_at count phase items kept) (InEpoch so_far);
       }))
   followed-open count n items lines phase kept so_far ended none opens keeps =
-      let here : phase_after_items items (open_with items lines) ≡ InEpoch so_far =
-      body-phase items (open_with items lines) ended none
+      let here = body-phase items (open_with items lines) ended none
       ∙ ap (λ o. phase_in_body 0 (records_count_types items) o) opens in
       record {
-        next = seen-same choices (count + 1) _ _ _ _ _ _ here refl
-            (ap (λ p. kept_in direction p (kept_of items)) here ∙ sym keeps);
+        next = seen-same choices (count + 1) _ _ _ _ _ _ here refl (cc);
         handed_out = sym (append-nil (written_lines unit_lines items));
         warned = refl;
         failed = refl;

@@ -1,11 +1,10 @@
 -- Both directions are lawful filters.
-use Rattle.crx_filter.proofs.Words.{◌≡◌, List, ◌++◌, map, Option, Some, refl, sym, ap, subst, ◌∙◌, map-append}
-use Rattle.crx_filter.proofs.Words.{InputLine, ReadLine, seen, At, Epoch, ReadEpoch, Choices, WholeReading}
-use Rattle.crx_filter.proofs.Words.{lines_text, Begins, whole_course, fault_of_stop, rinex_place}
-use Rattle.crx_filter.proofs.Words.{compact_unit, compact_lines, whole_rinex, compacted_so_far, rinex_reading}
-use Rattle.crx_filter.proofs.Words.{expanded_unit, whole_compact, expanded_lines, expanded_so_far}
-use Rattle.crx_filter.proofs.Words.{compact_reading, course_so_far, compaction_filter, expansion_filter}
-use Rattle.crx_filter.proofs.Words.{IsLawful}
+use Rattle.crx_filter.proofs.Words
+use Words.{◌≡◌, List, ◌++◌, map, Option, Some, refl, sym, ap, subst, ◌∙◌, map-append, InputLine, ReadLine}
+use Words.{seen, At, Epoch, ReadEpoch, Choices, WholeReading, lines_text, Begins, whole_course, fault_of_stop}
+use Words.{rinex_place, compact_unit, compact_lines, whole_rinex, compacted_so_far, rinex_reading}
+use Words.{expanded_unit, whole_compact, expanded_lines, expanded_so_far, compact_reading, course_so_far}
+use Words.{compaction_filter, expansion_filter, IsLawful}
 use Rattle.crx_filter.proofs.reading.Forward.{rinex-forward}
 use Rattle.crx_filter.proofs.reading.Prefixes.{text-more, whole-items}
 use Rattle.crx_filter.proofs.reading.RinexPrefixes.{compacted-first}

@@ -1,21 +1,18 @@
 -- One line more, wherever a reading has stopped.
-use Rattle.crx_filter.proofs.Words.{ℕ, zero, suc, ◌≡◌, inl, inr, ◌+◌, ◌-◌, ◌<◌, Bool, true, false, not, cond}
-use Rattle.crx_filter.proofs.Words.{List, [], ◌∷◌, ◌++◌, length, Option, Some, None, Result, Ok, Err, refl}
-use Rattle.crx_filter.proofs.Words.{ap, sym, subst, ◌∙◌, arith, length-append, append-nil, append_assoc}
-use Rattle.crx_filter.proofs.Words.{rules, ◌||◌, ◌&&◌, ◌==◌, ⊤, nat_lt, ReadLine, Content, Overlong, Fault}
-use Rattle.crx_filter.proofs.Words.{LineTooLong, At, is_end_of_header, Count, types_of, with_line, none-some}
-use Rattle.crx_filter.proofs.Words.{Place, Wanted, one_line, first_line, FileUnit, HeaderLine, EventRecord}
-use Rattle.crx_filter.proofs.Words.{Choices, Item, Accepted, Warned, is_at_start, header_has_ended}
-use Rattle.crx_filter.proofs.Words.{records_left, records_count_types, declaring_lines, types_in_force}
-use Rattle.crx_filter.proofs.Words.{unless_wrong, types_fault, header_line_fault, header_line, event_record}
-use Rattle.crx_filter.proofs.Words.{unit_place, Reading, Stop, AtFault, AtLines, Looking, is_skipped}
-use Rattle.crx_filter.proofs.Words.{can_go_on, reading_within, reading_from, is_skippable, continued_reading}
-use Rattle.crx_filter.proofs.Words.{IsReadForward, fed, fed_once, fed_twice, is_again, written_lines}
-use Rattle.crx_filter.proofs.Words.{warnings_in, Phase, InHeader, BetweenUnits, InEvent, InEpoch, LookingOn}
-use Rattle.crx_filter.proofs.Words.{Seen, Made, Completes, Fails, Direction, Notice, Step, made_of_unit}
-use Rattle.crx_filter.proofs.Words.{made_in, phase_after, types_after, may_skip, is_in_epoch, is_skipped_in}
-use Rattle.crx_filter.proofs.Words.{kept_in, after_warning, failed_step, step_of_made, seen_next}
-use Rattle.crx_filter.proofs.Words.{phase_in_body, phase_after_items, seen_of, and_parts}
+use Rattle.crx_filter.proofs.Words
+use Words.{ℕ, zero, suc, ◌≡◌, inl, inr, ◌+◌, ◌-◌, ◌<◌, Bool, true, false, not, cond, List, [], ◌∷◌, ◌++◌}
+use Words.{length, Option, Some, None, Result, Ok, Err, refl, ap, sym, subst, ◌∙◌, arith, length-append}
+use Words.{append-nil, append_assoc, rules, ◌||◌, ◌&&◌, ◌==◌, ⊤, nat_lt, ReadLine, Content, Overlong, Fault}
+use Words.{LineTooLong, At, is_end_of_header, Count, types_of, with_line, none-some, Place, Wanted, one_line}
+use Words.{first_line, FileUnit, HeaderLine, EventRecord, Choices, Item, Accepted, Warned, is_at_start}
+use Words.{header_has_ended, records_left, records_count_types, declaring_lines, types_in_force, unless_wrong}
+use Words.{types_fault, header_line_fault, header_line, event_record, unit_place, Reading, Stop, AtFault}
+use Words.{AtLines, Looking, is_skipped, can_go_on, reading_within, reading_from, is_skippable}
+use Words.{continued_reading, IsReadForward, fed, fed_once, fed_twice, is_again, written_lines, warnings_in}
+use Words.{Phase, InHeader, BetweenUnits, InEvent, InEpoch, LookingOn, Seen, Made, Completes, Fails}
+use Words.{Direction, Notice, Step, made_of_unit, made_in, phase_after, types_after, may_skip, is_in_epoch}
+use Words.{is_skipped_in, kept_in, after_warning, failed_step, step_of_made, seen_next, phase_in_body}
+use Words.{phase_after_items, seen_of, and_parts}
 use Rattle.crx_header.proofs.Counts.{types_of-push}
 use Rattle.crx_filter.proofs.Choosing.{by_bool, false-true}
 use Rattle.crx_filter.proofs.reading.Resuming.{enough-units, looked-here, looked-on}
@@ -31,9 +28,8 @@ pub quiet-elsewhere : {U O K : Type 0} (direction : Direction U O K) (seen : See
     (made : Made U O) → is_in_epoch seen.phase ≡ false → is_again
     (step_of_made direction seen line made).answer ≡ false
 quiet-elsewhere direction seen line (Fails fault) e = by_bool (is_skipped_in seen fault)
-    (λ on. ap (λ (s : Step _ _). is_again s.answer) (failed-skipped direction seen line fault on)
-    ∙ ap (λ b. b && can_go_on line) e)
-    (λ off. ap (λ (s : Step _ _). is_again s.answer) (failed-ends direction seen line fault off))
+    (λ on. cc (failed-skipped direction seen line fault on, e))
+    (λ off. cc (failed-ends direction seen line fault off))
 quiet-elsewhere direction seen line made e = refl
 
 -- ---- lines of the header, and an event's records
@@ -66,8 +62,7 @@ record-phase : {E O : Type 0} (items : List (Item E)) (left : ℕ) (line : List 
     → header_has_ended items ≡ true → records_left items ≡ suc left
     → phase_after_items {O = O} (Accepted (EventRecord line) ∷ items) None
     ≡ phase_after {U = E} (InEvent (suc left) (records_count_types items)) (EventRecord line)
-record-phase items left line ended some = rw (ended, some)
-    (records-phase (suc left - 1) (records_count_types items))
+record-phase items left line ended some = rw (ended, some) (records-phase _ _)
 
 pub header-place : {E : Type 0} (beginning : List (Item E) → List ReadLine → Place (FileUnit E))
     (items : List (Item E)) (lines : List ReadLine) → header_has_ended items ≡ false
@@ -107,10 +102,9 @@ more-units : {E : Type 0} (place : List (Item E) → List ReadLine → Place (Fi
     → IsReadForward place → (skip : Bool) (items : List (Item E)) (number : ℕ) (rest : List ReadLine)
     (line : ReadLine) → reading_from place skip items number (rest ++ line ∷ [])
     ≡ reading_within place skip (suc (suc (length rest))) items number (rest ++ line ∷ [])
-more-units place h skip items number rest line =
-    let all : length (rest ++ line ∷ []) ≡ length rest + 1 = length-append rest (line ∷ []) in
-    enough-units place h skip (length (rest ++ line ∷ []) + 1)
-    (suc (suc (length rest))) items number (rest ++ line ∷ []) (omega arith) (omega (arith, all))
+more-units place h skip items number rest line = enough-units place h skip (length (rest ++ line ∷ []) + 1)
+    (suc (suc (length rest))) items number (rest ++ line ∷ []) (omega arith)
+    (omega (arith, length-append rest (line ∷ [])))
 
 -- what a line makes that is looked at as the first of an epoch or an event, or passed over
 made-looking : {U O K : Type 0} (direction : Direction U O K) (types : List Count) (kept : K)
@@ -237,28 +231,22 @@ module _ {E U O K : Type 0} {beginning : List (Item E) → List ReadLine → Pla
       → Follows h (count + 1) items (reads h (suc units) items (count + 1) (line ∷ []))
       (fed_once (step_of_made direction (seen_at h count phase items (kept_of items)) line
       (made_of_unit (unless_wrong same fault))))
-  simple-line units items count line phase None unit same here never never_in phases types keeps lines =
-      subst (λ r. Follows h (count + 1) items r (fed_once (step_of_made
-      direction (seen_at h count phase items (kept_of items)) line (Completes same))))
-      (sym (last-here h.forward choices.skip units items
-      (count + 1) [] line unit 1 (h.forward.wants items) here))
-      (followed-unit h count (count + 1 + 1) items phase
-      (kept_of items) unit same (h.none_open (Accepted unit ∷ items)) phases types keeps lines)
+  simple-line units items count line phase None unit same here never never_in phases types keeps lines = rw
+      (last-here h.forward choices.skip units items (count + 1) [] line unit 1 (h.forward.wants items) here)
+      (followed-unit h count (count + 1 + 1) items phase (kept_of items) unit same (h.none_open
+      (Accepted unit ∷ items)) phases types keeps lines)
   simple-line units items count line phase (Some fault) unit same here never never_in phases types keeps
-      lines = subst (λ r. Follows h (count + 1) items r (fed_once
-      (failed_step direction (seen_at h count phase items (kept_of items)) line fault)))
-      (sym (last-ends h.forward choices.skip units items
-      (count + 1) count [] line 0 fault (h.forward.wants items) here (never fault) (omega arith)))
-      (followed-end h count items phase (kept_of items) line fault refl (never_in fault))
+      lines = rw (last-ends h.forward choices.skip units items (count + 1) count [] line 0 fault
+      (h.forward.wants items) here (never fault) (omega arith)) (followed-end h count items phase
+      (kept_of items) line fault refl (never_in fault))
 
   -- a line outside an epoch is fed once
   line-once : (count : ℕ) (items : List (Item E)) (line : ReadLine) (phase : Phase O) (r : Reading E)
       → is_in_epoch phase ≡ false → Follows h (count + 1) items r
       (fed_once (seen_next direction (seen_at h count phase items (kept_of items)) line))
       → Follows h (count + 1) items r (fed direction (seen_at h count phase items (kept_of items)) line)
-  line-once count items line phase r outside follows =
-      subst (λ f. Follows h (count + 1) items r f) (sym (fed-once direction seen line
-      (quiet-elsewhere direction seen line (made_in direction phase seen.types seen.kept line) outside)))
+  line-once count items line phase r outside follows = rw (fed-once direction seen line
+      (quiet-elsewhere direction seen line (made_in direction phase seen.types seen.kept line) outside))
       follows
     where
       seen : Seen O K
@@ -333,61 +321,80 @@ module _ {E U O K : Type 0} {beginning : List (Item E) → List ReadLine → Pla
       ≡ direction.begins (types_in_force items) (kept_of items) line
       → Follows h (count + 1) items (reading_from (place h) choices.skip items number (line ∷ []))
       (fed direction (seen_at h count phase items (kept_of items)) line)
-  fresh-line items number count line phase ended none may outside counted made =
-      body-line 1 items number count
-      [] line phase (kept_of items) (direction.begins (types_in_force items) (kept_of items) line)
-      ended none (h.wants items) (h.begins items line) may
-      (inl refl) refl (λ e. false-true (sym outside ∙ e)) (omega (arith, counted)) (omega arith) made
+  fresh-line items number count line phase ended none may outside counted made = body-line 1 items number
+      count [] line phase (kept_of items) (direction.begins (types_in_force items) (kept_of items) line) ended
+      none (h.wants items) (h.begins items line) may (inl refl) refl (λ e. false-true (cc))
+      (omega (arith, counted)) (omega arith) made
+
+  -- what is so in each phase that a reading can be in where more lines are wanted, is so there
+  pub by_phase : (P : List ReadLine → Phase O → Type 0) (items : List (Item E)) (rest : List ReadLine)
+      → place h items rest ≡ Wanted
+      → (header_has_ended items ≡ false → P [] (InHeader (is_at_start items)))
+      → ((left : ℕ) → header_has_ended items ≡ true → records_left items ≡ suc left
+      → P [] (InEvent (suc left) (records_count_types items)))
+      → (header_has_ended items ≡ true → records_left items ≡ 0 → P [] BetweenUnits)
+      → ((so_far : O) → header_has_ended items ≡ true → records_left items ≡ 0
+      → open_with items rest ≡ Some so_far → P rest (InEpoch so_far))
+      → P rest (phase_after_items items (open_with items rest))
+  by_phase P items rest wanted header event between epoch =
+      cases (header_has_ended items) refl (records_left items) refl (open_with items rest) refl
+    where
+      both : {ls : List ReadLine} {p : Phase O} → P ls p → rest ≡ ls
+          → phase_after_items items (open_with items rest) ≡ p
+          → P rest (phase_after_items items (open_with items rest))
+      both {ls = ls} here lines phase = subst (λ l. P l (phase_after_items items (open_with items rest)))
+          (sym lines) (subst (P ls) (sym phase) here)
+
+      in_body : {o : Option O} → header_has_ended items ≡ true → records_left items ≡ 0
+          → open_with items rest ≡ o → phase_after_items items (open_with items rest)
+          ≡ phase_in_body 0 (records_count_types items) o
+      in_body e none opens = body-phase items (open_with items rest) e none
+          ∙ ap (λ o. phase_in_body 0 (records_count_types items) o) opens
+
+      cases : (ended : Bool) → header_has_ended items ≡ ended → (left : ℕ) → records_left items ≡ left
+          → (so_far : Option O) → open_with items rest ≡ so_far
+          → P rest (phase_after_items items (open_with items rest))
+      cases false e left some so_far opens = both (header e) (only_none (header_line {E = E} (is_at_start
+          items)) rest (sym (header-place beginning items rest e) ∙ wanted)) (rw e refl)
+      cases true e (suc left) some so_far opens = both (event left e some) (only_none (event_record
+          (records_count_types items)) rest (sym (record-place beginning items left rest e some) ∙ wanted))
+          (rw (e, some) refl)
+      cases true e zero none None opens = both (between e none) (h.wanted_open items rest
+          (sym (body-place beginning items rest e none) ∙ wanted) opens) (in_body e none opens)
+      cases true e zero none (Some so_far) opens =
+          both (epoch so_far e none opens) refl (in_body e none opens)
 
   -- one line more, where more lines are wanted
   lines-line : (items : List (Item E)) (number count : ℕ) (rest : List ReadLine) (line : ReadLine)
       → place h items rest ≡ Wanted → number + length rest ≡ count + 1
-      → (ended : Bool) → header_has_ended items ≡ ended
-      → (left : ℕ) → records_left items ≡ left → (so_far : Option O) → open_with items rest ≡ so_far
       → Follows h (count + 1) items (reading_from (place h) choices.skip items number (rest ++ line ∷ []))
       (fed direction (seen_at h count (phase_after_items items (open_with items rest)) items
       (kept_in direction (phase_after_items items (open_with items rest)) (kept_of items))) line)
-  lines-line items number count rest line wanted counted false in_header left left_is so_far open_is =
-      let none : rest ≡ [] = only_none (header_line {E = E} (is_at_start items)) rest
-      (sym (header-place beginning items rest in_header) ∙ wanted) in
-      let first : number ≡ count + 1 = omega (arith, counted, ap length none) in
-      let phase : phase_after_items items (open_with items rest) ≡ InHeader (is_at_start items) =
-      rw in_header refl in
-      rw (phase, none, first) (header-line 1 items count line in_header)
-  lines-line items number count rest line wanted counted true ended (suc left) left_is so_far open_is =
-      let none : rest ≡ [] = only_none (event_record (records_count_types items)) rest
-      (sym (record-place beginning items left rest ended left_is) ∙ wanted) in
-      let first : number ≡ count + 1 = omega (arith, counted, ap length none) in
-      let phase : phase_after_items items (open_with items rest)
-      ≡ InEvent (suc left) (records_count_types items) = rw (ended, left_is) refl in
-      rw (phase, none, first) (record-line 1 items count left line ended left_is)
-  lines-line items number count rest line wanted counted true ended zero left_is None open_is =
-      let none : rest ≡ [] =
-      h.wanted_open items rest (sym (body-place beginning items rest ended left_is) ∙ wanted) open_is in
-      let first : number ≡ count + 1 = omega (arith, counted, ap length none) in
-      let phase : phase_after_items items (open_with items rest) ≡ BetweenUnits = body-phase items
-      (open_with items rest) ended left_is ∙ ap (λ o. phase_in_body 0 (records_count_types items) o)
-      open_is in
-      rw (phase, none) (fresh-line items number count line BetweenUnits ended left_is refl refl first refl)
-  lines-line items number count rest line wanted counted true ended zero left_is (Some so_far) open_is =
-      let phase : phase_after_items items (open_with items rest) ≡ InEpoch so_far = body-phase items
-      (open_with items rest) ended left_is ∙ ap (λ o. phase_in_body 0 (records_count_types items) o)
-      open_is in
-      rw (phase, more-units (place h) h.forward choices.skip items number rest line)
-      (body-line (suc (length rest)) items number count rest line (InEpoch so_far)
-      (direction.kept_open (kept_of items)) (direction.continues so_far line) ended left_is
-      (sym (body-place beginning items rest ended left_is) ∙ wanted)
-      (h.continues items rest line so_far open_is) refl
-      (inr refl) (inside rest open_is) (λ e. some rest open_is) counted (omega arith) refl)
+  lines-line items number count rest line wanted = by_phase (λ ls p. number + length ls ≡ count + 1
+      → Follows h (count + 1) items (reading_from (place h) choices.skip items number (ls ++ line ∷ []))
+      (fed direction (seen_at h count p items (kept_in direction p (kept_of items))) line)) items rest wanted
+      (λ e counted.
+      let same : number ≡ count + 1 = omega (arith, counted) in
+      rw same (header-line 1 items count line e))
+      (λ left e some counted.
+      let same : number ≡ count + 1 = omega (arith, counted) in
+      rw same (record-line 1 items count left line e some))
+      (λ e none counted.
+      fresh-line items number count line BetweenUnits e none refl refl (omega (arith, counted)) refl)
+      (λ so_far e none opens counted. rw (more-units (place h) h.forward choices.skip items number rest line)
+      (body-line (suc (length rest)) items number count rest line (InEpoch so_far) (direction.kept_open
+      (kept_of items)) (direction.continues so_far line) e none (sym (body-place beginning items rest e none)
+      ∙ wanted) (h.continues items rest line so_far opens) refl (inr refl) (inside so_far rest opens)
+      (λ in_epoch. some_lines so_far rest opens) counted (omega arith) refl))
     where
-      inside : (ls : List ReadLine) → open_with items ls ≡ Some so_far
+      inside : (so_far : O) (ls : List ReadLine) → open_with items ls ≡ Some so_far
           → IsInside h items (InEpoch so_far) (direction.kept_open (kept_of items)) ls
-      inside [] e = absurd (none-some so_far (sym (h.none_open items) ∙ e))
-      inside (l ∷ ls) e = refl
+      inside so_far [] e = absurd (none-some so_far (sym (h.none_open items) ∙ e))
+      inside so_far (l ∷ ls) e = refl
 
-      some : (ls : List ReadLine) → open_with items ls ≡ Some so_far → 0 < length ls
-      some [] e = absurd (none-some so_far (sym (h.none_open items) ∙ e))
-      some (l ∷ ls) e = omega arith
+      some_lines : (so_far : O) (ls : List ReadLine) → open_with items ls ≡ Some so_far → 0 < length ls
+      some_lines so_far [] e = absurd (none-some so_far (sym (h.none_open items) ∙ e))
+      some_lines so_far (l ∷ ls) e = omega arith
 
   -- one line more, wherever a reading has stopped
   pub next-line : (items : List (Item E)) (stop : Stop) (count : ℕ) (line : ReadLine)
@@ -395,23 +402,19 @@ module _ {E U O K : Type 0} {beginning : List (Item E) → List ReadLine → Pla
       (continued_reading (place h) choices.skip (record { items = items; stop = stop }) (line ∷ []))
       (fed direction (seen_of direction open_with kept_of choices count
       (record { items = items; stop = stop })) line)
-  next-line items (AtFault at) count line stopped =
-      record {
-        next = refl;
-        handed_out = sym (append-nil (written_lines unit_lines items));
-        warned = refl;
-        failed = refl;
-      }
-  next-line items (AtLines number rest) count line stopped = lines-line items number count rest
-      line stopped.0 stopped.1 (header_has_ended items) refl (records_left items) refl
-      (open_with items rest) refl
+  next-line items (AtFault at) count line stopped = record {
+    next = refl;
+    handed_out = sym (append-nil (written_lines unit_lines items));
+    warned = refl;
+    failed = refl;
+  }
+  next-line items (AtLines number rest) count line stopped =
+      lines-line items number count rest line stopped.0 stopped.1
   next-line items (Looking number) count line stopped = by_bool (can_go_on line)
-      (λ on. subst (λ r. Follows h (count + 1) items r (fed direction seen line))
-      (sym (looked-here (reading_from (place h) choices.skip items) items number line [] on))
+      (λ on. rw (looked-here (reading_from (place h) choices.skip items) items number line [] on)
       (fresh-line items number count line LookingOn stopped.1 stopped.2 refl refl stopped.0
       (made-looking direction (types_in_force items) (kept_of items) line on)))
-      (λ off. subst (λ r. Follows h (count + 1) items r (fed direction seen line))
-      (sym (looked-on (reading_from (place h) choices.skip items) items number line [] off))
+      (λ off. rw (looked-on (reading_from (place h) choices.skip items) items number line [] off)
       (line-once count items line LookingOn (record { items = items; stop = Looking (number + 1) }) refl
       (passed off)))
     where

@@ -1,18 +1,15 @@
 -- Where memory may run out at a line by what is seen before it, it may by what is there.
-use Rattle.crx_filter.proofs.Words.{ℕ, zero, suc, ◌≡◌, ◌+◌, Bool, true, false, not, cond, List, [], ◌∷◌, ◌++◌}
-use Rattle.crx_filter.proofs.Words.{length, Option, Some, None, refl, ap, sym, subst, ◌∙◌, arith, ◌&&◌}
-use Rattle.crx_filter.proofs.Words.{nat_lt, is_some, ReadLine, Content, Overlong, Fault, At, begins_epoch}
-use Rattle.crx_filter.proofs.Words.{is_event_line, Count, count_in, is_types_line, Place, Wrong, Wanted}
-use Rattle.crx_filter.proofs.Words.{first_line, one_line, FileUnit, HeaderLine, EventRecord, Choices, Item}
-use Rattle.crx_filter.proofs.Words.{Warned, is_at_start, header_has_ended, records_left, records_count_types}
-use Rattle.crx_filter.proofs.Words.{types_in_force, memory_allowed, place_takes, Stop, AtFault, AtLines}
-use Rattle.crx_filter.proofs.Words.{Looking, is_skipped, can_go_on, event_record, header_line}
-use Rattle.crx_filter.proofs.Words.{header_line_fault, types_fault, unless_wrong, is_again, Answer}
-use Rattle.crx_filter.proofs.Words.{BetweenUnits, Direction, Ended, Failed, Fails, InEpoch, InEvent, InHeader}
-use Rattle.crx_filter.proofs.Words.{Made, Notice, Phase, Seen, Step, after_warning, is_in_epoch}
-use Rattle.crx_filter.proofs.Words.{is_skipped_in, kept_in, phase_after_items, phase_in_body, seen_next}
-use Rattle.crx_filter.proofs.Words.{seen_of, step_of_made, with_phase, may_take_memory, takes_memory, rules}
-use Rattle.crx_filter.proofs.Words.{none-some, and_parts, not-true}
+use Rattle.crx_filter.proofs.Words
+use Words.{ℕ, zero, suc, ◌≡◌, ◌+◌, Bool, true, false, not, cond, List, [], ◌∷◌, ◌++◌, length, Option, Some}
+use Words.{None, refl, ap, sym, subst, ◌∙◌, arith, ◌&&◌, nat_lt, is_some, ReadLine, Content, Overlong, Fault}
+use Words.{At, begins_epoch, is_event_line, Count, count_in, is_types_line, Place, Wrong, Wanted, first_line}
+use Words.{one_line, FileUnit, HeaderLine, EventRecord, Choices, Item, Warned, is_at_start, header_has_ended}
+use Words.{records_left, records_count_types, types_in_force, memory_allowed, place_takes, Stop, AtFault}
+use Words.{AtLines, Looking, is_skipped, can_go_on, event_record, header_line, header_line_fault, types_fault}
+use Words.{unless_wrong, is_again, Answer, BetweenUnits, Direction, Ended, Failed, Fails, InEpoch, InEvent}
+use Words.{InHeader, Made, Notice, Phase, Seen, Step, after_warning, is_in_epoch, is_skipped_in, kept_in}
+use Words.{phase_after_items, phase_in_body, seen_next, seen_of, step_of_made, with_phase, may_take_memory}
+use Words.{takes_memory, rules, none-some, and_parts, not-true}
 use Rattle.std.specs.Prelude.{is_none}
 use Rattle.crx_header.specs.meaning.ObservationTypes.{count_of_types_line}
 use Rattle.crx_filter.specs.meaning.Memory.{line_takes, takes_after_warning}
@@ -21,7 +18,7 @@ use Rattle.crx_filter.proofs.following.Following.{AgreeOn, IsCarriedOut, body-ph
 use Rattle.crx_filter.proofs.following.Following.{place, failed-skipped, seen_in, skipped-same, wrong-last}
 use Rattle.crx_filter.proofs.Choosing.{by_bool, false-true}
 use Rattle.crx_filter.proofs.steps.EngineAnswers.{ComesAgain, comes-again}
-use Rattle.crx_filter.proofs.following.Lines.{IsStopped, only_none, header-place, record-place}
+use Rattle.crx_filter.proofs.following.Lines.{IsStopped, by_phase, header-place, record-place}
 
 -- ---- types lines
 
@@ -59,15 +56,12 @@ record-takes : {E : Type 0} (takes : ℕ → Bool → Bool) (items : List (Item 
 record-takes {E = E} takes items line h =
     let each = and_parts (records_count_types items) (is_some (count_of_types_line line)) h in
     let well = counts-well line each.1 in
-    ap (λ (o : Option Fault). place_takes {E = E} takes items 0
-    (one_line (unless_wrong (EventRecord line) o))) (ap (λ b. cond b (types_fault line) None) each.0 ∙ well.1)
-    ∙ ap (λ b. b && is_types_line line) each.0 ∙ well.0
+    cc (each.0, well.1, each.0, well.0)
 
 -- ---- a direction that takes memory by what is at its lines
 
 -- where a line may take memory by what is kept, it does by what is at the lines: where an epoch or an event
--- may begin, and in
--- an epoch
+-- may begin, and in an epoch
 pub record TakesAsItStands {E U O K : Type 0} (beginning : List (Item E) → List ReadLine → Place (FileUnit E))
     (direction : Direction U O K) (open_with : List (Item E) → List ReadLine → Option O)
     (kept_of : List (Item E) → K) (takes : ℕ → Bool → Bool) : Type 0 where
@@ -99,65 +93,30 @@ module _ {E U O K : Type 0} {beginning : List (Item E) → List ReadLine → Pla
       ∙ t.first items line (not-true (is_event_line line) (and_parts (not (is_event_line line)) _ e).0)
       (and_parts (not (is_event_line line)) _ e).1
 
+  -- by the content of a line, where an overlong one takes nothing
+  by_content : (items : List (Item E)) (rest : List ReadLine) (phase : Phase O) (line : ReadLine)
+      → taken_in items Overlong phase ≡ false → ((content : List ℕ) → taken_in items (Content content) phase
+      ≡ true → line_takes (place h) takes items rest (Content content) ≡ true)
+      → taken_in items line phase ≡ true → line_takes (place h) takes items rest line ≡ true
+  by_content items rest phase Overlong off on e = false-true (sym off ∙ e)
+  by_content items rest phase (Content content) off on e = on content e
+
   -- where more lines are wanted
   lines-take : (items : List (Item E)) (rest : List ReadLine) (line : ReadLine) → place h items rest ≡ Wanted
-      → (ended : Bool) → header_has_ended items ≡ ended → (left : ℕ) → records_left items ≡ left
-      → (so_far : Option O) → open_with items rest ≡ so_far
       → taken_in items line (phase_after_items items (open_with items rest)) ≡ true
       → line_takes (place h) takes items rest line ≡ true
-  lines-take items rest line wanted false in_header left left_is so_far open_is e =
-      let none : rest ≡ [] = only_none (header_line {E = E} (is_at_start items)) rest
-      (sym (header-place beginning items rest in_header) ∙ wanted) in
-      let phase : phase_after_items items (open_with items rest) ≡ InHeader (is_at_start items) =
-      rw in_header refl in
-      subst (λ ls. line_takes (place h) takes items ls line ≡ true) (sym none)
-      (by_line line (subst (λ p. taken_in items line p ≡ true) phase e))
-    where
-      by_line : (l : ReadLine) → taken_in items l (InHeader (is_at_start items)) ≡ true
-          → line_takes (place h) takes items [] l ≡ true
-      by_line Overlong e = false-true e
-      by_line (Content content) e =
-          ap (place_takes takes items 0) (header-place beginning items (Content content ∷ []) in_header)
-          ∙ header-takes takes items (is_at_start items) content e
-  lines-take items rest line wanted true ended (suc left) left_is so_far open_is e =
-      let none : rest ≡ [] = only_none (event_record (records_count_types items)) rest
-      (sym (record-place beginning items left rest ended left_is) ∙ wanted) in
-      let phase : phase_after_items items (open_with items rest)
-      ≡ InEvent (suc left) (records_count_types items) = rw (ended, left_is) refl in
-      subst (λ ls. line_takes (place h) takes items ls line ≡ true) (sym none)
-      (by_line line (subst (λ p. taken_in items line p ≡ true) phase e))
-    where
-      by_line : (l : ReadLine) → taken_in items l (InEvent (suc left) (records_count_types items)) ≡ true
-          → line_takes (place h) takes items [] l ≡ true
-      by_line Overlong e = false-true e
-      by_line (Content content) e = ap (place_takes takes items 0) (record-place beginning items left
-          (Content content ∷ []) ended left_is) ∙ record-takes takes items content e
-  lines-take items rest line wanted true ended zero left_is None open_is e =
-      let wanted_here : beginning items rest ≡ Wanted = sym (body-place beginning items rest ended left_is)
-      ∙ wanted in
-      let none : rest ≡ [] = h.wanted_open items rest wanted_here open_is in
-      let phase : phase_after_items items (open_with items rest) ≡ BetweenUnits = body-phase items
-      (open_with items rest) ended left_is ∙ ap (λ o. phase_in_body 0 (records_count_types items) o)
-      open_is in
-      subst (λ ls. line_takes (place h) takes items ls line ≡ true) (sym none)
-      (by_line line (subst (λ p. taken_in items line p ≡ true) phase e))
-    where
-      by_line : (l : ReadLine) → taken_in items l BetweenUnits ≡ true
-          → line_takes (place h) takes items [] l ≡ true
-      by_line Overlong e = false-true e
-      by_line (Content content) e = begins-takes items content ended left_is e
-  lines-take items rest line wanted true ended zero left_is (Some so_far) open_is e =
-      let phase : phase_after_items items (open_with items rest) ≡ InEpoch so_far = body-phase items
-      (open_with items rest) ended left_is ∙ ap (λ o. phase_in_body 0 (records_count_types items) o)
-      open_is in
-      by_line line (subst (λ p. taken_in items line p ≡ true) phase e)
-    where
-      by_line : (l : ReadLine) → taken_in items l (InEpoch so_far) ≡ true
-          → line_takes (place h) takes items rest l ≡ true
-      by_line Overlong e = false-true e
-      by_line (Content content) e = ap (place_takes takes items (length rest))
-          (body-place beginning items (rest ++ Content content ∷ []) ended left_is)
-          ∙ t.next items rest content so_far open_is (and_parts (not (begins_epoch content)) _ e).1
+  lines-take items rest line wanted = by_phase h (λ ls p. taken_in items line p ≡ true
+      → line_takes (place h) takes items ls line ≡ true) items rest wanted
+      (λ e. by_content items [] (InHeader (is_at_start items)) line refl (λ content taken.
+      ap (place_takes takes items 0) (header-place beginning items (Content content ∷ []) e)
+      ∙ header-takes takes items (is_at_start items) content taken))
+      (λ left e some. by_content items [] (InEvent (suc left) (records_count_types items)) line refl
+      (λ content taken. ap (place_takes takes items 0) (record-place beginning items left
+      (Content content ∷ []) e some) ∙ record-takes takes items content taken))
+      (λ e none. by_content items [] BetweenUnits line refl (λ content. begins-takes items content e none))
+      (λ so_far e none opens. by_content items rest (InEpoch so_far) line refl (λ content taken.
+      ap (place_takes takes items (length rest)) (body-place beginning items (rest ++ Content content ∷ [])
+      e none) ∙ t.next items rest content so_far opens (and_parts (not (begins_epoch content)) _ taken).1))
 
   -- memory may run out at a line at once
   pub allowed-first : (items : List (Item E)) (stop : Stop) (count : ℕ) (line : ReadLine)
@@ -167,15 +126,11 @@ module _ {E U O K : Type 0} {beginning : List (Item E) → List ReadLine → Pla
       → memory_allowed (place h) takes choices.skip (record { items = items; stop = stop }) line ≡ Some []
   allowed-first items (AtFault at) count (Content line) stopped e = false-true e
   allowed-first items (AtLines number rest) count line stopped e =
-      ap (λ b. cond b (Some []) (takes_after_warning (place h) takes choices.skip items number line
-      (place h items (rest ++ line ∷ []))))
-      (lines-take items rest line stopped.0 (header_has_ended items) refl (records_left items) refl
-      (open_with items rest) refl e)
-  allowed-first items (Looking number) count (Content line) stopped e =
-      let begins = (and_parts (begins_epoch line) _ e).0 in
-      let takes_it = begins-takes items line stopped.1 stopped.2 (and_parts (begins_epoch line) _ e).1 in
-      ap (λ b. cond (b && line_takes (place h) takes items [] (Content line)) (Some []) None) begins
-      ∙ ap (λ b. cond b (Some []) None) takes_it
+      cc (lines-take items rest line stopped.0 e)
+  allowed-first items (Looking number) count (Content line) stopped e = cc (
+    (and_parts (begins_epoch line) _ e).0,
+    begins-takes items line stopped.1 stopped.2 (and_parts (begins_epoch line) _ e).1,
+  )
   allowed-first items stop count Overlong stopped e = false-true e
 
   -- a line that cuts an epoch off, and is read anew after the warning
@@ -265,8 +220,8 @@ module _ {E U O K : Type 0} {beginning : List (Item E) → List ReadLine → Pla
       → takes_memory direction next line ≡ true
       → memory_allowed (place h) takes choices.skip (record { items = items; stop = stop }) line
       ≡ Some (notice ∷ [])
-  allowed-again items stop count line next notice stopped e taken =
-      by_stop stop stopped (comes-again direction _ next line notice [] e) e
+  allowed-again items stop count line next notice stopped e taken = by_stop stop stopped
+      (comes-again direction _ next line notice [] e) e
     where
       by_stop : (s : Stop) → IsStopped (place h) items s (count + 1)
           → ComesAgain (seen_of direction open_with kept_of choices count
@@ -277,34 +232,13 @@ module _ {E U O K : Type 0} {beginning : List (Item E) → List ReadLine → Pla
           ≡ Some (notice ∷ [])
       by_stop (AtFault at) stopped again e = false-true again.epoch
       by_stop (Looking number) stopped again e = false-true again.epoch
-      by_stop (AtLines number rest) stopped again e =
-          by_items (header_has_ended items) refl (records_left items) refl (open_with items rest) refl
-        where
-          in_phase : Phase O → Seen O K
-          in_phase phase = seen_in choices count phase (types_in_force items)
-              (kept_in direction phase (kept_of items))
-
-          by_items : (ended : Bool) → header_has_ended items ≡ ended → (left : ℕ) → records_left items ≡ left
-              → (so_far : Option O) → open_with items rest ≡ so_far
-              → memory_allowed (place h) takes choices.skip
-              (record { items = items; stop = AtLines number rest }) line ≡ Some (notice ∷ [])
-          by_items false in_header left left_is so_far open_is =
-              let phase : phase_after_items items (open_with items rest) ≡ InHeader (is_at_start items) =
-              rw in_header refl in
-              false-true (sym (ap is_in_epoch phase) ∙ again.epoch)
-          by_items true ended (suc left) left_is so_far open_is =
-              let phase : phase_after_items items (open_with items rest)
-              ≡ InEvent (suc left) (records_count_types items) = rw (ended, left_is) refl in
-              false-true (sym (ap is_in_epoch phase) ∙ again.epoch)
-          by_items true ended zero left_is None open_is =
-              let phase : phase_after_items items (open_with items rest) ≡ BetweenUnits = body-phase items
-              (open_with items rest) ended left_is ∙ ap (λ o. phase_in_body 0 (records_count_types items) o)
-              open_is in
-              false-true (sym (ap is_in_epoch phase) ∙ again.epoch)
-          by_items true ended zero left_is (Some so_far) open_is =
-              let phase : phase_after_items items (open_with items rest) ≡ InEpoch so_far = body-phase items
-              (open_with items rest) ended left_is ∙ ap (λ o. phase_in_body 0 (records_count_types items) o)
-              open_is in
-              cut-takes items number count rest line so_far next notice stopped.0 stopped.1 ended
-              left_is open_is (direction.continues so_far line) (h.continues items rest line so_far open_is)
-              (e ∙ ap (λ p. seen_next direction (in_phase p) line) phase) taken
+      by_stop (AtLines number rest) stopped again e = by_phase h (λ ls p. is_in_epoch p ≡ true
+          → record { answer = Notice notice true; handed_out = []; next = next } ≡ seen_next direction
+          (seen_in choices count p (types_in_force items) (kept_in direction p (kept_of items))) line
+          → memory_allowed (place h) takes choices.skip
+          (record { items = items; stop = AtLines number rest }) line ≡ Some (notice ∷ [])) items rest
+          stopped.0 (λ f inside. false-true inside) (λ left f some inside. false-true inside)
+          (λ f none inside. false-true inside)
+          (λ so_far f none opens inside step. cut-takes items number count rest line so_far next notice
+          stopped.0 stopped.1 f none opens (direction.continues so_far line)
+          (h.continues items rest line so_far opens) step taken) again.epoch e

@@ -1,14 +1,12 @@
 -- The memory that an expansion takes, by what is at its lines.
-use Rattle.crx_filter.proofs.Words.{ℕ, ◌≡◌, Bool, true, false, List, [], ◌∷◌, ◌++◌, length, Option, Some}
-use Rattle.crx_filter.proofs.Words.{None, Result, Ok, Err, refl, ap, sym, ◌∙◌, none-some, ReadLine, Content}
-use Rattle.crx_filter.proofs.Words.{Overlong, Fault, Count, ReadEpoch, satellites_of_line, Satellite}
-use Rattle.crx_filter.proofs.Words.{OpenRawEpoch, RawStep, first_step, next_step, open_raw_after}
-use Rattle.crx_filter.proofs.Words.{open_raw_with, Tail, and_then, Choices, Item, types_in_force, place_takes}
-use Rattle.crx_filter.proofs.Words.{begins_event, compact_open, expansion, made_of_raw_step, tail_of_items}
-use Rattle.crx_filter.proofs.Words.{subst, ◌+◌, ◌-◌, ◌≤◌, drop, arith, length-drop, At, Remains, Place, Here}
-use Rattle.crx_filter.proofs.Words.{Wrong, Wanted, expansion_seen, Notice, Seen, seen_next, takes_memory}
-use Rattle.crx_filter.proofs.Words.{compact_memory, compact_place, first_lines, memory_allowed, Reading}
-use Rattle.crx_filter.proofs.Words.{reading_from, and_parts, not-true}
+use Rattle.crx_filter.proofs.Words
+use Words.{ℕ, ◌≡◌, Bool, true, false, List, [], ◌∷◌, ◌++◌, length, Option, Some, None, Result, Ok, Err, refl}
+use Words.{ap, sym, ◌∙◌, none-some, ReadLine, Content, Overlong, Fault, Count, ReadEpoch, satellites_of_line}
+use Words.{Satellite, OpenRawEpoch, RawStep, first_step, next_step, open_raw_after, open_raw_with, Tail}
+use Words.{and_then, Choices, Item, types_in_force, place_takes, begins_event, compact_open, expansion}
+use Words.{made_of_raw_step, tail_of_items, subst, ◌+◌, ◌-◌, ◌≤◌, drop, arith, length-drop, At, Remains}
+use Words.{Place, Here, Wrong, Wanted, expansion_seen, Notice, Seen, seen_next, takes_memory, compact_memory}
+use Words.{compact_place, first_lines, memory_allowed, Reading, reading_from, and_parts, not-true}
 use Rattle.crx_compact.specs.OpenEpochs.{Going, Whole, Faulty, is_faulty, before_clock, has_come, makes_epoch}
 use Rattle.crx_compact.specs.OpenEpochs.{tail_opened, opened_raw, opening, tail_for_line}
 use Rattle.crx_compact.specs.HeldRows.{past_of_tail}
@@ -28,10 +26,8 @@ step-takes : (choices : Choices) (items : List (Item ReadEpoch)) (lines : List R
     (step : RawStep) → ((is_whole : Bool) → expansion_takes count is_whole ≡ true) → is_faulty step ≡ false
     → Agrees choices items lines (made_of_raw_step step)
     → place_takes expansion_takes items count (compact_beginning items lines) ≡ true
-step-takes choices items lines count (Going so_far) takes fine a =
-    ap (place_takes expansion_takes items count) a.2 ∙ takes false
-step-takes choices items lines count (Whole held) takes fine a =
-    ap (place_takes expansion_takes items count) a.2 ∙ takes true
+step-takes choices items lines count (Going so_far) takes fine a = cc (a.2, takes false)
+step-takes choices items lines count (Whole held) takes fine a = cc (a.2, takes true)
 step-takes choices items lines count (Faulty fault) takes fine a = absurd (cc)
 
 -- a step that makes an epoch takes memory, where the epoch's last line does
@@ -39,8 +35,7 @@ last-takes : (choices : Choices) (items : List (Item ReadEpoch)) (lines : List R
     (step : RawStep) → expansion_takes count true ≡ true → makes_epoch step ≡ true
     → Agrees choices items lines (made_of_raw_step step)
     → place_takes expansion_takes items count (compact_beginning items lines) ≡ true
-last-takes choices items lines count (Whole held) takes last a =
-    ap (place_takes expansion_takes items count) a.2 ∙ takes
+last-takes choices items lines count (Whole held) takes last a = cc (a.2, takes)
 last-takes choices items lines count step takes last a = absurd (cc)
 
 -- ---- the clock line
@@ -135,12 +130,10 @@ stopped-after : (choices : Choices) (lines : List ReadLine) (two : List (List �
     (drop count lines)).items
     (reading_from compact_place choices.skip [] (count + 1) (drop count lines)).stop (length lines + 1)
 stopped-after choices lines two count e =
-    let remains : Remains (length lines) (Here two count) (first_lines (lines ++ [])) = subst
+    let remains = subst
     (λ p. Remains (length lines) p (first_lines (lines ++ []))) e (steady-first_lines lines []) in
-    let within : count ≤ length lines = remains.0 in
-    let left : length (drop count lines) ≡ length lines - count = length-drop count lines in
-    reading-stopped compact_place compact-forward choices.skip
-    [] (count + 1) (length lines + 1) (drop count lines) (omega (arith, left, within))
+    reading-stopped compact_place compact-forward choices.skip [] (count + 1) (length lines + 1)
+    (drop count lines) (omega (arith, length-drop count lines, remains.0))
 
 pub expansion-allowed : (choices : Choices) (lines : List ReadLine) (line : ReadLine)
     → takes_memory expansion (expansion_seen choices lines) line ≡ true
@@ -150,8 +143,7 @@ expansion-allowed choices lines line e = decided (first_lines lines) line refl e
     decided : (p : Place (List (List ℕ))) (l : ReadLine) → first_lines lines ≡ p
         → takes_memory expansion (seen_by choices lines p) l ≡ true → memory_by choices lines l p p ≡ Some []
     decided (Here two count) l is t =
-        let r : Reading ReadEpoch = reading_from compact_place choices.skip [] (count + 1)
-        (drop count lines) in
+        let r = reading_from compact_place choices.skip [] (count + 1) (drop count lines) in
         allowed-first (expansion-carried_out choices) (expansion-takes choices) r.items r.stop (length lines)
         l (stopped-after choices lines two count is) t
     decided p Overlong is t = false-true t
@@ -169,8 +161,7 @@ expansion-allowed-again choices lines line next notice step e = decided (first_l
         ≡ seen_next expansion (seen_by choices lines p) line
         → memory_by choices lines line p p ≡ Some (notice ∷ [])
     decided (Here two count) is s =
-        let r : Reading ReadEpoch = reading_from compact_place choices.skip [] (count + 1)
-        (drop count lines) in
+        let r = reading_from compact_place choices.skip [] (count + 1) (drop count lines) in
         allowed-again (expansion-carried_out choices) (expansion-takes choices) r.items r.stop (length lines)
         line next notice (stopped-after choices lines two count is) s e
     decided p is s = false-true (comes-again expansion (seen_by choices lines p) next line notice [] s).epoch

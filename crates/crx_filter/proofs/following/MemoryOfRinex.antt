@@ -1,14 +1,12 @@
 -- The memory that a compaction and a check take, by what is at their lines.
-use Rattle.crx_filter.proofs.Words.{ℕ, zero, suc, ◌≡◌, Bool, true, false, List, [], ◌∷◌, ◌++◌, length, Some}
-use Rattle.crx_filter.proofs.Words.{Result, Ok, Err, refl, ap, ◌∙◌, ◌+◌, arith, At, none-some, ReadLine}
-use Rattle.crx_filter.proofs.Words.{Content, Fault, OpenEpoch, next_row, rows_wanted, with_next_row, Epoch}
-use Rattle.crx_filter.proofs.Words.{Row, FileUnit, Observation, EpochStep, Going, Whole, Faulty, after_row}
-use Rattle.crx_filter.proofs.Words.{epoch_step, when_wanted, Choices, Item, types_in_force, compaction_takes}
-use Rattle.crx_filter.proofs.Words.{memory_allowed, place_takes, rinex_reading, Reading, takes_memory}
-use Rattle.crx_filter.proofs.Words.{checking, no_choices, totals_of, compaction, made_of_epoch_step}
-use Rattle.crx_filter.proofs.Words.{rinex_begins, Written, compaction_seen, rinex_open, written_of, Completes}
-use Rattle.crx_filter.proofs.Words.{Direction, Made, Notice, Seen, seen_next, seen_of, compact_unit}
-use Rattle.crx_filter.proofs.Words.{rinex_place}
+use Rattle.crx_filter.proofs.Words
+use Words.{ℕ, zero, suc, ◌≡◌, Bool, true, false, List, [], ◌∷◌, ◌++◌, length, Some, Result, Ok, Err, refl, ap}
+use Words.{◌∙◌, ◌+◌, arith, At, none-some, ReadLine, Content, Fault, OpenEpoch, next_row, rows_wanted}
+use Words.{with_next_row, Epoch, Row, FileUnit, Observation, EpochStep, Going, Whole, Faulty, after_row}
+use Words.{epoch_step, when_wanted, Choices, Item, types_in_force, compaction_takes, memory_allowed}
+use Words.{place_takes, rinex_reading, Reading, takes_memory, checking, no_choices, totals_of, compaction}
+use Words.{made_of_epoch_step, rinex_begins, Written, compaction_seen, rinex_open, written_of, Completes}
+use Words.{Direction, Made, Notice, Seen, seen_next, seen_of, compact_unit, rinex_place}
 use Rattle.std.specs.Result.{is_ok}
 use Rattle.crx_filter.specs.meaning.Memory.{check_takes}
 use Rattle.crx_filter.specs.CompactionByLine.{is_whole_at_once}

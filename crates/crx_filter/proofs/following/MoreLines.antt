@@ -26,9 +26,7 @@ module _ {E U O K : Type 0} {beginning : List (Item E) → List ReadLine → Pla
       → Follows h next (read_from number lines).items (read_from number more)
       (fed direction (seen_from number count lines) line)
   more-line number count next lines more line counted after all =
-      let before : Reading E = read_from number lines in
-      rw (after, all) (subst (λ r. Follows h (count + 1) before.items r
-      (fed direction (seen_from number count lines) line))
-      (sym (resumed (place h) h.forward choices.skip [] number lines (line ∷ [])))
-      (next-line h before.items before.stop count line
-      (reading-stopped (place h) h.forward choices.skip [] number (count + 1) lines counted)))
+      let before = read_from number lines in
+      rw (after, all) (rw (resumed (place h) h.forward choices.skip [] number lines (line ∷ []))
+      (next-line h before.items before.stop count line (reading-stopped (place h) h.forward choices.skip []
+      number (count + 1) lines counted)))

@@ -1,14 +1,12 @@
 -- Lines of a RINEX file one by one: what the last of some lines makes is what is at them. Every direction
--- that
--- reads RINEX goes this way.
-use Rattle.crx_filter.proofs.Words.{ℕ, zero, suc, ◌≡◌, ◌⊎◌, List, [], ◌∷◌, ◌++◌, length, Some, None, Result}
-use Rattle.crx_filter.proofs.Words.{Ok, Err, inl, inr, refl, sym, ◌∙◌, none-some, ReadLine, Content, Overlong}
-use Rattle.crx_filter.proofs.Words.{Fault, Epoch, Count, Here, Wanted, after_lines, then_place, FileUnit}
-use Rattle.crx_filter.proofs.Words.{Observation, OpenEpoch, Beginning, EventBegins, EpochBegins, beginning_of}
-use Rattle.crx_filter.proofs.Words.{opened, rows_wanted, epoch_of, rows_at, epoch_place, EpochStep, Going}
-use Rattle.crx_filter.proofs.Words.{Whole, Faulty, when_wanted, epoch_step, Choices, Item, types_in_force}
-use Rattle.crx_filter.proofs.Words.{Made, Direction, made_of_epoch_step, made_of_beginning, rinex_begins}
-use Rattle.crx_filter.proofs.Words.{rinex_open}
+-- that reads RINEX goes this way.
+use Rattle.crx_filter.proofs.Words
+use Words.{ℕ, zero, suc, ◌≡◌, ◌⊎◌, List, [], ◌∷◌, ◌++◌, length, Some, None, Result, Ok, Err, inl, inr, refl}
+use Words.{sym, ◌∙◌, none-some, ReadLine, Content, Overlong, Fault, Epoch, Count, Here, Wanted, after_lines}
+use Words.{then_place, FileUnit, Observation, OpenEpoch, Beginning, EventBegins, EpochBegins, beginning_of}
+use Words.{opened, rows_wanted, epoch_of, rows_at, epoch_place, EpochStep, Going, Whole, Faulty, when_wanted}
+use Words.{epoch_step, Choices, Item, types_in_force, Made, Direction, made_of_epoch_step, made_of_beginning}
+use Words.{rinex_begins, rinex_open}
 use Rattle.crx_rinex.specs.EpochPlaces.{whole_or_going, still_open, open_with, place_after}
 use Rattle.crx_rinex.proofs.OpenEpochs.{wanted-open, next-by_open, open_none}
 use Rattle.crx_filter.proofs.following.Following.{IsSameEpoch, AgreeOn}

@@ -7,8 +7,7 @@ use Rattle.crx_compact.specs.OpenEpochs.{HeldEpoch, OpenRawEpoch}
 use Rattle.crx_compact.specs.Tails.{Tail}
 use Rattle.crx_rinex.specs.meaning.EpochPlaces.{OpenEpoch}
 use Rattle.crx_filter.specs.LineByLine.{Seen, Made, Completes, Moves, Fails, Repeats, Direction, Step}
-use Rattle.crx_filter.specs.LineByLine.{is_skipped_in}
-use Rattle.crx_filter.specs.LineByLine.{made_in, step_of_made}
+use Rattle.crx_filter.specs.LineByLine.{is_skipped_in, made_in, step_of_made}
 use Rattle.crx_header.specs.meaning.CompactHeader.{lines_before_header}
 use Rattle.crx_filter.specs.CompactionByLine.{Written, compaction, is_before_header}
 use Rattle.crx_filter.specs.ExpansionByLine.{expansion}
@@ -25,10 +24,8 @@ step-ready direction some seen line (Completes unit) = sym (some seen unit)
 step-ready direction some seen line (Moves phase) = refl
 step-ready direction some seen line (Repeats at) = refl
 step-ready direction some seen line (Fails fault) = by_bool (is_skipped_in seen fault)
-    (λ on. ap (λ (s : Step _ _). is_ready s.answer) (failed-skipped direction seen line fault on)
-    ∙ sym (ap (λ (s : Step _ _). has_lines s.handed_out) (failed-skipped direction seen line fault on)))
-    (λ off. ap (λ (s : Step _ _). is_ready s.answer) (failed-ends direction seen line fault off)
-    ∙ sym (ap (λ (s : Step _ _). has_lines s.handed_out) (failed-ends direction seen line fault off)))
+    (λ on. cc (failed-skipped direction seen line fault on, failed-skipped direction seen line fault on))
+    (λ off. cc (failed-ends direction seen line fault off, failed-ends direction seen line fault off))
 
 first-lines : (date line : List ℕ) (is_first : Bool)
     → has_lines (lines_before_header date is_first ++ line ∷ []) ≡ true

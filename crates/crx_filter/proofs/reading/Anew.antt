@@ -1,17 +1,14 @@
 -- Where the reading of compact text starts anew, it depends on the types in force alone.
-use Rattle.crx_filter.proofs.Words.{ℕ, zero, suc, ◌≡◌, ◌+◌, ◌-◌, ◌<◌, max, Bool, true, cond, List, [], ◌∷◌}
-use Rattle.crx_filter.proofs.Words.{◌++◌, length, drop, Option, Some, None, refl, ap, sym, ◌∙◌, arith, subst}
-use Rattle.crx_filter.proofs.Words.{append_assoc, and_parts, ⊤, ReadLine, Content, Overlong, Fault, At}
-use Rattle.crx_filter.proofs.Words.{begins_epoch, is_event_line, records_in, Count, with_line, Place, Here}
-use Rattle.crx_filter.proofs.Words.{Wanted, one_line, first_line, FileUnit, HeaderLine, EventLine}
-use Rattle.crx_filter.proofs.Words.{EventRecord, Observation, RawEpoch, block_of, Past, past_of_block}
-use Rattle.crx_filter.proofs.Words.{past_of_epochs, ReadEpoch, epoch_at, Item, Accepted, Warned}
-use Rattle.crx_filter.proofs.Words.{header_has_ended, records_announced, records_left, records_count_types}
-use Rattle.crx_filter.proofs.Words.{declaring_lines, types_in_force, unless_wrong, types_fault, event_record}
-use Rattle.crx_filter.proofs.Words.{Reading, Stop, AtFault, AtLines, Looking, is_skipped, can_go_on}
-use Rattle.crx_filter.proofs.Words.{looked_for, reading_within, after_fault, raws_kept, empties_state}
-use Rattle.crx_filter.proofs.Words.{event_line, as_observation, compact_epoch_place, compact_place}
-use Rattle.crx_filter.proofs.Words.{starts_anew, GoOnAlike}
+use Rattle.crx_filter.proofs.Words
+use Words.{ℕ, zero, suc, ◌≡◌, ◌+◌, ◌-◌, ◌<◌, max, Bool, true, cond, List, [], ◌∷◌, ◌++◌, length, drop, Option}
+use Words.{Some, None, refl, ap, sym, ◌∙◌, arith, subst, append_assoc, and_parts, ⊤, ReadLine, Content}
+use Words.{Overlong, Fault, At, begins_epoch, is_event_line, records_in, Count, with_line, Place, Here}
+use Words.{Wanted, one_line, first_line, FileUnit, HeaderLine, EventLine, EventRecord, Observation, RawEpoch}
+use Words.{block_of, Past, past_of_block, past_of_epochs, ReadEpoch, epoch_at, Item, Accepted, Warned}
+use Words.{header_has_ended, records_announced, records_left, records_count_types, declaring_lines}
+use Words.{types_in_force, unless_wrong, types_fault, event_record, Reading, Stop, AtFault, AtLines, Looking}
+use Words.{is_skipped, can_go_on, looked_for, reading_within, after_fault, raws_kept, empties_state}
+use Words.{event_line, as_observation, compact_epoch_place, compact_place, starts_anew, GoOnAlike}
 use Rattle.crx_header.proofs.Counts.{types_of-push}
 use Rattle.crx_compact.proofs.reading.Forgetting.{forgets}
 use Rattle.crx_filter.specs.Anew.{DependsOnTypes}
@@ -104,10 +101,8 @@ epoch-by_block types one two lines e =
 begin-by_block : (types : List Count) (one two : List RawEpoch) (lines : List ReadLine)
     → block_of one ≡ block_of two → compact_epoch_place types one lines ≡ compact_epoch_place types two lines
 begin-by_block types one two [] e = refl
-begin-by_block types one two (Overlong ∷ lines) e =
-    ap as_observation (epoch-by_block types one two (Overlong ∷ lines) e)
-begin-by_block types one two (Content line ∷ lines) e =
-    rw (epoch-by_block types one two (Content line ∷ lines) e) refl
+begin-by_block types one two (Overlong ∷ lines) e = cc (epoch-by_block types one two (Overlong ∷ lines) e)
+begin-by_block types one two (Content line ∷ lines) e = rw (epoch-by_block _ _ _ _ e) refl
 
 event-same : (a b : List (Item ReadEpoch)) (left : ℕ) (lines : List ReadLine)
     → AreAlike a b → records_left a ≡ suc left → compact_place a lines ≡ compact_place b lines
@@ -235,23 +230,18 @@ module _ (skip : Bool) (units : ℕ) (ih : IsAnew skip units)
   anew-observed : (line : List ℕ) (lines : List ReadLine) (types : List Count) (p : Place ReadEpoch)
       → begins_epoch line ≡ true → epoch_at types [] (Content line ∷ lines) ≡ p
       → Next (Content line ∷ lines) (as_observation p)
-  anew-observed line lines types (Here read count) begins e =
-      let one = forgets types (raws_kept a) line lines begins in
-      let two = forgets types (raws_kept b) line lines begins in
-      reads-same skip units (Accepted (Observation read) ∷ a)
-      (Accepted (Observation read) ∷ b) (number + count) (drop count (Content line ∷ lines))
-      (record {
-        alike = alike-unit a b (Observation read) tt h;
-        block = one.block read count (one.place ∙ e) ∙ sym (two.block read count (two.place ∙ e));
-      })
+  anew-observed line lines types (Here read count) begins e = reads-same _ _ _ _ _ _ (record {
+    alike = alike-unit _ _ _ tt h;
+    block = (forgets types (raws_kept a) line lines begins).block read count (cc)
+        ∙ sym ((forgets types (raws_kept b) line lines begins).block read count (cc));
+  })
   anew-observed line lines types p begins e = tt
 
   anew-record : (line : List ℕ) (lines : List ReadLine) (left : ℕ) (fault : Option Fault)
       → records_left a ≡ suc left → starts_anew left lines ≡ true
       → Next (Content line ∷ lines) (one_line (unless_wrong (EventRecord line) fault))
-  anew-record line lines left None e anew =
-      ih (Accepted (EventRecord line) ∷ a) (Accepted (EventRecord line) ∷ b) (number + 1) lines left
-      (alike-unit a b (EventRecord line) (omega (arith, e)) h) (omega (arith, e)) anew
+  anew-record line lines left None e anew = ih (Accepted (EventRecord line) ∷ a) (Accepted (EventRecord line)
+      ∷ b) (number + 1) lines left (alike-unit _ _ _ (omega (arith, e)) h) (omega (arith, e)) anew
   anew-record line lines left (Some fault) e anew = tt
 
   anew-event : (line : List ℕ) (lines : List ReadLine) (o : Option ℕ)
@@ -307,12 +297,11 @@ reads-anew skip (suc units) a b number lines left h e anew =
     anew-step skip units (reads-anew skip units) a b h number lines left e anew
 
 pub depends-on_types : DependsOnTypes
-depends-on_types skip before other number lines one two types anew =
-    reads-anew skip (length lines + 1) before other number lines 0
-    (record {
+depends-on_types skip before other number lines one two types anew = reads-anew _ _ before other number lines
+    0 (record {
       one = one.header;
       two = two.header;
-      left = one.none ∙ sym two.none;
-      counts = λ some. (let none = one.none in absurd (omega (arith, some, none)));
+      left = cc;
+      counts = λ some. (absurd (omega (arith, some, one.none)));
       types = types;
     }) one.none anew

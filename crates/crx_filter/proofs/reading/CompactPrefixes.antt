@@ -13,8 +13,7 @@ from-none items = record { news = items; same = sym (append-nil items) }
 
 remains : (lines more : List ReadLine) (p : Place (List (List ℕ)))
     → first_lines lines ≡ p → Remains (length lines) p (first_lines (lines ++ more))
-remains lines more p e = subst
-    (λ q. Remains (length lines) q (first_lines (lines ++ more))) e (steady-first_lines lines more)
+remains lines more p e = rw e at (steady-first_lines lines more)
 
 pub reading-at : (skip : Bool) (lines : List ReadLine) (two : List (List ℕ)) (count : ℕ) → first_lines lines
     ≡ Here two count → compact_reading skip lines ≡ reading_from compact_place skip [] (count + 1)
@@ -49,10 +48,8 @@ whole-more skip lines more p e = rw (e, compact_reading) (from-none _)
 pub expanded-first : (choices : Choices) (lines : List ReadLine)
     → IsWrittenFirst expanded_so_far (λ input (c : Choices). (expanded input c).output) choices lines
 expanded-first choices lines = record {
-  longer = λ more. text-more expanded_unit _ _ (reading-more choices.skip lines more
-      (first_lines lines) refl);
-  whole = λ input more e.
-      subst (λ all. Begins (lines_text (expanded_lines (whole_compact choices.skip all).items))
-      (expanded_so_far lines choices)) (sym e)
-      (text-more expanded_unit _ _ (whole-more choices.skip lines more (first_lines lines) refl));
+  longer = λ more. text-more expanded_unit _ _ (reading-more choices.skip lines more (first_lines lines)
+      refl);
+  whole = λ input more e. rw e (text-more expanded_unit _ _ (whole-more choices.skip lines more
+      (first_lines lines) refl));
 }

@@ -23,8 +23,7 @@ all-drop P (suc n) (x ∷ xs) h = all-drop P n xs h.1
 pub header-append : {E : Type 0} (later before : List (Item E))
     → header_has_ended before ≡ true → header_has_ended (later ++ before) ≡ true
 header-append [] before h = h
-header-append (item ∷ later) before h = ap (λ b. ends_header item || b) (header-append later before h)
-    ∙ either (ends_header item)
+header-append (item ∷ later) before h = cc (header-append later before h, either (ends_header item))
   where
     either : (b : Bool) → (b || true) ≡ true
     either true = refl

@@ -1,14 +1,12 @@
 -- The end of the input, wherever a reading has stopped.
-use Rattle.crx_filter.proofs.Words.{ℕ, zero, suc, ◌≡◌, ◌+◌, Bool, true, false, cond, List, [], ◌∷◌, length}
-use Rattle.crx_filter.proofs.Words.{Option, Some, None, refl, ap, sym, ◌∙◌, rules, ◌&&◌, ◌==◌, nat_lt}
-use Rattle.crx_filter.proofs.Words.{none-some, ReadLine, Fault, MissingVersion, Truncated, Place, Wanted}
-use Rattle.crx_filter.proofs.Words.{first_line, Count, FileUnit, Choices, Item, is_at_start, header_has_ended}
-use Rattle.crx_filter.proofs.Words.{records_left, records_count_types, types_in_force, header_line}
-use Rattle.crx_filter.proofs.Words.{event_record, unit_place, WholeReading, Stop, AtLines, is_skipped}
-use Rattle.crx_filter.proofs.Words.{fault_at_end, ended_with, ended_reading, is_skippable, written_lines}
-use Rattle.crx_filter.proofs.Words.{warnings_in, Phase, InHeader, BetweenUnits, InEvent, InEpoch, Direction}
-use Rattle.crx_filter.proofs.Words.{Step, is_skipped_in, kept_in, seen_end, phase_in_body, phase_after_items}
-use Rattle.crx_filter.proofs.Words.{seen_of, IsEndedBy}
+use Rattle.crx_filter.proofs.Words
+use Words.{ℕ, zero, suc, ◌≡◌, ◌+◌, Bool, true, false, cond, List, [], ◌∷◌, length, Option, Some, None, refl}
+use Words.{ap, sym, ◌∙◌, rules, ◌&&◌, ◌==◌, nat_lt, none-some, ReadLine, Fault, MissingVersion, Truncated}
+use Words.{Place, Wanted, first_line, Count, FileUnit, Choices, Item, is_at_start, header_has_ended}
+use Words.{records_left, records_count_types, types_in_force, header_line, event_record, unit_place}
+use Words.{WholeReading, Stop, AtLines, is_skipped, fault_at_end, ended_with, ended_reading, is_skippable}
+use Words.{written_lines, warnings_in, Phase, InHeader, BetweenUnits, InEvent, InEpoch, Direction, Step}
+use Words.{is_skipped_in, kept_in, seen_end, phase_in_body, phase_after_items, seen_of, IsEndedBy}
 use Rattle.crx_base.specs.declared.fault.Fault.TheVariants.{NoEndOfHeader}
 use Rattle.crx_filter.specs.LineByLine.{end_step}
 use Rattle.crx_filter.proofs.Choosing.{by_bool}
@@ -147,9 +145,7 @@ pub next-end : {E U O K : Type 0} (beginning : List (Item E) → List ReadLine
     (count + 1) → EndsAs unit_lines items (ended_reading choices.skip (record { items = items; stop = stop }))
     (seen_end direction (seen_of direction open_with kept_of choices count
     (record { items = items; stop = stop })))
-next-end beginning direction open_with kept_of unit_lines choices h items
-    (AtLines number rest) count stopped =
-    lines-end beginning direction open_with kept_of unit_lines choices h items number count rest stopped.0
-    stopped.1 (header_has_ended items) refl (records_left items) refl (open_with items rest) refl
+next-end beginning direction open_with kept_of unit_lines choices h items (AtLines number rest) count
+    stopped = lines-end _ _ _ _ _ _ h _ _ _ _ stopped.0 stopped.1 _ refl _ refl _ refl
 next-end beginning direction open_with kept_of unit_lines choices h items stop count stopped =
     record { once = refl; handed_out = refl; written = refl; warned = refl; failed = refl }

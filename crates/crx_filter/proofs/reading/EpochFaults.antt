@@ -1,15 +1,14 @@
 -- The faults of an epoch of compact text can all be skipped.
-use Rattle.crx_filter.proofs.Words.{ℕ, ℤ, suc, ◌≡◌, ◌+◌, ◌*◌, Bool, true, List, [], ◌∷◌, map, drop, Option}
-use Rattle.crx_filter.proofs.Words.{Some, None, Result, Ok, Err, refl, ⊤, not, list_all, bytes_eq, columns}
-use Rattle.crx_filter.proofs.Words.{is_blank, without_end_blanks, code_of, ReadLine, Content, Overlong}
-use Rattle.crx_filter.proofs.Words.{HEAD_WIDTH, NAME_WIDTH, CLOCK_WIDTH, OBSERVATION_WIDTH, Fault, BadEpoch}
-use Rattle.crx_filter.proofs.Words.{BadClock, RepeatedSatellite, BadField, BadFlags, Truncated, LineTooLong}
-use Rattle.crx_filter.proofs.Words.{epoch_count, begins_epoch, Count, Place, Here, Wrong, Wanted, after_lines}
-use Rattle.crx_filter.proofs.Words.{then_place, one_line, first_line, types_of_satellite, BegunEpoch}
-use Rattle.crx_filter.proofs.Words.{satellites_of_line, epoch_begun, clock_line_read, cell_read}
-use Rattle.crx_filter.proofs.Words.{satellite_line_read, rows_read, epoch_of_rows, epoch_after_line, epoch_at}
-use Rattle.crx_filter.proofs.Words.{Satellite, is_printable, RawEpoch, block_of, Past, past_of_block}
-use Rattle.crx_filter.proofs.Words.{past_of_epochs, past_of_line, and_then, is_skippable, as_observation}
+use Rattle.crx_filter.proofs.Words
+use Words.{ℕ, ℤ, suc, ◌≡◌, ◌+◌, ◌*◌, Bool, true, List, [], ◌∷◌, map, drop, Option, Some, None, Result, Ok}
+use Words.{Err, refl, ⊤, not, list_all, bytes_eq, columns, is_blank, without_end_blanks, code_of, ReadLine}
+use Words.{Content, Overlong, HEAD_WIDTH, NAME_WIDTH, CLOCK_WIDTH, OBSERVATION_WIDTH, Fault, BadEpoch}
+use Words.{BadClock, RepeatedSatellite, BadField, BadFlags, Truncated, LineTooLong, epoch_count, begins_epoch}
+use Words.{Count, Place, Here, Wrong, Wanted, after_lines, then_place, one_line, first_line}
+use Words.{types_of_satellite, BegunEpoch, satellites_of_line, epoch_begun, clock_line_read, cell_read}
+use Words.{satellite_line_read, rows_read, epoch_of_rows, epoch_after_line, epoch_at, Satellite, is_printable}
+use Words.{RawEpoch, block_of, Past, past_of_block, past_of_epochs, past_of_line, and_then, is_skippable}
+use Words.{as_observation}
 use Rattle.std.specs.List.{list_any}
 use Rattle.crx_text.specs.declared.code.Code.{Code}
 use Rattle.crx_text.specs.declared.code.Code.TheVariants.{Missing, Start, Step}
@@ -44,8 +43,7 @@ module _ (test : Fault → Bool) where
   pub place-then : {X Y : Type 0} (p : Place X) (lines : List ReadLine) (next : X → List ReadLine → Place Y)
       → FaultsPassAt test p → ((x : X) (ls : List ReadLine) → FaultsPassAt test (next x ls))
       → FaultsPassAt test (then_place p lines next)
-  place-then (Here x count) lines next a b =
-      place-after count (next x (drop count lines)) (b x (drop count lines))
+  place-then (Here x count) lines next a b = place-after _ _ (b x (drop count lines))
   place-then (Wrong offset fault) lines next a b = a
   place-then Wanted lines next a b = tt
 
@@ -117,11 +115,6 @@ epochs-skippable : (older : List RawEpoch) → IsSkippableOption (past_of_epochs
 epochs-skippable [] = tt
 epochs-skippable (e ∷ older) = block-skippable (block_of (e ∷ older))
 
-past-skippable : (older : List RawEpoch) (line : List ℕ) → IsSkippableOption (past_of_line older line)
-past-skippable older line = chosen IsSkippableOption
-    (begins_epoch line) (Some (past_of_block [])) (past_of_epochs older) (block-skippable [])
-    (epochs-skippable older)
-
 before-skippable : (earlier : List (List ℕ)) (name : List ℕ) (count : Option ℕ)
     (others : Result (List Satellite) Fault)
     → IsSkippableResult others → IsSkippableResult (satellite_before earlier name count others)
@@ -146,12 +139,6 @@ counted-skippable types text (Some count) =
     (Err BadEpoch) (satellites_named types [] (names_in text count)) refl
     (named-skippable types [] (names_in text count))
 
-satellites-skippable : (types : List Count) (past : Past) (line : List ℕ)
-    → IsSkippableResult (satellites_of_line types past line)
-satellites-skippable types past line = chosen IsSkippableResult (not (list_all is_printable line))
-    (Err BadEpoch) (satellites_of_text types (past.text line)) refl
-    (counted-skippable types (past.text line) (epoch_count (columns (past.text line) 1 HEAD_WIDTH)))
-
 -- an epoch line that was read, by what is given to its lines
 abbrev IsBegunWell : Result BegunEpoch Fault → Type 0
 IsBegunWell (Ok begun) = IsSkippablePast begun.past
@@ -167,8 +154,10 @@ begun-well line past h (Err fault) a = a
 epoch_begun-well : (types : List Count) (line : List ℕ) (past : Option Past)
     → IsSkippableOption past → IsBegunWell (epoch_begun types line past)
 epoch_begun-well types line None h = refl
-epoch_begun-well types line (Some past) h =
-    begun-well line past h (satellites_of_line types past line) (satellites-skippable types past line)
+epoch_begun-well types line (Some past) h = begun-well line past h (satellites_of_line types past line)
+    (chosen IsSkippableResult (not (list_all is_printable line)) (Err BadEpoch) (satellites_of_text types
+    (past.text line)) refl (counted-skippable types (past.text line) (epoch_count (columns (past.text line) 1
+    HEAD_WIDTH))))
 
 cell-skippable : (malformed : Fault) (value : Code → Result (Option ℤ) Fault) (code : Option Code)
     → is_skippable malformed ≡ true
@@ -214,25 +203,21 @@ rows_read-skippable past h (satellite ∷ satellites) lines =
     (λ row others. place-then is_skippable (rows_read past satellites others) others
     (λ rows rest. Here (row ∷ rows) 0) (rows_read-skippable past h satellites others) (λ rows rest. tt))
 
-after_line-skippable : (begun : BegunEpoch)
-    → IsSkippablePast begun.past → (lines : List ReadLine) → IsSkippableAt (epoch_after_line begun lines)
-after_line-skippable begun h lines = place-then is_skippable (first_line lines (clock_line_read begun.past))
-    lines _ (place-first is_skippable refl lines
-    (clock_line_read begun.past) (clock_line-skippable begun.past h))
-    (λ clock others. place-then is_skippable (rows_read begun.past begun.satellites others) others
-    (λ rows rest. Here (epoch_of_rows begun clock rows) 0)
-    (rows_read-skippable begun.past h begun.satellites others) (λ rows rest. tt))
-
 begun_line-skippable : (r : Result BegunEpoch Fault) → IsBegunWell r → (lines : List ReadLine)
     → IsSkippableAt (then_place (one_line r) lines (λ begun others. epoch_after_line begun others))
 begun_line-skippable (Ok begun) h lines = place-after is_skippable 1 (epoch_after_line begun (drop 1 lines))
-    (after_line-skippable begun h (drop 1 lines))
+    (place-then is_skippable (first_line (drop 1 lines) (clock_line_read begun.past)) (drop 1 lines) _
+    (place-first is_skippable refl (drop 1 lines) (clock_line_read begun.past)
+    (clock_line-skippable begun.past h)) (λ clock others. place-then is_skippable
+    (rows_read begun.past begun.satellites others) others (λ rows rest. Here (epoch_of_rows begun clock rows)
+    0) (rows_read-skippable begun.past h begun.satellites others) (λ rows rest. tt)))
 begun_line-skippable (Err fault) h lines = h
 
 pub epoch-skippable : (types : List Count) (older : List RawEpoch) (lines : List ReadLine)
     → IsSkippableAt (epoch_at types older lines)
 epoch-skippable types older [] = tt
 epoch-skippable types older (Overlong ∷ lines) = refl
-epoch-skippable types older (Content line ∷ lines) =
-    begun_line-skippable (epoch_begun types line (past_of_line older line))
-    (epoch_begun-well types line (past_of_line older line) (past-skippable older line)) (Content line ∷ lines)
+epoch-skippable types older (Content line ∷ lines) = begun_line-skippable (epoch_begun types line
+    (past_of_line older line)) (epoch_begun-well types line (past_of_line older line)
+    (chosen IsSkippableOption (begins_epoch line) (Some (past_of_block [])) (past_of_epochs older)
+    (block-skippable []) (epochs-skippable older))) (Content line ∷ lines)

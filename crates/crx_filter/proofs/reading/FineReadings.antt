@@ -1,12 +1,11 @@
 -- A reading stops at faults of lines alone, and so does the end of the input.
-use Rattle.crx_filter.proofs.Words.{ℕ, zero, suc, ◌≡◌, ◌+◌, max, Bool, true, List, [], ◌∷◌, length, drop}
-use Rattle.crx_filter.proofs.Words.{Option, Some, None, refl, subst, ⊤, ◌==◌, nat_lt, not, ReadLine, Fault}
-use Rattle.crx_filter.proofs.Words.{At, Place, FileUnit, Item, Accepted, Warned, header_has_ended}
-use Rattle.crx_filter.proofs.Words.{records_left, Reading, Stop, AtFault, AtLines, Looking, is_skipped}
-use Rattle.crx_filter.proofs.Words.{can_go_on, looked_for, reading_within, reading_from, fault_at_end}
-use Rattle.crx_filter.proofs.Words.{ended_with, after_fault, ended_reading, whole_reading, rinex_place}
-use Rattle.crx_filter.proofs.Words.{whole_rinex, rinex_reading, compact_place, first_lines, whole_compact}
-use Rattle.crx_filter.proofs.Words.{fault_in_first_lines, compact_reading, fault_of_stop, is_of_lines}
+use Rattle.crx_filter.proofs.Words
+use Words.{ℕ, zero, suc, ◌≡◌, ◌+◌, max, Bool, true, List, [], ◌∷◌, length, drop, Option, Some, None, refl}
+use Words.{subst, ⊤, ◌==◌, nat_lt, not, ReadLine, Fault, At, Place, FileUnit, Item, Accepted, Warned}
+use Words.{header_has_ended, records_left, Reading, Stop, AtFault, AtLines, Looking, is_skipped, can_go_on}
+use Words.{looked_for, reading_within, reading_from, fault_at_end, ended_with, after_fault, ended_reading}
+use Words.{whole_reading, rinex_place, whole_rinex, rinex_reading, compact_place, first_lines, whole_compact}
+use Words.{fault_in_first_lines, compact_reading, fault_of_stop, is_of_lines}
 use Rattle.crx_filter.proofs.Choosing.{by_bool}
 use Rattle.crx_filter.proofs.reading.Resuming.{by_place, within-here, within-wrong, within-wanted}
 use Rattle.crx_filter.proofs.reading.LineFaults.{IsFineAt, IsFineFault, rinex-fine, compact-fine}
@@ -37,13 +36,12 @@ within-fine place h skip (suc units) items number lines = by_place (place items 
     (within-fine place h skip units (Accepted unit ∷ items) (number + count) (drop count lines)))
     (λ offset fault e.
     let at : At = record { line = number + offset; fault = fault } in
-    let fine = subst (λ (p : Place _). IsFineAt p) e (h items lines) in
-    rw (within-wrong place skip units items number lines offset fault e)
-    (by_bool (is_skipped skip items fault)
-    (λ on. rw (on, after_fault) (looked-fine (Warned at ∷ items)
-    (reading_within place skip units (Warned at ∷ items)) (number + max offset 1) (drop (max offset 1) lines)
+    rw (within-wrong place skip units items number lines offset fault e) (by_bool (is_skipped skip items
+    fault)
+    (λ on. rw (on, after_fault) (looked-fine (Warned at ∷ items) (reading_within place skip units
+    (Warned at ∷ items)) (number + max offset 1) (drop (max offset 1) lines)
     (λ n ls. within-fine place h skip units (Warned at ∷ items) n ls)))
-    (λ off. rw (off, after_fault) fine)))
+    (λ off. rw (off, after_fault) (subst (λ (p : Place _). IsFineAt p) e (h items lines)))))
     (λ e. rw (within-wanted place skip units items number lines e) tt)
 
 from-fine : {E : Type 0} (place : List (Item E) → List ReadLine → Place (FileUnit E)) → IsFinePlace place
@@ -111,29 +109,17 @@ pub rinex-found-at-end : (skip : Bool) (lines : List ReadLine) (at : At)
 rinex-found-at-end skip lines at e =
     of-end (whole_rinex skip lines).fault at (whole-fine rinex_place rinex-fine skip 1 lines) e
 
-compact-stop : (skip : Bool) (lines : List ReadLine) → IsFineStop (compact_reading skip lines).stop
-compact-stop skip lines = by_place (first_lines lines)
-    (λ two count e. rw (e, compact_reading) (from-fine compact_place compact-fine skip (count + 1)
-    (drop count lines)))
-    (λ offset fault e. rw (e, compact_reading)
-    (subst (λ (p : Place (List (List ℕ))). IsFineAt p) e (first_lines-fine lines)))
-    (λ e. rw (e, compact_reading) tt)
-
-first-end-fine : (count : ℕ) → is_of_lines (fault_in_first_lines count) ≡ true
-first-end-fine count = by_bool (count == 0) (λ on. rw on refl) (λ off. rw off refl)
-
-compact-end : (skip : Bool) (lines : List ReadLine) → IsFineEnd (whole_compact skip lines).fault
-compact-end skip lines = by_place (first_lines lines)
-    (λ two count e. rw (e, whole_compact) (whole-fine compact_place compact-fine skip (count + 1)
-    (drop count lines)))
-    (λ offset fault e. rw (e, whole_compact)
-    (subst (λ (p : Place (List (List ℕ))). IsFineAt p) e (first_lines-fine lines)))
-    (λ e. rw (e, whole_compact) (first-end-fine (length lines)))
-
 pub compact-found : (skip : Bool) (lines : List ReadLine) (at : At)
     → fault_of_stop (compact_reading skip lines).stop ≡ Some at → is_of_lines at.fault ≡ true
-compact-found skip lines at e = of-stop (compact_reading skip lines).stop at (compact-stop skip lines) e
+compact-found skip lines at e = of-stop (compact_reading skip lines).stop at (by_place (first_lines lines)
+    (λ two count e. rw (e, compact_reading) (from-fine compact_place compact-fine skip (count + 1)
+    (drop count lines))) (λ offset fault e. rw (e, compact_reading) (subst (λ (p : Place (List (List ℕ))).
+    IsFineAt p) e (first_lines-fine lines))) (λ e. rw (e, compact_reading) tt)) e
 
 pub compact-found-at-end : (skip : Bool) (lines : List ReadLine) (at : At)
     → (whole_compact skip lines).fault ≡ Some at → is_of_lines at.fault ≡ true
-compact-found-at-end skip lines at e = of-end (whole_compact skip lines).fault at (compact-end skip lines) e
+compact-found-at-end skip lines at e = of-end (whole_compact skip lines).fault at (by_place
+    (first_lines lines) (λ two count e. rw (e, whole_compact) (whole-fine compact_place compact-fine skip
+    (count + 1) (drop count lines))) (λ offset fault e. rw (e, whole_compact) (subst (λ (p : Place
+    (List (List ℕ))). IsFineAt p) e (first_lines-fine lines))) (λ e. rw (e, whole_compact)
+    (by_bool ((length lines) == 0) (λ on. rw on refl) (λ off. rw off refl)))) e

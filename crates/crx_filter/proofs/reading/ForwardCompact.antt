@@ -1,11 +1,10 @@
 -- What is at a line of compact text is certain as soon as its last line has come.
-use Rattle.crx_filter.proofs.Words.{ℕ, suc, ◌<◌, List, [], ◌∷◌, ◌++◌, length, Result, Ok, Err, refl, ap}
-use Rattle.crx_filter.proofs.Words.{arith, ReadLine, Content, Overlong, FileUnit, Fault, Place, Here, Wanted}
-use Rattle.crx_filter.proofs.Words.{then_place, one_line, first_line, IsSteady, Remains, IsDecidedAfter}
-use Rattle.crx_filter.proofs.Words.{is_event_line, Count, RawEpoch, past_of_line, ReadEpoch, epoch_begun}
-use Rattle.crx_filter.proofs.Words.{epoch_after_line, epoch_at, Item, types_in_force, raws_kept, event_line}
-use Rattle.crx_filter.proofs.Words.{as_observation, compact_epoch_place, compact_place, crinex_version}
-use Rattle.crx_filter.proofs.Words.{crinex_program, first_lines, IsReadForward}
+use Rattle.crx_filter.proofs.Words
+use Words.{ℕ, suc, ◌<◌, List, [], ◌∷◌, ◌++◌, length, Result, Ok, Err, refl, ap, arith, ReadLine, Content}
+use Words.{Overlong, FileUnit, Fault, Place, Here, Wanted, then_place, one_line, first_line, IsSteady}
+use Words.{Remains, IsDecidedAfter, is_event_line, Count, RawEpoch, past_of_line, ReadEpoch, epoch_begun}
+use Words.{epoch_after_line, epoch_at, Item, types_in_force, raws_kept, event_line, as_observation}
+use Words.{compact_epoch_place, compact_place, crinex_version, crinex_program, first_lines, IsReadForward}
 use Rattle.crx_rinex.proofs.Steady.{steady-here, steady-first_line, steady-then}
 use Rattle.crx_filter.proofs.Choosing.{by_bool}
 use Rattle.crx_filter.proofs.reading.Forward.{unit_place-forward}
@@ -61,8 +60,7 @@ steady-compact types older (Content line ∷ lines) more = by_bool (is_event_lin
     (steady-epoch_at types older (Content line ∷ lines) more)))
 
 pub compact-forward : IsReadForward compact_place
-compact-forward =
-    unit_place-forward _ (λ items. steady-compact (types_in_force items) (raws_kept items)) (λ items. refl)
+compact-forward = unit_place-forward _ (λ items. steady-compact _ _) (λ items. refl)
 
 -- ---- the first two lines
 

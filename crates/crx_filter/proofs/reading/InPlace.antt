@@ -1,16 +1,14 @@
 -- What was accepted of a RINEX file is in place.
-use Rattle.crx_filter.proofs.Words.{ℕ, zero, suc, ◌≡◌, ◌+◌, true, false, cond, List, [], ◌∷◌, Option, Some}
-use Rattle.crx_filter.proofs.Words.{None, Result, Ok, Err, refl, ap, sym, subst, ◌∙◌, arith, ⊤, not, drop}
-use Rattle.crx_filter.proofs.Words.{list_all, clock_of, HEAD_WIDTH, CLOCK_WIDTH, is_some, ReadLine, Content}
-use Rattle.crx_filter.proofs.Words.{Overlong, columns, character_at, is_blank, Fault, BadEpoch, Epoch, Place}
-use Rattle.crx_filter.proofs.Words.{Here, Wrong, Wanted, after_lines, then_place, one_line, first_line}
-use Rattle.crx_filter.proofs.Words.{FileUnit, HeaderLine, EventLine, EventRecord, Observation, begins_epoch}
-use Rattle.crx_filter.proofs.Words.{is_event_flag, is_event_line, records_in, epoch_count, event_head}
-use Rattle.crx_filter.proofs.Words.{epoch_head, head_of, Count, Beginning, EventBegins, EpochBegins, opened}
-use Rattle.crx_filter.proofs.Words.{begun_by, beginning_of, rest_at, unit_begun, epoch_place, Item, Accepted}
-use Rattle.crx_filter.proofs.Words.{Warned, is_at_start, header_has_ended, records_left, records_count_types}
-use Rattle.crx_filter.proofs.Words.{types_in_force, types_fault, header_line_fault, header_line, event_record}
-use Rattle.crx_filter.proofs.Words.{rinex_place, ItemsAreRead, IsInPlace, AreInPlace}
+use Rattle.crx_filter.proofs.Words
+use Words.{ℕ, zero, suc, ◌≡◌, ◌+◌, true, false, cond, List, [], ◌∷◌, Option, Some, None, Result, Ok, Err}
+use Words.{refl, ap, sym, subst, ◌∙◌, arith, ⊤, not, drop, list_all, clock_of, HEAD_WIDTH, CLOCK_WIDTH}
+use Words.{is_some, ReadLine, Content, Overlong, columns, character_at, is_blank, Fault, BadEpoch, Epoch}
+use Words.{Place, Here, Wrong, Wanted, after_lines, then_place, one_line, first_line, FileUnit, HeaderLine}
+use Words.{EventLine, EventRecord, Observation, begins_epoch, is_event_flag, is_event_line, records_in}
+use Words.{epoch_count, event_head, epoch_head, head_of, Count, Beginning, EventBegins, EpochBegins, opened}
+use Words.{begun_by, beginning_of, rest_at, unit_begun, epoch_place, Item, Accepted, Warned, is_at_start}
+use Words.{header_has_ended, records_left, records_count_types, types_in_force, types_fault}
+use Words.{header_line_fault, header_line, event_record, rinex_place, ItemsAreRead, IsInPlace, AreInPlace}
 use Rattle.crx_rinex.proofs.SoundEpochs.{with_clock, sound-epoch_place}
 use Rattle.crx_filter.proofs.Choosing.{by_bool}
 use Rattle.crx_filter.proofs.following.Following.{body-place}
@@ -81,8 +79,7 @@ unit-begun types (Ok (EpochBegins head)) lines h =
 place-begun : (types : List Count) (lines : List ReadLine) → OfHere IsBegun (epoch_place types lines)
 place-begun types [] = tt
 place-begun types (Overlong ∷ lines) = tt
-place-begun types (Content line ∷ lines) = unit-begun types (beginning_of line) (Content line ∷ lines)
-    (line-begun line)
+place-begun types (Content line ∷ lines) = unit-begun _ _ _ (line-begun line)
 
 -- ---- a unit, wherever it is
 
@@ -99,40 +96,30 @@ in-body : (before : List (Item Epoch)) (unit : FileUnit Epoch) (lines : List Rea
     → rinex_place before lines ≡ Here unit count
     → header_has_ended before ≡ true → (left : ℕ) → records_left before ≡ left → IsInPlace before unit
 in-body before unit lines count e ended zero none =
-    let here : epoch_place (types_in_force before) lines ≡ Here unit count =
-    sym (body-place rinex_beginning before lines ended none) ∙ e in
-    begun-in_place before unit lines count ended none here
-    (subst (λ p. OfHere IsBegun p) here (place-begun (types_in_force before) lines))
-in-body before unit lines count e ended (suc left) some =
-    let here : first_line lines (event_record (records_count_types before)) ≡ Here unit count =
-    sym (record-place rinex_beginning before left lines ended some) ∙ e in
-    subst (λ p. OfHere (IsInPlace before) p) here
-    (first-line (IsInPlace before) (event_record (records_count_types before)) lines
-    (λ line. unless-wrong (IsInPlace before) (EventRecord line)
-    (cond (records_count_types before) (types_fault line) None) (λ good. (ended, omega (arith, some), good))))
+    let here = sym (body-place rinex_beginning before lines ended none) ∙ e in
+    begun-in_place before unit lines count ended none here (rw here at (place-begun (types_in_force before)
+    lines))
+in-body before unit lines count e ended (suc left) some = rw (sym (record-place rinex_beginning before left
+    lines ended some) ∙ e) at (first-line (IsInPlace before) (event_record (records_count_types before)) lines
+    (λ line. unless-wrong (IsInPlace before) (EventRecord line) (cond (records_count_types before)
+    (types_fault line) None) (λ good. (ended, omega (arith, some), good))))
 
 in-header : (before : List (Item Epoch)) (unit : FileUnit Epoch) (lines : List ReadLine) (count : ℕ)
     → rinex_place before lines ≡ Here unit count → header_has_ended before ≡ false → IsInPlace before unit
-in-header before unit lines count e open_header =
-    let here : first_line lines (header_line (is_at_start before)) ≡ Here unit count =
-    sym (at_header lines open_header) ∙ e in
-    subst (λ p. OfHere (IsInPlace before) p) here
-    (first-line (IsInPlace before) (header_line (is_at_start before)) lines
-    (λ line. unless-wrong (IsInPlace before)
-    (HeaderLine line) (header_line_fault (is_at_start before) line) (λ good. (open_header, good))))
+in-header before unit lines count e open_header = rw (sym (at_header lines open_header)
+    ∙ e) at (first-line (IsInPlace before) (header_line (is_at_start before)) lines
+    (λ line. unless-wrong (IsInPlace before) (HeaderLine line) (header_line_fault (is_at_start before) line)
+    (λ good. (open_header, good))))
   where
     at_header : (ls : List ReadLine) → header_has_ended before ≡ false → rinex_place before ls
         ≡ first_line ls (header_line (is_at_start before))
     at_header ls e = rw e refl
 
-unit-in_place : (before : List (Item Epoch)) (unit : FileUnit Epoch) (lines : List ReadLine) (count : ℕ)
-    → rinex_place before lines ≡ Here unit count → IsInPlace before unit
-unit-in_place before unit lines count e = by_bool (header_has_ended before)
-    (λ on. in-body before unit lines count e on (records_left before) refl)
-    (λ off. in-header before unit lines count e off)
-
 pub items-in_place : (items : List (Item Epoch)) → ItemsAreRead rinex_place items → AreInPlace items
 items-in_place [] h = tt
-items-in_place (Accepted unit ∷ before) h =
-    (unit-in_place before unit (h.0).0 (h.0).1 (h.0).2, items-in_place before h.1)
+items-in_place (Accepted unit ∷ before) h = (
+  (by_bool (header_has_ended before) (λ on. in-body before unit ((h.0).0) ((h.0).1) ((h.0).2) on
+      (records_left before) refl) (λ off. in-header before unit ((h.0).0) ((h.0).1) ((h.0).2) off)),
+  items-in_place before h.1,
+)
 items-in_place (Warned at ∷ before) h = (h.0, items-in_place before h.1)

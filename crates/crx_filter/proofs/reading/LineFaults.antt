@@ -1,26 +1,22 @@
 -- The faults that a reading finds are those of lines, or of the end of the input.
-use Rattle.crx_filter.proofs.Words.{ℕ, ℤ, zero, suc, ◌≡◌, ◌+◌, ◌*◌, Bool, true, cond, List, drop, Option}
-use Rattle.crx_filter.proofs.Words.{Some, None, Result, Ok, Err, refl, ⊤, ◌==◌, ◌&&◌, not, list_all, bytes_eq}
-use Rattle.crx_filter.proofs.Words.{columns, character_at, is_blank, clock_of, ReadLine, HEAD_WIDTH}
-use Rattle.crx_filter.proofs.Words.{NAME_WIDTH, CLOCK_WIDTH, Fault, OutOfMemory, MissingVersion, BadEpoch}
-use Rattle.crx_filter.proofs.Words.{RepeatedSatellite, BadField, BadFlags, Truncated, is_kept, HeadLine}
-use Rattle.crx_filter.proofs.Words.{is_event_flag, records_in, epoch_count, begins_epoch, event_head}
-use Rattle.crx_filter.proofs.Words.{epoch_head, head_of, OpenEpoch, Beginning, EventBegins, EpochBegins}
-use Rattle.crx_filter.proofs.Words.{opened, rows_wanted, with_next_row, next_row, rows_at, rest_at, begun_by}
-use Rattle.crx_filter.proofs.Words.{beginning_of, unit_begun, epoch_place, has_satellite, Row, Epoch, Count}
-use Rattle.crx_filter.proofs.Words.{Place, Here, Wrong, first_line, types_of_satellite, row_of, FileUnit}
-use Rattle.crx_filter.proofs.Words.{HeaderLine, EventRecord, Observation, ReadEpoch, epoch_at, RawEpoch}
-use Rattle.crx_filter.proofs.Words.{CRINEX_PROGRAM_LABEL, Item, is_at_start, records_count_types}
-use Rattle.crx_filter.proofs.Words.{types_in_force, unless_wrong, types_fault, header_line_fault, header_line}
-use Rattle.crx_filter.proofs.Words.{event_record, unit_place, rinex_place, compact_epoch_place, compact_place}
-use Rattle.crx_filter.proofs.Words.{raws_kept, crinex_version, crinex_program, first_lines, is_skippable}
-use Rattle.crx_filter.proofs.Words.{is_of_lines, EventHead, EpochHead}
+use Rattle.crx_filter.proofs.Words
+use Words.{ℕ, ℤ, zero, suc, ◌≡◌, ◌+◌, ◌*◌, Bool, true, cond, List, drop, Option, Some, None, Result, Ok, Err}
+use Words.{refl, ⊤, ◌==◌, ◌&&◌, not, list_all, bytes_eq, columns, character_at, is_blank, clock_of, ReadLine}
+use Words.{HEAD_WIDTH, NAME_WIDTH, CLOCK_WIDTH, Fault, OutOfMemory, MissingVersion, BadEpoch}
+use Words.{RepeatedSatellite, BadField, BadFlags, Truncated, is_kept, HeadLine, is_event_flag, records_in}
+use Words.{epoch_count, begins_epoch, event_head, epoch_head, head_of, OpenEpoch, Beginning, EventBegins}
+use Words.{EpochBegins, opened, rows_wanted, with_next_row, next_row, rows_at, rest_at, begun_by}
+use Words.{beginning_of, unit_begun, epoch_place, has_satellite, Row, Epoch, Count, Place, Here, Wrong}
+use Words.{first_line, types_of_satellite, row_of, FileUnit, HeaderLine, EventRecord, Observation, ReadEpoch}
+use Words.{epoch_at, RawEpoch, CRINEX_PROGRAM_LABEL, Item, is_at_start, records_count_types, types_in_force}
+use Words.{unless_wrong, types_fault, header_line_fault, header_line, event_record, unit_place, rinex_place}
+use Words.{compact_epoch_place, compact_place, raws_kept, crinex_version, crinex_program, first_lines}
+use Words.{is_skippable, is_of_lines, EventHead, EpochHead}
 use Rattle.crx_text.specs.meaning.Columns.{without_blanks}
 use Rattle.crx_base.specs.declared.limits.TheConstants.{CELL_WIDTH}
 use Rattle.crx_base.specs.declared.fault.Fault.TheVariants.{InputTooLong, ReadFailed, WriteFailed}
-use Rattle.crx_base.specs.declared.fault.Fault.TheVariants.{UnsupportedVersion, NotObservation}
-use Rattle.crx_base.specs.declared.fault.Fault.TheVariants.{BadTypesLine, NotCompact, BadProgLine}
-use Rattle.crx_base.specs.declared.fault.Fault.TheVariants.{NotAnEpoch}
+use Rattle.crx_base.specs.declared.fault.Fault.TheVariants.{UnsupportedVersion, NotObservation, BadTypesLine}
+use Rattle.crx_base.specs.declared.fault.Fault.TheVariants.{NotCompact, BadProgLine, NotAnEpoch}
 use Rattle.crx_header.specs.meaning.Header.{is_supported, first_header_fault}
 use Rattle.crx_header.specs.declared.labels.TheConstants.{VERSION_LABEL}
 use Rattle.crx_header.specs.meaning.Label.{has_label}
@@ -100,14 +96,6 @@ epoch_head-fine line (Some count) =
     chosen IsFine (not (list_all is_blank (drop (HEAD_WIDTH + CLOCK_WIDTH) line))) (Err BadEpoch) _ refl
     (clock-fine (columns line 1 HEAD_WIDTH) count (clock_of (columns line (HEAD_WIDTH + 1) CLOCK_WIDTH)))
 
-head-fine : (line : List ℕ) → IsFine (head_of line)
-head-fine line = chosen IsFine (not (begins_epoch line)) (Err NotAnEpoch) _ refl
-    (chosen IsFine (is_event_flag (character_at line 32))
-    (event_head (character_at line 32) (records_in line))
-    (epoch_head line (epoch_count (columns line 1 HEAD_WIDTH)))
-    (event_head-fine (character_at line 32) (records_in line))
-    (epoch_head-fine line (epoch_count (columns line 1 HEAD_WIDTH))))
-
 begun-fine : (line : List ℕ) (r : Result HeadLine Fault) → IsFine r → IsFine (begun_by line r)
 begun-fine line (Err fault) a = a
 begun-fine line (Ok (EventHead flag count)) a = tt
@@ -152,7 +140,11 @@ unit_begun-fine types (EpochBegins head) lines =
 epoch-fine : (types : List Count) (lines : List ReadLine) → IsFineAt (epoch_place types lines)
 epoch-fine types lines = place-then is_of_lines (first_line lines beginning_of) lines (unit_begun types)
     (place-first is_of_lines refl lines beginning_of
-    (λ line. begun-fine line (head_of line) (head-fine line))) (unit_begun-fine types)
+    (λ line. begun-fine line (head_of line) (chosen IsFine (not (begins_epoch line)) (Err NotAnEpoch) _ refl
+    (chosen IsFine (is_event_flag (character_at line 32)) (event_head (character_at line 32)
+    (records_in line)) (epoch_head line (epoch_count (columns line 1 HEAD_WIDTH)))
+    (event_head-fine (character_at line 32) (records_in line)) (epoch_head-fine line
+    (epoch_count (columns line 1 HEAD_WIDTH))))))) (unit_begun-fine types)
 
 pub rinex-fine : (items : List (Item Epoch)) (lines : List ReadLine) → IsFineAt (rinex_place items lines)
 rinex-fine items lines = unit-fine (λ (before : List (Item Epoch)). epoch_place (types_in_force before))

@@ -63,8 +63,7 @@ ended_with-items skip items number (Some fault) = by_bool (is_skipped skip items
 
 pub ended-items : {E : Type 0} (skip : Bool) (items : List (Item E)) (stop : Stop)
     → AreMore items (ended_reading skip (record { items = items; stop = stop })).items
-ended-items skip items (AtLines number lines) =
-    ended_with-items skip items (number + length lines) (fault_at_end items lines)
+ended-items skip items (AtLines number lines) = ended_with-items _ _ _ _
 ended-items skip items stop = no_more items
 
 -- ---- the text of more items
@@ -76,8 +75,7 @@ written-more unit_lines [] items = ([], sym (append-nil (written_lines unit_line
 written-more unit_lines (Accepted unit ∷ news) items =
     let h = written-more unit_lines news items in (
       h.0 ++ unit_lines (news ++ items) unit,
-      ap (λ l. l ++ unit_lines (news ++ items) unit) h.1
-          ∙ append_assoc (written_lines unit_lines items) h.0 (unit_lines (news ++ items) unit),
+      cc (h.1, append_assoc (written_lines unit_lines items) h.0 (unit_lines (news ++ items) unit)),
     )
 written-more unit_lines (Warned at ∷ news) items = written-more unit_lines news items
 
@@ -98,15 +96,13 @@ pub reading-items : {E : Type 0} (place : List (Item E) → List ReadLine → Pl
     → AreMore (reading_from place skip [] number lines).items
     (reading_from place skip [] number (lines ++ more)).items
 reading-items place h skip number lines more =
-    let r : Reading _ = reading_from place skip [] number lines in
-    subst (λ s. AreMore r.items (Reading.items s))
-    (sym (resumed place h skip [] number lines more)) (continued_reading-items place skip r.items r.stop more)
+    let r = reading_from place skip [] number lines in
+    rw (resumed place h skip [] number lines more) (continued_reading-items place skip r.items r.stop more)
 
 pub whole-items : {E : Type 0} (place : List (Item E) → List ReadLine → Place (FileUnit E))
     → IsReadForward place → (skip : Bool) (number : ℕ) (lines more : List ReadLine)
     → AreMore (reading_from place skip [] number lines).items
     (whole_reading place skip number (lines ++ more)).items
 whole-items place h skip number lines more =
-    let all : Reading _ = reading_from place skip [] number (lines ++ more) in
-    more_of_more _ all.items _ (reading-items place h skip number lines more)
-    (ended-items skip all.items all.stop)
+    let all = reading_from place skip [] number (lines ++ more) in
+    more_of_more _ _ _ (reading-items _ h _ _ _ _) (ended-items _ _ _)

@@ -1,10 +1,9 @@
 -- A reading goes on from where it stopped, once more lines have come.
-use Rattle.crx_filter.proofs.Words.{ℕ, zero, suc, ◌≡◌, ◌+◌, max, ◌<◌, ◌≤◌, Bool, true, false, List, [], ◌∷◌}
-use Rattle.crx_filter.proofs.Words.{◌++◌, length, drop, refl, arith, length-append, drop-append-le}
-use Rattle.crx_filter.proofs.Words.{length-drop, ReadLine, Fault, At, Place, Here, Wrong, Wanted, Remains}
-use Rattle.crx_filter.proofs.Words.{IsDecidedAfter, FileUnit, Item, Accepted, Warned, Reading, AtFault}
-use Rattle.crx_filter.proofs.Words.{AtLines, is_skipped, can_go_on, looked_for, after_fault, reading_within}
-use Rattle.crx_filter.proofs.Words.{reading_from, continued_reading, IsReadForward}
+use Rattle.crx_filter.proofs.Words
+use Words.{ℕ, zero, suc, ◌≡◌, ◌+◌, max, ◌<◌, ◌≤◌, Bool, true, false, List, [], ◌∷◌, ◌++◌, length, drop, refl}
+use Words.{arith, length-append, drop-append-le, length-drop, ReadLine, Fault, At, Place, Here, Wrong, Wanted}
+use Words.{Remains, IsDecidedAfter, FileUnit, Item, Accepted, Warned, Reading, AtFault, AtLines, is_skipped}
+use Words.{can_go_on, looked_for, after_fault, reading_within, reading_from, continued_reading, IsReadForward}
 use Rattle.crx_filter.specs.Laws.{IsResumed}
 use Rattle.crx_filter.proofs.Choosing.{by_bool}
 
@@ -16,33 +15,20 @@ module _ {E : Type 0} (place : List (Item E) → List ReadLine → Place (FileUn
   pub here-within : (unit : FileUnit E) (count : ℕ)
       → place items lines ≡ Here unit count → (0 < count) × (count ≤ length lines)
   here-within unit count e =
-      let decided : IsDecidedAfter 0 (place items lines) = rw (h.wants items) at (h.steady items [] lines) in
-      let some : IsDecidedAfter 0 (Here unit count) = rw e at decided in
-      let within : Remains (length lines) (Here unit count) (place items (lines ++ [])) =
-      rw e at (h.steady items lines []) in
-      (some, within.0)
+      (rw e at (rw (h.wants items) at (h.steady items [] lines)), (rw e at (h.steady items lines [])).0)
 
   pub wrong-within : (offset : ℕ) (fault : Fault)
       → place items lines ≡ Wrong offset fault → offset < length lines
-  wrong-within offset fault e =
-      let within : Remains (length lines) (Wrong offset fault) (place items (lines ++ [])) =
-      rw e at (h.steady items lines []) in
-      within.0
+  wrong-within offset fault e = (rw e at (h.steady items lines [])).0
 
   -- it stays when more lines come
   pub here-stays : (more : List ReadLine) (unit : FileUnit E) (count : ℕ)
       → place items lines ≡ Here unit count → place items (lines ++ more) ≡ Here unit count
-  here-stays more unit count e =
-      let stays : Remains (length lines) (Here unit count) (place items (lines ++ more)) =
-      rw e at (h.steady items lines more) in
-      stays.1
+  here-stays more unit count e = (rw e at (h.steady items lines more)).1
 
   pub wrong-stays : (more : List ReadLine) (offset : ℕ) (fault : Fault)
       → place items lines ≡ Wrong offset fault → place items (lines ++ more) ≡ Wrong offset fault
-  wrong-stays more offset fault e =
-      let stays : Remains (length lines) (Wrong offset fault) (place items (lines ++ more)) =
-      rw e at (h.steady items lines more) in
-      stays.1
+  wrong-stays more offset fault e = (rw e at (h.steady items lines more)).1
 
 -- ---- one unit of a reading
 
@@ -111,8 +97,8 @@ pub enough-units : {E : Type 0} (place : List (Item E) → List ReadLine → Pla
     → reading_within place skip one items number lines ≡ reading_within place skip two items number lines
 enough-units place h skip zero two items number lines short_one short_two = absurd (omega arith)
 enough-units place h skip (suc one) zero items number lines short_one short_two = absurd (omega arith)
-enough-units place h skip (suc one) (suc two) items number lines short_one short_two =
-    by_place (place items lines)
+enough-units place h skip (suc one) (suc two) items number lines short_one short_two = by_place
+    (place items lines)
     (λ unit count e.
     let within = here-within place h items lines unit count e in
     let some = within.0 in
@@ -120,19 +106,14 @@ enough-units place h skip (suc one) (suc two) items number lines short_one short
     let left = length-drop count lines in
     let same = enough-units place h skip one two (Accepted unit ∷ items) (number + count) (drop count lines)
     (omega (arith, some, in_lines, left)) (omega (arith, some, in_lines, left)) in
-    rw (e, reading_within) same)
-    (λ offset fault e. by_bool (is_skipped skip items fault)
-    (λ on.
+    rw (e, reading_within) same) (λ offset fault e. by_bool (is_skipped skip items fault) (λ on.
     let at : At = record { line = number + offset; fault = fault } in
-    let short = wrong-within place h items lines offset fault e in
-    let left = length-drop (max offset 1) lines in
     let same = looked-same (Warned at ∷ items) (reading_within place skip one (Warned at ∷ items))
-    (reading_within place skip two (Warned at ∷ items)) (length lines)
-    (number + max offset 1) (drop (max offset 1) lines)
+    (reading_within place skip two (Warned at ∷ items)) (length lines) (number + max offset 1)
+    (drop (max offset 1) lines)
     (λ m ls few. enough-units place h skip one two (Warned at ∷ items) m ls (omega arith) (omega arith))
-    (omega (arith, short, left)) in
-    rw (e, reading_within, on, after_fault) same)
-    (λ off. rw (e, reading_within, off, after_fault) refl))
+    (omega (arith, wrong-within place h items lines offset fault e, length-drop (max offset 1) lines)) in
+    rw (e, reading_within, on, after_fault) same) (λ off. rw (e, reading_within, off, after_fault) refl))
     (λ e. rw (e, reading_within) refl)
 
 -- ---- more lines
@@ -160,46 +141,40 @@ pub resumed-within : {E : Type 0} (place : List (Item E) → List ReadLine → P
     ≡ continued_reading place skip (reading_within place skip one items number lines) more
 resumed-within place h skip zero two items number lines more short_one short_two = absurd (omega arith)
 resumed-within place h skip (suc one) zero items number lines more short_one short_two = absurd (omega arith)
-resumed-within place h skip (suc one) (suc two) items number lines more short_one short_two =
-    by_place (place items lines)
+resumed-within place h skip (suc one) (suc two) items number lines more short_one short_two = by_place
+    (place items lines)
     (λ unit count e.
     let within = here-within place h items lines unit count e in
     let some = within.0 in
     let in_lines = within.1 in
     let left = length-drop count lines in
-    let rest = drop-append-le count lines more in_lines in
     rw (
       within-here place skip one items number lines unit count e,
-      within-here place skip two items number (lines ++ more) unit count
-          (here-stays place h items lines more unit count e),
-      rest,
-    ) (resumed-within place h skip one two (Accepted unit ∷ items) (number + count)
-    (drop count lines) more (omega (arith, some, in_lines, left)) (omega (arith, some, in_lines, left))))
-    (λ offset fault e.
-    rw (
+      within-here place skip two items number (lines ++ more) unit count (here-stays place h items lines more
+          unit count e),
+      drop-append-le count lines more in_lines,
+    ) (resumed-within place h skip one two (Accepted unit ∷ items) (number + count) (drop count lines) more
+    (omega (arith, some, in_lines, left)) (omega (arith, some, in_lines, left))))
+    (λ offset fault e. rw (
       within-wrong place skip one items number lines offset fault e,
-      within-wrong place skip two items number (lines ++ more) offset fault
-          (wrong-stays place h items lines more offset fault e),
-    ) (by_bool (is_skipped skip items fault)
-    (λ on.
+      within-wrong place skip two items number (lines ++ more) offset fault (wrong-stays place h items lines
+          more offset fault e),
+    ) (by_bool (is_skipped skip items fault) (λ on.
     let at : At = record { line = number + offset; fault = fault } in
-    let n : ℕ = max offset 1 in
+    let n = max offset 1 in
     let short = wrong-within place h items lines offset fault e in
-    let left = length-drop (max offset 1) lines in
-    let rest : drop n (lines ++ more) ≡ drop n lines ++ more =
-    drop-append-le n lines more (omega (arith, short)) in
-    rw (on, after_fault, rest)
-    (looked-more place skip (Warned at ∷ items) (reading_within place skip one (Warned at ∷ items))
-    (reading_within place skip two (Warned at ∷ items)) (length lines) (number + n) (drop n lines) more
+    rw (on, after_fault, drop-append-le n lines more (omega (arith, short))) (looked-more place skip
+    (Warned at ∷ items) (reading_within place skip one (Warned at ∷ items)) (reading_within place skip two
+    (Warned at ∷ items)) (length lines) (number + n) (drop n lines) more
     (λ m ls few. resumed-within place h skip one two (Warned at ∷ items) m ls more (omega arith)
     (omega arith))
-    (λ m ls few. enough-units place h skip two
-    (length ls + 1) (Warned at ∷ items) m ls (omega (arith, short, few, short_two)) (omega arith))
-    (omega (arith, short, left))))
+    (λ m ls few. enough-units place h skip two (length ls + 1) (Warned at ∷ items) m ls
+    (omega (arith, short, few, short_two)) (omega arith))
+    (omega (arith, short, length-drop (max offset 1) lines))))
     (λ off. rw (off, after_fault) refl)))
-    (λ e. rw (within-wanted place skip one items number lines e)
-    (enough-units place h skip (suc two) (length (lines ++ more) + 1) items number
-    (lines ++ more) (omega (arith, short_two, length-append lines more)) (omega arith)))
+    (λ e. rw (within-wanted place skip one items number lines e) (enough-units place h skip (suc two)
+    (length (lines ++ more) + 1) items number (lines ++ more)
+    (omega (arith, short_two, length-append lines more)) (omega arith)))
 
 -- the reading of some lines and more goes on from the reading of the first
 pub resumed : {E : Type 0} (place : List (Item E) → List ReadLine → Place (FileUnit E))

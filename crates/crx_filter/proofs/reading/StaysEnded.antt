@@ -29,13 +29,9 @@ stays-from : {E : Type 0} (place : List (Item E) → List ReadLine → Place (Fi
     → fault_of_stop (reading_from place skip [] number lines).stop ≡ Some at
     → StaysEnded (reading_from place skip [] number) (whole_reading place skip number) lines more at
 stays-from place h skip number lines more at e =
-    let r : Reading _ = reading_from place skip [] number lines in
-    let same : reading_from place skip [] number (lines ++ more) ≡ r =
-    resumed place h skip [] number lines more ∙ gone-same place skip r.items r.stop more at e in
-    record {
-      same = same;
-      ended = ap (λ (s : Reading _). ended_reading skip s) same ∙ ended-same skip r.items r.stop at e;
-    }
+    let r = reading_from place skip [] number lines in
+    let same = resumed place h skip [] number lines more ∙ gone-same _ _ _ _ _ _ e in
+    record { same = same; ended = cc (same, ended-same skip r.items r.stop at e) }
 
 pub rinex-stays : (skip : Bool) (lines more : List ReadLine) (at : At)
     → fault_of_stop (rinex_reading skip lines).stop

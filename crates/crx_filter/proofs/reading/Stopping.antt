@@ -37,23 +37,20 @@ within-stopped place h skip zero items number next lines short counted = absurd 
 within-stopped place h skip (suc units) items number next lines short counted = by_place (place items lines)
     (λ unit count e.
     let within = here-within place h items lines unit count e in
-    let some = within.0 in
     let in_lines = within.1 in
-    let left : length (drop count lines) ≡ length lines - count = length-drop count lines in
-    rw (within-here place skip units items number lines unit count e)
-    (within-stopped place h skip units (Accepted unit ∷ items) (number + count) next
-    (drop count lines) (omega (arith, some, in_lines, left)) (omega (arith, in_lines, left, counted))))
+    let left = length-drop count lines in
+    rw (within-here place skip units items number lines unit count e) (within-stopped place h skip units
+    (Accepted unit ∷ items) (number + count) next (drop count lines) (omega (arith, within.0, in_lines, left))
+    (omega (arith, in_lines, left, counted))))
     (λ offset fault e. rw (within-wrong place skip units items number lines offset fault e)
     (by_bool (is_skipped skip items fault)
     (λ on.
     let at : At = record { line = number + offset; fault = fault } in
-    let n : ℕ = max offset 1 in
-    let few : offset < length lines = wrong-within place h items lines offset fault e in
-    let left : length (drop (max offset 1) lines) ≡ length lines - max offset 1 =
-    length-drop (max offset 1) lines in
-    rw (on, after_fault)
-    (looked-stopped place (Warned at ∷ items) (reading_within place skip units (Warned at ∷ items))
-    (length lines) (number + n) next (drop n lines) (allowed skip items fault on).0 refl
+    let n = max offset 1 in
+    let few = wrong-within place h items lines offset fault e in
+    let left = length-drop (max offset 1) lines in
+    rw (on, after_fault) (looked-stopped place (Warned at ∷ items) (reading_within place skip units
+    (Warned at ∷ items)) (length lines) (number + n) next (drop n lines) (allowed skip items fault on).0 refl
     (λ m ls fewer more. within-stopped place h skip units (Warned at ∷ items) m next ls (omega arith) more)
     (omega (arith, few, left)) (omega (arith, few, left, counted))))
     (λ off. rw (off, after_fault) tt)))

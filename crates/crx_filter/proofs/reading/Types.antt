@@ -7,26 +7,19 @@ use Rattle.crx_header.specs.ObservationTypes.{AreCounts, IsCount, after_count}
 use Rattle.crx_header.proofs.Counts.{types_of-push, AreCounts-with_count, count_in_allowed}
 use Rattle.crx_filter.proofs.Choosing.{by_bool}
 
-no-counts : AreCounts []
-no-counts = record { allowed = All-nil IsCount; apart = refl }
-
 after-count : (counts : List Count) (line : List ℕ) (o : Option Count)
     → AreCounts counts → count_in line ≡ o → AreCounts (after_count counts o)
 after-count counts line None h e = h
 after-count counts line (Some c) h e = let allowed = count_in_allowed line c.0 c.1 e in
     AreCounts-with_count counts c.0 c.1 h allowed.0 allowed.1
 
-after-line : (counts : List Count) (line : List ℕ) → AreCounts counts → AreCounts (with_line counts line)
-after-line counts line h = by_bool (is_types_line line)
-    (λ on. rw on (after-count counts line (count_in line) h refl))
-    (λ off. rw off h)
-
 one-more : (lines : List (List ℕ)) (line : List ℕ)
     → AreCounts (types_of lines) → AreCounts (types_of (lines ++ line ∷ []))
-one-more lines line h = subst AreCounts (sym (types_of-push lines line)) (after-line (types_of lines) line h)
+one-more lines line h = rw (types_of-push lines line) (by_bool (is_types_line line) (λ on. rw on
+    (after-count (types_of lines) line (count_in line) h refl)) (λ off. rw off h))
 
 pub counts-in_force : {E : Type 0} (items : List (Item E)) → AreCounts (types_in_force items)
-counts-in_force [] = no-counts
+counts-in_force [] = record { allowed = All-nil IsCount; apart = refl }
 counts-in_force (Accepted (HeaderLine line) ∷ before) = one-more (declaring_lines before) line
     (counts-in_force before)
 counts-in_force (Accepted (EventRecord line) ∷ before) = by_bool (records_count_types before)

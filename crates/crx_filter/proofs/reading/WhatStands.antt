@@ -1,11 +1,10 @@
 -- What holds of each thing that can be at some lines holds of the one that is there.
-use Rattle.crx_filter.proofs.Words.{ℕ, ◌≡◌, Bool, true, false, cond, List, [], ◌∷◌, Option, Some, None}
-use Rattle.crx_filter.proofs.Words.{Result, Ok, Err, refl, ⊤, not, nat_lt, ReadLine, Content, Overlong, Fault}
-use Rattle.crx_filter.proofs.Words.{BadEpoch, is_event_line, records_in, Count, Place, Here, Wrong, Wanted}
-use Rattle.crx_filter.proofs.Words.{one_line, first_line, FileUnit, EventLine, ReadEpoch, epoch_at, RawEpoch}
-use Rattle.crx_filter.proofs.Words.{Item, is_at_start, header_has_ended, records_left, records_count_types}
-use Rattle.crx_filter.proofs.Words.{unless_wrong, header_line, event_record, unit_place, event_line}
-use Rattle.crx_filter.proofs.Words.{as_observation, compact_epoch_place}
+use Rattle.crx_filter.proofs.Words
+use Words.{ℕ, ◌≡◌, Bool, true, false, cond, List, [], ◌∷◌, Option, Some, None, Result, Ok, Err, refl, ⊤, not}
+use Words.{nat_lt, ReadLine, Content, Overlong, Fault, BadEpoch, is_event_line, records_in, Count, Place}
+use Words.{Here, Wrong, Wanted, one_line, first_line, FileUnit, EventLine, ReadEpoch, epoch_at, RawEpoch}
+use Words.{Item, is_at_start, header_has_ended, records_left, records_count_types, unless_wrong, header_line}
+use Words.{event_record, unit_place, event_line, as_observation, compact_epoch_place}
 use Rattle.crx_filter.proofs.Choosing.{by_bool}
 
 -- what holds of a thing that is somewhere

@@ -6,30 +6,21 @@ use Rattle.crx_filter.proofs.Words.{compact_reading, ItemsAreRead}
 use Rattle.crx_filter.proofs.reading.KeptThroughout.{IsKept, within-kept}
 use Rattle.crx_filter.proofs.reading.Resuming.{by_place}
 
-equal-zero : (n : ℕ) → (n == 0) ≡ true → n ≡ 0
-equal-zero n e = search rules
-
 pub allowed : {E : Type 0} (skip : Bool) (items : List (Item E)) (fault : Fault)
     → is_skipped skip items fault ≡ true
     → (header_has_ended items ≡ true) × (records_left items ≡ 0) × (is_skippable fault ≡ true)
 allowed skip items fault e =
-    let rest = (and_parts skip _ e).1 in
-    let both = and_parts (header_has_ended items) _ rest in
-    let last = and_parts (records_left items == 0) (is_skippable fault) both.1 in
-    (both.0, equal-zero (records_left items) last.0, last.1)
-
-read-kept : {E : Type 0} (place : List (Item E) → List ReadLine → Place (FileUnit E)) (skip : Bool)
-    → IsKept place skip (λ items lines. ItemsAreRead place items)
-read-kept place skip = record {
-  here = λ items lines unit count e h. ((lines, count, e), h);
-  warned = λ items lines at on h. (allowed skip items at.fault on, h);
-  passed = λ items lines n h. h;
-}
+    let both = and_parts (header_has_ended items) _ ((and_parts skip _ e).1) in
+    (both.0, (search rules), (and_parts (records_left items == 0) (is_skippable fault) both.1).1)
 
 pub items-read : {E : Type 0} (place : List (Item E) → List ReadLine → Place (FileUnit E)) (skip : Bool)
     (number : ℕ) (lines : List ReadLine) → ItemsAreRead place (reading_from place skip [] number lines).items
 items-read place skip number lines = (within-kept place skip
-    (λ items ls. ItemsAreRead place items) (read-kept place skip) (length lines + 1) [] number lines tt).1
+    (λ items ls. ItemsAreRead place items) (record {
+      here = λ items lines unit count e h. ((lines, count, e), h);
+      warned = λ items lines at on h. (allowed skip items at.fault on, h);
+      passed = λ items lines n h. h;
+    }) (length lines + 1) [] number lines tt).1
 
 pub compact-items-read : (skip : Bool) (lines : List ReadLine)
     → ItemsAreRead compact_place (compact_reading skip lines).items

@@ -1,13 +1,12 @@
 -- The end of the input, as a check takes it; and which files it names as standard.
-use Rattle.crx_filter.proofs.Words.{ℕ, ◌≡◌, ◌+◌, false, List, [], ◌∷◌, ◌++◌, map, length, Option, Some, None}
-use Rattle.crx_filter.proofs.Words.{refl, ap, sym, ◌∙◌, append-nil, length-map, none-some, InputLine}
-use Rattle.crx_filter.proofs.Words.{ReadLine, seen, Fault, Count, Epoch, printed_unit, HeaderLine, OpenEpoch}
-use Rattle.crx_filter.proofs.Words.{Item, Accepted, Warned, is_at_start, Reading, WholeReading, Stop, AtFault}
-use Rattle.crx_filter.proofs.Words.{AtLines, fault_at_end, ended_with, ended_reading, rinex_place}
-use Rattle.crx_filter.proofs.Words.{whole_rinex, rinex_reading, Phase, InEpoch, Seen, kept_in, seen_end}
-use Rattle.crx_filter.proofs.Words.{AreInPlace, failed_by, fault_of_stop, printed_items, whole_reading_of}
-use Rattle.crx_filter.proofs.Words.{Totals, checking, totals_of, printed_open, printed_so_far, no_choices}
-use Rattle.crx_filter.proofs.Words.{check_seen}
+use Rattle.crx_filter.proofs.Words
+use Words.{ℕ, ◌≡◌, ◌+◌, false, List, [], ◌∷◌, ◌++◌, map, length, Option, Some, None, refl, ap, sym, ◌∙◌}
+use Words.{append-nil, length-map, none-some, InputLine, ReadLine, seen, Fault, Count, Epoch, printed_unit}
+use Words.{HeaderLine, OpenEpoch, Item, Accepted, Warned, is_at_start, Reading, WholeReading, Stop, AtFault}
+use Words.{AtLines, fault_at_end, ended_with, ended_reading, rinex_place, whole_rinex, rinex_reading, Phase}
+use Words.{InEpoch, Seen, kept_in, seen_end, AreInPlace, failed_by, fault_of_stop, printed_items}
+use Words.{whole_reading_of, Totals, checking, totals_of, printed_open, printed_so_far, no_choices}
+use Words.{check_seen}
 use Rattle.crx_filter.specs.meaning.Standard.{first_header_line, version_in}
 use Rattle.crx_filter.specs.CheckByLine.{version_accepted}
 use Rattle.crx_filter.specs.CheckingLaws.{IsCheckEnded}
@@ -40,10 +39,6 @@ good-stop : (items : List (Item Epoch)) (stop : Stop) → WholeReading.fault
 good-stop items (AtFault at) e = e
 good-stop items stop e = refl
 
-pub good-so_far : (lines : List ReadLine) → WholeReading.fault (whole_rinex false lines) ≡ None
-    → fault_of_stop (rinex_reading false lines).stop ≡ None
-good-so_far lines e = let r : Reading Epoch = rinex_reading false lines in good-stop r.items r.stop e
-
 -- and no epoch is open
 none-open : (number : ℕ) (phase : Phase OpenEpoch) (types : List Count) (kept : Totals)
     → failed_by (seen_end checking (seen_in no_choices number phase types kept)).answer ≡ None
@@ -64,8 +59,7 @@ first-kept : (items : List (Item Epoch)) (more : List (List ℕ)) → IsFirst it
     ≡ version_in (first_header_line (printed_items items ++ more))
 first-kept items more h e =
     let some = h.some e in
-    h.version ∙ ap (λ ls. version_in (first_header_line ls)) (some.2)
-    ∙ ap (λ ls. version_in (first_header_line (ls ++ more))) (sym some.2)
+    cc
 
 first-more : (items : List (Item Epoch)) (more : List (List ℕ)) → IsFirst items → is_at_start items ≡ false
     → (first : List ℕ) × (rest : List (List ℕ)) × (printed_items items ++ more ≡ first ∷ rest)
@@ -126,12 +120,10 @@ check-ended lines =
 pub whole-many : (lines : List InputLine) → WholeReading.fault (whole_reading_of lines) ≡ None
     → length (printed_items (whole_reading_of lines).items) ≡ length lines
 whole-many lines good =
-    let r : Reading Epoch = rinex_reading false (map seen lines) in
-    let s : Seen OpenEpoch Totals = (check_seen lines).reading in
-    let failed : failed_by (seen_end checking s).answer ≡ None = sym (check-ended lines).fault ∙ good in
-    let shut : printed_open s.phase ≡ [] = none-open s.number s.phase s.types s.kept failed in
-    let all : length (printed_items r.items ++ printed_open s.phase) ≡ length lines =
-    as-many (map seen lines) (good-so_far (map seen lines) good) ∙ length-map lines seen in
-    ap (λ (its : List (Item Epoch)). length (printed_items its)) (whole-items (map seen lines)) ∙ ap length
-    (sym (append-nil (printed_items r.items))) ∙ ap (λ ls. length (printed_items r.items ++ ls))
-    (sym shut) ∙ all
+    let r = rinex_reading false (map seen lines) in
+    let s = (check_seen lines).reading in
+    let all = as-many (map seen lines) (let r = rinex_reading false (map seen lines) in good-stop _ _ good)
+    ∙ length-map lines seen in
+    ap (λ (its : List (Item Epoch)). length (printed_items its)) (whole-items (map seen lines))
+    ∙ ap length (sym (append-nil (printed_items r.items))) ∙ ap (λ ls. length (printed_items r.items ++ ls))
+    (sym (none-open s.number s.phase s.types s.kept (sym (check-ended lines).fault ∙ good))) ∙ all

@@ -1,19 +1,16 @@
 -- The lines that printing gives back for some lines of a file, and for one line more.
-use Rattle.crx_filter.proofs.Words.{ℕ, zero, suc, ◌≡◌, ◌+◌, ◌-◌, Bool, true, false, cond, List, [], ◌∷◌, ◌++◌}
-use Rattle.crx_filter.proofs.Words.{length, drop, Option, Some, None, Result, Ok, Err, refl, ap, sym, ◌∙◌}
-use Rattle.crx_filter.proofs.Words.{append-nil, ⊤, map-append, none-some, ReadLine, Content, Overlong, Fault}
-use Rattle.crx_filter.proofs.Words.{is_end_of_header, Row, Epoch, Count, HeaderLine, EventRecord, last_line}
-use Rattle.crx_filter.proofs.Words.{printed_row, printed_epoch, OpenEpoch, Beginning, EventBegins}
-use Rattle.crx_filter.proofs.Words.{EpochBegins, beginning_of, opened, rows_wanted, epoch_of, with_next_row}
-use Rattle.crx_filter.proofs.Words.{next_row, after_row, when_wanted, Item, Accepted, header_has_ended}
-use Rattle.crx_filter.proofs.Words.{records_left, records_count_types, records_announced, counts_types}
-use Rattle.crx_filter.proofs.Words.{unless_wrong, types_fault, header_line_fault, Reading, Stop, AtFault}
-use Rattle.crx_filter.proofs.Words.{AtLines, Looking, reading_within, rinex_place, rinex_reading}
-use Rattle.crx_filter.proofs.Words.{made_of_epoch_step, made_of_beginning, rinex_open, Phase, InFirstLines}
-use Rattle.crx_filter.proofs.Words.{InHeader, BetweenUnits, InEvent, InEpoch, LookingOn, Closed, Ended, Made}
-use Rattle.crx_filter.proofs.Words.{Completes, Step, made_of_unit, made_in, with_records_left, step_of_made}
-use Rattle.crx_filter.proofs.Words.{phase_in_body, phase_after_items, phase_of, failed_by, is_again, Totals}
-use Rattle.crx_filter.proofs.Words.{checking, printed_open, printed_made, no_choices}
+use Rattle.crx_filter.proofs.Words
+use Words.{ℕ, zero, suc, ◌≡◌, ◌+◌, ◌-◌, Bool, true, false, cond, List, [], ◌∷◌, ◌++◌, length, drop, Option}
+use Words.{Some, None, Result, Ok, Err, refl, ap, sym, ◌∙◌, append-nil, ⊤, map-append, none-some, ReadLine}
+use Words.{Content, Overlong, Fault, is_end_of_header, Row, Epoch, Count, HeaderLine, EventRecord, last_line}
+use Words.{printed_row, printed_epoch, OpenEpoch, Beginning, EventBegins, EpochBegins, beginning_of, opened}
+use Words.{rows_wanted, epoch_of, with_next_row, next_row, after_row, when_wanted, Item, Accepted}
+use Words.{header_has_ended, records_left, records_count_types, records_announced, counts_types, unless_wrong}
+use Words.{types_fault, header_line_fault, Reading, Stop, AtFault, AtLines, Looking, reading_within}
+use Words.{rinex_place, rinex_reading, made_of_epoch_step, made_of_beginning, rinex_open, Phase, InFirstLines}
+use Words.{InHeader, BetweenUnits, InEvent, InEpoch, LookingOn, Closed, Ended, Made, Completes, Step}
+use Words.{made_of_unit, made_in, with_records_left, step_of_made, phase_in_body, phase_after_items, phase_of}
+use Words.{failed_by, is_again, Totals, checking, printed_open, printed_made, no_choices}
 use Rattle.crx_rinex.specs.meaning.Printing.{printed_head}
 use Rattle.crx_filter.proofs.Choosing.{by_bool}
 use Rattle.crx_filter.proofs.following.Following.{seen_in}
@@ -48,16 +45,12 @@ body-reached zero counted None = tt
 body-reached zero counted (Some so_far) = tt
 body-reached (suc left) counted so_far = tt
 
-items-reached : (items : List (Item Epoch)) (so_far : Option OpenEpoch)
-    → IsReached (phase_after_items items so_far)
-items-reached items so_far = by_bool (header_has_ended items)
-    (λ on. rw on (body-reached (records_left items) (records_count_types items) so_far))
-    (λ off. rw off tt)
-
 stop-reached : (items : List (Item Epoch)) (stop : Stop)
     → IsFound stop → IsReached (phase_of rinex_open (record { items = items; stop = stop }))
 stop-reached items (AtFault at) h = tt
-stop-reached items (AtLines number lines) h = items-reached items (rinex_open items lines)
+stop-reached items (AtLines number lines) h = by_bool (header_has_ended items) (λ on. rw on
+    (body-reached (records_left items) (records_count_types items) (rinex_open items lines)))
+    (λ off. rw off tt)
 stop-reached items (Looking number) h = absurd h
 
 pub phase-reached : (lines : List ReadLine) → IsReached (phase_of rinex_open (rinex_reading false lines))
@@ -70,12 +63,9 @@ phase-reached lines = let r : Reading Epoch = rinex_reading false lines in
 row-printed : (so_far : OpenEpoch) (row : Row) → printed_epoch (epoch_of (with_next_row so_far row))
     ≡ printed_epoch (epoch_of so_far) ++ last_line (printed_epoch (epoch_of (with_next_row so_far row))) ∷ []
 row-printed so_far row =
-    let more : printed_epoch (epoch_of (with_next_row so_far row))
-    ≡ printed_epoch (epoch_of so_far) ++ printed_row row ∷ [] =
-    ap (λ ls. printed_head so_far.head.head so_far.head.clock ∷ ls)
-    (map-append printed_row so_far.rows (row ∷ [])) in
-    more ∙ ap (λ l. printed_epoch (epoch_of so_far) ++ l ∷ [])
-    (sym (ap last_line more ∙ last-of (printed_epoch (epoch_of so_far)) (printed_row row)))
+    let more = ap (λ ls. printed_head so_far.head.head so_far.head.clock ∷ ls) (map-append printed_row
+    so_far.rows (row ∷ [])) in
+    cc (more, more, last-of (printed_epoch (epoch_of so_far)) (printed_row row))
 
 -- ---- one line more
 
@@ -104,8 +94,7 @@ record-grows : (number left : ℕ)
     (counted : Bool) (types : List Count) (kept : Totals) (content : List ℕ) (fault : Option Fault)
     → Grows number (InEvent left counted) types kept
     (Content content) (made_of_unit (unless_wrong (EventRecord content) fault))
-record-grows number left counted types kept content None f =
-    ap (λ ls. content ∷ ls) (none-open (left - 1) counted)
+record-grows number left counted types kept content None f = cc (none-open (left - 1) counted)
 record-grows number left counted types kept content (Some fault) f = absurd (none-some _ (sym f))
 
 opened-grows : (number : ℕ) (types : List Count) (kept : Totals) (content : List ℕ) (head : _) (wanted : ℕ)

@@ -22,15 +22,12 @@ none-named : (number : ℕ) (lines : List InputLine) (texts : List (List ℕ)) �
 none-named number [] [] many e = (refl, refl)
 none-named number [] (text ∷ texts) many e = absurd (cc)
 none-named number (line ∷ lines) [] many e = absurd (cc)
-none-named number (line ∷ lines) (text ∷ texts) many e = by_bool (is_standard_line line text)
-    (λ on.
-    let none = rw on at e in
-    let rest = none-named (number + 1) lines texts (omega (arith, many)) none in
+none-named number (line ∷ lines) (text ∷ texts) many e = by_bool (is_standard_line line text) (λ on.
+    let rest = none-named (number + 1) lines texts (omega (arith, many)) (rw on at e) in
     let both = and_parts line.is_plain (bytes_eq line.content text) on in
-    (rw both.0 rest.0, cc (bytes_eq-is line.content text both.1, rest.1)))
-    (λ off.
+    (rw both.0 rest.0, cc (bytes_eq-is line.content text both.1, rest.1))) (λ off.
     let never = rw off at e in
-    absurd (none-some number (sym never)))
+    absurd (none-some number (cc)))
 
 -- and the converse
 all-standard : (number : ℕ) (lines : List InputLine)

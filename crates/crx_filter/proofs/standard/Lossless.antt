@@ -13,14 +13,10 @@ passed : (o : Option At) (found : Findings) → FilterResult.status (checked_by 
 passed None found e = (refl, none-where_0 found.not_standard e)
 passed (Some at) found e = absurd (cc)
 
-passed-standard : (file : List ℕ) → FilterResult.status (checked file) ≡ 0 → IsStandard file
-passed-standard file e =
-    let both = passed (whole_of file).fault (findings_of (lines_of file)) e in
-    (named-where_not file both.0).0 both.1
-
 pub what-passes : WhatPassesComesBack
-what-passes file e compacting expanding dated =
-    standard-comes_back file compacting expanding dated (passed-standard file e)
+what-passes file e compacting expanding dated = standard-comes_back file compacting expanding dated
+    (let both = passed (whole_of file).fault (findings_of (lines_of file)) e in
+    (named-where_not file both.0).0 both.1)
 
 -- ---- in runs
 

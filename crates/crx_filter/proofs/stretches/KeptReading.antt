@@ -1,13 +1,11 @@
 -- The reading of units that are kept after a damaged stretch: the same units, whatever was read before them.
-use Rattle.crx_filter.proofs.Words.{ℕ, ◌≡◌, ◌+◌, ◌<◌, ◌⊎◌, inl, inr, true, cond, List, [], ◌∷◌, ◌++◌, map}
-use Rattle.crx_filter.proofs.Words.{length, Option, suc, refl, ap, sym, ◌∙◌, subst, arith, append-nil}
-use Rattle.crx_filter.proofs.Words.{and_parts, ReadLine, Content, Overlong, begins_epoch, is_event_line}
-use Rattle.crx_filter.proofs.Words.{Epoch, printed_epoch, HeaderLine, EventLine, EventRecord, Observation}
-use Rattle.crx_filter.proofs.Words.{printed_unit, ReadEpoch, Choices, Item, Accepted, Warned}
-use Rattle.crx_filter.proofs.Words.{header_has_ended, records_announced, records_left, types_in_force}
-use Rattle.crx_filter.proofs.Words.{Reading, AtLines, reading_from, compact_place, BeginsAnew, printed_items}
-use Rattle.crx_filter.proofs.Words.{IsBetweenUnits, GoOnAlike, starts_anew, expanded_lines, continued_reading}
-use Rattle.crx_filter.proofs.Words.{AreInPlace}
+use Rattle.crx_filter.proofs.Words
+use Words.{ℕ, ◌≡◌, ◌+◌, ◌<◌, ◌⊎◌, inl, inr, true, cond, List, [], ◌∷◌, ◌++◌, map, length, Option, suc, refl}
+use Words.{ap, sym, ◌∙◌, subst, arith, append-nil, and_parts, ReadLine, Content, Overlong, begins_epoch}
+use Words.{is_event_line, Epoch, printed_epoch, HeaderLine, EventLine, EventRecord, Observation, printed_unit}
+use Words.{ReadEpoch, Choices, Item, Accepted, Warned, header_has_ended, records_announced, records_left}
+use Words.{types_in_force, Reading, AtLines, reading_from, compact_place, BeginsAnew, printed_items}
+use Words.{IsBetweenUnits, GoOnAlike, starts_anew, expanded_lines, continued_reading, AreInPlace}
 use Rattle.std.proofs.lemmas.List.{append_cancel_right}
 use Rattle.crx_filter.proofs.reading.Anew.{AreAlike, alike-unit, depends-on_types}
 use Rattle.crx_filter.proofs.reading.ForwardCompact.{compact-forward}
@@ -31,50 +29,40 @@ back_on every (Warned at ∷ kept) block = back_on every kept block
 pub back-parts : (every : Option ℕ) (kept block : List (Item Epoch))
     → read_back every (kept ++ block) ≡ back_on every kept block ++ read_back every block
 back-parts every [] block = refl
-back-parts every (Accepted unit ∷ kept) block =
-    ap (λ all. Accepted (unit_back every (kept ++ block) unit) ∷ all) (back-parts every kept block)
+back-parts every (Accepted unit ∷ kept) block = cc (back-parts every kept block)
 back-parts every (Warned at ∷ kept) block = back-parts every kept block
 
 -- and as they are printed
 pub back-printed : (every : Option ℕ) (kept block : List (Item Epoch))
     → expanded_lines (back_on every kept block) ≡ printed_items kept
 back-printed every [] block = refl
-back-printed every (Accepted (Observation epoch) ∷ kept) block =
-    ap (λ ls. ls ++ printed_epoch epoch) (back-printed every kept block)
-back-printed every (Accepted unit ∷ kept) block =
-    ap (λ ls. ls ++ printed_unit unit) (back-printed every kept block)
+back-printed every (Accepted (Observation epoch) ∷ kept) block = cc (back-printed every kept block)
+back-printed every (Accepted unit ∷ kept) block = cc (back-printed every kept block)
 back-printed every (Warned at ∷ kept) block = back-printed every kept block
 
 -- ---- the same state after them
-
-record-left : (every : Option ℕ) (kept block : List (Item Epoch)) (line : List ℕ) (items : List
-    (Item ReadEpoch)) → AreInPlace (Accepted (EventRecord line) ∷ (kept ++ block))
-    → AreAlike (back_on every kept block ++ items) (back_on every kept block ++ read_back every block)
-    → 0 < records_left (back_on every kept block ++ items)
-record-left every kept block line items h alike =
-    subst (λ n. 0 < n) (sym (alike.left ∙ ap records_left (sym (back-parts every kept block))
-    ∙ left-same (known_back every) (kept ++ block) h.1)) (h.0).1
 
 pub alike-on : (every : Option ℕ) (kept block : List (Item Epoch)) (items : List (Item ReadEpoch))
     → AreInPlace (kept ++ block) → header_has_ended block ≡ true → AreAlike items (read_back every block)
     → AreAlike (back_on every kept block ++ items) (back_on every kept block ++ read_back every block)
 alike-on every [] block items h header alike = alike
-alike-on every (Warned at ∷ kept) block items h header alike =
-    alike-on every kept block items h.1 header alike
+alike-on every (Warned at ∷ kept) block items h header alike = alike-on every kept block items h.1 header
+    alike
 alike-on every (Accepted (HeaderLine line) ∷ kept) block items h header alike =
     let never = sym (h.0).0 ∙ header-append kept block header in absurd (cc)
-alike-on every (Accepted (EventLine line) ∷ kept) block items h header alike =
-    alike-unit (back_on every kept block ++ items) (back_on every kept block ++ read_back every block)
-    (EventLine line) tt (alike-on every kept block items h.1 header alike)
+alike-on every (Accepted (EventLine line) ∷ kept) block items h header alike = alike-unit
+    (back_on every kept block ++ items) (back_on every kept block ++ read_back every block) (EventLine line)
+    tt (alike-on every kept block items h.1 header alike)
 alike-on every (Accepted (EventRecord line) ∷ kept) block items h header alike =
-    let so_far : AreAlike (back_on every kept block ++ items)
-    (back_on every kept block ++ read_back every block) = alike-on every kept block items h.1 header alike in
+    let so_far = alike-on every kept block items h.1 header alike in
     alike-unit (back_on every kept block ++ items) (back_on every kept block ++ read_back every block)
-    (EventRecord line) (record-left every kept block line items h so_far) so_far
-alike-on every (Accepted (Observation epoch) ∷ kept) block items h header alike =
-    alike-unit (back_on every kept block ++ items) (back_on every kept block ++ read_back every block)
-    (Observation (known_back every (kept ++ block) epoch)) tt
-    (alike-on every kept block items h.1 header alike)
+    (EventRecord line) (subst (λ n. 0 < n)
+    (cc (so_far.left, back-parts every kept block, left-same (known_back every) (kept ++ block) h.1)) (h.0).1)
+    so_far
+alike-on every (Accepted (Observation epoch) ∷ kept) block items h header alike = alike-unit
+    (back_on every kept block ++ items) (back_on every kept block ++ read_back every block)
+    (Observation (known_back every (kept ++ block) epoch)) tt (alike-on every kept block items h.1 header
+    alike)
 
 -- ---- where what is kept begins anew, it comes after whole units
 
@@ -151,18 +139,17 @@ module _ (every : Option ℕ) (kept block : List (Item Epoch)) (items : List (It
   nothing-kept : (r : Reading ReadEpoch) → IsOpen items r → map Content (lines_on every kept block) ≡ []
       → IsKeptRead every kept block items (continued_reading compact_place true r [])
   nothing-kept r stops e =
-      let y : List (Item ReadEpoch) = read_back every block in
-      let none : back_on every kept block ≡ [] = append_cancel_right (back_on every kept block) [] y
-      (sym (back-parts every kept block) ∙ sym (ap (λ (s : Reading ReadEpoch). s.items)
-      (sym (within-wanted compact_place true 0 y 0 [] (compact-forward.wants y))
-      ∙ ap (λ ls. reading_from compact_place true y 0 ls) (sym e)
+      let y = read_back every block in
+      let none = append_cancel_right (back_on every kept block) [] y (sym (back-parts every kept block)
+      ∙ sym (ap (λ (s : Reading ReadEpoch). s.items) (sym (within-wanted compact_place true 0 y 0 []
+      (compact-forward.wants y)) ∙ ap (λ ls. reading_from compact_place true y 0 ls) (sym e)
       ∙ reads-on every true 0 kept block h.in_place))) in
       record {
         news = [];
         epochs = tt;
         alike = after-alike [] tt;
-        stops = subst (λ (all : List (Item ReadEpoch)). IsOpen (all ++ items)
-            (continued_reading compact_place true r [])) (sym none) (still stops);
+        stops = subst (λ (all : List (Item ReadEpoch)). IsOpen (all ++ items) (continued_reading compact_place
+            true r [])) (sym none) (still stops);
       }
     where
       still : IsOpen items r → IsOpen items (continued_reading compact_place true r [])
@@ -171,13 +158,12 @@ module _ (every : Option ℕ) (kept block : List (Item Epoch)) (items : List (It
         rest,
         text,
         wanted,
-        ap (λ s. continued_reading compact_place true s []) is
-            ∙ ap (λ ls. reading_from compact_place true items number ls) (append-nil rest)
-            ∙ enough-units compact_place compact-forward true (length rest + 1) (suc
-            (length rest)) items number rest (omega arith) (omega arith)
+        ap (λ s. continued_reading compact_place true s []) is ∙ ap (λ ls. reading_from compact_place true
+            items number ls) (append-nil rest) ∙ enough-units compact_place compact-forward true
+            (length rest + 1) (suc (length rest)) items number rest (omega arith) (omega arith)
             ∙ within-wanted compact_place true (length rest) items number rest wanted,
       )
-      still (inr (number, is)) = inr (number, ap (λ s. continued_reading compact_place true s []) is)
+      still (inr (number, is)) = inr (number, cc (is))
 
   -- some are kept
   lines-kept : (r : Reading ReadEpoch) (line : List ℕ) (tail : List ReadLine) → IsOpen items r
@@ -234,8 +220,7 @@ pub kept-more : (choices : Choices) (kept block : List (Item Epoch)) (items : Li
     → IsOpen items (reading_from compact_place true [] 3 so_far) → IsKeptRead choices.every kept block items
     (reading_from compact_place true [] 3 (so_far ++ map Content (lines_on choices.every kept block)))
 kept-more choices kept block items so_far h anew stops =
-    let lines : List ReadLine = map Content (lines_on choices.every kept block) in
-    subst (IsKeptRead choices.every kept block items)
-    (sym (resumed compact_place compact-forward true [] 3 so_far lines))
-    (by-lines choices.every kept block items h (reading_from compact_place true [] 3 so_far) lines stops refl
-    (text-anew choices block kept h.header h.left h.in_place anew))
+    let lines = map Content (lines_on choices.every kept block) in
+    subst (IsKeptRead choices.every kept block items) (sym (resumed compact_place compact-forward true [] 3
+    so_far lines)) (by-lines choices.every kept block items h (reading_from compact_place true [] 3 so_far)
+    lines stops refl (text-anew choices block kept h.header h.left h.in_place anew))

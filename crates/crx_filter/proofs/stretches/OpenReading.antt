@@ -1,15 +1,14 @@
 -- The reading of a damaged stretch: whatever its lines are, but an event's first one, epochs and warnings are
 -- read of it alone; and it goes on at the next line that begins with >.
-use Rattle.crx_filter.proofs.Words.{ℕ, zero, suc, ◌≡◌, ◌+◌, ◌-◌, ◌<◌, max, ◌⊎◌, inl, inr, true, false, List}
-use Rattle.crx_filter.proofs.Words.{[], ◌∷◌, ◌++◌, length, drop, refl, ap, sym, ◌∙◌, subst, arith}
-use Rattle.crx_filter.proofs.Words.{append_assoc, ⊤, AllByRecursion, length-drop, is_skippable, ReadLine}
-use Rattle.crx_filter.proofs.Words.{Content, Overlong, At, Fault, begins_epoch, is_event_line, records_in}
-use Rattle.crx_filter.proofs.Words.{BadEpoch, announces_records, true≢false, cond, Option, Some, None, Ok}
-use Rattle.crx_filter.proofs.Words.{Err, is_some, ◌&&◌, Here, Wrong, Wanted, one_line, FileUnit, EventLine}
-use Rattle.crx_filter.proofs.Words.{Observation, ReadEpoch, epoch_at, Item, Accepted, Warned, types_in_force}
-use Rattle.crx_filter.proofs.Words.{Reading, AtLines, Looking, is_skipped, can_go_on, looked_for}
-use Rattle.crx_filter.proofs.Words.{reading_within, reading_from, raws_kept, compact_place, event_line}
-use Rattle.crx_filter.proofs.Words.{as_observation, IsBetweenUnits, continued_reading}
+use Rattle.crx_filter.proofs.Words
+use Words.{ℕ, zero, suc, ◌≡◌, ◌+◌, ◌-◌, ◌<◌, max, ◌⊎◌, inl, inr, true, false, List, [], ◌∷◌, ◌++◌, length}
+use Words.{drop, refl, ap, sym, ◌∙◌, subst, arith, append_assoc, ⊤, AllByRecursion, length-drop, is_skippable}
+use Words.{ReadLine, Content, Overlong, At, Fault, begins_epoch, is_event_line, records_in, BadEpoch}
+use Words.{announces_records, true≢false, cond, Option, Some, None, Ok, Err, is_some, ◌&&◌, Here, Wrong}
+use Words.{Wanted, one_line, FileUnit, EventLine, Observation, ReadEpoch, epoch_at, Item, Accepted, Warned}
+use Words.{types_in_force, Reading, AtLines, Looking, is_skipped, can_go_on, looked_for, reading_within}
+use Words.{reading_from, raws_kept, compact_place, event_line, as_observation, IsBetweenUnits}
+use Words.{continued_reading}
 use Rattle.crx_filter.proofs.Choosing.{by_bool}
 use Rattle.crx_filter.proofs.reading.EpochFaults.{IsSkippableAt, epoch-skippable, place-observation}
 use Rattle.crx_filter.proofs.reading.ForwardCompact.{compact-forward}
@@ -86,13 +85,8 @@ no-records (Some count) e = absurd (true≢false e)
 bad-event : (items : List (Item ReadEpoch)) (line : List ℕ) (lines : List ReadLine) → IsBetweenUnits items
     → announces_records line ≡ false → is_event_line line ≡ true
     → compact_place items (Content line ∷ lines) ≡ Wrong 0 BadEpoch
-bad-event items line lines h text event =
-    let none : records_in line ≡ None = no-records (records_in line)
-    (sym (ap (λ b. b && is_some (records_in line)) event) ∙ text) in
-    place-between items (Content line ∷ lines) h ∙ ap (λ b. cond b (one_line (event_line line))
-    (as_observation (epoch_at (types_in_force items) (raws_kept items) (Content line ∷ lines)))) event
-    ∙ ap (λ (count : Option ℕ). one_line
-    (elim (count) [ Some n ↦ Ok (EventLine line) | None ↦ Err BadEpoch ])) none
+bad-event items line lines h text event = cc
+    (place-between items (Content line ∷ lines) h, event, no-records (records_in line) (cc (event, text)))
 
 -- where more lines are wanted, the first one is no event's
 wanted-no_event : (items : List (Item ReadEpoch)) (line : List ℕ) (lines : List ReadLine)
@@ -154,34 +148,29 @@ within-stretch zero items number lines few h text = absurd (omega (arith, few))
 within-stretch (suc units) items number lines few h text = by_place (compact_place items lines)
     (λ unit count e.
     let epoch = stretch-epoch items lines unit count h text e in
-    let read : ReadEpoch = epoch.0 in
+    let read = epoch.0 in
     let within = here-within compact_place compact-forward items lines unit count e in
-    let some = within.0 in
-    let in_lines = within.1 in
-    let left : length (drop count lines) ≡ length lines - count = length-drop count lines in
-    let rest : IsStretchRead (Accepted (Observation read) ∷ items) (reading_within compact_place true units
-    (Accepted (Observation read) ∷ items) (number + count) (drop count lines)) =
-    within-stretch units (Accepted (Observation read) ∷ items) (number + count) (drop count lines)
-    (omega (arith, few, some, in_lines, left)) (record { header = h.header; none = refl })
-    (all-drop IsNoEvent count lines text) in
-    subst (IsStretchRead items) (sym (within-here compact_place true units items number lines unit count e
-    ∙ ap (λ u. reading_within compact_place true units (Accepted u ∷ items) (number + count)
-    (drop count lines)) epoch.1)) (onto (Accepted (Observation read)) items _ tt rest))
+    let rest = within-stretch units (Accepted (Observation read) ∷ items) (number + count) (drop count lines)
+    (omega (arith, few, within.0, within.1, length-drop count lines))
+    (record { header = h.header; none = refl }) (all-drop IsNoEvent count lines text) in
+    subst (IsStretchRead items)
+    (cc (within-here compact_place true units items number lines unit count e, epoch.1))
+    (onto (Accepted (Observation read)) items _ tt rest))
     (λ offset fault e.
     let at : At = record { line = number + offset; fault = fault } in
-    let on : is_skipped true items fault ≡ true =
-    skipped-here items fault h (stretch-fault items lines offset fault h text e) in
-    let n : ℕ = max offset 1 in
-    let short = wrong-within compact_place compact-forward items lines offset fault e in
-    let left : length (drop n lines) ≡ length lines - n = length-drop n lines in
+    let n = max offset 1 in
     subst (IsStretchRead items) (sym (within-wrong compact_place true units items number lines offset fault e
-    ∙ fault-skipped true (reading_within compact_place true units) items number lines offset fault on))
-    (onto (Warned at) items _ tt
-    (looked-stretch (reading_within compact_place true units (Warned at ∷ items)) (Warned at ∷ items) units
+    ∙ fault-skipped true (reading_within compact_place true units) items number lines offset fault
+    (skipped-here items fault h (stretch-fault items lines offset fault h text e)))) (onto (Warned at) items _
+    tt (looked-stretch (reading_within compact_place true units (Warned at ∷ items)) (Warned at ∷ items) units
     (number + n) (drop n lines)
-    (λ m ls less none.
-    within-stretch units (Warned at ∷ items) m ls less (record { header = h.header; none = refl }) none)
-    (omega (arith, few, short, left)) (all-drop IsNoEvent n lines text))))
+    (λ m ls less none. within-stretch units (Warned at ∷ items) m ls less
+    (record { header = h.header; none = refl }) none) (omega (
+      arith,
+      few,
+      wrong-within compact_place compact-forward items lines offset fault e,
+      length-drop n lines,
+    )) (all-drop IsNoEvent n lines text))))
     (λ e. record {
       news = [];
       epochs = tt;
@@ -240,8 +229,7 @@ after-warnings items lines r g = record {
   news = warned g.warnings;
   epochs = warned-epochs g.warnings;
   number = g.number;
-  same = g.same
-      ∙ ap (λ all. reading_from compact_place true all g.number lines) (warned-same g.warnings items);
+  same = cc (g.same, warned-same g.warnings items);
 }
 
 pub open-continued : (items : List (Item ReadEpoch)) (r : Reading ReadEpoch) (line : List ℕ)
@@ -251,19 +239,18 @@ open-continued items r line tail between (inl (number, [], none, e, is)) begins 
   news = [];
   epochs = tt;
   number = number;
-  same = ap (λ s. continued_reading compact_place true s (Content line ∷ tail)) is;
+  same = cc (is);
 }
 open-continued items r line tail between (inl (number, Overlong ∷ rest, none, e, is)) begins =
     let never = sym (place-between items (Overlong ∷ rest) between) ∙ e in absurd (cc)
-open-continued items r line tail between (inl (number, Content first ∷ rest, none, e, is)) begins =
-    subst (λ (s : Reading ReadEpoch). GoesOnAfter items (Content line ∷ tail)
-    (continued_reading compact_place true s (Content line ∷ tail))) (sym is)
-    (after-warnings items (Content line ∷ tail) _ (open-goes_on items number first rest line tail between
-    (wanted-no_event items first rest between none.0 e) e begins))
+open-continued items r line tail between (inl (number, Content first ∷ rest, none, e, is)) begins = subst
+    (λ (s : Reading ReadEpoch). GoesOnAfter items (Content line ∷ tail) (continued_reading compact_place true
+    s (Content line ∷ tail))) (sym is) (after-warnings items (Content line ∷ tail) _
+    (open-goes_on items number first rest line tail between (wanted-no_event items first rest between none.0
+    e) e begins))
 open-continued items r line tail between (inr (number, is)) begins = record {
   news = [];
   epochs = tt;
   number = number;
-  same = ap (λ s. continued_reading compact_place true s (Content line ∷ tail)) is
-      ∙ looked-here (reading_from compact_place true items) items number (Content line) tail begins;
+  same = cc (is, looked-here (reading_from compact_place true items) items number (Content line) tail begins);
 }

@@ -29,10 +29,8 @@ lines-allowed (line ∷ lines) e =
     (one line both.0, lines-allowed lines both.1)
   where
     one : (line : InputLine) → begins_no_event line ≡ true → IsNoEvent (seen line)
-    one line e = by_bool (is_long line)
-        (λ long. rw long tt)
-        (λ short. rw short (not-true (announces_records line.content)
-        (sym (ap (λ b. b || not (announces_records line.content)) short) ∙ e)))
+    one line e = by_bool (is_long line) (λ long. rw long tt)
+        (λ short. rw short (not-true (announces_records line.content) (cc (short, e))))
 
 pub stretches-allowed : (choices : Choices) (before : List (Item Epoch)) (stretches : List Stretch)
     → AreStretches choices before stretches → AllowLines stretches
@@ -103,21 +101,15 @@ last-cut : (choices : Choices) (before : List (Item Epoch)) (s : Stretch) (later
     → map seen (lines_of (stretches_text choices before (s ∷ later)))
     ≡ lines_of_stretches choices.every before (s ∷ later)
 last-cut choices before s later none last same =
-    let block : List (Item Epoch) = up_to_end before s in
-    let nothing : lines_on choices.every s.kept block ≡ [] =
-    ap (λ (kept : List (Item Epoch)). lines_on choices.every kept block) none in
-    let text : stretches_text choices before (s ∷ later) ≡ s.instead =
-    ap (λ (ls : List (List ℕ)). s.instead ++ (lines_text ls ++ stretches_text choices
-    (up_to_next before s) later)) (same ∙ nothing)
-    ∙ ap (λ (l : List Stretch). s.instead ++ stretches_text choices (up_to_next before s) l) last
-    ∙ append-nil s.instead in
+    let nothing = ap (λ (kept : List (Item Epoch)). lines_on choices.every kept (up_to_end before s)) none in
+    let text : stretches_text choices before (s ∷ later)
+    ≡ s.instead = cc (same, nothing, last, append-nil s.instead) in
     let lines : lines_of_stretches choices.every before (s ∷ later) ≡ map seen (lines_of s.instead) =
-    ap (λ (l : List Stretch). stretch_lines choices.every before s
-    ++ lines_of_stretches choices.every (up_to_next before s) l) last
-    ∙ append-nil (stretch_lines choices.every before s)
+    ap (λ (l : List Stretch). stretch_lines choices.every before s ++ lines_of_stretches choices.every
+    (up_to_next before s) l) last ∙ append-nil (stretch_lines choices.every before s)
     ∙ ap (λ (ls : List (List ℕ)). map seen (lines_of s.instead) ++ map Content ls) nothing
     ∙ append-nil (map seen (lines_of s.instead)) in
-    ap (λ t. map seen (lines_of t)) text ∙ sym lines
+    cc (text, lines)
 
 pub stretches-cut : (choices : Choices) (before : List (Item Epoch)) (stretches : List Stretch)
     → AreStretches choices before stretches → AreGood (with_stretches before stretches)

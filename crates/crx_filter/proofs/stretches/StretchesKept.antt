@@ -15,6 +15,5 @@ pub writes-whole_units : (expanding : Choices)
     (writer messages : Device) (status : ℕ) (fault : Option At) (text : List ℕ)
     → IsResult (expanded text expanding) writer messages status fault → WritesWholeUnits writer text
 writes-whole_units expanding writer messages status fault text ran file compacting dated whole =
-    let begins : Begins (expanded text expanding).output (lines_text (printed_items whole.before)) =
-    whole-first file compacting expanding text dated whole in
+    let begins = whole-first file compacting expanding text dated whole in
     (begins.rest, subst (λ output. writer.took output) begins.same ran.output)

@@ -1,12 +1,11 @@
 -- The reading of a text that is damaged in stretches: after each stretch the units that are kept, exactly.
-use Rattle.crx_filter.proofs.Words.{ℕ, ◌≡◌, true, List, [], ◌∷◌, ◌++◌, map, Option, refl, ap, sym, ◌∙◌, subst}
-use Rattle.crx_filter.proofs.Words.{append_assoc, append-nil, inl, inr, ◌⊎◌, ⊤, AllByRecursion, flat_map}
-use Rattle.crx_filter.proofs.Words.{flat_map-append, lines_of, ReadLine, Content, seen, Epoch, IsWholeEpoch}
-use Rattle.crx_filter.proofs.Words.{printed_epoch, Observation, IsGood, ReadEpoch, Choices, Item, Accepted}
-use Rattle.crx_filter.proofs.Words.{Warned, header_has_ended, records_left, types_in_force, reading_from}
-use Rattle.crx_filter.proofs.Words.{compact_place, BeginsAnew, printed_items, IsBetweenUnits, expanded_lines}
-use Rattle.crx_filter.proofs.Words.{AreInPlace, Stretch, up_to_end, up_to_next, with_stretches, IsStretch}
-use Rattle.crx_filter.proofs.Words.{AreStretches}
+use Rattle.crx_filter.proofs.Words
+use Words.{ℕ, ◌≡◌, true, List, [], ◌∷◌, ◌++◌, map, Option, refl, ap, sym, ◌∙◌, subst, append_assoc}
+use Words.{append-nil, inl, inr, ◌⊎◌, ⊤, AllByRecursion, flat_map, flat_map-append, lines_of, ReadLine}
+use Words.{Content, seen, Epoch, IsWholeEpoch, printed_epoch, Observation, IsGood, ReadEpoch, Choices, Item}
+use Words.{Accepted, Warned, header_has_ended, records_left, types_in_force, reading_from, compact_place}
+use Words.{BeginsAnew, printed_items, IsBetweenUnits, expanded_lines, AreInPlace, Stretch, up_to_end}
+use Words.{up_to_next, with_stretches, IsStretch, AreStretches}
 use Rattle.crx_filter.specs.meaning.Stretches.{Saves}
 use Rattle.crx_filter.proofs.wayback.Carried.{left-same, types-same}
 use Rattle.crx_filter.proofs.wayback.ExpandedWhole.{AreGoodEpochs}
@@ -60,12 +59,11 @@ pub record IsSound (before : List (Item Epoch)) (s : Stretch) : Type 0 where
 
 end-left : (choices : Choices) (before : List (Item Epoch)) (s : Stretch) → IsSound before s
     → BeginsAnew choices (up_to_end before s) s.kept → records_left (up_to_end before s) ≡ 0
-end-left choices before s sound anew =
-    either (anew-between choices s.kept (up_to_end before s) sound.in_place anew)
+end-left choices before s sound anew = either (anew-between choices s.kept (up_to_end before s) sound.in_place
+    anew)
   where
     either : (s.kept ≡ []) ⊎ (records_left (up_to_end before s) ≡ 0) → records_left (up_to_end before s) ≡ 0
-    either (inl e) = ap (λ (kept : List (Item Epoch)). records_left (kept ++ up_to_end before s)) (sym e)
-        ∙ sound.closed
+    either (inl e) = cc (e, sound.closed)
     either (inr e) = e
 
 pub one-stretch : (choices : Choices) (before : List (Item Epoch)) (s : Stretch) (later : List Stretch)
@@ -183,31 +181,27 @@ stretches-read choices before [] so_far items h allowed sound come = record {
   saves = λ good. refl;
 }
 stretches-read choices before (s ∷ later) so_far items h allowed sound come =
-    let next : List (Item Epoch) = up_to_next before s in
-    let block : List (Item Epoch) = up_to_end before s in
+    let next = up_to_next before s in
+    let block = up_to_end before s in
     let here : IsSound before s = record {
       in_place = in_place-up_to next later sound.in_place;
       header = sound.header;
       closed = next-closed choices next later h.1 sound.closed;
     } in
-    let one : IsStepRead choices before s so_far items =
-    one-stretch choices before s later so_far items h.0 allowed.0 here come in
-    let front : List (Item ReadEpoch) = back_on choices.every s.kept block in
-    let x : List (Item ReadEpoch) = front ++ (one.news ++ items) in
-    let lines : List ReadLine = stretch_lines choices.every before s in
-    let rest : AreStretchesRead choices next later (so_far ++ lines) x =
-    stretches-read choices next later (so_far ++ lines) x h.1 allowed.1
-    (record {
+    let one = one-stretch choices before s later so_far items h.0 allowed.0 here come in
+    let front = back_on choices.every s.kept block in
+    let x = front ++ (one.news ++ items) in
+    let lines = stretch_lines choices.every before s in
+    let rest = stretches-read choices next later (so_far ++ lines) x h.1 allowed.1 (record {
       in_place = sound.in_place;
       header = header-append s.kept block (header-append s.lost before sound.header);
       closed = sound.closed;
     }) one.come in
-    let all : List (Item ReadEpoch) = rest.more ++ (front ++ one.news) in
-    let joined : rest.more ++ x ≡ all ++ items =
-    ap (λ (l : List (Item ReadEpoch)). rest.more ++ l) (sym (append_assoc front one.news items))
+    let all = rest.more ++ (front ++ one.news) in
+    let joined = ap (λ (l : List (Item ReadEpoch)). rest.more ++ l) (sym (append_assoc front one.news items))
     ∙ sym (append_assoc rest.more (front ++ one.news) items) in
-    let printed : expanded_lines all ≡ flat_map printed_epoch (epochs_of one.news)
-    ++ (printed_items s.kept ++ expanded_lines rest.more) = lines-append rest.more (front ++ one.news)
+    let printed : expanded_lines all ≡ flat_map printed_epoch (epochs_of one.news) ++ (printed_items s.kept ++
+    expanded_lines rest.more) = lines-append rest.more (front ++ one.news)
     ∙ ap (λ ls. ls ++ expanded_lines rest.more) (lines-append front one.news)
     ∙ append_assoc (expanded_lines one.news) (expanded_lines front) (expanded_lines rest.more)
     ∙ ap (λ ls. ls ++ (expanded_lines front ++ expanded_lines rest.more)) (news-printed one.news one.epochs)
@@ -215,12 +209,12 @@ stretches-read choices before (s ∷ later) so_far items h allowed sound come =
     (back-printed choices.every s.kept block) in
     record {
       more = all;
-      come = subst (λ (l : List (Item ReadEpoch)). HasCome
-          (so_far ++ lines_of_stretches choices.every before (s ∷ later)) l (with_stretches before
-          (s ∷ later))) joined (subst (λ ls. HasCome ls (rest.more ++ x) (with_stretches next later))
+      come = subst (λ (l : List (Item ReadEpoch)). HasCome (so_far ++ lines_of_stretches choices.every before
+          (s ∷ later)) l (with_stretches before (s ∷ later))) joined (subst (λ ls. HasCome ls (rest.more ++ x)
+          (with_stretches next later))
           (append_assoc so_far lines (lines_of_stretches choices.every next later)) rest.come);
       saves = λ good.
-          let again : AreGoodEpochs (rest.more ++ x) = subst AreGoodEpochs (sym joined) good in (
+          let again = subst AreGoodEpochs (sym joined) good in (
             epochs_of one.news,
             expanded_lines rest.more,
             subst (λ types. AllByRecursion (IsWholeEpoch types) (epochs_of one.news)) come.types

@@ -1,14 +1,13 @@
 -- What an expansion writes and reports of a text that is damaged in stretches; and of one that begins with
 -- whole units.
-use Rattle.crx_filter.proofs.Words.{ℕ, ◌≡◌, ◌+◌, Bool, true, false, List, [], ◌∷◌, ◌++◌, map, length, reverse}
-use Rattle.crx_filter.proofs.Words.{Option, None, refl, ap, sym, ◌∙◌, subst, arith, append-nil, inl, inr}
-use Rattle.crx_filter.proofs.Words.{AllByRecursion, lines_of, lines_text, ReadLine, Content, seen}
-use Rattle.crx_filter.proofs.Words.{version_line, program_line, Epoch, ReadEpoch, Choices, is_date, Item}
-use Rattle.crx_filter.proofs.Words.{is_at_start, records_left, Reading, AtLines, reading_from, ended_reading}
-use Rattle.crx_filter.proofs.Words.{compact_lines, compact_place, expanded_unit, whole_compact, expanded}
-use Rattle.crx_filter.proofs.Words.{printed_items, warnings_in, result_of, notices_text, Begins}
-use Rattle.crx_filter.proofs.Words.{IsBetweenUnits, expanded_lines, expanded_so_far, AreInPlace, ItemsAreRead}
-use Rattle.crx_filter.proofs.Words.{IsWrittenFirst, with_stretches}
+use Rattle.crx_filter.proofs.Words
+use Words.{ℕ, ◌≡◌, ◌+◌, Bool, true, false, List, [], ◌∷◌, ◌++◌, map, length, reverse, Option, None, refl, ap}
+use Words.{sym, ◌∙◌, subst, arith, append-nil, inl, inr, AllByRecursion, lines_of, lines_text, ReadLine}
+use Words.{Content, seen, version_line, program_line, Epoch, ReadEpoch, Choices, is_date, Item, is_at_start}
+use Words.{records_left, Reading, AtLines, reading_from, ended_reading, compact_lines, compact_place}
+use Words.{expanded_unit, whole_compact, expanded, printed_items, warnings_in, result_of, notices_text}
+use Words.{Begins, IsBetweenUnits, expanded_lines, expanded_so_far, AreInPlace, ItemsAreRead, IsWrittenFirst}
+use Words.{with_stretches}
 use Rattle.crx_filter.specs.meaning.Stretches.{read_of_file, IsReadWhole, HasStretches, KeepsTheRest}
 use Rattle.crx_filter.specs.meaning.Stretches.{BeginsWhole}
 use Rattle.crx_filter.proofs.reading.CompactPrefixes.{expanded-first, reading-at}
@@ -75,17 +74,14 @@ front-read skip every before h =
 
 open-ends : (items : List (Item ReadEpoch)) (r : Reading ReadEpoch)
     → IsBetweenUnits items → IsOpen items r → EndsAfter items (ended_reading true r)
-open-ends items r between (inl (number, [], text, e, is)) =
-    record {
-      warnings = [];
-      few = omega arith;
-      same = ap (ended_reading true) is ∙ ends-well items number between;
-    }
-open-ends items r between (inl (number, line ∷ rest, text, e, is)) =
-    subst (λ (s : Reading ReadEpoch). EndsAfter items (ended_reading true s))
-    (sym is) (ends-inside items number line rest between)
-open-ends items r between (inr (number, is)) =
-    record { warnings = []; few = omega arith; same = ap (ended_reading true) is }
+open-ends items r between (inl (number, [], text, e, is)) = record {
+  warnings = [];
+  few = omega arith;
+  same = cc (is, ends-well items number between);
+}
+open-ends items r between (inl (number, line ∷ rest, text, e, is)) = subst (λ (s : Reading ReadEpoch).
+    EndsAfter items (ended_reading true s)) (sym is) (ends-inside items number line rest between)
+open-ends items r between (inr (number, is)) = record { warnings = []; few = omega arith; same = cc (is) }
 
 open-items : (items : List (Item ReadEpoch)) (r : Reading ReadEpoch) → IsOpen items r → r.items ≡ items
 open-items items r (inl (number, rest, text, e, is)) = ap (λ (s : Reading ReadEpoch). s.items) is
@@ -163,11 +159,10 @@ begun-first : (expanding choices : Choices) (before : List (Item Epoch)) (text m
     → is_date choices.date ≡ true → AreGood before → is_at_start before ≡ false
     → text ≡ lines_text (compact_lines choices before) ++ more
     → Begins (expanded text expanding).output (lines_text (printed_items before))
-begun-first expanding choices before text more dated h begun e =
-    subst (λ t. Begins (expanded text expanding).output t) (whole-so_far expanding choices before h.in_place)
+begun-first expanding choices before text more dated h begun e = subst (λ t. Begins
+    (expanded text expanding).output t) (whole-so_far expanding choices before h.in_place)
     (IsWrittenFirst.whole (expanded-first expanding (map Content (front_lines choices before))) text
-    (map seen (lines_of more)) (ap (λ t. map seen (lines_of t)) e
-    ∙ front-seen choices before more dated h begun))
+    (map seen (lines_of more)) (cc (e, front-seen choices before more dated h begun)))
 
 pub whole-first : (file : List ℕ) (choices expanding : Choices) (text : List ℕ)
     → is_date choices.date ≡ true → (h : BeginsWhole file choices text)

@@ -10,8 +10,7 @@ use Rattle.crx_filter.proofs.wayback.Standard.{same-reading, normal-comes_back}
 -- a compaction is what the reading makes of it that skips nothing, where that has no fault
 pub compacted-by : (file : List ℕ) (choices : Choices) → (whole_of file).fault ≡ None
     → compacted file choices ≡ result_of (compact_unit choices) (whole_of file)
-compacted-by file choices good =
-    ap (result_of (compact_unit choices)) (same-reading choices.skip (map seen (lines_of file)) good)
+compacted-by file choices good = cc (same-reading choices.skip (map seen (lines_of file)) good)
 
 pub as-normal : (file : List ℕ) (choices : Choices) → CompactsAsNormal file choices
 as-normal file choices h =
@@ -21,8 +20,7 @@ as-normal file choices h =
 
 same-compaction : (one other : List ℕ) (choices : Choices) → HasNormalForm one → HasNormalForm other
     → normal_form one ≡ normal_form other → compacted one choices ≡ compacted other choices
-same-compaction one other choices h k same =
-    sym (as-normal one choices h) ∙ ap (λ t. compacted t choices) same ∙ as-normal other choices k
+same-compaction one other choices h k same = cc (as-normal one choices h, same, as-normal other choices k)
 
 pub canonical : (one other : List ℕ) (choices : Choices) → IsCanonical one other choices
 canonical one other choices dated h k = (

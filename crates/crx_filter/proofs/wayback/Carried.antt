@@ -1,16 +1,13 @@
 -- What was accepted of a RINEX file, written again and read again: the units without the warnings between
--- them, with
--- the same header, events and types in force.
-use Rattle.crx_filter.proofs.Words.{ℕ, zero, suc, ◌≡◌, ◌+◌, ◌-◌, ◌<◌, Bool, true, false, cond, List, [], ◌∷◌}
-use Rattle.crx_filter.proofs.Words.{◌++◌, map, length, drop, None, refl, ap, sym, ◌∙◌, arith, length-append}
-use Rattle.crx_filter.proofs.Words.{◌||◌, map-append, length-map, ReadLine, Content, Epoch, Place, Here}
-use Rattle.crx_filter.proofs.Words.{first_line, FileUnit, HeaderLine, EventLine, EventRecord, Observation}
-use Rattle.crx_filter.proofs.Words.{is_end_of_header, types_of, Item, Accepted, Warned, is_at_start}
-use Rattle.crx_filter.proofs.Words.{header_has_ended, records_left, records_count_types, declaring_lines}
-use Rattle.crx_filter.proofs.Words.{types_in_force, types_fault, header_line_fault, event_record, unit_place}
-use Rattle.crx_filter.proofs.Words.{Reading, AtLines, reading_within, reading_from, ended_with, ended_reading}
-use Rattle.crx_filter.proofs.Words.{whole_reading, continued_reading, IsReadForward, AreInPlace}
-use Rattle.crx_filter.proofs.Words.{written_lines}
+-- them, with the same header, events and types in force.
+use Rattle.crx_filter.proofs.Words
+use Words.{ℕ, zero, suc, ◌≡◌, ◌+◌, ◌-◌, ◌<◌, Bool, true, false, cond, List, [], ◌∷◌, ◌++◌, map, length, drop}
+use Words.{None, refl, ap, sym, ◌∙◌, arith, length-append, ◌||◌, map-append, length-map, ReadLine, Content}
+use Words.{Epoch, Place, Here, first_line, FileUnit, HeaderLine, EventLine, EventRecord, Observation}
+use Words.{is_end_of_header, types_of, Item, Accepted, Warned, is_at_start, header_has_ended, records_left}
+use Words.{records_count_types, declaring_lines, types_in_force, types_fault, header_line_fault, event_record}
+use Words.{unit_place, Reading, AtLines, reading_within, reading_from, ended_with, ended_reading}
+use Words.{whole_reading, continued_reading, IsReadForward, AreInPlace, written_lines}
 use Rattle.std.proofs.lemmas.List.{drop_all}
 use Rattle.crx_filter.proofs.reading.Resuming.{within-here, within-wanted, enough-units, resumed}
 use Rattle.crx_filter.proofs.following.Lines.{record-place}
@@ -35,8 +32,7 @@ carried known (Warned at ∷ before) = carried known before
 pub header-same : {E : Type 0} (known : List (Item Epoch) → Epoch → E) (items : List (Item Epoch))
     → header_has_ended (carried known items) ≡ header_has_ended items
 header-same known [] = refl
-header-same known (Accepted (HeaderLine line) ∷ before) =
-    ap (λ b. is_end_of_header line || b) (header-same known before)
+header-same known (Accepted (HeaderLine line) ∷ before) = cc (header-same known before)
 header-same known (Accepted unit ∷ before) = header-same known before
 header-same known (Warned at ∷ before) = header-same known before
 
@@ -66,12 +62,9 @@ count-same known items h some = refl
 declares-same : {E : Type 0} (known : List (Item Epoch) → Epoch → E) (items : List (Item Epoch))
     → AreInPlace items → declaring_lines (carried known items) ≡ declaring_lines items
 declares-same known [] h = refl
-declares-same known (Accepted (HeaderLine line) ∷ before) h =
-    ap (λ ls. ls ++ line ∷ []) (declares-same known before h.1)
-declares-same known (Accepted (EventRecord line) ∷ before) h =
-    ap (λ b. cond b (declaring_lines (carried known before) ++ line ∷ [])
-    (declaring_lines (carried known before))) (count-same known before h.1 (h.0).1)
-    ∙ ap (λ ls. cond (records_count_types before) (ls ++ line ∷ []) ls) (declares-same known before h.1)
+declares-same known (Accepted (HeaderLine line) ∷ before) h = cc (declares-same known before h.1)
+declares-same known (Accepted (EventRecord line) ∷ before) h = cc
+    (count-same known before h.1 (h.0).1, declares-same known before h.1)
 declares-same known (Accepted unit ∷ before) h = declares-same known before h.1
 declares-same known (Warned at ∷ before) h = declares-same known before h.1
 
@@ -107,13 +100,11 @@ pub one-unit : {E : Type 0} (place : List (Item E) → List ReadLine → Place (
     → (skip : Bool) (items : List (Item E)) (number : ℕ) (lines : List ReadLine) (unit : FileUnit E)
     → place items lines ≡ Here unit (length lines) → reading_from place skip items number lines
     ≡ record { items = Accepted unit ∷ items; stop = AtLines (number + length lines) [] }
-one-unit place h skip items number lines unit e =
-    let none : drop (length lines) lines ≡ [] = drop_all (length lines) lines (omega arith) in
-    enough-units place h skip (length lines + 1)
+one-unit place h skip items number lines unit e = enough-units place h skip (length lines + 1)
     (suc (suc (length lines))) items number lines (omega arith) (omega arith)
     ∙ within-here place skip (suc (length lines)) items number lines unit (length lines) e
-    ∙ ap (λ ls. reading_within place skip (suc (length lines)) (Accepted unit ∷ items)
-    (number + length lines) ls) none ∙ within-wanted place skip (length lines)
+    ∙ ap (λ ls. reading_within place skip (suc (length lines)) (Accepted unit ∷ items) (number + length lines)
+    ls) (drop_all (length lines) lines (omega arith)) ∙ within-wanted place skip (length lines)
     (Accepted unit ∷ items) (number + length lines) [] (h.wants (Accepted unit ∷ items))
 
 pub at-line : {E : Type 0} (items : List (Item E)) (m n : ℕ) → m ≡ n → ◌≡◌ {A = Reading E}

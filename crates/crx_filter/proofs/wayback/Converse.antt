@@ -1,14 +1,13 @@
 -- A file comes back only where it is standard: the lines that are written are plain, and printed as they are.
-use Rattle.crx_filter.proofs.Words.{ℕ, ℤ, zero, suc, ◌≡◌, ◌+◌, ◌-◌, ◌<◌, ◌≤◌, true, false, List, [], ◌∷◌}
-use Rattle.crx_filter.proofs.Words.{◌++◌, map, length, take, drop, replicate, Option, Some, None, refl, ap}
-use Rattle.crx_filter.proofs.Words.{sym, ◌∙◌, arith, not, All, AllByRecursion, list_all, All-head, All-tail}
-use Rattle.crx_filter.proofs.Words.{and_parts, and_from, clock_text, IsSoundRow, IsWholeEpoch, Count}
-use Rattle.crx_filter.proofs.Words.{OBSERVATION_WIDTH, CLOCK_WIDTH, InputLine, ends_with_return, line_of}
-use Rattle.crx_filter.proofs.Words.{lines_of, HasNoFeed, is_printable, is_kept, Row, Epoch, printed_row}
-use Rattle.crx_filter.proofs.Words.{printed_epoch, printed_cells, lines_text, printed_unit, Observation}
-use Rattle.crx_filter.proofs.Words.{Choices, is_date, compacted, expanded, Item, Accepted, Warned}
-use Rattle.crx_filter.proofs.Words.{types_in_force, WholeReading, FilterResult, printed_items, whole_of}
-use Rattle.crx_filter.proofs.Words.{IsStandard, AreInPlace, OfCopiedLines, HaveNoReturns}
+use Rattle.crx_filter.proofs.Words
+use Words.{ℕ, ℤ, zero, suc, ◌≡◌, ◌+◌, ◌-◌, ◌<◌, ◌≤◌, true, false, List, [], ◌∷◌, ◌++◌, map, length, take}
+use Words.{drop, replicate, Option, Some, None, refl, ap, sym, ◌∙◌, arith, not, All, AllByRecursion, list_all}
+use Words.{All-head, All-tail, and_parts, and_from, clock_text, IsSoundRow, IsWholeEpoch, Count}
+use Words.{OBSERVATION_WIDTH, CLOCK_WIDTH, InputLine, ends_with_return, line_of, lines_of, HasNoFeed}
+use Words.{is_printable, is_kept, Row, Epoch, printed_row, printed_epoch, printed_cells, lines_text}
+use Words.{printed_unit, Observation, Choices, is_date, compacted, expanded, Item, Accepted, Warned}
+use Words.{types_in_force, WholeReading, FilterResult, printed_items, whole_of, IsStandard, AreInPlace}
+use Words.{OfCopiedLines, HaveNoReturns}
 use Rattle.std.proofs.Common.{pos, negsuc, ◌/◌, ◌%◌, ◌^◌, decimal}
 use Rattle.std.specs.Str.{all_ascii_digits}
 use Rattle.std.specs.Char.{is_ascii_digit}
@@ -38,17 +37,13 @@ plain line = record { content = line; is_plain = true }
 
 line-plain : (line : List ℕ) → IsPlainLine line → line_of (record { bytes = line; is_ended = true })
     ≡ plain line
-line-plain line h =
-    ap (λ l. let all : InputLine = record { content = l; is_plain = not (ends_with_return line) } in all)
-    (return-kept line h.no_return)
-    ∙ ap (λ b. let all : InputLine = record { content = line; is_plain = not b } in all) h.no_return
+line-plain line h = cc (return-kept line h.no_return, h.no_return)
 
 pub lines-plain : (lines : List (List ℕ))
     → AllByRecursion IsPlainLine lines → lines_of (lines_text lines) ≡ map plain lines
 lines-plain [] h = refl
-lines-plain (line ∷ lines) h = ap (map line_of) (first-cut line lines (IsPlainLine.one_line h.0))
-    ∙ ap (λ l. l ∷ lines_of (lines_text lines))
-    (line-plain line h.0) ∙ ap (λ ls. plain line ∷ ls) (lines-plain lines h.1)
+lines-plain (line ∷ lines) h = cc
+    (first-cut line lines (IsPlainLine.one_line h.0), line-plain line h.0, lines-plain lines h.1)
 
 -- ---- what is printed is printable
 
@@ -83,20 +78,17 @@ drop-text (suc n) (c ∷ cs) h = drop-text n cs (and_parts (is_printable c) _ h)
 small-size : (width size : ℕ) → width ≤ 19 → size < 10 ^ (width - 1) → size < 2 ^ 64
 small-size width size h k =
     let fewer : width - 1 ≤ 18 = omega (arith, h) in
-    let power : 10 ^ (width - 1) ≤ 10 ^ 18 = pow-le-pow_right {n = 10} (omega arith) fewer in
-    omega (arith, k, power)
+    omega (arith, k, pow-le-pow_right {n = 10} (omega arith) fewer)
 
 size-printable : (decimals size : ℕ) → size < 2 ^ 64 → list_all is_printable (size_text decimals size) ≡ true
 size-printable decimals size h =
-    let whole : list_all is_printable (decimal (size / 10 ^ decimals)) ≡ true =
-    digits-text (decimal (size / 10 ^ decimals)) (decimal_is_digits (size / 10 ^ decimals)
+    let whole = digits-text (decimal (size / 10 ^ decimals)) (decimal_is_digits (size / 10 ^ decimals)
     (grind (arith, h))) in
-    let part : list_all is_printable (decimal (size % 10 ^ decimals)) ≡ true =
-    digits-text (decimal (size % 10 ^ decimals)) (decimal_is_digits (size % 10 ^ decimals)
+    let part = digits-text (decimal (size % 10 ^ decimals)) (decimal_is_digits (size % 10 ^ decimals)
     (grind (arith, h))) in
     append-printable (decimal (size / 10 ^ decimals)) (46 ∷ zero_padded decimals (size % 10 ^ decimals)) whole
-    (append-printable (replicate (decimals - length (decimal (size % 10 ^ decimals))) 48) (decimal
-    (size % 10 ^ decimals)) (replicate-text (decimals - length (decimal (size % 10 ^ decimals))) 48
+    (append-printable (replicate (decimals - length (decimal (size % 10 ^ decimals))) 48)
+    (decimal (size % 10 ^ decimals)) (replicate-text (decimals - length (decimal (size % 10 ^ decimals))) 48
     refl) part)
 
 number-printable : (width decimals : ℕ) (value : Option ℤ)
@@ -104,16 +96,15 @@ number-printable : (width decimals : ℕ) (value : Option ℤ)
     (number_text width decimals value) ≡ true
 unfolding number_text
 number-printable width decimals None h within = replicate-text width 32 refl
-number-printable width decimals (Some (pos n)) h within =
-    append-printable (replicate (width - length (size_text decimals n)) 32)
-    (size_text decimals n) (replicate-text (width - length (size_text decimals n)) 32 refl)
-    (size-printable decimals n (small-size width n h (abs_within width (pos n) within)))
+number-printable width decimals (Some (pos n)) h within = append-printable (replicate
+    (width - length (size_text decimals n)) 32) (size_text decimals n) (replicate-text
+    (width - length (size_text decimals n)) 32 refl) (size-printable decimals n
+    (small-size width n h (abs_within width (pos n) within)))
 number-printable width decimals (Some (negsuc n)) h within =
-    let size : n + 1 < 10 ^ (width - 1) = let small = abs_within width (negsuc n) within in
-    omega (arith, small) in
+    let size : n + 1 < 10 ^ (width - 1) = omega (arith, abs_within width (negsuc n) within) in
     append-printable (replicate (width - length (45 ∷ size_text decimals (n + 1))) 32)
-    (45 ∷ size_text decimals (n + 1)) (replicate-text (width - length (45 ∷ size_text decimals (n + 1)))
-    32 refl) (size-printable decimals (n + 1) (small-size width (n + 1) h size))
+    (45 ∷ size_text decimals (n + 1)) (replicate-text (width - length (45 ∷ size_text decimals (n + 1))) 32
+    refl) (size-printable decimals (n + 1) (small-size width (n + 1) h size))
 
 cells-printable : (values : List (Option ℤ)) (flags : List ℕ) → All IsValue values
     → list_all is_printable flags ≡ true → list_all is_printable (printed_cells values flags) ≡ true

@@ -1,11 +1,10 @@
 -- Lines that are written and cut again are these lines; and what is read of an input holds no LF and isn't
 -- too long.
-use Rattle.crx_filter.proofs.Words.{ℕ, ◌≡◌, ◌≢◌, ◌≤◌, true, false, cond, ◌⊎◌, inl, inr, List, [], ◌∷◌, map}
-use Rattle.crx_filter.proofs.Words.{length, refl, ap, sym, ◌∙◌, subst, append_assoc, ⊤, ◌==◌, nat_lt}
-use Rattle.crx_filter.proofs.Words.{AllByRecursion, All-head, All-tail, All-cons, All-nil, ltb-false}
-use Rattle.crx_filter.proofs.Words.{eqb_tells, Piece, InputLine, pieces_of, onto_first, ends_with_return}
-use Rattle.crx_filter.proofs.Words.{without_return, line_of, lines_of, is_long, HasNoFeed, ReadLine, Content}
-use Rattle.crx_filter.proofs.Words.{Overlong, seen, LINE_LIMIT, lines_text}
+use Rattle.crx_filter.proofs.Words
+use Words.{ℕ, ◌≡◌, ◌≢◌, ◌≤◌, true, false, cond, ◌⊎◌, inl, inr, List, [], ◌∷◌, map, length, refl, ap, sym, ◌∙◌}
+use Words.{subst, append_assoc, ⊤, ◌==◌, nat_lt, AllByRecursion, All-head, All-tail, All-cons, All-nil}
+use Words.{ltb-false, eqb_tells, Piece, InputLine, pieces_of, onto_first, ends_with_return, without_return}
+use Words.{line_of, lines_of, is_long, HasNoFeed, ReadLine, Content, Overlong, seen, LINE_LIMIT, lines_text}
 use Rattle.std.proofs.lemmas.Bool.{le-ltb}
 use Rattle.crx_lines.proofs.PieceLemmas.{pieces-first, NoFeed}
 use Rattle.crx_filter.proofs.Choosing.{by_bool}
@@ -22,9 +21,7 @@ return-kept (b ∷ []) e = rw e refl
 return-kept (b ∷ c ∷ bs) e = ap (λ l. b ∷ l) (return-kept (c ∷ bs) e)
 
 seen-short : (l : InputLine) → length l.content ≤ LINE_LIMIT → seen l ≡ Content l.content
-seen-short l h = let test : nat_lt LINE_LIMIT (length l.content) ≡ false =
-    le-ltb LINE_LIMIT (length l.content) h in
-    rw test refl
+seen-short l h = rw (le-ltb LINE_LIMIT (length l.content) h) refl
 
 pub seen-clean : (line : List ℕ)
     → IsClean line → seen (line_of (record { bytes = line; is_ended = true })) ≡ Content line
@@ -43,10 +40,8 @@ first-cut line lines one =
 pub lines-cut : (lines : List (List ℕ))
     → AllByRecursion IsClean lines → map seen (lines_of (lines_text lines)) ≡ map Content lines
 lines-cut [] h = refl
-lines-cut (line ∷ lines) h =
-    ap (λ ps. map seen (map line_of ps)) (first-cut line lines (IsClean.one_line h.0))
-    ∙ ap (λ l. l ∷ map seen (lines_of (lines_text lines))) (seen-clean line h.0)
-    ∙ ap (λ ls. Content line ∷ ls) (lines-cut lines h.1)
+lines-cut (line ∷ lines) h = cc
+    (first-cut line lines (IsClean.one_line h.0), seen-clean line h.0, lines-cut lines h.1)
 
 -- ---- what is read of an input
 

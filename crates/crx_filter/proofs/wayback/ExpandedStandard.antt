@@ -1,24 +1,19 @@
 -- What an expansion writes is standard: what was read of compact text is in place, as units of RINEX, and
--- what is
--- copied is a line.
-use Rattle.crx_filter.proofs.Words.{ℕ, zero, suc, ◌≡◌, ◌+◌, Bool, true, false, cond, List, [], ◌∷◌, ◌++◌, map}
-use Rattle.crx_filter.proofs.Words.{length, drop, Option, Some, None, refl, ap, sym, ◌∙◌, subst, arith, ◌||◌}
-use Rattle.crx_filter.proofs.Words.{◌-◌, ⊤, AllByRecursion, list_all, is_some, and_parts, not-true, HasNoFeed}
-use Rattle.crx_filter.proofs.Words.{Piece, InputLine, pieces_of, ends_with_return, line_of, lines_of}
-use Rattle.crx_filter.proofs.Words.{lines_text, ReadLine, Content, Overlong, seen, At, Fault, BadEpoch}
-use Rattle.crx_filter.proofs.Words.{is_event_line, records_in, is_end_of_header, Count, types_of}
-use Rattle.crx_filter.proofs.Words.{IsWholeEpoch, Epoch, Place, Here, Wrong, Wanted, first_line, one_line}
-use Rattle.crx_filter.proofs.Words.{printed_epoch, FileUnit, HeaderLine, EventLine, EventRecord, Observation}
-use Rattle.crx_filter.proofs.Words.{printed_unit, ReadEpoch, epoch_at, RawEpoch, IsGood, Choices}
-use Rattle.crx_filter.proofs.Words.{compact_place, compact_epoch_place, event_line, as_observation, raws_kept}
-use Rattle.crx_filter.proofs.Words.{first_lines, whole_compact, expanded_unit, expanded, Item, Accepted}
-use Rattle.crx_filter.proofs.Words.{Warned, is_at_start, header_has_ended, records_left, records_count_types}
-use Rattle.crx_filter.proofs.Words.{declaring_lines, types_in_force, Reading, WholeReading, Stop, AtFault}
-use Rattle.crx_filter.proofs.Words.{AtLines, Looking, is_skipped, reading_from, fault_at_end, ended_with}
-use Rattle.crx_filter.proofs.Words.{ended_reading, printed_items, IsStandard, types_fault, header_line_fault}
-use Rattle.crx_filter.proofs.Words.{header_line, event_record, OfCopiedLine, OfCopiedLines, HaveNoReturns}
-use Rattle.crx_filter.proofs.Words.{written_lines, FilterResult, IsResult, Device, ItemsAreRead, IsInPlace}
-use Rattle.crx_filter.proofs.Words.{AreInPlace, compact_reading}
+-- what is copied is a line.
+use Rattle.crx_filter.proofs.Words
+use Words.{ℕ, zero, suc, ◌≡◌, ◌+◌, Bool, true, false, cond, List, [], ◌∷◌, ◌++◌, map, length, drop, Option}
+use Words.{Some, None, refl, ap, sym, ◌∙◌, subst, arith, ◌||◌, ◌-◌, ⊤, AllByRecursion, list_all, is_some}
+use Words.{and_parts, not-true, HasNoFeed, Piece, InputLine, pieces_of, ends_with_return, line_of, lines_of}
+use Words.{lines_text, ReadLine, Content, Overlong, seen, At, Fault, BadEpoch, is_event_line, records_in}
+use Words.{is_end_of_header, Count, types_of, IsWholeEpoch, Epoch, Place, Here, Wrong, Wanted, first_line}
+use Words.{one_line, printed_epoch, FileUnit, HeaderLine, EventLine, EventRecord, Observation, printed_unit}
+use Words.{ReadEpoch, epoch_at, RawEpoch, IsGood, Choices, compact_place, compact_epoch_place, event_line}
+use Words.{as_observation, raws_kept, first_lines, whole_compact, expanded_unit, expanded, Item, Accepted}
+use Words.{Warned, is_at_start, header_has_ended, records_left, records_count_types, declaring_lines}
+use Words.{types_in_force, Reading, WholeReading, Stop, AtFault, AtLines, Looking, is_skipped, reading_from}
+use Words.{fault_at_end, ended_with, ended_reading, printed_items, IsStandard, types_fault, header_line_fault}
+use Words.{header_line, event_record, OfCopiedLine, OfCopiedLines, HaveNoReturns, written_lines, FilterResult}
+use Words.{IsResult, Device, ItemsAreRead, IsInPlace, AreInPlace, compact_reading}
 use Rattle.crx_filter.specs.meaning.Expanded.{rinex_unit}
 use Rattle.crx_filter.specs.meaning.WrittenStandard.{has_plain_lines, rinex_items, WhatIsExpandedIsStandard}
 use Rattle.crx_filter.specs.meaning.WrittenStandard.{WroteStandard}
@@ -70,11 +65,8 @@ count-read (Accepted unit ∷ before) = refl
 
 declares-read : (items : List (Item ReadEpoch)) → declaring_lines (rinex_items items) ≡ declaring_lines items
 declares-read [] = refl
-declares-read (Accepted (HeaderLine line) ∷ before) = ap (λ ls. ls ++ line ∷ []) (declares-read before)
-declares-read (Accepted (EventRecord line) ∷ before) = ap (λ b. cond b
-    (declaring_lines (rinex_items before) ++ line ∷ []) (declaring_lines (rinex_items before)))
-    (count-read before)
-    ∙ ap (λ ls. cond (records_count_types before) (ls ++ line ∷ []) ls) (declares-read before)
+declares-read (Accepted (HeaderLine line) ∷ before) = cc (declares-read before)
+declares-read (Accepted (EventRecord line) ∷ before) = cc (count-read before, declares-read before)
 declares-read (Warned at ∷ before) = declares-read before
 declares-read (Accepted unit ∷ before) = declares-read before
 
@@ -124,48 +116,34 @@ begun-placed before unit ended none good h = absurd h
 in-body : (before : List (Item ReadEpoch)) (unit : FileUnit ReadEpoch) (lines : List ReadLine) (count : ℕ)
     → compact_place before lines ≡ Here unit count → IsGoodUnit (types_in_force before) unit
     → header_has_ended before ≡ true → (left : ℕ) → records_left before ≡ left → IsPlaced before unit
-in-body before unit lines count e good ended zero none =
-    let here : compact_epoch_place (types_in_force before) (raws_kept before) lines ≡ Here unit count =
-    sym (body-place compact_beginning before lines ended none) ∙ e in
-    begun-placed before unit ended none good
-    (subst (λ p. OfHere IsBegun p) here (place-begun (types_in_force before) (raws_kept before) lines))
-in-body before unit lines count e good ended (suc left) some =
-    let here : first_line lines (event_record (records_count_types before)) ≡ Here unit count =
-    sym (record-place compact_beginning before left lines ended some) ∙ e in
-    let more = left-read before in
-    subst (λ p. OfHere (IsPlaced before) p) here
-    (first-line (IsPlaced before) (event_record (records_count_types before)) lines
-    (λ line. unless-wrong (IsPlaced before) (EventRecord line)
-    (cond (records_count_types before) (types_fault line) None)
+in-body before unit lines count e good ended zero none = begun-placed before unit ended none good
+    (subst (λ p. OfHere IsBegun p) (sym (body-place compact_beginning before lines ended none) ∙ e)
+    (place-begun (types_in_force before) (raws_kept before) lines))
+in-body before unit lines count e good ended (suc left) some = subst (λ p. OfHere (IsPlaced before) p)
+    (sym (record-place compact_beginning before left lines ended some)
+    ∙ e) (first-line (IsPlaced before) (event_record (records_count_types before)) lines
+    (λ line. unless-wrong (IsPlaced before) (EventRecord line) (cond (records_count_types before)
+    (types_fault line) None)
     (λ right. (
       header-read before ∙ ended,
-      omega (arith, some, more),
-      ap (λ b. cond b (types_fault line) None) (count-read before) ∙ right,
+      omega (arith, some, left-read before),
+      cc (count-read before, right),
     ))))
 
 in-header : (before : List (Item ReadEpoch)) (unit : FileUnit ReadEpoch) (lines : List ReadLine) (count : ℕ)
     → compact_place before lines ≡ Here unit count → header_has_ended before ≡ false → IsPlaced before unit
-in-header before unit lines count e open_header =
-    let here : first_line lines (header_line (is_at_start before)) ≡ Here unit count =
-    sym (at_header lines open_header) ∙ e in
-    subst (λ p. OfHere (IsPlaced before) p) here
-    (first-line (IsPlaced before) (header_line (is_at_start before)) lines
+in-header before unit lines count e open_header = subst (λ p. OfHere (IsPlaced before) p)
+    (sym (at_header lines open_header) ∙ e) (first-line (IsPlaced before) (header_line (is_at_start before))
+    lines
     (λ line. unless-wrong (IsPlaced before) (HeaderLine line) (header_line_fault (is_at_start before) line)
     (λ right. (
       header-read before ∙ open_header,
-      ap (λ b. header_line_fault b line) (start-read before) ∙ right,
+      cc (start-read before, right),
     ))))
   where
     at_header : (ls : List ReadLine) → header_has_ended before ≡ false
         → compact_place before ls ≡ first_line ls (header_line (is_at_start before))
     at_header ls e = rw e refl
-
-unit-placed : (before : List (Item ReadEpoch)) (unit : FileUnit ReadEpoch) (lines : List ReadLine) (count : ℕ)
-    → compact_place before lines ≡ Here unit count
-    → IsGoodUnit (types_in_force before) unit → IsPlaced before unit
-unit-placed before unit lines count e good = by_bool (header_has_ended before)
-    (λ on. in-body before unit lines count e good on (records_left before) refl)
-    (λ off. in-header before unit lines count e off)
 
 good-unit : (before : List (Item ReadEpoch)) (unit : FileUnit ReadEpoch)
     → AreGoodEpochs (Accepted unit ∷ before) → IsGoodUnit (types_in_force before) unit
@@ -181,7 +159,9 @@ items-placed : (items : List (Item ReadEpoch)) → ItemsAreRead compact_place it
     → AreInPlace (rinex_items items)
 items-placed [] h good = tt
 items-placed (Accepted unit ∷ before) h good = (
-  unit-placed before unit (h.0).0 (h.0).1 (h.0).2 (good-unit before unit good),
+  (by_bool (header_has_ended before) (λ on. in-body before unit ((h.0).0) ((h.0).1) ((h.0).2)
+      (good-unit before unit good) on (records_left before) refl) (λ off. in-header before unit ((h.0).0)
+      ((h.0).1) ((h.0).2) off)),
   items-placed before h.1 (good-before before unit good),
 )
 items-placed (Warned at ∷ before) h good = (
@@ -243,18 +223,14 @@ end-settled : (skip : Bool) (items : List (Item ReadEpoch)) (number : ℕ) (rest
 end-settled skip items number rest h k None e f =
     let good = end-means items rest e in
     record { in_place = h; copied = k; header = header-read items ∙ good.0; none = left-read items ∙ good.1 }
-end-settled skip items number rest h k (Some fault) e f = by_bool (is_skipped skip items fault)
-    (λ on.
+end-settled skip items number rest h k (Some fault) e f = by_bool (is_skipped skip items fault) (λ on.
     let facts = allowed skip items fault on in
     rw on (record {
       in_place = ((header-read items ∙ facts.0, left-read items ∙ facts.1, facts.2), h);
       copied = k;
       header = header-read items ∙ facts.0;
       none = refl;
-    }))
-    (λ off.
-    let never = rw off at f in
-    not-ended (record { line = number; fault = fault }) never)
+    })) (λ off. not-ended (record { line = number; fault = fault }) (rw off at f))
 
 stop-settled : (skip : Bool) (items : List (Item ReadEpoch)) (stop : Stop) (next : ℕ)
     → AreInPlace (rinex_items items) → OfCopiedLines CanStand (rinex_items items)
@@ -287,13 +263,9 @@ pub read-settled : (skip : Bool) (lines : List ReadLine) → AllByRecursion (OfC
     → WholeReading.fault (whole_compact skip lines) ≡ None
     → IsSettled (rinex_items (WholeReading.items (whole_compact skip lines)))
 read-settled skip lines h f = by_place (first_lines lines)
-    (λ two count e.
-    let good = rw (e, whole_compact) at f in
-    rw (e, whole_compact)
-    (from-settled skip (count + 1) (drop count lines) (all-drop (OfContent CanStand) count lines h) good))
-    (λ offset fault e.
-    let never = rw (e, whole_compact) at f in
-    not-ended (record { line = offset + 1; fault = fault }) never)
+    (λ two count e. rw (e, whole_compact) (from-settled skip (count + 1) (drop count lines)
+    (all-drop (OfContent CanStand) count lines h) (rw (e, whole_compact) at f)))
+    (λ offset fault e. not-ended (record { line = offset + 1; fault = fault }) (rw (e, whole_compact) at f))
     (λ e.
     let never = rw (e, whole_compact) at f in
     absurd (cc))
@@ -322,8 +294,7 @@ cut-plain : (lines : List (List ℕ)) → AllByRecursion HasNoFeed lines
 cut-plain [] h e = tt
 cut-plain (line ∷ lines) h e =
     let are_plain : List Piece → Bool = λ ps. list_all (λ (l : InputLine). l.is_plain) (map line_of ps) in
-    let all : are_plain (record { bytes = line; is_ended = true } ∷ pieces_of (lines_text lines)) ≡ true =
-    sym (ap are_plain (first-cut line lines h.0)) ∙ e in
+    let all = sym (cc (first-cut line lines h.0)) ∙ e in
     let both = and_parts (InputLine.is_plain (line_of (record { bytes = line; is_ended = true })))
     (are_plain (pieces_of (lines_text lines))) all in
     (not-true (ends_with_return line) both.0, cut-plain lines h.1 both.1)
@@ -346,18 +317,17 @@ plain-copied items h none = ap (list_all (λ (line : InputLine). line.is_plain))
 
 pub expanded-standard : (text : List ℕ) (choices : Choices) → WhatIsExpandedIsStandard text choices
 expanded-standard text choices good =
-    let lines : List ReadLine = map seen (lines_of text) in
-    let read : List (Item ReadEpoch) = WholeReading.items (whole_compact choices.skip lines) in
-    let items : List (Item Epoch) = rinex_items read in
-    let settled : IsSettled items = read-settled choices.skip lines (input-stands text) good in
-    let same : FilterResult.output (expanded text choices) ≡ lines_text (printed_items items) =
-    ap lines_text (printed-read read) in
-    let none : has_plain_lines (FilterResult.output (expanded text choices)) ≡ true → HaveNoReturns items =
-    λ plain. copied-plain items (cut-plain (printed_items items)
-    (printed-no_feed items settled.in_place settled.copied) (sym (ap has_plain_lines same) ∙ plain)) in
+    let lines = map seen (lines_of text) in
+    let read = WholeReading.items (whole_compact choices.skip lines) in
+    let items = rinex_items read in
+    let settled = read-settled choices.skip lines (input-stands text) good in
+    let same = ap lines_text (printed-read read) in
+    let none : has_plain_lines (FilterResult.output (expanded text choices)) ≡ true
+    → HaveNoReturns items = λ plain. copied-plain items (cut-plain (printed_items items)
+    (printed-no_feed items settled.in_place settled.copied) (cc (same, plain))) in
     record {
       standard = λ plain. subst IsStandard (sym same) (settled-standard items settled (none plain));
-      copied = (none, λ copies. ap has_plain_lines same ∙ plain-copied items settled copies);
+      copied = (none, λ copies. cc (same, plain-copied items settled copies));
     }
 
 -- ---- in runs

@@ -1,11 +1,10 @@
 -- What was accepted of compact text: each epoch is whole, by the types in force where it was read.
-use Rattle.crx_filter.proofs.Words.{ℕ, ◌≡◌, cond, List, [], ◌∷◌, None, refl, subst, ⊤, AllByRecursion}
-use Rattle.crx_filter.proofs.Words.{ReadLine, Count, Place, Here, FileUnit, HeaderLine, EventLine}
-use Rattle.crx_filter.proofs.Words.{EventRecord, Observation, RawEpoch, ReadEpoch, epoch_at, IsGood, Item}
-use Rattle.crx_filter.proofs.Words.{Accepted, Warned, is_at_start, records_count_types, types_in_force}
-use Rattle.crx_filter.proofs.Words.{types_fault, header_line_fault, header_line, event_record, raws_kept}
-use Rattle.crx_filter.proofs.Words.{empties_state, as_observation, compact_epoch_place, compact_place}
-use Rattle.crx_filter.proofs.Words.{ItemsAreRead}
+use Rattle.crx_filter.proofs.Words
+use Words.{ℕ, ◌≡◌, cond, List, [], ◌∷◌, None, refl, subst, ⊤, AllByRecursion, ReadLine, Count, Place, Here}
+use Words.{FileUnit, HeaderLine, EventLine, EventRecord, Observation, RawEpoch, ReadEpoch, epoch_at, IsGood}
+use Words.{Item, Accepted, Warned, is_at_start, records_count_types, types_in_force, types_fault}
+use Words.{header_line_fault, header_line, event_record, raws_kept, empties_state, as_observation}
+use Words.{compact_epoch_place, compact_place, ItemsAreRead}
 use Rattle.crx_compact.specs.ReadingLaws.{HasPrintableMarks}
 use Rattle.crx_compact.proofs.soundness.Goodness.{reads-whole}
 use Rattle.crx_filter.proofs.reading.Types.{counts-in_force}
@@ -32,22 +31,19 @@ begun-stood types raws lines =
 unit-stood : (items : List (Item ReadEpoch)) (lines : List ReadLine)
     → OfHere (StoodThere (types_in_force items) (raws_kept items)) (compact_place items lines)
 unit-stood items lines =
-    let P : FileUnit ReadEpoch → Type 0 = StoodThere (types_in_force items) (raws_kept items) in
-    of-unit (OfHere P) (λ (before : List (Item ReadEpoch)).
-    compact_epoch_place (types_in_force before) (raws_kept before)) items lines
-    (first-line P (header_line (is_at_start items)) lines
+    let P = StoodThere (types_in_force items) (raws_kept items) in
+    of-unit (OfHere P) (λ (before : List (Item ReadEpoch)). compact_epoch_place (types_in_force before)
+    (raws_kept before)) items lines (first-line P (header_line (is_at_start items)) lines
     (λ line. unless-wrong P (HeaderLine line) (header_line_fault (is_at_start items) line) (λ good. tt)))
     (first-line P (event_record (records_count_types items)) lines
-    (λ line. unless-wrong P (EventRecord line)
-    (cond (records_count_types items) (types_fault line) None) (λ good. tt)))
-    (begun-stood (types_in_force items) (raws_kept items) lines)
+    (λ line. unless-wrong P (EventRecord line) (cond (records_count_types items) (types_fault line) None)
+    (λ good. tt))) (begun-stood (types_in_force items) (raws_kept items) lines)
 
 -- an epoch that was accepted stood at some lines
 pub epoch-read : (before : List (Item ReadEpoch)) (read : ReadEpoch) (lines : List ReadLine) (count : ℕ)
     → compact_place before lines ≡ Here (Observation read) count
     → (ls : List ReadLine) × (n : ℕ) × (epoch_at (types_in_force before) (raws_kept before) ls ≡ Here read n)
-epoch-read before read lines count e =
-    subst (OfHere (StoodThere (types_in_force before) (raws_kept before))) e (unit-stood before lines)
+epoch-read before read lines count e = rw e at (unit-stood before lines)
 
 -- ---- all that were accepted
 

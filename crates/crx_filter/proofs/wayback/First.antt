@@ -17,21 +17,17 @@ use Rattle.crx_lines.proofs.PieceLemmas.{NoFeed}
 -- ---- the date's columns
 
 date-width : (date : List ℕ) → length (left_justified 20 date) ≡ 20
-date-width date =
-    let all : length (date ++ replicate 20 32) ≡ length date + 20 = length-append date (replicate 20 32) in
-    length-take-le 20 (date ++ replicate 20 32) (omega (arith, all))
+date-width date = length-take-le 20 (date ++ replicate 20 32)
+    (omega (arith, length-append date (replicate 20 32)))
 
 drop-exact : (n : ℕ) (xs ys : List ℕ) → length xs ≡ n → drop n (xs ++ ys) ≡ ys
 drop-exact n xs ys e = subst (λ k. drop k (xs ++ ys) ≡ ys) e (drop-append_seam xs ys)
 
-program-label : (date : List ℕ) → label_of (program_line date) ≡ CRINEX_PROGRAM_LABEL
-program-label date = ap (λ (t : List ℕ). without_end_blanks (take 20 (t ++ replicate 20 32)))
-    (drop-exact 20 (left_justified 20 date) CRINEX_PROGRAM_LABEL (date-width date))
-
 program-read : (date : List ℕ) → crinex_program (program_line date) ≡ Ok (program_line date)
 program-read date =
-    let label : bytes_eq (label_of (program_line date)) CRINEX_PROGRAM_LABEL ≡ true =
-    ap (λ t. bytes_eq t CRINEX_PROGRAM_LABEL) (program-label date) in
+    let label = ap (λ t. bytes_eq t CRINEX_PROGRAM_LABEL) (ap (λ (t : List ℕ). without_end_blanks
+    (take 20 (t ++ replicate 20 32))) (drop-exact 20 (left_justified 20 date) CRINEX_PROGRAM_LABEL
+    (date-width date))) in
     rw label refl
 
 pub first-lines_read : (date : List ℕ) (rest : List ReadLine) → first_lines
@@ -76,13 +72,10 @@ take-printable (suc n) (c ∷ cs) h =
 pub program-printable : (date : List ℕ) → is_date date ≡ true
     → list_all is_printable (program_line date) ≡ true
 program-printable date h =
-    let good : list_all is_printable date ≡ true =
-    (and_parts (nat_le (length date) DATE_LIMIT) (list_all is_printable date) h).1 in
-    let columns : list_all is_printable (left_justified 20 date) ≡ true =
-    take-printable 20 (date ++ replicate 20 32) (append-printable date (replicate 20 32) good refl) in
-    let after : list_all is_printable (left_justified 20 date ++ CRINEX_PROGRAM_LABEL) ≡ true =
-    append-printable (left_justified 20 date) CRINEX_PROGRAM_LABEL columns refl in
-    append-printable CRINEX_PROGRAM (left_justified 20 date ++ CRINEX_PROGRAM_LABEL) refl after
+    let columns = take-printable 20 (date ++ replicate 20 32) (append-printable date (replicate 20 32)
+    ((and_parts (nat_le (length date) DATE_LIMIT) (list_all is_printable date) h).1) refl) in
+    append-printable CRINEX_PROGRAM (left_justified 20 date ++ CRINEX_PROGRAM_LABEL) refl
+    (append-printable (left_justified 20 date) CRINEX_PROGRAM_LABEL columns refl)
 
 pub program-clean : (date : List ℕ) → is_date date ≡ true → IsClean (program_line date)
 program-clean date h =

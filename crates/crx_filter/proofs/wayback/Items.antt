@@ -1,15 +1,13 @@
 -- What was accepted by a compaction, and how its compact text is read: the same header, events and types in
 -- force.
-use Rattle.crx_filter.proofs.Words.{ℕ, ◌≡◌, ◌+◌, Bool, true, false, cond, List, [], ◌∷◌, ◌++◌, map, length}
-use Rattle.crx_filter.proofs.Words.{Option, Some, None, Ok, refl, ap, sym, ◌∙◌, arith, append-nil, ◌||◌, drop}
-use Rattle.crx_filter.proofs.Words.{is_some, length-map, ReadLine, Content, Row, Epoch, Here, FileUnit}
-use Rattle.crx_filter.proofs.Words.{HeaderLine, EventLine, EventRecord, Observation, is_event_line}
-use Rattle.crx_filter.proofs.Words.{records_in, Count, Marked, compact_epoch, epoch_line, RawEpoch, block_of}
-use Rattle.crx_filter.proofs.Words.{ReadEpoch, epoch_at, LinesCanStand, Item, Accepted, records_left}
-use Rattle.crx_filter.proofs.Words.{types_in_force, types_fault, header_line_fault, is_interrupted}
-use Rattle.crx_filter.proofs.Words.{is_at_every, is_in_full, marked_epochs, epochs_accepted, raws_kept}
-use Rattle.crx_filter.proofs.Words.{event_line, as_observation, compact_epoch_place, compact_place}
-use Rattle.crx_filter.proofs.Words.{AreInPlace}
+use Rattle.crx_filter.proofs.Words
+use Words.{ℕ, ◌≡◌, ◌+◌, Bool, true, false, cond, List, [], ◌∷◌, ◌++◌, map, length, Option, Some, None, Ok}
+use Words.{refl, ap, sym, ◌∙◌, arith, append-nil, ◌||◌, drop, is_some, length-map, ReadLine, Content, Row}
+use Words.{Epoch, Here, FileUnit, HeaderLine, EventLine, EventRecord, Observation, is_event_line, records_in}
+use Words.{Count, Marked, compact_epoch, epoch_line, RawEpoch, block_of, ReadEpoch, epoch_at, LinesCanStand}
+use Words.{Item, Accepted, records_left, types_in_force, types_fault, header_line_fault, is_interrupted}
+use Words.{is_at_every, is_in_full, marked_epochs, epochs_accepted, raws_kept, event_line, as_observation}
+use Words.{compact_epoch_place, compact_place, AreInPlace}
 use Rattle.crx_compact.specs.meaning.Compaction.{since_full, run_of, satellite_line}
 use Rattle.crx_compact.specs.Laws.{AreWhole}
 use Rattle.crx_compact.specs.ReadingLaws.{raws_of, read_of, lines_of_epoch, EpochReadsBack}
@@ -51,8 +49,7 @@ either-false false b e = refl
 
 not-interrupted : (every : Option ℕ) (before : List (Item Epoch))
     → is_in_full every before ≡ false → is_interrupted before ≡ false
-not-interrupted every before e = either-false (is_interrupted before)
-    (is_at_every every (epochs_accepted before)) e
+not-interrupted every before e = either-false _ _ e
 
 -- they are whole by the types in force: types change only at an event, and the next epoch after it is in full
 whole-since : (every : Option ℕ) (items : List (Item Epoch)) → AreInPlace items

@@ -1,17 +1,15 @@
 -- What was accepted, printed and read again; the normal form of a file, and a file that is in order.
-use Rattle.crx_filter.proofs.Words.{ℕ, ◌≡◌, ◌+◌, ◌*◌, ◌≤◌, true, false, cond, List, [], ◌∷◌, ◌++◌, map}
-use Rattle.crx_filter.proofs.Words.{length, Option, Some, None, refl, ap, sym, ◌∙◌, arith, append-nil, All}
-use Rattle.crx_filter.proofs.Words.{AllByRecursion, list_all, is_some, length-map, All-head, All-tail}
-use Rattle.crx_filter.proofs.Words.{and_parts, InputLine, lines_of, ReadLine, Content, seen, clock_text}
-use Rattle.crx_filter.proofs.Words.{without_end_blanks, Fault, LINE_LIMIT, TYPES_LIMIT, Row, Epoch, Count}
-use Rattle.crx_filter.proofs.Words.{begins_epoch, is_event_line, records_in, IsSoundRow, IsWholeEpoch}
-use Rattle.crx_filter.proofs.Words.{epoch_place, Here, printed_row, printed_epoch, printed_cells, lines_text}
-use Rattle.crx_filter.proofs.Words.{FileUnit, HeaderLine, EventLine, EventRecord, Observation, printed_unit}
-use Rattle.crx_filter.proofs.Words.{Item, Accepted, Warned, records_left, types_in_force, types_fault}
-use Rattle.crx_filter.proofs.Words.{header_line_fault, Reading, WholeReading, Stop, AtLines, fault_at_end}
-use Rattle.crx_filter.proofs.Words.{ended_with, ended_reading, warnings_in, rinex_place, whole_rinex}
-use Rattle.crx_filter.proofs.Words.{rinex_reading, printed_items, whole_of, normal_form, IsStandard}
-use Rattle.crx_filter.proofs.Words.{AreInPlace, OfCopiedLines, HaveNoReturns, HasNormalForm}
+use Rattle.crx_filter.proofs.Words
+use Words.{ℕ, ◌≡◌, ◌+◌, ◌*◌, ◌≤◌, true, false, cond, List, [], ◌∷◌, ◌++◌, map, length, Option, Some, None}
+use Words.{refl, ap, sym, ◌∙◌, arith, append-nil, All, AllByRecursion, list_all, is_some, length-map}
+use Words.{All-head, All-tail, and_parts, InputLine, lines_of, ReadLine, Content, seen, clock_text}
+use Words.{without_end_blanks, Fault, LINE_LIMIT, TYPES_LIMIT, Row, Epoch, Count, begins_epoch, is_event_line}
+use Words.{records_in, IsSoundRow, IsWholeEpoch, epoch_place, Here, printed_row, printed_epoch, printed_cells}
+use Words.{lines_text, FileUnit, HeaderLine, EventLine, EventRecord, Observation, printed_unit, Item}
+use Words.{Accepted, Warned, records_left, types_in_force, types_fault, header_line_fault, Reading}
+use Words.{WholeReading, Stop, AtLines, fault_at_end, ended_with, ended_reading, warnings_in, rinex_place}
+use Words.{whole_rinex, rinex_reading, printed_items, whole_of, normal_form, IsStandard, AreInPlace}
+use Words.{OfCopiedLines, HaveNoReturns, HasNormalForm}
 use Rattle.crx_header.specs.meaning.EpochColumns.{satellites_of}
 use Rattle.crx_rinex.proofs.ReadingBack.{epoch-back, length-row, length-head}
 use Rattle.crx_filter.proofs.reading.KeptThroughout.{within-kept}
@@ -44,25 +42,21 @@ event-stands types line (Some n) e h event =
     rw (both.0, both.1, e) refl
 
 pub stands : StandsAgain rinex_place same_epoch (λ before. printed_unit)
-stands before (HeaderLine line) h =
-    header-here rinex_beginning (accepted before) line (header-same same_epoch before
-    ∙ (h.0).0) (ap (λ b. header_line_fault b line) (start-same same_epoch before h.1) ∙ (h.0).1)
-stands before (EventLine line) h =
-    body-place rinex_beginning (accepted before) (Content line ∷ []) (header-same same_epoch before
-    ∙ (h.0).0) (left-same same_epoch before h.1 ∙ (h.0).1)
+stands before (HeaderLine line) h = header-here rinex_beginning (accepted before) line (header-same same_epoch
+    before ∙ (h.0).0) (cc (start-same same_epoch before h.1, (h.0).1))
+stands before (EventLine line) h = body-place rinex_beginning (accepted before) (Content line ∷ [])
+    (header-same same_epoch before ∙ (h.0).0) (left-same same_epoch before h.1 ∙ (h.0).1)
     ∙ event-stands (types_in_force (accepted before)) line (records_in line) refl (h.0).3 (h.0).2
-stands before (EventRecord line) h =
-    record-here rinex_beginning (accepted before) line (records_left before) (header-same same_epoch before
-    ∙ (h.0).0) (left-same same_epoch before h.1) (h.0).1
-    (ap (λ b. cond b (types_fault line) None) (count-same same_epoch before h.1 (h.0).1) ∙ (h.0).2)
+stands before (EventRecord line) h = record-here rinex_beginning (accepted before) line (records_left before)
+    (header-same same_epoch before ∙ (h.0).0) (left-same same_epoch before h.1) (h.0).1
+    (cc (count-same same_epoch before h.1 (h.0).1, (h.0).2))
 stands before (Observation epoch) h =
-    let lines : List ReadLine = map Content (printed_epoch epoch) in
-    let kept : length (map printed_row epoch.rows) ≡ length epoch.rows = length-map epoch.rows printed_row in
-    let counted : length epoch.rows + 1 ≡ length (printed_epoch epoch) = omega (arith, kept) in
-    body-place rinex_beginning (accepted before) lines (header-same same_epoch before
-    ∙ (h.0).0) (left-same same_epoch before h.1 ∙ (h.0).1)
-    ∙ ap (λ types. epoch_place types lines) (types-same same_epoch before h.1)
-    ∙ ap (epoch_place (types_in_force before)) (sym (append-nil lines))
+    let lines = map Content (printed_epoch epoch) in
+    let counted : length epoch.rows + 1 ≡ length (printed_epoch epoch) = omega
+    (arith, length-map epoch.rows printed_row) in
+    body-place rinex_beginning (accepted before) lines (header-same same_epoch before ∙ (h.0).0)
+    (left-same same_epoch before h.1 ∙ (h.0).1) ∙ ap (λ types. epoch_place types lines) (types-same same_epoch
+    before h.1) ∙ ap (epoch_place (types_in_force before)) (sym (append-nil lines))
     ∙ epoch-back (types_in_force before) epoch [] (h.0).2 ∙ ap (λ n. Here (Observation epoch) n) counted
 
 -- ---- where nothing is skipped, there are no warnings
@@ -80,9 +74,8 @@ none-ended items stop = refl
 
 pub whole-none : (lines : List ReadLine) → warnings_in (WholeReading.items (whole_rinex false lines)) ≡ []
 whole-none lines =
-    let r : Reading Epoch = rinex_reading false lines in
-    let kept = within-kept rinex_place false (λ items ls. warnings_in items ≡ [])
-    (record {
+    let r = rinex_reading false lines in
+    let kept = within-kept rinex_place false (λ items ls. warnings_in items ≡ []) (record {
       here = λ items ls unit count e h. h;
       warned = λ items ls at on h. absurd (cc);
       passed = λ items ls n h. h;
@@ -95,8 +88,7 @@ unit-same before unit = refl
 
 pub accepted-all : (items : List (Item Epoch)) → warnings_in items ≡ [] → accepted items ≡ items
 accepted-all [] h = refl
-accepted-all (Accepted unit ∷ before) h = ap (λ u. Accepted u ∷ accepted before) (unit-same before unit)
-    ∙ ap (λ items. Accepted unit ∷ items) (accepted-all before h)
+accepted-all (Accepted unit ∷ before) h = cc (unit-same before unit, accepted-all before h)
 accepted-all (Warned at ∷ before) h = absurd (cc)
 
 -- ---- printed lines are read as they are written
@@ -157,33 +149,28 @@ printed-again items h none = ap (whole_rinex false) (lines-cut (printed_items it
 
 printed-carried : (items : List (Item Epoch)) → printed_items (accepted items) ≡ printed_items items
 printed-carried [] = refl
-printed-carried (Accepted unit ∷ before) = ap (λ u. printed_items (accepted before) ++ printed_unit u)
-    (unit-same before unit) ∙ ap (λ ls. ls ++ printed_unit unit) (printed-carried before)
+printed-carried (Accepted unit ∷ before) = cc (unit-same before unit, printed-carried before)
 printed-carried (Warned at ∷ before) = printed-carried before
 
 pub settled-standard : (items : List (Item Epoch))
     → IsSettled items → HaveNoReturns items → IsStandard (lines_text (printed_items items))
 settled-standard items settled none =
-    let again : whole_of (lines_text (printed_items items))
-    ≡ record { items = accepted items; fault = None } = printed-again items settled none in
-    let cut : lines_of (lines_text (printed_items items)) ≡ map plain (printed_items items) =
-    lines-plain (printed_items items) (printed-plain items settled.in_place settled.copied none) in
+    let again = printed-again items settled none in
+    let cut = lines-plain (printed_items items) (printed-plain items settled.in_place settled.copied none) in
     record {
-      good = ap (λ (w : WholeReading Epoch). w.fault) again;
-      plain = ap (list_all (λ (line : InputLine). line.is_plain)) cut ∙ all-plain (printed_items items);
-      given_back = ap (contents) cut ∙ contents-plain (printed_items items)
-          ∙ sym (printed-carried items) ∙ sym (ap (λ (w : WholeReading Epoch). printed_items w.items) again);
+      good = cc (again);
+      plain = cc (cut, all-plain (printed_items items));
+      given_back = cc (cut, contents-plain (printed_items items), printed-carried items, again);
     }
 
 -- ---- the normal form
 
 pub read-as_normal : (input : List ℕ) → HasNormalForm input → whole_of (normal_form input) ≡ whole_of input
 read-as_normal input h =
-    let items : List (Item Epoch) = WholeReading.items (whole_of input) in
+    let items = WholeReading.items (whole_of input) in
     printed-again items (whole-settled false input h.good) h.no_returns
-    ∙ ap (λ (all : List (Item Epoch)). record { items = all; fault = None })
-    (accepted-all items (whole-none (map seen (lines_of input))))
-    ∙ ap (λ f. record { items = items; fault = f }) (sym h.good)
+    ∙ ap (λ (all : List (Item Epoch)). record { items = all; fault = None }) (accepted-all items
+    (whole-none (map seen (lines_of input)))) ∙ ap (λ f. record { items = items; fault = f }) (sym h.good)
 
 pub standard-as_normal : (input : List ℕ) → HasNormalForm input → IsStandard (normal_form input)
 standard-as_normal input h =
@@ -191,5 +178,4 @@ standard-as_normal input h =
 
 pub normal-for_good : (input : List ℕ)
     → HasNormalForm input → normal_form (normal_form input) ≡ normal_form input
-normal-for_good input h =
-    ap (λ (w : WholeReading Epoch). lines_text (printed_items w.items)) (read-as_normal input h)
+normal-for_good input h = cc (read-as_normal input h)

@@ -1,14 +1,12 @@
 -- The lines that a compaction wrote, read one unit after another; and what an input's lines give to the lines
--- that are
--- copied.
-use Rattle.crx_filter.proofs.Words.{ℕ, ◌+◌, Bool, cond, List, [], ◌∷◌, length, drop, Option, None, Result, Ok}
-use Rattle.crx_filter.proofs.Words.{Err, subst, AllByRecursion, ReadLine, Content, Overlong, Fault, Epoch}
-use Rattle.crx_filter.proofs.Words.{Place, Here, Wrong, Wanted, after_lines, then_place, one_line, first_line}
-use Rattle.crx_filter.proofs.Words.{FileUnit, HeaderLine, EventRecord, Observation, HeadLine, EventHead}
-use Rattle.crx_filter.proofs.Words.{EpochHead, head_of, Count, opened, begun_by, rest_at, unit_begun}
-use Rattle.crx_filter.proofs.Words.{epoch_place, Item, is_at_start, records_count_types, types_in_force}
-use Rattle.crx_filter.proofs.Words.{header_line_fault, types_fault, header_line, event_record, reading_from}
-use Rattle.crx_filter.proofs.Words.{written_lines, rinex_place, OfCopiedLine, OfCopiedLines, unit_place}
+-- that are copied.
+use Rattle.crx_filter.proofs.Words
+use Words.{ℕ, ◌+◌, Bool, cond, List, [], ◌∷◌, length, drop, Option, None, Result, Ok, Err, subst}
+use Words.{AllByRecursion, ReadLine, Content, Overlong, Fault, Epoch, Place, Here, Wrong, Wanted, after_lines}
+use Words.{then_place, one_line, first_line, FileUnit, HeaderLine, EventRecord, Observation, HeadLine}
+use Words.{EventHead, EpochHead, head_of, Count, opened, begun_by, rest_at, unit_begun, epoch_place, Item}
+use Words.{is_at_start, records_count_types, types_in_force, header_line_fault, types_fault, header_line}
+use Words.{event_record, reading_from, written_lines, rinex_place, OfCopiedLine, OfCopiedLines, unit_place}
 use Rattle.crx_filter.proofs.reading.WhatStands.{OfHere, of-unit, OfOk, one-line, unless-wrong}
 use Rattle.crx_filter.proofs.reading.KeptThroughout.{within-kept}
 use Rattle.crx_filter.proofs.wayback.Cut.{OfContent}
@@ -54,9 +52,7 @@ copied-begun : (P : List ℕ → Type 0)
     → P line → OfHere (OfCopiedLine P) (then_place (one_line (begun_by line r)) lines (unit_begun types))
 copied-begun P types line (Err fault) lines h = tt
 copied-begun P types line (Ok (EventHead flag count)) lines h = h
-copied-begun P types line (Ok (EpochHead head count clock)) lines h = observed P
-    (rest_at (opened types (record { head = head; count = count; clock = clock })) (drop 1 lines))
-    (drop 1 lines)
+copied-begun P types line (Ok (EpochHead head count clock)) lines h = observed _ _ (drop 1 lines)
 
 copied-event : (P : List ℕ → Type 0) (types : List Count) (lines : List ReadLine)
     → AllByRecursion (OfContent P) lines → OfHere (OfCopiedLine P) (epoch_place types lines)

@@ -1,6 +1,5 @@
 -- The bytes 13 of a file on the way to compact text and back: they never become more, and fewer where a
--- copied line
--- ends in CR. So a file that comes back has no such line.
+-- copied line ends in CR. So a file that comes back has no such line.
 use Rattle.crx_filter.proofs.Words.{ℕ, zero, suc, ◌≡◌, ◌+◌, ◌<◌, ◌≤◌, true, cond, List, [], ◌∷◌, ◌++◌, map}
 use Rattle.crx_filter.proofs.Words.{take, drop, refl, arith, ◌==◌, AllByRecursion, list_all, ne_eqb}
 use Rattle.crx_filter.proofs.Words.{and_parts, Piece, InputLine, pieces_of, onto_first, ends_with_return}
@@ -18,30 +17,25 @@ returns (b ∷ bs) = cond (b == 13) 1 0 + returns bs
 
 returns-append : (xs ys : List ℕ) → returns (xs ++ ys) ≡ returns xs + returns ys
 returns-append [] ys = omega arith
-returns-append (x ∷ xs) ys = let rest : returns (xs ++ ys) ≡ returns xs + returns ys = returns-append xs ys in
-    omega (arith, rest)
+returns-append (x ∷ xs) ys = omega (arith, returns-append xs ys)
 
 -- one CR at the end is taken off
 pub returns-kept : (text : List ℕ) → returns (without_return text) ≤ returns text
 returns-kept [] = omega arith
 returns-kept (b ∷ []) = by_bool (b == 13) (λ on. rw on (omega arith)) (λ off. rw off (rw off (omega arith)))
-returns-kept (b ∷ c ∷ bs) = let rest : returns (without_return (c ∷ bs)) ≤ returns (c ∷ bs) =
-    returns-kept (c ∷ bs) in
-    omega (arith, rest)
+returns-kept (b ∷ c ∷ bs) = omega (arith, returns-kept (c ∷ bs))
 
 pub returns-fewer : (text : List ℕ) → ends_with_return text ≡ true → returns (without_return text)
     < returns text
 returns-fewer [] e = absurd (cc)
 returns-fewer (b ∷ []) e = rw e (omega arith)
-returns-fewer (b ∷ c ∷ bs) e = let rest : returns (without_return (c ∷ bs)) < returns (c ∷ bs) =
-    returns-fewer (c ∷ bs) e in omega (arith, rest)
+returns-fewer (b ∷ c ∷ bs) e = omega (arith, returns-fewer (c ∷ bs) e)
 
 pub printable-none : (text : List ℕ) → list_all is_printable text ≡ true → returns text ≡ 0
 printable-none [] h = refl
 printable-none (c ∷ cs) h =
     let both = and_parts (is_printable c) _ h in
-    let other = ne_eqb c 13 (printable-other c 13 refl both.0) in
-    rw (other, printable-none cs both.1) refl
+    rw (ne_eqb c 13 (printable-other c 13 refl both.0), printable-none cs both.1) refl
 
 -- ---- of lines that are written
 
@@ -51,8 +45,7 @@ returns_in (line ∷ lines) = returns line + returns_in lines
 
 pub in-append : (xs ys : List (List ℕ)) → returns_in (xs ++ ys) ≡ returns_in xs + returns_in ys
 in-append [] ys = omega arith
-in-append (x ∷ xs) ys = let rest : returns_in (xs ++ ys) ≡ returns_in xs + returns_in ys = in-append xs ys in
-    omega (arith, rest)
+in-append (x ∷ xs) ys = omega (arith, in-append xs ys)
 
 pub in-text : (lines : List (List ℕ)) → returns (lines_text lines) ≡ returns_in lines
 in-text [] = refl
@@ -66,10 +59,7 @@ in-text (line ∷ lines) =
 pub in-printable : (lines : List (List ℕ))
     → AllByRecursion (λ (line : List ℕ). list_all is_printable line ≡ true) lines → returns_in lines ≡ 0
 in-printable [] h = refl
-in-printable (line ∷ lines) h =
-    let one : returns line ≡ 0 = printable-none line h.0 in
-    let rest : returns_in lines ≡ 0 = in-printable lines h.1 in
-    omega (arith, one, rest)
+in-printable (line ∷ lines) h = omega (arith, printable-none line h.0, in-printable lines h.1)
 
 -- ---- of lines that are read
 
@@ -83,8 +73,7 @@ pub read-cut : (n : ℕ) (lines : List ReadLine)
 read-cut zero lines = omega arith
 read-cut (suc n) [] = refl
 read-cut (suc n) (Overlong ∷ lines) = read-cut n lines
-read-cut (suc n) (Content line ∷ lines) = let rest : returns_read lines
-    ≡ returns_read (take n lines) + returns_read (drop n lines) = read-cut n lines in omega (arith, rest)
+read-cut (suc n) (Content line ∷ lines) = omega (arith, read-cut n lines)
 
 read-one : (l : InputLine) (lines : List ReadLine)
     → returns_read (seen l ∷ lines) ≤ returns l.content + returns_read lines
@@ -97,12 +86,8 @@ returns_of (p ∷ ps) = returns p.bytes + returns_of ps
 
 read-pieces : (ps : List Piece) → returns_read (map seen (map line_of ps)) ≤ returns_of ps
 read-pieces [] = omega arith
-read-pieces (p ∷ ps) =
-    let one : returns_read (seen (line_of p) ∷ map seen (map line_of ps)) ≤ returns (without_return p.bytes)
-    + returns_read (map seen (map line_of ps)) = read-one (line_of p) (map seen (map line_of ps)) in
-    let kept : returns (without_return p.bytes) ≤ returns p.bytes = returns-kept p.bytes in
-    let rest : returns_read (map seen (map line_of ps)) ≤ returns_of ps = read-pieces ps in
-    omega (arith, one, kept, rest)
+read-pieces (p ∷ ps) = omega
+    (arith, read-one (line_of p) (map seen (map line_of ps)), returns-kept p.bytes, read-pieces ps)
 
 onto : (b : ℕ) (ps : List Piece) → returns_of (onto_first b ps) ≡ cond (b == 13) 1 0 + returns_of ps
 onto b [] = omega arith
@@ -111,12 +96,9 @@ onto b (p ∷ ps) = omega arith
 of-pieces : (input : List ℕ) → returns_of (pieces_of input) ≤ returns input
 of-pieces [] = omega arith
 of-pieces (b ∷ bs) =
-    let rest : returns_of (pieces_of bs) ≤ returns bs = of-pieces bs in
-    by_bool (b == 10)
-    (λ on. rw on (omega (arith, rest)))
-    (λ off.
-    let one = onto b (pieces_of bs) in
-    rw off (omega (arith, rest, one)))
+    let rest = of-pieces bs in
+    by_bool (b == 10) (λ on. rw on (omega (arith, rest)))
+    (λ off. rw off (omega (arith, rest, onto b (pieces_of bs))))
 
 -- what is read of an input has no more than the input
 pub read-input : (input : List ℕ) → returns_read (map seen (lines_of input)) ≤ returns input
@@ -133,16 +115,11 @@ returns_left (line ∷ lines) = returns (without_return line) + returns_left lin
 
 pub left-append : (xs ys : List (List ℕ)) → returns_left (xs ++ ys) ≡ returns_left xs + returns_left ys
 left-append [] ys = omega arith
-left-append (x ∷ xs) ys = let rest : returns_left (xs ++ ys) ≡ returns_left xs + returns_left ys =
-    left-append xs ys in
-    omega (arith, rest)
+left-append (x ∷ xs) ys = omega (arith, left-append xs ys)
 
 pub left-kept : (lines : List (List ℕ)) → returns_left lines ≤ returns_in lines
 left-kept [] = omega arith
-left-kept (line ∷ lines) =
-    let one : returns (without_return line) ≤ returns line = returns-kept line in
-    let rest : returns_left lines ≤ returns_in lines = left-kept lines in
-    omega (arith, one, rest)
+left-kept (line ∷ lines) = omega (arith, returns-kept line, left-kept lines)
 
 -- lines that are written and read again have lost one CR where one ended them
 pub read-written : (lines : List (List ℕ))
@@ -150,7 +127,6 @@ pub read-written : (lines : List (List ℕ))
     ≤ returns_left lines
 read-written [] h = omega arith
 read-written (line ∷ lines) h =
-    let read : InputLine = line_of (record { bytes = line; is_ended = true }) in
-    let one = read-one read (map seen (lines_of (lines_text lines))) in
-    let rest = read-written lines h.1 in
-    rw (first-cut line lines h.0) (omega (arith, one, rest))
+    let one = read-one (line_of (record { bytes = line; is_ended = true })) (map seen
+    (lines_of (lines_text lines))) in
+    rw (first-cut line lines h.0) (omega (arith, one, read-written lines h.1))

@@ -1,18 +1,15 @@
 -- A file comes back byte for byte only where no copied line ends in CR: else it comes back with fewer bytes
--- 13. So it
--- is standard.
-use Rattle.crx_filter.proofs.Words.{ℕ, ◌≡◌, ◌+◌, ◌<◌, ◌≤◌, Bool, true, false, List, [], ◌∷◌, ◌++◌, map}
-use Rattle.crx_filter.proofs.Words.{length, drop, Option, Some, None, refl, ap, sym, ◌∙◌, arith, ◌⊎◌, inl}
-use Rattle.crx_filter.proofs.Words.{inr, AllByRecursion, list_all, HasNoFeed, ends_with_return}
-use Rattle.crx_filter.proofs.Words.{without_return, lines_of, ReadLine, seen, is_printable, Fault, Epoch}
-use Rattle.crx_filter.proofs.Words.{printed_epoch, lines_text, HeaderLine, EventLine, EventRecord}
-use Rattle.crx_filter.proofs.Words.{Observation, ReadEpoch, compact_epoch, LinesCanStand, IsGood, Choices}
-use Rattle.crx_filter.proofs.Words.{is_date, Item, Accepted, Warned, types_in_force, WholeReading, Stop}
-use Rattle.crx_filter.proofs.Words.{AtLines, is_skipped, reading_from, fault_at_end, ended_with}
-use Rattle.crx_filter.proofs.Words.{ended_reading, FilterResult, marked_epochs, compact_lines, compacted}
-use Rattle.crx_filter.proofs.Words.{version_line, program_line, compact_place, first_lines, whole_compact}
-use Rattle.crx_filter.proofs.Words.{expanded, expanded_unit, expanded_lines, whole_of, AreInPlace}
-use Rattle.crx_filter.proofs.Words.{OfCopiedLines, HaveNoReturns}
+-- 13. So it is standard.
+use Rattle.crx_filter.proofs.Words
+use Words.{ℕ, ◌≡◌, ◌+◌, ◌<◌, ◌≤◌, Bool, true, false, List, [], ◌∷◌, ◌++◌, map, length, drop, Option, Some}
+use Words.{None, refl, ap, sym, ◌∙◌, arith, ◌⊎◌, inl, inr, AllByRecursion, list_all, HasNoFeed}
+use Words.{ends_with_return, without_return, lines_of, ReadLine, seen, is_printable, Fault, Epoch}
+use Words.{printed_epoch, lines_text, HeaderLine, EventLine, EventRecord, Observation, ReadEpoch}
+use Words.{compact_epoch, LinesCanStand, IsGood, Choices, is_date, Item, Accepted, Warned, types_in_force}
+use Words.{WholeReading, Stop, AtLines, is_skipped, reading_from, fault_at_end, ended_with, ended_reading}
+use Words.{FilterResult, marked_epochs, compact_lines, compacted, version_line, program_line, compact_place}
+use Words.{first_lines, whole_compact, expanded, expanded_unit, expanded_lines, whole_of, AreInPlace}
+use Words.{OfCopiedLines, HaveNoReturns}
 use Rattle.crx_filter.specs.WayBack.{IsStandardWhereSame}
 use Rattle.crx_filter.proofs.Choosing.{by_bool}
 use Rattle.crx_filter.proofs.reading.WhatWasRead.{items-read}
@@ -39,19 +36,16 @@ written-returns : (items : List (Item ReadEpoch))
     → AreGoodEpochs items → returns_in (expanded_lines items) ≡ returns_copied items
 written-returns [] h = refl
 written-returns (Accepted (Observation read) ∷ before) h =
-    let all : returns_in (expanded_lines before ++ printed_epoch read.epoch)
-    ≡ returns_in (expanded_lines before)
-    + returns_in (printed_epoch read.epoch) = in-append (expanded_lines before) (printed_epoch read.epoch) in
-    let none : returns_in (printed_epoch read.epoch) ≡ 0 = in-printable
-    (printed_epoch read.epoch) (epoch-printable (types_in_force before) read.epoch (IsGood.whole h.0)) in
-    let rest : returns_in (expanded_lines before) ≡ returns_copied before = written-returns before h.1 in
-    omega (arith, all, none, rest)
-written-returns (Accepted unit ∷ before) h =
-    let all : returns_in (expanded_lines (Accepted unit ∷ before))
-    ≡ returns_in (expanded_lines before) + returns_in (expanded_unit before unit) =
-    in-append (expanded_lines before) (expanded_unit before unit) in
-    let rest = written-returns before h in
-    omega (arith, all, rest)
+    let none = in-printable (printed_epoch read.epoch) (epoch-printable (types_in_force before) read.epoch
+    (IsGood.whole h.0)) in
+    omega (
+      arith,
+      in-append (expanded_lines before) (printed_epoch read.epoch),
+      none,
+      written-returns before h.1,
+    )
+written-returns (Accepted unit ∷ before) h = omega
+    (arith, in-append (expanded_lines before) (expanded_unit before unit), written-returns before h)
 written-returns (Warned at ∷ before) h = written-returns before h
 
 end-good : (skip : Bool) (items : List (Item ReadEpoch)) (number : ℕ) (o : Option Fault)
@@ -80,15 +74,13 @@ whole-good skip lines = by_place (first_lines lines)
 expanded-returns : (text : List ℕ) (choices : Choices)
     → returns (FilterResult.output (expanded text choices)) ≤ returns_read (map seen (lines_of text))
 expanded-returns text choices =
-    let items : List (Item ReadEpoch) = WholeReading.items
-    (whole_compact choices.skip (map seen (lines_of text))) in
-    let one : returns (lines_text (expanded_lines items)) ≡ returns_in (expanded_lines items) =
-    in-text (expanded_lines items) in
-    let two : returns_in (expanded_lines items) ≡ returns_copied items =
-    written-returns items (whole-good choices.skip (map seen (lines_of text))) in
-    let three : returns_copied items ≤ returns_read (map seen (lines_of text)) =
-    compact-within choices.skip (map seen (lines_of text)) in
-    omega (arith, one, two, three)
+    let items = WholeReading.items (whole_compact choices.skip (map seen (lines_of text))) in
+    omega (
+      arith,
+      in-text (expanded_lines items),
+      written-returns items (whole-good choices.skip (map seen (lines_of text))),
+      compact-within choices.skip (map seen (lines_of text)),
+    )
 
 -- ---- compact text
 
@@ -103,13 +95,10 @@ left_copied (Warned at ∷ before) = left_copied before
 
 left-all : (items : List (Item Epoch)) → left_copied items ≤ returns_copied items
 left-all [] = omega arith
-left-all (Accepted (HeaderLine line) ∷ before) = let one = returns-kept line in let rest = left-all before in
-    omega (arith, one, rest)
-left-all (Accepted (EventLine line) ∷ before) = let one = returns-kept line in let rest = left-all before in
-    omega (arith, one, rest)
-left-all (Accepted (EventRecord line) ∷ before) = let one = returns-kept line in let rest = left-all before in
-    omega (arith, one, rest)
-left-all (Accepted (Observation epoch) ∷ before) = let rest = left-all before in omega (arith, rest)
+left-all (Accepted (HeaderLine line) ∷ before) = omega (arith, returns-kept line, left-all before)
+left-all (Accepted (EventLine line) ∷ before) = omega (arith, returns-kept line, left-all before)
+left-all (Accepted (EventRecord line) ∷ before) = omega (arith, returns-kept line, left-all before)
+left-all (Accepted (Observation epoch) ∷ before) = omega (arith, left-all before)
 left-all (Warned at ∷ before) = left-all before
 
 -- no copied line ends in CR, or some are lost
@@ -119,11 +108,10 @@ KeepsOrLoses items = HaveNoReturns items ⊎ (left_copied items < returns_copied
 one-line : (line : List ℕ) (before : List (Item Epoch)) → KeepsOrLoses before
     → ((ends_with_return line ≡ false) × HaveNoReturns before)
     ⊎ (returns (without_return line) + left_copied before < returns line + returns_copied before)
-one-line line before h = by_bool (ends_with_return line)
-    (λ on. let one = returns-fewer line on in let rest = left-all before in inr (omega (arith, one, rest)))
+one-line line before h = by_bool _ (λ on. inr (omega (arith, returns-fewer line on, left-all before)))
     (λ off. elim h [
       | inl none ↦ inl (off, none)
-      | inr less ↦ let one = returns-kept line in inr (omega (arith, one, less))
+      | inr less ↦ inr (omega (arith, returns-kept line, less))
     ])
 
 keeps-or_loses : (items : List (Item Epoch)) → KeepsOrLoses items
@@ -160,16 +148,10 @@ copied-back lines line n h b =
 
 epoch-back : (lines more : List (List ℕ)) (n : ℕ) → AllByRecursion
     (λ (line : List ℕ). list_all is_printable line ≡ true) more → AreBack lines n → AreBack (lines ++ more) n
-epoch-back lines more n h b =
-    let all : returns_left (lines ++ more) ≡ returns_left lines + returns_left more =
-    left-append lines more in
-    let kept : returns_left more ≤ returns_in more = left-kept more in
-    let none : returns_in more ≡ 0 = in-printable more h in
-    let rest = b.left in
-    record {
-      no_feed = all-append HasNoFeed lines more b.no_feed (printable-lines more h);
-      left = omega (arith, all, kept, none, rest);
-    }
+epoch-back lines more n h b = record {
+  no_feed = all-append _ _ _ b.no_feed (printable-lines more h);
+  left = omega (arith, left-append lines more, left-kept more, in-printable more h, b.left);
+}
 
 lines-back : (every : Option ℕ) (items : List (Item Epoch))
     → AreInPlace items → OfCopiedLines CanStand items → AreBack (lines_back every items) (left_copied items)
@@ -186,10 +168,7 @@ lines-back every (Accepted (Observation epoch) ∷ before) h k = epoch-back (lin
 lines-back every (Warned at ∷ before) h k = lines-back every before h.1 k
 
 first-none : (line : List ℕ) → list_all is_printable line ≡ true → returns_left (line ∷ []) ≡ 0
-first-none line h =
-    let kept : returns_left (line ∷ []) ≤ returns_in (line ∷ []) = left-kept (line ∷ []) in
-    let none : returns_in (line ∷ []) ≡ 0 = in-printable (line ∷ []) (h, tt) in
-    omega (arith, kept, none)
+first-none line h = omega (arith, left-kept (line ∷ []), in-printable (line ∷ []) (h, tt))
 
 -- compact text is read with no more of them than are left
 compacted-returns : (choices : Choices) (items : List (Item Epoch)) → is_date choices.date ≡ true
@@ -214,25 +193,19 @@ compacted-returns choices items dated h =
 pub standard-where_same : (input : List ℕ) (compacting expanding : Choices)
     → IsStandardWhereSame input compacting expanding
 standard-where_same input compacting expanding dated good same =
-    let lines : List ReadLine = map seen (lines_of input) in
-    let items : List (Item Epoch) = WholeReading.items (whole_of input) in
-    let h : IsSettled items = whole-settled false input good in
-    let text : List ℕ = lines_text (compact_lines compacting items) in
-    let written : FilterResult.output (compacted input compacting) ≡ text =
-    ap (λ (w : WholeReading Epoch). lines_text (compact_lines compacting w.items))
+    let lines = map seen (lines_of input) in
+    let items = WholeReading.items (whole_of input) in
+    let written = ap (λ (w : WholeReading Epoch). lines_text (compact_lines compacting w.items))
     (same-reading compacting.skip lines good) in
     elim (keeps-or_loses items) [
       | inl none ↦ standard-where_kept input compacting expanding dated good none same
-      | inr less ↦
-          let back : FilterResult.output (expanded text expanding) ≡ input =
-          ap (λ t. FilterResult.output (expanded t expanding)) (sym written) ∙ same in
-          let one : returns (FilterResult.output (expanded text expanding))
-          ≤ returns_read (map seen (lines_of text)) = expanded-returns text expanding in
-          let two : returns_read (map seen (lines_of text)) ≤ left_copied items =
-          compacted-returns compacting items dated h in
-          let three : returns_copied items ≤ returns_read lines = rinex-within false lines in
-          let four : returns_read lines ≤ returns input = read-input input in
-          let five : returns (FilterResult.output (expanded text expanding)) ≡ returns input =
-          ap returns back in
-          absurd (omega (arith, less, one, two, three, four, five))
+      | inr less ↦ absurd (omega (
+        arith,
+        less,
+        expanded-returns (lines_text (compact_lines compacting items)) expanding,
+        compacted-returns compacting items dated (whole-settled false input good),
+        rinex-within false lines,
+        read-input input,
+        ap returns (ap (λ t. FilterResult.output (expanded t expanding)) (sym written) ∙ same),
+      ))
     ]

@@ -1,16 +1,14 @@
 -- The bytes 13 of the lines that are copied are those of the lines that were read.
-use Rattle.crx_filter.proofs.Words.{ℕ, ◌≡◌, ◌+◌, ◌≤◌, Bool, cond, List, [], ◌∷◌, length, take, drop, Option}
-use Rattle.crx_filter.proofs.Words.{Some, None, Result, Ok, Err, refl, arith, subst, ⊤, ReadLine, Content}
-use Rattle.crx_filter.proofs.Words.{Overlong, Fault, Epoch, Count, HeadLine, EventHead, EpochHead, head_of}
-use Rattle.crx_filter.proofs.Words.{opened, begun_by, rest_at, unit_begun, epoch_place, Place, Here}
-use Rattle.crx_filter.proofs.Words.{after_lines, then_place, one_line, first_line, FileUnit, HeaderLine}
-use Rattle.crx_filter.proofs.Words.{EventLine, EventRecord, Observation, RawEpoch, ReadEpoch, epoch_at, Item}
-use Rattle.crx_filter.proofs.Words.{Accepted, Warned, is_at_start, records_count_types, types_in_force}
-use Rattle.crx_filter.proofs.Words.{unless_wrong, types_fault, header_line_fault, header_line, event_record}
-use Rattle.crx_filter.proofs.Words.{unit_place, Reading, WholeReading, Stop, AtLines, is_skipped}
-use Rattle.crx_filter.proofs.Words.{reading_from, fault_at_end, ended_with, ended_reading, rinex_place}
-use Rattle.crx_filter.proofs.Words.{whole_rinex, raws_kept, as_observation, compact_epoch_place}
-use Rattle.crx_filter.proofs.Words.{compact_place, first_lines, whole_compact}
+use Rattle.crx_filter.proofs.Words
+use Words.{ℕ, ◌≡◌, ◌+◌, ◌≤◌, Bool, cond, List, [], ◌∷◌, length, take, drop, Option, Some, None, Result, Ok}
+use Words.{Err, refl, arith, subst, ⊤, ReadLine, Content, Overlong, Fault, Epoch, Count, HeadLine, EventHead}
+use Words.{EpochHead, head_of, opened, begun_by, rest_at, unit_begun, epoch_place, Place, Here, after_lines}
+use Words.{then_place, one_line, first_line, FileUnit, HeaderLine, EventLine, EventRecord, Observation}
+use Words.{RawEpoch, ReadEpoch, epoch_at, Item, Accepted, Warned, is_at_start, records_count_types}
+use Words.{types_in_force, unless_wrong, types_fault, header_line_fault, header_line, event_record}
+use Words.{unit_place, Reading, WholeReading, Stop, AtLines, is_skipped, reading_from, fault_at_end}
+use Words.{ended_with, ended_reading, rinex_place, whole_rinex, raws_kept, as_observation}
+use Words.{compact_epoch_place, compact_place, first_lines, whole_compact}
 use Rattle.crx_filter.proofs.Choosing.{by_bool}
 use Rattle.crx_filter.proofs.reading.WhatStands.{of-unit, of-compact}
 use Rattle.crx_filter.proofs.reading.KeptThroughout.{within-kept}
@@ -77,9 +75,7 @@ begun-of : (types : List Count) (line : List ℕ) (lines : List ReadLine) (r : R
     (Content line ∷ lines) (then_place (one_line (begun_by line r)) (Content line ∷ lines) (unit_begun types))
 begun-of types line lines (Err fault) = tt
 begun-of types line lines (Ok (EventHead flag count)) = omega arith
-begun-of types line lines (Ok (EpochHead head count clock)) = observed-of
-    (Content line ∷ lines) lines (rest_at (opened types (record
-    { head = head; count = count; clock = clock })) lines)
+begun-of types line lines (Ok (EpochHead head count clock)) = observed-of _ _ _
 
 epoch-lines : (types : List Count) (lines : List ReadLine) → IsOfLines lines (epoch_place types lines)
 epoch-lines types [] = tt
@@ -117,18 +113,12 @@ all-within : {E : Type 0} (place : List (Item E) → List ReadLine → Place (Fi
 all-within {E = E} place p skip number lines =
     let kept = within-kept place skip
     (λ items ls. returns_copied items + returns_read ls ≤ returns_read lines) (record {
-      here = λ items ls unit count e h.
-          let own : returns_of_unit unit ≤ returns_read (take count ls) =
-          subst (IsOfLines ls) e (p items ls) in
-          let cut = read-cut count ls in
-          omega (arith, h, own, cut);
+      here = λ items ls unit count e h. omega
+          (arith, h, subst (IsOfLines ls) e (p items ls), read-cut count ls);
       warned = λ items ls at on h. h;
-      passed = λ items ls n h.
-          let cut = read-cut n ls in
-          omega (arith, h, cut);
+      passed = λ items ls n h. omega (arith, h, read-cut n ls);
     }) (length lines + 1) [] number lines (omega arith) in
-    let all = kept.1 in
-    omega (arith, all)
+    omega (arith, kept.1)
 
 end-same : {E : Type 0} (skip : Bool) (items : List (Item E)) (number : ℕ) (o : Option Fault)
     → returns_copied (WholeReading.items (ended_with skip items number o)) ≡ returns_copied items
@@ -147,11 +137,8 @@ whole-within : {E : Type 0} (place : List (Item E) → List ReadLine → Place (
     → (skip : Bool) (number : ℕ) (lines : List ReadLine) → returns_copied
     (WholeReading.items (ended_reading skip (reading_from place skip [] number lines))) ≤ returns_read lines
 whole-within place p skip number lines =
-    let r : Reading _ = reading_from place skip [] number lines in
-    let same : returns_copied (WholeReading.items (ended_reading skip r)) ≡ returns_copied r.items =
-    ended-same skip r.items r.stop in
-    let all : returns_copied r.items ≤ returns_read lines = all-within place p skip number lines in
-    omega (arith, same, all)
+    let r = reading_from place skip [] number lines in
+    omega (arith, ended-same skip r.items r.stop, all-within place p skip number lines)
 
 pub rinex-within : (skip : Bool) (lines : List ReadLine)
     → returns_copied (WholeReading.items (whole_rinex skip lines)) ≤ returns_read lines

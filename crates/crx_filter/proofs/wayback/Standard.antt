@@ -1,15 +1,13 @@
 -- A standard file comes back byte for byte: nothing of it is skipped, no line of it ends in CR, and printing
--- gives back
--- its lines.
-use Rattle.crx_filter.proofs.Words.{ℕ, zero, suc, ◌≡◌, ◌≢◌, ◌+◌, Bool, true, false, cond, ◌⊎◌, inl, inr, List}
-use Rattle.crx_filter.proofs.Words.{[], ◌∷◌, map, length, drop, Option, Some, None, refl, ap, sym, ◌∙◌, subst}
-use Rattle.crx_filter.proofs.Words.{◌==◌, AllByRecursion, list_all, eqb_tells, and_parts, Piece, InputLine}
-use Rattle.crx_filter.proofs.Words.{pieces_of, onto_first, ends_with_return, without_return, line_of}
-use Rattle.crx_filter.proofs.Words.{lines_of, is_long, ReadLine, seen, Fault, At, Epoch, Place, FileUnit}
-use Rattle.crx_filter.proofs.Words.{Choices, Item, Accepted, Reading, WholeReading, Stop, AtLines, is_skipped}
-use Rattle.crx_filter.proofs.Words.{after_fault, reading_within, fault_at_end, ended_with, ended_reading}
-use Rattle.crx_filter.proofs.Words.{lines_text, rinex_place, whole_rinex, rinex_reading, printed_items}
-use Rattle.crx_filter.proofs.Words.{whole_of, OfCopiedLines, HaveNoReturns, written_well, not-true}
+-- gives back its lines.
+use Rattle.crx_filter.proofs.Words
+use Words.{ℕ, zero, suc, ◌≡◌, ◌≢◌, ◌+◌, Bool, true, false, cond, ◌⊎◌, inl, inr, List, [], ◌∷◌, map, length}
+use Words.{drop, Option, Some, None, refl, ap, sym, ◌∙◌, subst, ◌==◌, AllByRecursion, list_all, eqb_tells}
+use Words.{and_parts, Piece, InputLine, pieces_of, onto_first, ends_with_return, without_return, line_of}
+use Words.{lines_of, is_long, ReadLine, seen, Fault, At, Epoch, Place, FileUnit, Choices, Item, Accepted}
+use Words.{Reading, WholeReading, Stop, AtLines, is_skipped, after_fault, reading_within, fault_at_end}
+use Words.{ended_with, ended_reading, lines_text, rinex_place, whole_rinex, rinex_reading, printed_items}
+use Words.{whole_of, OfCopiedLines, HaveNoReturns, written_well, not-true}
 use Rattle.crx_lines.proofs.PieceLemmas.{EachEnded}
 use Rattle.crx_filter.proofs.Choosing.{by_bool}
 use Rattle.crx_filter.specs.WayBack.{NormalFormComesBack, StandardComesBack}
@@ -35,19 +33,15 @@ within-same : {E : Type 0} (place : List (Item E) → List ReadLine
     → WholeReading.fault (ended_reading false (reading_within place false units items number lines)) ≡ None
     → ended_reading skip (reading_within place skip units items number lines)
     ≡ ended_reading false (reading_within place false units items number lines)
-within-same place skip zero items number lines f =
-    ended-same skip items (number + length lines) (fault_at_end items lines) f
+within-same place skip zero items number lines f = ended-same skip items (number + length lines)
+    (fault_at_end items lines) f
 within-same place skip (suc units) items number lines f = by_place (place items lines)
-    (λ unit count e.
-    let good = rw (e, reading_within) at f in
-    rw (e, reading_within)
-    (within-same place skip units (Accepted unit ∷ items) (number + count) (drop count lines) good))
-    (λ offset fault e.
-    let never = rw (e, reading_within, after_fault) at f in
-    not-ended (record { line = number + offset; fault = fault }) never)
-    (λ e.
-    let good = rw (e, reading_within) at f in
-    rw (e, reading_within) (ended-same skip items (number + length lines) (fault_at_end items lines) good))
+    (λ unit count e. rw (e, reading_within) (within-same place skip units (Accepted unit ∷ items)
+    (number + count) (drop count lines) (rw (e, reading_within) at f)))
+    (λ offset fault e. not-ended (record { line = number + offset; fault = fault })
+    (rw (e, reading_within, after_fault) at f))
+    (λ e. rw (e, reading_within) (ended-same skip items (number + length lines) (fault_at_end items lines)
+    (rw (e, reading_within) at f)))
 
 pub same-reading : (skip : Bool) (lines : List ReadLine)
     → WholeReading.fault (whole_rinex false lines) ≡ None → whole_rinex skip lines ≡ whole_rinex false lines
@@ -99,8 +93,7 @@ pub plain-no_return : (ps : List Piece) → list_all (λ (line : InputLine). lin
 plain-no_return [] e = tt
 plain-no_return (p ∷ ps) e =
     let plain = plain-parts p ps e in
-    let kept : without_return p.bytes ≡ p.bytes = return-kept p.bytes plain.1 in
-    (seen-no_return (line_of p) (subst NoReturn (sym kept) plain.1), plain-no_return ps plain.2)
+    (seen-no_return (line_of p) (rw (return-kept p.bytes plain.1) plain.1), plain-no_return ps plain.2)
 
 -- ---- the text of an input's plain lines is the input
 
@@ -147,18 +140,16 @@ plain-text input e = ap lines_text (plain-contents (pieces_of input) e)
 pub normal-comes_back : (input : List ℕ) (compacting expanding : Choices)
     → NormalFormComesBack input compacting expanding
 normal-comes_back input compacting expanding dated good none =
-    let lines : List ReadLine = map seen (lines_of input) in
-    let same : whole_rinex compacting.skip lines ≡ whole_of input = same-reading compacting.skip lines good in
-    comes-back input compacting expanding dated (ap (λ (w : WholeReading Epoch). w.fault) same
-    ∙ good) (subst (λ (w : WholeReading Epoch). HaveNoReturns w.items) (sym same) none)
+    let same = same-reading compacting.skip (map seen (lines_of input)) good in
+    comes-back input compacting expanding dated (ap (λ (w : WholeReading Epoch). w.fault) same ∙ good)
+    (subst (λ (w : WholeReading Epoch). HaveNoReturns w.items) (sym same) none)
     ∙ ap (λ (w : WholeReading Epoch). written_well (lines_text (printed_items w.items))) same
 
 pub standard-comes_back : (input : List ℕ) (compacting expanding : Choices)
     → StandardComesBack input compacting expanding
 standard-comes_back input compacting expanding dated standard =
-    let none : HaveNoReturns (WholeReading.items (whole_of input)) =
-    whole-copied NoReturn false (map seen (lines_of input))
-    (plain-no_return (pieces_of input) standard.plain) in
+    let none = whole-copied NoReturn false (map seen (lines_of input)) (plain-no_return (pieces_of input)
+    standard.plain) in
     normal-comes_back input compacting expanding dated standard.good none
     ∙ ap (λ ls. written_well (lines_text ls)) (sym standard.given_back)
     ∙ ap written_well (plain-text input standard.plain)

@@ -1,11 +1,10 @@
 -- The two texts of units that make a file; and each standard file is such a text.
-use Rattle.crx_filter.proofs.Words.{ℕ, ◌≡◌, false, List, [], ◌∷◌, map, Option, None, refl, ap, sym, ◌∙◌}
-use Rattle.crx_filter.proofs.Words.{subst, reverse, pieces_of, lines_of, lines_text, seen, At, Epoch}
-use Rattle.crx_filter.proofs.Words.{FileUnit, HeaderLine, EventLine, EventRecord, Observation, Choices}
-use Rattle.crx_filter.proofs.Words.{compact_unit, compacted, Item, Accepted, Warned, WholeReading}
-use Rattle.crx_filter.proofs.Words.{printed_items, whole_of, IsStandard, OfCopiedLine, OfCopiedLines}
-use Rattle.crx_filter.proofs.Words.{HaveNoReturns, written_well, warnings_in, result_of, expanded}
-use Rattle.crx_filter.proofs.Words.{result_of_course, IsResult, Device, AreInPlace}
+use Rattle.crx_filter.proofs.Words
+use Words.{ℕ, ◌≡◌, false, List, [], ◌∷◌, map, Option, None, refl, ap, sym, ◌∙◌, subst, reverse, pieces_of}
+use Words.{lines_of, lines_text, seen, At, Epoch, FileUnit, HeaderLine, EventLine, EventRecord, Observation}
+use Words.{Choices, compact_unit, compacted, Item, Accepted, Warned, WholeReading, printed_items, whole_of}
+use Words.{IsStandard, OfCopiedLine, OfCopiedLines, HaveNoReturns, written_well, warnings_in, result_of}
+use Words.{expanded, result_of_course, IsResult, Device, AreInPlace}
 use Rattle.crx_filter.specs.meaning.UnitsAndText.{CanBeCopied, as_items, AreInOrder, MakeAFile, rinex_text}
 use Rattle.crx_filter.specs.meaning.UnitsAndText.{compact_text, TextsOfUnits, WritesUnits, ReadsUnits}
 use Rattle.crx_filter.specs.meaning.UnitsAndText.{IsStandardByUnits}
@@ -84,9 +83,8 @@ pub writes-units : (choices : Choices)
     (writer messages : Device) (status : ℕ) (fault : Option At) (file : List ℕ)
     → IsResult (compacted file choices) writer messages status fault
     → WritesUnits choices writer messages status fault file
-writes-units choices writer messages status fault file ran units h same =
-    subst (λ r. IsResult r writer messages status fault)
-    (ap (λ t. compacted t choices) same ∙ compacts units choices h) ran
+writes-units choices writer messages status fault file ran units h same = subst (λ r. IsResult r writer
+    messages status fault) (cc (same, compacts units choices h)) ran
 
 pub reads-units : (expanding : Choices)
     (writer messages : Device) (status : ℕ) (fault : Option At) (text : List ℕ)
@@ -126,10 +124,6 @@ make-file units h none = record {
   complete = h.none;
 }
 
-no-returns_in : (file : List ℕ) → IsStandard file → HaveNoReturns (WholeReading.items (whole_of file))
-no-returns_in file h =
-    whole-copied NoReturn false (map seen (lines_of file)) (plain-no_return (pieces_of file) h.plain)
-
 all-accepted : (file : List ℕ)
     → as_items (units_in (WholeReading.items (whole_of file))) ≡ WholeReading.items (whole_of file)
 all-accepted file = all-units (WholeReading.items (whole_of file)) (whole-none (map seen (lines_of file)))
@@ -138,15 +132,14 @@ all-accepted file = all-units (WholeReading.items (whole_of file)) (whole-none (
 pub read-units : (file : List ℕ) → IsStandard file → MakeAFile (units_in (WholeReading.items (whole_of file)))
 read-units file h =
     let all = all-accepted file in
-    make-file (units_in (WholeReading.items (whole_of file)))
-    (subst IsSettled (sym all) (whole-settled false file h.good))
-    (subst HaveNoReturns (sym all) (no-returns_in file h))
+    make-file (units_in (WholeReading.items (whole_of file))) (subst IsSettled (sym all)
+    (whole-settled false file h.good)) (subst HaveNoReturns (sym all) (whole-copied NoReturn false
+    (map seen (lines_of file)) (plain-no_return (pieces_of file) h.plain)))
 
 units-of_standard : (file : List ℕ) → IsStandard file
     → (units : List (FileUnit Epoch)) × MakeAFile units × (file ≡ rinex_text units)
 units-of_standard file h =
-    let same : file ≡ rinex_text (units_in (WholeReading.items (whole_of file))) =
-    sym (plain-text file h.plain) ∙ ap lines_text h.given_back
+    let same = sym (plain-text file h.plain) ∙ ap lines_text h.given_back
     ∙ ap (λ (items : List (Item Epoch)). lines_text (printed_items items)) (sym (all-accepted file)) in
     (units_in (WholeReading.items (whole_of file)), read-units file h, same)
 

@@ -1,18 +1,15 @@
 -- What was compacted comes back.
-use Rattle.crx_filter.proofs.Words.{ℕ, ◌≡◌, ◌+◌, ◌*◌, ◌≤◌, Bool, true, false, cond, List, [], ◌∷◌, ◌++◌, map}
-use Rattle.crx_filter.proofs.Words.{length, Option, Some, None, refl, ap, ◌∙◌, arith, nat_lt, not, reverse}
-use Rattle.crx_filter.proofs.Words.{AllByRecursion, list_all, ltb-false, lines_of, ends_with_return, ReadLine}
-use Rattle.crx_filter.proofs.Words.{Content, seen, is_printable, Fault, At, TYPES_LIMIT, LINE_LIMIT, Epoch}
-use Rattle.crx_filter.proofs.Words.{printed_epoch, lines_text, FileUnit, HeaderLine, EventLine, EventRecord}
-use Rattle.crx_filter.proofs.Words.{Observation, printed_unit, Marked, compact_epoch, ReadEpoch}
-use Rattle.crx_filter.proofs.Words.{LinesCanStand, Choices, is_date, Item, Accepted, Warned, is_at_start}
-use Rattle.crx_filter.proofs.Words.{header_has_ended, records_left, types_in_force, Reading, WholeReading}
-use Rattle.crx_filter.proofs.Words.{Stop, AtFault, AtLines, Looking, is_skipped, reading_from, fault_at_end}
-use Rattle.crx_filter.proofs.Words.{ended_with, ended_reading, warnings_in, result_of_course, written_lines}
-use Rattle.crx_filter.proofs.Words.{result_of, rinex_place, marked_epochs, whole_rinex, version_line}
-use Rattle.crx_filter.proofs.Words.{program_line, compact_lines, rinex_reading, compact_place, whole_compact}
-use Rattle.crx_filter.proofs.Words.{expanded_unit, expanded, printed_items, AreInPlace, OfCopiedLine}
-use Rattle.crx_filter.proofs.Words.{OfCopiedLines, HaveNoReturns, written_well}
+use Rattle.crx_filter.proofs.Words
+use Words.{ℕ, ◌≡◌, ◌+◌, ◌*◌, ◌≤◌, Bool, true, false, cond, List, [], ◌∷◌, ◌++◌, map, length, Option, Some}
+use Words.{None, refl, ap, ◌∙◌, arith, nat_lt, not, reverse, AllByRecursion, list_all, ltb-false, lines_of}
+use Words.{ends_with_return, ReadLine, Content, seen, is_printable, Fault, At, TYPES_LIMIT, LINE_LIMIT, Epoch}
+use Words.{printed_epoch, lines_text, FileUnit, HeaderLine, EventLine, EventRecord, Observation, printed_unit}
+use Words.{Marked, compact_epoch, ReadEpoch, LinesCanStand, Choices, is_date, Item, Accepted, Warned}
+use Words.{is_at_start, header_has_ended, records_left, types_in_force, Reading, WholeReading, Stop, AtFault}
+use Words.{AtLines, Looking, is_skipped, reading_from, fault_at_end, ended_with, ended_reading, warnings_in}
+use Words.{result_of_course, written_lines, result_of, rinex_place, marked_epochs, whole_rinex, version_line}
+use Words.{program_line, compact_lines, rinex_reading, compact_place, whole_compact, expanded_unit, expanded}
+use Words.{printed_items, AreInPlace, OfCopiedLine, OfCopiedLines, HaveNoReturns, written_well}
 use Rattle.crx_compact.proofs.wayback.Lengths.{lines-short}
 use Rattle.crx_filter.specs.meaning.Expanded.{expansion_result}
 use Rattle.crx_filter.specs.WayBack.{ComesBack}
@@ -64,13 +61,11 @@ end-settled : (skip : Bool) (items : List (Item Epoch)) (number : ℕ) (rest : L
     (ended_with skip items number o) ≡ None → IsSettled (WholeReading.items (ended_with skip items number o))
 end-settled skip items number rest h k None e f = let good = end-means items rest e in
     record { in_place = h; copied = k; header = good.0; none = good.1 }
-end-settled skip items number rest h k (Some fault) e f = by_bool (is_skipped skip items fault)
-    (λ on.
+end-settled skip items number rest h k (Some fault) e f = by_bool (is_skipped skip items fault) (λ on.
     let facts = allowed skip items fault on in
-    rw on (record { in_place = (facts, h); copied = k; header = facts.0; none = refl }))
-    (λ off.
+    rw on (record { in_place = (facts, h); copied = k; header = facts.0; none = refl })) (λ off.
     let at : At = record { line = number; fault = fault } in
-    let never : ◌≡◌ {A = Option At} (Some at) None = rw off at f in
+    let never = rw off at f in
     absurd (cc))
 
 settled : (skip : Bool) (items : List (Item Epoch)) (stop : Stop) (next : ℕ)
@@ -78,10 +73,9 @@ settled : (skip : Bool) (items : List (Item Epoch)) (stop : Stop) (next : ℕ)
     → WholeReading.fault (ended_reading skip (record { items = items; stop = stop })) ≡ None
     → IsSettled (WholeReading.items (ended_reading skip (record { items = items; stop = stop })))
 settled skip items (AtFault at) next h k s f = absurd (cc)
-settled skip items (AtLines number rest) next h k s f =
-    end-settled skip items (number + length rest) rest h k (fault_at_end items rest) refl f
-settled skip items (Looking number) next h k s f = record
-    { in_place = h; copied = k; header = s.1; none = s.2 }
+settled skip items (AtLines number rest) next h k s f = end-settled _ _ _ _ h k _ refl f
+settled skip items (Looking number) next h k s f =
+    record { in_place = h; copied = k; header = s.1; none = s.2 }
 
 pub whole-settled : (skip : Bool) (input : List ℕ) → WholeReading.fault
     (whole_rinex skip (map seen (lines_of input)))
@@ -100,19 +94,15 @@ pub lines-same : (choices : Choices) (items : List (Item Epoch)) → AreInPlace 
     → compact_lines choices items ≡ version_line ∷ program_line choices.date ∷ lines_back choices.every items
 lines-same choices [] h e = absurd (cc)
 lines-same choices (Accepted (HeaderLine line) ∷ []) h e = refl
-lines-same choices (Accepted (HeaderLine line) ∷ item ∷ before) h e =
-    ap (λ ls. ls ++ line ∷ []) (lines-same choices (item ∷ before) h.1 refl)
-lines-same choices (Accepted unit ∷ before) h e = ap (λ ls. ls ++ body_unit choices.every before unit)
-    (lines-same choices before h.1 (started before (h.0).0))
+lines-same choices (Accepted (HeaderLine line) ∷ item ∷ before) h e = cc (lines-same choices (item ∷ before)
+    h.1 refl)
+lines-same choices (Accepted unit ∷ before) h e = cc (lines-same choices before h.1 (started before (h.0).0))
 lines-same choices (Warned at ∷ before) h e = lines-same choices before h.1 (started before (h.0).0)
 
 -- ---- each of them is read as it was written
 
 clean : (line : List ℕ) → CanStand line → ends_with_return line ≡ false → IsClean line
 clean line h e = record { one_line = h.0; no_return = e; short = h.1 }
-
-within-limit : (n : ℕ) → n ≤ 18 * TYPES_LIMIT → n ≤ LINE_LIMIT
-within-limit n h = omega (arith, h)
 
 epoch-clean : (lines : List (List ℕ)) → AllByRecursion (λ (line : List ℕ). list_all is_printable line
     ≡ true) lines
@@ -122,7 +112,7 @@ epoch-clean (line ∷ lines) h k = (
   record {
     one_line = printable-no_feed line h.0;
     no_return = printable-no_return line h.0;
-    short = within-limit (length line) k.0;
+    short = omega (arith, k.0);
   },
   epoch-clean lines h.1 k.1,
 )
@@ -135,10 +125,9 @@ unit-clean every before (HeaderLine line) h k e = (clean line k e, tt)
 unit-clean every before (EventLine line) h k e = (clean line k e, tt)
 unit-clean every before (EventRecord line) h k e = (clean line k e, tt)
 unit-clean every before (Observation epoch) h k e =
-    let m : Marked = marked_now every before epoch in
-    let older : List Marked = marked_epochs every before in
-    let stands : LinesCanStand m older = epoch-stands every before epoch h in
-    epoch-clean (compact_epoch (m ∷ older)) stands.printable
+    let m = marked_now every before epoch in
+    let older = marked_epochs every before in
+    epoch-clean (compact_epoch (m ∷ older)) (epoch-stands every before epoch h).printable
     (lines-short (types_in_force before) m.in_full m.epoch older (whole-next every before epoch h))
 
 pub lines-clean : (every : Option ℕ) (items : List (Item Epoch)) → AreInPlace items
@@ -154,9 +143,8 @@ lines-clean every (Warned at ∷ before) h k e = lines-clean every before h.1 k 
 pub printed-same : (every : Option ℕ) (items : List (Item Epoch))
     → written_lines expanded_unit (read_back every items) ≡ printed_items items
 printed-same every [] = refl
-printed-same every (Accepted (Observation epoch) ∷ before) =
-    ap (λ ls. ls ++ printed_epoch epoch) (printed-same every before)
-printed-same every (Accepted unit ∷ before) = ap (λ ls. ls ++ printed_unit unit) (printed-same every before)
+printed-same every (Accepted (Observation epoch) ∷ before) = cc (printed-same every before)
+printed-same every (Accepted unit ∷ before) = cc (printed-same every before)
 printed-same every (Warned at ∷ before) = printed-same every before
 
 pub no-warnings : (every : Option ℕ) (items : List (Item Epoch)) → warnings_in (read_back every items) ≡ []
@@ -167,10 +155,7 @@ no-warnings every (Warned at ∷ before) = no-warnings every before
 pub result-well : (items : List (Item ReadEpoch)) (lines : List (List ℕ))
     → written_lines expanded_unit items ≡ lines → warnings_in items ≡ []
     → result_of expanded_unit (record { items = items; fault = None }) ≡ written_well (lines_text lines)
-result-well items lines e f = ap (λ (w : List At). result_of_course
-    (record { output = lines_text (written_lines expanded_unit items); warnings = reverse w; fault = None }))
-    f
-    ∙ ap (λ ls. written_well (lines_text ls)) e
+result-well items lines e f = cc
 
 -- the two first lines, and then the reading of the rest
 pub whole-after : (skip : Bool) (date : List ℕ) (rest : List ReadLine)
@@ -178,35 +163,26 @@ pub whole-after : (skip : Bool) (date : List ℕ) (rest : List ReadLine)
     ∷ Content (program_line date) ∷ rest) ≡ ended_reading skip (reading_from compact_place skip [] 3 rest)
 whole-after skip date rest = rw (first-lines_read date rest, whole_compact) refl
 
-whole-back : (every : Option ℕ) (skip : Bool) (date : List ℕ) (items : List (Item Epoch)) → IsSettled items
-    → whole_compact skip (map Content (version_line ∷ program_line date ∷ lines_back every items))
-    ≡ record { items = read_back every items; fault = None }
-whole-back every skip date items h = whole-after skip date (map Content (lines_back every items))
-    ∙ whole-again compact_place (known_back every)
-    (body_unit every) compact-forward (unit-here every) skip 3 items h.in_place h.header h.none
-
 -- what was accepted comes back from its compact text
 pub items-back : (items : List (Item Epoch)) (compacting expanding : Choices)
     → is_date compacting.date ≡ true → IsSettled items → HaveNoReturns items
     → expanded (lines_text (compact_lines compacting items)) expanding
     ≡ written_well (lines_text (printed_items items))
 items-back items compacting expanding dated h none =
-    let lines : List (List ℕ) = version_line ∷ program_line compacting.date ∷ lines_back compacting.every
-    items in
-    let same : compact_lines compacting items ≡ lines =
-    lines-same compacting items h.in_place (started items h.header) in
+    let lines = version_line ∷ program_line compacting.date ∷ lines_back compacting.every items in
     let clean : AllByRecursion IsClean lines = (
       version-clean,
       (program-clean compacting.date dated, lines-clean compacting.every items h.in_place h.copied none),
     ) in
-    ap (λ ls. expanded (lines_text ls) expanding) same
-    ∙ ap (expansion_result expanding) (lines-cut lines clean)
-    ∙ ap (result_of expanded_unit) (whole-back compacting.every expanding.skip compacting.date items h)
-    ∙ result-well (read_back compacting.every items)
-    (printed_items items) (printed-same compacting.every items) (no-warnings compacting.every items)
+    ap (λ ls. expanded (lines_text ls) expanding) (lines-same compacting items h.in_place
+    (started items h.header)) ∙ ap (expansion_result expanding) (lines-cut lines clean)
+    ∙ ap (result_of expanded_unit) (whole-after expanding.skip compacting.date (map Content
+    (lines_back compacting.every items)) ∙ whole-again compact_place (known_back compacting.every)
+    (body_unit compacting.every) compact-forward (unit-here compacting.every) expanding.skip 3 items
+    h.in_place h.header h.none) ∙ result-well (read_back compacting.every items) (printed_items items)
+    (printed-same compacting.every items) (no-warnings compacting.every items)
 
 pub comes-back : (input : List ℕ) (compacting expanding : Choices) → ComesBack input compacting expanding
-comes-back input compacting expanding dated f none =
-    let items : List (Item Epoch) = WholeReading.items (whole_rinex compacting.skip
-    (map seen (lines_of input))) in
-    items-back items compacting expanding dated (whole-settled compacting.skip input f) none
+comes-back input compacting expanding dated f none = items-back (WholeReading.items
+    (whole_rinex compacting.skip (map seen (lines_of input)))) compacting expanding dated
+    (whole-settled compacting.skip input f) none
