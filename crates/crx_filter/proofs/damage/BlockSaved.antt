@@ -107,36 +107,31 @@ anew-saved : (every : Option ℕ) (after block : List (Item Epoch))
     → GoesOnAt items (Content line ∷ tail) r
     → IsSaved items (read_back every block) (read_back every (after ++ block)) (ended_reading true r)
 anew-saved every after block items r line tail h e anew between types g =
-    let x : List (Item ReadEpoch) = with_warnings g.warnings items in
-    let y : List (Item ReadEpoch) = read_back every block in
-    let all : List (Item ReadEpoch) = read_back every (after ++ block) in
-    let placed : AreInPlace block = rest-in_place after block h.in_place in
-    let x_between : IsBetweenUnits x = warned-between g.warnings items between in
-    let y_between : IsBetweenUnits y = back-between every block placed h.header h.left in
-    let alike : GoOnAlike x y (reading_from compact_place true x g.number (Content line ∷ tail))
-    (reading_from compact_place true y g.number (Content line ∷ tail)) =
-    depends-on_types true x y g.number (Content line ∷ tail) x_between y_between
+    let x = with_warnings g.warnings items in
+    let y = read_back every block in
+    let all = read_back every (after ++ block) in
+    let placed = rest-in_place after block h.in_place in
+    let x_between = warned-between g.warnings items between in
+    let y_between = back-between every block placed h.header h.left in
+    let alike = depends-on_types true x y g.number (Content line ∷ tail) x_between y_between
     (warned-types g.warnings items ∙ types ∙ sym (types-same (known_back every) block placed)) anew in
-    let last : ℕ = g.number + length (lines_on every after block) in
-    let both : ◌≡◌ {A = Reading ReadEpoch}
-    (record { items = alike.more ++ y; stop = alike.stop }) (record { items = all; stop = AtLines last [] }) =
-    sym alike.second ∙ ap (λ ls. reading_from compact_place true y g.number ls) (sym e)
+    let last = g.number + length (lines_on every after block) in
+    let both = sym alike.second ∙ ap (λ ls. reading_from compact_place true y g.number ls) (sym e)
     ∙ reads-on every true g.number after block h.in_place in
-    let rest : alike.more ++ y ≡ all = ap (λ (s : Reading ReadEpoch). s.items) both in
+    let rest = ap (λ (s : Reading ReadEpoch). s.items) both in
     let end : IsBetweenUnits (alike.more ++ x) = record {
       header = header-append alike.more x x_between.header;
-      none = left-append alike.more x y (x_between.none ∙ sym y_between.none)
-          ∙ ap records_left rest ∙ left-same (known_back every) (after ++ block) h.in_place ∙ h.closed;
+      none = left-append alike.more x y (cc) ∙ ap records_left rest ∙ left-same (known_back every)
+          (after ++ block) h.in_place ∙ h.closed;
     } in
-    let stop : alike.stop ≡ AtLines last [] = ap (λ (s : Reading ReadEpoch). s.stop) both in
-    let read : r ≡ record { items = alike.more ++ x; stop = AtLines last [] } = g.same
-    ∙ alike.first ∙ ap (λ k. record { items = alike.more ++ x; stop = k }) stop in
+    let stop = ap (λ (s : Reading ReadEpoch). s.stop) both in
+    let read = g.same ∙ alike.first ∙ ap (λ k. record { items = alike.more ++ x; stop = k }) stop in
     record {
       warnings = g.warnings;
       few = g.few;
       more = alike.more;
       rest = rest;
-      same = ap (ended_reading true) read ∙ ends-well (alike.more ++ x) last end;
+      same = cc (read, ends-well (alike.more ++ x) last end);
     }
 
 -- what comes after a block that was read, whatever it is

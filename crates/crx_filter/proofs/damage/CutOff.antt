@@ -42,9 +42,10 @@ cut-then first next steady one two lines line begins e = by-first (first lines) 
         (λ p. Remains (length lines) p (first (lines ++ Content line ∷ []))) f (steady lines
         (Content line ∷ [])) in
         let within = stays.0 in
-        let wanted = after-wanted _ _ (sym (ap (λ p. then_place p lines next) f) ∙ e) in
-        let counted : count + length (drop count lines) ≡ length lines = omega
-        (arith, within, length-drop count lines) in
+        let wanted : next x (drop count lines) ≡ Wanted =
+        after-wanted _ _ (sym (ap (λ p. then_place p lines next) f) ∙ e) in
+        let counted : count + length (drop count lines) ≡ length lines =
+        omega (arith, within, length-drop count lines) in
         ap (λ p. then_place p (lines ++ Content line ∷ []) next) stays.1
         ∙ ap (λ ls. after_lines count (next x ls)) (drop-append-le count lines (Content line ∷ []) within)
         ∙ ap (after_lines count) (two x (drop count lines) line begins wanted)

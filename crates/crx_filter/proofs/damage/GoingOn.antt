@@ -81,16 +81,15 @@ cut-goes_on items number (Content first ∷ rest) line tail h text e begins =
 goes_on : (items : List (Item ReadEpoch)) (r : Reading ReadEpoch) (line : List ℕ) (tail : List ReadLine)
     → IsBetweenUnits items → EndsBlock items r → begins_epoch line ≡ true
     → GoesOnAt items (Content line ∷ tail) (continued_reading compact_place true r (Content line ∷ tail))
-goes_on items r line tail h (inl (number, rest, text, e, is)) begins =
-    subst (λ (s : Reading ReadEpoch). GoesOnAt items (Content line ∷ tail)
-    (continued_reading compact_place true s
-    (Content line ∷ tail))) (sym is) (cut-goes_on items number rest line tail h text e begins)
+goes_on items r line tail h (inl (number, rest, text, e, is)) begins = subst (λ (s : Reading ReadEpoch).
+    GoesOnAt items (Content line ∷ tail) (continued_reading compact_place true s (Content line ∷ tail)))
+    (sym is) (cut-goes_on _ _ _ _ _ h text e begins)
 goes_on items r line tail h (inr (at, number, is)) begins = record {
   warnings = at ∷ [];
   few = omega arith;
   number = number;
-  same = ap (λ s. continued_reading compact_place true s (Content line ∷ tail)) is ∙ looked-here
-      (reading_from compact_place true (Warned at ∷ items)) (Warned at ∷ items) number
+  same = ap (λ s. continued_reading compact_place true s (Content line ∷ tail)) is
+      ∙ looked-here (reading_from compact_place true (Warned at ∷ items)) (Warned at ∷ items) number
       (Content line) tail begins;
 }
 

@@ -52,7 +52,7 @@ reads-on every skip number (Accepted unit ∷ later) before h =
     let same = length-map more Content in
     let all = length-append first more in
     let here = unit-here every (later ++ before) unit h ∙ ap (λ n. Here (unit_back every (later ++ before)
-    unit) n) (cc) in
+    unit) n) (sym same) in
     ap (λ ls. reading_from compact_place skip (read_back every before) number ls) (map-append Content first
     more) ∙ resumed compact_place compact-forward skip (read_back every before) number (map Content first)
     (map Content more) ∙ ap (λ r. continued_reading compact_place skip r (map Content more))

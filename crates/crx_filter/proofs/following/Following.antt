@@ -215,8 +215,7 @@ module _ {E : Type 0} {place : List (Item E) → List ReadLine → Place (FileUn
     last-here skip units items number rest line unit count wanted e = within-here place skip units items
         number (rest ++ line ∷ []) unit count e ∙ ap (reading_within place skip units (Accepted unit ∷ items)
         (number + count)) (ap (λ n. drop n (rest ++ line ∷ [])) ((here-last _ _ _ _ _ wanted e)
-        ∙ sym (length-append rest (line ∷ []))) ∙ drop-length (rest ++ line ∷ []))
-        ∙ within-nothing skip units (Accepted unit ∷ items) (number + count)
+        ∙ sym (length-append rest (line ∷ []))) ∙ drop-length (rest ++ line ∷ [])) ∙ within-nothing _ _ _ _
 
     -- a fault that ends the run
     pub last-ends : (skip : Bool) (units : ℕ)

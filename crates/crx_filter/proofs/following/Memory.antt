@@ -125,8 +125,7 @@ module _ {E U O K : Type 0} {beginning : List (Item E) → List ReadLine → Pla
       (record { items = items; stop = stop })) line ≡ true
       → memory_allowed (place h) takes choices.skip (record { items = items; stop = stop }) line ≡ Some []
   allowed-first items (AtFault at) count (Content line) stopped e = false-true e
-  allowed-first items (AtLines number rest) count line stopped e =
-      cc (lines-take items rest line stopped.0 e)
+  allowed-first items (AtLines number rest) count line stopped e = cc (lines-take _ _ _ stopped.0 e)
   allowed-first items (Looking number) count (Content line) stopped e = cc (
     (and_parts (begins_epoch line) _ e).0,
     begins-takes items line stopped.1 stopped.2 (and_parts (begins_epoch line) _ e).1,
@@ -144,48 +143,36 @@ module _ {E U O K : Type 0} {beginning : List (Item E) → List ReadLine → Pla
       (direction.kept_open (kept_of items))) line m → takes_memory direction next line ≡ true
       → memory_allowed (place h) takes choices.skip (record
       { items = items; stop = AtLines number rest }) line ≡ Some (notice ∷ [])
-  cut-takes items number count rest line so_far next notice wanted counted ended none open_is
-      (Fails fault) a e taken = by_bool (is_skipped_in before fault)
+  cut-takes items number count rest line so_far next notice wanted counted ended none open_is (Fails fault) a
+      e taken = by_bool (is_skipped_in before fault)
       (λ on.
-      let is : record { answer = Notice notice true; handed_out = []; next = next } ≡ record {
-        answer = Notice at (can_go_on line);
-        handed_out = [];
-        next = after_warning direction before (can_go_on line);
-      } = e ∙ failed-skipped direction before line fault on in
-      let goes : can_go_on line ≡ true = sym (ap (λ (s : Step O K). is_again s.answer) is) in
-      let noted : notice ≡ at = ap (λ (s : Step O K). noticed_or at s.answer) is in
-      let then : next ≡ after_warning direction before (can_go_on line) = ap (λ (s : Step O K). s.next) is in
-      let here : place h items (rest ++ line ∷ []) ≡ Wrong a.0 fault =
-      body-place beginning items (rest ++ line ∷ []) ended none ∙ a.1 in
-      let last : a.0 ≡ length rest = wrong-last h.forward items rest line a.0 fault wanted here in
-      let some : nat_lt 0 a.0 ≡ true = ap (nat_lt 0) last ∙ not_none rest open_is in
+      let is = e ∙ failed-skipped direction before line fault on in
+      let goes = sym (ap (λ (s : Step O K). is_again s.answer) is) in
+      let noted = ap (λ (s : Step O K). noticed_or at s.answer) is in
+      let then = ap (λ (s : Step O K). s.next) is in
+      let here = body-place beginning items (rest ++ line ∷ []) ended none ∙ a.1 in
+      let last = wrong-last h.forward items rest line a.0 fault wanted here in
       let same : number + a.0 ≡ count + 1 = omega (arith, last, counted) in
-      let skipped : is_skipped choices.skip items fault ≡ true =
-      skipped-same choices count (InEpoch so_far) (types_in_force items) (direction.kept_open (kept_of items))
-      items fault ended none refl ∙ on in
-      let again : line_takes (place h) takes (Warned at ∷ items) [] line ≡ true =
-      anew line (subst (λ (s : Seen O K). takes_memory direction s line ≡ true) then taken) in
+      let skipped = skipped-same choices count (InEpoch so_far) (types_in_force items)
+      (direction.kept_open (kept_of items)) items fault ended none refl ∙ on in
       ap (λ (p : Place (FileUnit E)). cond (place_takes takes items (length rest) p) (Some [])
       (takes_after_warning (place h) takes choices.skip items number line p)) here
-      ∙ ap (λ (n : ℕ). cond (is_skipped choices.skip items fault && ((nat_lt 0 a.0 && can_go_on line)
-      && line_takes (place h) takes (Warned (record { line = n; fault = fault }) ∷ items) [] line))
-      (Some (record { line = n; fault = fault } ∷ [])) None) same
-      ∙ ap (λ b. cond b (Some (at ∷ [])) None) (all-true skipped some goes again)
+      ∙ ap (λ (n : ℕ). cond (is_skipped choices.skip items fault && ((nat_lt 0 a.0 && can_go_on line) &&
+      line_takes (place h) takes (Warned (record { line = n; fault = fault }) ∷ items) [] line))
+      (Some (record { line = n; fault = fault } ∷ [])) None) same ∙ ap (λ b. cond b (Some (at ∷ [])) None)
+      (all-true skipped (ap (nat_lt 0) last ∙ not_none rest open_is) goes (anew line (subst
+      (λ (s : Seen O K). takes_memory direction s line ≡ true) then taken)))
       ∙ ap (λ (n : At). Some (n ∷ [])) (sym noted))
       (λ off.
-      let is : record { answer = Notice notice true; handed_out = []; next = next } ≡ record {
-        answer = Failed at;
-        handed_out = [];
-        next = with_phase direction before (Ended at);
-      } = e ∙ failed-ends direction before line fault off in
-      let no : true ≡ false = ap (λ (s : Step O K). is_again s.answer) is in absurd (cc))
+      let no = ap (λ (s : Step O K). is_again s.answer) (e ∙ failed-ends direction before line fault off) in
+      absurd (cc))
     where
       at : At
       at = record { line = count + 1; fault = fault }
 
       before : Seen O K
-      before = seen_in choices count (InEpoch so_far) (types_in_force items)
-          (direction.kept_open (kept_of items))
+      before = seen_in choices count (InEpoch so_far) (types_in_force items) (direction.kept_open
+          (kept_of items))
 
       noticed_or : At → Answer → At
       noticed_or other Quiet = other
@@ -206,11 +193,11 @@ module _ {E U O K : Type 0} {beginning : List (Item E) → List ReadLine → Pla
       anew : (l : ReadLine) → takes_memory direction (after_warning direction before (can_go_on line))
           l ≡ true → line_takes (place h) takes (Warned at ∷ items) [] l ≡ true
       anew Overlong t = false-true t
-      anew (Content content) t = begins-takes (Warned at ∷ items) content ended refl
-          (subst (λ (k : K). (not (is_event_line content) && direction.memory_first (types_in_force items) k
-          content) ≡ true) kept_then (and_parts (begins_epoch content) _ t).1)
+      anew (Content content) t = begins-takes (Warned at ∷ items) content ended refl (subst
+          (λ (k : K). (not (is_event_line content) && direction.memory_first (types_in_force items) k content)
+          ≡ true) kept_then (and_parts (begins_epoch content) _ t).1)
   cut-takes items number count rest line so_far next notice wanted counted ended none open_is m a e taken =
-      let no : true ≡ false = ap (λ (s : Step O K). is_again s.answer) e in absurd (cc)
+      let no = ap (λ (s : Step O K). is_again s.answer) e in absurd (cc)
 
   -- memory may run out at a line after its warning
   pub allowed-again : (items : List (Item E)) (stop : Stop) (count : ℕ) (line : ReadLine) (next : Seen O K)

@@ -183,10 +183,9 @@ one-step : (skip : Bool) (units : ℕ) (a b : List (Item ReadEpoch)) (number : �
     → ReadAlike skip (suc units) a b number lines
 one-step skip units a b number lines h same next warned = by_place (compact_place a lines)
     (λ unit count e. rw (e, sym same ∙ e, reading_within) (onto (next unit count e)))
-    (λ offset fault e. by_bool (is_skipped skip a fault)
-    (λ on.
+    (λ offset fault e. by_bool (is_skipped skip a fault) (λ on.
     let at : At = record { line = number + offset; fault = fault } in
-    let past : ℕ = max offset 1 in
+    let past = max offset 1 in
     rw (e, sym same ∙ e, reading_within, on, sym (skipped-alike skip a b fault h) ∙ on, after_fault)
     (onto (looked (Warned at ∷ a) (Warned at ∷ b) _ _ (number + past) (drop past lines) (warned at))))
     (λ off. rw (e, sym same ∙ e, reading_within, off, sym (skipped-alike skip a b fault h) ∙ off, after_fault)

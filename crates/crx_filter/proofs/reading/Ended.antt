@@ -48,24 +48,18 @@ EndsBy choices lines p = IsEndedBy (expanded_lines (reading_by choices.skip line
 by-first_lines : (choices : Choices) (lines : List ReadLine) (p : Place (List (List ℕ)))
     → first_lines lines ≡ p → EndsBy choices lines p
 by-first_lines choices lines (Here two count) e =
-    let remains : Remains (length lines) (Here two count) (first_lines lines) =
-    subst (λ p. Remains (length lines) p (first_lines lines)) e (subst (λ ls. Remains
+    let remains = subst (λ p. Remains (length lines) p (first_lines lines)) e (subst (λ ls. Remains
     (length lines) (first_lines lines) (first_lines ls)) (append-nil lines) (steady-first_lines lines [])) in
-    let within = remains.0 in
-    let r : Reading ReadEpoch = reading_from compact_place choices.skip [] (count + 1) (drop count lines) in
-    let left : length (drop count lines) ≡ length lines - count = length-drop count lines in
-    let stopped = reading-stopped compact_place compact-forward choices.skip
-    [] (count + 1) (length lines + 1) (drop count lines) (omega (arith, left, within)) in
+    let r = reading_from compact_place choices.skip [] (count + 1) (drop count lines) in
+    let stopped = reading-stopped compact_place compact-forward choices.skip [] (count + 1) (length lines + 1)
+    (drop count lines) (omega (arith, length-drop count lines, remains.0)) in
     next-end compact_beginning expansion compact_open tail_of_items expanded_unit choices
     (expansion-carried_out choices) r.items r.stop (length lines) stopped
 by-first_lines choices lines (Wrong offset fault) e =
     record { once = refl; handed_out = refl; written = refl; warned = refl; failed = refl }
-by-first_lines choices lines Wanted e =
-    let seen : Seen OpenRawEpoch (Option Tail) = seen_in choices (length lines)
-    (InFirstLines (length lines)) [] None in
-    let off : is_skipped_in seen (fault_in_first_lines (length lines)) ≡ false =
-    never-before choices.skip (is_skippable (fault_in_first_lines (length lines))) in
-    rw off (record { once = refl; handed_out = refl; written = refl; warned = refl; failed = refl })
+by-first_lines choices lines Wanted e = rw (never-before choices.skip (is_skippable
+    (fault_in_first_lines (length lines))))
+    (record { once = refl; handed_out = refl; written = refl; warned = refl; failed = refl })
 
 pub expansion-ended : (choices : Choices) (lines : List ReadLine) → IsExpansionEnded choices lines
 expansion-ended choices lines = by-first_lines choices lines (first_lines lines) refl

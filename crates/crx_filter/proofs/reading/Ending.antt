@@ -77,65 +77,56 @@ lines-end : {E U O K : Type 0} (beginning : List (Item E) → List ReadLine
     (seen_end direction (seen_in choices count (phase_after_items items (open_with items rest))
     (types_in_force items) (kept_in direction (phase_after_items items (open_with items rest))
     (kept_of items))))
-lines-end {E = E} {O = O} beginning direction open_with
-    kept_of unit_lines choices h items number count rest wanted counted false in_header left e_left so_far
-    e_open =
-    let none : rest ≡ [] = only_none
-    (header_line {E = E} (is_at_start items)) rest (sym (at_header rest in_header) ∙ wanted) in
-    let phase : phase_after_items items (open_with items rest) ≡ InHeader (is_at_start items) =
-    rw in_header refl in
-    let fault : fault_at_end items rest ≡ Some (cond (is_at_start items) MissingVersion NoEndOfHeader) =
-    ap (λ ls. fault_at_end items ls) none ∙ in-header items in_header in
-    rw (phase, fault, counted)
-    (ends-same direction unit_lines choices items count (InHeader (is_at_start items))
-    (types_in_force items) (kept_of items) (Some (cond (is_at_start items) MissingVersion NoEndOfHeader))
+lines-end {E = E} {O = O} beginning direction open_with kept_of unit_lines choices h items number count rest
+    wanted counted false in_header left e_left so_far e_open =
+    let none : rest ≡ [] = only_none (header_line {E = E} (is_at_start items)) rest
+    (sym (at_header rest in_header) ∙ wanted) in
+    let phase : phase_after_items items (open_with items rest) ≡ InHeader (is_at_start items) = rw in_header
+    refl in
+    rw (phase, ap (λ ls. fault_at_end items ls) none ∙ in-header items in_header, counted)
+    (ends-same direction unit_lines choices items count (InHeader (is_at_start items)) (types_in_force items)
+    (kept_of items) (Some (cond (is_at_start items) MissingVersion NoEndOfHeader))
     (λ f. rw in_header (never-before choices.skip ((records_left items == 0) && is_skippable f))
     ∙ sym (never-before choices.skip (is_skippable f))))
   where
     at_header : (ls : List ReadLine) → header_has_ended items ≡ false
         → unit_place beginning items ls ≡ first_line ls (header_line (is_at_start items))
     at_header ls e = rw e refl
-lines-end {O = O} beginning direction open_with
-    kept_of unit_lines choices h items number count rest wanted counted true has_ended
-    (suc left) e_left so_far e_open =
+lines-end {O = O} beginning direction open_with kept_of unit_lines choices h items number count rest wanted
+    counted true has_ended (suc left) e_left so_far e_open =
     let none : rest ≡ [] = only_none (event_record (records_count_types items)) rest
     (sym (record-place beginning items left rest has_ended e_left) ∙ wanted) in
-    let phase : phase_after_items items (open_with items rest)
-    ≡ InEvent (suc left) (records_count_types items) = rw (has_ended, e_left) refl in
-    let fault : fault_at_end items rest ≡ Some Truncated = ap (λ ls. fault_at_end items ls) none
-    ∙ in-event items left has_ended e_left in
-    rw (phase, fault, counted) (ends-same direction unit_lines choices items count
-    (InEvent (suc left) (records_count_types items)) (types_in_force items) (kept_of items) (Some Truncated)
+    let phase : phase_after_items items (open_with items rest) ≡ InEvent (suc left)
+    (records_count_types items) = rw (has_ended, e_left) refl in
+    rw (phase, ap (λ ls. fault_at_end items ls) none ∙ in-event items left has_ended e_left, counted)
+    (ends-same direction unit_lines choices items count (InEvent (suc left) (records_count_types items))
+    (types_in_force items) (kept_of items) (Some Truncated)
     (λ f. rw (has_ended, e_left) (never-in-event choices.skip left (is_skippable f))
     ∙ sym (never-before choices.skip (is_skippable f))))
-lines-end {O = O} beginning direction open_with
-    kept_of unit_lines choices h items number count rest wanted counted true has_ended zero e_left None
-    e_open =
-    let wanted' = sym (body-place beginning items rest has_ended e_left) ∙ wanted in
-    let none : rest ≡ [] = h.wanted_open items rest wanted' e_open in
+lines-end {O = O} beginning direction open_with kept_of unit_lines choices h items number count rest wanted
+    counted true has_ended zero e_left None e_open =
+    let none : rest ≡ [] = h.wanted_open items rest (sym (body-place beginning items rest has_ended e_left)
+    ∙ wanted) e_open in
     let phase : phase_after_items items (open_with items rest) ≡ BetweenUnits = body-phase items
-    (open_with items rest) has_ended e_left ∙ ap (λ o. phase_in_body 0 (records_count_types items) o)
-    e_open in
-    let fault : fault_at_end items rest ≡ None = ap (λ ls. fault_at_end items ls) none
-    ∙ closes-well items has_ended e_left in
-    rw (phase, fault) (ends-same direction unit_lines choices items count BetweenUnits (types_in_force items)
-    (kept_of items) None
-    (λ f. skipped-same {O = O} choices count BetweenUnits
-    (types_in_force items) (kept_of items) items f has_ended e_left refl))
-lines-end {O = O} beginning direction open_with kept_of unit_lines choices h items number count []
-    wanted counted true has_ended zero e_left (Some so_far) e_open = absurd
-    (none-some so_far (sym (h.none_open items) ∙ e_open))
-lines-end {O = O} beginning direction open_with kept_of unit_lines choices h items number count
-    (first ∷ rest) wanted counted true has_ended zero e_left (Some so_far) e_open =
-    let phase : phase_after_items items (open_with items (first ∷ rest)) ≡ InEpoch so_far =
-    body-phase items (open_with
-    items (first ∷ rest)) has_ended e_left ∙ ap (λ o. phase_in_body 0 (records_count_types items) o) e_open in
-    let fault : fault_at_end items (first ∷ rest) ≡ Some Truncated = in-epoch items first rest has_ended in
-    rw (phase, fault, counted) (ends-same direction unit_lines choices items count
-    (InEpoch so_far) (types_in_force items) (direction.kept_open (kept_of items)) (Some Truncated)
-    (λ f. skipped-same choices count
-    (InEpoch so_far) (types_in_force items) (direction.kept_open (kept_of items)) items f has_ended
-    e_left refl))
+    (open_with items rest) has_ended e_left ∙ ap (λ o. phase_in_body 0 (records_count_types items) o) e_open
+    in
+    rw (phase, ap (λ ls. fault_at_end items ls) none ∙ closes-well items has_ended e_left)
+    (ends-same direction unit_lines choices items count BetweenUnits (types_in_force items) (kept_of items)
+    None
+    (λ f. skipped-same {O = O} choices count BetweenUnits (types_in_force items) (kept_of items) items f
+    has_ended e_left refl))
+lines-end {O = O} beginning direction open_with kept_of unit_lines choices h items number count [] wanted
+    counted true has_ended zero e_left (Some so_far) e_open = absurd (none-some so_far
+    (sym (h.none_open items) ∙ e_open))
+lines-end {O = O} beginning direction open_with kept_of unit_lines choices h items number count (first ∷ rest)
+    wanted counted true has_ended zero e_left (Some so_far) e_open =
+    let phase : phase_after_items items (open_with items (first ∷ rest)) ≡ InEpoch so_far = body-phase items
+    (open_with items (first ∷ rest)) has_ended e_left ∙ ap (λ o. phase_in_body 0 (records_count_types items)
+    o) e_open in
+    rw (phase, in-epoch items first rest has_ended, counted) (ends-same direction unit_lines choices items
+    count (InEpoch so_far) (types_in_force items) (direction.kept_open (kept_of items)) (Some Truncated)
+    (λ f. skipped-same choices count (InEpoch so_far) (types_in_force items) (direction.kept_open
+    (kept_of items)) items f has_ended e_left refl))
 
 pub next-end : {E U O K : Type 0} (beginning : List (Item E) → List ReadLine
     → Place (FileUnit E)) (direction : Direction U O K) (open_with : List (Item E) → List ReadLine → Option O)

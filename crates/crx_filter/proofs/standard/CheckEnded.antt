@@ -69,19 +69,16 @@ is-first : (items : List (Item Epoch)) → AreInPlace items → IsFirst items
 is-first [] h = record { version = refl; some = λ e. absurd (cc) }
 is-first (Accepted (HeaderLine line) ∷ []) h = record { version = refl; some = λ e. (line, [], refl) }
 is-first (Accepted (HeaderLine line) ∷ item ∷ before) h =
-    let k : IsFirst (item ∷ before) = is-first (item ∷ before) h.1 in
-    record {
-      version = first-kept (item ∷ before) (line ∷ []) k refl;
-      some = λ e. first-more (item ∷ before) (line ∷ []) k refl;
-    }
+    let k = is-first (item ∷ before) h.1 in
+    record { version = first-kept _ _ k refl; some = λ e. first-more _ _ k refl }
 is-first (Accepted unit ∷ before) h =
-    let k : IsFirst before = is-first before h.1 in
+    let k = is-first before h.1 in
     record {
-      version = first-kept before (printed_unit unit) k (started before (h.0).0);
-      some = λ e. first-more before (printed_unit unit) k (started before (h.0).0);
+      version = first-kept _ _ k (started before (h.0).0);
+      some = λ e. first-more _ _ k (started before (h.0).0);
     }
 is-first (Warned at ∷ before) h =
-    let k : IsFirst before = is-first before h.1 in
+    let k = is-first before h.1 in
     record { version = k.version; some = λ e. k.some (started before (h.0).0) }
 
 pub version-same : (lines : List ReadLine) → version_accepted (rinex_reading false lines).items

@@ -71,11 +71,9 @@ pub one-stretch : (choices : Choices) (before : List (Item Epoch)) (s : Stretch)
     → AllowsLines s
     → IsSound before s → HasCome so_far items before → IsStepRead choices before s so_far items
 one-stretch choices before s later so_far items h allowed sound come =
-    let block : List (Item Epoch) = up_to_end before s in
-    let first : IsStretchRead items (reading_from compact_place true [] 3 (so_far ++ map seen
-    (lines_of s.instead))) =
-    stretch-more items so_far (map seen (lines_of s.instead)) come.between come.stops allowed in
-    let x : List (Item ReadEpoch) = first.news ++ items in
+    let block = up_to_end before s in
+    let first = stretch-more items so_far (map seen (lines_of s.instead)) come.between come.stops allowed in
+    let x = first.news ++ items in
     let can : CanBeKept choices.every s.kept block x = record {
       in_place = sound.in_place;
       header = header-append s.lost before sound.header;
@@ -83,17 +81,14 @@ one-stretch choices before s later so_far items h allowed sound come =
       between = epochs-between first.news items first.epochs come.between;
       types = epochs-types first.news items first.epochs ∙ come.types ∙ sym h.types;
     } in
-    let k : IsKeptRead choices.every s.kept block x (reading_from compact_place true [] 3
-    ((so_far ++ map seen (lines_of s.instead)) ++ map Content (lines_on choices.every s.kept block))) =
-    kept-more choices s.kept block x (so_far ++ map seen (lines_of s.instead)) can h.anew first.stops in
-    let joined : k.news ++ (first.news ++ items) ≡ (k.news ++ first.news) ++ items =
-    sym (append_assoc k.news first.news items) in
-    let front : List (Item ReadEpoch) = back_on choices.every s.kept block in
-    let there : HasCome (so_far ++ stretch_lines choices.every before s)
-    (front ++ (k.news ++ x)) (up_to_next before s) = record {
+    let k = kept-more choices s.kept block x (so_far ++ map seen (lines_of s.instead)) can h.anew first.stops
+    in
+    let front = back_on choices.every s.kept block in
+    let there : HasCome (so_far ++ stretch_lines choices.every before s) (front ++ (k.news ++ x))
+    (up_to_next before s) = record {
       stops = subst (λ ls. IsOpen (front ++ (k.news ++ x)) (reading_from compact_place true [] 3 ls))
-          (append_assoc so_far (map seen (lines_of s.instead)) (map Content
-          (lines_on choices.every s.kept block))) k.stops;
+          (append_assoc so_far (map seen (lines_of s.instead)) (map Content (lines_on choices.every s.kept
+          block))) k.stops;
       between = record {
         header = (k.alike).one;
         none = (k.alike).left ∙ left-same (known_back choices.every) (up_to_next before s) sound.in_place
@@ -105,7 +100,7 @@ one-stretch choices before s later so_far items h allowed sound come =
       news = k.news ++ first.news;
       epochs = epochs-append k.news first.news k.epochs first.epochs;
       come = subst (λ (all : List (Item ReadEpoch)). HasCome (so_far ++ stretch_lines choices.every before s)
-          (front ++ all) (up_to_next before s)) joined there;
+          (front ++ all) (up_to_next before s)) (sym (append_assoc k.news first.news items)) there;
     }
 
 -- ---- what is written for it
@@ -131,9 +126,8 @@ good-rest (Accepted unit ∷ later) items h = good-rest later items h
 news-whole : (news items : List (Item ReadEpoch)) → AreEpochs news → AreGoodEpochs (news ++ items)
     → AllByRecursion (IsWholeEpoch (types_in_force items)) (epochs_of news)
 news-whole [] items h good = tt
-news-whole (Accepted (Observation read) ∷ news) items h good =
-    all-append (IsWholeEpoch (types_in_force items)) (epochs_of news) (read.epoch ∷ [])
-    (news-whole news items h good.1)
+news-whole (Accepted (Observation read) ∷ news) items h good = all-append _ _ _ (news-whole news items h
+    good.1)
     (subst (λ types. IsWholeEpoch types read.epoch) (epochs-types news items h) (IsGood.whole good.0), tt)
 news-whole (Warned at ∷ news) items h good = news-whole news items h good
 news-whole (Accepted unit ∷ news) items h good = absurd h

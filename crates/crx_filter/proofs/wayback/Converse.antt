@@ -174,15 +174,14 @@ pub standard-where_kept : (input : List ℕ) (compacting expanding : Choices)
     → is_date compacting.date ≡ true → (whole_of input).fault ≡ None → HaveNoReturns (whole_of input).items
     → (expanded (compacted input compacting).output expanding).output ≡ input → IsStandard input
 standard-where_kept input compacting expanding dated good none same =
-    let items : List (Item Epoch) = WholeReading.items (whole_of input) in
-    let h : IsSettled items = whole-settled false input good in
-    let back : lines_text (printed_items items) ≡ input = sym
-    (ap (λ (r : FilterResult). r.output) (normal-comes_back input compacting expanding dated good none))
-    ∙ same in
-    let cut : lines_of input ≡ map plain (printed_items items) = ap lines_of (sym back)
-    ∙ lines-plain (printed_items items) (printed-plain items h.in_place h.copied none) in
+    let items = WholeReading.items (whole_of input) in
+    let h = whole-settled false input good in
+    let back = sym (ap (λ (r : FilterResult). r.output) (normal-comes_back input compacting expanding dated
+    good none)) ∙ same in
+    let cut = ap lines_of (sym back) ∙ lines-plain (printed_items items) (printed-plain items h.in_place
+    h.copied none) in
     record {
       good = good;
-      plain = ap (list_all (λ (line : InputLine). line.is_plain)) cut ∙ all-plain (printed_items items);
-      given_back = ap (contents) cut ∙ contents-plain (printed_items items);
+      plain = cc (cut, all-plain (printed_items items));
+      given_back = cc (cut, contents-plain (printed_items items));
     }

@@ -239,8 +239,7 @@ stop-settled : (skip : Bool) (items : List (Item ReadEpoch)) (stop : Stop) (next
     → IsSettled (rinex_items
     (WholeReading.items (ended_reading skip (record { items = items; stop = stop }))))
 stop-settled skip items (AtFault at) next h k s f = not-ended at f
-stop-settled skip items (AtLines number rest) next h k s f =
-    end-settled skip items (number + length rest) rest h k (fault_at_end items rest) refl f
+stop-settled skip items (AtLines number rest) next h k s f = end-settled _ _ _ _ h k _ refl f
 stop-settled skip items (Looking number) next h k s f = record {
   in_place = h;
   copied = k;
@@ -294,18 +293,16 @@ cut-plain : (lines : List (List ℕ)) → AllByRecursion HasNoFeed lines
 cut-plain [] h e = tt
 cut-plain (line ∷ lines) h e =
     let are_plain : List Piece → Bool = λ ps. list_all (λ (l : InputLine). l.is_plain) (map line_of ps) in
-    let all = sym (cc (first-cut line lines h.0)) ∙ e in
     let both = and_parts (InputLine.is_plain (line_of (record { bytes = line; is_ended = true })))
-    (are_plain (pieces_of (lines_text lines))) all in
+    (are_plain (pieces_of (lines_text lines))) (sym (ap are_plain (first-cut line lines h.0)) ∙ e) in
     (not-true (ends_with_return line) both.0, cut-plain lines h.1 both.1)
 
 copied-plain : (items : List (Item Epoch))
     → AllByRecursion NoReturn (printed_items items) → HaveNoReturns items
 copied-plain [] h = tt
-copied-plain (Accepted (Observation epoch) ∷ before) h =
-    (tt, copied-plain before (all-parts NoReturn (printed_items before) (printed_epoch epoch) h).0)
+copied-plain (Accepted (Observation epoch) ∷ before) h = (tt, copied-plain before (all-parts _ _ _ h).0)
 copied-plain (Accepted unit ∷ before) h =
-    let both = all-parts NoReturn (printed_items before) (printed_unit unit) h in
+    let both = all-parts _ _ _ h in
     ((both.1).0, copied-plain before both.0)
 copied-plain (Warned at ∷ before) h = copied-plain before h
 

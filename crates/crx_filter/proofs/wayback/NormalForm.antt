@@ -121,11 +121,9 @@ epoch-within n most types epoch h =
 printed-short : (items : List (Item Epoch))
     → AreInPlace items → OfCopiedLines CanStand items → AllByRecursion IsShort (printed_items items)
 printed-short [] h k = tt
-printed-short (Accepted (Observation epoch) ∷ before) h k = all-append IsShort (printed_items before)
-    (printed_epoch epoch) (printed-short before h.1 k.1)
-    (epoch-within LINE_LIMIT (omega arith) (types_in_force before) epoch (h.0).2)
-printed-short (Accepted unit ∷ before) h k =
-    all-append IsShort (printed_items before) (printed_unit unit) (printed-short before h.1 k.1) ((k.0).1, tt)
+printed-short (Accepted (Observation epoch) ∷ before) h k = all-append _ _ _ (printed-short before h.1 k.1)
+    (epoch-within _ (omega arith) _ _ (h.0).2)
+printed-short (Accepted unit ∷ before) h k = all-append _ _ _ (printed-short before h.1 k.1) ((k.0).1, tt)
 printed-short (Warned at ∷ before) h k = printed-short before h.1 k
 
 both-clean : (lines : List (List ℕ))

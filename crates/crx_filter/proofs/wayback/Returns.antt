@@ -50,10 +50,9 @@ in-append (x ∷ xs) ys = omega (arith, in-append xs ys)
 pub in-text : (lines : List (List ℕ)) → returns (lines_text lines) ≡ returns_in lines
 in-text [] = refl
 in-text (line ∷ lines) =
-    let all : returns (lines_text (line ∷ lines)) ≡ returns (line ++ 10 ∷ []) + returns (lines_text lines) =
-    returns-append (line ++ 10 ∷ []) (lines_text lines) in
-    let one : returns (line ++ 10 ∷ []) ≡ returns line + returns (10 ∷ []) = returns-append line (10 ∷ []) in
-    let rest : returns (lines_text lines) ≡ returns_in lines = in-text lines in
+    let all = returns-append (line ++ 10 ∷ []) (lines_text lines) in
+    let one = returns-append line (10 ∷ []) in
+    let rest = in-text lines in
     omega (arith, all, one, rest)
 
 pub in-printable : (lines : List (List ℕ))
@@ -102,11 +101,7 @@ of-pieces (b ∷ bs) =
 
 -- what is read of an input has no more than the input
 pub read-input : (input : List ℕ) → returns_read (map seen (lines_of input)) ≤ returns input
-read-input input =
-    let one : returns_read (map seen (map line_of (pieces_of input))) ≤ returns_of (pieces_of input) =
-    read-pieces (pieces_of input) in
-    let two : returns_of (pieces_of input) ≤ returns input = of-pieces input in
-    omega (arith, one, two)
+read-input input = omega (arith, read-pieces (pieces_of input), of-pieces input)
 
 -- lines without their last CR
 abbrev pub returns_left : List (List ℕ) → ℕ

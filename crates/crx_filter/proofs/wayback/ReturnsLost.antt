@@ -136,15 +136,10 @@ record AreBack (lines : List (List ℕ)) (n : ℕ) : Type 0 where
 
 copied-back : (lines : List (List ℕ)) (line : List ℕ) (n : ℕ)
     → HasNoFeed line → AreBack lines n → AreBack (lines ++ line ∷ []) (returns (without_return line) + n)
-copied-back lines line n h b =
-    let all : returns_left (lines ++ line ∷ []) ≡ returns_left lines + returns_left (line ∷ []) =
-    left-append lines (line ∷ []) in
-    let rest = b.left in
-    record {
-      no_feed = all-append HasNoFeed lines (line ∷ []) b.no_feed (h, tt);
-      left =
-          omega (arith, all, rest);
-    }
+copied-back lines line n h b = record {
+  no_feed = all-append HasNoFeed lines (line ∷ []) b.no_feed (h, tt);
+  left = omega (arith, left-append lines (line ∷ []), b.left);
+}
 
 epoch-back : (lines more : List (List ℕ)) (n : ℕ) → AllByRecursion
     (λ (line : List ℕ). list_all is_printable line ≡ true) more → AreBack lines n → AreBack (lines ++ more) n

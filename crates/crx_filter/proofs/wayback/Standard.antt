@@ -132,8 +132,7 @@ plain-contents (p ∷ ps) e =
 
 pub plain-text : (input : List ℕ) → list_all (λ (line : InputLine). line.is_plain) (lines_of input) ≡ true
     → lines_text (map (λ (line : InputLine). line.content) (lines_of input)) ≡ input
-plain-text input e = ap lines_text (plain-contents (pieces_of input) e)
-    ∙ pieces-text input (plain-ended (pieces_of input) e)
+plain-text input e = ap lines_text (plain-contents _ e) ∙ pieces-text input (plain-ended _ e)
 
 -- ---- a file read to its good end, and a standard file
 
