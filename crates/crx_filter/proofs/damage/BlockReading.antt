@@ -1,13 +1,12 @@
 -- The reading of a block of compact text whose lines but the first don't begin with >: some epochs, and then
 -- it ends between two units, inside an epoch, or, after a warning, looking for a line that begins with >.
 use Rattle.crx_filter.proofs.Words
-use Words.{ℕ, zero, suc, ◌≡◌, ◌+◌, ◌-◌, ◌<◌, max, ◌⊎◌, inl, inr, true, false, cond, List, [], ◌∷◌, ◌++◌}
-use Words.{length, drop, refl, ap, sym, ◌∙◌, subst, arith, append_assoc, ⊤, ◌&&◌, ◌==◌, AllByRecursion}
-use Words.{length-drop, character_at, ReadLine, Content, Overlong, At, Fault, Truncated, begins_epoch}
-use Words.{is_event_flag, is_event_line, Place, Here, Wrong, Wanted, one_line, FileUnit, Observation}
-use Words.{ReadEpoch, epoch_at, Item, Accepted, Warned, records_left, types_in_force, Reading, AtLines}
-use Words.{Looking, is_skipped, looked_for, reading_within, reading_from, is_skippable, raws_kept, event_line}
-use Words.{as_observation, compact_epoch_place, compact_place, IsBetweenUnits}
+use Words.{ℕ, zero, suc, ◌≡◌, ◌+◌, ◌<◌, max, ◌⊎◌, inl, inr, true, false, List, [], ◌∷◌, ◌++◌, length, drop}
+use Words.{refl, ap, sym, ◌∙◌, subst, arith, append_assoc, ⊤, ◌&&◌, AllByRecursion, length-drop, character_at}
+use Words.{ReadLine, Content, Overlong, At, Fault, Truncated, begins_epoch, is_event_flag, is_event_line}
+use Words.{Place, Here, Wrong, Wanted, FileUnit, Observation, ReadEpoch, epoch_at, Item, Accepted, Warned}
+use Words.{types_in_force, Reading, AtLines, Looking, is_skipped, looked_for, reading_within, reading_from}
+use Words.{is_skippable, raws_kept, as_observation, compact_epoch_place, compact_place, IsBetweenUnits}
 use Rattle.crx_filter.proofs.reading.Resuming.{by_place, here-within, wrong-stays, within-here, within-wrong}
 use Rattle.crx_filter.proofs.reading.Resuming.{within-wanted, fault-skipped, looked-on}
 use Rattle.crx_filter.proofs.following.Following.{body-place}

@@ -4,8 +4,8 @@ use Words.{ℕ, ◌≡◌, ◌+◌, ◌≤◌, true, false, cond, List, [], ◌�
 use Words.{◌∙◌, subst, append_assoc, append-nil, and_parts, pieces_of, lines_of, ReadLine, Content, Overlong}
 use Words.{seen, At, Epoch, begins_epoch, is_event_line, Observation, ReadEpoch, Choices, Item, Accepted}
 use Words.{Warned, header_has_ended, records_announced, records_left, types_in_force, Reading, WholeReading}
-use Words.{AtLines, reading_from, ended_reading, continued_reading, AreInPlace, compact_unit, compact_lines}
-use Words.{version_line, program_line, compact_place, HaveNoReturns, IsBetweenUnits, GoOnAlike, starts_anew}
+use Words.{reading_from, ended_reading, continued_reading, AreInPlace, compact_unit, compact_lines}
+use Words.{version_line, program_line, compact_place, HaveNoReturns, IsBetweenUnits, starts_anew}
 use Words.{lines_of_epochs, with_epochs, IsDamaged}
 use Rattle.crx_filter.proofs.reading.Resuming.{within-wanted, resumed}
 use Rattle.crx_filter.proofs.reading.Anew.{depends-on_types}
@@ -16,7 +16,7 @@ use Rattle.crx_filter.proofs.wayback.Reading.{lines_back}
 use Rattle.crx_filter.proofs.wayback.WayBack.{IsSettled, whole-settled, lines-same}
 use Rattle.crx_filter.proofs.wayback.Standard.{NoReturn, whole-copied, plain-no_return}
 use Rattle.crx_filter.proofs.damage.BlockReading.{IsBlockRead, with_reads, reads-between, reads-types}
-use Rattle.crx_filter.proofs.damage.GoingOn.{with_warnings, warned-between, warned-types, GoesOnAt, EndsAfter}
+use Rattle.crx_filter.proofs.damage.GoingOn.{with_warnings, warned-between, warned-types, GoesOnAt}
 use Rattle.crx_filter.proofs.damage.GoingOn.{block-goes_on, block-ends, ends-well}
 use Rattle.crx_filter.proofs.damage.TextAfter.{lines_on, written-on, reads-on}
 use Rattle.crx_filter.proofs.damage.SavedText.{left-append}

@@ -1,11 +1,10 @@
 -- Where an epoch of compact text wants more lines, a line that begins with > cuts it off.
-use Rattle.crx_filter.proofs.Words
-use Words.{ℕ, suc, ◌≡◌, ◌+◌, ◌-◌, true, cond, List, [], ◌∷◌, ◌++◌, length, drop, Result, Ok, Err, refl, ap}
-use Words.{sym, ◌∙◌, subst, arith, drop-append-le, length-drop, without_end_blanks, code_of, ReadLine}
-use Words.{Content, Overlong, Fault, BadClock, Truncated, begins_epoch, Count, Place, Here, Wrong, Wanted}
-use Words.{after_lines, then_place, one_line, first_line, IsSteady, Remains, Satellite, RawEpoch, Past}
-use Words.{past_of_line, BegunEpoch, ReadEpoch, epoch_begun, clock_line_read, cell_read, satellite_line_read}
-use Words.{rows_read, epoch_of_rows, epoch_after_line, epoch_at}
+use Rattle.crx_filter.proofs.Words.{ℕ, suc, ◌≡◌, ◌+◌, true, cond, List, [], ◌∷◌, ◌++◌, length, drop, Result}
+use Rattle.crx_filter.proofs.Words.{Ok, Err, refl, ap, sym, ◌∙◌, subst, arith, drop-append-le, length-drop}
+use Rattle.crx_filter.proofs.Words.{ReadLine, Content, Overlong, Fault, Truncated, begins_epoch, Count, Place}
+use Rattle.crx_filter.proofs.Words.{Here, Wrong, Wanted, after_lines, then_place, one_line, first_line}
+use Rattle.crx_filter.proofs.Words.{IsSteady, Remains, Satellite, RawEpoch, Past, BegunEpoch, clock_line_read}
+use Rattle.crx_filter.proofs.Words.{satellite_line_read, rows_read, epoch_of_rows, epoch_after_line, epoch_at}
 use Rattle.crx_rinex.proofs.Steady.{steady-first_line}
 use Rattle.crx_compact.proofs.Marks.{row_of_line}
 use Rattle.crx_compact.proofs.reading.SteadyEpochs.{steady-rows_read}

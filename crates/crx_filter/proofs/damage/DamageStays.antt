@@ -7,9 +7,9 @@ use Words.{list_all, map-append, drop-append_seam, Piece, pieces_of, lines_of, R
 use Words.{Epoch, IsWholeEpoch, printed_epoch, lines_text, Observation, epoch_line, ReadEpoch, LinesCanStand}
 use Words.{Choices, is_date, Item, Accepted, header_has_ended, records_left, types_in_force, Reading}
 use Words.{WholeReading, reading_from, ended_reading, notices_text, warnings_in, result_of, marked_epochs}
-use Words.{compact_unit, compact_lines, version_line, program_line, whole_rinex, compact_place, expanded_unit}
-use Words.{whole_compact, expanded, expanded_lines, whole_of, printed_items, AreInPlace, ItemsAreRead}
-use Words.{IsBetweenUnits, lines_of_epochs, with_epochs, lines_after, IsDamaged}
+use Words.{compact_unit, compact_lines, version_line, program_line, compact_place, expanded_unit}
+use Words.{whole_compact, expanded, expanded_lines, printed_items, AreInPlace, ItemsAreRead, IsBetweenUnits}
+use Words.{lines_of_epochs, with_epochs, lines_after, IsDamaged}
 use Rattle.std.proofs.lemmas.List.{append_cancel_left, take-append-drop}
 use Rattle.crx_runs.specs.meaning.Results.{status_after}
 use Rattle.crx_filter.specs.meaning.Damage.{IsSalvaged}

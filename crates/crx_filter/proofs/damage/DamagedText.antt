@@ -4,7 +4,7 @@ use Rattle.crx_filter.proofs.Words.{ℕ, ◌≡◌, ◌≢◌, ◌⊎◌, inl, i
 use Rattle.crx_filter.proofs.Words.{◌++◌, map, refl, ap, sym, ◌∙◌, subst, append_assoc, append-nil, ◌==◌}
 use Rattle.crx_filter.proofs.Words.{AllByRecursion, list_all, eqb_tells, map-append, flat_map-append}
 use Rattle.crx_filter.proofs.Words.{and_parts, Piece, InputLine, pieces_of, onto_first, line_of, lines_of}
-use Rattle.crx_filter.proofs.Words.{is_long, Content, Overlong, seen, begins_epoch, lines_text, not-true}
+use Rattle.crx_filter.proofs.Words.{is_long, Content, seen, begins_epoch, lines_text, not-true}
 use Rattle.crx_lines.proofs.PieceLemmas.{EachEnded, pieces-first}
 use Rattle.crx_filter.specs.meaning.Damage.{may_replace}
 use Rattle.crx_filter.proofs.wayback.Cut.{IsClean, seen-clean}

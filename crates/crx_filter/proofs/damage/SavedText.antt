@@ -1,10 +1,9 @@
 -- What is written and reported after damage: the texts of items one after another, and the epochs among them.
-use Rattle.crx_filter.proofs.Words.{ℕ, ◌≡◌, ◌≤◌, ◌-◌, inl, inr, List, [], ◌∷◌, ◌++◌, map, length, reverse}
-use Rattle.crx_filter.proofs.Words.{Option, refl, ap, sym, ◌∙◌, arith, subst, append_assoc, append-nil}
-use Rattle.crx_filter.proofs.Words.{AllByRecursion, flat_map, At, Epoch, IsWholeEpoch, printed_epoch}
-use Rattle.crx_filter.proofs.Words.{EventRecord, Observation, ReadEpoch, IsGood, Item, Accepted, Warned}
-use Rattle.crx_filter.proofs.Words.{records_left, types_in_force, Reading, warnings_in, compact_place}
-use Rattle.crx_filter.proofs.Words.{expanded_unit, expanded_lines, ItemsAreRead, with_epochs}
+use Rattle.crx_filter.proofs.Words
+use Words.{ℕ, ◌≡◌, ◌≤◌, ◌-◌, inl, inr, List, [], ◌∷◌, ◌++◌, map, length, reverse, Option, refl, ap, sym, ◌∙◌}
+use Words.{arith, append_assoc, append-nil, AllByRecursion, flat_map, At, Epoch, IsWholeEpoch, printed_epoch}
+use Words.{EventRecord, Observation, ReadEpoch, IsGood, Item, Accepted, Warned, records_left, types_in_force}
+use Words.{Reading, warnings_in, compact_place, expanded_unit, expanded_lines, ItemsAreRead, with_epochs}
 use Rattle.crx_filter.proofs.wayback.ExpandedWhole.{AreGoodEpochs, epochs-good}
 use Rattle.crx_filter.proofs.wayback.Items.{read_back}
 use Rattle.crx_filter.proofs.damage.BlockReading.{EndsBlock, with_reads}

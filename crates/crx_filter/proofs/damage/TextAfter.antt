@@ -2,12 +2,12 @@
 -- units; and all starts anew at its first line.
 use Rattle.crx_filter.proofs.Words
 use Words.{ℕ, zero, suc, ◌≡◌, ◌+◌, ◌-◌, ◌<◌, Bool, true, false, cond, List, [], ◌∷◌, ◌++◌, map, length}
-use Words.{Option, refl, ap, sym, ◌∙◌, arith, length-append, append-nil, append_assoc, ◌&&◌, ◌||◌, map-append}
+use Words.{Option, refl, ap, sym, ◌∙◌, arith, length-append, append-nil, append_assoc, ◌||◌, map-append}
 use Words.{length-map, and_parts, character_at, ReadLine, Content, Epoch, begins_epoch, is_event_flag}
-use Words.{is_event_line, Here, HeaderLine, EventLine, EventRecord, Observation, Marked, compact_epoch}
-use Words.{epoch_line, LinesCanStand, Choices, Item, Accepted, Warned, header_has_ended, records_announced}
-use Words.{records_left, AtLines, reading_from, continued_reading, AreInPlace, written_lines, is_interrupted}
-use Words.{is_at_every, is_in_full, marked_epochs, epochs_accepted, compact_place, starts_anew, BeginsAnew}
+use Words.{is_event_line, Here, HeaderLine, EventLine, EventRecord, Observation, compact_epoch, epoch_line}
+use Words.{Choices, Item, Accepted, Warned, header_has_ended, records_announced, records_left, AtLines}
+use Words.{reading_from, continued_reading, AreInPlace, written_lines, is_interrupted, is_at_every}
+use Words.{is_in_full, marked_epochs, epochs_accepted, compact_place, starts_anew, BeginsAnew}
 use Rattle.crx_compact.specs.Laws.{has_no_epochs}
 use Rattle.crx_filter.proofs.reading.Resuming.{within-wanted, resumed}
 use Rattle.crx_filter.proofs.reading.ForwardCompact.{compact-forward}

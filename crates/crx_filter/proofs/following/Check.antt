@@ -1,11 +1,10 @@
 -- A check line by line reads as the whole reading does, and keeps its totals.
-use Rattle.crx_filter.proofs.Words.{ℕ, ◌+◌, false, List, [], length, refl, ap, arith, ReadLine, Epoch}
-use Rattle.crx_filter.proofs.Words.{FileUnit, Observation, printed_unit, epoch_place, Item, types_in_force}
-use Rattle.crx_filter.proofs.Words.{warnings_in, Reading, IsEndedBy, rinex_place, whole_rinex, rinex_reading}
-use Rattle.crx_filter.proofs.Words.{rinex_open, seen_of, seen_end, printed_items, Totals, checking, totals_of}
-use Rattle.crx_filter.proofs.Words.{no_choices}
+use Rattle.crx_filter.proofs.Words.{ℕ, ◌+◌, false, List, [], length, refl, arith, ReadLine, Epoch, FileUnit}
+use Rattle.crx_filter.proofs.Words.{printed_unit, epoch_place, Item, types_in_force, warnings_in, Reading}
+use Rattle.crx_filter.proofs.Words.{IsEndedBy, rinex_place, whole_rinex, rinex_reading, rinex_open, seen_of}
+use Rattle.crx_filter.proofs.Words.{seen_end, printed_items, checking, totals_of, no_choices}
 use Rattle.crx_filter.proofs.reading.Forward.{rinex-forward}
-use Rattle.crx_filter.proofs.following.Following.{seen_in, IsCarriedOut}
+use Rattle.crx_filter.proofs.following.Following.{IsCarriedOut}
 use Rattle.crx_filter.proofs.following.Rinex.{AreSame, either-same, agree-begins, agree-continues, no-lines}
 use Rattle.crx_filter.proofs.reading.Stopping.{reading-stopped}
 use Rattle.crx_filter.proofs.reading.Ending.{next-end}

@@ -2,10 +2,10 @@
 use Rattle.crx_filter.proofs.Words
 use Words.{ℕ, ◌≡◌, ◌+◌, true, false, cond, List, [], ◌∷◌, ◌++◌, map, length, Option, Some, None, refl, ap}
 use Words.{sym, ◌∙◌, subst, arith, length-append, append-nil, append_assoc, map-append, length-map, none-some}
-use Words.{InputLine, ReadLine, seen, At, Epoch, last_line, Reading, rinex_reading, rinex_open, Seen, Step}
-use Words.{made_in, seen_next, seen_of, phase_of, Fed, fed, fed_once, failed_by, is_again, fault_of_stop}
-use Words.{printed_items, is_standard_line, first_not_standard, Totals, checking, totals_of, printed_open}
-use Words.{printed_so_far, printed_made, earliest, CheckSeen, no_choices, check_seen, check_next, OpenEpoch}
+use Words.{InputLine, ReadLine, seen, At, Epoch, last_line, Reading, rinex_reading, rinex_open, Seen, made_in}
+use Words.{seen_next, seen_of, phase_of, Fed, failed_by, is_again, fault_of_stop, printed_items}
+use Words.{is_standard_line, first_not_standard, Totals, checking, totals_of, printed_open, printed_so_far}
+use Words.{printed_made, earliest, CheckSeen, no_choices, check_seen, check_next, OpenEpoch}
 use Rattle.crx_filter.specs.CheckingLaws.{IsCheckedOn}
 use Rattle.crx_filter.proofs.following.Following.{fed-once}
 use Rattle.crx_filter.proofs.reading.StaysEnded.{rinex-stays}

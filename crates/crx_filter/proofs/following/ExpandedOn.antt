@@ -1,12 +1,12 @@
 -- An expansion is given one line more.
 use Rattle.crx_filter.proofs.Words
-use Words.{ℕ, ◌≡◌, ◌+◌, ◌≤◌, Bool, List, [], ◌∷◌, ◌++◌, length, drop, Option, Some, None, Result, Ok, Err}
-use Words.{refl, ap, sym, subst, arith, length-append, drop-append-le, length-drop, ReadLine, Content}
-use Words.{Overlong, Fault, LineTooLong, Place, Here, Wrong, Wanted, Remains, ReadEpoch, OpenRawEpoch, Tail}
-use Words.{Choices, Reading, AtFault, AtLines, reading_from, IsFollowed, Fed, fed, fed_once, fault_of_stop}
-use Words.{is_skippable, warnings_in, Phase, InFirstLines, Ended, Seen, Fails, made_in, step_of_made}
-use Words.{seen_next, seen_of, compact_place, crinex_version, crinex_program, first_lines, expanded_lines}
-use Words.{expansion, compact_open, tail_of_items}
+use Words.{ℕ, ◌≡◌, ◌+◌, Bool, List, [], ◌∷◌, ◌++◌, length, drop, Option, Some, None, Result, Ok, Err, refl}
+use Words.{sym, subst, arith, length-append, drop-append-le, length-drop, ReadLine, Content, Overlong, Fault}
+use Words.{LineTooLong, Place, Here, Wrong, Wanted, Remains, ReadEpoch, OpenRawEpoch, Tail, Choices, Reading}
+use Words.{AtFault, AtLines, reading_from, IsFollowed, Fed, fed, fed_once, fault_of_stop, is_skippable}
+use Words.{warnings_in, Phase, InFirstLines, Ended, Seen, Fails, made_in, step_of_made, seen_next, seen_of}
+use Words.{compact_place, crinex_version, crinex_program, first_lines, expanded_lines, expansion}
+use Words.{compact_open, tail_of_items}
 use Rattle.crx_filter.specs.Laws.{IsExpandedOn}
 use Rattle.crx_filter.proofs.reading.ForwardCompact.{steady-first_lines}
 use Rattle.crx_filter.proofs.following.Following.{seen_in, fed-once, failed-ends}

@@ -2,11 +2,10 @@
 use Rattle.crx_filter.proofs.Words
 use Words.{ℕ, suc, ◌≡◌, Bool, true, false, cond, List, [], ◌∷◌, ◌++◌, length, Option, Some, None, Result, Ok}
 use Words.{Err, refl, ap, sym, ◌∙◌, true≢false, is_some, none-some, ReadLine, Content, Overlong, Fault}
-use Words.{BadEpoch, is_event_line, records_in, printed_epoch, Place, Here, Wrong, Wanted, one_line, FileUnit}
-use Words.{EventLine, RawEpoch, ReadEpoch, epoch_at, Tail, OpenRawEpoch, RawStep, first_step, next_step}
-use Words.{open_raw_after, open_raw_with, Choices, Item, types_in_force, records_count_types, raws_kept}
-use Words.{empties_state, event_line, as_observation, expanded_unit, Made, made_of_unit, made_of_raw_step}
-use Words.{expansion, tail_of_items, begins_event, compact_open}
+use Words.{BadEpoch, is_event_line, records_in, Place, Here, Wrong, Wanted, one_line, FileUnit, EventLine}
+use Words.{RawEpoch, ReadEpoch, epoch_at, Tail, OpenRawEpoch, RawStep, first_step, next_step, open_raw_after}
+use Words.{open_raw_with, Choices, Item, types_in_force, raws_kept, event_line, as_observation, expanded_unit}
+use Words.{Made, made_of_unit, made_of_raw_step, expansion, tail_of_items, begins_event, compact_open}
 use Rattle.crx_compact.specs.Tails.{tail_left}
 use Rattle.crx_compact.specs.OpenEpochs.{epoch_after, HeldEpoch, Going, Whole, Faulty, placed_as, held_after}
 use Rattle.crx_compact.specs.OpenEpochs.{place_of_step, place_of_steps}

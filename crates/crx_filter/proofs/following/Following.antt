@@ -3,15 +3,15 @@ use Rattle.crx_filter.proofs.Words
 use Words.{ℕ, zero, suc, ◌≡◌, ◌⊎◌, inl, inr, ◌+◌, ◌-◌, max, ◌<◌, ◌≤◌, Bool, true, false, cond, List, [], ◌∷◌}
 use Words.{◌++◌, length, drop, Option, Some, None, refl, ap, sym, subst, ◌∙◌, arith, length-append}
 use Words.{append-nil, ◌&&◌, drop-append_seam, ReadLine, Fault, At, is_end_of_header, Count, Place, Here}
-use Words.{Wrong, Wanted, Remains, IsDecidedAfter, FileUnit, HeaderLine, EventLine, EventRecord, Observation}
-use Words.{Choices, Item, Accepted, Warned, is_at_start, header_has_ended, records_announced, records_left}
+use Words.{Wrong, Wanted, IsDecidedAfter, FileUnit, HeaderLine, EventLine, EventRecord, Observation, Choices}
+use Words.{Item, Accepted, Warned, is_at_start, header_has_ended, records_announced, records_left}
 use Words.{counts_types, records_count_types, types_in_force, unit_place, Reading, AtFault, AtLines, Looking}
 use Words.{is_skipped, can_go_on, looked_for, reading_within, is_skippable, written_lines, warnings_in, Phase}
-use Words.{InHeader, BetweenUnits, InEvent, InEpoch, LookingOn, Ended, Seen, Made, Completes, Moves, Fails}
-use Words.{Direction, Notice, Failed, Step, with_records_left, phase_after, types_after, may_skip}
-use Words.{is_in_epoch, is_skipped_in, kept_in, with_phase, after_warning, failed_step, step_of_made}
-use Words.{seen_next, phase_in_body, phase_after_items, seen_of, IsReadForward, IsFollowed, Fed, fed}
-use Words.{fed_once, fed_twice, is_again, fault_of_stop}
+use Words.{InHeader, BetweenUnits, InEvent, InEpoch, Ended, Seen, Made, Completes, Moves, Fails, Direction}
+use Words.{Notice, Failed, Step, with_records_left, phase_after, types_after, may_skip, is_in_epoch}
+use Words.{is_skipped_in, kept_in, with_phase, after_warning, failed_step, step_of_made, seen_next}
+use Words.{phase_in_body, phase_after_items, seen_of, IsReadForward, IsFollowed, Fed, fed, fed_once}
+use Words.{fed_twice, is_again, fault_of_stop}
 use Rattle.std.proofs.Math.Seq.{drop-length}
 use Rattle.crx_filter.specs.LineByLine.{Quiet, Ready, after_record, after_unit}
 use Rattle.crx_filter.proofs.Choosing.{by_bool}

@@ -1,18 +1,18 @@
 -- One line more, wherever a reading has stopped.
 use Rattle.crx_filter.proofs.Words
-use Words.{ℕ, zero, suc, ◌≡◌, inl, inr, ◌+◌, ◌-◌, ◌<◌, Bool, true, false, not, cond, List, [], ◌∷◌, ◌++◌}
-use Words.{length, Option, Some, None, Result, Ok, Err, refl, ap, sym, subst, ◌∙◌, arith, length-append}
-use Words.{append-nil, append_assoc, rules, ◌||◌, ◌&&◌, ◌==◌, ⊤, nat_lt, ReadLine, Content, Overlong, Fault}
-use Words.{LineTooLong, At, is_end_of_header, Count, types_of, with_line, none-some, Place, Wanted, one_line}
-use Words.{first_line, FileUnit, HeaderLine, EventRecord, Choices, Item, Accepted, Warned, is_at_start}
-use Words.{header_has_ended, records_left, records_count_types, declaring_lines, types_in_force, unless_wrong}
-use Words.{types_fault, header_line_fault, header_line, event_record, unit_place, Reading, Stop, AtFault}
-use Words.{AtLines, Looking, is_skipped, can_go_on, reading_within, reading_from, is_skippable}
-use Words.{continued_reading, IsReadForward, fed, fed_once, fed_twice, is_again, written_lines, warnings_in}
-use Words.{Phase, InHeader, BetweenUnits, InEvent, InEpoch, LookingOn, Seen, Made, Completes, Fails}
-use Words.{Direction, Notice, Step, made_of_unit, made_in, phase_after, types_after, may_skip, is_in_epoch}
-use Words.{is_skipped_in, kept_in, after_warning, failed_step, step_of_made, seen_next, phase_in_body}
-use Words.{phase_after_items, seen_of, and_parts}
+use Words.{ℕ, zero, suc, ◌≡◌, inl, inr, ◌+◌, ◌<◌, Bool, true, false, not, cond, List, [], ◌∷◌, ◌++◌, length}
+use Words.{Option, Some, None, Result, Ok, Err, refl, ap, sym, subst, ◌∙◌, arith, length-append, append-nil}
+use Words.{append_assoc, rules, ◌||◌, ◌&&◌, ◌==◌, ⊤, nat_lt, ReadLine, Content, Overlong, Fault, LineTooLong}
+use Words.{At, is_end_of_header, Count, types_of, with_line, none-some, Place, Wanted, one_line, first_line}
+use Words.{FileUnit, HeaderLine, EventRecord, Choices, Item, Accepted, Warned, is_at_start, header_has_ended}
+use Words.{records_left, records_count_types, declaring_lines, types_in_force, unless_wrong, types_fault}
+use Words.{header_line_fault, header_line, event_record, unit_place, Reading, Stop, AtFault, AtLines, Looking}
+use Words.{is_skipped, can_go_on, reading_within, reading_from, is_skippable, continued_reading}
+use Words.{IsReadForward, fed, fed_once, fed_twice, is_again, written_lines, warnings_in, Phase, InHeader}
+use Words.{BetweenUnits, InEvent, InEpoch, LookingOn, Seen, Made, Fails, Direction, Notice, Step}
+use Words.{made_of_unit, made_in, phase_after, types_after, may_skip, is_in_epoch, is_skipped_in, kept_in}
+use Words.{after_warning, failed_step, step_of_made, seen_next, phase_in_body, phase_after_items, seen_of}
+use Words.{and_parts}
 use Rattle.crx_header.proofs.Counts.{types_of-push}
 use Rattle.crx_filter.proofs.Choosing.{by_bool, false-true}
 use Rattle.crx_filter.proofs.reading.Resuming.{enough-units, looked-here, looked-on}

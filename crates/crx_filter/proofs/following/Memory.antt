@@ -1,21 +1,21 @@
 -- Where memory may run out at a line by what is seen before it, it may by what is there.
 use Rattle.crx_filter.proofs.Words
-use Words.{ℕ, zero, suc, ◌≡◌, ◌+◌, Bool, true, false, not, cond, List, [], ◌∷◌, ◌++◌, length, Option, Some}
-use Words.{None, refl, ap, sym, subst, ◌∙◌, arith, ◌&&◌, nat_lt, is_some, ReadLine, Content, Overlong, Fault}
-use Words.{At, begins_epoch, is_event_line, Count, count_in, is_types_line, Place, Wrong, Wanted, first_line}
-use Words.{one_line, FileUnit, HeaderLine, EventRecord, Choices, Item, Warned, is_at_start, header_has_ended}
-use Words.{records_left, records_count_types, types_in_force, memory_allowed, place_takes, Stop, AtFault}
-use Words.{AtLines, Looking, is_skipped, can_go_on, event_record, header_line, header_line_fault, types_fault}
-use Words.{unless_wrong, is_again, Answer, BetweenUnits, Direction, Ended, Failed, Fails, InEpoch, InEvent}
-use Words.{InHeader, Made, Notice, Phase, Seen, Step, after_warning, is_in_epoch, is_skipped_in, kept_in}
-use Words.{phase_after_items, phase_in_body, seen_next, seen_of, step_of_made, with_phase, may_take_memory}
-use Words.{takes_memory, rules, none-some, and_parts, not-true}
+use Words.{ℕ, suc, ◌≡◌, ◌+◌, Bool, true, false, not, cond, List, [], ◌∷◌, ◌++◌, length, Option, Some, None}
+use Words.{refl, ap, sym, subst, ◌∙◌, arith, ◌&&◌, nat_lt, is_some, ReadLine, Content, Overlong, Fault, At}
+use Words.{begins_epoch, is_event_line, Count, count_in, is_types_line, Place, Wanted, first_line, one_line}
+use Words.{FileUnit, HeaderLine, Choices, Item, Warned, is_at_start, header_has_ended, records_left}
+use Words.{records_count_types, types_in_force, memory_allowed, place_takes, Stop, AtFault, AtLines, Looking}
+use Words.{is_skipped, can_go_on, event_record, header_line, header_line_fault, types_fault, unless_wrong}
+use Words.{is_again, Answer, BetweenUnits, Direction, Failed, Fails, InEpoch, InEvent, InHeader, Made, Notice}
+use Words.{Phase, Seen, Step, after_warning, is_in_epoch, is_skipped_in, kept_in, phase_after_items}
+use Words.{seen_next, seen_of, step_of_made, may_take_memory, takes_memory, rules, none-some, and_parts}
+use Words.{not-true}
 use Rattle.std.specs.Prelude.{is_none}
 use Rattle.crx_header.specs.meaning.ObservationTypes.{count_of_types_line}
 use Rattle.crx_filter.specs.meaning.Memory.{line_takes, takes_after_warning}
 use Rattle.crx_filter.specs.LineByLine.{Quiet, Ready}
-use Rattle.crx_filter.proofs.following.Following.{AgreeOn, IsCarriedOut, body-phase, body-place, failed-ends}
-use Rattle.crx_filter.proofs.following.Following.{place, failed-skipped, seen_in, skipped-same, wrong-last}
+use Rattle.crx_filter.proofs.following.Following.{AgreeOn, IsCarriedOut, body-place, failed-ends, place}
+use Rattle.crx_filter.proofs.following.Following.{failed-skipped, seen_in, skipped-same, wrong-last}
 use Rattle.crx_filter.proofs.Choosing.{by_bool, false-true}
 use Rattle.crx_filter.proofs.steps.EngineAnswers.{ComesAgain, comes-again}
 use Rattle.crx_filter.proofs.following.Lines.{IsStopped, by_phase, header-place, record-place}

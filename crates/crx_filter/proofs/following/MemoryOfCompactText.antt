@@ -4,9 +4,9 @@ use Words.{ℕ, ◌≡◌, Bool, true, false, List, [], ◌∷◌, ◌++◌, len
 use Words.{ap, sym, ◌∙◌, none-some, ReadLine, Content, Overlong, Fault, Count, ReadEpoch, satellites_of_line}
 use Words.{Satellite, OpenRawEpoch, RawStep, first_step, next_step, open_raw_after, open_raw_with, Tail}
 use Words.{and_then, Choices, Item, types_in_force, place_takes, begins_event, compact_open, expansion}
-use Words.{made_of_raw_step, tail_of_items, subst, ◌+◌, ◌-◌, ◌≤◌, drop, arith, length-drop, At, Remains}
-use Words.{Place, Here, Wrong, Wanted, expansion_seen, Notice, Seen, seen_next, takes_memory, compact_memory}
-use Words.{compact_place, first_lines, memory_allowed, Reading, reading_from, and_parts, not-true}
+use Words.{made_of_raw_step, tail_of_items, subst, ◌+◌, drop, arith, length-drop, At, Remains, Place, Here}
+use Words.{Wrong, Wanted, expansion_seen, Notice, Seen, seen_next, takes_memory, compact_memory}
+use Words.{compact_place, first_lines, memory_allowed, reading_from, and_parts, not-true}
 use Rattle.crx_compact.specs.OpenEpochs.{Going, Whole, Faulty, is_faulty, before_clock, has_come, makes_epoch}
 use Rattle.crx_compact.specs.OpenEpochs.{tail_opened, opened_raw, opening, tail_for_line}
 use Rattle.crx_compact.specs.HeldRows.{past_of_tail}

@@ -1,7 +1,7 @@
 -- One line more after some, where the reading begins with no items, at a line of any number.
-use Rattle.crx_filter.proofs.Words.{ℕ, ◌≡◌, ◌+◌, List, [], ◌∷◌, ◌++◌, length, Option, sym, subst, ReadLine}
-use Rattle.crx_filter.proofs.Words.{Place, FileUnit, Choices, Item, Reading, reading_from, Direction, Seen}
-use Rattle.crx_filter.proofs.Words.{seen_of, fed}
+use Rattle.crx_filter.proofs.Words.{ℕ, ◌≡◌, ◌+◌, List, [], ◌∷◌, ◌++◌, length, Option, ReadLine, Place}
+use Rattle.crx_filter.proofs.Words.{FileUnit, Choices, Item, Reading, reading_from, Direction, Seen, seen_of}
+use Rattle.crx_filter.proofs.Words.{fed}
 use Rattle.crx_filter.proofs.reading.Resuming.{resumed}
 use Rattle.crx_filter.proofs.reading.Stopping.{reading-stopped}
 use Rattle.crx_filter.proofs.following.Following.{IsCarriedOut, Follows, place}

@@ -1,12 +1,12 @@
 -- A line is answered as ready exactly where lines are borrowed.
-use Rattle.std.proofs.Common.{ℕ, ◌≡◌, Bool, true, false, List, [], ◌∷◌, ◌++◌, refl, ap, sym, ◌∙◌}
+use Rattle.std.proofs.Common.{ℕ, ◌≡◌, Bool, true, false, List, [], ◌∷◌, ◌++◌, refl, sym}
 use Rattle.crx_base.specs.meaning.Seen.{ReadLine}
 use Rattle.crx_rinex.specs.meaning.Observations.{Epoch}
 use Rattle.crx_rinex.specs.meaning.Units.{Unit as FileUnit, HeaderLine, EventLine, EventRecord, Observation}
 use Rattle.crx_compact.specs.OpenEpochs.{HeldEpoch, OpenRawEpoch}
 use Rattle.crx_compact.specs.Tails.{Tail}
 use Rattle.crx_rinex.specs.meaning.EpochPlaces.{OpenEpoch}
-use Rattle.crx_filter.specs.LineByLine.{Seen, Made, Completes, Moves, Fails, Repeats, Direction, Step}
+use Rattle.crx_filter.specs.LineByLine.{Seen, Made, Completes, Moves, Fails, Repeats, Direction}
 use Rattle.crx_filter.specs.LineByLine.{is_skipped_in, made_in, step_of_made}
 use Rattle.crx_header.specs.meaning.CompactHeader.{lines_before_header}
 use Rattle.crx_filter.specs.CompactionByLine.{Written, compaction, is_before_header}

@@ -1,9 +1,9 @@
 -- Where the reading of compact text starts anew, it depends on the types in force alone.
 use Rattle.crx_filter.proofs.Words
-use Words.{ℕ, zero, suc, ◌≡◌, ◌+◌, ◌-◌, ◌<◌, max, Bool, true, cond, List, [], ◌∷◌, ◌++◌, length, drop, Option}
-use Words.{Some, None, refl, ap, sym, ◌∙◌, arith, subst, append_assoc, and_parts, ⊤, ReadLine, Content}
-use Words.{Overlong, Fault, At, begins_epoch, is_event_line, records_in, Count, with_line, Place, Here}
-use Words.{Wanted, one_line, first_line, FileUnit, HeaderLine, EventLine, EventRecord, Observation, RawEpoch}
+use Words.{ℕ, zero, suc, ◌≡◌, ◌+◌, ◌-◌, ◌<◌, max, Bool, true, cond, List, [], ◌∷◌, ◌++◌, drop, Option, Some}
+use Words.{None, refl, ap, sym, ◌∙◌, arith, subst, append_assoc, and_parts, ⊤, ReadLine, Content, Overlong}
+use Words.{Fault, At, begins_epoch, is_event_line, records_in, Count, with_line, Place, Here, Wanted}
+use Words.{one_line, first_line, FileUnit, HeaderLine, EventLine, EventRecord, Observation, RawEpoch}
 use Words.{block_of, Past, past_of_block, past_of_epochs, ReadEpoch, epoch_at, Item, Accepted, Warned}
 use Words.{header_has_ended, records_announced, records_left, records_count_types, declaring_lines}
 use Words.{types_in_force, unless_wrong, types_fault, event_record, Reading, Stop, AtFault, AtLines, Looking}

@@ -1,9 +1,8 @@
 -- What an expansion has written.
-use Rattle.crx_filter.proofs.Words.{ℕ, ◌≡◌, ◌+◌, List, [], ◌++◌, length, drop, sym, subst, refl, Bool}
-use Rattle.crx_filter.proofs.Words.{append-nil, drop-append-le, ReadLine, Place, Here, Remains, ReadEpoch}
-use Rattle.crx_filter.proofs.Words.{Choices, Item, reading_from, whole_reading, first_lines, compact_place}
-use Rattle.crx_filter.proofs.Words.{whole_compact, expanded_unit, expanded, expanded_lines, expanded_so_far}
-use Rattle.crx_filter.proofs.Words.{compact_reading, lines_text, Begins, IsWrittenFirst}
+use Rattle.crx_filter.proofs.Words.{ℕ, ◌≡◌, ◌+◌, List, [], ◌++◌, length, drop, sym, refl, Bool, append-nil}
+use Rattle.crx_filter.proofs.Words.{drop-append-le, ReadLine, Place, Here, Remains, ReadEpoch, Choices, Item}
+use Rattle.crx_filter.proofs.Words.{reading_from, whole_reading, first_lines, compact_place, whole_compact}
+use Rattle.crx_filter.proofs.Words.{expanded_unit, expanded, expanded_so_far, compact_reading, IsWrittenFirst}
 use Rattle.crx_filter.proofs.reading.ForwardCompact.{compact-forward, steady-first_lines}
 use Rattle.crx_filter.proofs.reading.Prefixes.{AreMore, text-more, reading-items, whole-items}
 

@@ -1,8 +1,7 @@
 -- Lists of lines and of what was accepted: what holds of each of two lists holds of both together, and of
 -- each part.
 use Rattle.crx_filter.proofs.Words.{ℕ, zero, suc, ◌≡◌, Bool, true, false, List, [], ◌∷◌, ◌++◌, ◌||◌, drop}
-use Rattle.crx_filter.proofs.Words.{map, refl, ap, ◌∙◌, AllByRecursion, Item, ends_header, header_has_ended}
-use Rattle.crx_filter.proofs.Words.{InputLine}
+use Rattle.crx_filter.proofs.Words.{map, refl, AllByRecursion, Item, ends_header, header_has_ended, InputLine}
 
 pub all-append : {X : Type 0} (P : X → Type 0) (one two : List X)
     → AllByRecursion P one → AllByRecursion P two → AllByRecursion P (one ++ two)

@@ -1,15 +1,14 @@
 -- The end of the input, in both directions.
-use Rattle.crx_filter.proofs.Words
-use Words.{ℕ, ◌≡◌, ◌+◌, ◌-◌, Bool, false, List, [], length, drop, Option, Some, None, refl, subst, arith}
-use Words.{append-nil, length-drop, ReadLine, Epoch, Place, Here, Wrong, Wanted, Remains, ReadEpoch}
-use Words.{OpenRawEpoch, Tail, Choices, Reading, WholeReading, reading_from, ended_reading, is_skippable}
-use Words.{warnings_in, InFirstLines, Seen, seen_end, is_skipped_in, rinex_place, compact_unit, rinex_reading}
-use Words.{compaction, rinex_open, written_of, compact_place, first_lines, fault_in_first_lines}
-use Words.{expanded_unit, expanded_lines, expansion, compact_open, tail_of_items, IsEndedBy}
+use Rattle.crx_filter.proofs.Words.{ℕ, ◌≡◌, ◌+◌, Bool, List, [], length, drop, Some, refl, subst, arith}
+use Rattle.crx_filter.proofs.Words.{append-nil, length-drop, ReadLine, Epoch, Place, Here, Wrong, Wanted}
+use Rattle.crx_filter.proofs.Words.{Remains, ReadEpoch, Choices, Reading, WholeReading, reading_from}
+use Rattle.crx_filter.proofs.Words.{ended_reading, is_skippable, warnings_in, seen_end, rinex_place}
+use Rattle.crx_filter.proofs.Words.{compact_unit, rinex_reading, compaction, rinex_open, written_of}
+use Rattle.crx_filter.proofs.Words.{compact_place, first_lines, fault_in_first_lines, expanded_unit}
+use Rattle.crx_filter.proofs.Words.{expanded_lines, expansion, compact_open, tail_of_items, IsEndedBy}
 use Rattle.crx_filter.specs.Laws.{IsCompactionEnded, IsExpansionEnded}
 use Rattle.crx_filter.proofs.reading.Forward.{rinex-forward}
 use Rattle.crx_filter.proofs.reading.ForwardCompact.{compact-forward, steady-first_lines, compact_beginning}
-use Rattle.crx_filter.proofs.following.Following.{seen_in}
 use Rattle.crx_filter.proofs.following.Lines.{never-before}
 use Rattle.crx_filter.proofs.reading.Stopping.{reading-stopped}
 use Rattle.crx_filter.proofs.following.Compaction.{compaction-carried_out}

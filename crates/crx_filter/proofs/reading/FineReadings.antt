@@ -5,7 +5,7 @@ use Words.{subst, ⊤, ◌==◌, nat_lt, not, ReadLine, Fault, At, Place, FileUn
 use Words.{header_has_ended, records_left, Reading, Stop, AtFault, AtLines, Looking, is_skipped, can_go_on}
 use Words.{looked_for, reading_within, reading_from, fault_at_end, ended_with, after_fault, ended_reading}
 use Words.{whole_reading, rinex_place, whole_rinex, rinex_reading, compact_place, first_lines, whole_compact}
-use Words.{fault_in_first_lines, compact_reading, fault_of_stop, is_of_lines}
+use Words.{compact_reading, fault_of_stop, is_of_lines}
 use Rattle.crx_filter.proofs.Choosing.{by_bool}
 use Rattle.crx_filter.proofs.reading.Resuming.{by_place, within-here, within-wrong, within-wanted}
 use Rattle.crx_filter.proofs.reading.LineFaults.{IsFineAt, IsFineFault, rinex-fine, compact-fine}

@@ -1,12 +1,12 @@
 -- What was accepted of a RINEX file is in place.
 use Rattle.crx_filter.proofs.Words
 use Words.{ℕ, zero, suc, ◌≡◌, ◌+◌, true, false, cond, List, [], ◌∷◌, Option, Some, None, Result, Ok, Err}
-use Words.{refl, ap, sym, subst, ◌∙◌, arith, ⊤, not, drop, list_all, clock_of, HEAD_WIDTH, CLOCK_WIDTH}
-use Words.{is_some, ReadLine, Content, Overlong, columns, character_at, is_blank, Fault, BadEpoch, Epoch}
-use Words.{Place, Here, Wrong, Wanted, after_lines, then_place, one_line, first_line, FileUnit, HeaderLine}
-use Words.{EventLine, EventRecord, Observation, begins_epoch, is_event_flag, is_event_line, records_in}
-use Words.{epoch_count, event_head, epoch_head, head_of, Count, Beginning, EventBegins, EpochBegins, opened}
-use Words.{begun_by, beginning_of, rest_at, unit_begun, epoch_place, Item, Accepted, Warned, is_at_start}
+use Words.{refl, ap, sym, ◌∙◌, arith, ⊤, not, drop, list_all, clock_of, HEAD_WIDTH, CLOCK_WIDTH, is_some}
+use Words.{ReadLine, Content, Overlong, columns, character_at, is_blank, Fault, BadEpoch, Epoch, Place, Here}
+use Words.{Wrong, Wanted, after_lines, then_place, one_line, first_line, FileUnit, HeaderLine, EventLine}
+use Words.{EventRecord, Observation, begins_epoch, is_event_flag, is_event_line, records_in, epoch_count}
+use Words.{event_head, epoch_head, head_of, Count, Beginning, EventBegins, EpochBegins, opened, begun_by}
+use Words.{beginning_of, rest_at, unit_begun, epoch_place, Item, Accepted, Warned, is_at_start}
 use Words.{header_has_ended, records_left, records_count_types, types_in_force, types_fault}
 use Words.{header_line_fault, header_line, event_record, rinex_place, ItemsAreRead, IsInPlace, AreInPlace}
 use Rattle.crx_rinex.proofs.SoundEpochs.{with_clock, sound-epoch_place}

@@ -1,10 +1,9 @@
 -- What is written for some lines is at the beginning of what is written for more lines.
-use Rattle.crx_filter.proofs.Words.{ℕ, ◌≡◌, ◌+◌, Bool, List, [], ◌∷◌, ◌++◌, length, Option, Some, None, refl}
-use Rattle.crx_filter.proofs.Words.{ap, sym, subst, ◌∙◌, append_assoc, append-nil, flat_map-append, ReadLine}
-use Rattle.crx_filter.proofs.Words.{Fault, Place, FileUnit, Item, Accepted, Warned, Reading, Stop, AtFault}
-use Rattle.crx_filter.proofs.Words.{AtLines, Looking, is_skipped, reading_within, reading_from, fault_at_end}
-use Rattle.crx_filter.proofs.Words.{ended_reading, ended_with, whole_reading, continued_reading}
-use Rattle.crx_filter.proofs.Words.{IsReadForward, lines_text, Begins, written_lines}
+use Rattle.crx_filter.proofs.Words
+use Words.{ℕ, ◌≡◌, ◌+◌, Bool, List, [], ◌∷◌, ◌++◌, length, Option, Some, None, refl, ap, sym, ◌∙◌}
+use Words.{append_assoc, append-nil, flat_map-append, ReadLine, Fault, Place, FileUnit, Item, Accepted}
+use Words.{Warned, Stop, AtFault, AtLines, Looking, is_skipped, reading_within, reading_from, ended_reading}
+use Words.{ended_with, whole_reading, continued_reading, IsReadForward, lines_text, Begins, written_lines}
 use Rattle.crx_filter.proofs.Choosing.{by_bool}
 use Rattle.crx_filter.proofs.reading.KeptThroughout.{IsKept, looked-kept, within-kept}
 use Rattle.crx_filter.proofs.reading.Resuming.{resumed}

@@ -2,8 +2,8 @@
 use Rattle.crx_filter.proofs.Words
 use Words.{ℕ, zero, suc, ◌≡◌, ◌+◌, max, ◌<◌, ◌≤◌, Bool, true, false, List, [], ◌∷◌, ◌++◌, length, drop, refl}
 use Words.{arith, length-append, drop-append-le, length-drop, ReadLine, Fault, At, Place, Here, Wrong, Wanted}
-use Words.{Remains, IsDecidedAfter, FileUnit, Item, Accepted, Warned, Reading, AtFault, AtLines, is_skipped}
-use Words.{can_go_on, looked_for, after_fault, reading_within, reading_from, continued_reading, IsReadForward}
+use Words.{FileUnit, Item, Accepted, Warned, Reading, AtFault, AtLines, is_skipped, can_go_on, looked_for}
+use Words.{after_fault, reading_within, reading_from, continued_reading, IsReadForward}
 use Rattle.crx_filter.specs.Laws.{IsResumed}
 use Rattle.crx_filter.proofs.Choosing.{by_bool}
 

@@ -1,9 +1,8 @@
 -- Where a reading stops: more lines are wanted there, or a line is looked for after the last.
-use Rattle.crx_filter.proofs.Words.{ℕ, zero, suc, ◌≡◌, ◌+◌, ◌-◌, max, ◌<◌, Bool, true, List, [], ◌∷◌, length}
-use Rattle.crx_filter.proofs.Words.{drop, refl, arith, length-drop, ReadLine, At, Place, FileUnit, Item}
-use Rattle.crx_filter.proofs.Words.{Accepted, Warned, header_has_ended, records_left, Reading, is_skipped}
-use Rattle.crx_filter.proofs.Words.{can_go_on, looked_for, after_fault, reading_within, reading_from}
-use Rattle.crx_filter.proofs.Words.{IsReadForward}
+use Rattle.crx_filter.proofs.Words.{ℕ, zero, suc, ◌≡◌, ◌+◌, max, ◌<◌, Bool, true, List, [], ◌∷◌, length, drop}
+use Rattle.crx_filter.proofs.Words.{refl, arith, length-drop, ReadLine, At, Place, FileUnit, Item, Accepted}
+use Rattle.crx_filter.proofs.Words.{Warned, header_has_ended, records_left, Reading, is_skipped, can_go_on}
+use Rattle.crx_filter.proofs.Words.{looked_for, after_fault, reading_within, reading_from, IsReadForward}
 use Rattle.crx_filter.proofs.Choosing.{by_bool}
 use Rattle.crx_filter.proofs.reading.Resuming.{by_place, here-within, wrong-within, within-here, within-wrong}
 use Rattle.crx_filter.proofs.reading.Resuming.{within-wanted}

@@ -1,8 +1,7 @@
 -- The counts of types in force are allowed, and no letter is there twice among them.
-use Rattle.crx_filter.proofs.Words.{ℕ, ◌≡◌, List, [], ◌∷◌, ◌++◌, Option, Some, None, refl, sym, subst}
-use Rattle.crx_filter.proofs.Words.{All-nil, HeaderLine, EventRecord, Count, types_of, is_types_line}
-use Rattle.crx_filter.proofs.Words.{count_in, with_line, Item, Accepted, Warned, records_count_types}
-use Rattle.crx_filter.proofs.Words.{declaring_lines, types_in_force}
+use Rattle.crx_filter.proofs.Words.{ℕ, ◌≡◌, List, [], ◌∷◌, ◌++◌, Option, Some, None, refl, All-nil}
+use Rattle.crx_filter.proofs.Words.{HeaderLine, EventRecord, Count, types_of, is_types_line, count_in, Item}
+use Rattle.crx_filter.proofs.Words.{Accepted, Warned, records_count_types, declaring_lines, types_in_force}
 use Rattle.crx_header.specs.ObservationTypes.{AreCounts, IsCount, after_count}
 use Rattle.crx_header.proofs.Counts.{types_of-push, AreCounts-with_count, count_in_allowed}
 use Rattle.crx_filter.proofs.Choosing.{by_bool}

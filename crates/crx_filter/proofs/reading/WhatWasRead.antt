@@ -3,7 +3,7 @@ use Rattle.crx_filter.proofs.Words.{ℕ, ◌≡◌, ◌+◌, Bool, true, List, [
 use Rattle.crx_filter.proofs.Words.{ReadLine, Fault, Place, FileUnit, Item, header_has_ended, records_left}
 use Rattle.crx_filter.proofs.Words.{is_skipped, reading_from, is_skippable, compact_place, first_lines}
 use Rattle.crx_filter.proofs.Words.{compact_reading, ItemsAreRead}
-use Rattle.crx_filter.proofs.reading.KeptThroughout.{IsKept, within-kept}
+use Rattle.crx_filter.proofs.reading.KeptThroughout.{within-kept}
 use Rattle.crx_filter.proofs.reading.Resuming.{by_place}
 
 pub allowed : {E : Type 0} (skip : Bool) (items : List (Item E)) (fault : Fault)

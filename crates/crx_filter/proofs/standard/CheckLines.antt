@@ -9,8 +9,8 @@ use Words.{header_has_ended, records_left, records_count_types, records_announce
 use Words.{types_fault, header_line_fault, Reading, Stop, AtFault, AtLines, Looking, reading_within}
 use Words.{rinex_place, rinex_reading, made_of_epoch_step, made_of_beginning, rinex_open, Phase, InFirstLines}
 use Words.{InHeader, BetweenUnits, InEvent, InEpoch, LookingOn, Closed, Ended, Made, Completes, Step}
-use Words.{made_of_unit, made_in, with_records_left, step_of_made, phase_in_body, phase_after_items, phase_of}
-use Words.{failed_by, is_again, Totals, checking, printed_open, printed_made, no_choices}
+use Words.{made_of_unit, made_in, with_records_left, step_of_made, phase_in_body, phase_of, failed_by}
+use Words.{is_again, Totals, checking, printed_open, printed_made, no_choices}
 use Rattle.crx_rinex.specs.meaning.Printing.{printed_head}
 use Rattle.crx_filter.proofs.Choosing.{by_bool}
 use Rattle.crx_filter.proofs.following.Following.{seen_in}

@@ -2,10 +2,10 @@
 use Rattle.crx_filter.proofs.Words
 use Words.{ℕ, ◌≡◌, ◌+◌, ◌<◌, ◌⊎◌, inl, inr, true, cond, List, [], ◌∷◌, ◌++◌, map, length, Option, suc, refl}
 use Words.{ap, sym, ◌∙◌, subst, arith, append-nil, and_parts, ReadLine, Content, Overlong, begins_epoch}
-use Words.{is_event_line, Epoch, printed_epoch, HeaderLine, EventLine, EventRecord, Observation, printed_unit}
-use Words.{ReadEpoch, Choices, Item, Accepted, Warned, header_has_ended, records_announced, records_left}
-use Words.{types_in_force, Reading, AtLines, reading_from, compact_place, BeginsAnew, printed_items}
-use Words.{IsBetweenUnits, GoOnAlike, starts_anew, expanded_lines, continued_reading, AreInPlace}
+use Words.{is_event_line, Epoch, HeaderLine, EventLine, EventRecord, Observation, ReadEpoch, Choices, Item}
+use Words.{Accepted, Warned, header_has_ended, records_announced, records_left, types_in_force, Reading}
+use Words.{AtLines, reading_from, compact_place, BeginsAnew, printed_items, IsBetweenUnits, GoOnAlike}
+use Words.{starts_anew, expanded_lines, continued_reading, AreInPlace}
 use Rattle.std.proofs.lemmas.List.{append_cancel_right}
 use Rattle.crx_filter.proofs.reading.Anew.{AreAlike, alike-unit, depends-on_types}
 use Rattle.crx_filter.proofs.reading.ForwardCompact.{compact-forward}

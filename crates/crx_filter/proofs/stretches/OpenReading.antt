@@ -1,14 +1,13 @@
 -- The reading of a damaged stretch: whatever its lines are, but an event's first one, epochs and warnings are
 -- read of it alone; and it goes on at the next line that begins with >.
 use Rattle.crx_filter.proofs.Words
-use Words.{ℕ, zero, suc, ◌≡◌, ◌+◌, ◌-◌, ◌<◌, max, ◌⊎◌, inl, inr, true, false, List, [], ◌∷◌, ◌++◌, length}
-use Words.{drop, refl, ap, sym, ◌∙◌, subst, arith, append_assoc, ⊤, AllByRecursion, length-drop, is_skippable}
+use Words.{ℕ, zero, suc, ◌≡◌, ◌+◌, ◌<◌, max, ◌⊎◌, inl, inr, true, false, List, [], ◌∷◌, ◌++◌, length, drop}
+use Words.{refl, ap, sym, ◌∙◌, subst, arith, append_assoc, ⊤, AllByRecursion, length-drop, is_skippable}
 use Words.{ReadLine, Content, Overlong, At, Fault, begins_epoch, is_event_line, records_in, BadEpoch}
-use Words.{announces_records, true≢false, cond, Option, Some, None, Ok, Err, is_some, ◌&&◌, Here, Wrong}
-use Words.{Wanted, one_line, FileUnit, EventLine, Observation, ReadEpoch, epoch_at, Item, Accepted, Warned}
-use Words.{types_in_force, Reading, AtLines, Looking, is_skipped, can_go_on, looked_for, reading_within}
-use Words.{reading_from, raws_kept, compact_place, event_line, as_observation, IsBetweenUnits}
-use Words.{continued_reading}
+use Words.{announces_records, true≢false, Option, Some, None, is_some, Here, Wrong, Wanted, FileUnit}
+use Words.{Observation, ReadEpoch, epoch_at, Item, Accepted, Warned, types_in_force, Reading, AtLines}
+use Words.{Looking, can_go_on, looked_for, reading_within, reading_from, raws_kept, compact_place}
+use Words.{IsBetweenUnits, continued_reading}
 use Rattle.crx_filter.proofs.Choosing.{by_bool}
 use Rattle.crx_filter.proofs.reading.EpochFaults.{IsSkippableAt, epoch-skippable, place-observation}
 use Rattle.crx_filter.proofs.reading.ForwardCompact.{compact-forward}

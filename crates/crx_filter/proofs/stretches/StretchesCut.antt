@@ -1,12 +1,11 @@
 -- A text that is damaged in stretches, cut into lines: those that the compaction wrote, and those that come
 -- in the stretches.
-use Rattle.crx_filter.proofs.Words.{ℕ, ◌≡◌, ◌⊎◌, inl, inr, true, not, List, [], ◌∷◌, ◌++◌, map, length, drop}
-use Rattle.crx_filter.proofs.Words.{refl, ap, sym, ◌∙◌, subst, append_assoc, append-nil, ◌||◌, AllByRecursion}
-use Rattle.crx_filter.proofs.Words.{list_all, drop-append_seam, and_parts, not-true, Piece, InputLine}
-use Rattle.crx_filter.proofs.Words.{pieces_of, lines_of, is_long, lines_text, Content, seen, Epoch, Choices}
-use Rattle.crx_filter.proofs.Words.{Item, Accepted, Warned, header_has_ended, compact_lines, lines_after}
-use Rattle.crx_filter.proofs.Words.{OfCopiedLines, HaveNoReturns, AreInPlace, Stretch, up_to_end, up_to_next}
-use Rattle.crx_filter.proofs.Words.{with_stretches, announces_records, IsStretch, AreStretches}
+use Rattle.crx_filter.proofs.Words
+use Words.{ℕ, ◌≡◌, ◌⊎◌, inl, inr, true, List, [], ◌∷◌, ◌++◌, map, length, drop, refl, ap, sym, ◌∙◌, subst}
+use Words.{append_assoc, append-nil, AllByRecursion, list_all, drop-append_seam, and_parts, not-true, Piece}
+use Words.{InputLine, pieces_of, lines_of, is_long, lines_text, Content, seen, Epoch, Choices, Item, Accepted}
+use Words.{Warned, header_has_ended, compact_lines, lines_after, OfCopiedLines, HaveNoReturns, AreInPlace}
+use Words.{Stretch, up_to_end, up_to_next, with_stretches, announces_records, IsStretch, AreStretches}
 use Rattle.crx_filter.proofs.Choosing.{by_bool}
 use Rattle.crx_filter.specs.meaning.Stretches.{stretches_text, begins_no_event}
 use Rattle.crx_filter.proofs.wayback.Cut.{IsClean, CanStand}

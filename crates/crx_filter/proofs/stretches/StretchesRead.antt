@@ -13,10 +13,9 @@ use Rattle.crx_filter.proofs.wayback.Items.{known_back}
 use Rattle.crx_filter.proofs.damage.BlockSaved.{rest-in_place}
 use Rattle.crx_filter.proofs.damage.SavedText.{lines-append, epochs_of}
 use Rattle.crx_filter.proofs.damage.TextAfter.{lines_on}
-use Rattle.crx_filter.proofs.stretches.OpenReading.{IsNoEvent, AreEpochs, IsOpen, IsStretchRead, stretch-more}
-use Rattle.crx_filter.proofs.stretches.OpenReading.{epochs-append, epochs-between, epochs-types}
-use Rattle.crx_filter.proofs.stretches.KeptReading.{back_on, back-printed, anew-between, IsKeptRead}
-use Rattle.crx_filter.proofs.stretches.KeptReading.{CanBeKept, kept-more}
+use Rattle.crx_filter.proofs.stretches.OpenReading.{IsNoEvent, AreEpochs, IsOpen, stretch-more, epochs-append}
+use Rattle.crx_filter.proofs.stretches.OpenReading.{epochs-between, epochs-types}
+use Rattle.crx_filter.proofs.stretches.KeptReading.{back_on, back-printed, anew-between, CanBeKept, kept-more}
 use Rattle.crx_filter.proofs.reading.Each.{all-append, header-append}
 
 -- ---- where a reading is

@@ -1,7 +1,7 @@
 -- A file comes back only where it is standard: the lines that are written are plain, and printed as they are.
 use Rattle.crx_filter.proofs.Words
 use Words.{ℕ, ℤ, zero, suc, ◌≡◌, ◌+◌, ◌-◌, ◌<◌, ◌≤◌, true, false, List, [], ◌∷◌, ◌++◌, map, length, take}
-use Words.{drop, replicate, Option, Some, None, refl, ap, sym, ◌∙◌, arith, not, All, AllByRecursion, list_all}
+use Words.{drop, replicate, Option, Some, None, refl, ap, sym, ◌∙◌, arith, All, AllByRecursion, list_all}
 use Words.{All-head, All-tail, and_parts, and_from, clock_text, IsSoundRow, IsWholeEpoch, Count}
 use Words.{OBSERVATION_WIDTH, CLOCK_WIDTH, InputLine, ends_with_return, line_of, lines_of, HasNoFeed}
 use Words.{is_printable, is_kept, Row, Epoch, printed_row, printed_epoch, printed_cells, lines_text}
@@ -19,7 +19,7 @@ use Rattle.crx_compact.proofs.wayback.Writable.{sound-name_kept}
 use Rattle.crx_compact.proofs.wayback.Facts.{head-kept}
 use Rattle.crx_base.specs.declared.limits.TheConstants.{OBSERVATION_DECIMALS, CLOCK_DECIMALS}
 use Rattle.crx_text.proofs.ReadBack.{decimal_is_digits}
-use Rattle.crx_filter.proofs.wayback.WayBack.{IsSettled, whole-settled}
+use Rattle.crx_filter.proofs.wayback.WayBack.{whole-settled}
 use Rattle.crx_filter.proofs.wayback.Cut.{CanStand, return-kept, first-cut}
 use Rattle.crx_filter.proofs.wayback.Standard.{normal-comes_back}
 use Rattle.crx_filter.proofs.wayback.First.{append-printable, take-printable, printable-no_feed}

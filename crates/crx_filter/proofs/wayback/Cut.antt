@@ -2,9 +2,9 @@
 -- too long.
 use Rattle.crx_filter.proofs.Words
 use Words.{ℕ, ◌≡◌, ◌≢◌, ◌≤◌, true, false, cond, ◌⊎◌, inl, inr, List, [], ◌∷◌, map, length, refl, ap, sym, ◌∙◌}
-use Words.{subst, append_assoc, ⊤, ◌==◌, nat_lt, AllByRecursion, All-head, All-tail, All-cons, All-nil}
-use Words.{ltb-false, eqb_tells, Piece, InputLine, pieces_of, onto_first, ends_with_return, without_return}
-use Words.{line_of, lines_of, is_long, HasNoFeed, ReadLine, Content, Overlong, seen, LINE_LIMIT, lines_text}
+use Words.{subst, append_assoc, ⊤, ◌==◌, AllByRecursion, All-head, All-tail, All-cons, All-nil, ltb-false}
+use Words.{eqb_tells, Piece, InputLine, pieces_of, onto_first, ends_with_return, without_return, line_of}
+use Words.{lines_of, is_long, HasNoFeed, ReadLine, Content, Overlong, seen, LINE_LIMIT, lines_text}
 use Rattle.std.proofs.lemmas.Bool.{le-ltb}
 use Rattle.crx_lines.proofs.PieceLemmas.{pieces-first, NoFeed}
 use Rattle.crx_filter.proofs.Choosing.{by_bool}

@@ -1,10 +1,10 @@
 -- What was accepted of compact text: each epoch is whole, by the types in force where it was read.
-use Rattle.crx_filter.proofs.Words
-use Words.{ℕ, ◌≡◌, cond, List, [], ◌∷◌, None, refl, subst, ⊤, AllByRecursion, ReadLine, Count, Place, Here}
-use Words.{FileUnit, HeaderLine, EventLine, EventRecord, Observation, RawEpoch, ReadEpoch, epoch_at, IsGood}
-use Words.{Item, Accepted, Warned, is_at_start, records_count_types, types_in_force, types_fault}
-use Words.{header_line_fault, header_line, event_record, raws_kept, empties_state, as_observation}
-use Words.{compact_epoch_place, compact_place, ItemsAreRead}
+use Rattle.crx_filter.proofs.Words.{ℕ, ◌≡◌, cond, List, [], ◌∷◌, None, refl, ⊤, AllByRecursion, ReadLine}
+use Rattle.crx_filter.proofs.Words.{Count, Place, Here, FileUnit, HeaderLine, EventLine, EventRecord}
+use Rattle.crx_filter.proofs.Words.{Observation, RawEpoch, ReadEpoch, epoch_at, IsGood, Item, Accepted}
+use Rattle.crx_filter.proofs.Words.{Warned, is_at_start, records_count_types, types_in_force, types_fault}
+use Rattle.crx_filter.proofs.Words.{header_line_fault, header_line, event_record, raws_kept, empties_state}
+use Rattle.crx_filter.proofs.Words.{as_observation, compact_epoch_place, compact_place, ItemsAreRead}
 use Rattle.crx_compact.specs.ReadingLaws.{HasPrintableMarks}
 use Rattle.crx_compact.proofs.soundness.Goodness.{reads-whole}
 use Rattle.crx_filter.proofs.reading.Types.{counts-in_force}

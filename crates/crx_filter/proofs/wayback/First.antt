@@ -8,7 +8,6 @@ use Rattle.crx_filter.proofs.Words.{program_line, crinex_program, first_lines}
 use Rattle.std.specs.Prelude.{nat_le}
 use Rattle.std.proofs.lemmas.List.{length-take-le}
 use Rattle.crx_base.specs.declared.limits.TheConstants.{DATE_LIMIT}
-use Rattle.crx_header.specs.meaning.Label.{label_of}
 use Rattle.crx_header.specs.declared.crinex.TheConstants.{CRINEX_PROGRAM}
 use Rattle.crx_header.specs.meaning.CompactHeader.{left_justified}
 use Rattle.crx_filter.proofs.wayback.Cut.{IsClean}

@@ -6,8 +6,8 @@ use Words.{refl, ap, sym, ◌∙◌, arith, append-nil, ◌||◌, drop, is_some,
 use Words.{Epoch, Here, FileUnit, HeaderLine, EventLine, EventRecord, Observation, is_event_line, records_in}
 use Words.{Count, Marked, compact_epoch, epoch_line, RawEpoch, block_of, ReadEpoch, epoch_at, LinesCanStand}
 use Words.{Item, Accepted, records_left, types_in_force, types_fault, header_line_fault, is_interrupted}
-use Words.{is_at_every, is_in_full, marked_epochs, epochs_accepted, raws_kept, event_line, as_observation}
-use Words.{compact_epoch_place, compact_place, AreInPlace}
+use Words.{is_in_full, marked_epochs, raws_kept, event_line, as_observation, compact_epoch_place}
+use Words.{compact_place, AreInPlace}
 use Rattle.crx_compact.specs.meaning.Compaction.{since_full, run_of, satellite_line}
 use Rattle.crx_compact.specs.Laws.{AreWhole}
 use Rattle.crx_compact.specs.ReadingLaws.{raws_of, read_of, lines_of_epoch, EpochReadsBack}

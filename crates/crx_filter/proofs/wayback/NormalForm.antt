@@ -1,15 +1,14 @@
 -- What was accepted, printed and read again; the normal form of a file, and a file that is in order.
 use Rattle.crx_filter.proofs.Words
-use Words.{ℕ, ◌≡◌, ◌+◌, ◌*◌, ◌≤◌, true, false, cond, List, [], ◌∷◌, ◌++◌, map, length, Option, Some, None}
-use Words.{refl, ap, sym, ◌∙◌, arith, append-nil, All, AllByRecursion, list_all, is_some, length-map}
-use Words.{All-head, All-tail, and_parts, InputLine, lines_of, ReadLine, Content, seen, clock_text}
-use Words.{without_end_blanks, Fault, LINE_LIMIT, TYPES_LIMIT, Row, Epoch, Count, begins_epoch, is_event_line}
-use Words.{records_in, IsSoundRow, IsWholeEpoch, epoch_place, Here, printed_row, printed_epoch, printed_cells}
-use Words.{lines_text, FileUnit, HeaderLine, EventLine, EventRecord, Observation, printed_unit, Item}
-use Words.{Accepted, Warned, records_left, types_in_force, types_fault, header_line_fault, Reading}
-use Words.{WholeReading, Stop, AtLines, fault_at_end, ended_with, ended_reading, warnings_in, rinex_place}
-use Words.{whole_rinex, rinex_reading, printed_items, whole_of, normal_form, IsStandard, AreInPlace}
-use Words.{OfCopiedLines, HaveNoReturns, HasNormalForm}
+use Words.{ℕ, ◌≡◌, ◌+◌, ◌*◌, ◌≤◌, true, false, List, [], ◌∷◌, ◌++◌, map, length, Option, Some, None, refl, ap}
+use Words.{sym, ◌∙◌, arith, append-nil, All, AllByRecursion, is_some, length-map, All-head, All-tail}
+use Words.{and_parts, lines_of, ReadLine, Content, seen, clock_text, without_end_blanks, Fault, LINE_LIMIT}
+use Words.{TYPES_LIMIT, Row, Epoch, Count, begins_epoch, is_event_line, records_in, IsSoundRow, IsWholeEpoch}
+use Words.{epoch_place, Here, printed_row, printed_epoch, printed_cells, lines_text, FileUnit, HeaderLine}
+use Words.{EventLine, EventRecord, Observation, printed_unit, Item, Accepted, Warned, records_left}
+use Words.{types_in_force, WholeReading, Stop, AtLines, fault_at_end, ended_with, ended_reading, warnings_in}
+use Words.{rinex_place, whole_rinex, rinex_reading, printed_items, whole_of, normal_form, IsStandard}
+use Words.{AreInPlace, OfCopiedLines, HaveNoReturns, HasNormalForm}
 use Rattle.crx_header.specs.meaning.EpochColumns.{satellites_of}
 use Rattle.crx_rinex.proofs.ReadingBack.{epoch-back, length-row, length-head}
 use Rattle.crx_filter.proofs.reading.KeptThroughout.{within-kept}
@@ -20,10 +19,10 @@ use Rattle.crx_filter.proofs.wayback.Carried.{count-same, types-same, header-her
 use Rattle.crx_filter.proofs.wayback.Carried.{whole-again}
 use Rattle.crx_filter.proofs.wayback.WayBack.{IsSettled, whole-settled}
 use Rattle.crx_filter.proofs.wayback.Cut.{IsClean, CanStand, lines-cut}
-use Rattle.crx_filter.proofs.wayback.Converse.{IsPlainLine, plain, lines-plain, printed-plain, all-plain}
+use Rattle.crx_filter.proofs.wayback.Converse.{IsPlainLine, lines-plain, printed-plain, all-plain}
 use Rattle.crx_filter.proofs.wayback.Converse.{contents-plain}
 use Rattle.crx_text.proofs.EndBlanks.{few_kept}
-use Rattle.crx_filter.proofs.reading.Each.{all-append, contents}
+use Rattle.crx_filter.proofs.reading.Each.{all-append}
 
 -- ---- what is at a unit's printed lines
 

@@ -4,9 +4,9 @@ use Rattle.crx_filter.proofs.Words
 use Words.{ℕ, ◌+◌, Bool, cond, List, [], ◌∷◌, length, drop, Option, None, Result, Ok, Err, subst}
 use Words.{AllByRecursion, ReadLine, Content, Overlong, Fault, Epoch, Place, Here, Wrong, Wanted, after_lines}
 use Words.{then_place, one_line, first_line, FileUnit, HeaderLine, EventRecord, Observation, HeadLine}
-use Words.{EventHead, EpochHead, head_of, Count, opened, begun_by, rest_at, unit_begun, epoch_place, Item}
-use Words.{is_at_start, records_count_types, types_in_force, header_line_fault, types_fault, header_line}
-use Words.{event_record, reading_from, written_lines, rinex_place, OfCopiedLine, OfCopiedLines, unit_place}
+use Words.{EventHead, EpochHead, head_of, Count, begun_by, unit_begun, epoch_place, Item, is_at_start}
+use Words.{records_count_types, types_in_force, header_line_fault, types_fault, header_line, event_record}
+use Words.{reading_from, written_lines, rinex_place, OfCopiedLine, OfCopiedLines, unit_place}
 use Rattle.crx_filter.proofs.reading.WhatStands.{OfHere, of-unit, OfOk, one-line, unless-wrong}
 use Rattle.crx_filter.proofs.reading.KeptThroughout.{within-kept}
 use Rattle.crx_filter.proofs.wayback.Cut.{OfContent}

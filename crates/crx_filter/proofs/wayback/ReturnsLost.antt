@@ -7,9 +7,9 @@ use Words.{ends_with_return, without_return, lines_of, ReadLine, seen, is_printa
 use Words.{printed_epoch, lines_text, HeaderLine, EventLine, EventRecord, Observation, ReadEpoch}
 use Words.{compact_epoch, LinesCanStand, IsGood, Choices, is_date, Item, Accepted, Warned, types_in_force}
 use Words.{WholeReading, Stop, AtLines, is_skipped, reading_from, fault_at_end, ended_with, ended_reading}
-use Words.{FilterResult, marked_epochs, compact_lines, compacted, version_line, program_line, compact_place}
-use Words.{first_lines, whole_compact, expanded, expanded_unit, expanded_lines, whole_of, AreInPlace}
-use Words.{OfCopiedLines, HaveNoReturns}
+use Words.{FilterResult, marked_epochs, compact_lines, version_line, program_line, compact_place, first_lines}
+use Words.{whole_compact, expanded, expanded_unit, expanded_lines, whole_of, AreInPlace, OfCopiedLines}
+use Words.{HaveNoReturns}
 use Rattle.crx_filter.specs.WayBack.{IsStandardWhereSame}
 use Rattle.crx_filter.proofs.Choosing.{by_bool}
 use Rattle.crx_filter.proofs.reading.WhatWasRead.{items-read}

@@ -2,13 +2,13 @@
 use Rattle.crx_filter.proofs.Words
 use Words.{ℕ, ◌≡◌, ◌+◌, ◌≤◌, Bool, cond, List, [], ◌∷◌, length, take, drop, Option, Some, None, Result, Ok}
 use Words.{Err, refl, arith, subst, ⊤, ReadLine, Content, Overlong, Fault, Epoch, Count, HeadLine, EventHead}
-use Words.{EpochHead, head_of, opened, begun_by, rest_at, unit_begun, epoch_place, Place, Here, after_lines}
-use Words.{then_place, one_line, first_line, FileUnit, HeaderLine, EventLine, EventRecord, Observation}
-use Words.{RawEpoch, ReadEpoch, epoch_at, Item, Accepted, Warned, is_at_start, records_count_types}
-use Words.{types_in_force, unless_wrong, types_fault, header_line_fault, header_line, event_record}
-use Words.{unit_place, Reading, WholeReading, Stop, AtLines, is_skipped, reading_from, fault_at_end}
-use Words.{ended_with, ended_reading, rinex_place, whole_rinex, raws_kept, as_observation}
-use Words.{compact_epoch_place, compact_place, first_lines, whole_compact}
+use Words.{EpochHead, head_of, begun_by, unit_begun, epoch_place, Place, Here, after_lines, then_place}
+use Words.{one_line, first_line, FileUnit, HeaderLine, EventLine, EventRecord, Observation, RawEpoch}
+use Words.{ReadEpoch, epoch_at, Item, Accepted, Warned, is_at_start, records_count_types, types_in_force}
+use Words.{unless_wrong, types_fault, header_line_fault, header_line, event_record, unit_place, WholeReading}
+use Words.{Stop, AtLines, is_skipped, reading_from, fault_at_end, ended_with, ended_reading, rinex_place}
+use Words.{whole_rinex, raws_kept, as_observation, compact_epoch_place, compact_place, first_lines}
+use Words.{whole_compact}
 use Rattle.crx_filter.proofs.Choosing.{by_bool}
 use Rattle.crx_filter.proofs.reading.WhatStands.{of-unit, of-compact}
 use Rattle.crx_filter.proofs.reading.KeptThroughout.{within-kept}

@@ -3,11 +3,11 @@
 use Rattle.crx_filter.proofs.Words
 use Words.{ℕ, zero, suc, ◌≡◌, ◌≢◌, ◌+◌, Bool, true, false, cond, ◌⊎◌, inl, inr, List, [], ◌∷◌, map, length}
 use Words.{drop, Option, Some, None, refl, ap, sym, ◌∙◌, subst, ◌==◌, AllByRecursion, list_all, eqb_tells}
-use Words.{and_parts, Piece, InputLine, pieces_of, onto_first, ends_with_return, without_return, line_of}
-use Words.{lines_of, is_long, ReadLine, seen, Fault, At, Epoch, Place, FileUnit, Choices, Item, Accepted}
-use Words.{Reading, WholeReading, Stop, AtLines, is_skipped, after_fault, reading_within, fault_at_end}
-use Words.{ended_with, ended_reading, lines_text, rinex_place, whole_rinex, rinex_reading, printed_items}
-use Words.{whole_of, OfCopiedLines, HaveNoReturns, written_well, not-true}
+use Words.{and_parts, Piece, InputLine, pieces_of, onto_first, ends_with_return, line_of, lines_of, is_long}
+use Words.{ReadLine, seen, Fault, At, Epoch, Place, FileUnit, Choices, Item, Accepted, Reading, WholeReading}
+use Words.{Stop, AtLines, is_skipped, after_fault, reading_within, fault_at_end, ended_with, ended_reading}
+use Words.{lines_text, rinex_place, whole_rinex, rinex_reading, printed_items, OfCopiedLines, HaveNoReturns}
+use Words.{written_well, not-true}
 use Rattle.crx_lines.proofs.PieceLemmas.{EachEnded}
 use Rattle.crx_filter.proofs.Choosing.{by_bool}
 use Rattle.crx_filter.specs.WayBack.{NormalFormComesBack, StandardComesBack}
