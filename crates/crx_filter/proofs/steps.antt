@@ -4,7 +4,7 @@ pub mod EngineAnswers
 pub mod CompactionSteps
 pub mod RowSteps
 pub mod Together
-pub mod ExpanderSteps
+pub mod EngineFaults
 pub mod StepCounts
 pub mod CheckerSteps
 pub mod CheckerEnds

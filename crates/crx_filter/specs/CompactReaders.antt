@@ -9,6 +9,7 @@ use Rattle.crx_base.specs.meaning.Choices.{Choices}
 use Rattle.crx_filter.specs.ExpansionByLine.{expansion, is_good_beginning, is_last_row}
 use Rattle.crx_header.specs.meaning.ObservationTypes.{Count}
 use Rattle.crx_filter.specs.LineByLine.{Phase, Seen, Made, Fails, Answer, Quiet, Ready, made_in, step_of_made}
+use Rattle.crx_filter.specs.DirectionParts.{answer_for}
 use Rattle.crx_filter.specs.Memory.{may_take_memory}
 use Rattle.crx_filter.specs.Stages.{seen_stage}
 use Rattle.crx_filter.specs.CompactStages.{open_in}
@@ -36,10 +37,6 @@ compact_reader_phase r = seen_stage (open_in r.columns.state) r.stage
 -- what a line makes
 abbrev pub made_next : CompactReader → List ℕ → Made HeldEpoch OpenRawEpoch
 made_next r line = made_in expansion (compact_reader_phase r) r.types (tail_held r.columns.state) (Content line)
-
-abbrev pub answer_for : Bool → Answer
-answer_for false = Quiet
-answer_for true = Ready
 
 abbrev pub counted : Seen OpenRawEpoch (Option Tail) → Seen OpenRawEpoch (Option Tail)
 counted seen = record seen { number = seen.number + 1 }

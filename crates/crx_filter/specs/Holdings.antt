@@ -1,13 +1,14 @@
 -- All that engines and their parts hold between two lines of an input, part by part. By the laws `readers_hold` and `engines_hold` one that
 -- takes over these parts of another is that other; so there is no part beside them, in which a record of the past lines could grow.
 use Rattle.crx_base.specs.declared.options.Options.TheInside.{Inside as OptionsInside}
-use Rattle.crx_filter.specs.declared.line_number.LineNumber.TheInside.{Inside as LineNumberInside}
 use Rattle.crx_compact.specs.Holdings.{rows_with}
 use Rattle.crx_filter.specs.declared.rinex_reader.RinexReader.{RinexReader}
 use Rattle.crx_filter.specs.declared.compaction.Compaction.TheInside.{Inside as CompactionInside}
 use Rattle.crx_filter.specs.declared.compact_reader.CompactReader.{CompactReader}
 use Rattle.crx_filter.specs.declared.compactor.Compactor.{Compactor}
-use Rattle.crx_filter.specs.declared.expander.Expander.{Expander}
+use Rattle.crx_filter.specs.declared.engine.Engine.TheInside.{Inside as EngineInside}
+use Rattle.crx_filter.specs.declared.expansion.Expansion.{Expansion}
+use Rattle.crx_filter.specs.DirectionParts.{EngineParts}
 use Rattle.crx_filter.specs.declared.checker.Checker.{Checker}
 
 -- options, with the parts of another
@@ -17,12 +18,6 @@ options_with one other = record one {
   skip = other.skip;
   date = other.date;
   date_len = other.date_len;
-}
-
--- the number of a line, with the parts of another
-abbrev pub line_number_with : LineNumberInside → LineNumberInside → LineNumberInside
-line_number_with one other = record one {
-  value = other.value;
 }
 
 -- a reader of RINEX, with the parts of another
@@ -63,13 +58,28 @@ compact_reader_with one other = record one {
   consistent = other.consistent;
 }
 
+-- an expansion, with the parts of another
+abbrev pub expansion_with : Expansion → Expansion → Expansion
+expansion_with one other = record one {
+  reader = compact_reader_with one.reader other.reader;
+  lines = other.lines;
+}
+
+-- what an engine has, by what its direction has, with the parts of another
+abbrev pub engine_inside_with : {D : Type 0} → (D → D → D) → EngineInside D → EngineInside D → EngineInside D
+engine_inside_with direction_with one other = record one {
+  options = other.options;
+  number = other.number;
+  direction = direction_with one.direction other.direction;
+  answer = other.answer;
+}
+
 -- an expander, with the parts of another
-abbrev pub expander_with : Expander → Expander → Expander
+abbrev pub expander_with : EngineParts Expansion → EngineParts Expansion → EngineParts Expansion
 expander_with one other = record one {
   options = other.options;
   number = other.number;
-  reader = compact_reader_with one.reader other.reader;
-  lines = other.lines;
+  direction = expansion_with one.direction other.direction;
   answer = other.answer;
 }
 

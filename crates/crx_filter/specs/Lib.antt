@@ -22,6 +22,10 @@ pub mod CheckingLaws
 pub mod Anew
 pub mod CompactReaders
 pub mod ExpanderState
+pub mod ExpansionParts
 pub mod EngineLines
+pub mod DirectionParts
+pub mod EngineLaws
+pub mod EngineState
 pub mod CheckerState
 pub mod Holdings

@@ -1,5 +1,5 @@
 -- The stage between two lines, as code stores it and as definitions see it.
-use Rattle.std.specs.Prelude.{Bool, true, false, Option, Some, None}
+use Rattle.std.specs.Prelude.{⊤, Bool, true, false, Option, Some, None}
 use Rattle.crx_filter.specs.LineByLine.{Phase as SeenPhase, InFirstLines, InHeader, BetweenUnits, InEvent, InEpoch}
 use Rattle.crx_filter.specs.LineByLine.{LookingOn, Closed as SeenClosed, Ended as SeenEnded}
 use Rattle.crx_filter.specs.declared.stage.Stage.{Stage}
@@ -21,6 +21,10 @@ seen_stage held Open = phase_of_open held
 seen_stage held Looking = LookingOn
 seen_stage held Closed = SeenClosed
 seen_stage held (Ended at) = SeenEnded at
+
+-- a stage without what is known of its open epoch
+abbrev pub bare_phase : Stage → SeenPhase ⊤
+bare_phase stage = seen_stage (Some tt) stage
 
 -- in the stage of an open epoch there is one
 abbrev pub is_held : {O : Type 0} → Stage → Option O → Bool

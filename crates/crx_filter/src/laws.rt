@@ -1,21 +1,20 @@
 //! Laws over the definitions of this crate: each is the contract of a function that does nothing.
 
 ghost use Rattle.std.specs.Prelude.{◌≡◌};
-ghost use Rattle.crx_filter.specs.Holdings.{options_with, line_number_with, rinex_reader_with, compaction_with, compactor_with, compact_reader_with, expander_with, checker_with};
+ghost use Rattle.crx_filter.specs.Holdings.{options_with, rinex_reader_with, compaction_with, compactor_with, compact_reader_with, engine_inside_with, expansion_with, checker_with};
 ghost use Rattle.crx_base.specs.declared.options.Options.TheInside.{Inside as OptionsInside};
-ghost use Rattle.crx_filter.specs.declared.line_number.LineNumber.TheInside.{Inside as LineNumberInside};
 ghost use Rattle.crx_filter.specs.declared.rinex_reader.RinexReader.{RinexReader};
 ghost use Rattle.crx_filter.specs.declared.compaction.Compaction.TheInside.{Inside as CompactionInside};
 ghost use Rattle.crx_filter.specs.declared.compact_reader.CompactReader.{CompactReader};
 ghost use Rattle.crx_filter.specs.declared.compactor.Compactor.{Compactor};
-ghost use Rattle.crx_filter.specs.declared.expander.Expander.{Expander};
+ghost use Rattle.crx_filter.specs.declared.engine.Engine.TheInside.{Inside as EngineInside};
+ghost use Rattle.crx_filter.specs.declared.expansion.Expansion.{Expansion};
 ghost use Rattle.crx_filter.specs.declared.checker.Checker.{Checker};
 
 /// What the parts of engines hold, each in full: one that takes over these parts of another is that other. So there is no part beside them,
 /// in which a record of the past lines could grow.
 pub fn readers_hold()
     ensures options { (one other : OptionsInside) → options_with one other ≡ other }
-    ensures number { (one other : LineNumberInside) → line_number_with one other ≡ other }
     ensures reader { (one other : RinexReader) → rinex_reader_with one other ≡ other }
 {}
 
@@ -25,6 +24,7 @@ pub fn engines_hold()
     ensures compaction { (one other : CompactionInside) → compaction_with one other ≡ other }
     ensures compactor { (one other : Compactor) → compactor_with one other ≡ other }
     ensures compact_reader { (one other : CompactReader) → compact_reader_with one other ≡ other }
-    ensures expander { (one other : Expander) → expander_with one other ≡ other }
+    ensures expansion { (one other : Expansion) → expansion_with one other ≡ other }
+    ensures engine { (one other : EngineInside Expansion) → engine_inside_with expansion_with one other ≡ other }
     ensures checker { (one other : Checker) → checker_with one other ≡ other }
 {}

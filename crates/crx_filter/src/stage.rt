@@ -1,17 +1,17 @@
 //! Where a run is between two lines, in either direction.
 
-ghost use Rattle.std.specs.Prelude.{ℕ, ◌≡◌, List, Option, Bool, true, false, if◌then◌else◌};
+ghost use Rattle.std.specs.Prelude.{ℕ, ◌≡◌, List, Option, Some, Bool, true, false, if◌then◌else◌};
 ghost use Rattle.crx_rinex.specs.meaning.EpochPlaces.{OpenEpoch};
 ghost use Rattle.crx_compact.specs.OpenEpochs.{OpenRawEpoch};
-ghost use Rattle.crx_filter.specs.LineByLine.{is_in_epoch, may_skip, with_records_left, InHeader, BetweenUnits};
+ghost use Rattle.crx_filter.specs.LineByLine.{fault_at_end_in, is_in_epoch, may_skip, with_records_left, InHeader, BetweenUnits};
 ghost use Rattle.crx_filter.specs.meaning.Items.{counts_types};
-ghost use Rattle.crx_filter.specs.Stages.{seen_stage, is_held, is_settled};
+ghost use Rattle.crx_filter.specs.Stages.{bare_phase, is_held, seen_stage};
 ghost use Rattle.crx_filter.specs.RinexStages.{is_open_stage, is_rinex_stage};
 ghost use Rattle.crx_header.specs.meaning.Header.{is_end_of_header};
 ghost use Rattle.crx_rinex.specs.meaning.Observations.{Row};
 ghost use Rattle.crx_rinex.specs.meaning.EpochLines.{ObservationHead};
 
-use crx_base::At;
+use crx_base::{At, Fault};
 use crx_header::is_end;
 
 /// Where a run is between two lines.
@@ -58,19 +58,28 @@ impl Stage {
         matches!(self, Stage::Open)
     }
 
-    /// Whether the stage is one after a fault or after the end of the input.
-    pub fn is_settled(&self) -> bool
-        ensures value { result ≡ is_settled self.now }
-    {
-        matches!(self, Stage::Looking | Stage::Closed | Stage::Ended(_))
-    }
-
     /// Whether faults may be skipped: outside the header and the records of events.
     pub fn may_skip(&self) -> bool
         ensures rinex { (held : Option OpenEpoch) → result ≡ may_skip (seen_stage held self.now) }
         ensures compact { (held : Option OpenRawEpoch) → result ≡ may_skip (seen_stage held self.now) }
+        ensures value { result ≡ may_skip (bare_phase self.now) }
     {
         matches!(self, Stage::Between | Stage::Open | Stage::Looking)
+    }
+
+    /// What the end of the input means: a fault before the header has ended, among an event's records and in an epoch.
+    pub fn fault_at_end(&self) -> Option<Fault>
+        ensures value { result ≡ fault_at_end_in (bare_phase self.now) }
+        ensures open { is_open_stage self.now ≡ true → result ≡ Some Fault.Truncated }
+    {
+        match self {
+            Stage::FirstLines { count: 0 } => Some(Fault::NotCompact),
+            Stage::FirstLines { .. } => Some(Fault::BadProgLine),
+            Stage::Header { is_first: true } => Some(Fault::MissingVersion),
+            Stage::Header { is_first: false } => Some(Fault::NoEndOfHeader),
+            Stage::Event { .. } | Stage::Open => Some(Fault::Truncated),
+            Stage::Between | Stage::Looking | Stage::Closed | Stage::Ended(_) => None,
+        }
     }
 }
 

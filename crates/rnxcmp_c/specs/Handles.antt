@@ -17,7 +17,7 @@ use Rattle.crx_filter.specs.CompactorState.{compactor_ready, compactor_seen}
 use Rattle.crx_filter.specs.meaning.Directions.{compaction_filter, expansion_filter}
 use Rattle.crx_filter.specs.EngineLines.{HasTaken}
 use Rattle.crx_runs.specs.Engines.{Awaited}
-use Rattle.crx_filter.specs.ExpanderState.{expander_state}
+use Rattle.crx_filter.specs.ExpanderState.{expander_ready, expander_state}
 use Rattle.crx_filter.specs.ExpansionByLine.{expansion, expansion_seen}
 use Rattle.crx_runs.specs.declared.outcome.Outcome.{Outcome}
 use Rattle.crx_runs.specs.meaning.Runs.{FaultIs}
@@ -56,7 +56,7 @@ shows_of (Checking c) lines notices = CheckerHasTaken c lines notices
 
 abbrev pub ready_of : AnyEngine → List (List ℕ)
 ready_of (Compacting c) = compactor_ready c
-ready_of (Expanding e) = e.lines
+ready_of (Expanding e) = expander_ready e
 ready_of (Checking c) = pending_report c
 
 abbrev pub is_open_of : AnyEngine → Type 0

@@ -1,20 +1,21 @@
 -- Both directions go line by line, in the words of their filters.
-use Rattle.crx_filter.proofs.Words
-use Words.{ℕ, ◌≡◌, List, [], ◌∷◌, ◌++◌, map, ap, ◌∙◌, reverse, length-map, map-append, reverse-append}
-use Words.{flat_map-append, InputLine, ReadLine, seen, At, Choices, compaction, compaction_seen}
-use Words.{rinex_reading, expansion, expansion_seen, compact_reading, compaction_filter, expansion_filter}
-use Words.{lines_text, noticed_by, fault_of_stop, warnings_in, seen_end, true, length, Option, Some, refl}
-use Words.{FileUnit, Item, Reading, WholeReading, written_lines, whole_course, memory_allowed}
-use Words.{compaction_takes, compact_unit, rinex_place, whole_rinex, expanded_unit, whole_compact}
-use Words.{compact_memory, course_so_far, Direction, Seen, Notice, seen_next, takes_memory, IsFollowed}
-use Words.{IsEndedBy, IsReadyWhereHandedOut, fed}
+use Rattle.crx_filter.proofs.Words.{ℕ, ◌≡◌, List, [], ◌∷◌, ◌++◌, map, ap, ◌∙◌, reverse, length-map}
+use Rattle.crx_filter.proofs.Words.{map-append, reverse-append, flat_map-append, InputLine, ReadLine, seen}
+use Rattle.crx_filter.proofs.Words.{At, Choices, compaction, compaction_seen, rinex_reading, expansion}
+use Rattle.crx_filter.proofs.Words.{expansion_seen, compact_reading, compaction_filter, expansion_filter}
+use Rattle.crx_filter.proofs.Words.{lines_text, noticed_by, fault_of_stop, warnings_in, seen_end, true}
+use Rattle.crx_filter.proofs.Words.{length, Option, Some, refl, FileUnit, Item, Reading, WholeReading}
+use Rattle.crx_filter.proofs.Words.{written_lines, whole_course, memory_allowed, compaction_takes}
+use Rattle.crx_filter.proofs.Words.{compact_unit, rinex_place, whole_rinex, expanded_unit, whole_compact}
+use Rattle.crx_filter.proofs.Words.{compact_memory, course_so_far, Direction, Seen, Notice, seen_next}
+use Rattle.crx_filter.proofs.Words.{takes_memory, Overlong, LineTooLong, Fails, Count, IsFollowed, IsEndedBy, IsReadyWhereHandedOut, fed}
 use Rattle.crx_filter.proofs.following.CompactedOn.{compacted-on}
 use Rattle.crx_filter.proofs.following.ExpandedOn.{expanded-on}
 use Rattle.crx_filter.proofs.following.MemoryOfCompactText.{expansion-allowed, expansion-allowed-again}
 use Rattle.crx_filter.proofs.following.MemoryOfRinex.{compaction-allowed, compaction-allowed-again}
 use Rattle.crx_filter.proofs.reading.Ended.{compaction-ended, expansion-ended}
 use Rattle.crx_filter.proofs.output.Readiness.{compaction-ready, expansion-ready}
-use Rattle.crx_filter.proofs.steps.EngineAnswers.{GoesLineByLine}
+use Rattle.crx_filter.specs.EngineLaws.{GoesLineByLine}
 
 text-then : (before after more : List (List ℕ))
     → after ≡ before ++ more → lines_text after ≡ lines_text before ++ lines_text more
@@ -44,12 +45,14 @@ goes-by : {E U O K : Type 0} (direction : Direction U O K) (seen_after : List Re
     ≡ seen_next direction (seen_after lines) line
     → takes_memory direction next line ≡ true → memory lines line ≡ Some (notice ∷ []))
     → IsReadyWhereHandedOut direction
+    → ((types : List Count) (kept : K) → direction.begins types kept Overlong ≡ Fails LineTooLong)
+    → ((so_far : O) → direction.continues so_far Overlong ≡ Fails LineTooLong)
     → GoesLineByLine direction seen_after (record {
       so_far = λ lines. course_so_far unit_lines (reading (map seen lines));
       whole = λ lines. whole_course unit_lines (whole (map seen lines));
       memory_after = λ lines line. memory (map seen lines) (seen line);
     })
-goes-by direction seen_after unit_lines reading whole memory on ends number first again ready = record {
+goes-by direction seen_after unit_lines reading whole memory on ends number first again ready long_first long_next = record {
   follows = λ (lines : List InputLine) (line : InputLine).
       let h = on (map seen lines) (seen line) in
       let all = map-append seen lines (line ∷ []) in
@@ -74,6 +77,8 @@ goes-by direction seen_after unit_lines reading whole memory on ends number firs
   memory_first = λ (lines : List InputLine) (line : InputLine). first (map seen lines) (seen line);
   memory_again = λ (lines : List InputLine) (line : InputLine). again (map seen lines) (seen line);
   ready = ready;
+  too_long_first = long_first;
+  too_long_next = long_next;
 }
 
 pub compaction-goes : (choices : Choices)
@@ -83,6 +88,7 @@ compaction-goes choices = goes-by compaction (compaction_seen choices) (compact_
     (λ lines line. memory_allowed rinex_place compaction_takes
     choices.skip (rinex_reading choices.skip lines) line) (compacted-on choices) (compaction-ended choices)
     (λ lines. refl) (compaction-allowed choices) (compaction-allowed-again choices) compaction-ready
+    (λ types kept. refl) (λ so_far. refl)
 
 pub expansion-goes : (choices : Choices) → GoesLineByLine expansion (expansion_seen choices)
     (expansion_filter choices)
@@ -90,4 +96,4 @@ expansion-goes choices = goes-by expansion (expansion_seen choices) expanded_uni
     (compact_reading choices.skip) (whole_compact choices.skip) (compact_memory choices.skip)
     (expanded-on choices)
     (expansion-ended choices) (λ lines. refl) (expansion-allowed choices) (expansion-allowed-again choices)
-    expansion-ready
+    expansion-ready (λ types kept. refl) (λ so_far. refl)

@@ -14,47 +14,11 @@ use Rattle.crx_runs.specs.Engines.{Awaited, IsAwaited, awaited_notices, GoesOn, 
 use Rattle.crx_runs.specs.Engines.{Concludes}
 use Rattle.crx_filter.specs.EngineLines.{HasTaken}
 use Rattle.crx_filter.specs.Laws.{is_ready, has_lines}
+use Rattle.crx_filter.specs.EngineLaws.{FollowsBy, EndsBy, GoesLineByLine}
 use Rattle.crx_runs.specs.declared.engine.Step.{Step}
 use Rattle.crx_runs.specs.declared.engine.Step.TheVariants.{Warned}
 use Rattle.crx_filter.proofs.Choosing.{by_bool}
 use Rattle.crx_filter.proofs.following.Following.{fed-once as feeds-once, fed-twice as feeds-twice}
-
--- ---- what a direction has to keep to, in the words of a filter
-
--- one line more, as it is fed, is what the filter makes of it
-pub record FollowsBy (filter : Filter) {O K : Type 0}
-    (lines : List InputLine) (line : InputLine) (seen_then : Seen O K) (line_fed : Fed O K) : Type 0 where
-  pub next : seen_then ≡ line_fed.next
-  pub output : (filter.so_far (with_next lines line)).output ≡ (filter.so_far lines).output
-      ++ lines_text line_fed.handed_out
-  pub warnings : (filter.so_far (with_next lines line)).warnings
-      ≡ (filter.so_far lines).warnings ++ reverse line_fed.warned
-  pub fault : (filter.so_far (with_next lines line)).fault ≡ line_fed.failed
-
--- the end of the input is what the filter makes of it
-pub record EndsBy (filter : Filter) {O K : Type 0} (lines : List InputLine)
-    (end : SeenStep O K) : Type 0 where
-  pub handed_out : end.handed_out ≡ []
-  pub output : (filter.whole lines).output ≡ (filter.so_far lines).output
-  pub warnings : (filter.whole lines).warnings ≡ (filter.so_far lines).warnings ++ reverse
-      (noticed_by end.answer)
-  pub fault : (filter.whole lines).fault ≡ failed_by end.answer
-
-pub record GoesLineByLine {U O K : Type 0} (direction : Direction U O K) (seen_after : List ReadLine
-    → Seen O K) (filter : Filter) : Type 0 where
-  pub follows : (lines : List InputLine) (line : InputLine) → FollowsBy filter lines line
-      (seen_after (map seen (with_next lines line))) (fed direction (seen_after (map seen lines)) (seen line))
-  pub ends : (lines : List InputLine) → EndsBy filter lines (seen_end direction (seen_after (map seen lines)))
-  pub number : (lines : List InputLine) → (seen_after (map seen lines)).number ≡ length lines
-  -- memory may run out at a line at once, or after the warning of one that comes again
-  pub memory_first : (lines : List InputLine) (line : InputLine)
-      → takes_memory direction (seen_after (map seen lines)) (seen line) ≡ true
-      → filter.memory_after lines line ≡ Some []
-  pub memory_again : (lines : List InputLine) (line : InputLine) (next : Seen O K) (notice : At)
-      → record { answer = Notice notice true; handed_out = []; next = next }
-      ≡ seen_next direction (seen_after (map seen lines)) (seen line)
-      → takes_memory direction next (seen line) ≡ true → filter.memory_after lines line ≡ Some (notice ∷ [])
-  pub ready : IsReadyWhereHandedOut direction
 
 -- ---- a line that comes again
 

@@ -34,7 +34,7 @@ same-step one two lines handed_out seen after a b d = rw (a, b, d) refl
 pub out-fatal : (fault : Fault) → fault ≡ OutOfMemory → is_skippable fault ≡ false
 out-fatal fault is = ap is_skippable is
 
-no-skip : (a b c : Bool) → c ≡ false → (a && (b && c)) ≡ false
+pub no-skip : (a b c : Bool) → c ≡ false → (a && (b && c)) ≡ false
 no-skip true true c e = e
 no-skip true false c e = refl
 no-skip false b c e = refl

@@ -1,12 +1,14 @@
 -- How many lines have been taken after a step, and where lines are borrowed.
 use Rattle.crx_filter.proofs.Words.{◌≡◌, inl, inr, ℕ, ◌+◌, Bool, true, false, ◌&&◌, List, [], Result, Ok, Err}
+use Rattle.crx_filter.proofs.Words.{ap, ◌∙◌, ◌∷◌, length, length-append, InputLine}
 use Rattle.crx_filter.proofs.Words.{refl, sym, subst, if◌then◌else◌, ⊤, ReadLine, At, can_go_on, Direction}
 use Rattle.crx_filter.proofs.Words.{Seen, Made, Completes, Moves, Fails, Repeats, Ended, Answer, Notice}
 use Rattle.crx_filter.proofs.Words.{Failed, SeenStep, is_in_epoch, is_skipped_in, after_warning, with_phase}
 use Rattle.crx_filter.proofs.Words.{made_in, step_of_made, Steps, answer_of_step, step_made, Quiet, Ready}
 use Rattle.std.proofs.Common.{IfOk}
 use Rattle.crx_filter.specs.LineByLine.{Quiet as SeenQuiet, Ready as SeenReady}
-use Rattle.crx_runs.specs.Engines.{taken_after, IsDrainedAfter}
+use Rattle.crx_runs.specs.meaning.Filters.{Filter}
+use Rattle.crx_runs.specs.Engines.{Awaited, EngineAnswers, taken_after, IsDrainedAfter}
 use Rattle.crx_runs.specs.declared.engine.Step.{Step}
 use Rattle.crx_runs.specs.declared.engine.Step.TheVariants.{Warned}
 
@@ -85,3 +87,20 @@ none-drained ready (Ok Quiet) none = none
 none-drained ready (Ok Ready) none = tt
 none-drained ready (Ok (Warned notice again)) none = none
 none-drained ready (Err at) none = tt
+
+-- an answer to a line shows how many lines were taken, where as many were counted before it
+pub answers-counted : (filter : Filter) (shows : List InputLine → List Awaited → Type 0) (before after : ℕ)
+    (ready : List (List ℕ)) (lines : List InputLine) (notices : List Awaited) (line : InputLine)
+    (result : Result Step At) → before ≡ length lines
+    → IfOk result (λ step. after ≡ taken_after step before)
+    → EngineAnswers filter shows ready lines notices line result
+    → EngineAnswers filter (λ ls ns. shows ls ns × (after ≡ length ls)) ready lines notices line result
+answers-counted filter shows before after ready lines notices line (Ok Quiet) was counts answers =
+    ((answers.0, counts ∙ ap (λ (n : ℕ). n + 1) was ∙ sym (length-append lines (line ∷ []))), answers.1)
+answers-counted filter shows before after ready lines notices line (Ok Ready) was counts answers =
+    ((answers.0, counts ∙ ap (λ (n : ℕ). n + 1) was ∙ sym (length-append lines (line ∷ []))), answers.1)
+answers-counted filter shows before after ready lines notices line (Ok (Warned at true)) was counts answers =
+    ((answers.0, counts ∙ was), answers.1, answers.2)
+answers-counted filter shows before after ready lines notices line (Ok (Warned at false)) was counts answers =
+    ((answers.0, counts ∙ ap (λ (n : ℕ). n + 1) was ∙ sym (length-append lines (line ∷ []))), answers.1)
+answers-counted filter shows before after ready lines notices line (Err at) was counts answers = answers

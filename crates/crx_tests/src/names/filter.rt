@@ -3,6 +3,7 @@
 ghost use Rattle.std.specs.Prelude.{◌≡◌, ◌≤◌, ◌+◌, []};
 ghost use Rattle.crx_base.specs.declared.limits.TheConstants.{INPUT_LIMIT};
 ghost use Rattle.crx_filter.specs.CompactorState.{compactor_ready, compactor_seen};
+ghost use Rattle.crx_filter.specs.ExpanderState.{expander_ready, expander_state};
 ghost use Rattle.crx_lines.specs.Reading.{line_number};
 
 use crx_filter::{BadDate, Compactor, Expander, Options, Outcome, Step, check, compact, expand};
@@ -68,23 +69,23 @@ fn expander(alloc: Global, options: Options) -> Result<Expander, AllocError> {
 }
 
 fn expander_fed(expander: &mut Expander, line: Line<'_>) -> Result<Step, At>
-    requires drained { expander.old.lines ≡ [] }
-    requires next { line_number line ≡ expander.old.number + 1 }
+    requires drained { expander_ready expander.old ≡ [] }
+    requires next { line_number line ≡ (expander_state expander.old).number + 1 }
     requires within { line_number line ≤ INPUT_LIMIT }
 {
     expander.feed(line)
 }
 
 fn expander_passed(expander: &mut Expander, number: u64) -> Result<Step, At>
-    requires drained { expander.old.lines ≡ [] }
-    requires next { number ≡ expander.old.number + 1 }
+    requires drained { expander_ready expander.old ≡ [] }
+    requires next { number ≡ (expander_state expander.old).number + 1 }
     requires within { number ≤ INPUT_LIMIT }
 {
     expander.overlong(number)
 }
 
 fn expander_ended(expander: &mut Expander) -> Result<Step, At>
-    requires { expander.old.lines ≡ [] }
+    requires { expander_ready expander.old ≡ [] }
 {
     expander.end()
 }

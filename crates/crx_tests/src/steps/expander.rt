@@ -1,7 +1,7 @@
 //! The engine that expands.
 
 ghost use Rattle.std.specs.Prelude.{◌≡◌, ◌+◌, [], length};
-ghost use Rattle.crx_filter.specs.ExpanderState.{expander_state};
+ghost use Rattle.crx_filter.specs.ExpanderState.{expander_ready, expander_state};
 
 use super::*;
 use crate::owned::Owned;
@@ -37,9 +37,9 @@ fn feed_one(
     step: Step,
     ready: usize,
 ) -> u64
-    requires drained { engine.old.lines ≡ [] }
+    requires drained { expander_ready engine.old ≡ [] }
     requires counted { (expander_state engine.old).number ≡ taken }
-    ensures drained { engine.new.lines ≡ [] }
+    ensures drained { expander_ready engine.new ≡ [] }
     ensures counted { (expander_state engine.new).number ≡ result }
 {
     let place = line.number() as usize;
@@ -61,7 +61,7 @@ fn feed_one(
 
 /// Feeds a line that ends the run: no line is ready then, and the fault is answered again.
 fn feed_last(rt: &impl Abort, engine: &mut Expander, line: Line<'_>, taken: u64, name: &str, at: At)
-    requires drained { engine.old.lines ≡ [] }
+    requires drained { expander_ready engine.old ≡ [] }
     requires counted { (expander_state engine.old).number ≡ taken }
 {
     let place = line.number() as usize;
@@ -85,7 +85,7 @@ fn feed_all(
     reader: &mut Std<&[u8]>,
     run: &Run,
 )
-    requires drained { engine.old.lines ≡ [] }
+    requires drained { expander_ready engine.old ≡ [] }
     requires counted { (expander_state engine.old).number ≡ 0 }
 {
     let mut taken: u64 = 0;

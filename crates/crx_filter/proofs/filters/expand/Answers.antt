@@ -7,7 +7,8 @@ use Rattle.crx_filter.specs.meaning.UnitsAndText.{ReadsUnits}
 use Rattle.crx_filter.proofs.standard.Lossless.{brings-back_passed}
 use Rattle.crx_filter.proofs.wayback.ExpandedStandard.{wrote-standard}
 use Rattle.crx_filter.proofs.wayback.Units.{reads-units}
-use Rattle.crx_filter.specs.declared.expander.Expander.{Expander}
+use Rattle.crx_filter.specs.declared.expansion.Expansion.{Expansion}
+use Rattle.crx_filter.specs.DirectionParts.{EngineParts}
 use Rattle.crx_filter.specs.LineByLine.{Seen}
 use Rattle.crx_filter.specs.meaning.Expanded.{expanded}
 use Rattle.crx_filter.specs.ExpanderState.{expander_state}
@@ -33,11 +34,11 @@ returns g c =
     let messages : Device = span g.M.Sink m0 c.start.new.messages in
     let status = c.start.result.status in
     let fault = c.start.result.fault in
-    let same : (e : Expander) → expander_state e ≡ expansion_seen choices []
+    let same : (e : EngineParts Expansion) → expander_state e ≡ expansion_seen choices []
     → e.options ≡ choices = λ e is. ap (λ (s : Seen OpenRawEpoch (Option Tail)). s.choices) is in
     let ran = c.start.ensures.runs (expansion_filter choices) (expansion-lawful choices)
-    (IfOk-weaker c.new.result (λ (e : Expander). expander_state e ≡ expansion_seen choices [])
-    (λ (e : Expander). expansion_filter e.options ≡ expansion_filter choices)
+    (IfOk-weaker c.new.result (λ (e : EngineParts Expansion). expander_state e ≡ expansion_seen choices [])
+    (λ (e : EngineParts Expansion). expansion_filter e.options ≡ expansion_filter choices)
     (λ e is. ap expansion_filter (same e is)) c.new.ensures.seen) in
     let expansion = λ (bytes : List ℕ). expanded bytes choices in
     let passed = BringsBackWhatPasses writer messages status fault in

@@ -2,7 +2,7 @@ use Rattle.std.proofs.Common.{◌≡◌, ℕ, Ok, sym, subst}
 use Rattle.crx_lines.specs.Reading.{line_shown}
 use Rattle.crx_base.specs.meaning.Seen.{Content}
 use Rattle.crx_filter.specs.ExpansionByLine.{expansion}
-use Rattle.crx_filter.specs.ExpanderState.{expander_state}
+use Rattle.crx_filter.specs.ExpanderState.{expander_ready, expander_state}
 use Rattle.crx_runs.specs.Engines.{taken_after}
 use Rattle.crx_filter.specs.LineByLine.{Seen}
 use Rattle.crx_filter.proofs.steps.StepCounts.{steps-counted}
@@ -19,7 +19,7 @@ returns-in-Ok-clause-counted g c =
     let fed = c.feed.new.self in
     let answer = c.in-Ok.answer in
     let counted = steps-counted expansion (expander_state self)
-    (expander_state fed) (Content (line_shown c.args.line).content) fed.lines
+    (expander_state fed) (Content (line_shown c.args.line).content) (expander_ready fed)
     (Ok answer) c.in-Ok.ensures.steps in
     let by-number = subst (λ (n : ℕ). (expander_state fed).number ≡ taken_after answer n) c.requires.counted
     counted in

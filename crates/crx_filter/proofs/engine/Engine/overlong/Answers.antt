@@ -1,0 +1,20 @@
+use Rattle.std.proofs.Common.{inl, ap, ◌∙◌, List, ℕ}
+use Rattle.crx_base.specs.meaning.Seen.{Overlong}
+use Rattle.crx_filter.specs.EngineState.{engine_seen}
+use Rattle.crx_filter.specs.EngineSteps.{step_made}
+use Rattle.crx_filter.proofs.steps.EngineAnswers.{answers-seen, seen-long}
+use Rattle.crx_filter.proofs.steps.EngineLemmas.{repeats}
+use Rattle.crx_filter.proofs.engine.Engine.overlong.Goals as goal
+
+pub returns-clause-steps : goal.returns-clause-steps
+returns-clause-steps g c = ap (λ (ls : List (List ℕ)). step_made c.pass.result ls
+    (engine_seen g.D.Direction c.pass.new.self)) c.pass.ensures.stops.drained ∙ c.pass.ensures.steps
+
+pub returns-clause-answers : goal.returns-clause-answers
+returns-clause-answers g c = λ lines notices line taken awaited long.
+    answers-seen c.pass.ensures.lawful _ _ _ lines notices line Overlong _ _ (λ ls ns shown. shown.0)
+    c.pass.ensures.stops.choices (seen-long line long) taken awaited (inl (returns-clause-steps g c))
+
+pub returns-clause-repeated : goal.returns-clause-repeated
+returns-clause-repeated g c = λ at is.
+    repeats g.D.Direction.by_line _ _ Overlong _ _ at (inl (returns-clause-steps g c)) is

@@ -1,0 +1,184 @@
+-- What an engine of a direction answers to a line with a fault, to one that is too long, and at the end of the input.
+use Rattle.crx_filter.proofs.Words.{◌≡◌, inl, inr, ℕ, ◌+◌, Bool, true, false, ◌&&◌, List, [], Option, Some, None}
+use Rattle.crx_filter.proofs.Words.{Result, Ok, Err, refl, sym, ap, subst, ◌∙◌, Content, Overlong, At, Fault}
+use Rattle.crx_filter.proofs.Words.{LineTooLong, Count, Choices, Seen, Direction, Made, Fails, Failed, made_in}
+use Rattle.crx_filter.proofs.Words.{SeenStep, SeenEnded, is_skipped_in, may_skip, is_skippable, failed_step, step_of_made}
+use Rattle.crx_filter.proofs.Words.{seen_next, seen_end, can_go_on, begins_epoch, step_made, Steps, is_held}
+use Rattle.crx_filter.proofs.Words.{seen_stage, Quiet, Stage, Open}
+use Rattle.std.proofs.Common.{OnErr, IfErr}
+use Rattle.crx_filter.specs.DirectionParts.{DirectionParts, seen_by, Reads, RefusesLine, WasAt, AnswersFault}
+use Rattle.crx_filter.specs.DirectionParts.{TakesLine}
+use Rattle.crx_filter.specs.LineByLine.{end_step, fault_at_end_in}
+use Rattle.crx_filter.specs.Stages.{bare_phase, is_settled}
+use Rattle.crx_runs.specs.declared.engine.Step.{Step}
+use Rattle.crx_runs.specs.declared.engine.Step.TheVariants.{Warned}
+use Rattle.crx_filter.specs.declared.stage.Stage.TheVariants.{FirstLines, Header, Between, Event, Looking, Closed}
+use Rattle.crx_filter.specs.declared.stage.Stage.TheVariants.{Ended}
+use Rattle.crx_filter.proofs.steps.EngineLemmas.{failed-at, fatal-counts, out-fatal, no-skip, ran-out}
+
+-- faults are skipped in a stage whatever epoch is open
+skips-bare : {O : Type 0} (begun : Option O) (stage : Stage) → is_held stage begun ≡ true
+    → may_skip (seen_stage begun stage) ≡ may_skip (bare_phase stage)
+skips-bare None Open held = absurd (cc)
+skips-bare (Some so_far) Open held = refl
+skips-bare begun stage held = refl
+
+all-three : (a b c : Bool) → (a && (b && c)) ≡ ((a && b) && c)
+all-three true b c = refl
+all-three false b c = refl
+
+-- no fault is answered where one has ended the run, or after the end
+pub not-settled : (stage : Stage) → (stage ≡ Looking → ⊥) → (stage ≡ Closed → ⊥)
+    → ((at : At) → stage ≡ Ended at → ⊥) → is_settled stage ≡ false
+not-settled Looking a b c = absurd (a refl)
+not-settled Closed a b c = absurd (b refl)
+not-settled (Ended at) a b c = absurd (c at refl)
+not-settled stage a b c = refl
+
+-- what is true after any answer is true after an error
+pub after-error : {A B P : Type 0} (result : Result A B) → P → OnErr result P
+after-error (Ok answer) is = tt
+after-error (Err error) is = is
+
+module _ {U O K : Type 0} (direction : Direction U O K) where
+  -- a fault that isn't skipped ends the run
+  fatal-answer : (before after : Seen O K) (line : List ℕ) (fault : Fault) (result : Result Step At)
+      → step_made result [] after ≡ failed_step direction before (Content line) fault
+      → is_skippable fault ≡ false → result ≡ Err (record { line = before.number + 1; fault = fault })
+  fatal-answer before after line fault result step fatal =
+      let off = no-skip before.choices.skip (may_skip before.phase) (is_skippable fault) fatal in
+      let is : (failed_step direction before (Content line) fault).answer
+      ≡ Failed (record { line = before.number + 1; fault = fault }) = rw off refl in
+      failed-at result (record { line = before.number + 1; fault = fault })
+      (ap (λ (s : SeenStep O K). s.answer) step ∙ is)
+
+  -- a line was refused: with its fault, or because memory ran out
+  pub refused-line : (choices : Choices) (last : ℕ) (stage : Stage) (fault : Fault) (goes_on : Bool)
+      (serves : Choices → Type 0) (before parts : DirectionParts O K) (line : List ℕ) (result : Result Step At)
+      (given ready : List (List ℕ)) (after : Seen O K)
+      → AnswersFault direction choices (last + 1) stage fault goes_on parts result after
+      → before.stage ≡ stage → is_held stage before.begun ≡ true → begins_epoch line ≡ goes_on
+      → Reads direction serves before line (Err fault) given parts → ready ≡ []
+      → IfErr result (λ at. after.phase ≡ SeenEnded at) → after.choices ≡ choices
+      → TakesLine direction (seen_by choices last before) (Content line) result ready after
+  refused-line choices last stage fault goes_on serves before parts line result given ready after fails was held
+      goes reads drained ended chosen = record {
+        steps = by-refusal reads.refuses;
+        ended = ended;
+        nothing = after-error result drained;
+        choices = chosen;
+      }
+    where
+      step : step_made result [] after
+          ≡ failed_step direction (seen_by choices last before) (Content line) fault
+      step = fails before (Content line) last (record {
+        stage_was = was;
+        held = held;
+        types = reads.types;
+        kept = reads.kept;
+        goes = goes;
+      }) refl
+
+      by-refusal : RefusesLine direction before line fault
+          → Steps direction (seen_by choices last before) (Content line) result ready after
+      by-refusal (inl made) = inl (ap (λ (ls : List (List ℕ)). step_made result ls after) drained ∙ step
+          ∙ ap (step_of_made direction (seen_by choices last before) (Content line)) (sym made))
+      by-refusal (inr out) =
+          let fatal = out-fatal fault out.0 in
+          inr (ran-out direction (seen_by choices last before) after (Content line) result fault out.0
+          (fatal-answer (seen_by choices last before) after line fault result step fatal) out.1
+          (fatal-counts direction (seen_by choices last before) after (Content line) fault result [] step
+          fatal))
+
+  -- a line that is too long is a fault wherever lines are read
+  made-too_long : ((types : List Count) (kept : K) → direction.begins types kept Overlong ≡ Fails LineTooLong)
+      → ((so_far : O) → direction.continues so_far Overlong ≡ Fails LineTooLong)
+      → (stage : Stage) (begun : Option O) (types : List Count) (kept : K) → is_held stage begun ≡ true
+      → is_settled stage ≡ false
+      → made_in direction (seen_stage begun stage) types kept Overlong ≡ Fails LineTooLong
+  made-too_long first next Open None types kept held going = absurd (cc)
+  made-too_long first next Open (Some so_far) types kept held going = next so_far
+  made-too_long first next Between begun types kept held going = first types kept
+  made-too_long first next Looking begun types kept held going = absurd (cc)
+  made-too_long first next Closed begun types kept held going = absurd (cc)
+  made-too_long first next (Ended at) begun types kept held going = absurd (cc)
+  made-too_long first next stage begun types kept held going = refl
+
+  -- a fault that is answered to one
+  pub long-failed : (first : (types : List Count) (kept : K) → direction.begins types kept Overlong ≡ Fails LineTooLong)
+      (next : (so_far : O) → direction.continues so_far Overlong ≡ Fails LineTooLong)
+      (choices : Choices) (last number : ℕ) (stage : Stage) (parts : DirectionParts O K)
+      (result : Result Step At) (after : Seen O K)
+      → AnswersFault direction choices number stage LineTooLong false parts result after
+      → number ≡ last + 1 → stage ≡ parts.stage → is_held stage parts.begun ≡ true → is_settled stage ≡ false
+      → step_made result [] after ≡ seen_next direction (seen_by choices last parts) Overlong
+  long-failed first next choices last number stage parts result after fails counted was held going =
+      fails parts Overlong last (record {
+        stage_was = sym was;
+        held = held;
+        types = refl;
+        kept = refl;
+        goes = refl;
+      }) counted ∙ ap (step_of_made direction (seen_by choices last parts) Overlong)
+      (sym (made-too_long first next parts.stage parts.begun parts.types parts.kept
+      (subst (λ (s : Stage). is_held s parts.begun ≡ true) was held)
+      (subst (λ (s : Stage). is_settled s ≡ false) was going)))
+
+  -- ---- the end of the input
+
+  by-stage : (choices : Choices) (number : ℕ) (stage : Stage) (begun : Option O) (types : List Count) (kept : K)
+      → is_held stage begun ≡ true → ((at : At) → stage ≡ Ended at → ⊥)
+      → seen_end direction (record {
+        choices = choices;
+        number = number;
+        phase = seen_stage begun stage;
+        types = types;
+        kept = kept;
+      }) ≡ end_step direction (record {
+        choices = choices;
+        number = number;
+        phase = seen_stage begun stage;
+        types = types;
+        kept = kept;
+      }) (fault_at_end_in (bare_phase stage))
+  by-stage choices number Open None types kept held going = absurd (cc)
+  by-stage choices number Open (Some so_far) types kept held going = refl
+  by-stage choices number (Ended at) begun types kept held going = absurd (going at refl)
+  by-stage choices number stage begun types kept held going = refl
+
+  module _ (choices : Choices) (number : ℕ) (before after : DirectionParts O K) (stage : Stage)
+      (was : stage ≡ before.stage) (held : is_held stage before.begun ≡ true)
+      (going : (at : At) → stage ≡ Ended at → ⊥) (typed : after.types ≡ before.types) where
+    ends : seen_end direction (seen_by choices number before)
+        ≡ end_step direction (seen_by choices number before) (fault_at_end_in (bare_phase stage))
+    ends = by-stage choices number before.stage before.begun before.types before.kept
+        (subst (λ (s : Stage). is_held s before.begun ≡ true) was held) (λ at e. going at (was ∙ e))
+        ∙ ap (λ (s : Stage). end_step direction (seen_by choices number before) (fault_at_end_in (bare_phase s)))
+        (sym was)
+
+    skips : (fault : Fault) (a b c : Bool) → a ≡ choices.skip → b ≡ may_skip (bare_phase stage)
+        → c ≡ is_skippable fault → is_skipped_in (seen_by choices number before) fault ≡ ((a && b) && c)
+    skips fault a b c is-a is-b is-c = rw (is-a, is-b, is-c, ← was, skips-bare before.begun stage held)
+        (all-three choices.skip (may_skip (bare_phase stage)) (is_skippable fault))
+
+    pub ends-quietly : after.stage ≡ Closed → after.kept ≡ before.kept
+        → fault_at_end_in (bare_phase stage) ≡ None
+        → step_made (Ok Quiet) [] (seen_by choices number after)
+        ≡ seen_end direction (seen_by choices number before)
+    ends-quietly staged kept none = rw (ends, none, staged, kept, typed) refl
+
+    module _ (fault : Fault) (a b c : Bool) (is-a : a ≡ choices.skip) (is-b : b ≡ may_skip (bare_phase stage))
+        (is-c : c ≡ is_skippable fault) (some : fault_at_end_in (bare_phase stage) ≡ Some fault)
+        (kept : after.kept ≡ direction.emptied before.kept) where
+      pub ends-skipped : after.stage ≡ Closed → ((a && b) && c) ≡ true
+          → step_made (Ok (Warned (record { line = number + 1; fault = fault }) false)) []
+          (seen_by choices number after) ≡ seen_end direction (seen_by choices number before)
+      ends-skipped staged on =
+          rw (ends, some, skips fault a b c is-a is-b is-c ∙ on, staged, kept, typed) refl
+
+      pub ends-failed : after.stage ≡ Ended (record { line = number + 1; fault = fault })
+          → ((a && b) && c) ≡ false
+          → step_made (Err (record { line = number + 1; fault = fault })) []
+          (seen_by choices number after) ≡ seen_end direction (seen_by choices number before)
+      ends-failed staged off =
+          rw (ends, some, skips fault a b c is-a is-b is-c ∙ off, staged, kept, typed) refl

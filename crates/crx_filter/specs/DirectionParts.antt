@@ -1,0 +1,102 @@
+-- What a direction has between two lines, and what it does with the next one.
+use Rattle.std.specs.Prelude.{◌≡◌, ◌⊎◌, ℕ, ◌+◌, Bool, true, false, ◌&&◌, List, [], Option, Result, Ok, IfOk, IfErr, OnErr}
+use Rattle.crx_base.specs.meaning.Seen.{ReadLine, Content}
+use Rattle.crx_base.specs.meaning.Choices.{Choices}
+use Rattle.crx_base.specs.declared.fault.Fault.{Fault}
+use Rattle.crx_base.specs.declared.fault.Fault.TheVariants.{OutOfMemory}
+use Rattle.crx_header.specs.meaning.ObservationTypes.{Count}
+use Rattle.crx_base.specs.declared.fault.At.{At}
+use Rattle.crx_filter.specs.LineByLine.{Seen, Direction, Made, Fails, Ended, Answer, Quiet, Ready, made_in, failed_step, seen_next}
+use Rattle.crx_filter.specs.Memory.{may_take_memory}
+use Rattle.crx_filter.specs.EngineSteps.{Steps, step_made}
+use Rattle.crx_filter.specs.meaning.Reading.{can_go_on}
+use Rattle.crx_filter.specs.RinexStages.{is_open_stage}
+use Rattle.crx_filter.specs.Stages.{is_held, seen_stage}
+use Rattle.crx_filter.specs.declared.stage.Stage.{Stage}
+use Rattle.crx_runs.specs.declared.engine.Step.{Step}
+
+-- the stage, with the epoch that was begun; the observation types in force; and the state of the epochs before
+pub record DirectionParts (O K : Type 0) : Type 0 where
+  pub stage : Stage
+  pub begun : Option O
+  pub types : List Count
+  pub kept : K
+
+-- what is seen of a direction, by the user's choices and the number of the last line
+abbrev pub seen_by : {O K : Type 0} → Choices → ℕ → DirectionParts O K → Seen O K
+seen_by choices number parts = record {
+  choices = choices;
+  number = number;
+  phase = seen_stage parts.begun parts.stage;
+  types = parts.types;
+  kept = parts.kept;
+}
+
+-- the parts of an engine: the user's choices, the number of the last line that counts, its direction, and the answer to
+-- the line that was taken last, where something was to be written or reported
+pub record EngineParts (D : Type 0) : Type 0 where
+  pub options : Choices
+  pub number : ℕ
+  pub direction : D
+  pub answer : Result Step At
+
+-- what is answered to a line: whether lines are ready
+abbrev pub answer_for : Bool → Answer
+answer_for false = Quiet
+answer_for true = Ready
+
+-- what a line makes
+abbrev pub made_by : {U O K : Type 0} → Direction U O K → DirectionParts O K → List ℕ → Made U O
+made_by direction parts line =
+    made_in direction (seen_stage parts.begun parts.stage) parts.types parts.kept (Content line)
+
+-- a fault is that of the line, or memory ran out at a line that may take some
+abbrev pub RefusesLine : {U O K : Type 0} → Direction U O K → DirectionParts O K → List ℕ → Fault → Type 0
+RefusesLine direction parts line fault = (made_by direction parts line ≡ Fails fault) ⊎ ((fault ≡ OutOfMemory)
+    × (may_take_memory (direction.memory_first parts.types parts.kept) direction.memory_next
+    (seen_stage parts.begun parts.stage) (Content line) ≡ true))
+
+-- what a direction answers to a line, by the choices that it serves: whether lines are ready, as the line's step says,
+-- or a fault, after which none is, the types are the same, and so is what a fault leaves of the epochs before
+pub record Reads {U O K : Type 0} (direction : Direction U O K) (serves : Choices → Type 0)
+    (before : DirectionParts O K) (line : List ℕ) (result : Result Bool Fault) (ready : List (List ℕ))
+    (after : DirectionParts O K) : Type 0 where
+  pub takes : (choices : Choices) (number : ℕ) → serves choices → IfOk result (λ is_ready.
+      record { answer = answer_for is_ready; handed_out = ready; next = seen_by choices (number + 1) after }
+      ≡ seen_next direction (seen_by choices number before) (Content line))
+  pub refuses : IfErr result (RefusesLine direction before line)
+  pub types : OnErr result (after.types ≡ before.types)
+  pub kept : OnErr result (direction.emptied after.kept ≡ direction.emptied before.kept)
+  pub nothing : OnErr result (ready ≡ [])
+
+-- what an engine does with a line: its step, or memory ran out; after a fault that ends the run no line is ready
+pub record TakesLine {U O K : Type 0} (direction : Direction U O K) (before : Seen O K) (line : ReadLine)
+    (result : Result Step At) (ready : List (List ℕ)) (after : Seen O K) : Type 0 where
+  pub steps : Steps direction before line result ready after
+  pub ended : IfErr result (λ at. after.phase ≡ Ended at)
+  pub nothing : OnErr result (ready ≡ [])
+  pub choices : after.choices ≡ before.choices
+
+-- an engine has no line ready, and its choices are as they were; a fault that it answers has ended the run
+pub record HasStopped {O K : Type 0}
+    (result : Result Step At) (ready : List (List ℕ)) (before after : Seen O K) : Type 0 where
+  pub ended : IfErr result (λ at. after.phase ≡ Ended at)
+  pub drained : ready ≡ []
+  pub choices : after.choices ≡ before.choices
+
+-- a direction was at this stage before a line with a fault, which reading may go on at or not
+pub record WasAt {U O K : Type 0} (direction : Direction U O K) (stage : Stage) (goes_on : Bool) (line : ReadLine)
+    (before after : DirectionParts O K) : Type 0 where
+  pub stage_was : before.stage ≡ stage
+  pub held : is_held stage before.begun ≡ true
+  pub types : after.types ≡ before.types
+  pub kept : direction.emptied after.kept ≡ direction.emptied before.kept
+  pub goes : can_go_on line ≡ goes_on
+
+-- an engine answers to the fault of a line that was counted
+abbrev pub AnswersFault : {U O K : Type 0} → Direction U O K → Choices → ℕ → Stage → Fault → Bool
+    → DirectionParts O K → Result Step At → Seen O K → Type 0
+AnswersFault {O = O} {K = K} direction choices number stage fault goes_on parts result after =
+    (before : DirectionParts O K) (line : ReadLine) (last : ℕ)
+    → WasAt direction stage goes_on line before parts → number ≡ last + 1
+    → step_made result [] after ≡ failed_step direction (seen_by choices last before) line fault

@@ -1,0 +1,336 @@
+//! Engines of either direction: they take the lines of an input one at a time, and the lines to be written are borrowed from them.
+
+ghost use Rattle.std.specs.Prelude.{◌≡◌, ◌≤◌, true};
+ghost use Rattle.crx_base.specs.declared.limits.TheConstants.{INPUT_LIMIT};
+ghost use Rattle.crx_filter.specs.DirectionParts.{EngineParts};
+
+use crate::direction::Direction;
+use crate::stage::Stage;
+use crx_base::{At, Fault, Options};
+use crx_lines::Line;
+use crx_rinex::begins_epoch;
+use crx_runs::Step;
+use crx_runs::engine::answer_given;
+use std::alloc::{AllocError, Global};
+use std::marker::Model;
+
+/// An engine of a direction: it takes the lines of an input one at a time; the lines to be written are borrowed from it.
+#[derive(Drop)]
+pub struct Engine<D: Direction> {
+    options: Options,
+    /// The number of the last line that counts.
+    number: u64,
+    direction: D,
+    /// The answer to the line that was taken last, where something was to be written or reported.
+    answer: Result<Step, At>,
+}
+
+impl<D: Direction> Model for Engine<D> {
+    ghost Value = { EngineParts D };
+
+    ghost view = { λ e. record { options = e.options; number = e.number; direction = e.direction; answer = e.answer } };
+
+    ghost invariant = { λ e. (e.number ≤ INPUT_LIMIT) × (D.counted e.direction ≤ e.number)
+        × (D.serves e.direction e.options ≡ true) };
+}
+
+impl<D: Direction> Engine<D> {
+    ghost use Rattle.std.specs.Prelude.{◌+◌, ◌<◌, ◌↔◌, List, [], drop, length, slice_get, OnErr, IfOk, IfErr, Err, IsTrue, false};
+    ghost use Rattle.std.specs.Borrow.{sem};
+    ghost use Rattle.std.specs.Io.BufRead.{Rests};
+    ghost use Rattle.std.specs.Option.{option_copied};
+    ghost use Rattle.crx_base.specs.meaning.Lines.{InputLine, is_long};
+    ghost use Rattle.crx_base.specs.meaning.Seen.{ReadLine, Content, Overlong};
+    ghost use Rattle.crx_base.specs.declared.fault.At.{At};
+    ghost use Rattle.crx_base.specs.declared.limits.TheConstants.{LINE_LIMIT};
+    ghost use Rattle.crx_lines.specs.Reading.{line_number, line_shown};
+    ghost use Rattle.crx_filter.specs.DirectionParts.{AnswersFault, HasStopped, TakesLine};
+    ghost use Rattle.crx_filter.specs.EngineLaws.{IsLawfulDirection};
+    ghost use Rattle.crx_filter.specs.EngineState.{engine_ready, engine_seen, engine_took};
+    ghost use Rattle.crx_filter.specs.EngineSteps.{Steps, step_made};
+    ghost use Rattle.crx_filter.specs.LineByLine.{Ended, seen_end, seen_next};
+    ghost use Rattle.crx_filter.specs.RinexStages.{is_open_stage};
+    ghost use Rattle.crx_filter.specs.contracts.engine.Engine.{the_row};
+    ghost use Rattle.crx_filter.specs.declared.stage.Stage.{Stage};
+    ghost use Rattle.crx_runs.specs.Engines.{answer_given, Awaited, Concludes, EngineAnswers, IsAwaited};
+
+    /// An engine before the first line of its input; `AllocError` comes where there is no memory for a line.
+    pub fn new(alloc: Global, options: Options) -> Result<Engine<D>, AllocError>
+        ensures seen { IfOk result (λ e. engine_seen D.Direction e ≡ D.seen_after options []) }
+        ensures drained { IfOk result (λ e. engine_ready D.Direction e ≡ []) }
+    {
+        let direction = D::new(alloc)?;
+        Ok(Engine {
+            options,
+            number: 0,
+            direction,
+            answer: Ok(Step::Quiet),
+        })
+    }
+
+    /// Answers to a fault of the line that was counted last, which reading may go on at or not.
+    #[inline(never)]
+    fn fail(&mut self, stage: Stage, fault: Fault, goes_on: bool)
+        requires counted { D.counted self.old.direction + 1 ≤ self.old.number }
+        requires drained { engine_ready D.Direction self.old ≡ [] }
+        ensures fails { AnswersFault D.by_line self.old.options self.old.number stage fault goes_on
+            (D.parts self.old.direction) self.new.answer (engine_seen D.Direction self.new) }
+        ensures drained { engine_ready D.Direction self.new ≡ [] }
+        ensures options { self.new.options ≡ self.old.options }
+        ensures ended { IfErr self.new.answer (λ at. (engine_seen D.Direction self.new).phase ≡ Ended at) }
+    {
+        let notice = At {
+            line: self.number,
+            fault,
+        };
+        if !(self.options.skip() & stage.may_skip() & fault.is_skippable()) {
+            self.direction.settle(Stage::Ended(notice), true);
+            self.answer = Err(notice);
+            return;
+        }
+        // A line that is to come again doesn't count yet.
+        let again = stage.is_in_epoch() & goes_on;
+        self.direction.settle(Stage::Looking, true);
+        self.number -= u64::from(again);
+        self.answer = Ok(Step::Warned { notice, again });
+    }
+
+    /// Takes the content of a line: see [`Engine::feed`]. `true` says that nothing is to be written or reported after it, as after most
+    /// lines; otherwise the answer is stored, and asked for by another call. An answer that held a notice would be copied from call to
+    /// call at every line.
+    #[inline(always)]
+    fn take_line(&mut self, line: &[u8]) -> bool
+        requires drained { engine_ready D.Direction self.old ≡ [] }
+        requires short { length line.now ≤ LINE_LIMIT }
+        requires within { (engine_seen D.Direction self.old).number < INPUT_LIMIT }
+        ensures takes { TakesLine D.by_line (engine_seen D.Direction self.old) (Content line.now)
+            (answer_given result self.new.answer) (engine_ready D.Direction self.new) (engine_seen D.Direction self.new) }
+        ensures lawful { IsLawfulDirection D.by_line D.seen_after D.filter }
+    {
+        let Stage::Open = self.direction.stage() else {
+            return self.take_between(line);
+        };
+        let taken = self.direction.go_on(line);
+        self.number += 1;
+        match taken {
+            Ok(false) => true,
+            Ok(true) => {
+                self.answer = Ok(Step::Ready);
+                false
+            }
+            Err(fault) => {
+                self.fail(Stage::Open, fault, begins_epoch(line));
+                false
+            }
+        }
+    }
+
+    /// Takes the content of a line where no epoch is open as [`Engine::take_line`] does. An answer that took its place within that one
+    /// would be set to zero at every line.
+    #[inline(never)]
+    fn take_between(&mut self, line: &[u8]) -> bool
+        requires closed { is_open_stage (D.parts self.old.direction).stage ≡ false }
+        requires drained { engine_ready D.Direction self.old ≡ [] }
+        requires short { length line.now ≤ LINE_LIMIT }
+        requires within { (engine_seen D.Direction self.old).number < INPUT_LIMIT }
+        ensures takes { TakesLine D.by_line (engine_seen D.Direction self.old) (Content line.now)
+            (answer_given result self.new.answer) (engine_ready D.Direction self.new) (engine_seen D.Direction self.new) }
+    {
+        let stage = self.direction.stage();
+        if let Stage::Ended(at) = stage {
+            self.number += 1;
+            self.answer = Err(at);
+            return false;
+        }
+        let taken = self.direction.take(&self.options, line);
+        self.number += 1;
+        match taken {
+            Ok(false) => true,
+            Ok(true) => {
+                self.answer = Ok(Step::Ready);
+                false
+            }
+            Err(fault) => {
+                self.fail(stage, fault, begins_epoch(line));
+                false
+            }
+        }
+    }
+
+    /// Takes a line that is too long: see [`Engine::overlong`].
+    fn pass(&mut self, number: u64) -> Result<Step, At>
+        requires drained { engine_ready D.Direction self.old ≡ [] }
+        requires next { number ≡ (engine_seen D.Direction self.old).number + 1 }
+        requires within { number ≤ INPUT_LIMIT }
+        ensures steps { step_made result [] (engine_seen D.Direction self.new)
+            ≡ seen_next D.by_line (engine_seen D.Direction self.old) Overlong }
+        ensures stops { HasStopped result (engine_ready D.Direction self.new)
+            (engine_seen D.Direction self.old) (engine_seen D.Direction self.new) }
+        ensures lawful { IsLawfulDirection D.by_line D.seen_after D.filter }
+    {
+        let stage = self.direction.stage();
+        self.number = number;
+        match stage {
+            Stage::Ended(at) => Err(at),
+            Stage::Looking | Stage::Closed => Ok(Step::Quiet),
+            _ => {
+                self.fail(stage, Fault::LineTooLong, false);
+                self.answer
+            }
+        }
+    }
+
+    /// Takes the end of the input: see [`Engine::end`].
+    fn close(&mut self) -> Result<Step, At>
+        requires drained { engine_ready D.Direction self.old ≡ [] }
+        ensures steps { step_made result [] (engine_seen D.Direction self.new)
+            ≡ seen_end D.by_line (engine_seen D.Direction self.old) }
+        ensures stops { HasStopped result (engine_ready D.Direction self.new)
+            (engine_seen D.Direction self.old) (engine_seen D.Direction self.new) }
+        ensures lawful { IsLawfulDirection D.by_line D.seen_after D.filter }
+    {
+        let stage = self.direction.stage();
+        if let Stage::Ended(at) = stage {
+            return Err(at);
+        }
+        let Some(fault) = stage.fault_at_end() else {
+            self.direction.settle(Stage::Closed, false);
+            return Ok(Step::Quiet);
+        };
+        let notice = At {
+            line: self.number + 1,
+            fault,
+        };
+        if self.options.skip() & stage.may_skip() & fault.is_skippable() {
+            self.direction.settle(Stage::Closed, true);
+            return Ok(Step::Warned {
+                notice,
+                again: false,
+            });
+        }
+        self.direction.settle(Stage::Ended(notice), true);
+        Err(notice)
+    }
+
+    /// Takes a line that is too long, by its number: [`Engine::feed`] with the fault `LineTooLong`, unless a line that begins with `>` is
+    /// looked for: then it is passed over.
+    pub fn overlong(&mut self, number: u64) -> Result<Step, At>
+        requires drained { engine_ready D.Direction self.old ≡ [] }
+        requires next { number ≡ (engine_seen D.Direction self.old).number + 1 }
+        requires within { number ≤ INPUT_LIMIT }
+        ensures steps { step_made result (engine_ready D.Direction self.new) (engine_seen D.Direction self.new)
+            ≡ seen_next D.by_line (engine_seen D.Direction self.old) Overlong }
+        ensures ended { IfErr result (λ at. (engine_seen D.Direction self.new).phase ≡ Ended at) }
+        ensures drained { engine_ready D.Direction self.new ≡ [] }
+        ensures choices { (engine_seen D.Direction self.new).choices ≡ (engine_seen D.Direction self.old).choices }
+        ensures answers { (lines : List InputLine) (notices : List Awaited) (line : InputLine)
+            → engine_took D.Direction self.old lines notices → IsAwaited notices line → is_long line ≡ true
+            → EngineAnswers (D.filter (engine_seen D.Direction self.old).choices)
+            (engine_took D.Direction self.new) (engine_ready D.Direction self.new) lines notices line result }
+        ensures repeated { (at : At) → (engine_seen D.Direction self.old).phase ≡ Ended at → result ≡ Err at }
+    {
+        self.pass(number)
+    }
+
+    /// Takes the end of the input. No line is ready then.
+    pub fn end(&mut self) -> Result<Step, At>
+        requires drained { engine_ready D.Direction self.old ≡ [] }
+        ensures steps { step_made result [] (engine_seen D.Direction self.new)
+            ≡ seen_end D.by_line (engine_seen D.Direction self.old) }
+        ensures ended { IfErr result (λ at. (engine_seen D.Direction self.new).phase ≡ Ended at) }
+        ensures drained { engine_ready D.Direction self.new ≡ [] }
+        ensures choices { (engine_seen D.Direction self.new).choices ≡ (engine_seen D.Direction self.old).choices }
+        // After the lines that it has taken, the answer is what its direction makes of them all.
+        ensures concludes { (lines : List InputLine) → engine_took D.Direction self.old lines []
+            → Concludes (D.filter (engine_seen D.Direction self.old).choices) [] lines result }
+        ensures repeated { (at : At) → (engine_seen D.Direction self.old).phase ≡ Ended at → result ≡ Err at }
+    {
+        self.close()
+    }
+
+    /// Takes the next line. `Quiet`: nothing is to be written yet; `Ready`: [`Engine::next_line`] gives the lines; `Warned`: a fault is
+    /// skipped, and where reading goes on at this very line, it doesn't count yet and is to be fed once more. The error is the fault that
+    /// ends the run, at this line; from then on each call answers the same, and no line is ready.
+    pub fn feed(&mut self, line: Line<'_>) -> Result<Step, At>
+        requires drained { engine_ready D.Direction self.old ≡ [] }
+        requires next { line_number line ≡ (engine_seen D.Direction self.old).number + 1 }
+        requires within { line_number line ≤ INPUT_LIMIT }
+        ensures steps { Steps D.by_line (engine_seen D.Direction self.old) (Content
+            (line_shown line.entry).content) result (engine_ready D.Direction self.new) (engine_seen D.Direction self.new) }
+        ensures ended { IfErr result (λ at. (engine_seen D.Direction self.new).phase ≡ Ended at) }
+        ensures nothing { OnErr result (engine_ready D.Direction self.new ≡ []) }
+        ensures choices { (engine_seen D.Direction self.new).choices ≡ (engine_seen D.Direction self.old).choices }
+        // After the lines that it has taken, the answer, and the lines that are ready, are what its direction makes of these and the next one.
+        ensures answers { (lines : List InputLine) (notices : List Awaited)
+            → engine_took D.Direction self.old lines notices → IsAwaited notices (line_shown line.entry)
+            → EngineAnswers (D.filter (engine_seen D.Direction self.old).choices) (engine_took D.Direction self.new)
+            (engine_ready D.Direction self.new) lines notices (line_shown line.entry) result }
+        ensures repeated { (at : At) → (engine_seen D.Direction self.old).phase ≡ Ended at → result ≡ Err at }
+    {
+        let is_quiet = self.take_line(line.bytes());
+        answer_given(is_quiet, self.answer)
+    }
+
+    /// Whether none of the lines that were ready is pending.
+    pub fn is_drained(&self) -> bool
+        ensures value { IsTrue result ↔ (engine_ready D.Direction self.now ≡ []) }
+    {
+        self.direction.is_drained()
+    }
+
+    /// Borrows the next of the lines that are ready, without its line end; `None` once none is pending.
+    pub fn next_line(&mut self) -> Option<&[u8]>
+        ensures value { option_copied result ≡ slice_get (engine_ready D.Direction self.old) 0 }
+        // That line is no longer pending, and nothing else changes.
+        ensures* after_borrow { sem 𝓛 (Rests (the_row D.row D.Direction) self.entry (λ new. (engine_ready D.Direction new
+            ≡ drop 1 (engine_ready D.Direction self.old)) × (engine_seen D.Direction new ≡ engine_seen D.Direction self.old))) }
+    {
+        self.direction.next_line()
+    }
+}
+
+impl<D: Direction> crx_runs::Engine for Engine<D> {
+    ghost use Rattle.std.specs.Prelude.{⊤, length};
+    ghost use Rattle.crx_filter.specs.EngineState.{engine_ready, engine_seen, engine_took};
+
+    ghost filter = { λ e. D.filter e.options };
+
+    ghost shows = { λ e lines notices. engine_took D.Direction e lines notices × (e.number ≡ length lines) };
+
+    ghost ready = { engine_ready D.Direction };
+
+    ghost taken = { λ e. e.number };
+
+    ghost is_open = { λ e. ⊤ };
+
+    ghost has_ended = { λ e lines. ⊤ };
+
+    ghost counted = { λ e lines notices shown. shown.1 };
+
+    ghost answer = { λ e. e.answer };
+
+    #[inline(always)]
+    fn take(&mut self, line: Line<'_>) -> bool {
+        self.take_line(line.bytes())
+    }
+
+    fn answer(&self) -> Result<Step, At> {
+        self.answer
+    }
+
+    fn overlong(&mut self, number: u64) -> Result<Step, At> {
+        Engine::overlong(self, number)
+    }
+
+    fn end(&mut self) -> Result<Step, At> {
+        Engine::end(self)
+    }
+
+    fn next_line(&mut self) -> Option<&[u8]> {
+        self.direction.next_line()
+    }
+
+    fn take_text(&mut self) -> Option<&[u8]> {
+        self.direction.take_text()
+    }
+}

@@ -1,0 +1,99 @@
+//! Expansion, line by line: what a line of compact text makes.
+
+use crate::compact_reader::CompactReader;
+use crate::direction::Direction;
+use crate::engine::Engine;
+use crate::stage::Stage;
+use crx_base::{Fault, Options};
+use crx_compact::ExpandedLines;
+use std::alloc::{AllocError, Global};
+
+/// What an expansion keeps between two lines.
+#[derive(Drop)]
+pub struct Expansion {
+    reader: CompactReader,
+    /// The lines that are ready.
+    lines: ExpandedLines,
+}
+
+/// Makes RINEX of the lines of Compact RINEX 3.0, which it takes one at a time; the lines to be written are borrowed from it.
+///
+/// The faults of a line are those of the first two lines, `NotCompact` and `BadProgLine`; `MissingVersion`, `UnsupportedVersion`,
+/// `NotObservation` and `BadTypesLine` in the header; `BadTypesLine` among an event's records, where types lines count; and where faults
+/// aren't skipped those of an event's first line and of [`Columns::begin`](crx_compact::Columns::begin) and
+/// [`Columns::feed`](crx_compact::Columns::feed). `OutOfMemory` comes only at a line without a fault: a types line that counts, an epoch's
+/// first line, and a satellite's line. At the end the fault is `NotCompact` before the first line, `BadProgLine` before the second,
+/// `MissingVersion` before the header, `NoEndOfHeader` in it, `Truncated` among an event's records, and in an epoch where faults aren't
+/// skipped.
+pub type Expander = Engine<Expansion>;
+
+impl Direction for Expansion {
+    ghost use Rattle.std.specs.Prelude.{Option, true};
+    ghost use Rattle.crx_compact.specs.OpenEpochs.{HeldEpoch, OpenRawEpoch};
+    ghost use Rattle.crx_compact.specs.Tails.{Tail};
+    ghost use Rattle.crx_filter.specs.ExpansionByLine.{expansion, expansion_seen};
+    ghost use Rattle.crx_filter.specs.ExpansionParts.{expansion_parts};
+    ghost use Rattle.crx_filter.specs.meaning.Directions.{expansion_filter};
+
+    ghost Whole = { HeldEpoch };
+
+    ghost Open = { OpenRawEpoch };
+
+    ghost Kept = { Option Tail };
+
+    ghost by_line = { expansion };
+
+    ghost seen_after = { expansion_seen };
+
+    ghost filter = { expansion_filter };
+
+    ghost parts = { expansion_parts };
+
+    ghost ready = { λ e. e.lines };
+
+    ghost counted = { λ e. 0 };
+
+    ghost serves = { λ e choices. true };
+
+    fn new(alloc: Global) -> Result<Expansion, AllocError> {
+        let lines = ExpandedLines::new(alloc)?;
+        Ok(Expansion {
+            reader: CompactReader::new(alloc),
+            lines,
+        })
+    }
+
+    #[inline(always)]
+    fn stage(&self) -> Stage {
+        self.reader.stage
+    }
+
+    #[inline(always)]
+    fn go_on(&mut self, line: &[u8]) -> Result<bool, Fault> {
+        self.reader.go_on(line, &mut self.lines)
+    }
+
+    fn take(&mut self, _options: &Options, line: &[u8]) -> Result<bool, Fault> {
+        let is_copied = self.reader.read_between(line)?;
+        if is_copied {
+            self.lines.copy(line);
+        }
+        Ok(is_copied)
+    }
+
+    fn settle(&mut self, stage: Stage, is_emptied: bool) {
+        self.reader.settle(stage, is_emptied);
+    }
+
+    fn is_drained(&self) -> bool {
+        self.lines.is_drained()
+    }
+
+    fn next_line(&mut self) -> Option<&[u8]> {
+        self.lines.next_line()
+    }
+
+    fn take_text(&mut self) -> Option<&[u8]> {
+        Some(self.lines.take_text())
+    }
+}
