@@ -1,16 +1,16 @@
 -- What a direction has between two lines, and what it does with the next one.
-use Rattle.std.specs.Prelude.{◌≡◌, ◌⊎◌, ℕ, ◌+◌, Bool, true, false, ◌&&◌, List, [], Option, Result, Ok, IfOk, IfErr, OnErr}
+use Rattle.std.specs.Prelude.{◌≡◌, ◌⊎◌, ℕ, ◌+◌, Bool, true, false, List, [], Option, Result, IfOk, IfErr, OnErr}
 use Rattle.crx_base.specs.meaning.Seen.{ReadLine, Content}
 use Rattle.crx_base.specs.meaning.Choices.{Choices}
 use Rattle.crx_base.specs.declared.fault.Fault.{Fault}
 use Rattle.crx_base.specs.declared.fault.Fault.TheVariants.{OutOfMemory}
 use Rattle.crx_header.specs.meaning.ObservationTypes.{Count}
 use Rattle.crx_base.specs.declared.fault.At.{At}
-use Rattle.crx_filter.specs.LineByLine.{Seen, Direction, Made, Fails, Ended, Answer, Quiet, Ready, made_in, failed_step, seen_next}
+use Rattle.crx_filter.specs.LineByLine.{Seen, Direction, Made, Fails, Ended, Answer, Quiet, Ready, made_in}
+use Rattle.crx_filter.specs.LineByLine.{failed_step, seen_next}
 use Rattle.crx_filter.specs.Memory.{may_take_memory}
 use Rattle.crx_filter.specs.EngineSteps.{Steps, step_made}
 use Rattle.crx_filter.specs.meaning.Reading.{can_go_on}
-use Rattle.crx_filter.specs.RinexStages.{is_open_stage}
 use Rattle.crx_filter.specs.Stages.{is_held, seen_stage}
 use Rattle.crx_filter.specs.declared.stage.Stage.{Stage}
 use Rattle.crx_runs.specs.declared.engine.Step.{Step}
@@ -94,9 +94,9 @@ pub record WasAt {U O K : Type 0} (direction : Direction U O K) (stage : Stage) 
   pub goes : can_go_on line ≡ goes_on
 
 -- an engine answers to the fault of a line that was counted
-abbrev pub AnswersFault : {U O K : Type 0} → Direction U O K → Choices → ℕ → Stage → Fault → Bool
+abbrev pub AnswersToFault : {U O K : Type 0} → Direction U O K → Choices → ℕ → Stage → Fault → Bool
     → DirectionParts O K → Result Step At → Seen O K → Type 0
-AnswersFault {O = O} {K = K} direction choices number stage fault goes_on parts result after =
+AnswersToFault {O = O} {K = K} direction choices number stage fault goes_on parts result after =
     (before : DirectionParts O K) (line : ReadLine) (last : ℕ)
     → WasAt direction stage goes_on line before parts → number ≡ last + 1
     → step_made result [] after ≡ failed_step direction (seen_by choices last before) line fault

@@ -22,7 +22,7 @@ pub record FollowsBy (filter : Filter) {O K : Type 0}
   pub fault : (filter.so_far (with_next lines line)).fault ≡ line_fed.failed
 
 -- the end of the input is what the filter makes of it
-pub record EndsBy (filter : Filter) {O K : Type 0} (lines : List InputLine)
+pub record EndsLineByLine (filter : Filter) {O K : Type 0} (lines : List InputLine)
     (end : SeenStep O K) : Type 0 where
   pub handed_out : end.handed_out ≡ []
   pub output : (filter.whole lines).output ≡ (filter.so_far lines).output
@@ -34,7 +34,7 @@ pub record GoesLineByLine {U O K : Type 0} (direction : Direction U O K) (seen_a
     → Seen O K) (filter : Filter) : Type 0 where
   pub follows : (lines : List InputLine) (line : InputLine) → FollowsBy filter lines line
       (seen_after (map seen (with_next lines line))) (fed direction (seen_after (map seen lines)) (seen line))
-  pub ends : (lines : List InputLine) → EndsBy filter lines (seen_end direction (seen_after (map seen lines)))
+  pub ends : (lines : List InputLine) → EndsLineByLine filter lines (seen_end direction (seen_after (map seen lines)))
   pub number : (lines : List InputLine) → (seen_after (map seen lines)).number ≡ length lines
   -- memory may run out at a line at once, or after the warning of one that comes again
   pub memory_first : (lines : List InputLine) (line : InputLine)

@@ -44,7 +44,7 @@ impl<D: Direction> Engine<D> {
     ghost use Rattle.crx_base.specs.declared.fault.At.{At};
     ghost use Rattle.crx_base.specs.declared.limits.TheConstants.{LINE_LIMIT};
     ghost use Rattle.crx_lines.specs.Reading.{line_number, line_shown};
-    ghost use Rattle.crx_filter.specs.DirectionParts.{AnswersFault, HasStopped, TakesLine};
+    ghost use Rattle.crx_filter.specs.DirectionParts.{AnswersToFault, HasStopped, TakesLine};
     ghost use Rattle.crx_filter.specs.EngineLaws.{IsLawfulDirection};
     ghost use Rattle.crx_filter.specs.EngineState.{engine_ready, engine_seen, engine_took};
     ghost use Rattle.crx_filter.specs.EngineSteps.{Steps, step_made};
@@ -73,7 +73,7 @@ impl<D: Direction> Engine<D> {
     fn fail(&mut self, stage: Stage, fault: Fault, goes_on: bool)
         requires counted { D.counted self.old.direction + 1 ≤ self.old.number }
         requires drained { engine_ready D.Direction self.old ≡ [] }
-        ensures fails { AnswersFault D.by_line self.old.options self.old.number stage fault goes_on
+        ensures fails { AnswersToFault D.by_line self.old.options self.old.number stage fault goes_on
             (D.parts self.old.direction) self.new.answer (engine_seen D.Direction self.new) }
         ensures drained { engine_ready D.Direction self.new ≡ [] }
         ensures options { self.new.options ≡ self.old.options }

@@ -8,7 +8,8 @@ use Rattle.crx_filter.proofs.Words.{length, Option, Some, refl, FileUnit, Item, 
 use Rattle.crx_filter.proofs.Words.{written_lines, whole_course, memory_allowed, compaction_takes}
 use Rattle.crx_filter.proofs.Words.{compact_unit, rinex_place, whole_rinex, expanded_unit, whole_compact}
 use Rattle.crx_filter.proofs.Words.{compact_memory, course_so_far, Direction, Seen, Notice, seen_next}
-use Rattle.crx_filter.proofs.Words.{takes_memory, Overlong, LineTooLong, Fails, Count, IsFollowed, IsEndedBy, IsReadyWhereHandedOut, fed}
+use Rattle.crx_filter.proofs.Words.{takes_memory, Overlong, LineTooLong, Fails, Count, IsFollowed, IsEndedBy}
+use Rattle.crx_filter.proofs.Words.{IsReadyWhereHandedOut, fed}
 use Rattle.crx_filter.proofs.following.CompactedOn.{compacted-on}
 use Rattle.crx_filter.proofs.following.ExpandedOn.{expanded-on}
 use Rattle.crx_filter.proofs.following.MemoryOfCompactText.{expansion-allowed, expansion-allowed-again}
@@ -52,34 +53,36 @@ goes-by : {E U O K : Type 0} (direction : Direction U O K) (seen_after : List Re
       whole = λ lines. whole_course unit_lines (whole (map seen lines));
       memory_after = λ lines line. memory (map seen lines) (seen line);
     })
-goes-by direction seen_after unit_lines reading whole memory on ends number first again ready long_first long_next = record {
-  follows = λ (lines : List InputLine) (line : InputLine).
-      let h = on (map seen lines) (seen line) in
-      let all = map-append seen lines (line ∷ []) in
-      record {
-        next = cc (all, h.next);
-        output = cc (all, text-then _ _ _ h.handed_out);
-        warnings = ap (λ (ls : List ReadLine). reverse (warnings_in (reading ls).items)) all
-            ∙ warned-then (warnings_in (reading (map seen lines)).items) _ (fed direction
-            (seen_after (map seen lines)) (seen line)).warned h.warned;
-        fault = cc (all, h.failed);
-      };
-  ends = λ (lines : List InputLine).
-      let h = ends (map seen lines) in
-      record {
-        handed_out = h.handed_out;
-        output = cc (h.written);
-        warnings = warned-then (warnings_in (reading (map seen lines)).items) _
-            (noticed_by (seen_end direction (seen_after (map seen lines))).answer) h.warned;
-        fault = h.failed;
-      };
-  number = λ (lines : List InputLine). number (map seen lines) ∙ length-map lines seen;
-  memory_first = λ (lines : List InputLine) (line : InputLine). first (map seen lines) (seen line);
-  memory_again = λ (lines : List InputLine) (line : InputLine). again (map seen lines) (seen line);
-  ready = ready;
-  too_long_first = long_first;
-  too_long_next = long_next;
-}
+goes-by direction seen_after unit_lines reading whole memory on ends number first again ready long_first
+    long_next = record {
+      follows = λ (lines : List InputLine) (line : InputLine).
+          let h = on (map seen lines) (seen line) in
+          let all = map-append seen lines (line ∷ []) in
+          record {
+            next = ap seen_after all ∙ h.next;
+            output = ap (λ (ls : List ReadLine). lines_text (written_lines unit_lines (reading ls).items)) all
+                ∙ text-then _ _ _ h.handed_out;
+            warnings = ap (λ (ls : List ReadLine). reverse (warnings_in (reading ls).items)) all
+                ∙ warned-then (warnings_in (reading (map seen lines)).items) _
+                (fed direction (seen_after (map seen lines)) (seen line)).warned h.warned;
+            fault = ap (λ (ls : List ReadLine). fault_of_stop (reading ls).stop) all ∙ h.failed;
+          };
+      ends = λ (lines : List InputLine).
+          let h = ends (map seen lines) in
+          record {
+            handed_out = h.handed_out;
+            output = ap lines_text h.written;
+            warnings = warned-then (warnings_in (reading (map seen lines)).items) _
+                (noticed_by (seen_end direction (seen_after (map seen lines))).answer) h.warned;
+            fault = h.failed;
+          };
+      number = λ (lines : List InputLine). number (map seen lines) ∙ length-map lines seen;
+      memory_first = λ (lines : List InputLine) (line : InputLine). first (map seen lines) (seen line);
+      memory_again = λ (lines : List InputLine) (line : InputLine). again (map seen lines) (seen line);
+      ready = ready;
+      too_long_first = long_first;
+      too_long_next = long_next;
+    }
 
 pub compaction-goes : (choices : Choices)
     → GoesLineByLine compaction (compaction_seen choices) (compaction_filter choices)

@@ -14,7 +14,7 @@ use Rattle.crx_runs.specs.Engines.{Awaited, IsAwaited, awaited_notices, GoesOn, 
 use Rattle.crx_runs.specs.Engines.{Concludes}
 use Rattle.crx_filter.specs.EngineLines.{HasTaken}
 use Rattle.crx_filter.specs.Laws.{is_ready, has_lines}
-use Rattle.crx_filter.specs.EngineLaws.{FollowsBy, EndsBy, GoesLineByLine}
+use Rattle.crx_filter.specs.EngineLaws.{FollowsBy, EndsLineByLine, GoesLineByLine}
 use Rattle.crx_runs.specs.declared.engine.Step.{Step}
 use Rattle.crx_runs.specs.declared.engine.Step.TheVariants.{Warned}
 use Rattle.crx_filter.proofs.Choosing.{by_bool}
@@ -286,10 +286,10 @@ module _ {U O K : Type 0} {direction : Direction U O K} {seen_after : List ReadL
       (result : Result Step At) → HasTaken direction seen_after before lines []
       → step_made result ready now ≡ seen_end direction before → Concludes filter ready lines result
   concludes before now lines ready result taken e =
-      by-result result (subst (λ (s : SeenStep O K). EndsBy filter lines s)
+      by-result result (subst (λ (s : SeenStep O K). EndsLineByLine filter lines s)
       (sym (e ∙ ap (λ (s : Seen O K). seen_end direction s) taken)) (goes.ends lines))
     where
-      by-result : (r : Result Step At) → EndsBy filter lines (step_made r ready now)
+      by-result : (r : Result Step At) → EndsLineByLine filter lines (step_made r ready now)
           → Concludes filter ready lines r
       by-result (Ok Quiet) h = (
         h.handed_out,

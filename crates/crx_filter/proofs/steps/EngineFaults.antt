@@ -1,18 +1,19 @@
--- What an engine of a direction answers to a line with a fault, to one that is too long, and at the end of the input.
-use Rattle.crx_filter.proofs.Words.{◌≡◌, inl, inr, ℕ, ◌+◌, Bool, true, false, ◌&&◌, List, [], Option, Some, None}
-use Rattle.crx_filter.proofs.Words.{Result, Ok, Err, refl, sym, ap, subst, ◌∙◌, Content, Overlong, At, Fault}
-use Rattle.crx_filter.proofs.Words.{LineTooLong, Count, Choices, Seen, Direction, Made, Fails, Failed, made_in}
-use Rattle.crx_filter.proofs.Words.{SeenStep, SeenEnded, is_skipped_in, may_skip, is_skippable, failed_step, step_of_made}
+-- What an engine of a direction answers to a line with a fault, to one that is too long, and at the input's end.
+use Rattle.crx_filter.proofs.Words.{◌≡◌, inl, inr, ℕ, ◌+◌, Bool, true, false, ◌&&◌, List, [], Option, Some}
+use Rattle.crx_filter.proofs.Words.{None, Result, Ok, Err, refl, sym, ap, subst, ◌∙◌, Content, Overlong, At, Fault}
+use Rattle.crx_filter.proofs.Words.{LineTooLong, Count, Choices, Seen, Direction, Fails, Failed, made_in}
+use Rattle.crx_filter.proofs.Words.{SeenStep, SeenEnded, is_skipped_in, may_skip, is_skippable, failed_step}
+use Rattle.crx_filter.proofs.Words.{step_of_made}
 use Rattle.crx_filter.proofs.Words.{seen_next, seen_end, can_go_on, begins_epoch, step_made, Steps, is_held}
 use Rattle.crx_filter.proofs.Words.{seen_stage, Quiet, Stage, Open}
 use Rattle.std.proofs.Common.{OnErr, IfErr}
-use Rattle.crx_filter.specs.DirectionParts.{DirectionParts, seen_by, Reads, RefusesLine, WasAt, AnswersFault}
+use Rattle.crx_filter.specs.DirectionParts.{DirectionParts, seen_by, Reads, RefusesLine, AnswersToFault}
 use Rattle.crx_filter.specs.DirectionParts.{TakesLine}
 use Rattle.crx_filter.specs.LineByLine.{end_step, fault_at_end_in}
 use Rattle.crx_filter.specs.Stages.{bare_phase, is_settled}
 use Rattle.crx_runs.specs.declared.engine.Step.{Step}
 use Rattle.crx_runs.specs.declared.engine.Step.TheVariants.{Warned}
-use Rattle.crx_filter.specs.declared.stage.Stage.TheVariants.{FirstLines, Header, Between, Event, Looking, Closed}
+use Rattle.crx_filter.specs.declared.stage.Stage.TheVariants.{Between, Looking, Closed}
 use Rattle.crx_filter.specs.declared.stage.Stage.TheVariants.{Ended}
 use Rattle.crx_filter.proofs.steps.EngineLemmas.{failed-at, fatal-counts, out-fatal, no-skip, ran-out}
 
@@ -54,15 +55,15 @@ module _ {U O K : Type 0} (direction : Direction U O K) where
 
   -- a line was refused: with its fault, or because memory ran out
   pub refused-line : (choices : Choices) (last : ℕ) (stage : Stage) (fault : Fault) (goes_on : Bool)
-      (serves : Choices → Type 0) (before parts : DirectionParts O K) (line : List ℕ) (result : Result Step At)
-      (given ready : List (List ℕ)) (after : Seen O K)
-      → AnswersFault direction choices (last + 1) stage fault goes_on parts result after
+      (serves : Choices → Type 0) (before parts : DirectionParts O K) (line : List ℕ)
+      (result : Result Step At) (given ready : List (List ℕ)) (after : Seen O K)
+      → AnswersToFault direction choices (last + 1) stage fault goes_on parts result after
       → before.stage ≡ stage → is_held stage before.begun ≡ true → begins_epoch line ≡ goes_on
       → Reads direction serves before line (Err fault) given parts → ready ≡ []
       → IfErr result (λ at. after.phase ≡ SeenEnded at) → after.choices ≡ choices
       → TakesLine direction (seen_by choices last before) (Content line) result ready after
-  refused-line choices last stage fault goes_on serves before parts line result given ready after fails was held
-      goes reads drained ended chosen = record {
+  refused-line choices last stage fault goes_on serves before parts line result given ready after fails was
+      held goes reads drained ended chosen = record {
         steps = by-refusal reads.refuses;
         ended = ended;
         nothing = after-error result drained;
@@ -105,11 +106,12 @@ module _ {U O K : Type 0} (direction : Direction U O K) where
   made-too_long first next stage begun types kept held going = refl
 
   -- a fault that is answered to one
-  pub long-failed : (first : (types : List Count) (kept : K) → direction.begins types kept Overlong ≡ Fails LineTooLong)
+  pub long-failed : (first : (types : List Count) (kept : K)
+      → direction.begins types kept Overlong ≡ Fails LineTooLong)
       (next : (so_far : O) → direction.continues so_far Overlong ≡ Fails LineTooLong)
       (choices : Choices) (last number : ℕ) (stage : Stage) (parts : DirectionParts O K)
       (result : Result Step At) (after : Seen O K)
-      → AnswersFault direction choices number stage LineTooLong false parts result after
+      → AnswersToFault direction choices number stage LineTooLong false parts result after
       → number ≡ last + 1 → stage ≡ parts.stage → is_held stage parts.begun ≡ true → is_settled stage ≡ false
       → step_made result [] after ≡ seen_next direction (seen_by choices last parts) Overlong
   long-failed first next choices last number stage parts result after fails counted was held going =
@@ -126,8 +128,8 @@ module _ {U O K : Type 0} (direction : Direction U O K) where
 
   -- ---- the end of the input
 
-  by-stage : (choices : Choices) (number : ℕ) (stage : Stage) (begun : Option O) (types : List Count) (kept : K)
-      → is_held stage begun ≡ true → ((at : At) → stage ≡ Ended at → ⊥)
+  by-stage : (choices : Choices) (number : ℕ) (stage : Stage) (begun : Option O) (types : List Count)
+      (kept : K) → is_held stage begun ≡ true → ((at : At) → stage ≡ Ended at → ⊥)
       → seen_end direction (record {
         choices = choices;
         number = number;
@@ -153,8 +155,8 @@ module _ {U O K : Type 0} (direction : Direction U O K) where
         ≡ end_step direction (seen_by choices number before) (fault_at_end_in (bare_phase stage))
     ends = by-stage choices number before.stage before.begun before.types before.kept
         (subst (λ (s : Stage). is_held s before.begun ≡ true) was held) (λ at e. going at (was ∙ e))
-        ∙ ap (λ (s : Stage). end_step direction (seen_by choices number before) (fault_at_end_in (bare_phase s)))
-        (sym was)
+        ∙ ap (λ (s : Stage). end_step direction (seen_by choices number before)
+        (fault_at_end_in (bare_phase s))) (sym was)
 
     skips : (fault : Fault) (a b c : Bool) → a ≡ choices.skip → b ≡ may_skip (bare_phase stage)
         → c ≡ is_skippable fault → is_skipped_in (seen_by choices number before) fault ≡ ((a && b) && c)

@@ -13,8 +13,9 @@ pub returns-then-skip-may_skip-clause-steps : goal.returns-then-skip-may_skip-cl
 returns-then-skip-may_skip-clause-steps g c = rw (← c.self.view_is) (ends-skipped g.D.Direction.by_line
     c.self.inside.options c.self.inside.number (g.D.Direction.parts c.self.inside.direction) _
     c.stage-stage.result c.stage-stage.ensures.value c.stage-stage.ensures.held c.in_default.not-Ended
-    c.settle-then-skip-may_skip.ensures.types c.in-Some.fault _ _ _ c.skip.ensures.value c.may_skip.ensures.value
-    c.is_skippable.ensures.value (sym c.in-Some.ensures.value) c.settle-then-skip-may_skip.ensures.kept c.settle-then-skip-may_skip.ensures.stage
+    c.settle-then-skip-may_skip.ensures.types c.in-Some.fault _ _ _ c.skip.ensures.value
+    c.may_skip.ensures.value c.is_skippable.ensures.value (sym c.in-Some.ensures.value)
+    c.settle-then-skip-may_skip.ensures.kept c.settle-then-skip-may_skip.ensures.stage
     c.if-skip-may_skip.true)
 
 pub returns-clause-steps : goal.returns-clause-steps
@@ -22,5 +23,6 @@ returns-clause-steps g c = rw (← c.self.view_is) (ends-failed g.D.Direction.by
     c.self.inside.options c.self.inside.number (g.D.Direction.parts c.self.inside.direction) _
     c.stage-stage.result c.stage-stage.ensures.value c.stage-stage.ensures.held c.in_default.not-Ended
     c.settle-2.ensures.types c.in-Some.fault _ _ _ c.skip.ensures.value c.may_skip.ensures.value
-    c.is_skippable.ensures.value (sym c.in-Some.ensures.value) c.settle-2.ensures.kept c.settle-2.ensures.stage
+    c.is_skippable.ensures.value (sym c.in-Some.ensures.value) c.settle-2.ensures.kept
+    c.settle-2.ensures.stage
     c.if-skip-may_skip.false)

@@ -22,4 +22,5 @@ returns-clause-answers g c = λ lines notices taken awaited.
     (seen-within line c.bytes.result.now c.args.line.short c.bytes.ensures.content) taken awaited
     (subst (λ (r : Result Step At). Steps d.by_line before (Content c.bytes.result.now) r
     (engine_ready d new) (engine_seen d new)) (sym (c.answer_given.ensures.value
-    ∙ ap (λ (e : EngineParts _). answer_given c.take_line-is_quiet.result e.answer) c.self.view_is)) took.takes.steps)
+    ∙ ap (λ (e : EngineParts _). answer_given c.take_line-is_quiet.result e.answer) c.self.view_is))
+    took.takes.steps)

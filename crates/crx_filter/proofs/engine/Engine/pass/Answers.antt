@@ -11,4 +11,5 @@ returns-in_default-clause-steps g c =
     c.args.number c.stage-stage.result (g.D.Direction.parts c.self.inside.direction) _ _ c.fail.ensures.fails
     (c.requires.next ∙ ap (λ (e : EngineParts _). e.number + 1) (sym c.self.view_is))
     c.stage-stage.ensures.value c.stage-stage.ensures.held
-    (not-settled c.stage-stage.result c.in_default.not-Looking c.in_default.not-Closed c.in_default.not-Ended))
+    (not-settled c.stage-stage.result c.in_default.not-Looking c.in_default.not-Closed
+    c.in_default.not-Ended))
