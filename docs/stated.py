@@ -66,7 +66,6 @@ STATED = {
     "crates/crx_laws/src/salvage.rt": ("at most LINE_LIMIT bytes",),
     "crates/crx_laws/src/sizes.rt": ("at most PRINTED_ENDED times as long as its input", "most_for_a_byte ≡ PRINTED_ENDED }"),
     "crates/crx_laws/specs/Sizes.antt": ("with its LF, PRINTED_ENDED bytes",),
-    "crates/crx_filter/src/line_number.rt": ("at most INPUT_LIMIT lines",),
     "crates/crx_command/src/command.rt": ("N from 1 to EVERY.", "at most EVERY", "at most DATE_LIMIT bytes"),
     "crates/crx_command/src/job.rt": ("more than DATE_LIMIT bytes",),
     "crates/crx_command/src/plan.rt": ("more than DATE_LIMIT bytes",),

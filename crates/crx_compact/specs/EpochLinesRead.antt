@@ -1,19 +1,16 @@
 -- What reading an epoch line makes of a history: its satellites have come, or the line is refused.
-use Rattle.std.specs.Prelude.{◌≡◌, ◌≤◌, ◌⊎◌, ◌<◌, ℕ, List, [], All, length, map, not, Bool, true, Result, Ok, None}
-use Rattle.std.specs.Result.{is_ok}
+use Rattle.std.specs.Prelude.{◌≡◌, ◌≤◌, ℕ, List, [], All, length, map, Result, Ok, None}
 use Rattle.crx_base.specs.declared.fault.Fault.{Fault}
 use Rattle.crx_base.specs.declared.fault.Fault.TheVariants.{OutOfMemory}
 use Rattle.crx_text.specs.Texts.{patched}
 use Rattle.crx_header.specs.meaning.ObservationTypes.{Count}
-use Rattle.crx_header.specs.meaning.Satellites.{is_among}
 use Rattle.crx_compact.specs.HeldRows.{IsAwaitedSatellite, past_of_tail}
 use Rattle.crx_compact.specs.meaning.CompactPlaces.{satellites_of_line}
 use Rattle.crx_compact.specs.meaning.EpochText.{Satellite}
-use Rattle.crx_compact.specs.Placing.{HasCome, HasRoom, HaveTypesRoom, IsAnnounced, KeepsRooms, OpenHistory}
+use Rattle.crx_compact.specs.Placing.{HaveTypesRoom, IsAnnounced, KeepsRooms, OpenHistory}
 use Rattle.crx_compact.specs.Placing.{PlacedRows, padded, padded_among, tail_of_history}
 use Rattle.crx_compact.specs.Refusals.{AnswersRefusal}
 use Rattle.crx_compact.specs.Steps.{tail_named}
-use Rattle.crx_compact.specs.Tails.{RowTail}
 
 -- everything is forgotten, and the memory is kept
 abbrev pub history_cleared : OpenHistory → OpenHistory
@@ -37,14 +34,6 @@ pub record AreSatellitesRefused (made : Result (List Satellite) Fault) (old new 
   pub answer : AnswersRefusal made fault
   pub unasked : (fault ≡ OutOfMemory → ⊥) → KeepsRooms new.rooms old.rooms
   pub wanting : (satellites : List Satellite) → made ≡ Ok satellites → HaveTypesRoom satellites old.rooms → ⊥
-
--- whether an identifier is new, and then its satellite has come, with room for so many types; none was asked for where there is a fault
-pub record IsNamePlaced (name : List ℕ) (count : ℕ) (made : Result (List Satellite) Fault)
-    (old new : PlacedRows) (is_new : Bool) : Type 0 where
-  pub answer : is_new ≡ not (is_among (λ (row : RowTail). row.name) name old.rows)
-  pub come : is_new ≡ true → HasCome name old new
-  pub room : is_new ≡ true → HasRoom name count new.rooms
-  pub back : (is_ok made ≡ true) ⊎ KeepsRooms new.rooms old.rooms
 
 -- an epoch line was read after a history: the satellites of the text that it makes have come, and there is room for both
 pub record IsEpochLineRead (types : List Count) (line : List ℕ) (old new : OpenHistory) : Type 0 where

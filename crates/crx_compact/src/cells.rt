@@ -198,7 +198,7 @@ pub fn print_cells(arcs: &[ObsArc], flags: &[u8], bytes: &mut [u8], at: usize) -
 {
     let mut end = at;
     for place in 0..arcs.len() {
-        obs_print_cell_into(arcs[place].value(), flags, 2 * place, bytes, end);
+        obs_print_cell(arcs[place].value(), flags, 2 * place, bytes, end);
         end += CELL_WIDTH;
     }
     end

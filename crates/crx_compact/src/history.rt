@@ -11,16 +11,16 @@ ghost use Rattle.crx_rinex.specs.Epochs.{is_full_epoch, with_row};
 ghost use Rattle.crx_rinex.specs.meaning.Epochs.{IsSoundEpoch, has_satellite};
 ghost use Rattle.crx_rinex.specs.meaning.Observations.{Row};
 ghost use Rattle.crx_header.specs.meaning.Satellites.{types_of_satellite};
-ghost use Rattle.crx_rinex.specs.meaning.Printing.{printed_head, printed_row};
+ghost use Rattle.crx_rinex.specs.meaning.Printing.{printed_row};
 ghost use Rattle.crx_compact.specs.ArcSteps.{shown_value};
 ghost use Rattle.crx_compact.specs.EncodingRooms.{HasRoomForEpoch, HasRowRoom, HasTakenRow, HasTakenText, KeepsEncodingRoom, encoding_room};
-ghost use Rattle.crx_compact.specs.EpochLinesRead.{AreSatellitesRead, AreSatellitesRefused, IsEpochLineRead, IsEpochLineRefused, IsNamePlaced, history_cleared};
+ghost use Rattle.crx_compact.specs.EpochLinesRead.{AreSatellitesRead, AreSatellitesRefused, IsEpochLineRead, IsEpochLineRefused, history_cleared};
 ghost use Rattle.crx_compact.specs.HeldRows.{IsAwaitedSatellite, past_of_tail, row_held};
 ghost use Rattle.crx_compact.specs.LineLists.{HasTakenLine};
 ghost use Rattle.crx_compact.specs.meaning.CompactPlaces.{clock_line_read, satellites_of_line, satellites_of_text};
 ghost use Rattle.crx_compact.specs.meaning.EpochText.{Satellite, names_in, satellites_named};
-ghost use Rattle.crx_compact.specs.Placing.{HasAllowedCount, HasAskedRoom, HasRoom, HasSameTexts, HaveNamesRoom, HaveRoom, HaveTypesRoom, IsAnnounced, IsBetween, IsPlaced, IsRowRead, KeepsRooms, padded, padded_among, room_of_types, row_of_parts, row_room, satellite_of, tail_of_history};
-ghost use Rattle.crx_compact.specs.Written.{AreRowsWritten, epoch_by_rows};
+ghost use Rattle.crx_compact.specs.Placing.{HasAllowedCount, HasAskedRoom, HasSameTexts, HaveRoom, IsAnnounced, IsBetween, IsPlaced, IsRowRead, KeepsRooms, padded, padded_among, room_of_types, row_of_parts, row_room, satellite_of, tail_of_history};
+ghost use Rattle.crx_compact.specs.Written.{AreRowsWritten, IsEpochWritten, IsRowWritten, epoch_by_rows};
 ghost use Rattle.crx_rinex.specs.meaning.SatelliteLines.{IsSoundRow};
 ghost use Rattle.crx_compact.specs.PrintedBlocks.{printed_room};
 ghost use Rattle.crx_compact.specs.Refusals.{AnswersRefusal};
@@ -525,6 +525,10 @@ fn place_name(
         × (name ≡ columns text.now (HEAD_WIDTH + 1 + NAME_WIDTH * place) NAME_WIDTH)
         × (types_of_satellite types.now name ≡ Some cells) }
     ensures ok { IfOk result (IsPlaced name cells satellites.old satellites.new) }
+    ensures back { OnOk result ((is_ok (satellites_named types.now [] (names_in text.now count)) ≡ true)
+        ⊎ KeepsRooms satellites.new.rooms satellites.old.rooms) }
+    ensures err { IfErr result (AreSatellitesRefused
+        (satellites_named types.now [] (names_in text.now count)) satellites.old satellites.new) }
     ensures rooms { KeepsRooms satellites.old.rooms satellites.new.rooms }
 {
     if let Some(is_new) = satellites.place(name, cells) {

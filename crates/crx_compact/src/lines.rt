@@ -8,7 +8,7 @@ ghost use Rattle.std.specs.Io.BufRead.{Rests};
 ghost use Rattle.std.specs.Option.{option_copied};
 ghost use Rattle.crx_compact.specs.contracts.lines.Lines.{the_row};
 ghost use Rattle.crx_compact.specs.LineLists.{HasMoreRoom, HasSameRoom, HasTakenLine, cleared, lines_text};
-ghost use Rattle.crx_compact.specs.Placing.{HasRoom, KeepsRooms, room_of_types, row_of_parts};
+ghost use Rattle.crx_compact.specs.Placing.{HasRoom, KeepsRest, room_of_types, row_of_parts};
 ghost use Rattle.crx_compact.specs.PrintedBlocks.{printed_room};
 ghost use Rattle.crx_compact.specs.ShownRows.{shown_row};
 ghost use Rattle.crx_compact.specs.Steps.{row_line_after, row_tail_after};

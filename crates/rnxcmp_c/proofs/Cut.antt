@@ -5,7 +5,9 @@ use Rattle.rnxcmp_c.proofs.Words.{length-append, take-append-drop, At, notices_t
 use Rattle.rnxcmp_c.proofs.Words.{Unwritten, Unreported, AreNext, Device, waiting, Pending, IsKept, StopsBy}
 use Rattle.crx_lines.specs.meaning.Devices.{SinkTally}
 use Rattle.crx_runs.specs.declared.taking.Halt.TheVariants.{Fault}
-use Rattle.crx_runs.specs.Taking.{IsCut, IsDone, IsHalted}
+use Rattle.crx_runs.specs.Endings.{EndsFrom}
+use Rattle.crx_runs.specs.Taking.{IsDone}
+use Rattle.std.proofs.lemmas.List.{append_cancel_left}
 use Rattle.rnxcmp_c.proofs.GoingLemmas.{notices-both}
 
 none-not-some : {notices : List At} → ◌≡◌ {A = Option (List At)} None (Some notices) → ⊥
@@ -20,6 +22,21 @@ begins-next before after here next = record {
       ∙ ap (λ t. t ++ notices_text next.0) (notices-both before.warnings here);
 }
 
+-- what came after a text is what is left of both
+rest-of : (first more rest : List ℕ) → first ++ rest ≡ first ++ more → more ≡ rest
+rest-of first more rest is = sym (append_cancel_left first rest more is)
+
+none-more : (first more : List ℕ) → first ≡ first ++ more → more ≡ []
+none-more first more is = rest-of first more [] (append-nil first ∙ is)
+
+-- what a device took of a text is first in it
+begins-taken : (all first more : List ℕ) (count : ℕ) → take count all ≡ first ++ more
+    → Begins all (first ++ more)
+begins-taken all first more count is = record {
+  rest = drop count all;
+  same = sym (take-append-drop count all) ∙ ap (λ t. t ++ drop count all) is;
+}
+
 -- what a text that waits took
 abbrev kept-by : Pending → Pending → Device
 kept-by old new = record {
@@ -32,7 +49,7 @@ kept-by old new = record {
 -- a line, or the end, was taken, or ended the run
 module _ (before after : Course) (output then_output kept then_kept : Pending) where
   pub kept-where_done : (shown : Type 0) (warned : Bool)
-      → IsDone before after shown (kept-by output then_output) (kept-by kept then_kept) [] warned
+      → IsDone before after shown (kept-by output then_output) (kept-by kept then_kept) warned
       → IsKept before after shown output then_output kept then_kept warned
   kept-where_done shown warned done = record {
     is_shown = done.is_shown;
@@ -49,75 +66,81 @@ module _ (before after : Course) (output then_output kept then_kept : Pending) w
   }
 
   pub cut-stops : (memory : Option (List At)) (number : ℕ) (halt : Halt)
-      → IsCut before after memory number (kept-by output then_output) (kept-by kept then_kept) halt
+      → EndsFrom memory number (kept-by output then_output) (kept-by kept then_kept) before after halt
       → StopsBy number memory before after output then_output kept then_kept halt
-  cut-stops memory number (Fault at) (here, inl out) = inl (
-    (out.fault, out.place),
-    record {
-      notices = here;
-      allowed = out.allowed;
-      own = out.next;
-      wrote = out.wrote.0 ∙ append-nil (waiting output);
-      reported = out.reported.0;
-    },
-  )
-  cut-stops memory number (Fault at) (here, inr ended) = inr (record {
-    fault = ended.ends.fault;
-    notices = here;
-    output_is = ended.ends.output;
-    warnings_are = ended.ends.warnings;
-    wrote = ended.wrote.0 ∙ append-nil (waiting output);
-    reported = ended.reported.0;
-  })
-  cut-stops memory number Unwritten (here, cut) =
-      let count = cut.wrote.0.0 in
+  cut-stops memory number (Fault at) (inl out) =
+      let w = out.wrote.0 in
+      let m = out.reported.0 in
+      inl (
+        (out.fault, out.place),
+        record {
+          notices = out.notices;
+          allowed = out.allowed;
+          own = out.next;
+          wrote = w.2 ∙ ap (λ t. waiting output ++ t) (none-more before.output w.0 w.1)
+              ∙ append-nil (waiting output);
+          reported = m.2 ∙ ap (λ t. waiting kept ++ t)
+              (rest-of (notices_text before.warnings) m.0 (notices_text out.notices)
+              (sym (notices-both before.warnings out.notices) ∙ m.1));
+        },
+      )
+  cut-stops memory number (Fault at) (inr ended) =
+      let w = ended.wrote.0 in
+      let m = ended.reported.0 in
+      inr (record {
+        fault = ended.ends.fault;
+        notices = ended.notices;
+        output_is = ended.ends.output;
+        warnings_are = ended.ends.warnings;
+        wrote = w.2 ∙ ap (λ t. waiting output ++ t)
+            (none-more before.output w.0 (sym ended.ends.output ∙ w.1))
+            ∙ append-nil (waiting output);
+        reported = m.2 ∙ ap (λ t. waiting kept ++ t)
+            (rest-of (notices_text before.warnings) m.0 (notices_text ended.notices)
+            (sym (ap notices_text ended.ends.warnings ∙ notices-both before.warnings ended.notices) ∙ m.1));
+      })
+  cut-stops memory number Unwritten cut =
+      let w = cut.wrote.took in
+      let m = cut.reported.0 in
       record {
-        text = take count cut.text;
-        told = notices_text here;
-        wrote = cut.wrote.0.2;
-        first = inr (record {
-          rest = drop count cut.text;
-          same = cut.adds.output ∙ ap (λ t. before.output ++ t) (sym (take-append-drop count cut.text))
-              ∙ sym (append_assoc before.output (take count cut.text) (drop count cut.text));
-        });
-        reported = cut.reported.0;
+        text = w.0;
+        told = m.0;
+        wrote = w.2;
+        first = inr (begins-taken after.output before.output w.0 cut.wrote.count w.1);
+        reported = m.2;
         lost = inl (record {
-          failed = ap (λ (t : SinkTally). t.failures) cut.wrote.1;
-          longer = omega (
-            arith,
-            cut.wrote.0.1,
-            ap length cut.adds.output,
-            length-append before.output cut.text,
-          );
+          failed = ap (λ (t : SinkTally). t.failures) cut.wrote.failed;
+          longer = omega (arith, cut.wrote.some, cut.wrote.less);
         });
       }
-  cut-stops memory number Unreported (here, cut) =
-      let count = cut.reported.0.0 in
-      let told : List ℕ = notices_text (here ++ cut.notice ∷ []) in
-      let next = begins-next before after (here ++ cut.notice ∷ []) cut.next in
+  cut-stops memory number Unreported cut =
+      let w = cut.wrote.0 in
+      let m = cut.reported.took in
+      let next = begins-next before after cut.notices cut.next in
       record {
         text = [];
-        told = take count told;
-        wrote = cut.wrote.0;
+        told = m.0;
+        wrote = w.2 ∙ ap (λ t. waiting output ++ t) (none-more before.output w.0 w.1);
         first = inl refl;
-        reported = cut.reported.0.2;
+        reported = m.2;
         lost = inr (record {
-          failed = ap (λ (t : SinkTally). t.failures) cut.reported.1;
+          failed = ap (λ (t : SinkTally). t.failures) cut.reported.failed;
           longer = omega (
             arith,
-            cut.reported.0.1,
+            cut.reported.some,
+            cut.reported.less,
+            ap length (notices-both before.warnings cut.notices),
             ap length next.same,
-            length-append (notices_text before.warnings ++ told) next.rest,
-            length-append (notices_text before.warnings) told,
+            length-append (notices_text before.warnings ++ notices_text cut.notices) next.rest,
           );
         });
       }
 
   -- the same of the end, at which memory may run out for the texts alone
   pub halted-stops : (number last : ℕ) (halt : Halt)
-      → IsHalted before after None last (kept-by output then_output) (kept-by kept then_kept) [] [] halt
+      → EndsFrom None last (kept-by output then_output) (kept-by kept then_kept) before after halt
       → StopsBy number None before after output then_output kept then_kept halt
   halted-stops number last (Fault at) (inl out) = absurd (none-not-some out.allowed)
-  halted-stops number last (Fault at) (inr faulty) = cut-stops None number (Fault at) ([], inr faulty)
-  halted-stops number last Unwritten cut = cut-stops None number Unwritten ([], cut)
-  halted-stops number last Unreported cut = cut-stops None number Unreported ([], cut)
+  halted-stops number last (Fault at) (inr faulty) = cut-stops None number (Fault at) (inr faulty)
+  halted-stops number last Unwritten cut = cut-stops None number Unwritten cut
+  halted-stops number last Unreported cut = cut-stops None number Unreported cut

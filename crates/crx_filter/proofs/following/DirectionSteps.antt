@@ -1,15 +1,13 @@
 -- Both directions go line by line, in the words of their filters.
-use Rattle.crx_filter.proofs.Words.{ℕ, ◌≡◌, List, [], ◌∷◌, ◌++◌, map, ap, ◌∙◌, reverse, length-map}
-use Rattle.crx_filter.proofs.Words.{map-append, reverse-append, flat_map-append, InputLine, ReadLine, seen}
-use Rattle.crx_filter.proofs.Words.{At, Choices, compaction, compaction_seen, rinex_reading, expansion}
-use Rattle.crx_filter.proofs.Words.{expansion_seen, compact_reading, compaction_filter, expansion_filter}
-use Rattle.crx_filter.proofs.Words.{lines_text, noticed_by, fault_of_stop, warnings_in, seen_end, true}
-use Rattle.crx_filter.proofs.Words.{length, Option, Some, refl, FileUnit, Item, Reading, WholeReading}
-use Rattle.crx_filter.proofs.Words.{written_lines, whole_course, memory_allowed, compaction_takes}
-use Rattle.crx_filter.proofs.Words.{compact_unit, rinex_place, whole_rinex, expanded_unit, whole_compact}
-use Rattle.crx_filter.proofs.Words.{compact_memory, course_so_far, Direction, Seen, Notice, seen_next}
-use Rattle.crx_filter.proofs.Words.{takes_memory, Overlong, LineTooLong, Fails, Count, IsFollowed, IsEndedBy}
-use Rattle.crx_filter.proofs.Words.{IsReadyWhereHandedOut, fed}
+use Rattle.crx_filter.proofs.Words
+use Words.{ℕ, ◌≡◌, List, [], ◌∷◌, ◌++◌, map, ap, ◌∙◌, reverse, length-map, map-append, reverse-append}
+use Words.{flat_map-append, InputLine, ReadLine, seen, At, Choices, compaction, compaction_seen}
+use Words.{rinex_reading, expansion, expansion_seen, compact_reading, compaction_filter, expansion_filter}
+use Words.{lines_text, noticed_by, fault_of_stop, warnings_in, seen_end, true, length, Option, Some, refl}
+use Words.{FileUnit, Item, Reading, WholeReading, written_lines, whole_course, memory_allowed}
+use Words.{compaction_takes, compact_unit, rinex_place, whole_rinex, expanded_unit, whole_compact}
+use Words.{compact_memory, course_so_far, Direction, Seen, Notice, seen_next, takes_memory, IsFollowed}
+use Words.{Overlong, LineTooLong, Fails, Count, IsEndedBy, IsReadyWhereHandedOut, fed}
 use Rattle.crx_filter.proofs.following.CompactedOn.{compacted-on}
 use Rattle.crx_filter.proofs.following.ExpandedOn.{expanded-on}
 use Rattle.crx_filter.proofs.following.MemoryOfCompactText.{expansion-allowed, expansion-allowed-again}
@@ -59,19 +57,18 @@ goes-by direction seen_after unit_lines reading whole memory on ends number firs
           let h = on (map seen lines) (seen line) in
           let all = map-append seen lines (line ∷ []) in
           record {
-            next = ap seen_after all ∙ h.next;
-            output = ap (λ (ls : List ReadLine). lines_text (written_lines unit_lines (reading ls).items)) all
-                ∙ text-then _ _ _ h.handed_out;
+            next = cc (all, h.next);
+            output = cc (all, text-then _ _ _ h.handed_out);
             warnings = ap (λ (ls : List ReadLine). reverse (warnings_in (reading ls).items)) all
-                ∙ warned-then (warnings_in (reading (map seen lines)).items) _
-                (fed direction (seen_after (map seen lines)) (seen line)).warned h.warned;
-            fault = ap (λ (ls : List ReadLine). fault_of_stop (reading ls).stop) all ∙ h.failed;
+                ∙ warned-then (warnings_in (reading (map seen lines)).items) _ (fed direction
+                (seen_after (map seen lines)) (seen line)).warned h.warned;
+            fault = cc (all, h.failed);
           };
       ends = λ (lines : List InputLine).
           let h = ends (map seen lines) in
           record {
             handed_out = h.handed_out;
-            output = ap lines_text h.written;
+            output = cc (h.written);
             warnings = warned-then (warnings_in (reading (map seen lines)).items) _
                 (noticed_by (seen_end direction (seen_after (map seen lines))).answer) h.warned;
             fault = h.failed;

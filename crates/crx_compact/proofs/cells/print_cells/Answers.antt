@@ -11,19 +11,19 @@ pub loop-place-preserved : goal.loop-place-preserved
 loop-place-preserved c =
     let end = c.loop-place.invariant.end in
     let long = c.loop-place.auto.bytes in
-    let same = c.obs_print_cell_into.auto.bytes in
+    let same = c.obs_print_cell.auto.bytes in
     let place = c.loop-place.place in
     let flags = c.args.flags.now in
     let full = c.requires.full in
     let before = take c.loop-place.end c.loop-place.bytes in
-    let printed : take (c.loop-place.end + 16) c.obs_print_cell_into.new.bytes
+    let printed : take (c.loop-place.end + 16) c.obs_print_cell.new.bytes
     ≡ before ++ (observation_text (shown_value c.index-arcs-place.result)
     ++ at flags (2 * place) ∷ at flags (2 * place + 1) ∷ []) =
     rw (
       get_or_default_zero flags (2 * place) 32 (omega (arith, full)),
       get_or_default_zero flags (2 * place + 1) 32 (omega (arith, full)),
     )
-    (c.obs_print_cell_into.ensures.written
+    (c.obs_print_cell.ensures.written
     ∙ ap (λ v. before ++ (observation_text v ++ slice_index flags (2 * place) ∷ slice_index flags (2 * place + 1) ∷ []))
     c.value.ensures.value) in
     record {

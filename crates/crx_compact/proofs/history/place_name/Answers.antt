@@ -9,19 +9,21 @@ use Rattle.crx_compact.proofs.history.place_name.Goals as goal
 pub returns-in-Some-clause-back : goal.returns-in-Some-clause-back
 returns-in-Some-clause-back c = inr c.place.ensures.rooms.back
 
-pub returns-in_err-prepare_names-clause-unasked : goal.returns-in_err-prepare_names-clause-unasked
-returns-in_err-prepare_names-clause-unasked c =
+pub returns-in_err-prepare_names-clause-err : goal.returns-in_err-prepare_names-clause-err
+returns-in_err-prepare_names-clause-err c =
     let p = err_from_is_err_and c.from_residual.result c.from_residual.ensures.1 in
-    rw (p.1, p.2)
-    (λ other. c.in_err-prepare_names.ensures.unasked other ∙ (c.in_default.ensures.unplaced refl).unchanged)
-
-pub returns-in_err-prepare_names-clause-known : goal.returns-in_err-prepare_names-clause-known
-returns-in_err-prepare_names-clause-known c named is has =
     let at = c.requires.there in
-    absurd ((c.in_default.ensures.unplaced refl).known
-    (subst (λ (n : List ℕ). HasRoom n c.args.cells c.args.satellites.now.rooms) (sym at.2)
-    (has at.0 c.args.cells at.1
-    (subst (λ (n : List ℕ). types_of_satellite c.args.types.now n ≡ Some c.args.cells) at.2 at.3))))
+    let none = c.in_default.ensures.unplaced refl in
+    rw (p.1, p.2) (record {
+      answer = c.in_err-prepare_names.ensures.err;
+      unasked = λ other name count has. subst (λ (s : PlacedRows). HasRoom name count s.rooms)
+          (c.in_err-prepare_names.ensures.unasked other ∙ none.unchanged) has;
+      wanting = λ named is has. none.known
+          (subst (λ (n : List ℕ). HasRoom n c.args.cells c.args.satellites.now.rooms) (sym at.2)
+          (names-room c.args.types.now c.args.text.now c.args.count named c.args.satellites.now.rooms
+          c.args.satellites.now.rooms is has (λ n k h. h) at.0 c.args.cells at.1
+          (subst (λ (n : List ℕ). types_of_satellite c.args.types.now n ≡ Some c.args.cells) at.2 at.3)));
+    })
 
 pub returns-in_err-prepare_names-clause-rooms : goal.returns-in_err-prepare_names-clause-rooms
 returns-in_err-prepare_names-clause-rooms c = λ name count has.

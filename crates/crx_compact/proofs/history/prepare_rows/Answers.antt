@@ -1,3 +1,4 @@
+use Rattle.crx_base.specs.declared.limits.TheConstants.{TYPES_LIMIT}
 use Rattle.crx_compact.proofs.Words.{◌≡◌, ◌≤◌, ℕ, ℤ, List, Option, ap, length, map, sum, sym, ◌∙◌, subst}
 use Rattle.crx_compact.proofs.Words.{take, arith, false≢true, Row, HasRoom, HaveRoom, row_room}
 use borrow.Author.Count.{falls}
@@ -17,7 +18,7 @@ loop-row-preserved c =
     (subst (λ (values : List (Option ℤ)). HasRoom c.name.result (length values) rooms) c.values-count.ensures.value
     c.in_ok-prepare.ensures.room) in
     let many : length c.values-count.result.now ≡ length row.values = ap length c.values-count.ensures.value in
-    let few : length row.values ≤ 400 = c.values-count.ensures.sound.counted.1 in
+    let few : length row.values ≤ TYPES_LIMIT = c.values-count.ensures.sound.counted.1 in
     let next = sum-next row_room rows index row (sym c.in-Some.ensures.value) in
     let made = c.loop-row.invariant.made in
     let bounded = c.loop-row.invariant.bounded in

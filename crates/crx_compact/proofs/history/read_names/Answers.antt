@@ -88,7 +88,7 @@ pub returns-then-not-branch-clause-err : goal.returns-then-not-branch-clause-err
 returns-then-not-branch-clause-err c =
     refused-by RepeatedSatellite _ c.args.satellites.now c.place_name.new.satellites (λ out. cc out) (twice c)
     (λ name count has. unasked _ _ (twice c) c.loop-place.invariant.7 name count
-    (unasked _ _ (twice c) c.in_ok-place_name.ensures.placed.back name count has))
+    (unasked _ _ (twice c) c.in_ok-place_name.ensures.back name count has))
 
 pub resize_last-requires-clause-room : goal.resize_last-requires-clause-room
 resize_last-requires-clause-room c before row is =
@@ -137,7 +137,7 @@ loop-place-preserved c =
           (c.in_ok-place_name.ensures.ok.room c.if-not-branch.false))),
       elim found.7 [
         | inl good ↦ inl good
-        | inr so_far ↦ elim c.in_ok-place_name.ensures.placed.back [
+        | inr so_far ↦ elim c.in_ok-place_name.ensures.back [
           | inl good ↦ inl good
           | inr more ↦ inr (λ other count has. so_far other count (more other count
               (c.resize_last.ensures.back other count has)))

@@ -60,14 +60,8 @@ pub returns-in-Checking-clause-soon : goal.returns-in-Checking-clause-soon
 returns-in-Checking-clause-soon c = λ (past : HandlePast) is.
     subst (λ (e : AnyEngine). IfOk c.take_bytes-in-Checking.result
     (λ n. 0 < n → StopsSoon (engine_filter e) past c.args.bytes.now n)) (sym c.in-Checking.is)
-    (c.take_bytes-in-Checking.ensures.soon past (subst (λ (e : AnyEngine). IsGoing (engine_filter e)
-    (shows_of e) c.args.held.now past) c.in-Checking.is is))
+    (c.take_bytes-in-Checking.ensures.soon past (going-as c.in-Checking.is is))
 
 pub take_bytes-requires-in-Expanding-clause-going : goal.take_bytes-requires-in-Expanding-clause-going
 take_bytes-requires-in-Expanding-clause-going c =
-    let going = c.requires.going in (
-      going.0,
-      subst (λ (e : AnyEngine). IsGoing (engine_filter e) (shows_of e) c.args.held.now going.0)
-          c.in-Expanding.is going.1,
-      going.2,
-    )
+    let going = c.requires.going in (going.0, going-as c.in-Expanding.is going.1, going.2)

@@ -1,4 +1,4 @@
-use Rattle.rnxcmp_c.proofs.Words.{◌≡◌, ℕ, List, length, ap, subst, ◌∙◌, ◌<◌, ◌≤◌, rules, IfErr-weaker}
+use Rattle.rnxcmp_c.proofs.Words.{◌≡◌, ℕ, List, length, ap, refl, subst, ◌∙◌, ◌<◌, ◌≤◌, rules, IfErr-weaker}
 use Rattle.rnxcmp_c.proofs.Words.{IfOk-weaker, InputLine, LINE_LIMIT, piece_line}
 use Rattle.std.proofs.lemmas.Bool.{lt-ltb}
 use Rattle.crx_lines.specs.Reading.{line_shown}
@@ -18,10 +18,10 @@ returns-then-content-gt-LINE_LIMIT-clause-step g c = λ (lines : List InputLine)
     c.if-content-gt-LINE_LIMIT.true)) in (
       IfOk-weaker taken.result _ _
           (λ warned done. kept-where_done _ _ output taken.new.writer messages taken.new.messages _ warned done)
-          (taken.ensures.done lines (piece_line whole c.args.is_ended) shown long),
+          (taken.ensures.taken.done lines (piece_line whole c.args.is_ended) shown long),
       IfErr-weaker taken.result _ _
           (λ halt cut. cut-stops _ _ output taken.new.writer messages taken.new.messages _ _ halt cut)
-          (taken.ensures.cut lines (piece_line whole c.args.is_ended) shown long),
+          (taken.ensures.taken.cut lines (piece_line whole c.args.is_ended) shown long),
     )
 
 pub returns-clause-step : goal.returns-clause-step
@@ -39,8 +39,8 @@ returns-clause-step g c = λ (lines : List InputLine) (whole : List ℕ) shown k
     (same ∙ ap (λ (bs : List ℕ). piece_line bs c.args.is_ended) all) (
       IfOk-weaker taken.result _ _
           (λ warned done. kept-where_done _ _ output taken.new.writer messages taken.new.messages _ warned done)
-          (taken.ensures.done lines shown),
+          (taken.ensures.taken.done lines _ shown refl),
       IfErr-weaker taken.result _ _
           (λ halt cut. cut-stops _ _ output taken.new.writer messages taken.new.messages _ _ halt cut)
-          (taken.ensures.cut lines shown),
+          (taken.ensures.taken.cut lines _ shown refl),
     )

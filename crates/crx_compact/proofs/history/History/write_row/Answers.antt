@@ -20,9 +20,30 @@ returns-in_err-place_or_add-clause-known c = λ known.
     (subst (λ (h : OpenHistory). HasRoom c.args.name (length c.args.values.now) h.satellites.rooms)
     (sym c.self.view_is) known.satellite)))
 
-pub returns-then-not-branch-clause-answer : goal.returns-then-not-branch-clause-answer
-returns-then-not-branch-clause-answer c = λ after rows written.
-    sym c.if-not-branch.true ∙ c.in_ok-place_or_add.ensures.ok.answer
+-- no satellite has less room, and for texts there is as much
+rooms : (c : After-place_or_add)
+    → KeepsRooms c.args.self.now.satellites.rooms c.place_or_add.new.self.rooms
+rooms c = subst (λ (h : OpenHistory). KeepsRooms h.satellites.rooms c.place_or_add.new.self.rooms)
+    c.self.view_is c.place_or_add.ensures.rooms
+
+texts : (c : After-place_or_add)
+    → c.args.self.now.text_room ≤ min (vec_capacity c.self.inside.text) (vec_capacity c.self.inside.next_text)
+texts c = let same = ap (λ (h : OpenHistory). h.text_room) c.self.view_is in omega (arith, same)
+
+pub returns-in_err-place_or_add-clause-kept : goal.returns-in_err-place_or_add-clause-kept
+returns-in_err-place_or_add-clause-kept c =
+    record { rooms = rooms (goal.at.returns-in_err-place_or_add-clause-kept c).After-place_or_add; text = texts (goal.at.returns-in_err-place_or_add-clause-kept c).After-place_or_add; lines = omega arith; bytes = omega arith }
+
+pub returns-then-not-branch-clause-kept : goal.returns-then-not-branch-clause-kept
+returns-then-not-branch-clause-kept c =
+    record { rooms = rooms (goal.at.returns-then-not-branch-clause-kept c).After-place_or_add; text = texts (goal.at.returns-then-not-branch-clause-kept c).After-place_or_add; lines = omega arith; bytes = omega arith }
+
+-- whether the row's satellite is new
+answer : (c : In_ok-place_or_add) (after : Tail) (rows : List Row)
+    → AreRowsWritten after rows c.args.self.now c.args.lines.now.lines
+    → c.in_ok-place_or_add.field-0 ≡ not (has_satellite c.args.name rows)
+answer c after rows written =
+    c.in_ok-place_or_add.ensures.ok.answer
     ∙ ap not (come-already after rows c.args.self.now c.args.lines.now.lines
     c.self.inside.satellites c.args.name (ap (λ (h : OpenHistory). h.satellites) c.self.view_is) written)
 
@@ -71,12 +92,6 @@ put_row-requires-clause-sound c = λ old there.
           (c.in_ok-place_or_add.ensures.ok.room c.if-not-branch.false),
     )
 
-pub returns-clause-answer : goal.returns-clause-answer
-returns-clause-answer c = λ after rows written.
-    sym c.if-not-branch.false ∙ c.in_ok-place_or_add.ensures.ok.answer
-    ∙ ap not (come-already after rows c.args.self.now c.args.lines.now.lines
-    c.self.inside.satellites c.args.name (ap (λ (h : OpenHistory). h.satellites) c.self.view_is) written)
-
 pub returns-clause-written : goal.returns-clause-written
 returns-clause-written c = λ after rows written.
     let name = c.args.name in
@@ -97,11 +112,11 @@ returns-clause-written c = λ after rows written.
           written-next after rows row c.args.self.now _ c.place_or_add.new.self c.args.lines.now.lines
           c.put_row.new.self.lines placed same written c.requires.sound
           (no-row after rows c.args.self.now c.args.lines.now.lines placed name c.in_ok-place_or_add.field-0 same
-          c.in_ok-place_or_add.ensures.answer c.if-not-branch.false written) come
+          c.in_ok-place_or_add.ensures.ok.answer c.if-not-branch.false written) come
           (c.put_row.ensures.after kept last.there
           ∙ last.put (row_tail_after (Some kept) (row_of_parts kept.name values flags))
           ∙ ap (λ (r : Row). placed.rows ++ row_tail_after (Some kept) r ∷ []) parts)
-          c.put_row.ensures.rest
+          c.put_row.ensures.kept.rest
           (c.put_row.ensures.lines kept last.there
           ∙ (λ j. c.make_room.ensures.grown.lines j ++ row_line_after (Some kept) (parts j) ∷ []))
           (ap (λ (h : OpenHistory). h.text) c.self.view_is) (ap (λ (h : OpenHistory). h.clock) c.self.view_is);
@@ -118,8 +133,8 @@ returns-clause-taken c = λ is.
     let all_lines = put.all_lines in
     let all_bytes = put.all_bytes in
     record {
-      satellite = c.put_row.ensures.rooms c.args.name (length c.args.values.now)
-          (c.in_ok-place_or_add.ensures.room c.if-not-branch.false);
+      satellite = c.put_row.ensures.kept.rooms c.args.name (length c.args.values.now)
+          (c.in_ok-place_or_add.ensures.ok.room c.if-not-branch.false);
       lines = omega (arith, lines, one, all_lines);
       bytes = omega (arith, bytes, some, all_bytes);
       asked = omega (arith, bytes, asked, all_bytes);
@@ -132,7 +147,7 @@ returns-clause-kept c =
     let all_lines = c.put_row.ensures.taken.all_lines in
     let all_bytes = c.put_row.ensures.taken.all_bytes in
     record {
-      rooms = λ name count has. c.put_row.ensures.rooms name count (rooms (goal.at.returns-clause-kept c).After-place_or_add name count has);
+      rooms = λ name count has. c.put_row.ensures.kept.rooms name count (rooms (goal.at.returns-clause-kept c).After-place_or_add name count has);
       text = texts (goal.at.returns-clause-kept c).After-place_or_add;
       lines = omega (arith, lines, all_lines);
       bytes = omega (arith, bytes, all_bytes);

@@ -38,6 +38,6 @@ returns c =
     let old : length c.args.self.now.flags ≤ 2 * TYPES_LIMIT =
     omega (arith, own, within, few, kept, length-take (2 * inside.count) inside.indicators.items) in
     let fits = c.requires.fits in
-    let new : length flags ≤ 800 = omega (arith, fits, room, few) in
-    let short = difference-length 800 c.args.self.now.flags flags old new in
+    let new : length flags ≤ 2 * TYPES_LIMIT = omega (arith, fits, room, few) in
+    let short = difference-length (2 * TYPES_LIMIT) c.args.self.now.flags flags old new in
     record { marked = search rules; marks = marks; short = omega (arith, ap length marks, short) }
