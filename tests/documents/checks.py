@@ -75,11 +75,15 @@ def clauses_without_names():
 
 
 def contracts():
-    """The clauses (`ensures`) of each public function: under its name, and under that of its type and it."""
+    """The clauses (`ensures`) of each public function: under its name, and under that of its type and it. Where two types of one name have it, a
+    page may name those that both have."""
     found = {}
     for function in (it for crate in crates() for it in public_functions(crate)):
-        for key in (function.name, function.name.split("::")[-1]):
-            found.setdefault(key, set()).update(clause.name for clause in function.clauses if clause.kind == "ensures")
+        clauses = {clause.name for clause in function.clauses if clause.kind == "ensures"}
+        of_type, _, name = function.name.rpartition("::")
+        if of_type:
+            found[function.name] = found.get(function.name, clauses) & clauses
+        found[name] = found.get(name, set()) | clauses
     return found
 
 
