@@ -181,18 +181,18 @@ LineIsGiven given filter shows lines line output then_output messages then_messa
     × IfErr given (λ halt. StopsBy (length lines + 1) (filter.memory_after lines line) (filter.so_far lines)
     (filter.so_far (with_next lines line)) output then_output messages then_messages halt)
 
--- the same where the output is to stay within its limit
-abbrev pub LineIsTaken : Result Unit Stop → Filter → (List InputLine → List Awaited → Type 0) → List InputLine
+-- a line was taken so that the output stays within its limit, or it ended the run
+abbrev pub LineStaysWithin : Result Unit Stop → Filter → (List InputLine → List Awaited → Type 0) → List InputLine
     → InputLine → Held → Held → Type 0
-LineIsTaken taken filter shows lines line old new =
+LineStaysWithin taken filter shows lines line old new =
     OnOk taken (MovesWithin (filter.so_far lines) (filter.so_far (with_next lines line))
     (shows (with_next lines line) []) old new)
     × IfErr taken (λ stop. StepStops (length lines + 1) (filter.memory_after lines line) (filter.so_far lines)
     (filter.so_far (with_next lines line)) old new stop)
 
--- and of the end that comes after some lines
-abbrev pub EndIsTaken : Result Unit Stop → Filter → Type 0 → List InputLine → Held → Held → Type 0
-EndIsTaken taken filter has_ended lines old new =
+-- the end of the input was taken so, after some lines, or it ended the run
+abbrev pub EndStaysWithin : Result Unit Stop → Filter → Type 0 → List InputLine → Held → Held → Type 0
+EndStaysWithin taken filter has_ended lines old new =
     OnOk taken (MovesWithin (filter.so_far lines) (filter.whole lines) has_ended old new)
     × IfErr taken (λ stop. StepStops old.number None (filter.so_far lines) (filter.whole lines) old new stop)
 

@@ -5,7 +5,7 @@ ghost use Rattle.crx_base.specs.declared.limits.TheConstants.{INPUT_LIMIT};
 ghost use Rattle.crx_base.specs.meaning.Lines.{InputLine, ends_with_return, lines_of, without_return};
 ghost use Rattle.crx_lines.specs.Reading.{HasNoFeed};
 ghost use Rattle.crx_runs.specs.Lawful.{IsLawful};
-ghost use Rattle.rnxcmp_c.specs.Going.{EndIsTaken, GoesOnOrBreaks, IsGoing, IsReady, IsSameRun, IsTaken, LastIsTaken, LineIsGiven, LineIsTaken, piece_line};
+ghost use Rattle.rnxcmp_c.specs.Going.{EndStaysWithin, GoesOnOrBreaks, IsGoing, IsReady, IsSameRun, IsTaken, LastIsTaken, LineIsGiven, LineStaysWithin, piece_line};
 ghost use Rattle.rnxcmp_c.specs.Past.{HandlePast, StopsSoon};
 ghost use Rattle.rnxcmp_c.specs.Holding.{IsCounted, IsMarkWithin, StopsCounted, ready_in};
 ghost use Rattle.rnxcmp_c.specs.Waiting.{waiting};
@@ -111,7 +111,7 @@ fn take_within<E: Engine>(engine: &mut E, held: &mut Held, is_ended: bool) -> Re
     ensures ready { OnOk result (IsReady (E.ready engine.new) (E.is_open engine.new)) }
     ensures next { OnOk result ((held.new.number ≡ held.old.number + 1) × (held.new.tail.bytes.items ≡ [])) }
     ensures step { (lines : List InputLine) (whole : List ℕ) → E.shows engine.old lines []
-        → held.old.tail.bytes.items ≡ take LINE_ROOM whole → LineIsTaken result (E.filter engine.old)
+        → held.old.tail.bytes.items ≡ take LINE_ROOM whole → LineStaysWithin result (E.filter engine.old)
         (E.shows engine.new) lines (piece_line whole is_ended) held.old held.new }
 {
     let mark = held.mark();
@@ -194,7 +194,7 @@ fn end_within<E: Engine>(engine: &mut E, held: &mut Held) -> Result<(), Stop>
     requires shown { (lines : List InputLine) × E.shows engine.old lines [] }
     requires within { E.taken engine.old ≤ INPUT_LIMIT }
     ensures same { IsSameRun (E.filter engine.old) (E.filter engine.new) held.old held.new }
-    ensures step { (lines : List InputLine) → E.shows engine.old lines [] → EndIsTaken result (E.filter engine.old)
+    ensures step { (lines : List InputLine) → E.shows engine.old lines [] → EndStaysWithin result (E.filter engine.old)
         (E.has_ended engine.new lines) lines held.old held.new }
 {
     let mark = held.mark();

@@ -2,7 +2,7 @@ use Rattle.rnxcmp_c.proofs.Words.{◌≡◌, ℕ, ◌<◌, List, [], ◌∷◌, 
 use Rattle.rnxcmp_c.proofs.Words.{length-append, length-take, LINE_ROOM, on_ok_weaker, IfErr-weaker}
 use Rattle.rnxcmp_c.proofs.Words.{err_from_is_err_and, ended_lines_of, Filter, with_next, piece_line}
 use Rattle.rnxcmp_c.proofs.Words.{HandlePast}
-use Rattle.rnxcmp_c.specs.Going.{EndIsTaken}
+use Rattle.rnxcmp_c.specs.Going.{EndStaysWithin}
 use Rattle.rnxcmp_c.proofs.GoingLemmas.{all-ended, all-but_last, ends-well, ends-stopped, held-going}
 use Rattle.rnxcmp_c.proofs.GoingLemmas.{held-last, last-stopped}
 use Rattle.rnxcmp_c.proofs.lines.take_last.Given.{Over}
@@ -47,7 +47,7 @@ returns-clause-ends g c = λ (past : HandlePast) is.
     let whole = all-but_last filter shows held past is some in
     let after = held-last filter shows held past is mid _ within c.in_ok-take_within.ensures.next.0 in
     let then : Type 0 = g.E.Engine.has_ended c.end_within-2.new.engine lines in
-    let step = subst (λ (f : Filter). EndIsTaken c.end_within-2.result f then lines mid new)
+    let step = subst (λ (f : Filter). EndStaysWithin c.end_within-2.result f then lines mid new)
     c.in_ok-take_within.ensures.same.0 (c.end_within-2.ensures.step lines within.moved.kept.is_shown) in (
       on_ok_weaker c.end_within-2.result
           (λ e. (
