@@ -46,13 +46,13 @@ answer_for false = Quiet
 answer_for true = Ready
 
 -- what a line makes
-abbrev pub made_by : {U O K : Type 0} → Direction U O K → DirectionParts O K → List ℕ → Made U O
-made_by direction parts line =
+abbrev pub made_at_parts : {U O K : Type 0} → Direction U O K → DirectionParts O K → List ℕ → Made U O
+made_at_parts direction parts line =
     made_in direction (seen_stage parts.begun parts.stage) parts.types parts.kept (Content line)
 
 -- a fault is that of the line, or memory ran out at a line that may take some
 abbrev pub RefusesLine : {U O K : Type 0} → Direction U O K → DirectionParts O K → List ℕ → Fault → Type 0
-RefusesLine direction parts line fault = (made_by direction parts line ≡ Fails fault) ⊎ ((fault ≡ OutOfMemory)
+RefusesLine direction parts line fault = (made_at_parts direction parts line ≡ Fails fault) ⊎ ((fault ≡ OutOfMemory)
     × (may_take_memory (direction.memory_first parts.types parts.kept) direction.memory_next
     (seen_stage parts.begun parts.stage) (Content line) ≡ true))
 

@@ -68,7 +68,7 @@ impl<D: Direction> Engine<D> {
         })
     }
 
-    /// Answers to a fault of the line that was counted last, which reading may go on at or not.
+    /// Stores the answer to a fault of the line that was counted last, which reading may go on at or not.
     #[inline(never)]
     fn fail(&mut self, stage: Stage, fault: Fault, goes_on: bool)
         requires counted { D.counted self.old.direction + 1 ≤ self.old.number }
@@ -281,7 +281,7 @@ impl<D: Direction> Engine<D> {
     /// Borrows the next of the lines that are ready, without its line end; `None` once none is pending.
     pub fn next_line(&mut self) -> Option<&[u8]>
         ensures value { option_copied result ≡ slice_get (engine_ready D.Direction self.old) 0 }
-        // That line is no longer pending, and nothing else changes.
+        // That line is no longer pending, and what is seen of the engine is the same.
         ensures* after_borrow { sem 𝓛 (Rests (the_row D.row D.Direction) self.entry (λ new. (engine_ready D.Direction new
             ≡ drop 1 (engine_ready D.Direction self.old)) × (engine_seen D.Direction new ≡ engine_seen D.Direction self.old))) }
     {

@@ -1,13 +1,11 @@
-//! What a fault and the end of the input make of a run, in either direction.
+//! What a fault makes of a compaction, and what the end of the input makes of it and of a check.
 
 ghost use Rattle.std.specs.Prelude.{◌≡◌, ◌+◌, ◌<◌, ◌≤◌, Option, Some, true, false, IfErr, Err};
 ghost use Rattle.crx_rinex.specs.meaning.EpochPlaces.{OpenEpoch};
-ghost use Rattle.crx_compact.specs.OpenEpochs.{OpenRawEpoch};
 ghost use Rattle.crx_base.specs.declared.limits.TheConstants.{INPUT_LIMIT};
 ghost use Rattle.crx_filter.specs.LineByLine.{fault_at_end_in};
 ghost use Rattle.crx_base.specs.meaning.Faults.{is_skippable};
 ghost use Rattle.crx_filter.specs.CompactionByLine.{compaction};
-ghost use Rattle.crx_filter.specs.ExpansionByLine.{expansion};
 ghost use Rattle.crx_filter.specs.EngineSteps.{SettlesEnd, SettlesFault};
 ghost use Rattle.crx_filter.specs.RinexStages.{is_open_stage};
 ghost use Rattle.crx_filter.specs.Stages.{is_held, is_settled, seen_stage};
@@ -38,7 +36,6 @@ pub(crate) fn after_fault(
 ) -> Settled
     requires within { number < INPUT_LIMIT }
     ensures compaction { SettlesFault compaction stage number skip fault goes_on result }
-    ensures expansion { SettlesFault expansion stage number skip fault goes_on result }
     ensures settled { is_settled result.stage ≡ true }
     ensures ended { IfErr result.answer (λ at. result.stage ≡ Stage.Ended at) }
     ensures emptied { result.is_emptied ≡ true }
@@ -85,8 +82,6 @@ pub(crate) fn after_fault(
 fn fault_at_end(stage: Stage) -> Option<Fault>
     ensures rinex { (held : Option OpenEpoch)
         → is_held stage held ≡ true → result ≡ fault_at_end_in (seen_stage held stage) }
-    ensures compact { (held : Option OpenRawEpoch)
-        → is_held stage held ≡ true → result ≡ fault_at_end_in (seen_stage held stage) }
     ensures open { is_open_stage stage ≡ true → result ≡ Some Fault.Truncated }
 {
     match stage {
@@ -103,7 +98,6 @@ fn fault_at_end(stage: Stage) -> Option<Fault>
 pub(crate) fn after_end(stage: Stage, number: u64, skip: bool) -> Settled
     requires within { number ≤ INPUT_LIMIT }
     ensures compaction { SettlesEnd compaction stage number skip result }
-    ensures expansion { SettlesEnd expansion stage number skip result }
     ensures settled { is_settled result.stage ≡ true }
     ensures ended { IfErr result.answer (λ at. result.stage ≡ Stage.Ended at) }
     ensures counted { result.number ≡ number }
