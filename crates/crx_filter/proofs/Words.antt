@@ -54,7 +54,6 @@ pub use Rattle.crx_filter.specs.Expanded.{expanded_lines, expanded_so_far}
 pub use Rattle.crx_filter.specs.Laws.{fed, noticed_by, IsFollowed, IsEndedBy, IsReadyWhereHandedOut}
 pub use Rattle.crx_filter.specs.Laws.{IsReadForward, Fed, fed_once, fed_twice, is_again, continued_reading}
 pub use Rattle.crx_filter.specs.Laws.{failed_by, AreInPlace, ItemsAreRead, IsInPlace, IsWrittenFirst}
-pub use Rattle.crx_filter.specs.declared.settled.Settled.{Settled}
 pub use Rattle.crx_filter.specs.meaning.Stretches.{announces_records, Stretch, up_to_end, up_to_next}
 pub use Rattle.crx_filter.specs.meaning.Stretches.{with_stretches, IsStretch, AreStretches}
 pub use Rattle.crx_header.specs.ObservationTypes.{with_line}

@@ -1,28 +1,55 @@
--- The parts of a compaction, and how they belong together.
-use Rattle.std.specs.Prelude.{◌≡◌, ◌≤◌, ℕ, Bool}
-use Rattle.crx_base.specs.declared.limits.TheConstants.{INPUT_LIMIT}
-use Rattle.crx_base.specs.meaning.Choices.{Choices}
+-- What a compaction has between two lines, and how its parts belong together.
+use Rattle.std.specs.Prelude.{◌≡◌, ℕ, Bool, true, false, not, List, [], if◌then◌else◌}
+use Rattle.crx_base.specs.declared.fault.Fault.{Fault}
 use Rattle.crx_compact.specs.Encoding.{EncoderState}
-use Rattle.crx_filter.specs.RinexStages.{is_open_stage, rows_open, when_open}
-use Rattle.crx_filter.specs.meaning.Compacted.{is_at_every}
+use Rattle.crx_rinex.specs.meaning.EpochPlaces.{OpenEpoch}
+use Rattle.crx_filter.specs.CompactionByLine.{Written}
+use Rattle.crx_filter.specs.DirectionParts.{DirectionParts}
+use Rattle.crx_filter.specs.RinexReaders.{RefusesRinexLine, TakesRinexLine, epoch_open, made_at}
+use Rattle.crx_filter.specs.RinexStages.{is_open_stage, rows_open}
 use Rattle.crx_filter.specs.declared.rinex_reader.RinexReader.{RinexReader}
+use Rattle.crx_filter.specs.declared.rinex_reader.RinexStep.TheVariants.{Epoch, Row}
+use Rattle.crx_filter.specs.declared.stage.Stage.{Stage}
+use Rattle.crx_filter.specs.declared.stage.Stage.TheVariants.{Open}
 
--- the user's choices, the number of the last line, how many epochs were accepted, the reader, and what is written
-pub record CompactionParts : Type 0 where
-  pub options : Choices
-  pub number : ℕ
+-- how many epochs were accepted, the reader, and what is written
+pub record CompactionState : Type 0 where
   pub index : ℕ
   pub reader : RinexReader
   pub encoder : EncoderState
 
--- whether the next epoch is in full because the user wants one at every so many
-abbrev pub is_due : CompactionParts → Bool
-is_due c = is_at_every c.options.every c.index
+-- the encoder has the rows of the epoch that the reader has open
+pub record BelongTogether (reader : RinexReader) (encoder : EncoderState) : Type 0 where
+  pub opened : encoder.is_open ≡ is_open_stage reader.stage
+  pub rows : encoder.rows ≡ rows_open reader.stage reader.rows.rows
 
--- the encoder has the rows of the epoch that the reader has open, and its epoch is in full where it is due; and the counts are within bounds
-pub record BelongTogether (c : CompactionParts) : Type 0 where
-  pub opened : c.encoder.is_open ≡ is_open_stage c.reader.stage
-  pub rows : c.encoder.rows ≡ rows_open c.reader.stage c.reader.rows.rows
-  pub full : when_open c.reader.stage c.encoder.in_full (is_due c) ≡ is_due c
-  pub counted : c.index ≤ c.number
-  pub within : c.number ≤ INPUT_LIMIT
+-- an open epoch is in full where it is due
+abbrev pub is_full_where_due : Stage → Bool → Bool → Bool
+is_full_where_due Open true due = due
+is_full_where_due Open false due = not due
+is_full_where_due stage in_full due = true
+
+abbrev pub compaction_parts : CompactionState → DirectionParts OpenEpoch Written
+compaction_parts c = record {
+  stage = c.reader.stage;
+  begun = epoch_open c.reader;
+  types = c.reader.types;
+  kept = record { index = c.index; tail = c.encoder.before };
+}
+
+-- a row was taken, which is the epoch's last or isn't, and was written
+pub record HasWrittenRow (before : RinexReader) (encoder : EncoderState) (line : List ℕ) (is_last : Bool)
+    (after : RinexReader) (new : EncoderState) : Type 0 where
+  pub takes : (kept : Written)
+      → TakesRinexLine (made_at before line kept) before line (if is_last then Epoch else Row) after
+  pub written : new ≡ record encoder { rows = after.rows.rows; room = new.room }
+
+-- a row was refused: nothing is written
+pub record HasRefusedRow (before : RinexReader) (encoder : EncoderState) (line : List ℕ) (fault : Fault)
+    (after : RinexReader) (new : EncoderState) : Type 0 where
+  pub refuses : (kept : Written) → RefusesRinexLine (made_at before line kept) before line fault
+  pub types : after.types ≡ before.types
+  pub nothing : new.pending ≡ []
+  pub together : BelongTogether after new
+  pub full : (due : Bool) → is_full_where_due before.stage encoder.in_full due ≡ true
+      → is_full_where_due after.stage new.in_full due ≡ true

@@ -5,7 +5,7 @@ use Rattle.crx_compact.specs.Holdings.{rows_with}
 use Rattle.crx_filter.specs.declared.rinex_reader.RinexReader.{RinexReader}
 use Rattle.crx_filter.specs.declared.compaction.Compaction.TheInside.{Inside as CompactionInside}
 use Rattle.crx_filter.specs.declared.compact_reader.CompactReader.{CompactReader}
-use Rattle.crx_filter.specs.declared.compactor.Compactor.{Compactor}
+use Rattle.crx_filter.specs.CompactionParts.{CompactionState}
 use Rattle.crx_filter.specs.declared.engine.Engine.TheInside.{Inside as EngineInside}
 use Rattle.crx_filter.specs.declared.expansion.Expansion.{Expansion}
 use Rattle.crx_filter.specs.DirectionParts.{EngineParts}
@@ -32,21 +32,19 @@ rinex_reader_with one other = record one {
   consistent = other.consistent;
 }
 
--- a compaction, with the parts of another
-abbrev pub compaction_with : CompactionInside → CompactionInside → CompactionInside
+-- a compaction, with the parts of another; and what its code has of one
+abbrev pub compaction_with : CompactionState → CompactionState → CompactionState
 compaction_with one other = record one {
-  options = other.options;
-  number = other.number;
   index = other.index;
   reader = rinex_reader_with one.reader other.reader;
   encoder = other.encoder;
 }
 
--- a compactor, with the parts of another
-abbrev pub compactor_with : Compactor → Compactor → Compactor
-compactor_with one other = record one {
-  compaction = other.compaction;
-  answer = other.answer;
+abbrev pub compaction_inside_with : CompactionInside → CompactionInside → CompactionInside
+compaction_inside_with one other = record one {
+  index = other.index;
+  reader = rinex_reader_with one.reader other.reader;
+  encoder = other.encoder;
 }
 
 -- a reader of compact text, with the parts of another
@@ -74,7 +72,16 @@ engine_inside_with direction_with one other = record one {
   answer = other.answer;
 }
 
--- an expander, with the parts of another
+-- a compactor or an expander, with the parts of another
+abbrev pub compactor_with : EngineParts CompactionState → EngineParts CompactionState
+    → EngineParts CompactionState
+compactor_with one other = record one {
+  options = other.options;
+  number = other.number;
+  direction = compaction_with one.direction other.direction;
+  answer = other.answer;
+}
+
 abbrev pub expander_with : EngineParts Expansion → EngineParts Expansion → EngineParts Expansion
 expander_with one other = record one {
   options = other.options;

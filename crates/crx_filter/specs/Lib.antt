@@ -16,7 +16,6 @@ pub mod Laws
 pub mod WayBack
 pub mod EngineSteps
 pub mod CompactionParts
-pub mod CompactionState
 pub mod CompactorState
 pub mod CheckingLaws
 pub mod Anew

@@ -23,7 +23,6 @@ ghost use Rattle.crx_rinex.specs.Printing.{last_line};
 
 use crate::report::{Totals, print_report_line};
 use crate::rinex_reader::{RinexReader, RinexStep};
-use crate::settled::after_end;
 use crate::stage::Stage;
 use crate::totals::{counted, is_given_back};
 use crx_base::limits::VERSION_WIDTH;
@@ -119,9 +118,9 @@ impl Checker {
         }
     }
 
-    /// Ends the check by a fault of the next line.
+    /// Ends the check by a fault of the next line, or of the end.
     fn fail(&mut self, fault: Fault) -> At
-        requires within { self.old.number < INPUT_LIMIT }
+        requires within { self.old.number ≤ INPUT_LIMIT }
         ensures value { result ≡ record { line = self.old.number + 1; fault = fault } }
         ensures ended { self.new.reader.stage ≡ Stage.Ended result }
         ensures handed_out { self.new.handed_out ≡ self.old.handed_out }
@@ -263,15 +262,12 @@ impl Engine for Checker {
     }
 
     fn end(&mut self) -> Result<Step, At> {
-        match after_end(self.reader.stage, self.number, false).answer {
-            Ok(_) => {
+        match self.reader.stage.fault_at_end() {
+            None => {
                 self.handed_out = Some(0);
                 Ok(Step::Ready)
             }
-            Err(at) => {
-                self.reader.stage = Stage::Ended(at);
-                Err(at)
-            }
+            Some(fault) => Err(self.fail(fault)),
         }
     }
 

@@ -1,12 +1,12 @@
 //! Laws over the definitions of this crate: each is the contract of a function that does nothing.
 
 ghost use Rattle.std.specs.Prelude.{◌≡◌};
-ghost use Rattle.crx_filter.specs.Holdings.{options_with, rinex_reader_with, compaction_with, compactor_with, compact_reader_with, engine_inside_with, expansion_with, checker_with};
+ghost use Rattle.crx_filter.specs.Holdings.{options_with, rinex_reader_with, compaction_with, compaction_inside_with, compact_reader_with, engine_inside_with, expansion_with, checker_with};
 ghost use Rattle.crx_base.specs.declared.options.Options.TheInside.{Inside as OptionsInside};
 ghost use Rattle.crx_filter.specs.declared.rinex_reader.RinexReader.{RinexReader};
 ghost use Rattle.crx_filter.specs.declared.compaction.Compaction.TheInside.{Inside as CompactionInside};
 ghost use Rattle.crx_filter.specs.declared.compact_reader.CompactReader.{CompactReader};
-ghost use Rattle.crx_filter.specs.declared.compactor.Compactor.{Compactor};
+ghost use Rattle.crx_filter.specs.CompactionParts.{CompactionState};
 ghost use Rattle.crx_filter.specs.declared.engine.Engine.TheInside.{Inside as EngineInside};
 ghost use Rattle.crx_filter.specs.declared.expansion.Expansion.{Expansion};
 ghost use Rattle.crx_filter.specs.declared.checker.Checker.{Checker};
@@ -21,8 +21,9 @@ pub fn readers_hold()
 /// What an engine holds, in full: one that takes over these parts of another is that other. So there is no part beside them, in which a
 /// record of the past lines could grow.
 pub fn engines_hold()
-    ensures compaction { (one other : CompactionInside) → compaction_with one other ≡ other }
-    ensures compactor { (one other : Compactor) → compactor_with one other ≡ other }
+    ensures compaction { (one other : CompactionInside) → compaction_inside_with one other ≡ other }
+    ensures compactor { (one other : EngineInside CompactionState)
+        → engine_inside_with compaction_with one other ≡ other }
     ensures compact_reader { (one other : CompactReader) → compact_reader_with one other ≡ other }
     ensures expansion { (one other : Expansion) → expansion_with one other ≡ other }
     ensures engine { (one other : EngineInside Expansion) → engine_inside_with expansion_with one other ≡ other }

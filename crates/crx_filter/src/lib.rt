@@ -5,9 +5,7 @@
 pub mod checker;
 mod checks;
 mod compact_reader;
-mod compaction;
-pub mod compactor;
-mod compactor_engine;
+pub mod compaction;
 pub mod direction;
 pub mod engine;
 pub mod event_lines;
@@ -17,13 +15,12 @@ pub mod first_lines;
 pub mod laws;
 pub mod report;
 pub mod rinex_reader;
-mod settled;
 pub mod stage;
 pub mod totals;
 pub mod types_lines;
 
 pub use checks::check;
-pub use compactor::Compactor;
+pub use compaction::Compactor;
 pub use crx_base::{BadDate, Options};
 pub use crx_runs::{Outcome, Step, UntilFailure};
 pub use expansion::Expander;

@@ -1,28 +1,26 @@
--- What a compaction makes of a line that has a fault, is too long, or completes an epoch.
-use Rattle.crx_filter.proofs.Words.{◌≡◌, ◌⊎◌, inl, inr, ℕ, ◌+◌, true, false, List, [], Option, Some, None}
-use Rattle.crx_filter.proofs.Words.{Result, Ok, Err, ◌++◌, ◌∷◌, refl, sym, ap, subst, ◌∙◌, OnOk, ReadLine}
-use Rattle.crx_filter.proofs.Words.{Content, Overlong, At, Fault, OutOfMemory, LineTooLong, ObservationEpoch}
-use Rattle.crx_filter.proofs.Words.{Bool, not, ◌&&◌, and_parts, false≢true, begins_epoch, is_event_line}
-use Rattle.crx_filter.proofs.Words.{OpenEpoch, HeaderLine, EventLine, EventRecord, Observation, FileUnit}
-use Rattle.crx_filter.proofs.Words.{Count, epoch_by_rows, Choices, Written, compact_written, compaction}
-use Rattle.crx_filter.proofs.Words.{epoch_written, is_next_row, written_kept, Phase, InFirstLines}
-use Rattle.crx_filter.proofs.Words.{BetweenUnits, LookingOn, SeenEnded, Seen, Made, Fails, made_in, kept_in}
-use Rattle.crx_filter.proofs.Words.{failed_step, phase_after, step_of_made, may_take_memory, is_skippable}
-use Rattle.crx_filter.proofs.Words.{seen_stage, step_made, Steps, epoch_open, is_row, made_at, reader_phase}
-use Rattle.crx_filter.proofs.Words.{Completed, CompletedEpoch, IsSameReader, TakesRinexLine, is_open_stage}
-use Rattle.crx_filter.proofs.Words.{RinexStep, Nothing, Header, Event, Record, Begun, MovesReader, Quiet}
-use Rattle.crx_filter.proofs.Words.{Ready, RinexReader, Stage, Open}
-use Rattle.std.proofs.Common.{OnErr}
-use Rattle.std.specs.declared.alloc.AllocError.{AllocError}
-use Rattle.crx_filter.specs.LineByLine.{Closed as SeenClosed}
+-- What a compaction makes of a line: a fault, another stage, a line that is copied, or an epoch.
+use Rattle.crx_filter.proofs.Words.{◌≡◌, ◌⊎◌, inl, inr, ℕ, ◌+◌, true, false, List, [], Option, Some, None, Ok}
+use Rattle.crx_filter.proofs.Words.{Err, ◌++◌, ◌∷◌, refl, sym, ap, ◌∙◌, ReadLine, Content, Overlong, Fault}
+use Rattle.crx_filter.proofs.Words.{OutOfMemory, ObservationEpoch, Bool, not, ◌&&◌, and_parts, false≢true}
+use Rattle.crx_filter.proofs.Words.{begins_epoch, is_event_line, OpenEpoch, EventLine, EventRecord}
+use Rattle.crx_filter.proofs.Words.{HeaderLine, Observation, FileUnit, Count, epoch_by_rows, Choices, Written}
+use Rattle.crx_filter.proofs.Words.{compact_written, compaction, written_kept, Phase, InFirstLines}
+use Rattle.crx_filter.proofs.Words.{BetweenUnits, LookingOn, SeenEnded, Made, Completes, Moves, kept_in}
+use Rattle.crx_filter.proofs.Words.{phase_after, types_after, step_of_made, may_take_memory, seen_stage}
+use Rattle.crx_filter.proofs.Words.{epoch_open, is_row, made_at, Completed, CompletedEpoch, TakesRinexLine}
+use Rattle.crx_filter.proofs.Words.{is_open_stage, RinexStep, Nothing, Header, Event, Record, Begun}
+use Rattle.crx_filter.proofs.Words.{MovesReader, Stage, Open, is_at_every, lines_after_tail, tail_after}
+use Rattle.crx_filter.proofs.Words.{reader_phase, RinexReader, ObservationHead}
+use Rattle.crx_compact.specs.Encoding.{EncoderState, tail_in}
+use Rattle.crx_filter.specs.CompactionByLine.{is_before_header}
+use Rattle.crx_filter.specs.DirectionParts.{DirectionParts, Reads, RefusesLine, made_at_parts, seen_by}
+use Rattle.crx_filter.specs.LineByLine.{Closed as SeenClosed, Quiet, Ready}
 use Rattle.crx_filter.specs.Stages.{is_ended}
+use Rattle.crx_filter.specs.RinexReaders.{RefusesRinexLine}
 use Rattle.crx_filter.specs.declared.rinex_reader.RinexStep.TheVariants.{Row, Epoch}
-use Rattle.crx_filter.specs.CompactionState.{copied_lines}
+use Rattle.crx_filter.specs.declared.stage.Stage.TheVariants.{Ended}
 use Rattle.crx_header.specs.meaning.CompactHeader.{lines_before_header}
-use Rattle.crx_runs.specs.declared.engine.Step.{Step}
-use Rattle.crx_filter.specs.declared.stage.Stage.TheVariants.{Looking, Closed, Ended}
 use Rattle.crx_filter.proofs.following.Following.{seen_in}
-use Rattle.crx_filter.proofs.steps.EngineLemmas.{out-fatal, fatal-counts, ran-out}
 
 -- what is kept in a phase that no fault has ended
 kept-going : (held : Option OpenEpoch) (stage : Stage) (kept : Written)
@@ -32,24 +30,8 @@ kept-going (Some so_far) Open kept e = refl
 kept-going held (Ended at) kept e = absurd (cc)
 kept-going held stage kept e = refl
 
--- a line after which nothing is to be written
-pub quiet-step : (choices : Choices) (number : ℕ) (kept : Written) (before after : RinexReader)
-    (line : List ℕ) (ready : List (List ℕ)) → ready ≡ [] → MovesReader (made_at before line kept) before after
-    → Steps compaction (seen_in choices number (reader_phase before) before.types kept) (Content line)
-    (Ok Quiet) ready (seen_in choices (number + 1) (reader_phase after) after.types kept)
-quiet-step choices number kept before after line ready none moves =
-    let phase = reader_phase after in
-    let going = kept-going (epoch_open after) after.stage kept moves.goes_on in
-    inl (ap (λ (ls : List (List ℕ)). step_made (Ok Quiet) ls
-    (seen_in choices (number + 1) phase after.types kept)) none
-    ∙ ap (λ (ts : List Count). step_made (Ok Quiet) [] (seen_in choices (number + 1) phase ts kept))
-    moves.types_then
-    ∙ ap (λ (k : Written). step_made (Ok Quiet) [] (seen_in choices (number + 1) phase before.types k))
-    (sym going) ∙ sym (ap (λ (m : Made ObservationEpoch OpenEpoch). step_of_made compaction
-    (seen_in choices number (reader_phase before) before.types kept) (Content line) m) moves.moved))
-
 -- where the reading may take memory, the compaction may
-read-or-written : (first : List ℕ → Bool) (next : OpenEpoch → List ℕ → Bool) (phase : Phase OpenEpoch)
+pub read-or-written : (first : List ℕ → Bool) (next : OpenEpoch → List ℕ → Bool) (phase : Phase OpenEpoch)
     (line : ReadLine) → may_take_memory (λ (l : List ℕ). false) next phase line ≡ true
     → may_take_memory first next phase line ≡ true
 read-or-written first next phase Overlong e = absurd (false≢true e)
@@ -63,122 +45,156 @@ read-or-written first next SeenClosed (Content line) e = e
 read-or-written first next (SeenEnded at) (Content line) e = e
 read-or-written first next phase (Content line) e = e
 
--- a line with a fault
-pub refused-step : (before now : Seen OpenEpoch Written)
-    (line : ReadLine) (result : Result Step At) (ready : List (List ℕ)) (after : Seen OpenEpoch Written)
-    (fault : Fault) → now ≡ before → step_made result ready after ≡ failed_step compaction now line fault
-    → (made_in compaction before.phase before.types before.kept line ≡ Fails fault)
-    ⊎ ((fault ≡ OutOfMemory) × (may_take_memory (λ (l : List ℕ). false) is_next_row before.phase line ≡ true))
-    → (is_skippable fault ≡ false → result ≡ Err (record { line = before.number + 1; fault = fault }))
-    → Steps compaction before line result ready after
-refused-step before now line result ready after fault same step (inl made) fatal =
-    inl (step ∙ ap (λ (s : Seen OpenEpoch Written). failed_step compaction s line fault) same
-    ∙ sym (ap (λ (m : Made ObservationEpoch OpenEpoch). step_of_made compaction before line m) made))
-refused-step before now line result ready after fault same step (inr out) fatal =
-    let counted = fatal-counts compaction now after line fault result ready step (out-fatal fault out.0)
-    ∙ ap (λ (s : Seen OpenEpoch Written). s.number + 1) same in
-    inr (ran-out compaction before after line result fault out.0 (fatal (out-fatal fault out.0))
-    (read-or-written (epoch_written before.types before.kept) is_next_row before.phase line out.1) counted)
+-- ---- a line's step, by what it makes
 
--- what is seen of a reader that is as it was
-pub seen-again : (choices : Choices) (number : ℕ) (kept : Written) (before now : RinexReader)
-    → IsSameReader before now → seen_in choices number (reader_phase now) now.types kept
-    ≡ seen_in choices number (reader_phase before) before.types kept
-seen-again choices number kept before now same = rw (same.stage, same.types, same.head, same.rows) refl
+moves-so : (choices : Choices) (number : ℕ) (phase then : Phase OpenEpoch) (types typed : List Count)
+    (kept goes : Written) (line : List ℕ) (made : Made ObservationEpoch OpenEpoch) (ready : List (List ℕ))
+    → made ≡ Moves then → typed ≡ types → kept_in compaction then kept ≡ goes → ready ≡ []
+    → record { answer = Quiet; handed_out = ready; next = seen_in choices (number + 1) then typed goes }
+    ≡ step_of_made compaction (seen_in choices number phase types kept) (Content line) made
+moves-so choices number phase then types typed kept goes line made ready is same going none =
+    rw (is, same, none, ← going) refl
 
--- a line that is too long
-pub overlong-made : (held : Option OpenEpoch) (stage : Stage) (types : List Count) (kept : Written)
-    → (stage ≡ Looking → ⊥) → (stage ≡ Closed → ⊥) → ((at : At) → stage ≡ Ended at → ⊥)
-    → made_in compaction (seen_stage held stage) types kept Overlong ≡ Fails LineTooLong
-overlong-made None Open types kept looks closes ends = refl
-overlong-made (Some so_far) Open types kept looks closes ends = refl
-overlong-made held Looking types kept looks closes ends = absurd (looks refl)
-overlong-made held Closed types kept looks closes ends = absurd (closes refl)
-overlong-made held (Ended at) types kept looks closes ends = absurd (ends at refl)
-overlong-made held stage types kept looks closes ends = refl
+completes-so : (choices : Choices) (number : ℕ) (phase then : Phase OpenEpoch) (types typed : List Count)
+    (kept goes : Written) (line : List ℕ) (unit : FileUnit ObservationEpoch)
+    (made : Made ObservationEpoch OpenEpoch) (ready : List (List ℕ))
+    → made ≡ Completes unit → then ≡ phase_after phase unit → typed ≡ types_after phase types unit
+    → ready ≡ compact_written (seen_in choices number phase types kept) unit
+    → goes ≡ written_kept (seen_in choices number phase types kept) unit
+    → record { answer = Ready; handed_out = ready; next = seen_in choices (number + 1) then typed goes }
+    ≡ step_of_made compaction (seen_in choices number phase types kept) (Content line) made
+completes-so choices number phase then types typed kept goes line unit made ready is phased same lines keeps =
+    rw (is, phased, same, lines, keeps) refl
 
--- a line that completes a unit
-pub completed-step : (choices : Choices) (number : ℕ) (kept : Written) (before after : RinexReader)
-    (line : List ℕ) (unit : FileUnit ObservationEpoch) (ready : List (List ℕ)) (now : Seen OpenEpoch Written)
-    → Completed (made_at before line kept) unit before after
-    → ready ≡ compact_written (seen_in choices number (reader_phase before) before.types kept) unit
-    → now ≡ seen_in choices (number + 1) (reader_phase after) after.types
-    (written_kept (seen_in choices number (reader_phase before) before.types kept) unit)
-    → Steps compaction (seen_in choices number (reader_phase before) before.types kept) (Content line)
-    (Ok Ready) ready now
-completed-step choices number kept before after line unit ready now done made is =
-    let seen = seen_in choices number (reader_phase before) before.types kept in
-    let next = written_kept seen unit in
-    inl (ap (λ (ls : List (List ℕ)). step_made (Ok Ready) ls now) made
-    ∙ ap (λ (s : Seen OpenEpoch Written). step_made (Ok Ready) (compact_written seen unit) s)
-    (is ∙ ap (λ p. seen_in choices (number + 1) p after.types next) done.phase_then
-    ∙ ap (λ t. seen_in choices (number + 1) (phase_after (reader_phase before) unit) t next) done.types_then)
-    ∙ sym (ap (λ (m : Made ObservationEpoch OpenEpoch). step_of_made compaction seen (Content line) m)
-    done.unit_made))
+module _ {serves : Choices → Type 0} {before after : DirectionParts OpenEpoch Written} {line : List ℕ}
+    {ready : List (List ℕ)} where
+  -- it is refused
+  pub refused-reads : {fault : Fault} → RefusesLine compaction before line fault
+      → after.types ≡ before.types → after.kept.index ≡ before.kept.index → ready ≡ []
+      → Reads compaction serves before line (Err fault) ready after
+  refused-reads refuses typed counted none = record {
+    takes = λ choices number chosen. tt;
+    refuses = refuses;
+    types = typed;
+    kept = ap (λ n. record { index = n; tail = None }) counted;
+    nothing = none;
+  }
 
--- a line that completes an epoch, whose lines were made unless memory ran out
-pub concluded-step : (choices : Choices) (number : ℕ) (kept : Written) (before after : RinexReader)
-    (line : List ℕ) (ended : Result (Unit {0}) AllocError) (result : Result Step At) (ready : List (List ℕ))
-    (now : Seen OpenEpoch Written) (done : CompletedEpoch (made_at before line kept) line before after)
-    → OnOk ended (result ≡ Ok Ready)
-    → OnOk ended (ready ≡ compact_written (seen_in choices number (reader_phase before) before.types kept)
-    (Observation (epoch_by_rows done.head after.rows.rows)))
-    → OnOk ended (now ≡ seen_in choices (number + 1) (reader_phase after) after.types
-    (written_kept (seen_in choices number (reader_phase before) before.types kept)
-    (Observation (epoch_by_rows done.head after.rows.rows))))
-    → OnErr ended (result ≡ Err (record { line = number + 1; fault = OutOfMemory })) → now.number ≡ number + 1
-    → Steps compaction (seen_in choices number (reader_phase before) before.types kept)
-    (Content line) result ready now
-concluded-step choices number kept before after line (Ok unit) result ready now done is made seen refused
-    counted = subst (λ (r : Result Step At). Steps compaction (seen_in choices number
-    (reader_phase before) before.types kept) (Content line) r ready now) (sym is)
-    (completed-step choices number kept before after line
-    (Observation (epoch_by_rows done.head after.rows.rows)) ready now done.is made seen)
-concluded-step choices number kept before after line (Err error) result ready now done is made seen refused
-    counted = inr (ran-out compaction (seen_in choices number (reader_phase before) before.types kept) now
-    (Content line) result OutOfMemory refl refused done.allowed counted)
+  -- nothing is to be written after it
+  pub moved-reads : made_at_parts compaction before line ≡ Moves (seen_stage after.begun after.stage)
+      → after.types ≡ before.types → is_ended after.stage ≡ false → after.kept ≡ before.kept → ready ≡ []
+      → Reads compaction serves before line (Ok false) ready after
+  moved-reads moved typed goes_on same none = record {
+    takes = λ choices number chosen. moves-so choices number (seen_stage before.begun before.stage) _ _ _ _ _
+        line _ ready moved typed (kept-going after.begun after.stage _ goes_on ∙ sym same) none;
+    refuses = tt;
+    types = tt;
+    kept = tt;
+    nothing = tt;
+  }
 
--- a line that is copied
-abbrev pub is_copied : RinexStep → Bool
-is_copied (Header is_first) = true
-is_copied Event = true
-is_copied Record = true
-is_copied step = false
+  -- it completes a unit
+  pub completed-reads : (unit : FileUnit ObservationEpoch)
+      → made_at_parts compaction before line ≡ Completes unit
+      → seen_stage after.begun after.stage ≡ phase_after (seen_stage before.begun before.stage) unit
+      → after.types ≡ types_after (seen_stage before.begun before.stage) before.types unit
+      → ((choices : Choices) (number : ℕ) → serves choices
+      → (ready ≡ compact_written (seen_by choices number before) unit)
+      × (after.kept ≡ written_kept (seen_by choices number before) unit))
+      → Reads compaction serves before line (Ok true) ready after
+  completed-reads unit made phased typed written = record {
+    takes = λ choices number chosen.
+        let w = written choices number chosen in
+        completes-so choices number (seen_stage before.begun before.stage) _ _ _ before.kept _ line unit _
+        ready made phased typed w.0 w.1;
+    refuses = tt;
+    types = tt;
+    kept = tt;
+    nothing = tt;
+  }
 
-pub copied-step : (choices : Choices) (number : ℕ) (kept : Written) (before after : RinexReader)
-    (line : List ℕ)
-    (step : RinexStep) (ready : List (List ℕ)) (now : Seen OpenEpoch Written) → is_copied step ≡ true
-    → TakesRinexLine (made_at before line kept) before line step after → ready
-    ≡ copied_lines choices.date step line
-    → now ≡ seen_in choices (number + 1) (reader_phase after) after.types
-    (record { index = kept.index; tail = None })
-    → Steps compaction (seen_in choices number (reader_phase before) before.types kept) (Content line)
-    (Ok Ready) ready now
-copied-step choices number kept before after line (Header is_first) ready now is takes made seen =
-    completed-step choices number kept before after line (HeaderLine line) ready now takes.0
-    (made ∙ ap (λ b. lines_before_header choices.date b ++ line ∷ []) takes.1) seen
-copied-step choices number kept before after line Event ready now is takes made seen =
-    completed-step choices number kept before after line (EventLine line) ready now takes made seen
-copied-step choices number kept before after line Record ready now is takes made seen =
-    completed-step choices number kept before after line (EventRecord line) ready now takes made seen
-copied-step choices number kept before after line step ready now is takes made seen = absurd (false≢true is)
+-- ---- a line's step, by the reader
 
--- no epoch is open after it
-pub copied-closed : (made : Made ObservationEpoch OpenEpoch) (before after : RinexReader) (line : List ℕ)
-    (step : RinexStep) → is_copied step ≡ true → TakesRinexLine made before line step after
-    → is_open_stage after.stage ≡ false
-copied-closed made before after line (Header is_first) is takes = takes.0.closed
-copied-closed made before after line Event is takes = takes.closed
-copied-closed made before after line Record is takes = takes.closed
-copied-closed made before after line step is takes = absurd (false≢true is)
+-- what a compaction has between two lines, by its reader and what is kept of the epochs
+abbrev pub parts_with : RinexReader → Written → DirectionParts OpenEpoch Written
+parts_with reader kept =
+    record { stage = reader.stage; begun = epoch_open reader; types = reader.types; kept = kept }
 
--- a line that was taken is copied, where it wasn't passed over, and is of no epoch
-pub others-copied : (step : RinexStep) → is_row step ≡ false → (step ≡ Nothing → ⊥) → (step ≡ Begun → ⊥)
-    → is_copied step ≡ true
-others-copied (Header is_first) row nothing begun = refl
-others-copied Event row nothing begun = refl
-others-copied Record row nothing begun = refl
-others-copied Nothing row nothing begun = absurd (nothing refl)
-others-copied Begun row nothing begun = absurd (begun refl)
-others-copied Row row nothing begun = absurd (cc (row))
-others-copied Epoch row nothing begun = absurd (cc (row))
+-- the reader refuses it
+pub refused-read : {serves : Choices → Type 0} (before after : RinexReader) {kept now : Written}
+    {line : List ℕ} {ready : List (List ℕ)} {fault : Fault}
+    → RefusesRinexLine (made_at before line kept) before line fault → after.types ≡ before.types
+    → now.index ≡ kept.index → ready ≡ []
+    → Reads compaction serves (parts_with before kept) line (Err fault) ready (parts_with after now)
+refused-read before after (inl made) typed counted none = refused-reads (inl made) typed counted none
+refused-read before after {line = line} (inr out) typed counted none =
+    refused-reads (inr (out.0, read-or-written _ _ _ (Content line) out.1)) typed counted none
+
+module _ {serves : Choices → Type 0} {before after : RinexReader} {kept : Written} {line : List ℕ} where
+  pub moved-read : {ready : List (List ℕ)} → MovesReader (made_at before line kept) before after → ready ≡ []
+      → Reads compaction serves (parts_with before kept) line (Ok false) ready (parts_with after kept)
+  moved-read moves none = moved-reads moves.moved moves.types_then moves.goes_on refl none
+
+  module _ (done : CompletedEpoch (made_at before line kept) line before after) where
+    -- memory ran out for an epoch's lines
+    pub lost-read : {now : Written} {ready : List (List ℕ)} → now.index ≡ kept.index → ready ≡ []
+        → Reads compaction serves (parts_with before kept) line (Err OutOfMemory) ready (parts_with after now)
+    lost-read counted none = refused-reads (inr (refl, done.allowed)) done.is.types_then counted none
+
+    -- an epoch's lines are ready, whose rows the encoder had
+    pub ended-read : (rows ended : EncoderState)
+        → ((choices : Choices) → serves choices → rows.in_full ≡ is_at_every choices.every kept.index)
+        → rows.before ≡ kept.tail → rows.rows ≡ after.rows.rows
+        → ((head : ObservationHead) → after.head ≡ Some head
+        → ended.pending ≡ lines_after_tail (tail_in rows) (epoch_by_rows head rows.rows))
+        → ((head : ObservationHead) → after.head ≡ Some head
+        → ended.before ≡ Some (tail_after (tail_in rows) (epoch_by_rows head rows.rows)))
+        → Reads compaction serves (parts_with before kept) line (Ok true) ended.pending
+        (parts_with after (record { index = kept.index + 1; tail = ended.before }))
+    ended-read rows ended due tail there lines keeps =
+        completed-reads (Observation (epoch_by_rows done.head after.rows.rows)) done.is.unit_made
+        done.is.phase_then done.is.types_then (λ choices number chosen. (
+          lines done.head done.held ∙ rw (due choices chosen, tail, there) refl,
+          ap (λ t. record { index = kept.index + 1; tail = t }) (keeps done.head done.held)
+              ∙ rw (due choices chosen, tail, there) refl,
+        ))
+
+-- a line that is copied: of the header, or of an event
+pub header-read : {chosen : Choices} {before after : RinexReader} {kept : Written} {line : List ℕ}
+    {lines : List (List ℕ)} → Completed (made_at before line kept) (HeaderLine line) before after
+    → lines ≡ lines_before_header chosen.date (is_before_header (reader_phase before)) ++ line ∷ []
+    → Reads compaction (λ choices. choices ≡ chosen) (parts_with before kept) line (Ok true) lines
+    (parts_with after (record { index = kept.index; tail = None }))
+header-read {line = line} done written = completed-reads (HeaderLine line) done.unit_made done.phase_then
+    done.types_then (λ choices number same. (rw same written, refl))
+
+abbrev pub CompletesEvent : Made ObservationEpoch OpenEpoch → List ℕ → RinexReader → RinexReader → Type 0
+CompletesEvent made line before after =
+    Completed made (EventLine line) before after ⊎ Completed made (EventRecord line) before after
+
+pub event-read : {serves : Choices → Type 0} {before after : RinexReader} {kept : Written} {line : List ℕ}
+    → CompletesEvent (made_at before line kept) line before after
+    → Reads compaction serves (parts_with before kept) line (Ok true) (line ∷ [])
+    (parts_with after (record { index = kept.index; tail = None }))
+event-read {line = line} (inl done) = completed-reads (EventLine line) done.unit_made done.phase_then
+    done.types_then (λ choices number chosen. (refl, refl))
+event-read {line = line} (inr done) = completed-reads (EventRecord line) done.unit_made done.phase_then
+    done.types_then (λ choices number chosen. (refl, refl))
+
+pub event-closed : {made : Made ObservationEpoch OpenEpoch} {line : List ℕ} {before after : RinexReader}
+    → CompletesEvent made line before after → is_open_stage after.stage ≡ false
+event-closed (inl done) = done.closed
+event-closed (inr done) = done.closed
+
+-- a line that was taken and is none of the header, nor of an epoch, is of an event
+pub of-event : {made : Made ObservationEpoch OpenEpoch} {before after : RinexReader} {line : List ℕ}
+    (step : RinexStep) → is_row step ≡ false → (step ≡ Nothing → ⊥) → (step ≡ Begun → ⊥)
+    → ((is_first : Bool) → step ≡ Header is_first → ⊥) → TakesRinexLine made before line step after
+    → CompletesEvent made line before after
+of-event Event row nothing begun header takes = inl takes
+of-event Record row nothing begun header takes = inr takes
+of-event Nothing row nothing begun header takes = absurd (nothing refl)
+of-event Begun row nothing begun header takes = absurd (begun refl)
+of-event (Header is_first) row nothing begun header takes = absurd (header is_first refl)
+of-event Row row nothing begun header takes = absurd (cc (row))
+of-event Epoch row nothing begun header takes = absurd (cc (row))

@@ -128,7 +128,7 @@ module _ {U O K : Type 0} (direction : Direction U O K) where
 
   -- ---- the end of the input
 
-  by-stage : (choices : Choices) (number : ℕ) (stage : Stage) (begun : Option O) (types : List Count)
+  pub by-stage : (choices : Choices) (number : ℕ) (stage : Stage) (begun : Option O) (types : List Count)
       (kept : K) → is_held stage begun ≡ true → ((at : At) → stage ≡ Ended at → ⊥)
       → seen_end direction (record {
         choices = choices;

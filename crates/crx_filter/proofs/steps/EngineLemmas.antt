@@ -24,12 +24,6 @@ held-open types stage head count rows is = refl
 pub held-by_reader : (r : RinexReader) → is_held r.stage (epoch_open r) ≡ true
 held-by_reader r = held-open r.types r.stage r.head r.count r.rows.rows r.consistent
 
--- a step in its parts
-pub same-step : {O K : Type 0} (one two : Result Step At) (lines handed_out : List (List ℕ))
-    (seen after : Seen O K) → one ≡ two → lines ≡ handed_out → seen ≡ after → step_made one lines seen
-    ≡ step_made two handed_out after
-same-step one two lines handed_out seen after a b d = rw (a, b, d) refl
-
 -- memory that ran out isn't skipped
 pub out-fatal : (fault : Fault) → fault ≡ OutOfMemory → is_skippable fault ≡ false
 out-fatal fault is = ap is_skippable is

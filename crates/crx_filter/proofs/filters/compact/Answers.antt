@@ -3,7 +3,8 @@ use Rattle.crx_rinex.specs.meaning.EpochPlaces.{OpenEpoch}
 use Rattle.crx_filter.specs.LineByLine.{Seen}
 use Rattle.crx_filter.specs.CompactionByLine.{Written, compaction_seen}
 use Rattle.crx_filter.specs.CompactorState.{compactor_seen}
-use Rattle.crx_filter.specs.declared.compactor.Compactor.{Compactor}
+use Rattle.crx_filter.specs.CompactionParts.{CompactionState}
+use Rattle.crx_filter.specs.DirectionParts.{EngineParts}
 use Rattle.crx_filter.specs.meaning.Compacted.{compacted}
 use Rattle.crx_filter.specs.meaning.Directions.{compaction_filter}
 use Rattle.crx_runs.specs.meaning.Spans.{Input, reader_span, Device, span}
@@ -28,12 +29,11 @@ returns g c =
     let messages : Device = span g.M.Sink m0 c.start.new.messages in
     let status = c.start.result.status in
     let fault = c.start.result.fault in
-    let same : (e : Compactor) → compactor_seen e ≡ compaction_seen choices []
-    → (compactor_seen e).choices ≡ choices = λ e is. ap (λ (s : Seen OpenEpoch Written). s.choices) is in
+    let same : (e : EngineParts CompactionState) → compactor_seen e ≡ compaction_seen choices []
+    → e.options ≡ choices = λ e is. ap (λ (s : Seen OpenEpoch Written). s.choices) is in
     let ran = c.start.ensures.runs (compaction_filter choices) (compaction-lawful choices)
-    (IfOk-weaker c.new.result (λ (e : Compactor). compactor_seen e ≡ compaction_seen choices [])
-    (λ (e : Compactor). compaction_filter (compactor_seen e).choices ≡ compaction_filter choices)
-    (λ e is. ap compaction_filter (same e is)) c.new.ensures.seen) in
+    (IfOk-weaker c.new.result _ (λ (e : EngineParts CompactionState). compaction_filter e.options ≡
+    compaction_filter choices) (λ e is. ap compaction_filter (same e is)) c.new.ensures.seen) in
     let compaction = λ (bytes : List ℕ). compacted bytes choices in
     let units = WritesUnits choices writer messages status fault in
     let normal = DependsOnNormalForm choices writer messages status fault in

@@ -65,3 +65,7 @@ returns-in-Checking-clause-soon c = λ (past : HandlePast) is.
 pub take_bytes-requires-in-Expanding-clause-going : goal.take_bytes-requires-in-Expanding-clause-going
 take_bytes-requires-in-Expanding-clause-going c =
     let going = c.requires.going in (going.0, going-as c.in-Expanding.is going.1, going.2)
+
+pub take_bytes-requires-clause-going : goal.take_bytes-requires-clause-going
+take_bytes-requires-clause-going c =
+    let going = c.requires.going in (going.0, going-as c.in-Compacting.is going.1, going.2)

@@ -1,0 +1,73 @@
+use Rattle.std.proofs.Common.{refl, ap, ◌∙◌}
+use Rattle.std.proofs.lemmas.Result.{err_from_is_err_and}
+use Rattle.crx_compact.specs.Encoding.{EncoderState}
+use Rattle.crx_filter.specs.meaning.Compacted.{is_at_every}
+use Rattle.crx_filter.proofs.steps.CompactionSteps.{ended-read, lost-read, moved-read, refused-read}
+use Rattle.crx_filter.proofs.steps.Together.{closed-together, due-there, row-asked, row-closed, row-ends}
+use Rattle.crx_filter.proofs.steps.Together.{row-moves, row-together, served-closed}
+use Rattle.crx_filter.proofs.compaction.CompactionDirection.go_on.Goals as goal
+
+pub returns-in_err-is_last-clause-reads : goal.returns-in_err-is_last-clause-reads
+returns-in_err-is_last-clause-reads c =
+    let p = err_from_is_err_and c.from_residual.result c.from_residual.ensures.1 in
+    let row = c.in_err-is_last.ensures.refused in
+    rw (← c.self.view_is, p.1, p.2)
+    (refused-read c.self.inside.reader c.take_row.new.reader (row.refuses _) row.types refl row.nothing)
+
+pub returns-in_err-is_last-clause-serves : goal.returns-in_err-is_last-clause-serves
+returns-in_err-is_last-clause-serves c = rw (← c.self.view_is) (λ choices.
+    c.in_err-is_last.ensures.refused.full (is_at_every choices.every c.self.inside.index))
+
+pub invariant_of-self-then-not-is_last : goal.invariant_of-self-then-not-is_last
+invariant_of-self-then-not-is_last c =
+    let opened = rw (← c.self.view_is) at c.requires.open in
+    row-together c.in_ok-is_last.ensures.written c.self.invariant opened c.if-not-is_last.true
+
+pub returns-then-not-is_last-clause-reads : goal.returns-then-not-is_last-clause-reads
+returns-then-not-is_last-clause-reads c =
+    let drained = rw (← c.self.view_is) at c.requires.drained in
+    let row = c.in_ok-is_last.ensures.written in
+    rw (← c.self.view_is, row.written) (moved-read (row-moves row _ c.if-not-is_last.true).0 drained)
+
+pub end_epoch-requires : goal.end_epoch-requires
+end_epoch-requires c =
+    let opened = rw (← c.self.view_is) at c.requires.open in
+    let asked = row-asked c.in_ok-is_last.ensures.written c.self.invariant opened c.if-not-is_last.false in
+    record { «open» = asked.0; whole = asked.1.0; begun = asked.1.1 }
+
+pub invariant_of-self-in_err-end_epoch : goal.invariant_of-self-in_err-end_epoch
+invariant_of-self-in_err-end_epoch c = closed-together _ _
+    (row-closed c.in_ok-is_last.ensures.written c.if-not-is_last.false) c.end_epoch.ensures.closed
+    c.end_epoch.ensures.rows
+
+pub returns-in_err-end_epoch-clause-reads : goal.returns-in_err-end_epoch-clause-reads
+returns-in_err-end_epoch-clause-reads c =
+    let p = err_from_is_err_and c.from_residual-in_err-end_epoch.result
+    c.from_residual-in_err-end_epoch.ensures.1 in
+    let ended = c.in_err-end_epoch.ensures in
+    rw (← c.self.view_is, p.1, p.2, ended.memory)
+    (lost-read (row-ends c.in_ok-is_last.ensures.written _ c.if-not-is_last.false) refl ended.forgotten)
+
+pub returns-in_err-end_epoch-clause-serves : goal.returns-in_err-end_epoch-clause-serves
+returns-in_err-end_epoch-clause-serves c = λ choices is. served-closed _ _ _
+    (row-closed c.in_ok-is_last.ensures.written c.if-not-is_last.false)
+
+pub invariant_of-self-2 : goal.invariant_of-self-2
+invariant_of-self-2 c = closed-together _ _
+    (row-closed c.in_ok-is_last.ensures.written c.if-not-is_last.false) c.end_epoch.ensures.closed
+    c.end_epoch.ensures.rows
+
+pub returns-clause-reads : goal.returns-clause-reads
+returns-clause-reads c =
+    let opened = rw (← c.self.view_is) at c.requires.open in
+    let ended = c.in_ok-end_epoch.ensures in
+    let row = c.in_ok-is_last.ensures.written in
+    rw (← c.self.view_is) (ended-read (row-ends row _ c.if-not-is_last.false) c.take_row.new.encoder
+    c.end_epoch.new.encoder
+    (λ choices chosen. ap (λ (e : EncoderState). e.in_full) row.written ∙ due-there _ _ _ opened chosen)
+    (ap (λ (e : EncoderState). e.before) row.written) (ap (λ (e : EncoderState). e.rows) row.written)
+    ended.lines ended.before)
+
+pub returns-clause-serves : goal.returns-clause-serves
+returns-clause-serves c = λ choices is. served-closed _ _ _
+    (row-closed c.in_ok-is_last.ensures.written c.if-not-is_last.false)

@@ -1,0 +1,149 @@
+use Rattle.std.proofs.Common.{None, arith, ap, sym, refl, ◌∙◌}
+use Rattle.std.proofs.lemmas.Bool.{not-true, not-false}
+use Rattle.std.proofs.lemmas.Result.{err_from_is_err_and}
+use Rattle.crx_compact.specs.Encoding.{EncoderState}
+use Rattle.crx_filter.specs.RinexStages.{is_open_stage}
+use Rattle.crx_base.specs.meaning.Choices.{Choices}
+use Rattle.crx_filter.specs.meaning.Compacted.{is_at_every}
+use Rattle.crx_filter.proofs.steps.CompactionSteps.{ended-read, event-closed, event-read, header-read}
+use Rattle.crx_filter.proofs.steps.CompactionSteps.{lost-read, moved-read, of-event, refused-read}
+use Rattle.crx_filter.proofs.steps.Together.{begun-asked, begun-open, begun-rows, begun-together, begun-whole}
+use Rattle.crx_filter.proofs.steps.Together.{closed-together, none-there, same-together, served-closed}
+use Rattle.crx_filter.proofs.steps.Together.{served-open}
+use Rattle.crx_filter.proofs.compaction.CompactionDirection.take.Goals as goal
+
+pub invariant_of-self : goal.invariant_of-self
+invariant_of-self c = same-together _ _ _ c.self.invariant c.in_err-take.ensures.same
+
+pub returns-in_err-take-clause-reads : goal.returns-in_err-take-clause-reads
+returns-in_err-take-clause-reads c =
+    let p = err_from_is_err_and c.from_residual.result c.from_residual.ensures.1 in
+    let drained = rw (← c.self.view_is) at c.requires.drained in
+    rw (← c.self.view_is, p.1, p.2) (refused-read c.self.inside.reader c.take.new.self
+    (c.in_err-take.ensures.refuses _) c.in_err-take.ensures.same.types refl drained)
+
+pub returns-in_err-take-clause-serves : goal.returns-in_err-take-clause-serves
+returns-in_err-take-clause-serves c =
+    let closed = rw (← c.self.view_is) at c.requires.closed in
+    served-closed _ _ _ (ap is_open_stage c.in_err-take.ensures.same.stage ∙ closed)
+
+pub invariant_of-self-in-Nothing : goal.invariant_of-self-in-Nothing
+invariant_of-self-in-Nothing c =
+    let closed = rw (← c.self.view_is) at c.requires.closed in
+    let takes = rw c.in-Nothing.is at (c.in_ok-take.ensures.takes (record { index = 0; tail = None })) in
+    closed-together _ _ takes.1 (c.self.invariant.opened ∙ closed) (none-there _ _ c.self.invariant closed)
+
+pub returns-in-Nothing-clause-reads : goal.returns-in-Nothing-clause-reads
+returns-in-Nothing-clause-reads c =
+    let drained = rw (← c.self.view_is) at c.requires.drained in
+    let takes = rw c.in-Nothing.is at (c.in_ok-take.ensures.takes
+    (record { index = c.self.inside.index; tail = c.self.inside.encoder.before })) in
+    rw (← c.self.view_is) (moved-read takes.0 drained)
+
+pub returns-in-Nothing-clause-serves : goal.returns-in-Nothing-clause-serves
+returns-in-Nothing-clause-serves c =
+    let takes = rw c.in-Nothing.is at (c.in_ok-take.ensures.takes (record { index = 0; tail = None })) in
+    served-closed _ _ _ takes.1
+
+pub invariant_of-self-then-not-is_whole : goal.invariant_of-self-then-not-is_whole
+invariant_of-self-then-not-is_whole c =
+    let begins = rw c.in-Begun.is at (c.in_ok-take.ensures.takes (record { index = 0; tail = None })) in
+    begun-together c.self.inside.encoder begins c.begin.ensures.begun
+    (not-false _ (sym c.is_whole.ensures.value ∙ c.if-not-is_whole.true))
+
+pub returns-then-not-is_whole-clause-reads : goal.returns-then-not-is_whole-clause-reads
+returns-then-not-is_whole-clause-reads c =
+    let begins = rw c.in-Begun.is at (c.in_ok-take.ensures.takes
+    (record { index = c.self.inside.index; tail = c.self.inside.encoder.before })) in
+    rw (← c.self.view_is, c.begin.ensures.begun) (moved-read (begun-open _ _ _ _ begins
+    (not-false _ (sym c.is_whole.ensures.value ∙ c.if-not-is_whole.true))) refl)
+
+pub returns-then-not-is_whole-clause-serves : goal.returns-then-not-is_whole-clause-serves
+returns-then-not-is_whole-clause-serves c = served-open _ _ _
+    (ap (λ (e : EncoderState). e.in_full) c.begin.ensures.begun ∙ c.is_at_every.ensures
+    ∙ ap (λ n. is_at_every n c.self.inside.index) c.every.ensures.value)
+
+pub end_epoch-requires : goal.end_epoch-requires
+end_epoch-requires c =
+    let begins = rw c.in-Begun.is at (c.in_ok-take.ensures.takes (record { index = 0; tail = None })) in
+    let asked = begun-asked c.self.inside.encoder begins c.begin.ensures.begun
+    (not-true _ (sym c.is_whole.ensures.value ∙ c.if-not-is_whole.false)) in
+    record { «open» = asked.0; whole = asked.1.0; begun = asked.1.1 }
+
+pub invariant_of-self-in_err-end_epoch-in-Begun : goal.invariant_of-self-in_err-end_epoch-in-Begun
+invariant_of-self-in_err-end_epoch-in-Begun c = closed-together _ _
+    (not-true _ (sym c.is_whole.ensures.value ∙ c.if-not-is_whole.false)) c.end_epoch.ensures.closed
+    c.end_epoch.ensures.rows
+
+pub returns-in_err-end_epoch-in-Begun-clause-reads : goal.returns-in_err-end_epoch-in-Begun-clause-reads
+returns-in_err-end_epoch-in-Begun-clause-reads c =
+    let p = err_from_is_err_and c.from_residual-in_err-end_epoch-in-Begun.result
+    c.from_residual-in_err-end_epoch-in-Begun.ensures.1 in
+    let begins = rw c.in-Begun.is at (c.in_ok-take.ensures.takes
+    (record { index = c.self.inside.index; tail = c.self.inside.encoder.before })) in
+    let ended = c.in_err-end_epoch-in-Begun.ensures in
+    rw (← c.self.view_is, p.1, p.2, ended.memory) (lost-read (begun-whole _ _ _ _ begins
+    (not-true _ (sym c.is_whole.ensures.value ∙ c.if-not-is_whole.false))) refl ended.forgotten)
+
+pub returns-in_err-end_epoch-in-Begun-clause-serves : goal.returns-in_err-end_epoch-in-Begun-clause-serves
+returns-in_err-end_epoch-in-Begun-clause-serves c = served-closed _ _ _
+    (not-true _ (sym c.is_whole.ensures.value ∙ c.if-not-is_whole.false))
+
+pub invariant_of-self-in-Begun : goal.invariant_of-self-in-Begun
+invariant_of-self-in-Begun c = closed-together _ _
+    (not-true _ (sym c.is_whole.ensures.value ∙ c.if-not-is_whole.false)) c.end_epoch.ensures.closed
+    c.end_epoch.ensures.rows
+
+pub returns-in_ok-end_epoch-in-Begun-clause-reads : goal.returns-in_ok-end_epoch-in-Begun-clause-reads
+returns-in_ok-end_epoch-in-Begun-clause-reads c =
+    let begins = rw c.in-Begun.is at (c.in_ok-take.ensures.takes
+    (record { index = c.self.inside.index; tail = c.self.inside.encoder.before })) in
+    let begun = c.begin.ensures.begun in
+    let ended = c.in_ok-end_epoch-in-Begun.ensures in
+    rw (← c.self.view_is) (ended-read (begun-whole _ _ _ _ begins
+    (not-true _ (sym c.is_whole.ensures.value ∙ c.if-not-is_whole.false))) c.begin.new.self
+    c.end_epoch.new.encoder
+    (λ choices chosen. ap (λ (e : EncoderState). e.in_full) begun ∙ c.is_at_every.ensures
+    ∙ ap (λ n. is_at_every n c.self.inside.index) c.every.ensures.value
+    ∙ ap (λ (o : Choices). is_at_every o.every c.self.inside.index) (sym chosen))
+    (ap (λ (e : EncoderState). e.before) begun) (begun-rows c.self.inside.encoder begins begun) ended.lines
+    ended.before)
+
+pub returns-in_ok-end_epoch-in-Begun-clause-serves : goal.returns-in_ok-end_epoch-in-Begun-clause-serves
+returns-in_ok-end_epoch-in-Begun-clause-serves c = served-closed _ _ _
+    (not-true _ (sym c.is_whole.ensures.value ∙ c.if-not-is_whole.false))
+
+pub invariant_of-self-in-Header : goal.invariant_of-self-in-Header
+invariant_of-self-in-Header c =
+    let takes = rw c.in-Header.is at (c.in_ok-take.ensures.takes (record { index = 0; tail = None })) in
+    rw (c.copy_header.ensures.copied) (closed-together _ _ takes.0.closed refl refl)
+
+pub returns-in-Header-clause-reads : goal.returns-in-Header-clause-reads
+returns-in-Header-clause-reads c =
+    let takes = rw c.in-Header.is at (c.in_ok-take.ensures.takes
+    (record { index = c.self.inside.index; tail = c.self.inside.encoder.before })) in
+    rw (← c.self.view_is, c.copy_header.ensures.copied)
+    (header-read takes.0 (rw (c.date.ensures.value, takes.1) refl))
+
+pub returns-in-Header-clause-serves : goal.returns-in-Header-clause-serves
+returns-in-Header-clause-serves c =
+    let takes = rw c.in-Header.is at (c.in_ok-take.ensures.takes (record { index = 0; tail = None })) in
+    served-closed _ _ _ takes.0.closed
+
+pub invariant_of-self-in_default : goal.invariant_of-self-in_default
+invariant_of-self-in_default c =
+    let done = of-event _ c.in_ok-take.ensures.steps c.in_default.not-Nothing c.in_default.not-Begun
+    c.in_default.not-Header (c.in_ok-take.ensures.takes (record { index = 0; tail = None })) in
+    rw (c.copy.ensures.copied) (closed-together _ _ (event-closed done) refl refl)
+
+pub returns-in_default : goal.returns-in_default
+returns-in_default c =
+    let done = of-event _ c.in_ok-take.ensures.steps c.in_default.not-Nothing c.in_default.not-Begun
+    c.in_default.not-Header (c.in_ok-take.ensures.takes
+    (record { index = c.self.inside.index; tail = c.self.inside.encoder.before })) in
+    rw (← c.self.view_is, c.copy.ensures.copied) (record {
+      reads = event-read done;
+      serves = served-closed _ _ _ (event-closed done);
+      counted = omega (arith);
+      same = tt;
+    })

@@ -1,0 +1,54 @@
+use Rattle.std.proofs.Common.{inl, inr, refl}
+use Rattle.std.proofs.lemmas.Result.{err_from_is_err_and}
+use Rattle.crx_filter.proofs.steps.Together.{row-lost, row-or-epoch, row-refused, row-repeated}
+use Rattle.crx_filter.proofs.steps.Together.{row-written, rows-there}
+use Rattle.crx_filter.proofs.compaction.take_row.Goals as goal
+
+pub returns-in_err-read_row-clause-refused : goal.returns-in_err-read_row-clause-refused
+returns-in_err-read_row-clause-refused c =
+    let read = c.in_err-read_row.ensures in
+    let p = err_from_is_err_and c.from_residual.result c.from_residual.ensures.1 in
+    rw (p.1, p.2) (row-refused _ _ _ _ _ c.requires.together read.same _ refl c.requires.drained
+    (λ kept. inl (read.refused kept)))
+
+pub returns-in-Ok-false-clause-refused : goal.returns-in-Ok-false-clause-refused
+returns-in-Ok-false-clause-refused c =
+    let read = c.in_ok-read_row.ensures in
+    let encoded = c.in-Ok-false.ensures in
+    row-refused _ _ _ _ _ c.requires.together read.same _ (encoded.repeated c.in-Ok-false.field-0-test)
+    c.requires.drained (λ kept. inl (read.repeated kept (row-repeated _ _ _ _ _ encoded.answer
+    c.row.ensures.value (rows-there _ _ c.requires.together c.requires.open) c.in-Ok-false.field-0-test)))
+
+pub returns-in-Err-clause-refused : goal.returns-in-Err-clause-refused
+returns-in-Err-clause-refused c =
+    let read = c.in_ok-read_row.ensures in
+    let encoded = c.in-Err.ensures in
+    row-lost _ _ _ _ _ c.requires.together read.same _ _ encoded.forgotten refl refl (λ kept. inr (
+      refl,
+      read.memory (rw (
+        ← c.row.ensures.value,
+        ← rows-there _ _ c.requires.together c.requires.open,
+      ) encoded.memory),
+    ))
+
+pub returns-in-Row-clause-written : goal.returns-in-Row-clause-written
+returns-in-Row-clause-written c =
+    let read = c.in_ok-read_row.ensures in
+    let encoded = c.in-Ok-true.ensures in
+    let took = c.take_row.ensures in
+    row-written _ _ _ _ _ c.requires.together read.same _ _ _ _ _ c.requires.open read.ok read.row
+    c.row.ensures.value encoded.answer c.in-Ok-true.field-0-test (encoded.written c.in-Ok-true.field-0-test)
+    took.takes took.steps took.rows c.in-Row.is
+
+pub returns : goal.returns
+returns c =
+    let read = c.in_ok-read_row.ensures in
+    let encoded = c.in-Ok-true.ensures in
+    let took = c.take_row.ensures in
+    record {
+      written = row-written _ _ _ _ _ c.requires.together read.same _ _ _ _ _ c.requires.open read.ok read.row
+          c.row.ensures.value encoded.answer c.in-Ok-true.field-0-test
+          (encoded.written c.in-Ok-true.field-0-test) took.takes took.steps took.rows
+          (row-or-epoch _ took.steps c.in_default.not-Row);
+      refused = tt;
+    }
