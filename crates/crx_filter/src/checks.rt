@@ -1,6 +1,6 @@
 //! The check of a RINEX file.
 
-ghost use Rattle.std.specs.Prelude.{◌≡◌, ℕ, List, [], None, Some};
+ghost use Rattle.std.specs.Prelude.{◌≡◌, [], None, Some};
 ghost use Rattle.crx_base.specs.declared.fault.At.{At};
 ghost use Rattle.crx_filter.specs.CheckerState.{CheckerHasTaken, CheckerIsOpen, pending_report};
 ghost use Rattle.crx_filter.specs.meaning.Directions.{check_filter};

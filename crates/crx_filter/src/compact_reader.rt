@@ -1,17 +1,14 @@
 //! Compact RINEX 3.0, one line at a time: what each line is, the observation types in force, and the epoch whose lines come.
 
-ghost use Rattle.std.specs.Prelude.{◌≡◌, ◌≢◌, ◌≤◌, ℕ, if◌then◌else◌, [], None, true, false, length, IfOk, IfErr, OnErr, OnOk};
+ghost use Rattle.std.specs.Prelude.{◌≡◌, ◌≢◌, ◌≤◌, ◌⊎◌, if◌then◌else◌, [], None, true, false, length};
 ghost use Rattle.crx_base.specs.declared.limits.TheConstants.{LINE_LIMIT};
-ghost use Rattle.crx_base.specs.meaning.Seen.{Content};
-ghost use Rattle.crx_compact.specs.OpenEpochs.{is_idle, tail_held};
 ghost use Rattle.crx_base.specs.meaning.Choices.{Choices};
-ghost use Rattle.crx_filter.specs.CompactStages.{is_compact_stage, open_in};
-ghost use Rattle.crx_filter.specs.Stages.{is_ended, is_settled, seen_stage};
-ghost use Rattle.crx_filter.specs.ExpansionByLine.{expansion, compact_begins};
-ghost use Rattle.crx_filter.specs.LineByLine.{BetweenUnits, made_of_first_lines, made_of_unit};
-ghost use Rattle.crx_filter.specs.meaning.UnitPlaces.{event_record, header_line};
+ghost use Rattle.crx_compact.specs.OpenEpochs.{tail_held};
+ghost use Rattle.crx_header.specs.meaning.EpochColumns.{begins_epoch};
+ghost use Rattle.crx_filter.specs.CompactStages.{is_compact_stage};
+ghost use Rattle.crx_filter.specs.Stages.{is_ended, is_settled};
 ghost use Rattle.crx_filter.specs.declared.stage.Stage.{Stage};
-ghost use Rattle.crx_filter.specs.declared.stage.Stage.TheVariants.{FirstLines, Header, Event, Looking, Open};
+ghost use Rattle.crx_filter.specs.declared.stage.Stage.TheVariants.{Between, Looking, Open};
 
 use crate::event_lines::records_announced;
 use crate::first_lines::{check_program, check_version};
@@ -33,114 +30,20 @@ pub struct CompactReader {
 }
 
 impl CompactReader {
-    ghost use Rattle.crx_filter.specs.CompactReaders.{RefusesCompactLine, TakesCompactLine, TakesOtherLine, made_next, compact_reader_phase, seen_in, compact_reader_state};
+    ghost use Rattle.crx_filter.specs.CompactReaders.{ReadsCompactLine, compact_reader_parts, line_copied};
+    ghost use Rattle.crx_filter.specs.DirectionParts.{seen_by};
     ghost use Rattle.crx_filter.specs.ExpansionByLine.{expansion_seen};
 
     /// A reader before the first line.
     pub fn new(alloc: Global) -> CompactReader
-        ensures start { (choices : Choices)
-            → compact_reader_state choices 0 result ≡ expansion_seen choices [] }
+        ensures start { (choices : Choices) → seen_by choices 0 (compact_reader_parts result)
+            ≡ expansion_seen choices [] }
     {
         CompactReader {
             stage: Stage::FirstLines { count: 0 },
             types: Types::new(alloc),
             columns: Columns::new(alloc),
         }
-    }
-
-    /// Takes one of the first two lines of compact text.
-    ///
-    /// `NotCompact` comes where the first one isn't that of Compact RINEX 3.0, `BadProgLine` where the second one has another
-    /// label.
-    #[inline(never)]
-    fn first_line(&mut self, count: usize, line: &[u8]) -> Result<(), Fault>
-        requires idle { is_idle self.old.columns.state ≡ true }
-        ensures takes { (choices : Choices) (number : ℕ)
-            → OnOk result (TakesOtherLine (made_of_first_lines count line.now) line.now
-            (seen_in choices number self.old (FirstLines count))
-            (compact_reader_state choices number self.new) false) }
-        ensures refuses { IfErr result (RefusesCompactLine self.old.types (tail_held self.old.columns.state)
-            (made_of_first_lines count line.now) (seen_stage (open_in self.old.columns.state) (FirstLines count))
-            line.now) }
-        ensures types { OnErr result (self.new.types ≡ self.old.types) }
-    {
-        if count == 0 {
-            check_version(line)?;
-            self.stage = Stage::FirstLines { count: 1 };
-        } else {
-            check_program(line)?;
-            self.stage = Stage::Header { is_first: true };
-        }
-        Ok(())
-    }
-
-    /// Takes a header line.
-    ///
-    /// The faults of the first header line come first, then `BadTypesLine`; `OutOfMemory` at a types line alone.
-    #[inline(never)]
-    fn header_line(&mut self, is_first: bool, line: &[u8]) -> Result<(), Fault>
-        requires idle { is_idle self.old.columns.state ≡ true }
-        ensures takes { (choices : Choices) (number : ℕ)
-            → OnOk result (TakesOtherLine (made_of_unit (header_line is_first line.now)) line.now
-            (seen_in choices number self.old (Header is_first))
-            (compact_reader_state choices number self.new) true) }
-        ensures refuses { IfErr result (RefusesCompactLine self.old.types (tail_held self.old.columns.state)
-            (made_of_unit (header_line is_first line.now))
-            (seen_stage (open_in self.old.columns.state) (Header is_first)) line.now) }
-        ensures types { OnErr result (self.new.types ≡ self.old.types) }
-    {
-        accept_header_line(&mut self.types, is_first, line)?;
-        self.columns.reset();
-        self.stage = after_header_line(line);
-        Ok(())
-    }
-
-    /// Takes a record of an event: a types line among those of flags 2 to 5 empties the columns.
-    ///
-    /// `BadTypesLine` comes where types lines count and the letter or the count of one is wrong; `OutOfMemory` at a types line
-    /// that counts alone.
-    #[inline(never)]
-    fn record(&mut self, left: usize, counted: bool, line: &[u8]) -> Result<(), Fault>
-        requires idle { is_idle self.old.columns.state ≡ true }
-        ensures takes { (choices : Choices) (number : ℕ)
-            → OnOk result (TakesOtherLine (made_of_unit (event_record counted line.now)) line.now
-            (seen_in choices number self.old (Event left counted))
-            (compact_reader_state choices number self.new) true) }
-        ensures refuses { IfErr result (RefusesCompactLine self.old.types (tail_held self.old.columns.state)
-            (made_of_unit (event_record counted line.now))
-            (seen_stage (open_in self.old.columns.state) (Event left counted)) line.now) }
-        ensures types { OnErr result (self.new.types ≡ self.old.types) }
-    {
-        let is_emptied = accept_record(&mut self.types, counted, line)?;
-        reset_if(&mut self.columns, is_emptied);
-        self.stage = with_records_left(left.saturating_sub(1), counted);
-        Ok(())
-    }
-
-    /// Takes a line where an epoch or an event may begin; `true` says that it is an event's, which is copied into RINEX as it is.
-    ///
-    /// `BadEpoch` comes where an event's count is none; then the refusals of [`Columns::begin`].
-    #[inline(never)]
-    fn begin(&mut self, line: &[u8]) -> Result<bool, Fault>
-        requires idle { is_idle self.old.columns.state ≡ true }
-        requires short { length line.now ≤ LINE_LIMIT }
-        ensures takes { (choices : Choices) (number : ℕ) (stage : Stage) → IfOk result (TakesOtherLine
-            (compact_begins self.old.types (tail_held self.old.columns.state) (Content line.now)) line.now
-            (seen_in choices number self.old stage) (compact_reader_state choices number self.new)) }
-        ensures refuses { IfErr result (λ fault.
-            RefusesCompactLine self.old.types (tail_held self.old.columns.state)
-            (compact_begins self.old.types (tail_held self.old.columns.state) (Content line.now))
-            BetweenUnits line.now fault) }
-        ensures types { OnErr result (self.new.types ≡ self.old.types) }
-    {
-        if is_event_line(line) {
-            let count = records_announced(line)?;
-            self.stage = with_records_left(count, counts_types(line));
-            return Ok(true);
-        }
-        self.columns.begin(&self.types, line)?;
-        self.stage = Stage::Open;
-        Ok(false)
     }
 
     /// Takes a line of the epoch that is open. `true` says that it is the last one, and that the lines of the epoch are ready.
@@ -151,13 +54,7 @@ impl CompactReader {
         requires open { self.old.stage ≡ Open }
         requires short { length line.now ≤ LINE_LIMIT }
         requires drained { lines.old ≡ [] }
-        ensures takes { (choices : Choices) (number : ℕ)
-            → IfOk result (TakesCompactLine (made_next self.old line.now) line.now (compact_reader_state
-            choices number self.old) (compact_reader_state choices number self.new) lines.new) }
-        ensures refuses { IfErr result (RefusesCompactLine self.old.types (tail_held self.old.columns.state)
-            (made_next self.old line.now) (compact_reader_phase self.old) line.now) }
-        ensures types { OnErr result (self.new.types ≡ self.old.types) }
-        ensures none { OnErr result (lines.new ≡ []) }
+        ensures reads { ReadsCompactLine self.old line.now result lines.new self.new }
     {
         match self.columns.feed_into(line, lines) {
             Ok(false) => Ok(false),
@@ -174,53 +71,67 @@ impl CompactReader {
 
     /// Takes a line where no epoch is open; `true` says that it is copied into RINEX as it is.
     ///
-    /// The faults are those of what the line is. `OutOfMemory` comes only at a line without a fault: a types line that counts, and an
-    /// epoch's first line.
+    /// `NotCompact` comes where the first line isn't that of Compact RINEX 3.0, `BadProgLine` where the second one has another label.
+    /// In the header the faults of its first line come first, then `BadTypesLine`; among an event's records `BadTypesLine`, where
+    /// types lines count. Where an epoch or an event may begin, `BadEpoch` comes where an event's count is none; then the refusals of
+    /// [`Columns::begin`]. `OutOfMemory` comes only at a line without a fault: a types line that counts, and an epoch's first line.
     #[inline(never)]
     pub(crate) fn read_between(&mut self, line: &[u8]) -> Result<bool, Fault>
         requires running { is_ended self.old.stage ≡ false }
         requires between { self.old.stage ≢ Open }
         requires short { length line.now ≤ LINE_LIMIT }
-        ensures takes { (choices : Choices) (number : ℕ)
-            → IfOk result (TakesOtherLine (made_next self.old line.now) line.now (compact_reader_state
-            choices number self.old) (compact_reader_state choices number self.new)) }
-        ensures refuses { IfErr result (RefusesCompactLine self.old.types (tail_held self.old.columns.state)
-            (made_next self.old line.now) (compact_reader_phase self.old) line.now) }
-        ensures types { OnErr result (self.new.types ≡ self.old.types) }
+        ensures reads { ReadsCompactLine self.old line.now result (line_copied line.now result) self.new }
     {
         match self.stage {
-            Stage::FirstLines { count } => {
-                self.first_line(count, line)?;
+            Stage::FirstLines { count: 0 } => {
+                check_version(line)?;
+                self.stage = Stage::FirstLines { count: 1 };
+                Ok(false)
+            }
+            Stage::FirstLines { .. } => {
+                check_program(line)?;
+                self.stage = Stage::Header { is_first: true };
                 Ok(false)
             }
             Stage::Header { is_first } => {
-                self.header_line(is_first, line)?;
+                accept_header_line(&mut self.types, is_first, line)?;
+                self.columns.reset();
+                self.stage = after_header_line(line);
                 Ok(true)
             }
             Stage::Event { left, counted } => {
-                self.record(left, counted, line)?;
+                if accept_record(&mut self.types, counted, line)? {
+                    self.columns.reset();
+                }
+                self.stage = with_records_left(left.saturating_sub(1), counted);
                 Ok(true)
             }
             Stage::Between => self.begin(line),
-            Stage::Looking => self.look(line),
+            Stage::Looking => {
+                if begins_epoch(line) {
+                    return self.begin(line);
+                }
+                Ok(false)
+            }
             Stage::Open | Stage::Closed | Stage::Ended(_) => Ok(false),
         }
     }
 
-    /// Takes a line where one that begins with `>` is looked for.
-    fn look(&mut self, line: &[u8]) -> Result<bool, Fault>
-        requires looking { self.old.stage ≡ Looking }
+    /// Takes a line where an epoch or an event may begin; `true` says that it is an event's.
+    #[inline(never)]
+    fn begin(&mut self, line: &[u8]) -> Result<bool, Fault>
+        requires stage { (self.old.stage ≡ Between)
+            ⊎ ((self.old.stage ≡ Looking) × (begins_epoch line.now ≡ true)) }
         requires short { length line.now ≤ LINE_LIMIT }
-        ensures takes { (choices : Choices) (number : ℕ)
-            → IfOk result (TakesOtherLine (made_next self.old line.now) line.now (compact_reader_state
-            choices number self.old) (compact_reader_state choices number self.new)) }
-        ensures refuses { IfErr result (RefusesCompactLine self.old.types (tail_held self.old.columns.state)
-            (made_next self.old line.now) (compact_reader_phase self.old) line.now) }
-        ensures types { OnErr result (self.new.types ≡ self.old.types) }
+        ensures reads { ReadsCompactLine self.old line.now result (line_copied line.now result) self.new }
     {
-        if begins_epoch(line) {
-            return self.begin(line);
+        if is_event_line(line) {
+            let count = records_announced(line)?;
+            self.stage = with_records_left(count, counts_types(line));
+            return Ok(true);
         }
+        self.columns.begin(&self.types, line)?;
+        self.stage = Stage::Open;
         Ok(false)
     }
 
@@ -237,16 +148,5 @@ impl CompactReader {
             self.columns.reset();
         }
         self.stage = stage;
-    }
-}
-
-/// Empties columns between two epochs, where that is asked for.
-fn reset_if(columns: &mut Columns, is_emptied: bool)
-    requires idle { is_idle columns.old.state ≡ true }
-    ensures tail { tail_held columns.new.state ≡ (if is_emptied then None else tail_held columns.old.state) }
-    ensures idle { is_idle columns.new.state ≡ true }
-{
-    if is_emptied {
-        columns.reset();
     }
 }

@@ -40,7 +40,7 @@ impl<D: Direction> Engine<D> {
     ghost use Rattle.std.specs.Io.BufRead.{Rests};
     ghost use Rattle.std.specs.Option.{option_copied};
     ghost use Rattle.crx_base.specs.meaning.Lines.{InputLine, is_long};
-    ghost use Rattle.crx_base.specs.meaning.Seen.{ReadLine, Content, Overlong};
+    ghost use Rattle.crx_base.specs.meaning.Seen.{Content, Overlong};
     ghost use Rattle.crx_base.specs.declared.fault.At.{At};
     ghost use Rattle.crx_base.specs.declared.limits.TheConstants.{LINE_LIMIT};
     ghost use Rattle.crx_lines.specs.Reading.{line_number, line_shown};
@@ -291,7 +291,7 @@ impl<D: Direction> Engine<D> {
 
 impl<D: Direction> crx_runs::Engine for Engine<D> {
     ghost use Rattle.std.specs.Prelude.{⊤, length};
-    ghost use Rattle.crx_filter.specs.EngineState.{engine_ready, engine_seen, engine_took};
+    ghost use Rattle.crx_filter.specs.EngineState.{engine_ready, engine_took};
 
     ghost filter = { λ e. D.filter e.options };
 

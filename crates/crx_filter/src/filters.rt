@@ -1,6 +1,6 @@
 //! Both filters over a whole input.
 
-ghost use Rattle.std.specs.Prelude.{◌≡◌, ℕ, List, None};
+ghost use Rattle.std.specs.Prelude.{◌≡◌, None};
 ghost use Rattle.crx_filter.specs.meaning.Canonical.{DependsOnNormalForm};
 ghost use Rattle.crx_filter.specs.meaning.Lossless.{BringsBackWhatPasses};
 ghost use Rattle.crx_filter.specs.meaning.UnitsAndText.{ReadsUnits, WritesUnits};

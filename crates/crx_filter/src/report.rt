@@ -1,9 +1,9 @@
 //! The report of a check: six lines.
 
-ghost use Rattle.std.specs.Prelude.{◌≡◌, ◌+◌, ◌≤◌, ◌++◌, ◌∷◌, ℕ, None, Some, MatchBool, codes, decimal, length, slice_get};
+ghost use Rattle.std.specs.Prelude.{◌≡◌, ◌+◌, ◌≤◌, ◌++◌, None, Some, MatchBool, codes, decimal, length, slice_get};
 ghost use Rattle.std.specs.List.{flat_map};
 ghost use Rattle.crx_filter.specs.meaning.Standard.{standard_text, systems_text, count_text, report_lines};
-ghost use Rattle.crx_filter.specs.Totals.{totals_held, found_held};
+ghost use Rattle.crx_filter.specs.Totals.{found_held};
 
 use crx_base::limits::VERSION_WIDTH;
 use crx_header::Types;

@@ -1,6 +1,6 @@
 //! Where a run is between two lines, in either direction.
 
-ghost use Rattle.std.specs.Prelude.{ℕ, ◌≡◌, List, Option, Some, Bool, true, false, if◌then◌else◌};
+ghost use Rattle.std.specs.Prelude.{ℕ, ◌≡◌, List, Option, Some, true, false, if◌then◌else◌};
 ghost use Rattle.crx_rinex.specs.meaning.EpochPlaces.{OpenEpoch};
 ghost use Rattle.crx_compact.specs.OpenEpochs.{OpenRawEpoch};
 ghost use Rattle.crx_filter.specs.LineByLine.{fault_at_end_in, is_in_epoch, may_skip, with_records_left, InHeader, BetweenUnits};
