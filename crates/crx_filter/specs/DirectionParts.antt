@@ -1,5 +1,7 @@
 -- What a direction has between two lines, and what it does with the next one.
-use Rattle.std.specs.Prelude.{◌≡◌, ◌⊎◌, ℕ, ◌+◌, Bool, true, false, List, [], Option, Result, IfOk, IfErr, OnErr}
+use Rattle.std.specs.Prelude.{◌≡◌, ◌⊎◌, ◌≤◌, ◌<◌, ℕ, ◌+◌, Bool, true, false, List, [], length, Option, Result}
+use Rattle.std.specs.Prelude.{IfOk, IfErr, OnErr}
+use Rattle.crx_base.specs.declared.limits.TheConstants.{INPUT_LIMIT, LINE_LIMIT}
 use Rattle.crx_base.specs.meaning.Seen.{ReadLine, Content}
 use Rattle.crx_base.specs.meaning.Choices.{Choices}
 use Rattle.crx_base.specs.declared.fault.Fault.{Fault}
@@ -7,7 +9,7 @@ use Rattle.crx_base.specs.declared.fault.Fault.TheVariants.{OutOfMemory}
 use Rattle.crx_header.specs.meaning.ObservationTypes.{Count}
 use Rattle.crx_base.specs.declared.fault.At.{At}
 use Rattle.crx_filter.specs.LineByLine.{Seen, Direction, Made, Fails, Ended, Answer, Quiet, Ready, made_in}
-use Rattle.crx_filter.specs.LineByLine.{failed_step, seen_next}
+use Rattle.crx_filter.specs.LineByLine.{Step as SeenStep, failed_step, seen_next}
 use Rattle.crx_filter.specs.Memory.{may_take_memory}
 use Rattle.crx_filter.specs.EngineSteps.{Steps, step_made}
 use Rattle.crx_filter.specs.meaning.Reading.{can_go_on}
@@ -77,9 +79,17 @@ pub record TakesLine {U O K : Type 0} (direction : Direction U O K) (before : Se
   pub nothing : OnErr result (ready ≡ [])
   pub choices : after.choices ≡ before.choices
 
--- an engine has no line ready, and its choices are as they were; a fault that it answers has ended the run
-pub record HasStopped {O K : Type 0}
-    (result : Result Step At) (ready : List (List ℕ)) (before after : Seen O K) : Type 0 where
+-- an engine can be given a line with this content: no line is ready, and one more is within the limit
+pub record AwaitsLine {O K : Type 0} (ready : List (List ℕ)) (before : Seen O K) (line : List ℕ) : Type 0 where
+  pub drained : ready ≡ []
+  pub short : length line ≤ LINE_LIMIT
+  pub within : before.number < INPUT_LIMIT
+
+-- an engine has made this step, and no line is ready; its choices are as they were, and a fault that it answers has
+-- ended the run
+pub record HasStopped {O K : Type 0} (step : SeenStep O K) (result : Result Step At) (ready : List (List ℕ))
+    (before after : Seen O K) : Type 0 where
+  pub steps : step_made result [] after ≡ step
   pub ended : IfErr result (λ at. after.phase ≡ Ended at)
   pub drained : ready ≡ []
   pub choices : after.choices ≡ before.choices

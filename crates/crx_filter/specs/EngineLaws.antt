@@ -1,5 +1,5 @@
 -- What a direction has to keep to, in the words of a filter.
-use Rattle.std.specs.Prelude.{◌≡◌, ℕ, true, List, [], ◌∷◌, ◌++◌, map, length, Some, reverse}
+use Rattle.std.specs.Prelude.{◌≡◌, true, List, [], ◌∷◌, ◌++◌, map, length, Some, reverse}
 use Rattle.crx_base.specs.meaning.Lines.{InputLine, lines_text}
 use Rattle.crx_base.specs.meaning.Seen.{ReadLine, Overlong, seen}
 use Rattle.crx_base.specs.declared.fault.At.{At}

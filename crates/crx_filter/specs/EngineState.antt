@@ -1,10 +1,13 @@
 -- What an engine of a direction is seen as.
-use Rattle.std.specs.Prelude.{ℕ, List}
+use Rattle.std.specs.Prelude.{ℕ, List, Result}
+use Rattle.crx_base.specs.declared.fault.At.{At}
 use Rattle.crx_base.specs.meaning.Lines.{InputLine}
+use Rattle.crx_base.specs.meaning.Seen.{Content}
 use Rattle.crx_filter.specs.EngineLines.{HasTaken}
-use Rattle.crx_filter.specs.DirectionParts.{EngineParts, seen_by}
-use Rattle.crx_filter.specs.LineByLine.{Seen}
+use Rattle.crx_filter.specs.DirectionParts.{AwaitsLine, EngineParts, HasStopped, TakesLine, seen_by}
+use Rattle.crx_filter.specs.LineByLine.{Seen, Step as SeenStep}
 use Rattle.crx_runs.specs.Engines.{Awaited}
+use Rattle.crx_runs.specs.declared.engine.Step.{Step}
 use Rattle.crx_filter.specs.declared.direction.Direction.{Ghosts}
 
 module _ {D : Type 0} (d : Ghosts D) where
@@ -19,3 +22,17 @@ module _ {D : Type 0} (d : Ghosts D) where
   -- it has taken these lines, and where one is to come a second time, has answered this warning to it
   abbrev pub engine_took : EngineParts D → List InputLine → List Awaited → Type 0
   engine_took e lines notices = HasTaken d.by_line (d.seen_after e.options) (engine_seen e) lines notices
+
+  -- it can be given a line with this content
+  abbrev pub EngineAwaits : EngineParts D → List ℕ → Type 0
+  EngineAwaits e line = AwaitsLine (engine_ready e) (engine_seen e) line
+
+  -- it has taken a line with this content
+  abbrev pub EngineTakes : EngineParts D → List ℕ → Result Step At → EngineParts D → Type 0
+  EngineTakes before line result after =
+      TakesLine d.by_line (engine_seen before) (Content line) result (engine_ready after) (engine_seen after)
+
+  -- it has made this step, and no line is ready
+  abbrev pub EngineStops : SeenStep d.Open d.Kept → Result Step At → EngineParts D → EngineParts D → Type 0
+  EngineStops step result before after =
+      HasStopped step result (engine_ready after) (engine_seen before) (engine_seen after)

@@ -1,13 +1,9 @@
 -- What an engine of expansion is seen as.
 use Rattle.std.specs.Prelude.{ℕ, List, Option}
-use Rattle.crx_base.specs.meaning.Lines.{InputLine}
 use Rattle.crx_compact.specs.OpenEpochs.{OpenRawEpoch}
 use Rattle.crx_compact.specs.Tails.{Tail}
 use Rattle.crx_filter.specs.DirectionParts.{EngineParts, seen_by}
-use Rattle.crx_filter.specs.ExpansionByLine.{expansion, expansion_seen}
 use Rattle.crx_filter.specs.ExpansionParts.{expansion_parts}
-use Rattle.crx_filter.specs.EngineLines.{HasTaken}
-use Rattle.crx_runs.specs.Engines.{Awaited}
 use Rattle.crx_filter.specs.LineByLine.{Seen}
 use Rattle.crx_filter.specs.declared.expansion.Expansion.{Expansion}
 

@@ -1,20 +1,15 @@
 -- What the laws of both filters say, where it is long.
 use Rattle.crx_filter.specs.meaning.Reading.{fault_of_stop}
-use Rattle.std.specs.Prelude.{◌≡◌, ◌<◌, if◌then◌else◌, ℕ, Bool, true, false, List, [], ◌∷◌, ◌++◌, Option, Some, None}
+use Rattle.std.specs.Prelude.{◌≡◌, ℕ, Bool, true, false, List, [], ◌∷◌, ◌++◌, Option, Some, None}
 use Rattle.std.specs.Prelude.{map, ⊤}
 use Rattle.crx_base.specs.meaning.Seen.{ReadLine, seen}
 use Rattle.crx_rinex.specs.meaning.Places.{Place, Here, Wanted}
 use Rattle.crx_rinex.specs.Steady.{IsSteady}
-use Rattle.crx_rinex.specs.meaning.Units.{Unit as FileUnit, HeaderLine, EventLine, EventRecord, Observation, Unit}
-use Rattle.crx_header.specs.meaning.EpochColumns.{is_event_line, records_in}
-use Rattle.crx_rinex.specs.meaning.Epochs.{IsWholeEpoch}
-use Rattle.crx_filter.specs.meaning.UnitPlaces.{types_fault, header_line_fault}
-use Rattle.std.specs.Option.{is_some}
+use Rattle.crx_rinex.specs.meaning.Units.{Unit as FileUnit, Unit}
 use Rattle.crx_base.specs.meaning.Lines.{lines_of}
 use Rattle.crx_base.specs.declared.fault.At.{At}
 use Rattle.crx_base.specs.meaning.Choices.{Choices}
-use Rattle.crx_filter.specs.meaning.Items.{Item, Accepted, Warned, is_at_start, header_has_ended, records_left}
-use Rattle.crx_filter.specs.meaning.Items.{records_count_types, types_in_force}
+use Rattle.crx_filter.specs.meaning.Items.{Item, Accepted, Warned, header_has_ended, records_left}
 use Rattle.crx_filter.specs.meaning.Reading.{Reading, AtFault, AtLines, Looking, WholeReading, reading_from}
 use Rattle.crx_filter.specs.meaning.Reading.{looked_for}
 use Rattle.crx_base.specs.meaning.Faults.{is_skippable}

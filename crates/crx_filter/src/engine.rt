@@ -35,19 +35,18 @@ impl<D: Direction> Model for Engine<D> {
 }
 
 impl<D: Direction> Engine<D> {
-    ghost use Rattle.std.specs.Prelude.{◌+◌, ◌<◌, ◌↔◌, List, [], drop, length, slice_get, OnErr, IfOk, IfErr, Err, IsTrue, false};
+    ghost use Rattle.std.specs.Prelude.{◌+◌, ◌<◌, ◌↔◌, List, [], drop, slice_get, OnErr, IfOk, IfErr, Err, IsTrue, false};
     ghost use Rattle.std.specs.Borrow.{sem};
     ghost use Rattle.std.specs.Io.BufRead.{Rests};
     ghost use Rattle.std.specs.Option.{option_copied};
     ghost use Rattle.crx_base.specs.meaning.Lines.{InputLine, is_long};
     ghost use Rattle.crx_base.specs.meaning.Seen.{Content, Overlong};
     ghost use Rattle.crx_base.specs.declared.fault.At.{At};
-    ghost use Rattle.crx_base.specs.declared.limits.TheConstants.{LINE_LIMIT};
     ghost use Rattle.crx_lines.specs.Reading.{line_number, line_shown};
-    ghost use Rattle.crx_filter.specs.DirectionParts.{AnswersToFault, HasStopped, TakesLine};
+    ghost use Rattle.crx_filter.specs.DirectionParts.{AnswersToFault};
     ghost use Rattle.crx_filter.specs.EngineLaws.{IsLawfulDirection};
-    ghost use Rattle.crx_filter.specs.EngineState.{engine_ready, engine_seen, engine_took};
-    ghost use Rattle.crx_filter.specs.EngineSteps.{Steps, step_made};
+    ghost use Rattle.crx_filter.specs.EngineState.{EngineAwaits, EngineStops, EngineTakes, engine_ready, engine_seen, engine_took};
+    ghost use Rattle.crx_filter.specs.EngineSteps.{Steps};
     ghost use Rattle.crx_filter.specs.LineByLine.{Ended, seen_end, seen_next};
     ghost use Rattle.crx_filter.specs.RinexStages.{is_open_stage};
     ghost use Rattle.crx_filter.specs.contracts.engine.Engine.{the_row};
@@ -100,11 +99,8 @@ impl<D: Direction> Engine<D> {
     /// call at every line.
     #[inline(always)]
     fn take_line(&mut self, line: &[u8]) -> bool
-        requires drained { engine_ready D.Direction self.old ≡ [] }
-        requires short { length line.now ≤ LINE_LIMIT }
-        requires within { (engine_seen D.Direction self.old).number < INPUT_LIMIT }
-        ensures takes { TakesLine D.by_line (engine_seen D.Direction self.old) (Content line.now)
-            (answer_given result self.new.answer) (engine_ready D.Direction self.new) (engine_seen D.Direction self.new) }
+        requires asked { EngineAwaits D.Direction self.old line.now }
+        ensures takes { EngineTakes D.Direction self.old line.now (answer_given result self.new.answer) self.new }
         ensures lawful { IsLawfulDirection D.by_line D.seen_after D.filter }
     {
         let Stage::Open = self.direction.stage() else {
@@ -130,11 +126,8 @@ impl<D: Direction> Engine<D> {
     #[inline(never)]
     fn take_between(&mut self, line: &[u8]) -> bool
         requires closed { is_open_stage (D.parts self.old.direction).stage ≡ false }
-        requires drained { engine_ready D.Direction self.old ≡ [] }
-        requires short { length line.now ≤ LINE_LIMIT }
-        requires within { (engine_seen D.Direction self.old).number < INPUT_LIMIT }
-        ensures takes { TakesLine D.by_line (engine_seen D.Direction self.old) (Content line.now)
-            (answer_given result self.new.answer) (engine_ready D.Direction self.new) (engine_seen D.Direction self.new) }
+        requires asked { EngineAwaits D.Direction self.old line.now }
+        ensures takes { EngineTakes D.Direction self.old line.now (answer_given result self.new.answer) self.new }
     {
         let stage = self.direction.stage();
         if let Stage::Ended(at) = stage {
@@ -158,14 +151,12 @@ impl<D: Direction> Engine<D> {
     }
 
     /// Takes a line that is too long: see [`Engine::overlong`].
-    fn pass(&mut self, number: u64) -> Result<Step, At>
+    fn skip(&mut self, number: u64) -> Result<Step, At>
         requires drained { engine_ready D.Direction self.old ≡ [] }
         requires next { number ≡ (engine_seen D.Direction self.old).number + 1 }
         requires within { number ≤ INPUT_LIMIT }
-        ensures steps { step_made result [] (engine_seen D.Direction self.new)
-            ≡ seen_next D.by_line (engine_seen D.Direction self.old) Overlong }
-        ensures stops { HasStopped result (engine_ready D.Direction self.new)
-            (engine_seen D.Direction self.old) (engine_seen D.Direction self.new) }
+        ensures stops { EngineStops D.Direction (seen_next D.by_line (engine_seen D.Direction self.old) Overlong)
+            result self.old self.new }
         ensures lawful { IsLawfulDirection D.by_line D.seen_after D.filter }
     {
         let stage = self.direction.stage();
@@ -183,10 +174,8 @@ impl<D: Direction> Engine<D> {
     /// Takes the end of the input: see [`Engine::end`].
     fn close(&mut self) -> Result<Step, At>
         requires drained { engine_ready D.Direction self.old ≡ [] }
-        ensures steps { step_made result [] (engine_seen D.Direction self.new)
-            ≡ seen_end D.by_line (engine_seen D.Direction self.old) }
-        ensures stops { HasStopped result (engine_ready D.Direction self.new)
-            (engine_seen D.Direction self.old) (engine_seen D.Direction self.new) }
+        ensures stops { EngineStops D.Direction (seen_end D.by_line (engine_seen D.Direction self.old))
+            result self.old self.new }
         ensures lawful { IsLawfulDirection D.by_line D.seen_after D.filter }
     {
         let stage = self.direction.stage();
@@ -218,28 +207,22 @@ impl<D: Direction> Engine<D> {
         requires drained { engine_ready D.Direction self.old ≡ [] }
         requires next { number ≡ (engine_seen D.Direction self.old).number + 1 }
         requires within { number ≤ INPUT_LIMIT }
-        ensures steps { step_made result (engine_ready D.Direction self.new) (engine_seen D.Direction self.new)
-            ≡ seen_next D.by_line (engine_seen D.Direction self.old) Overlong }
-        ensures ended { IfErr result (λ at. (engine_seen D.Direction self.new).phase ≡ Ended at) }
-        ensures drained { engine_ready D.Direction self.new ≡ [] }
-        ensures choices { (engine_seen D.Direction self.new).choices ≡ (engine_seen D.Direction self.old).choices }
+        ensures stops { EngineStops D.Direction (seen_next D.by_line (engine_seen D.Direction self.old) Overlong)
+            result self.old self.new }
         ensures answers { (lines : List InputLine) (notices : List Awaited) (line : InputLine)
             → engine_took D.Direction self.old lines notices → IsAwaited notices line → is_long line ≡ true
             → EngineAnswers (D.filter (engine_seen D.Direction self.old).choices)
             (engine_took D.Direction self.new) (engine_ready D.Direction self.new) lines notices line result }
         ensures repeated { (at : At) → (engine_seen D.Direction self.old).phase ≡ Ended at → result ≡ Err at }
     {
-        self.pass(number)
+        self.skip(number)
     }
 
     /// Takes the end of the input. No line is ready then.
     pub fn end(&mut self) -> Result<Step, At>
         requires drained { engine_ready D.Direction self.old ≡ [] }
-        ensures steps { step_made result [] (engine_seen D.Direction self.new)
-            ≡ seen_end D.by_line (engine_seen D.Direction self.old) }
-        ensures ended { IfErr result (λ at. (engine_seen D.Direction self.new).phase ≡ Ended at) }
-        ensures drained { engine_ready D.Direction self.new ≡ [] }
-        ensures choices { (engine_seen D.Direction self.new).choices ≡ (engine_seen D.Direction self.old).choices }
+        ensures stops { EngineStops D.Direction (seen_end D.by_line (engine_seen D.Direction self.old))
+            result self.old self.new }
         // After the lines that it has taken, the answer is what its direction makes of them all.
         ensures concludes { (lines : List InputLine) → engine_took D.Direction self.old lines []
             → Concludes (D.filter (engine_seen D.Direction self.old).choices) [] lines result }
@@ -281,9 +264,10 @@ impl<D: Direction> Engine<D> {
     /// Borrows the next of the lines that are ready, without its line end; `None` once none is pending.
     pub fn next_line(&mut self) -> Option<&[u8]>
         ensures value { option_copied result ≡ slice_get (engine_ready D.Direction self.old) 0 }
-        // That line is no longer pending, and what is seen of the engine is the same.
+        // That line is no longer pending; what is seen of the engine, and the answer that is stored, are the same.
         ensures* after_borrow { sem 𝓛 (Rests (the_row D.row D.Direction) self.entry (λ new. (engine_ready D.Direction new
-            ≡ drop 1 (engine_ready D.Direction self.old)) × (engine_seen D.Direction new ≡ engine_seen D.Direction self.old))) }
+            ≡ drop 1 (engine_ready D.Direction self.old)) × (engine_seen D.Direction new ≡ engine_seen D.Direction self.old)
+            × (new.answer ≡ self.old.answer))) }
     {
         self.direction.next_line()
     }

@@ -62,7 +62,7 @@ impl RinexReader {
     ghost use Rattle.crx_filter.specs.Memory.{may_take_memory};
     ghost use Rattle.crx_filter.specs.RinexStages.{is_open_stage};
     ghost use Rattle.crx_filter.specs.Stages.{is_ended};
-    ghost use Rattle.crx_filter.specs.RinexReaders.{is_row, reader_phase, made_at, IsSameReader, TakesRinexLine, RefusesRinexLine};
+    ghost use Rattle.crx_filter.specs.RinexReaders.{is_row, reader_phase, made_at, IsSameReader, ReadsRinexLine, TakesRinexLine, RefusesRinexLine};
 
     /// A reader before the first line.
     pub fn new(alloc: Global) -> RinexReader
@@ -128,9 +128,17 @@ impl RinexReader {
         ensures same { OnErr result (IsSameReader self.old self.new) }
     {
         match self.stage {
-            Stage::Header { is_first } => self.header_line(is_first, line),
+            Stage::Header { is_first } => {
+                accept_header_line(&mut self.types, is_first, line)?;
+                self.stage = after_header_line(line);
+                Ok(RinexStep::Header { is_first })
+            }
+            Stage::Event { left, counted } => {
+                accept_record(&mut self.types, counted, line)?;
+                self.stage = with_records_left(left.saturating_sub(1), counted);
+                Ok(RinexStep::Record)
+            }
             Stage::Between => self.begin(line),
-            Stage::Event { left, counted } => self.record(left, counted, line),
             Stage::Looking => {
                 if begins_epoch(line) {
                     self.begin(line)
@@ -144,46 +152,11 @@ impl RinexReader {
         }
     }
 
-    /// Takes a header line.
-    fn header_line(&mut self, is_first: bool, line: &[u8]) -> Result<RinexStep, Fault>
-        requires stage { self.old.stage ≡ Stage.Header is_first }
-        ensures takes { (kept : Written) → IfOk result
-            (λ step. TakesRinexLine (made_at self.old line.now kept) self.old line.now step self.new) }
-        ensures refuses { (kept : Written) → IfErr result
-            (λ fault. RefusesRinexLine (made_at self.old line.now kept) self.old line.now fault) }
-        ensures steps { IfOk result (λ step. is_row step ≡ false) }
-        ensures same { OnErr result (IsSameReader self.old self.new) }
-    {
-        accept_header_line(&mut self.types, is_first, line)?;
-        self.stage = after_header_line(line);
-        Ok(RinexStep::Header { is_first })
-    }
-
-    /// Takes a record of an event.
-    fn record(&mut self, left: usize, counted: bool, line: &[u8]) -> Result<RinexStep, Fault>
-        requires stage { self.old.stage ≡ Stage.Event left counted }
-        ensures takes { (kept : Written) → IfOk result
-            (λ step. TakesRinexLine (made_at self.old line.now kept) self.old line.now step self.new) }
-        ensures refuses { (kept : Written) → IfErr result
-            (λ fault. RefusesRinexLine (made_at self.old line.now kept) self.old line.now fault) }
-        ensures steps { IfOk result (λ step. is_row step ≡ false) }
-        ensures same { OnErr result (IsSameReader self.old self.new) }
-    {
-        accept_record(&mut self.types, counted, line)?;
-        self.stage = with_records_left(left.saturating_sub(1), counted);
-        Ok(RinexStep::Record)
-    }
-
     /// Takes a line where an epoch or an event may begin.
     fn begin(&mut self, line: &[u8]) -> Result<RinexStep, Fault>
         requires stage { (self.old.stage ≡ Stage.Between)
             ⊎ ((self.old.stage ≡ Stage.Looking) × (begins_epoch line.now ≡ true)) }
-        ensures takes { (kept : Written) → IfOk result
-            (λ step. TakesRinexLine (made_at self.old line.now kept) self.old line.now step self.new) }
-        ensures refuses { (kept : Written) → IfErr result
-            (λ fault. RefusesRinexLine (made_at self.old line.now kept) self.old line.now fault) }
-        ensures steps { IfOk result (λ step. is_row step ≡ false) }
-        ensures same { OnErr result (IsSameReader self.old self.new) }
+        ensures reads { ReadsRinexLine self.old line.now result self.new }
     {
         match Head::read(line)? {
             Head::Event { count, .. } => {

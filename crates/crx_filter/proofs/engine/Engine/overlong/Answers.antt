@@ -6,15 +6,13 @@ use Rattle.crx_filter.proofs.steps.EngineAnswers.{answers-seen, seen-long}
 use Rattle.crx_filter.proofs.steps.EngineLemmas.{repeats}
 use Rattle.crx_filter.proofs.engine.Engine.overlong.Goals as goal
 
-pub returns-clause-steps : goal.returns-clause-steps
-returns-clause-steps g c = ap (λ (ls : List (List ℕ)). step_made c.pass.result ls
-    (engine_seen g.D.Direction c.pass.new.self)) c.pass.ensures.stops.drained ∙ c.pass.ensures.steps
-
 pub returns-clause-answers : goal.returns-clause-answers
 returns-clause-answers g c = λ lines notices line taken awaited long.
-    answers-seen c.pass.ensures.lawful _ _ _ lines notices line Overlong _ _ (λ ls ns shown. shown.0)
-    c.pass.ensures.stops.choices (seen-long line long) taken awaited (inl (returns-clause-steps g c))
+    let stops = c.skip.ensures.stops in
+    answers-seen c.skip.ensures.lawful _ _ _ lines notices line Overlong _ _ (λ ls ns shown. shown.0)
+    stops.choices (seen-long line long) taken awaited (inl (ap (λ (ls : List (List ℕ)). step_made c.skip.result ls
+    (engine_seen g.D.Direction c.skip.new.self)) stops.drained ∙ stops.steps))
 
 pub returns-clause-repeated : goal.returns-clause-repeated
 returns-clause-repeated g c = λ at is.
-    repeats g.D.Direction.by_line _ _ Overlong _ _ at (inl (returns-clause-steps g c)) is
+    repeats g.D.Direction.by_line _ _ Overlong _ _ at (inl c.skip.ensures.stops.steps) is

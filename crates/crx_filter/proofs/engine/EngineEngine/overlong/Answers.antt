@@ -6,7 +6,7 @@ use Rattle.crx_filter.proofs.engine.EngineEngine.overlong.Goals as goal
 
 pub returns-clause-count : goal.returns-clause-count
 returns-clause-count g c = steps-counted g.D.Direction.by_line
-    (engine_seen g.D.Direction c.args.self.now) _ Overlong _ _ (inl c.overlong.ensures.steps)
+    (engine_seen g.D.Direction c.args.self.now) _ Overlong _ _ (inl c.overlong.ensures.stops.steps)
 
 pub returns-clause-answers : goal.returns-clause-answers
 returns-clause-answers g c = λ lines notices line shown awaited long.

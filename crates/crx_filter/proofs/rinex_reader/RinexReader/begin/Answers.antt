@@ -2,7 +2,6 @@ use Rattle.std.proofs.Common.{◌≡◌, Bool, ℕ, List, Ok, ap, refl, arith, �
 use Rattle.crx_rinex.specs.meaning.EpochPlaces.{OpenEpoch}
 use Rattle.crx_rinex.specs.Heads.{head_line}
 use Rattle.crx_rinex.specs.declared.epoch_line.Head.{Head}
-use Rattle.crx_filter.specs.CompactionByLine.{Written}
 use Rattle.crx_filter.specs.meaning.Items.{records_announced, counts_types}
 use Rattle.crx_filter.specs.LineByLine.{with_records_left}
 use Rattle.crx_filter.proofs.RinexSteps.{begin-made, event-made, event-counts, begun-part, begun-whole}
@@ -15,33 +14,47 @@ event-phase : (line : List ℕ) (count : ℕ) (counted : Bool)
     (counts_types line)
 event-phase line count counted is same = rw (is, same) refl
 
-pub returns-in-Event-clause-takes : goal.returns-in-Event-clause-takes
-returns-in-Event-clause-takes c = λ (kept : Written).
+pub returns-in-Event : goal.returns-in-Event
+returns-in-Event c =
     let self = c.args.self.now in
     let line = c.args.line.now in
+    let is = c.in_ok-count.ensures.value ∙ ap (λ (h : Head). Ok (head_line h)) c.in-Event.is in
     record {
-      unit_made = begin-made self line kept c.requires.stage ∙ event-made self.types line _ c.in-Event.count
-          (c.in_ok-count.ensures.value ∙ ap (λ (h : Head). Ok (head_line h)) c.in-Event.is);
-      phase_then = c.with_records_left-self.ensures.rinex _ ∙ event-phase c.args.line.now c.in-Event.count
-          c.counts_types.result (event-counts c.args.line.now _ c.in-Event.count (c.in_ok-count.ensures.value
-          ∙ ap (λ (h : Head). Ok (head_line h)) c.in-Event.is)) c.counts_types.ensures.value;
-      types_then = refl;
-      closed = c.with_records_left-self.ensures.closed;
+      reads = record {
+        takes = λ kept. record {
+          unit_made = begin-made self line kept c.requires.stage
+              ∙ event-made self.types line _ c.in-Event.count is;
+          phase_then = c.with_records_left-self.ensures.rinex _ ∙ event-phase line c.in-Event.count
+              c.counts_types.result (event-counts line _ c.in-Event.count is) c.counts_types.ensures.value;
+          types_then = refl;
+          closed = c.with_records_left-self.ensures.closed;
+        };
+        refuses = λ kept. tt;
+        steps = refl;
+        same = tt;
+      };
     }
 
-pub returns-after-count-eq0-clause-takes : goal.returns-after-count-eq0-clause-takes
-returns-after-count-eq0-clause-takes c = λ (kept : Written).
+pub returns-after-count-eq0 : goal.returns-after-count-eq0
+returns-after-count-eq0 c =
     let read = c.in_ok-count.ensures.value ∙ ap (λ (h : Head). Ok (head_line h)) c.in-Epoch.is in
     let count = c.count.ensures.value in
-    elim c.if-count-eq0.branch [
-      | then-count-eq0 w ↦
-          let none = w.if-count-eq0.true in
-          begun-whole c.args.self.now _ c.args.line.now kept c.in-Epoch.head c.requires.stage read
-          (omega (arith, count, none))
-          (record { types_then = refl; held = refl; rows_then = c.new-self.ensures.rows }) w.self-is
-      | else-count-eq0 w ↦
-          let some = w.if-count-eq0.false in
-          begun-part c.args.self.now _ c.args.line.now kept c.in-Epoch.head c.requires.stage read
-          (omega (arith, count, some))
-          (record { types_then = refl; held = refl; rows_then = c.new-self.ensures.rows }) w.self-is
-    ]
+    record {
+      reads = record {
+        takes = λ kept. elim c.if-count-eq0.branch [
+          | then-count-eq0 w ↦
+              let none = w.if-count-eq0.true in
+              begun-whole c.args.self.now _ c.args.line.now kept c.in-Epoch.head c.requires.stage read
+              (omega (arith, count, none))
+              (record { types_then = refl; held = refl; rows_then = c.new-self.ensures.rows }) w.self-is
+          | else-count-eq0 w ↦
+              let some = w.if-count-eq0.false in
+              begun-part c.args.self.now _ c.args.line.now kept c.in-Epoch.head c.requires.stage read
+              (omega (arith, count, some))
+              (record { types_then = refl; held = refl; rows_then = c.new-self.ensures.rows }) w.self-is
+        ];
+        refuses = λ kept. tt;
+        steps = refl;
+        same = tt;
+      };
+    }
