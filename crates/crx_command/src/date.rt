@@ -1,6 +1,6 @@
 //! The date in the second line of Compact RINEX 3.0.
 
-ghost use Rattle.std.specs.Prelude.{◌≡◌, ◌<◌, ◌-◌, ◌⊎◌, ◌++◌, ℤ, [], IfOk, OnOk, string_bytes};
+ghost use Rattle.std.specs.Prelude.{◌≡◌, ◌<◌, ◌-◌, ◌++◌, [], IfOk, OnOk, string_bytes};
 ghost use Rattle.crx_command.specs.meaning.Dates.{IsDateOf, IsDateText, IsDefaultDate, date_text_of, months, two_digits};
 ghost use Rattle.std.specs.List.{slice_index_or};
 

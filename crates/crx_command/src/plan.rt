@@ -5,7 +5,7 @@ ghost use Rattle.std.specs.Option.{option_map_or};
 ghost use Rattle.std.specs.Vec.Iter.{into_iter_items};
 ghost use Rattle.clap.specs.Words.{found_of, kind_of, one_of, rows_of, subcommand_rows_of};
 ghost use Rattle.crx_base.specs.meaning.Choices.{is_date};
-ghost use Rattle.crx_command.specs.meaning.Planning.{by_kind, given_in, is_dash, is_file, is_set, job_of, judged, file_names_in, counted_argument, of_subcommand, plan_of, tool_named, with_source, writes_file};
+ghost use Rattle.crx_command.specs.meaning.Planning.{by_kind, given_in, is_dash, is_file, is_set, job_of, judged, counted_argument, of_subcommand, plan_of, tool_named, with_source, writes_file};
 ghost use Rattle.crx_command.specs.Planning.{given_of, plan_in};
 
 use crate::command::command;

@@ -1,6 +1,5 @@
 //! A sink over memory that fails where its plans say.
-ghost use Rattle.std.specs.Prelude.{◌≡◌, ℕ, List, [], ◌++◌, ◌+◌, ◌-◌, ◌<◌, ◌≤◌, length, take, min, is_err, true, false, ◌||◌, IfOk, OnOk, OnErr};
-ghost use Rattle.std.specs.Vec.{vec_len};
+ghost use Rattle.std.specs.Prelude.{◌≡◌, [], ◌++◌, ◌+◌, ◌-◌, ◌<◌, ◌≤◌, length, take, min, is_err, true, false, ◌||◌, IfOk, OnOk, OnErr};
 ghost use Rattle.crx_devices.specs.Joining.{taken_both, taken_none};
 ghost use Rattle.crx_lines.specs.meaning.Devices.{one_more};
 

@@ -1,5 +1,5 @@
 //! A source over memory that fails where its plan says.
-ghost use Rattle.std.specs.Prelude.{◌≡◌, ℕ, List, [], ◌∷◌, ◌++◌, ◌+◌, ◌^◌, ◌-◌, ◌<◌, ◌≤◌, length, take, drop, min, is_err, IfOk, OnOk, OnErr};
+ghost use Rattle.std.specs.Prelude.{◌≡◌, [], ◌++◌, ◌+◌, ◌^◌, ◌-◌, ◌<◌, ◌≤◌, length, take, min, is_err, IfOk, OnOk, OnErr};
 ghost use Rattle.crx_devices.specs.Joining.{given_both};
 ghost use Rattle.crx_lines.specs.meaning.Devices.{ends_after, one_more};
 

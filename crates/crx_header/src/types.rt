@@ -1,6 +1,6 @@
 //! The observation types of the satellite systems. RINEX 3.05, table A2, `SYS / # / OBS TYPES`.
 
-ghost use Rattle.std.specs.Prelude.{◌≡◌, ◌≤◌, ◌<◌, ◌+◌, ◌⊎◌, ℕ, List, [], ◌∷◌, ◌++◌, Some, true, false, is_some, OnOk, OnErr, IfOk, IfErr, IfSome, OnSome, slice_get, length};
+ghost use Rattle.std.specs.Prelude.{◌≡◌, ◌≤◌, ◌<◌, ◌+◌, ◌⊎◌, ℕ, List, [], ◌∷◌, ◌++◌, Some, true, false, is_some, OnOk, OnErr, IfErr, IfSome, OnSome, slice_get, length};
 ghost use Rattle.crx_header.specs.meaning.ObservationTypes.{count_of, count_in, count_of_types_line, is_bad_types_line, is_system, is_types_line, types_of, IsAllowedCount};
 ghost use Rattle.crx_header.specs.ObservationTypes.{with_count, with_line, AreCounts, HasSystemRoom, IsCount};
 ghost use Rattle.indexmap.specs.IndexMap.{spare};

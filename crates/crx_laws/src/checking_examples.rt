@@ -1,6 +1,6 @@
 //! Worked examples of the check, by the definitions alone: each is the contract of a function that does nothing.
 
-ghost use Rattle.std.specs.Prelude.{◌≡◌, ◌∷◌, ◌++◌, [], Some, None, codes};
+ghost use Rattle.std.specs.Prelude.{◌≡◌, ◌∷◌, ◌++◌, [], Some, codes};
 ghost use Rattle.crx_base.specs.declared.fault.Fault.TheVariants.{BadFlags};
 ghost use Rattle.crx_base.specs.meaning.Lines.{lines_text};
 ghost use Rattle.crx_laws.specs.FilterExamples.{failed, report, reported, found_line_by_line};

@@ -1,6 +1,6 @@
 //! Laws of reading compact text: each is the contract of a function that does nothing.
 
-ghost use Rattle.std.specs.Prelude.{◌≡◌, ◌∷◌, [], true, ℕ, List, Option};
+ghost use Rattle.std.specs.Prelude.{◌≡◌, true, ℕ, List, Option};
 ghost use Rattle.crx_base.specs.meaning.Seen.{ReadLine};
 ghost use Rattle.crx_header.specs.meaning.ObservationTypes.{Count};
 ghost use Rattle.crx_compact.specs.meaning.Expansion.{RawEpoch};

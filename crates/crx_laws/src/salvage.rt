@@ -1,6 +1,6 @@
 //! What is saved of damaged compact text: each law is the contract of a function that does nothing.
 
-ghost use Rattle.std.specs.Prelude.{◌≡◌, ◌∷◌, ◌++◌, [], List, ℕ, true, codes, drop};
+ghost use Rattle.std.specs.Prelude.{◌≡◌, ◌∷◌, [], List, ℕ, true, codes, drop};
 ghost use Rattle.crx_base.specs.meaning.Choices.{Choices, is_date};
 ghost use Rattle.crx_filter.specs.meaning.Damage.{lines_of_epochs, IsDamaged};
 ghost use Rattle.crx_filter.specs.Damage.{IsOfCompaction, StaysInItsBlock};

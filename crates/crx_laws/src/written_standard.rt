@@ -1,6 +1,6 @@
 //! What an expansion writes is standard: the law is the contract of a function that does nothing.
 
-ghost use Rattle.std.specs.Prelude.{◌≡◌, ◌∷◌, ◌++◌, [], ℕ, List, None, true, false, codes};
+ghost use Rattle.std.specs.Prelude.{◌≡◌, ◌∷◌, [], ℕ, List, None, true, false, codes};
 ghost use Rattle.crx_filter.specs.meaning.WrittenStandard.{WhatIsExpandedIsStandard, has_plain_lines};
 ghost use Rattle.crx_laws.specs.SmallFiles.{damaged_by, of_other_orders, with_returns, with_skip, plain_choices};
 ghost use Rattle.crx_base.specs.meaning.Choices.{Choices};

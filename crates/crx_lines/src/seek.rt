@@ -1,5 +1,5 @@
 //! The search for the end of a line in what a reader gives.
-ghost use Rattle.std.specs.Prelude.{◌≡◌, ◌≢◌, ℕ, ◌+◌, ◌<◌, ◌≤◌, List, [], ◌∷◌, ◌++◌, length, slice_index, IfOk, IfErr, IfSome, OnOk, OnErr, IfNone, IsOk, MatchBool, Contains, IsTrue, true, false, ◌⊎◌, ◌^◌, if◌then◌else◌};
+ghost use Rattle.std.specs.Prelude.{◌≡◌, ℕ, ◌+◌, ◌<◌, ◌≤◌, [], ◌∷◌, ◌++◌, length, slice_index, IfOk, IfErr, OnOk, OnErr, IsOk, MatchBool, Contains, IsTrue, true, false, ◌⊎◌, ◌^◌, if◌then◌else◌};
 ghost use Rattle.crx_lines.specs.meaning.Devices.{one_more};
 ghost use Rattle.crx_lines.specs.Window.{kept};
 ghost use Rattle.crx_lines.specs.Seeking.{Seeking};

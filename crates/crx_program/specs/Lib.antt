@@ -1,2 +1,3 @@
 pub mod meaning
 pub mod Logs
+pub mod Devices

@@ -4,6 +4,7 @@ ghost use Rattle.std.specs.Prelude.{◌≡◌, ◌⊎◌, IfOk, None, is_some, m
 ghost use Rattle.std.specs.Option.{option_map_or};
 ghost use Rattle.crx_base.specs.meaning.Choices.{choices_of, is_date};
 ghost use Rattle.crx_command.specs.meaning.Planning.{Help, Refusal, Refused, Run, plan_of};
+ghost use Rattle.crx_program.specs.Devices.{LeavesDevices};
 ghost use Rattle.crx_program.specs.meaning.Jobs.{IsChosen, IsJobDone, IsJobEnded, IsFiltered, IsFilteredFrom, IsFilteredInto, IsFilteredToFile, IsMadeBy, IsNotBegun};
 ghost use Rattle.crx_program.specs.meaning.Program.{IsHelped, IsRefused, IsShown, at_start};
 ghost use Rattle.crx_runs.specs.meaning.Spans.{span, reader_span};
@@ -206,8 +207,7 @@ fn run_from_source<H: Files, R: Source, W: Sink, M: Sink>(
     output: &mut W,
     messages: &mut M,
 ) -> Ended<H::File>
-    ensures input { is_some job.now.source ≡ true → input.new ≡ input.old }
-    ensures output { is_some job.now.target ≡ true → output.new ≡ output.old }
+    ensures devices { LeavesDevices job.now (input.new ≡ input.old) (output.new ≡ output.old) }
     ensures done { IsFilteredFrom ⟦<SourceFile<H::File> as Source>⟧ ⟦<TargetFile<H::File> as Sink>⟧
         job.now.source result.source job.now.target job.now.force result.target job.now.tool options
         (reader_span R.Source input.old input.new)
@@ -244,8 +244,7 @@ fn run_job<H: Files, R: Source, W: Sink, M: Sink>(
     messages: &mut M,
 ) -> Ended<H::File>
     requires { option_map_or is_date job.now.date true ≡ true }
-    ensures input { is_some job.now.source ≡ true → input.new ≡ input.old }
-    ensures output { is_some job.now.target ≡ true → output.new ≡ output.old }
+    ensures devices { LeavesDevices job.now (input.new ≡ input.old) (output.new ≡ output.old) }
     ensures done { IsJobDone ⟦<SourceFile<H::File> as Source>⟧ ⟦<TargetFile<H::File> as Sink>⟧
         moment job.now result.source result.target (reader_span R.Source input.old input.new)
         (span W.Sink output.old output.new) (span M.Sink messages.old messages.new) result.status
@@ -296,10 +295,8 @@ pub fn run<H: Files + Clock, R: Source, W: Sink, M: Sink>(
     ensures help { plan_of (map string_bytes words.items) ≡ Help
         → IsHelped (span W.Sink output.old output.new) (span M.Sink messages.old messages.new) result
         × (input.new ≡ input.old) }
-    ensures input { (job : Job) → plan_of (map string_bytes words.items) ≡ Run job
-        → is_some job.source ≡ true → input.new ≡ input.old }
-    ensures output { (job : Job) → plan_of (map string_bytes words.items) ≡ Run job
-        → is_some job.target ≡ true → output.new ≡ output.old }
+    ensures devices { (job : Job) → plan_of (map string_bytes words.items) ≡ Run job
+        → LeavesDevices job (input.new ≡ input.old) (output.new ≡ output.old) }
     ensures done { (job : Job) → plan_of (map string_bytes words.items) ≡ Run job
         → IsJobEnded ⟦<SourceFile<H::File> as Source>⟧ ⟦<TargetFile<H::File> as Sink>⟧ job
         (reader_span R.Source input.old input.new) (span W.Sink output.old output.new)
@@ -327,10 +324,8 @@ pub fn run_with_files<H: Files, R: Source, W: Sink, M: Sink>(
     ensures help { plan_of (map string_bytes words.items) ≡ Help
         → IsHelped (span W.Sink output.old output.new) (span M.Sink messages.old messages.new) result.status
         × (input.new ≡ input.old) × (result.source ≡ None) × (result.target ≡ None) }
-    ensures input { (job : Job) → plan_of (map string_bytes words.items) ≡ Run job
-        → is_some job.source ≡ true → input.new ≡ input.old }
-    ensures output { (job : Job) → plan_of (map string_bytes words.items) ≡ Run job
-        → is_some job.target ≡ true → output.new ≡ output.old }
+    ensures devices { (job : Job) → plan_of (map string_bytes words.items) ≡ Run job
+        → LeavesDevices job (input.new ≡ input.old) (output.new ≡ output.old) }
     ensures done { (job : Job) → plan_of (map string_bytes words.items) ≡ Run job
         → IsJobDone ⟦<SourceFile<H::File> as Source>⟧ ⟦<TargetFile<H::File> as Sink>⟧
         moment job result.source result.target (reader_span R.Source input.old input.new) (span W.Sink output.old output.new)

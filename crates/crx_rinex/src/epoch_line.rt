@@ -5,7 +5,7 @@ ghost use Rattle.std.specs.Option.{ForSome};
 ghost use Rattle.crx_text.specs.meaning.Columns.{columns};
 ghost use Rattle.crx_text.specs.Numbers.{IsClock};
 ghost use Rattle.crx_base.specs.declared.limits.TheConstants.{HEAD_WIDTH};
-ghost use Rattle.crx_rinex.specs.meaning.EpochLines.{head_of, epoch_head, EpochHead, IsObservationHead};
+ghost use Rattle.crx_rinex.specs.meaning.EpochLines.{head_of, IsObservationHead};
 ghost use Rattle.crx_header.specs.meaning.EpochColumns.{epoch_count};
 ghost use Rattle.crx_rinex.specs.Heads.{head_line};
 

@@ -1,15 +1,11 @@
 //! The row of the satellite line that was read last, in memory that is used again. RINEX 3.05, table A3.
 
-ghost use Rattle.std.specs.Prelude.{◌≡◌, ◌≤◌, ◌*◌, true, length, take, All, Ok, Err, OnOk, IfErr};
-ghost use Rattle.std.specs.List.{list_all};
-ghost use Rattle.crx_text.specs.meaning.Columns.{columns};
-ghost use Rattle.crx_text.specs.meaning.Texts.{is_kept};
+ghost use Rattle.std.specs.Prelude.{◌≡◌, ◌≤◌, ◌*◌, length, take, Ok, Err, OnOk, IfErr};
 ghost use Rattle.crx_base.specs.declared.limits.TheConstants.{NAME_WIDTH, TYPES_LIMIT};
 ghost use Rattle.crx_rinex.specs.meaning.Observations.{observations_of};
 ghost use Rattle.crx_rinex.specs.meaning.Printing.{printed_row};
 ghost use Rattle.crx_rinex.specs.SatelliteLines.{cells_of, IsRowOf};
 ghost use Rattle.crx_rinex.specs.meaning.SatelliteLines.{row_of, IsSoundRow};
-ghost use Rattle.crx_text.specs.meaning.Numbers.{IsValue};
 
 use crate::satellite_row::{print_row, read_cells};
 use crx_base::Fault;

@@ -1,11 +1,10 @@
 //! Satellite lines. RINEX 3.05, table A3, OBSERVATION record, A1,I2.2,m(F14.3,I1,I1).
 
-ghost use Rattle.std.specs.Prelude.{◌≡◌, ◌≤◌, ◌<◌, ◌+◌, ◌-◌, ◌*◌, ◌++◌, ◌⊎◌, slice_set, true, None, Some, Ok, Err, is_some, length, All, IfOk, IfErr, IfSome, OnOk, MatchBool, MatchResult, slice_get, take};
+ghost use Rattle.std.specs.Prelude.{◌≡◌, ◌≤◌, ◌<◌, ◌+◌, ◌-◌, ◌*◌, ◌++◌, ◌⊎◌, true, None, Some, Ok, Err, is_some, length, All, IfOk, IfErr, IfSome, OnOk, MatchBool, MatchResult, slice_get, take};
 ghost use Rattle.std.specs.Bool.{OnTrue, OnFalse};
 ghost use Rattle.std.specs.List.{list_all};
 ghost use Rattle.std.specs.Option.{ForSome};
-ghost use Rattle.crx_text.specs.meaning.Columns.{character_at, columns, is_blank};
-ghost use Rattle.crx_base.specs.declared.limits.TheConstants.{CELL_WIDTH, LINE_LIMIT, NAME_WIDTH, OBSERVATION_WIDTH, TYPES_LIMIT};
+ghost use Rattle.crx_base.specs.declared.limits.TheConstants.{CELL_WIDTH, NAME_WIDTH, OBSERVATION_WIDTH, TYPES_LIMIT};
 ghost use Rattle.crx_text.specs.meaning.Numbers.{observation_of, IsValue};
 ghost use Rattle.crx_text.specs.Numbers.{IsObservation};
 ghost use Rattle.crx_text.specs.meaning.Texts.{is_kept};
@@ -14,7 +13,7 @@ ghost use Rattle.crx_rinex.specs.meaning.Observations.{observations_of};
 ghost use Rattle.crx_rinex.specs.meaning.Printing.{printed_row};
 ghost use Rattle.crx_text.specs.meaning.PrintedCells.{printed_cells};
 ghost use Rattle.crx_rinex.specs.SatelliteLines.{blank_row, cells_of, with_flags, with_value, AreAllRead, AreCellsRead, ArePaired, IsRowOf};
-ghost use Rattle.crx_rinex.specs.meaning.SatelliteLines.{field, flags_in, row_of, row_with, values_in, IsSoundRow};
+ghost use Rattle.crx_rinex.specs.meaning.SatelliteLines.{field, row_of, IsSoundRow};
 ghost use Rattle.crx_header.specs.meaning.Satellites.{is_identifier, types_of_satellite};
 
 use crx_base::Fault;

@@ -1,6 +1,6 @@
 //! Engines: they take the lines of an input one at a time, and what is to be written is borrowed from them.
 
-ghost use Rattle.std.specs.Prelude.{◌≡◌, ◌≤◌, ◌+◌, ℕ, List, [], drop, length, slice_get, Result, if◌then◌else◌, is_some, IfOk, IfSome, IsTrue, OnErr, true};
+ghost use Rattle.std.specs.Prelude.{◌≡◌, ◌≤◌, ◌+◌, ℕ, List, [], drop, length, slice_get, Result, if◌then◌else◌, is_some, IfOk, IfSome, OnErr, true};
 ghost use Rattle.std.specs.Borrow.{sem};
 ghost use Rattle.std.specs.Io.BufRead.{Rests};
 ghost use Rattle.std.specs.Option.{option_copied};

@@ -1,6 +1,6 @@
 //! The start of a run: an engine that was made, or couldn't be since memory ran out.
 
-ghost use Rattle.std.specs.Prelude.{◌≡◌, ℕ, List, [], IfOk};
+ghost use Rattle.std.specs.Prelude.{◌≡◌, [], IfOk};
 ghost use Rattle.crx_runs.specs.meaning.Filters.{Filter};
 ghost use Rattle.crx_runs.specs.Lawful.{IsLawful};
 ghost use Rattle.crx_runs.specs.Runs.{result_by};

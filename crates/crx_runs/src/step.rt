@@ -1,6 +1,6 @@
 //! One step of a run: the next line of the input, or its end.
 
-ghost use Rattle.std.specs.Prelude.{◌≡◌, ◌⊎◌, ◌+◌, ℕ, List, [], IfOk, IfSome, OnOk, ◌<◌, ◌≤◌};
+ghost use Rattle.std.specs.Prelude.{◌≡◌, ◌⊎◌, List, [], IfOk, IfSome, OnOk, ◌<◌, ◌≤◌};
 ghost use Rattle.crx_base.specs.meaning.Lines.{InputLine};
 ghost use Rattle.crx_lines.specs.Readers.{reading};
 ghost use Rattle.crx_base.specs.declared.limits.TheConstants.{INPUT_LIMIT};

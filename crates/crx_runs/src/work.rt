@@ -1,7 +1,6 @@
 //! The work of a run: each line of the input, and its end.
 
-ghost use Rattle.std.specs.Prelude.{◌≡◌, ◌⊎◌, ◌+◌, ℕ, List, [], None};
-ghost use Rattle.crx_base.specs.meaning.Lines.{InputLine};
+ghost use Rattle.std.specs.Prelude.{◌≡◌, [], None};
 ghost use Rattle.crx_lines.specs.Readers.{reading};
 ghost use Rattle.crx_runs.specs.Endings.{WorkEnds};
 ghost use Rattle.crx_runs.specs.meaning.Spans.{reader_span};

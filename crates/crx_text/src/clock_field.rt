@@ -3,8 +3,6 @@
 
 ghost use Rattle.std.specs.Prelude.{◌≡◌, ◌∷◌, ◌<◌, [], ◌==◌, true, length, Some, IfSome};
 ghost use Rattle.std.specs.List.{list_any};
-ghost use Rattle.std.specs.Str.{all_ascii_digits};
-ghost use Rattle.std.specs.Str.Parse.{digits_value};
 ghost use Rattle.crx_base.specs.declared.limits.TheConstants.{CLOCK_WIDTH};
 ghost use Rattle.crx_text.specs.Fields.{is_plain_after, weighed};
 ghost use Rattle.crx_text.specs.Numbers.{IsClock};

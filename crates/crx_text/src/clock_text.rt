@@ -1,7 +1,6 @@
 //! A receiver clock offset's text by lanes: a digit, the point, and twelve digits in one row.
 
-ghost use Rattle.std.specs.Prelude.{◌≡◌, ◌+◌, ◌%◌, ◌^◌, ◌<◌, ◌∷◌, ◌++◌, length, take, replicate};
-ghost use Rattle.std.specs.Simd.Lanes.{zip2};
+ghost use Rattle.std.specs.Prelude.{◌≡◌, ◌+◌, ◌^◌, ◌<◌, ◌∷◌, length};
 ghost use Rattle.crx_base.specs.declared.limits.TheConstants.{CLOCK_DECIMALS, CLOCK_WIDTH};
 ghost use Rattle.crx_text.specs.meaning.Numbers.{size_text};
 

@@ -27,7 +27,7 @@ pub enum Code {
 }
 
 ghost use Rattle.crx_text.specs.Codes.{IsPrintable, IsShort};
-ghost use Rattle.crx_text.specs.meaning.Codes.{after_cell, code_of, code_text, coded_number, first_cell, is_order};
+ghost use Rattle.crx_text.specs.meaning.Codes.{after_cell, code_of, code_text, coded_number, first_cell};
 ghost use Rattle.crx_text.specs.declared.code.Code.TheVariants.{Step};
 ghost use Rattle.crx_base.specs.declared.limits.TheConstants.{LINE_LIMIT};
 

@@ -1,6 +1,6 @@
 //! Short texts copied, and blanks put, without a call of the C library, which takes more instructions than so few bytes.
 
-ghost use Rattle.std.specs.Prelude.{ℕ, ◌≡◌, ◌≤◌, ◌<◌, length, replicate};
+ghost use Rattle.std.specs.Prelude.{◌≡◌, ◌≤◌, ◌<◌, length, replicate};
 ghost use Rattle.crx_base.specs.declared.limits.TheConstants.{LINE_LIMIT};
 
 use crate::difference::BLANKS;

@@ -2,7 +2,6 @@
 
 ghost use Rattle.std.specs.Prelude.{◌≡◌, ◌+◌, ◌≤◌, ◌++◌, length, take, is_ok, OnOk, OnErr};
 ghost use Rattle.std.specs.List.{list_all};
-ghost use Rattle.std.specs.Simd.Lanes.{zip2};
 ghost use Rattle.crx_text.specs.meaning.Texts.{is_kept, mark_of, by_position, text_difference};
 ghost use Rattle.crx_base.specs.meaning.Lines.{is_printable};
 ghost use Rattle.crx_text.specs.Texts.{character_of, patched};

@@ -1,8 +1,8 @@
 //! An observation's 14 columns in one row of lanes: blanks, perhaps a minus, digits, and the point
 //! in column 11. That is how nearly every field is written.
 
-ghost use Rattle.std.specs.Prelude.{take, ◌≡◌, ◌==◌, ◌++◌, ◌+◌, ◌*◌, ◌^◌, ◌<◌, ◌∷◌, [], length, slice_index, IsTrue};
-ghost use Rattle.std.specs.List.{list_all, list_any};
+ghost use Rattle.std.specs.Prelude.{take, ◌≡◌, ◌==◌, ◌+◌, ◌*◌, ◌^◌, ◌<◌, [], length, slice_index, IsTrue};
+ghost use Rattle.std.specs.List.{list_any};
 ghost use Rattle.std.specs.Simd.Lanes.{Each1};
 ghost use Rattle.crx_base.specs.declared.limits.TheConstants.{OBSERVATION_WIDTH};
 ghost use Rattle.crx_text.specs.Fields.{IsPlain, weighed, plain_digits};

@@ -1,14 +1,13 @@
 //! Numbers in columns: observations in format F14.3 and receiver clock offsets in format F15.12
 //! (RINEX 3.05, table A3). They are read leniently and printed in one spelling.
 
-ghost use Rattle.std.specs.Prelude.{slice_index, ◌≡◌, ◌+◌, ◌-◌, ◌*◌, ◌<◌, ◌≤◌, ◌^◌, ◌%◌, ◌++◌, ◌∷◌, [], Option, length, take, drop, replicate, decimal, if◌then◌else◌, IfOk, IfSome, IsTrue, ◌↔◌, Some};
+ghost use Rattle.std.specs.Prelude.{slice_index, ◌≡◌, ◌+◌, ◌-◌, ◌*◌, ◌<◌, ◌≤◌, ◌^◌, ◌%◌, ◌++◌, ◌∷◌, [], Option, length, take, drop, decimal, IfOk, IfSome, Some};
 ghost use Rattle.std.specs.Bool.{OnFalse, OnTrue};
 ghost use Rattle.std.specs.Option.{ForSome};
 ghost use Rattle.std.specs.Result.{result_ok};
 ghost use Rattle.crx_text.specs.declared.digits.TheConstants.{WIDEST};
-ghost use Rattle.crx_base.specs.declared.limits.TheConstants.{CELL_WIDTH, LINE_LIMIT, OBSERVATION_WIDTH, CLOCK_WIDTH};
-ghost use Rattle.crx_text.specs.meaning.Columns.{without_first_blanks};
-ghost use Rattle.crx_text.specs.meaning.Numbers.{IsWithin, number_of, observation_of, clock_of, size_of, decimal_number, number_text, observation_text, clock_text, size_text, zero_padded};
+ghost use Rattle.crx_base.specs.declared.limits.TheConstants.{CELL_WIDTH, OBSERVATION_WIDTH, CLOCK_WIDTH};
+ghost use Rattle.crx_text.specs.meaning.Numbers.{IsWithin, number_of, observation_of, clock_of, size_of, number_text, observation_text, clock_text, size_text, zero_padded};
 ghost use Rattle.crx_text.specs.Numbers.{IsObservation, IsClock};
 
 use crate::columns::trim_start;

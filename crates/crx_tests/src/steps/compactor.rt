@@ -1,6 +1,6 @@
 //! The engine that compacts.
 
-ghost use Rattle.std.specs.Prelude.{◌≡◌, ◌+◌, [], length};
+ghost use Rattle.std.specs.Prelude.{◌≡◌, ◌+◌, []};
 ghost use Rattle.crx_filter.specs.CompactorState.{compactor_seen, compactor_ready};
 
 use super::*;

@@ -1,6 +1,6 @@
 //! The engine that expands.
 
-ghost use Rattle.std.specs.Prelude.{◌≡◌, ◌+◌, [], length};
+ghost use Rattle.std.specs.Prelude.{◌≡◌, ◌+◌, []};
 ghost use Rattle.crx_filter.specs.ExpanderState.{expander_ready, expander_state};
 
 use super::*;

@@ -1,5 +1,6 @@
-use Rattle.std.proofs.Common.{◌≡◌, ◌∙◌, map, None, inl, inr, is_some, refl, string_bytes, subst, sym, true}
+use Rattle.std.proofs.Common.{◌≡◌, ◌∙◌, map, None, inl, inr, refl, string_bytes, subst, sym}
 use Rattle.crx_command.specs.meaning.Planning.{Help, Refused, Refusal, Run, plan_of}
+use Rattle.crx_program.specs.Devices.{LeavesDevices}
 use Rattle.crx_program.specs.meaning.Jobs.{NoMemory}
 use Rattle.crx_program.specs.meaning.Program.{IsRefused}
 use Rattle.crx_runs.specs.meaning.Spans.{span, reader_span}
@@ -70,8 +71,8 @@ returns-in-Ok-Help-clause-refused g c = λ refusal e.
     rw c.in-Ok-Help.field-0-is at c.in-Ok-Help.ensures.value in
     absurd (help_not_refused refusal (planned ∙ e))
 
-pub returns-in-Ok-Help-clause-output : goal.returns-in-Ok-Help-clause-output
-returns-in-Ok-Help-clause-output g c = λ job e some.
+pub returns-in-Ok-Help-clause-devices : goal.returns-in-Ok-Help-clause-devices
+returns-in-Ok-Help-clause-devices g c = λ job e.
     let planned : Help ≡ plan_of (map string_bytes c.args.words.items) =
     rw c.in-Ok-Help.field-0-is at c.in-Ok-Help.ensures.value in
     absurd (help_not_run job (planned ∙ e))
@@ -94,22 +95,13 @@ returns-in-Ok-Run-clause-help g c = λ e.
     rw c.in-Ok-Run.field-0-is at c.in-Ok-Run.ensures.value in
     absurd (help_not_run c.in-Ok-Run.job (sym (planned ∙ e)))
 
-pub returns-in-Ok-Run-clause-input : goal.returns-in-Ok-Run-clause-input
-returns-in-Ok-Run-clause-input g c = λ job e some.
+pub returns-in-Ok-Run-clause-devices : goal.returns-in-Ok-Run-clause-devices
+returns-in-Ok-Run-clause-devices g c = λ job e.
     let planned : Run c.in-Ok-Run.job ≡ plan_of (map string_bytes c.args.words.items) =
     rw c.in-Ok-Run.field-0-is at c.in-Ok-Run.ensures.value in
-    c.run_job.ensures.input
-    (subst (λ (j : Job). is_some j.source ≡ true) (sym (same_job c.in-Ok-Run.job job (planned ∙ e))) some)
+    subst (λ (j : Job). LeavesDevices j (c.run_job.new.input ≡ c.args.input.now)
+    (c.run_job.new.output ≡ c.args.output.now)) (same_job c.in-Ok-Run.job job (planned ∙ e))
+    c.run_job.ensures.devices
 
-pub returns-in-Ok-Run-clause-output : goal.returns-in-Ok-Run-clause-output
-returns-in-Ok-Run-clause-output g c = λ job e some.
-    let planned : Run c.in-Ok-Run.job ≡ plan_of (map string_bytes c.args.words.items) =
-    rw c.in-Ok-Run.field-0-is at c.in-Ok-Run.ensures.value in
-    c.run_job.ensures.output
-    (subst (λ (j : Job). is_some j.target ≡ true) (sym (same_job c.in-Ok-Run.job job (planned ∙ e))) some)
-
-pub returns-in-Err-clause-input : goal.returns-in-Err-clause-input
-returns-in-Err-clause-input g c = λ job e some. refl {a = c.args.input.now}
-
-pub returns-in-Err-clause-output : goal.returns-in-Err-clause-output
-returns-in-Err-clause-output g c = λ job e some. refl {a = c.args.output.now}
+pub returns-in-Err-clause-devices : goal.returns-in-Err-clause-devices
+returns-in-Err-clause-devices g c = λ job e. record { input = λ some. refl; output = λ some. refl }

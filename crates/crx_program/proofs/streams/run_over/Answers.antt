@@ -73,8 +73,8 @@ returns-clause-exact g c = λ job e well.
     c.new-input.result c.run_with_files-ended.new.input c.new-output.result c.run_with_files-ended.new.output
     c.new-messages.result c.run_with_files-ended.new.messages
     c.new-input.ensures.log c.new-output.ensures.log c.new-messages.ensures.log
-    (c.run_with_files-ended.ensures.input job e)
-    (c.run_with_files-ended.ensures.output job e) c.run_with_files-ended.result.status
+    (c.run_with_files-ended.ensures.devices job e).input
+    (c.run_with_files-ended.ensures.devices job e).output c.run_with_files-ended.result.status
     _ (c.run_with_files-ended.ensures.done job e) well
 
 pub returns-clause-front : goal.returns-clause-front
@@ -89,6 +89,6 @@ returns-clause-front g c = λ job e.
     c.new-input.result c.run_with_files-ended.new.input c.new-output.result c.run_with_files-ended.new.output
     c.new-messages.result c.run_with_files-ended.new.messages
     c.new-input.ensures.log c.new-output.ensures.log c.new-messages.ensures.log
-    (c.run_with_files-ended.ensures.input job e)
-    (c.run_with_files-ended.ensures.output job e) c.run_with_files-ended.result.status
+    (c.run_with_files-ended.ensures.devices job e).input
+    (c.run_with_files-ended.ensures.devices job e).output c.run_with_files-ended.result.status
     (c.run_with_files-ended.ensures.done job e)
