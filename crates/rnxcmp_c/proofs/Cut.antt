@@ -1,6 +1,6 @@
 -- What ended a run at a line, by what is kept.
-use Rattle.rnxcmp_c.proofs.Words.{◌≡◌, inl, inr, ℕ, Bool, true, List, [], ◌∷◌, ◌++◌, take, drop, Option, Some}
-use Rattle.rnxcmp_c.proofs.Words.{None, refl, sym, ap, ◌∙◌, append-nil, append_assoc, arith, length}
+use Rattle.rnxcmp_c.proofs.Words.{◌≡◌, inl, inr, ℕ, Bool, true, List, [], ◌++◌, take, drop, Option, Some}
+use Rattle.rnxcmp_c.proofs.Words.{None, refl, sym, ap, ◌∙◌, append-nil, arith, length}
 use Rattle.rnxcmp_c.proofs.Words.{length-append, take-append-drop, At, notices_text, Begins, Course, Halt}
 use Rattle.rnxcmp_c.proofs.Words.{Unwritten, Unreported, AreNext, Device, waiting, Pending, IsKept, StopsBy}
 use Rattle.crx_lines.specs.meaning.Devices.{SinkTally}

@@ -34,8 +34,7 @@ pub(crate) struct Mark {
 }
 
 impl Held {
-    ghost use Rattle.std.specs.Prelude.{◌≡◌, ◌<◌, ◌≤◌, false, length, true, IfOk};
-    ghost use Rattle.rnxcmp_c.specs.Waiting.{waiting};
+    ghost use Rattle.std.specs.Prelude.{◌≡◌, ◌<◌, ◌≤◌, false, true, IfOk};
     ghost use Rattle.rnxcmp_c.specs.Holding.{AreCutTo, HoldsNothing, IsCutBack, IsMark, IsMarkWithin, StaysWithin, ready_in};
     ghost use Rattle.rnxcmp_c.specs.declared.limits.TheConstants.{READY_LIMIT};
 

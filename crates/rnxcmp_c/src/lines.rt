@@ -8,7 +8,6 @@ ghost use Rattle.crx_runs.specs.Lawful.{IsLawful};
 ghost use Rattle.rnxcmp_c.specs.Going.{EndStaysWithin, GoesOnOrBreaks, IsGoing, IsReady, IsSameRun, IsTaken, LastIsTaken, LineIsGiven, LineStaysWithin, piece_line};
 ghost use Rattle.rnxcmp_c.specs.Past.{HandlePast, StopsSoon};
 ghost use Rattle.rnxcmp_c.specs.Holding.{IsCounted, IsMarkWithin, StopsCounted, ready_in};
-ghost use Rattle.rnxcmp_c.specs.Waiting.{waiting};
 ghost use Rattle.rnxcmp_c.specs.declared.limits.TheConstants.{LINE_ROOM, READY_LIMIT};
 
 use crate::held::{Held, Mark};
