@@ -7,11 +7,13 @@ use Rattle.crx_lines.specs.Reading.{HasNoFeed}
 use Rattle.crx_lines.specs.meaning.Devices.{one_more}
 use Rattle.crx_base.specs.declared.fault.At.{At}
 use Rattle.crx_base.specs.declared.fault.Fault.TheVariants.{OutOfMemory}
+use Rattle.crx_base.specs.declared.limits.TheConstants.{INPUT_LIMIT}
 use Rattle.crx_runs.specs.Engines.{Awaited}
 use Rattle.crx_runs.specs.meaning.Filters.{Filter, with_next}
 use Rattle.crx_runs.specs.meaning.Messages.{notices_text}
 use Rattle.crx_runs.specs.meaning.Results.{Begins, Course, are_some}
 use Rattle.crx_runs.specs.meaning.Spans.{AreNext}
+use Rattle.crx_runs.specs.declared.engine.Engine.{Ghosts}
 use Rattle.crx_runs.specs.declared.taking.Halt.{Halt}
 use Rattle.crx_runs.specs.declared.taking.Halt.TheVariants.{Fault as Faulty, Unwritten, Unreported}
 use Rattle.rnxcmp_c.specs.Waiting.{waiting}
@@ -285,6 +287,28 @@ abbrev pub GoesOnOrBreaks : Result ℕ Stop → Filter → (List InputLine → L
 GoesOnOrBreaks taken filter shows held past bytes =
     IfOk taken (λ n. IsGoing filter shows held (fed_with past (take n bytes)))
     × IfErr taken (RunBreaks past.fed filter held (fed_with past bytes))
+
+-- ---- any engine, with what is held beside it
+
+module _ {E : Type 0} (e : Ghosts E) where
+  -- it takes a line, or the end
+  abbrev pub CanTake : E → Type 0
+  CanTake engine = IsReady (e.ready engine) (e.is_open engine)
+
+  -- a step keeps its run, and where the run isn't over, it takes what comes next
+  abbrev pub KeepsItsRun : {A : Type 0} → E → E → Held → Held → Result A Stop → Type 0
+  KeepsItsRun before after old new taken =
+      IsSameRun (e.filter before) (e.filter after) old new × OnOk taken (CanTake after)
+
+  -- its run goes on, and an input may have so many bytes more
+  abbrev pub CanBeFed : E → Held → ℕ → Type 0
+  CanBeFed engine held count = CanTake engine × ((past : HandlePast)
+      × IsGoing (e.filter engine) (e.shows engine) held past × (length past.fed + count ≤ INPUT_LIMIT))
+
+  -- its run goes on with the first of these bytes, or they ended it
+  abbrev pub WasFed : E → E → Held → Held → List ℕ → Result ℕ Stop → Type 0
+  WasFed before after old new bytes taken = (past : HandlePast) → IsGoing (e.filter before) (e.shows before) old past
+      → GoesOnOrBreaks taken (e.filter before) (e.shows after) new past bytes
 
 -- ---- the end
 

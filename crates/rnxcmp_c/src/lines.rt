@@ -5,7 +5,7 @@ ghost use Rattle.crx_base.specs.declared.limits.TheConstants.{INPUT_LIMIT};
 ghost use Rattle.crx_base.specs.meaning.Lines.{InputLine, ends_with_return, lines_of, without_return};
 ghost use Rattle.crx_lines.specs.Reading.{HasNoFeed};
 ghost use Rattle.crx_runs.specs.Lawful.{IsLawful};
-ghost use Rattle.rnxcmp_c.specs.Going.{EndStaysWithin, GoesOnOrBreaks, IsGoing, IsReady, IsSameRun, IsTaken, LastIsTaken, LineIsGiven, LineStaysWithin, piece_line};
+ghost use Rattle.rnxcmp_c.specs.Going.{CanBeFed, CanTake, EndStaysWithin, IsGoing, IsSameRun, IsTaken, KeepsItsRun, LastIsTaken, LineIsGiven, LineStaysWithin, WasFed, piece_line};
 ghost use Rattle.rnxcmp_c.specs.Past.{HandlePast, StopsSoon};
 ghost use Rattle.rnxcmp_c.specs.Holding.{IsCounted, IsMarkWithin, StopsCounted, ready_in};
 ghost use Rattle.rnxcmp_c.specs.declared.limits.TheConstants.{LINE_ROOM, READY_LIMIT};
@@ -49,11 +49,11 @@ fn give_line<E: Engine>(
     number: u64,
     is_ended: bool,
 ) -> Result<bool, Halt>
-    requires ready { IsReady (E.ready engine.old) (E.is_open engine.old) }
+    requires ready { CanTake E.Engine engine.old }
     requires next { number ≡ E.taken engine.old + 1 }
     requires within { number ≤ INPUT_LIMIT }
     ensures filter { E.filter engine.new ≡ E.filter engine.old }
-    ensures ready { OnOk result (IsReady (E.ready engine.new) (E.is_open engine.new)) }
+    ensures ready { OnOk result (CanTake E.Engine engine.new) }
     ensures step { (lines : List InputLine) (whole : List ℕ) → E.shows engine.old lines []
         → bytes.now ≡ take LINE_ROOM whole → LineIsGiven result (E.filter engine.old) (E.shows engine.new) lines
         (piece_line whole is_ended) output.old output.new messages.old messages.new }
@@ -102,12 +102,11 @@ fn counted(held: &mut Held, mark: Mark, number: u64, taken: Result<bool, Halt>) 
 /// Takes what is kept of a line as a line, and lets go of it, if the output stays within its limit, also where memory ran out while it was
 /// written.
 fn take_within<E: Engine>(engine: &mut E, held: &mut Held, is_ended: bool) -> Result<(), Stop>
-    requires ready { IsReady (E.ready engine.old) (E.is_open engine.old) }
+    requires ready { CanTake E.Engine engine.old }
     requires next { held.old.number ≡ E.taken engine.old }
     requires shown { (lines : List InputLine) × E.shows engine.old lines [] }
     requires within { held.old.number < INPUT_LIMIT }
-    ensures same { IsSameRun (E.filter engine.old) (E.filter engine.new) held.old held.new }
-    ensures ready { OnOk result (IsReady (E.ready engine.new) (E.is_open engine.new)) }
+    ensures keeps { KeepsItsRun E.Engine engine.old engine.new held.old held.new result }
     ensures next { OnOk result ((held.new.number ≡ held.old.number + 1) × (held.new.tail.bytes.items ≡ [])) }
     ensures step { (lines : List InputLine) (whole : List ℕ) → E.shows engine.old lines []
         → held.old.tail.bytes.items ≡ take LINE_ROOM whole → LineStaysWithin result (E.filter engine.old)
@@ -130,15 +129,11 @@ fn take_within<E: Engine>(engine: &mut E, held: &mut Held, is_ended: bool) -> Re
 
 /// Takes the first of some bytes, up to an LF, with which a line is taken, and answers how many; all, where no LF is among them.
 fn take_to_line_end<E: Engine>(engine: &mut E, held: &mut Held, bytes: &[u8]) -> Result<usize, Stop>
-    requires ready { IsReady (E.ready engine.old) (E.is_open engine.old) }
-    requires going { (past : HandlePast) × IsGoing (E.filter engine.old) (E.shows engine.old) held.old past
-        × (length past.fed + length bytes.now ≤ INPUT_LIMIT) }
-    ensures same { IsSameRun (E.filter engine.old) (E.filter engine.new) held.old held.new }
-    ensures ready { OnOk result (IsReady (E.ready engine.new) (E.is_open engine.new)) }
+    requires going { CanBeFed E.Engine engine.old held.old (length bytes.now) }
+    ensures keeps { KeepsItsRun E.Engine engine.old engine.new held.old held.new result }
     ensures count { IfOk result (λ n. (n ≤ length bytes.now) × (0 < length bytes.now → 0 < n)) }
     ensures piece { IfOk result (λ n. HasNoFeed (take (n - 1) bytes.now)) }
-    ensures fed { (past : HandlePast) → IsGoing (E.filter engine.old) (E.shows engine.old) held.old past
-        → GoesOnOrBreaks result (E.filter engine.old) (E.shows engine.new) held.new past bytes.now }
+    ensures fed { WasFed E.Engine engine.old engine.new held.old held.new bytes.now result }
 {
     match feed_from(bytes, 0) {
         None => {
@@ -167,17 +162,13 @@ pub(crate) fn take_bytes<E: Engine>(
     held: &mut Held,
     bytes: &[u8],
 ) -> Result<usize, Stop>
-    requires ready { IsReady (E.ready engine.old) (E.is_open engine.old) }
-    requires going { (past : HandlePast) × IsGoing (E.filter engine.old) (E.shows engine.old) held.old past
-        × (length past.fed + length bytes.now ≤ INPUT_LIMIT) }
-    ensures same { IsSameRun (E.filter engine.old) (E.filter engine.new) held.old held.new }
-    ensures ready { OnOk result (IsReady (E.ready engine.new) (E.is_open engine.new)) }
+    requires going { CanBeFed E.Engine engine.old held.old (length bytes.now) }
+    ensures keeps { KeepsItsRun E.Engine engine.old engine.new held.old held.new result }
     ensures count { IfOk result (IsTaken held.old held.new (length bytes.now)) }
     ensures soon { (past : HandlePast) → IsGoing (E.filter engine.old) (E.shows engine.old) held.old past
         → IfOk result (λ n. 0 < n → StopsSoon (E.filter engine.old) past bytes.now n) }
     ensures low { OnErr result (ready_in held.old < READY_LIMIT) }
-    ensures fed { (past : HandlePast) → IsGoing (E.filter engine.old) (E.shows engine.old) held.old past
-        → GoesOnOrBreaks result (E.filter engine.old) (E.shows engine.new) held.new past bytes.now }
+    ensures fed { WasFed E.Engine engine.old engine.new held.old held.new bytes.now result }
 {
     let mut left = bytes;
     'bytes: while !left.is_empty() && held.is_low() {
@@ -189,7 +180,7 @@ pub(crate) fn take_bytes<E: Engine>(
 
 /// Gives the end of the input to an engine, if the output stays within its limit.
 fn end_within<E: Engine>(engine: &mut E, held: &mut Held) -> Result<(), Stop>
-    requires ready { IsReady (E.ready engine.old) (E.is_open engine.old) }
+    requires ready { CanTake E.Engine engine.old }
     requires shown { (lines : List InputLine) × E.shows engine.old lines [] }
     requires within { E.taken engine.old ≤ INPUT_LIMIT }
     ensures same { IsSameRun (E.filter engine.old) (E.filter engine.new) held.old held.new }
@@ -212,7 +203,7 @@ fn is_blank(bytes: &[u8]) -> bool
 
 /// Takes the end of the input, and before it the last line, where no LF ended it.
 pub(crate) fn take_last<E: Engine>(engine: &mut E, held: &mut Held) -> Result<(), Stop>
-    requires ready { IsReady (E.ready engine.old) (E.is_open engine.old) }
+    requires ready { CanTake E.Engine engine.old }
     requires lawful { IsLawful (E.filter engine.old) }
     requires going { (past : HandlePast) × IsGoing (E.filter engine.old) (E.shows engine.old) held.old past
         × (length past.fed ≤ INPUT_LIMIT) }

@@ -1,6 +1,7 @@
 use Rattle.rnxcmp_c.proofs.Words.{◌<◌, IfErr, IfOk, take, sym, subst, Filter, IsGoing, RunBreaks, HandlePast}
 use Rattle.rnxcmp_c.proofs.Words.{fed_with, StopsSoon, engine_filter, shows_of, AnyEngine, Compacting}
 use Rattle.rnxcmp_c.proofs.Words.{Expanding}
+use Rattle.rnxcmp_c.specs.Handles.{EngineIsReady}
 use Rattle.rnxcmp_c.proofs.ReaderLemmas.{going-as}
 use Rattle.rnxcmp_c.proofs.engines.feed_engine.Goals as goal
 
@@ -8,7 +9,7 @@ pub returns-in-Compacting-clause-going : goal.returns-in-Compacting-clause-going
 returns-in-Compacting-clause-going c = λ (past : HandlePast) is.
     subst (λ (f : Filter). IfOk c.take_bytes.result
     (λ n. IsGoing f (shows_of (Compacting c.take_bytes.new.engine))
-    c.take_bytes.new.held (fed_with past (take n c.args.bytes.now)))) (sym c.take_bytes.ensures.same.0)
+    c.take_bytes.new.held (fed_with past (take n c.args.bytes.now)))) (sym c.take_bytes.ensures.keeps.0.0)
     (c.take_bytes.ensures.fed past (going-as c.in-Compacting.is is)).0
 
 pub returns-in-Expanding-clause-going : goal.returns-in-Expanding-clause-going
@@ -16,7 +17,7 @@ returns-in-Expanding-clause-going c = λ (past : HandlePast) is.
     subst (λ (f : Filter). IfOk c.take_bytes-in-Expanding.result
     (λ n. IsGoing f (shows_of (Expanding c.take_bytes-in-Expanding.new.engine))
     c.take_bytes-in-Expanding.new.held (fed_with past (take n c.args.bytes.now))))
-    (sym c.take_bytes-in-Expanding.ensures.same.0)
+    (sym c.take_bytes-in-Expanding.ensures.keeps.0.0)
     (c.take_bytes-in-Expanding.ensures.fed past (going-as c.in-Expanding.is is)).0
 
 pub returns-in-Compacting-clause-breaks : goal.returns-in-Compacting-clause-breaks
@@ -62,10 +63,12 @@ returns-in-Checking-clause-soon c = λ (past : HandlePast) is.
     (λ n. 0 < n → StopsSoon (engine_filter e) past c.args.bytes.now n)) (sym c.in-Checking.is)
     (c.take_bytes-in-Checking.ensures.soon past (going-as c.in-Checking.is is))
 
-pub take_bytes-requires-in-Expanding-clause-going : goal.take_bytes-requires-in-Expanding-clause-going
-take_bytes-requires-in-Expanding-clause-going c =
-    let going = c.requires.going in (going.0, going-as c.in-Expanding.is going.1, going.2)
-
-pub take_bytes-requires-clause-going : goal.take_bytes-requires-clause-going
-take_bytes-requires-clause-going c =
-    let going = c.requires.going in (going.0, going-as c.in-Compacting.is going.1, going.2)
+pub take_bytes-requires-in-Expanding : goal.take_bytes-requires-in-Expanding
+take_bytes-requires-in-Expanding c =
+    let going = c.requires.going in
+    record {
+      going = (
+        subst EngineIsReady c.in-Expanding.is c.requires.ready,
+        (going.0, going-as c.in-Expanding.is going.1, going.2),
+      );
+    }

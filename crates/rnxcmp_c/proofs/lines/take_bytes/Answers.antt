@@ -16,23 +16,26 @@ one-less count bytes within =
     (omega (arith, length-take-le count bytes within)))
     ∙ ap (take (count - 1)) (take-append-drop count bytes)
 
-pub take_to_line_end-requires-clause-going : goal.take_to_line_end-requires-clause-going
-take_to_line_end-requires-clause-going g c =
+pub take_to_line_end-requires : goal.take_to_line_end-requires
+take_to_line_end-requires g c =
     let i = c.bytes.invariant in
     let done : List ℕ = i.0.0 in
-    let past = c.requires.going.0 in
-    let shows = g.E.Engine.shows c.bytes.engine in (
-      fed_with past done,
-      subst (λ (f : Filter). IsGoing f shows c.bytes.held (fed_with past done)) (sym i.1)
-          (i.0.2 past c.requires.going.1),
-      omega (
-        arith,
-        c.requires.going.2,
-        length-append past.fed done,
-        ap length i.0.1,
-        length-append done c.bytes.left.now,
-      ),
-    )
+    let past = c.requires.going.1.0 in
+    let shows = g.E.Engine.shows c.bytes.engine in
+    record {
+      going = ((i.2, i.3), (
+        fed_with past done,
+        subst (λ (f : Filter). IsGoing f shows c.bytes.held (fed_with past done)) (sym i.1)
+            (i.0.2 past c.requires.going.1.1),
+        omega (
+          arith,
+          c.requires.going.1.2,
+          length-append past.fed done,
+          ap length i.0.1,
+          length-append done c.bytes.left.now,
+        ),
+      ));
+    }
 
 pub bytes-preserved : goal.bytes-preserved
 bytes-preserved g c =
@@ -72,10 +75,10 @@ bytes-preserved g c =
             c.in_ok-count.ensures.piece)
             (omega (arith, more, length-take-le count left c.in_ok-count.ensures.count.0)) low,
       ),
-      c.take_to_line_end.ensures.same.0 ∙ i.1,
-      c.in_ok-count.ensures.ready.0,
-      c.in_ok-count.ensures.ready.1,
-      c.take_to_line_end.ensures.same.1 ∙ i.4,
+      c.take_to_line_end.ensures.keeps.0.0 ∙ i.1,
+      c.in_ok-count.ensures.keeps.1.0,
+      c.in_ok-count.ensures.keeps.1.1,
+      c.take_to_line_end.ensures.keeps.0.1 ∙ i.4,
     )
 
 pub returns-in_err-count-clause-fed : goal.returns-in_err-count-clause-fed
