@@ -23,7 +23,10 @@ OF_CALLS = (
     ("end", "promise ended misused stands"),
     ("take", "output messages output_left messages_left promise still stands"),
 )
-OF_HANDLES = ("HandleStands", "has_ended", "run_state", "texts_kept", "output_kept", "messages_kept")
+OF_HANDLES = (
+    *("HandleStands", "ByItsPast", "WhileItGoesOn", "OnceItHasEnded"),
+    *("has_ended", "run_state", "texts_kept", "output_kept", "messages_kept"),
+)
 OF_ENGINES = ("AnyEngine", "IsOf", "ready_of", "is_open_of", "engine_filter", "shows_of")
 
 CHAPTERS = (
@@ -90,7 +93,8 @@ CHAPTERS = (
         "What a handle promises",
         "How a run stands after each call, by all that was fed and taken, by what the handle keeps, and by what the call answered; that it"
         " answers as a call over the whole input; and that what the lines make comes first in its result. `HandleStands` only links a call"
-        " to the next one, and need not be read. The next chapter has that, `has_ended` and `run_state`, and which texts a handle keeps.",
+        " to the next one, and need not be read. The next chapter has that, `ByItsPast` and its two kin, which say that it holds before the"
+        " call, `has_ended` and `run_state`, and which texts a handle keeps.",
         tuple((f"rnxcmp_c::rnxcmp_c_{call}", clauses) for call, clauses in OF_CALLS)
         + tuple((f"rnxcmp_c::{law}", "*") for law in ("a_handle_answers_as_a_call", "what_lines_make_comes_first")),
         RESULTS + FILTERS + OF_HANDLES,

@@ -2,10 +2,10 @@
 use Rattle.std.specs.Prelude.{ℕ, List, Result}
 use Rattle.crx_base.specs.declared.fault.At.{At}
 use Rattle.crx_base.specs.meaning.Lines.{InputLine}
-use Rattle.crx_base.specs.meaning.Seen.{Content}
+use Rattle.crx_base.specs.meaning.Seen.{Content, Overlong}
 use Rattle.crx_filter.specs.EngineLines.{HasTaken}
 use Rattle.crx_filter.specs.DirectionParts.{AwaitsLine, EngineParts, HasStopped, TakesLine, seen_by}
-use Rattle.crx_filter.specs.LineByLine.{Seen, Step as SeenStep}
+use Rattle.crx_filter.specs.LineByLine.{Seen, seen_end, seen_next}
 use Rattle.crx_runs.specs.Engines.{Awaited}
 use Rattle.crx_runs.specs.declared.engine.Step.{Step}
 use Rattle.crx_filter.specs.declared.direction.Direction.{Ghosts}
@@ -32,7 +32,11 @@ module _ {D : Type 0} (d : Ghosts D) where
   EngineTakes before line result after =
       TakesLine d.by_line (engine_seen before) (Content line) result (engine_ready after) (engine_seen after)
 
-  -- it has made this step, and no line is ready
-  abbrev pub EngineStops : SeenStep d.Open d.Kept → Result Step At → EngineParts D → EngineParts D → Type 0
-  EngineStops step result before after =
-      HasStopped step result (engine_ready after) (engine_seen before) (engine_seen after)
+  -- it has taken a line that is too long, or the end of the input
+  abbrev pub EngineSkips : EngineParts D → Result Step At → EngineParts D → Type 0
+  EngineSkips before result after = HasStopped (seen_next d.by_line (engine_seen before) Overlong)
+      result (engine_ready after) (engine_seen before) (engine_seen after)
+
+  abbrev pub EngineEnds : EngineParts D → Result Step At → EngineParts D → Type 0
+  EngineEnds before result after = HasStopped (seen_end d.by_line (engine_seen before))
+      result (engine_ready after) (engine_seen before) (engine_seen after)

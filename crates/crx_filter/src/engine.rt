@@ -40,14 +40,14 @@ impl<D: Direction> Engine<D> {
     ghost use Rattle.std.specs.Io.BufRead.{Rests};
     ghost use Rattle.std.specs.Option.{option_copied};
     ghost use Rattle.crx_base.specs.meaning.Lines.{InputLine, is_long};
-    ghost use Rattle.crx_base.specs.meaning.Seen.{Content, Overlong};
+    ghost use Rattle.crx_base.specs.meaning.Seen.{Content};
     ghost use Rattle.crx_base.specs.declared.fault.At.{At};
     ghost use Rattle.crx_lines.specs.Reading.{line_number, line_shown};
     ghost use Rattle.crx_filter.specs.DirectionParts.{AnswersToFault};
     ghost use Rattle.crx_filter.specs.EngineLaws.{IsLawfulDirection};
-    ghost use Rattle.crx_filter.specs.EngineState.{EngineAwaits, EngineStops, EngineTakes, engine_ready, engine_seen, engine_took};
+    ghost use Rattle.crx_filter.specs.EngineState.{EngineAwaits, EngineEnds, EngineSkips, EngineTakes, engine_ready, engine_seen, engine_took};
     ghost use Rattle.crx_filter.specs.EngineSteps.{Steps};
-    ghost use Rattle.crx_filter.specs.LineByLine.{Ended, seen_end, seen_next};
+    ghost use Rattle.crx_filter.specs.LineByLine.{Ended};
     ghost use Rattle.crx_filter.specs.RinexStages.{is_open_stage};
     ghost use Rattle.crx_filter.specs.contracts.engine.Engine.{the_row};
     ghost use Rattle.crx_filter.specs.declared.stage.Stage.{Stage};
@@ -155,8 +155,7 @@ impl<D: Direction> Engine<D> {
         requires drained { engine_ready D.Direction self.old ≡ [] }
         requires next { number ≡ (engine_seen D.Direction self.old).number + 1 }
         requires within { number ≤ INPUT_LIMIT }
-        ensures stops { EngineStops D.Direction (seen_next D.by_line (engine_seen D.Direction self.old) Overlong)
-            result self.old self.new }
+        ensures stops { EngineSkips D.Direction self.old result self.new }
         ensures lawful { IsLawfulDirection D.by_line D.seen_after D.filter }
     {
         let stage = self.direction.stage();
@@ -174,8 +173,7 @@ impl<D: Direction> Engine<D> {
     /// Takes the end of the input: see [`Engine::end`].
     fn close(&mut self) -> Result<Step, At>
         requires drained { engine_ready D.Direction self.old ≡ [] }
-        ensures stops { EngineStops D.Direction (seen_end D.by_line (engine_seen D.Direction self.old))
-            result self.old self.new }
+        ensures stops { EngineEnds D.Direction self.old result self.new }
         ensures lawful { IsLawfulDirection D.by_line D.seen_after D.filter }
     {
         let stage = self.direction.stage();
@@ -207,8 +205,7 @@ impl<D: Direction> Engine<D> {
         requires drained { engine_ready D.Direction self.old ≡ [] }
         requires next { number ≡ (engine_seen D.Direction self.old).number + 1 }
         requires within { number ≤ INPUT_LIMIT }
-        ensures stops { EngineStops D.Direction (seen_next D.by_line (engine_seen D.Direction self.old) Overlong)
-            result self.old self.new }
+        ensures stops { EngineSkips D.Direction self.old result self.new }
         ensures answers { (lines : List InputLine) (notices : List Awaited) (line : InputLine)
             → engine_took D.Direction self.old lines notices → IsAwaited notices line → is_long line ≡ true
             → EngineAnswers (D.filter (engine_seen D.Direction self.old).choices)
@@ -221,8 +218,7 @@ impl<D: Direction> Engine<D> {
     /// Takes the end of the input. No line is ready then.
     pub fn end(&mut self) -> Result<Step, At>
         requires drained { engine_ready D.Direction self.old ≡ [] }
-        ensures stops { EngineStops D.Direction (seen_end D.by_line (engine_seen D.Direction self.old))
-            result self.old self.new }
+        ensures stops { EngineEnds D.Direction self.old result self.new }
         // After the lines that it has taken, the answer is what its direction makes of them all.
         ensures concludes { (lines : List InputLine) → engine_took D.Direction self.old lines []
             → Concludes (D.filter (engine_seen D.Direction self.old).choices) [] lines result }

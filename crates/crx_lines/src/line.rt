@@ -109,8 +109,8 @@ impl LineReader {
     ghost use Rattle.std.specs.Borrow.{sem};
     ghost use Rattle.std.specs.Io.BufRead.{Rests};
     ghost use Rattle.crx_lines.specs.contracts.line.LineReader.{the_row};
-    ghost use Rattle.crx_lines.specs.Reading.{ReaderAnswers, AnswersAs, ReaderState, line_shown, line_number};
-    ghost use Rattle.crx_lines.specs.Readers.{reading, part_shown};
+    ghost use Rattle.crx_lines.specs.Reading.{ReaderAnswers, ReaderState, line_shown, line_number};
+    ghost use Rattle.crx_lines.specs.Readers.{IsPlace, TakesNextLine, reading, part_shown};
 
     /// A reader before its input's first line.
     pub fn new(alloc: Global) -> Result<LineReader, AllocError>
@@ -137,13 +137,8 @@ impl LineReader {
     #[inline(always)]
     fn advance<R: Source>(&mut self, reader: &mut R) -> Result<Option<Part>, At>
         requires { self.old.phase ≡ Phase.Open }
-        ensures answers { (given : List ℕ) × R.gave reader.old given reader.new
-            × AnswersAs (part_shown self.new.window.value.bytes.items) (λ _. self.new.number)
-            (reading self.old) given (R.at_end reader.new)
-            (tally_of (R.failures reader.old) (R.ends reader.old))
-            (tally_of (R.failures reader.new) (R.ends reader.new)) result (reading self.new) }
-        ensures place { IfOk result
-            (λ o. IfSome o (λ p. (p.from ≤ p.to) × (p.to ≤ SIZE) × (p.to - p.from ≤ LINE_LIMIT))) }
+        ensures answers { TakesNextLine R.Source self.old self.new reader.old reader.new result }
+        ensures place { IfOk result (λ next. IfSome next IsPlace) }
         ensures unasked { Contains (kept self.old.window.value) 10 → reader.new ≡ reader.old }
     {
         let Some(len) = feed_from(self.window.as_slice(), 0) else {
@@ -170,13 +165,8 @@ impl LineReader {
     #[inline(never)]
     fn advance_by_reading<R: Source>(&mut self, reader: &mut R) -> Result<Option<Part>, At>
         requires { self.old.phase ≡ Phase.Open }
-        ensures answers { (given : List ℕ) × R.gave reader.old given reader.new
-            × AnswersAs (part_shown self.new.window.value.bytes.items) (λ _. self.new.number)
-            (reading self.old) given (R.at_end reader.new)
-            (tally_of (R.failures reader.old) (R.ends reader.old))
-            (tally_of (R.failures reader.new) (R.ends reader.new)) result (reading self.new) }
-        ensures place { IfOk result
-            (λ o. IfSome o (λ p. (p.from ≤ p.to) × (p.to ≤ SIZE) × (p.to - p.from ≤ LINE_LIMIT))) }
+        ensures answers { TakesNextLine R.Source self.old self.new reader.old reader.new result }
+        ensures place { IfOk result (λ next. IfSome next IsPlace) }
         ensures unasked { Contains (kept self.old.window.value) 10 → reader.new ≡ reader.old }
     {
         let room = INPUT_LIMIT - self.passed - self.window.as_slice().len() as u64;

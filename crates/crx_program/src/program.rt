@@ -295,8 +295,10 @@ pub fn run<H: Files + Clock, R: Source, W: Sink, M: Sink>(
     ensures help { plan_of (map string_bytes words.items) ≡ Help
         → IsHelped (span W.Sink output.old output.new) (span M.Sink messages.old messages.new) result
         × (input.new ≡ input.old) }
-    ensures devices { (job : Job) → plan_of (map string_bytes words.items) ≡ Run job
-        → LeavesDevices job (input.new ≡ input.old) (output.new ≡ output.old) }
+    ensures input { (job : Job) → plan_of (map string_bytes words.items) ≡ Run job
+        → is_some job.source ≡ true → input.new ≡ input.old }
+    ensures output { (job : Job) → plan_of (map string_bytes words.items) ≡ Run job
+        → is_some job.target ≡ true → output.new ≡ output.old }
     ensures done { (job : Job) → plan_of (map string_bytes words.items) ≡ Run job
         → IsJobEnded ⟦<SourceFile<H::File> as Source>⟧ ⟦<TargetFile<H::File> as Sink>⟧ job
         (reader_span R.Source input.old input.new) (span W.Sink output.old output.new)

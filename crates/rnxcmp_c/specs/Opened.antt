@@ -1,5 +1,5 @@
 -- What a handle is, between two calls.
-use Rattle.std.specs.Prelude.{◌≡◌, ◌⊎◌, ℕ, Bool, true, false, List, [], ◌∷◌, length, take, drop}
+use Rattle.std.specs.Prelude.{◌≡◌, ◌⊎◌, ℕ, Bool, true, false, List, [], ◌∷◌, length, drop}
 use Rattle.std.specs.Prelude.{Option, None, is_some}
 use Rattle.crx_base.specs.declared.fault.Fault.TheVariants.{OutOfMemory}
 use Rattle.crx_base.specs.meaning.Faults.{code_of_fault}
@@ -7,7 +7,7 @@ use Rattle.crx_runs.specs.declared.outcome.Outcome.{Outcome}
 use Rattle.rnxcmp_c.specs.Handles.{Ends, Feeds, ReaderStands, fault_now, status_now}
 use Rattle.rnxcmp_c.specs.Past.{past_of}
 use Rattle.rnxcmp_c.specs.meaning.Answers.{BothTexts, bare_answer, placed}
-use Rattle.rnxcmp_c.specs.meaning.Handles.{Task, handle_answer, joined_texts}
+use Rattle.rnxcmp_c.specs.meaning.Handles.{Task, handle_answer}
 use Rattle.rnxcmp_c.specs.declared.answer.Answer.{Answer}
 use Rattle.rnxcmp_c.specs.declared.answer.TheConstants.{MISUSED}
 use Rattle.rnxcmp_c.specs.declared.handle.Handle.{Handle}
@@ -69,17 +69,6 @@ run_state handle = run_in handle.place.held
 abbrev pub has_ended : Handle → Bool
 has_ended handle = is_some (run_state handle)
 
--- what was taken of both texts in all, and then what is kept
-abbrev pub all_texts : BothTexts → Handle → BothTexts
-all_texts taken handle = joined_texts taken (texts_kept handle)
-
--- what rooms of these lengths take of both texts that are kept
-abbrev pub texts_taken : Handle → ℕ → ℕ → BothTexts
-texts_taken handle output messages = record {
-  output = take output (output_kept handle.place.held);
-  messages = take messages (messages_kept handle.place.held);
-}
-
 -- this is so for every task and for all that was fed and taken by which a handle is as it is; while its run goes
 -- on; and once it has ended
 abbrev pub ByItsPast : Handle → (Task → List ℕ → BothTexts → Type 0) → Type 0
@@ -92,10 +81,8 @@ WhileItGoesOn handle IsSo = ByItsPast handle (λ task fed taken. has_ended handl
 abbrev pub OnceItHasEnded : Handle → Type 0 → Type 0
 OnceItHasEnded handle IsSo = ByItsPast handle (λ task fed taken. has_ended handle ≡ true → IsSo)
 
--- a call to open a handle that answers no status 0 has done nothing to it, and one that is open stays as it is; a run
--- that was opened goes on
+-- a call to open a handle that answers no status 0 has done nothing to it, and one that is open stays as it is
 pub record KeepsHandle (old new : Handle) (answer : Answer) : Type 0 where
-  pub running : answer.status ≡ 0 → has_ended new ≡ false
   pub unchanged : (answer.status ≡ 0 → ⊥) → IsUnchanged old new
   pub misused : old.is_open ≡ true → answer ≡ bare_answer MISUSED 0 0
 

@@ -12,7 +12,7 @@ ghost use Rattle.crx_base.specs.meaning.Lines.{lines_of};
 ghost use Rattle.rnxcmp_c.specs.Handles.{IsFresh};
 ghost use Rattle.rnxcmp_c.specs.meaning.Handles.{HandlePromise, RunHasEnded, RunWasEnded, StopsAtLimit, StopsForMemory, TakesBytes, Task, joined_texts, run_for};
 ghost use Rattle.rnxcmp_c.specs.Holding.{HoldsNothing};
-ghost use Rattle.rnxcmp_c.specs.Opened.{AnswersOpening, ByItsPast, EndsHandle, FeedsHandle, HandleStands, Holds, IsSoundHandle, IsUnchanged, KeepsHandle, OnceItHasEnded, RefusesMisuse, WhileItGoesOn, all_texts, has_ended, messages_kept, output_kept, run_state, texts_kept, texts_taken};
+ghost use Rattle.rnxcmp_c.specs.Opened.{AnswersOpening, ByItsPast, EndsHandle, FeedsHandle, HandleStands, Holds, IsSoundHandle, IsUnchanged, KeepsHandle, OnceItHasEnded, RefusesMisuse, WhileItGoesOn, has_ended, messages_kept, output_kept, run_state, texts_kept};
 ghost use Rattle.rnxcmp_c.specs.declared.reader.Reader.{Reader};
 ghost use Rattle.rnxcmp_c.specs.meaning.Answers.{BothTexts, HasNoMemory, bare_answer, placed, rooms};
 ghost use Rattle.rnxcmp_c.specs.meaning.Ended.{CheckPromises, ExpansionPromises};
@@ -111,6 +111,7 @@ pub extern "C" fn rnxcmp_c_open_compact(
     ensures opened { result.status ≡ 0
         → HandleStands (Task.Compact (choices_of (Some every) skip date.now) max_output) handle.new []
         (rooms [] []) }
+    ensures running { result.status ≡ 0 → has_ended handle.new ≡ false }
     ensures kept { KeepsHandle handle.old handle.new result }
     ensures date { handle.old.is_open ≡ false → is_date date.now ≡ false → result ≡ bare_answer BAD_DATE 0 0 }
     ensures answer { handle.old.is_open ≡ false → is_date date.now ≡ true → AnswersOpening result }
@@ -140,6 +141,7 @@ pub extern "C" fn rnxcmp_c_open_expand(
 ) -> Answer
     ensures opened { result.status ≡ 0 → (choices : Choices) × (choices.skip ≡ skip)
         × HandleStands (Task.Expand choices max_output) handle.new [] (rooms [] []) }
+    ensures running { result.status ≡ 0 → has_ended handle.new ≡ false }
     ensures kept { KeepsHandle handle.old handle.new result }
     ensures answer { handle.old.is_open ≡ false → AnswersOpening result }
 {
@@ -159,6 +161,7 @@ pub extern "C" fn rnxcmp_c_open_expand(
 #[unsafe(no_mangle)]
 pub extern "C" fn rnxcmp_c_open_check(alloc: Global, handle: &mut Handle) -> Answer
     ensures opened { result.status ≡ 0 → HandleStands Task.Check handle.new [] (rooms [] []) }
+    ensures running { result.status ≡ 0 → has_ended handle.new ≡ false }
     ensures kept { KeepsHandle handle.old handle.new result }
     ensures answer { handle.old.is_open ≡ false → AnswersOpening result }
 {
@@ -191,12 +194,12 @@ pub extern "C" fn rnxcmp_c_feed(
     ensures stands { ByItsPast handle.old (λ task fed taken.
         HandleStands task handle.new (fed ++ take used.new bytes.now) taken) }
     ensures promise { WhileItGoesOn handle.old (λ task fed taken. HandlePromise (run_state handle.new) (run_for task)
-        (fed ++ take used.new bytes.now) (all_texts taken handle.new) (texts_kept handle.new) result) }
+        (fed ++ take used.new bytes.now) (joined_texts taken (texts_kept handle.new)) (texts_kept handle.new) result) }
     ensures takes { WhileItGoesOn handle.old (λ task fed taken. TakesBytes (run_for task) fed taken bytes.now used.new
         (texts_kept handle.old) (texts_kept handle.new) (has_ended handle.new)) }
     ensures ended { WhileItGoesOn handle.old (λ task fed taken. has_ended handle.new ≡ true
         → RunWasEnded (run_for task) fed (fed ++ take used.new bytes.now) (drop used.new bytes.now)
-        (all_texts taken handle.new) (texts_kept handle.new) result) }
+        (joined_texts taken (texts_kept handle.new)) (texts_kept handle.new) result) }
     ensures misused { OnceItHasEnded handle.old ((result ≡ bare_answer MISUSED 0 0) × (used.new ≡ 0)
         × (handle.new.place.held ≡ handle.old.place.held)) }
     ensures sound { IsSoundHandle handle.new }
@@ -221,17 +224,17 @@ pub extern "C" fn rnxcmp_c_end(alloc: Global, handle: &mut Handle) -> Answer
         EndsHandle task handle.old handle.new fed taken result) }
     ensures stands { ByItsPast handle.old (λ task fed taken. HandleStands task handle.new fed taken) }
     ensures promise { WhileItGoesOn handle.old (λ task fed taken. HandlePromise (run_state handle.new) (run_for task) fed
-        (all_texts taken handle.new) (texts_kept handle.new) result) }
+        (joined_texts taken (texts_kept handle.new)) (texts_kept handle.new) result) }
     ensures ended { WhileItGoesOn handle.old (λ task fed taken. (has_ended handle.new ≡ true)
         × RunHasEnded (λ ended. (ended ≡ (run_for task).result fed) ⊎ (StopsAtLimit (run_for task) fed ended
         ⊎ StopsForMemory (λ line. line ≡ length (lines_of fed)) (run_for task) fed ended))
-        (all_texts taken handle.new) (texts_kept handle.new) result) }
+        (joined_texts taken (texts_kept handle.new)) (texts_kept handle.new) result) }
     ensures misused { OnceItHasEnded handle.old
         ((result ≡ bare_answer MISUSED 0 0) × (handle.new.place.held ≡ handle.old.place.held)) }
     ensures expansion { (choices : Choices) (limit : ℕ) (fed : List ℕ) (taken : BothTexts)
         → HandleStands (Task.Expand choices limit) handle.old fed taken → has_ended handle.old ≡ false
         → (HasNoMemory result → ⊥) → (result.status ≡ OUTPUT_LIMIT → ⊥)
-        → ExpansionPromises choices fed (all_texts taken handle.new) (texts_kept handle.new) result }
+        → ExpansionPromises choices fed (joined_texts taken (texts_kept handle.new)) (texts_kept handle.new) result }
     ensures check { (fed : List ℕ) (taken : BothTexts)
         → HandleStands Task.Check handle.old fed taken → has_ended handle.old ≡ false
         → (HasNoMemory result → ⊥) → (result.status ≡ OUTPUT_LIMIT → ⊥) → CheckPromises fed result }
@@ -267,17 +270,19 @@ pub extern "C" fn rnxcmp_c_take(
     ensures messages_left { handle.old.is_open ≡ true
         → messages_kept handle.new.place.held ≡ drop (length messages.old) (messages_kept handle.old.place.held) }
     ensures stands { ByItsPast handle.old (λ task fed taken. HandleStands task handle.new fed
-        (joined_texts taken (texts_taken handle.old (length output.old) (length messages.old)))) }
+        (joined_texts taken (rooms (take (length output.old) (output_kept handle.old.place.held))
+        (take (length messages.old) (messages_kept handle.old.place.held))))) }
     ensures still { run_state handle.new ≡ run_state handle.old }
     ensures promise { ByItsPast handle.old (λ task fed taken. (run_state handle.new ≡ run_state handle.old)
-        × HandlePromise (run_state handle.new) (run_for task) fed (all_texts
-        (joined_texts taken (texts_taken handle.old (length output.old) (length messages.old))) handle.new)
+        × HandlePromise (run_state handle.new) (run_for task) fed (joined_texts (joined_texts taken
+        (rooms (take (length output.old) (output_kept handle.old.place.held))
+        (take (length messages.old) (messages_kept handle.old.place.held)))) (texts_kept handle.new))
         (texts_kept handle.new) result) }
     ensures expansion { (choices : Choices) (limit : ℕ) (fed : List ℕ) (taken : BothTexts)
         → HandleStands (Task.Expand choices limit) handle.new fed taken → has_ended handle.new ≡ true
         → (HasNoMemory result → ⊥) → (result.status ≡ OUTPUT_LIMIT → ⊥)
         → (result.code ≡ code_of_fault InputTooLong → ⊥)
-        → ExpansionPromises choices fed (all_texts taken handle.new) (texts_kept handle.new) result }
+        → ExpansionPromises choices fed (joined_texts taken (texts_kept handle.new)) (texts_kept handle.new) result }
     ensures check { (fed : List ℕ) (taken : BothTexts)
         → HandleStands Task.Check handle.new fed taken → has_ended handle.new ≡ true
         → (HasNoMemory result → ⊥) → (result.status ≡ OUTPUT_LIMIT → ⊥)

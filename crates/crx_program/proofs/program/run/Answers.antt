@@ -7,3 +7,9 @@ returns-clause-done g c = λ job e. (
   c.run_with_files.result.target,
   rw c.close.ensures.status (c.run_with_files.ensures.done job e),
 )
+
+pub returns-clause-input : goal.returns-clause-input
+returns-clause-input g c = λ job e. (c.run_with_files.ensures.devices job e).input
+
+pub returns-clause-output : goal.returns-clause-output
+returns-clause-output g c = λ job e. (c.run_with_files.ensures.devices job e).output

@@ -1,4 +1,4 @@
-use Rattle.std.proofs.Common.{ap, ◌∙◌, sym, refl, ◌+◌}
+use Rattle.std.proofs.Common.{ap, ◌∙◌, sym, ◌+◌}
 use Rattle.crx_filter.specs.DirectionParts.{EngineParts}
 use Rattle.crx_filter.proofs.steps.EngineFaults.{long-failed, not-settled}
 use Rattle.crx_filter.proofs.engine.Engine.skip.Goals as goal

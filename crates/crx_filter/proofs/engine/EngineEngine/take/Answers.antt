@@ -1,7 +1,5 @@
 use Rattle.crx_lines.specs.Reading.{line_shown}
 use Rattle.crx_base.specs.meaning.Seen.{Content}
-use Rattle.crx_runs.specs.Engines.{answer_given}
-use Rattle.crx_filter.specs.EngineState.{engine_seen, engine_ready}
 use Rattle.crx_filter.proofs.steps.EngineAnswers.{answers-seen, seen-within}
 use Rattle.crx_filter.proofs.steps.StepCounts.{steps-counted, steps-drained}
 use Rattle.crx_filter.proofs.engine.EngineEngine.take.Goals as goal
