@@ -20,8 +20,8 @@ compact_reader_parts r = record {
 -- what it answers to a line, by any choices, and these lines are ready then
 abbrev pub ReadsCompactLine :
     CompactReader → List ℕ → Result Bool Fault → List (List ℕ) → CompactReader → Type 0
-ReadsCompactLine before line result ready after =
-    Reads expansion (λ choices. ⊤) (compact_reader_parts before) line result ready (compact_reader_parts after)
+ReadsCompactLine before line result ready after = Reads expansion (λ choices. ⊤)
+    (compact_reader_parts before) line result ready (compact_reader_parts after)
 
 -- the line itself, where it is copied
 abbrev pub line_copied : List ℕ → Result Bool Fault → List (List ℕ)

@@ -80,13 +80,14 @@ pub record TakesLine {U O K : Type 0} (direction : Direction U O K) (before : Se
   pub choices : after.choices ≡ before.choices
 
 -- an engine can be given a line with this content: no line is ready, and one more is within the limit
-pub record AwaitsLine {O K : Type 0} (ready : List (List ℕ)) (before : Seen O K) (line : List ℕ) : Type 0 where
+pub record AwaitsLine {O K : Type 0} (ready : List (List ℕ)) (before : Seen O K)
+    (line : List ℕ) : Type 0 where
   pub drained : ready ≡ []
   pub short : length line ≤ LINE_LIMIT
   pub within : before.number < INPUT_LIMIT
 
--- an engine has made this step, and no line is ready; its choices are as they were, and a fault that it answers has
--- ended the run
+-- an engine has made this step, and no line is ready; its choices are as they were, and a fault that it
+-- answers has ended the run
 pub record HasStopped {O K : Type 0} (step : SeenStep O K) (result : Result Step At) (ready : List (List ℕ))
     (before after : Seen O K) : Type 0 where
   pub steps : step_made result [] after ≡ step

@@ -1,12 +1,12 @@
 -- What an engine of a direction is seen as.
-use Rattle.std.specs.Prelude.{ℕ, List, Result}
+use Rattle.std.specs.Prelude.{ℕ, Bool, List, Result}
 use Rattle.crx_base.specs.declared.fault.At.{At}
 use Rattle.crx_base.specs.meaning.Lines.{InputLine}
 use Rattle.crx_base.specs.meaning.Seen.{Content, Overlong}
 use Rattle.crx_filter.specs.EngineLines.{HasTaken}
 use Rattle.crx_filter.specs.DirectionParts.{AwaitsLine, EngineParts, HasStopped, TakesLine, seen_by}
 use Rattle.crx_filter.specs.LineByLine.{Seen, seen_end, seen_next}
-use Rattle.crx_runs.specs.Engines.{Awaited}
+use Rattle.crx_runs.specs.Engines.{Awaited, answer_given}
 use Rattle.crx_runs.specs.declared.engine.Step.{Step}
 use Rattle.crx_filter.specs.declared.direction.Direction.{Ghosts}
 
@@ -27,10 +27,10 @@ module _ {D : Type 0} (d : Ghosts D) where
   abbrev pub EngineAwaits : EngineParts D → List ℕ → Type 0
   EngineAwaits e line = AwaitsLine (engine_ready e) (engine_seen e) line
 
-  -- it has taken a line with this content
-  abbrev pub EngineTakes : EngineParts D → List ℕ → Result Step At → EngineParts D → Type 0
-  EngineTakes before line result after =
-      TakesLine d.by_line (engine_seen before) (Content line) result (engine_ready after) (engine_seen after)
+  -- it has taken a line with this content, after which nothing is to be done, or what is stored is answered
+  abbrev pub EngineTakes : EngineParts D → List ℕ → Bool → EngineParts D → Type 0
+  EngineTakes before line is_quiet after = TakesLine d.by_line (engine_seen before) (Content line)
+      (answer_given is_quiet after.answer) (engine_ready after) (engine_seen after)
 
   -- it has taken a line that is too long, or the end of the input
   abbrev pub EngineSkips : EngineParts D → Result Step At → EngineParts D → Type 0

@@ -1,5 +1,6 @@
 -- What a reader of RINEX makes of a line.
-use Rattle.std.specs.Prelude.{◌≡◌, ◌⊎◌, ℕ, Bool, true, false, List, [], Option, Some, Result, length, IfOk, IfErr, OnErr}
+use Rattle.std.specs.Prelude.{◌≡◌, ◌⊎◌, ℕ, Bool, true, false, List, [], Option, Some, Result, length}
+use Rattle.std.specs.Prelude.{IfOk, IfErr, OnErr}
 use Rattle.crx_base.specs.meaning.Seen.{Content}
 use Rattle.crx_base.specs.declared.fault.Fault.{Fault}
 use Rattle.crx_base.specs.declared.fault.Fault.TheVariants.{OutOfMemory}
@@ -91,11 +92,13 @@ abbrev pub RefusesRinexLine : Made ObservationEpoch OpenEpoch → RinexReader �
 RefusesRinexLine made before line fault = (made ≡ Fails fault) ⊎ ((fault ≡ OutOfMemory)
     × (may_take_memory (λ first. false) is_next_row (reader_phase before) (Content line) ≡ true))
 
--- what a reader answers to a line that is no row of an open epoch, whatever is kept of the epochs before; after a fault it
--- is as it was
+-- what a reader answers to a line that is no row of an open epoch, whatever is kept of the epochs before; after
+-- a fault it is as it was
 pub record ReadsRinexLine (before : RinexReader) (line : List ℕ) (result : Result RinexStep Fault)
     (after : RinexReader) : Type 0 where
-  pub takes : (kept : Written) → IfOk result (λ step. TakesRinexLine (made_at before line kept) before line step after)
-  pub refuses : (kept : Written) → IfErr result (λ fault. RefusesRinexLine (made_at before line kept) before line fault)
+  pub takes : (kept : Written)
+      → IfOk result (λ step. TakesRinexLine (made_at before line kept) before line step after)
+  pub refuses : (kept : Written)
+      → IfErr result (λ fault. RefusesRinexLine (made_at before line kept) before line fault)
   pub steps : IfOk result (λ step. is_row step ≡ false)
   pub same : OnErr result (IsSameReader before after)

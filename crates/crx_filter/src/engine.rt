@@ -100,7 +100,7 @@ impl<D: Direction> Engine<D> {
     #[inline(always)]
     fn take_line(&mut self, line: &[u8]) -> bool
         requires asked { EngineAwaits D.Direction self.old line.now }
-        ensures takes { EngineTakes D.Direction self.old line.now (answer_given result self.new.answer) self.new }
+        ensures takes { EngineTakes D.Direction self.old line.now result self.new }
         ensures lawful { IsLawfulDirection D.by_line D.seen_after D.filter }
     {
         let Stage::Open = self.direction.stage() else {
@@ -127,7 +127,7 @@ impl<D: Direction> Engine<D> {
     fn take_between(&mut self, line: &[u8]) -> bool
         requires closed { is_open_stage (D.parts self.old.direction).stage ≡ false }
         requires asked { EngineAwaits D.Direction self.old line.now }
-        ensures takes { EngineTakes D.Direction self.old line.now (answer_given result self.new.answer) self.new }
+        ensures takes { EngineTakes D.Direction self.old line.now result self.new }
     {
         let stage = self.direction.stage();
         if let Stage::Ended(at) = stage {

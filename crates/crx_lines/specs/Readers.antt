@@ -23,9 +23,12 @@ part_shown bytes p = record { content = slice_range bytes p.from p.to; is_plain 
 abbrev pub IsPlace : Part → Type 0
 IsPlace p = (p.from ≤ p.to) × (p.to ≤ SIZE) × (p.to - p.from ≤ LINE_LIMIT)
 
--- the next line was taken out of what was kept and what its source gave after that, and is at a place of the window
-abbrev pub TakesNextLine : {R : Type 0} → Ghosts R → LineReader → LineReader → R → R → Result (Option Part) At → Type 0
+-- the next line was taken out of what was kept and what its source gave after that, and is at a place of the
+-- window
+abbrev pub TakesNextLine : {R : Type 0}
+    → Ghosts R → LineReader → LineReader → R → R → Result (Option Part) At → Type 0
 TakesNextLine source old new before after result = (given : List ℕ) × source.gave before given after
-    × AnswersAs (part_shown new.window.value.bytes.items) (λ _. new.number) (reading old) given (source.at_end after)
-    (tally_of (source.failures before) (source.ends before)) (tally_of (source.failures after) (source.ends after))
-    result (reading new)
+    × AnswersAs (part_shown new.window.value.bytes.items) (λ _. new.number)
+    (reading old) given (source.at_end after)
+    (tally_of (source.failures before) (source.ends before))
+    (tally_of (source.failures after) (source.ends after)) result (reading new)

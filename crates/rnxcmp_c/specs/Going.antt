@@ -307,7 +307,8 @@ module _ {E : Type 0} (e : Ghosts E) where
 
   -- its run goes on with the first of these bytes, or they ended it
   abbrev pub WasFed : E → E → Held → Held → List ℕ → Result ℕ Stop → Type 0
-  WasFed before after old new bytes taken = (past : HandlePast) → IsGoing (e.filter before) (e.shows before) old past
+  WasFed before after old new bytes taken = (past : HandlePast)
+      → IsGoing (e.filter before) (e.shows before) old past
       → GoesOnOrBreaks taken (e.filter before) (e.shows after) new past bytes
 
 -- ---- the end

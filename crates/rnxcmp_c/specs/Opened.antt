@@ -69,14 +69,15 @@ run_state handle = run_in handle.place.held
 abbrev pub has_ended : Handle → Bool
 has_ended handle = is_some (run_state handle)
 
--- this is so for every task and for all that was fed and taken by which a handle is as it is; while its run goes
--- on; and once it has ended
+-- this is so for every task, and for all that was fed and taken, by which a handle is as it is; while its run
+-- goes on; and once it has ended
 abbrev pub ByItsPast : Handle → (Task → List ℕ → BothTexts → Type 0) → Type 0
-ByItsPast handle IsSo =
-    (task : Task) (fed : List ℕ) (taken : BothTexts) → HandleStands task handle fed taken → IsSo task fed taken
+ByItsPast handle IsSo = (task : Task) (fed : List ℕ) (taken : BothTexts)
+    → HandleStands task handle fed taken → IsSo task fed taken
 
 abbrev pub WhileItGoesOn : Handle → (Task → List ℕ → BothTexts → Type 0) → Type 0
-WhileItGoesOn handle IsSo = ByItsPast handle (λ task fed taken. has_ended handle ≡ false → IsSo task fed taken)
+WhileItGoesOn handle IsSo =
+    ByItsPast handle (λ task fed taken. has_ended handle ≡ false → IsSo task fed taken)
 
 abbrev pub OnceItHasEnded : Handle → Type 0 → Type 0
 OnceItHasEnded handle IsSo = ByItsPast handle (λ task fed taken. has_ended handle ≡ true → IsSo)

@@ -193,10 +193,11 @@ pub extern "C" fn rnxcmp_c_feed(
         FeedsHandle task handle.old handle.new fed taken bytes.now used.new result) }
     ensures stands { ByItsPast handle.old (λ task fed taken.
         HandleStands task handle.new (fed ++ take used.new bytes.now) taken) }
-    ensures promise { WhileItGoesOn handle.old (λ task fed taken. HandlePromise (run_state handle.new) (run_for task)
-        (fed ++ take used.new bytes.now) (joined_texts taken (texts_kept handle.new)) (texts_kept handle.new) result) }
-    ensures takes { WhileItGoesOn handle.old (λ task fed taken. TakesBytes (run_for task) fed taken bytes.now used.new
-        (texts_kept handle.old) (texts_kept handle.new) (has_ended handle.new)) }
+    ensures promise { WhileItGoesOn handle.old (λ task fed taken. HandlePromise (run_state handle.new)
+        (run_for task) (fed ++ take used.new bytes.now)
+        (joined_texts taken (texts_kept handle.new)) (texts_kept handle.new) result) }
+    ensures takes { WhileItGoesOn handle.old (λ task fed taken. TakesBytes (run_for task) fed taken
+        bytes.now used.new (texts_kept handle.old) (texts_kept handle.new) (has_ended handle.new)) }
     ensures ended { WhileItGoesOn handle.old (λ task fed taken. has_ended handle.new ≡ true
         → RunWasEnded (run_for task) fed (fed ++ take used.new bytes.now) (drop used.new bytes.now)
         (joined_texts taken (texts_kept handle.new)) (texts_kept handle.new) result) }
@@ -223,8 +224,8 @@ pub extern "C" fn rnxcmp_c_end(alloc: Global, handle: &mut Handle) -> Answer
     ensures ends { ByItsPast handle.old (λ task fed taken.
         EndsHandle task handle.old handle.new fed taken result) }
     ensures stands { ByItsPast handle.old (λ task fed taken. HandleStands task handle.new fed taken) }
-    ensures promise { WhileItGoesOn handle.old (λ task fed taken. HandlePromise (run_state handle.new) (run_for task) fed
-        (joined_texts taken (texts_kept handle.new)) (texts_kept handle.new) result) }
+    ensures promise { WhileItGoesOn handle.old (λ task fed taken. HandlePromise (run_state handle.new)
+        (run_for task) fed (joined_texts taken (texts_kept handle.new)) (texts_kept handle.new) result) }
     ensures ended { WhileItGoesOn handle.old (λ task fed taken. (has_ended handle.new ≡ true)
         × RunHasEnded (λ ended. (ended ≡ (run_for task).result fed) ⊎ (StopsAtLimit (run_for task) fed ended
         ⊎ StopsForMemory (λ line. line ≡ length (lines_of fed)) (run_for task) fed ended))
@@ -234,7 +235,8 @@ pub extern "C" fn rnxcmp_c_end(alloc: Global, handle: &mut Handle) -> Answer
     ensures expansion { (choices : Choices) (limit : ℕ) (fed : List ℕ) (taken : BothTexts)
         → HandleStands (Task.Expand choices limit) handle.old fed taken → has_ended handle.old ≡ false
         → (HasNoMemory result → ⊥) → (result.status ≡ OUTPUT_LIMIT → ⊥)
-        → ExpansionPromises choices fed (joined_texts taken (texts_kept handle.new)) (texts_kept handle.new) result }
+        → ExpansionPromises choices fed
+        (joined_texts taken (texts_kept handle.new)) (texts_kept handle.new) result }
     ensures check { (fed : List ℕ) (taken : BothTexts)
         → HandleStands Task.Check handle.old fed taken → has_ended handle.old ≡ false
         → (HasNoMemory result → ⊥) → (result.status ≡ OUTPUT_LIMIT → ⊥) → CheckPromises fed result }
@@ -282,7 +284,8 @@ pub extern "C" fn rnxcmp_c_take(
         → HandleStands (Task.Expand choices limit) handle.new fed taken → has_ended handle.new ≡ true
         → (HasNoMemory result → ⊥) → (result.status ≡ OUTPUT_LIMIT → ⊥)
         → (result.code ≡ code_of_fault InputTooLong → ⊥)
-        → ExpansionPromises choices fed (joined_texts taken (texts_kept handle.new)) (texts_kept handle.new) result }
+        → ExpansionPromises choices fed
+        (joined_texts taken (texts_kept handle.new)) (texts_kept handle.new) result }
     ensures check { (fed : List ℕ) (taken : BothTexts)
         → HandleStands Task.Check handle.new fed taken → has_ended handle.new ≡ true
         → (HasNoMemory result → ⊥) → (result.status ≡ OUTPUT_LIMIT → ⊥)

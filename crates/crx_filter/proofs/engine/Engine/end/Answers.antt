@@ -7,4 +7,5 @@ returns-clause-concludes g c = λ lines taken.
     concludes (c.close.ensures.lawful c.args.self.now.options) _ _ lines _ _ taken c.close.ensures.stops.steps
 
 pub returns-clause-repeated : goal.returns-clause-repeated
-returns-clause-repeated g c = λ at is. repeats-end g.D.Direction.by_line _ _ _ _ at c.close.ensures.stops.steps is
+returns-clause-repeated g c = λ at is.
+    repeats-end g.D.Direction.by_line _ _ _ _ at c.close.ensures.stops.steps is

@@ -10,8 +10,8 @@ pub returns-clause-answers : goal.returns-clause-answers
 returns-clause-answers g c = λ lines notices line taken awaited long.
     let stops = c.skip.ensures.stops in
     answers-seen c.skip.ensures.lawful _ _ _ lines notices line Overlong _ _ (λ ls ns shown. shown.0)
-    stops.choices (seen-long line long) taken awaited (inl (ap (λ (ls : List (List ℕ)). step_made c.skip.result ls
-    (engine_seen g.D.Direction c.skip.new.self)) stops.drained ∙ stops.steps))
+    stops.choices (seen-long line long) taken awaited (inl (ap (λ (ls : List (List ℕ)).
+    step_made c.skip.result ls (engine_seen g.D.Direction c.skip.new.self)) stops.drained ∙ stops.steps))
 
 pub returns-clause-repeated : goal.returns-clause-repeated
 returns-clause-repeated g c = λ at is.
