@@ -23,7 +23,7 @@ use Rattle.crx_rinex.specs.meaning.SatelliteLines.{all_some, values_in, flags_at
 use Rattle.crx_header.specs.meaning.Satellites.{is_identifier}
 use Rattle.crx_base.specs.declared.fault.Fault.TheVariants.{BadField}
 use Rattle.crx_rinex.specs.meaning.SatelliteLines.{row_with, IsSoundRow}
-use Rattle.crx_rinex.specs.SatelliteLines.{blank_row, cells_of, with_flags, with_value, AreAllRead, AreCellsRead}
+use Rattle.crx_rinex.specs.SatelliteLines.{blank_row, row_by_cells, with_flags, with_value, AreAllRead, AreCellsRead}
 use Rattle.crx_text.proofs.EachPlace.{each_place-more, index-each_place, length-each_place}
 
 -- one value more
@@ -172,7 +172,7 @@ cells_whole line values flags k m h all long ended =
 pub cells_end : (line : List ℕ) (values : List (Option ℤ)) (flags : List ℕ) (k m : ℕ) (b : Bool)
     → AreCellsRead k line values flags → k ≡ m → length values ≡ m
     → b ≡ list_all is_blank (drop (16 * m + 3) line)
-    → MatchBool b (AreAllRead m line values flags) (cells_of m line ≡ Err BadField)
+    → MatchBool b (AreAllRead m line values flags) (row_by_cells m line ≡ Err BadField)
 cells_end line values flags k m true h all long ended = cells_whole line values flags k m h all long (sym ended)
 cells_end line values flags k m false h all long ended =
     let read : values_in m line ≡ Some values = ap (λ (n : ℕ). values_in n line) (sym all) ∙ h.values_read
@@ -181,7 +181,7 @@ cells_end line values flags k m false h all long ended =
 
 -- a field that spells nothing
 pub cells_none : (line : List ℕ) (k m : ℕ) → k < m → observation_of (field line k) ≡ None
-    → cells_of m line ≡ Err BadField
+    → row_by_cells m line ≡ Err BadField
 cells_none line k m less none = ap (row_with m line) (values_in_none line k m less none)
 
 all_kept_blanks : (n : ℕ) → list_all is_kept (replicate n 32) ≡ true

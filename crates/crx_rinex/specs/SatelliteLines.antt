@@ -43,12 +43,12 @@ pub record AreAllRead (m : ℕ) (line : List ℕ) (values : List (Option ℤ)) (
   pub ended : list_all is_blank (drop (CELL_WIDTH * m + NAME_WIDTH) line) ≡ true
 
 -- what m cells make of a line: a row, or its first fault
-abbrev pub cells_of : ℕ → List ℕ → Result Row Fault
-cells_of m line = row_with m line (values_in m line)
+abbrev pub row_by_cells : ℕ → List ℕ → Result Row Fault
+row_by_cells m line = row_with m line (values_in m line)
 
 -- the values and the indicators are those of the row that m cells make of a line; each value fits its columns, and each
 -- indicator may be there
 pub record IsRowOf (m : ℕ) (line : List ℕ) (values : List (Option ℤ)) (flags : List ℕ) : Type 0 where
-  pub row : cells_of m line ≡ Ok (record { name = columns line 1 NAME_WIDTH; values = values; flags = flags })
+  pub row : row_by_cells m line ≡ Ok (record { name = columns line 1 NAME_WIDTH; values = values; flags = flags })
   pub ranged : All IsValue values
   pub kept : list_all is_kept flags ≡ true

@@ -4,7 +4,7 @@ ghost use Rattle.std.specs.Prelude.{◌≡◌, ◌≤◌, ◌*◌, length, take,
 ghost use Rattle.crx_base.specs.declared.limits.TheConstants.{NAME_WIDTH, TYPES_LIMIT};
 ghost use Rattle.crx_rinex.specs.meaning.Observations.{observations_of};
 ghost use Rattle.crx_rinex.specs.meaning.Printing.{printed_row};
-ghost use Rattle.crx_rinex.specs.SatelliteLines.{cells_of, IsRowOf};
+ghost use Rattle.crx_rinex.specs.SatelliteLines.{row_by_cells, IsRowOf};
 ghost use Rattle.crx_rinex.specs.meaning.SatelliteLines.{row_of, IsSoundRow};
 
 use crate::satellite_row::{print_row, read_cells};
@@ -135,7 +135,7 @@ fn read_first_cells(
     requires flags { 2 * count ≤ length flags.old }
     ensures ok { OnOk result (IsRowOf count line.now (take count values.new) (take (2 * count) flags.new)) }
     ensures lengths { (length values.new ≡ length values.old) × (length flags.new ≡ length flags.old) }
-    ensures err { IfErr result (λ fault. cells_of count line.now ≡ Err fault) }
+    ensures err { IfErr result (λ fault. row_by_cells count line.now ≡ Err fault) }
 {
     read_cells(line, &mut values[..count], &mut flags[..2 * count])
 }

@@ -12,8 +12,8 @@ ghost use Rattle.crx_header.specs.meaning.ObservationTypes.{IsAllowedCount};
 ghost use Rattle.crx_rinex.specs.meaning.Observations.{observations_of};
 ghost use Rattle.crx_rinex.specs.meaning.Printing.{printed_row};
 ghost use Rattle.crx_text.specs.meaning.PrintedCells.{printed_cells};
-ghost use Rattle.crx_rinex.specs.SatelliteLines.{blank_row, cells_of, with_flags, with_value, AreAllRead, AreCellsRead, ArePaired, IsRowOf};
-ghost use Rattle.crx_rinex.specs.meaning.SatelliteLines.{field, row_of, IsSoundRow};
+ghost use Rattle.crx_rinex.specs.SatelliteLines.{blank_row, row_by_cells, with_flags, with_value, AreAllRead, AreCellsRead, ArePaired, IsRowOf};
+ghost use Rattle.crx_rinex.specs.meaning.SatelliteLines.{field, flags_in, row_of, row_with, values_in, IsSoundRow};
 ghost use Rattle.crx_header.specs.meaning.Satellites.{is_identifier, types_of_satellite};
 
 use crx_base::Fault;
@@ -190,7 +190,7 @@ pub(crate) fn read_cells(
 ) -> Result<(), Fault>
     requires { ArePaired values.old flags.old }
     ensures ok { OnOk result (IsRowOf (length values.old) line.now values.new flags.new) }
-    ensures err { IfErr result (λ fault. cells_of (length values.old) line.now ≡ Err fault) }
+    ensures err { IfErr result (λ fault. row_by_cells (length values.old) line.now ≡ Err fault) }
 {
     let first = split_plain_cells(line, values, flags);
     if !take_last_cell(line, first, values, flags)
@@ -257,7 +257,7 @@ fn take_last_cell(line: &[u8], first: usize, values: &mut [Option<i64>], flags: 
 fn read_other_cells(line: &[u8], first: usize, values: &mut [Option<i64>], flags: &mut [u8]) -> bool
     requires { AreCellsRead first line.now values.old flags.old }
     ensures { MatchBool result (AreAllRead (length values.old) line.now values.new flags.new)
-        (cells_of (length values.old) line.now ≡ Err Fault.BadField) }
+        (row_by_cells (length values.old) line.now ≡ Err Fault.BadField) }
 {
     for k in first..values.len() {
         let start = CELL_WIDTH * k + NAME_WIDTH;
