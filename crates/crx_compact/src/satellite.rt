@@ -1,7 +1,7 @@
 //! What is stored of a satellite: its indicators and the arcs of its cells, changed in place by each of its lines. Hatanaka's Compact RINEX
 //! 3.0, satellite lines.
 
-ghost use Rattle.std.specs.Prelude.{All, ℕ, List, ◌≡◌, ◌≤◌, ◌<◌, ◌+◌, ◌-◌, ◌*◌, ◌++◌, [], None, Some, Ok, Err, true, false, length, replicate, take, OnOk, IfOk, IfErr, IsOk, IsTrue, ◌↔◌, vec_capacity};
+ghost use Rattle.std.specs.Prelude.{All, ℕ, List, ◌≡◌, ◌≤◌, ◌<◌, ◌+◌, ◌-◌, ◌*◌, ◌++◌, ◌∷◌, ◌⊎◌, [], None, Some, Ok, Err, true, false, length, replicate, take, OnOk, OnErr, IfOk, IfErr, IsOk, IsTrue, ◌↔◌, vec_capacity};
 ghost use Rattle.std.specs.List.{flat_map};
 ghost use Rattle.crx_text.specs.meaning.Columns.{columns, without_end_blanks};
 ghost use Rattle.crx_text.specs.Texts.{patched};
@@ -44,7 +44,7 @@ pub struct SatelliteHistory {
 }
 
 impl Model for SatelliteHistory {
-    ghost use Rattle.std.specs.Prelude.{◌≡◌, ◌≤◌, ◌*◌, length, take};
+    ghost use Rattle.std.specs.Prelude.{◌≡◌, ◌≤◌, ◌*◌, length, take, vec_capacity};
     ghost use Rattle.crx_base.specs.declared.limits.TheConstants.{TYPES_LIMIT};
     ghost use Rattle.crx_text.specs.meaning.Columns.{without_end_blanks};
     ghost use Rattle.crx_compact.specs.HeldRows.{AreHeldFlags};
@@ -60,7 +60,9 @@ impl Model for SatelliteHistory {
 
     ghost invariant = { λ satellite. AreHeldFlags (take (2 * satellite.count) satellite.indicators.items)
         × (satellite.count ≤ length satellite.arcs.items) × (length satellite.arcs.items ≤ TYPES_LIMIT)
-        × (length satellite.indicators.items ≡ 2 * length satellite.arcs.items) };
+        × (length satellite.indicators.items ≡ 2 * length satellite.arcs.items)
+        × (vec_capacity satellite.arcs ≡ length satellite.arcs.items)
+        × (vec_capacity satellite.indicators ≤ 2 * TYPES_LIMIT) };
 }
 
 impl SatelliteHistory {
@@ -258,32 +260,46 @@ impl SatelliteHistory {
     }
 }
 
-/// Makes room for so many arcs, each with two indicators.
+/// Makes room for so many arcs, each with two indicators, and for no more than these. All memory is asked for first, so that after
+/// `AllocError` what is stored stays.
 #[cold]
 #[inline(never)]
 fn grow(indicators: &mut Vec<u8>, arcs: &mut Vec<ObsArc>, count: usize) -> Result<(), AllocError>
     requires allowed { count ≤ TYPES_LIMIT }
     requires more { length arcs.old.items ≤ count }
     requires paired { length indicators.old.items ≡ 2 * length arcs.old.items }
-    ensures room { OnOk result (count ≤ length arcs.new.items) }
+    requires filled { vec_capacity arcs.old ≡ length arcs.old.items }
+    requires bounded { vec_capacity indicators.old ≤ 2 * TYPES_LIMIT }
+    ensures room { OnOk result (length arcs.new.items ≡ count) }
     ensures longer { length arcs.old.items ≤ length arcs.new.items }
     ensures few { length arcs.new.items ≤ TYPES_LIMIT }
     ensures paired { length indicators.new.items ≡ 2 * length arcs.new.items }
     ensures arcs { (n : ℕ) → n ≤ length arcs.old.items → take n arcs.new.items ≡ take n arcs.old.items }
     ensures indicators { (n : ℕ) → n ≤ length indicators.old.items
         → take n indicators.new.items ≡ take n indicators.old.items }
-    ensures asked { 2 * count ≤ vec_capacity indicators.old → count ≤ vec_capacity arcs.old → IsOk result }
+    ensures asked { OnErr result ((vec_capacity indicators.old < 2 * count) ⊎ (vec_capacity arcs.old < count)) }
+    ensures filled { vec_capacity arcs.new ≡ length arcs.new.items }
+    ensures bounded { vec_capacity indicators.new ≤ 2 * TYPES_LIMIT }
 {
-    if indicators.resize(2 * count, b' ').is_err() {
-        return Err(AllocError);
-    }
+    let more = count - arcs.len();
+    indicators.reserve_exact(2 * more)?;
+    arcs.reserve_exact(more)?;
     while arcs.len() < count {
-        if arcs.push(ObsArc::new()).is_err() {
-            indicators.truncate(2 * arcs.len());
-            return Err(AllocError);
-        }
+        put_last(indicators, b' ');
+        put_last(indicators, b' ');
+        put_last(arcs, ObsArc::new());
     }
     Ok(())
+}
+
+/// Puts a value after the others, where there is room.
+fn put_last<T>(values: &mut Vec<T>, value: T)
+    requires { length values.old.items < vec_capacity values.old }
+    ensures items { values.new.items ≡ values.old.items ++ value ∷ [] }
+    ensures capacity { vec_capacity values.new ≡ vec_capacity values.old }
+{
+    let end = values.len();
+    values.insert(end, value).unwrap();
 }
 
 /// Blanks the indicators and ends the arcs of the types from one on, up to another.

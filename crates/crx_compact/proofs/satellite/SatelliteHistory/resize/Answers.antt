@@ -16,6 +16,8 @@ invariant_of-self c =
       omega (arith, less, kept),
       c.self.invariant.2,
       c.self.invariant.3,
+      c.self.invariant.4,
+      c.self.invariant.5,
     )
 
 pub returns-then-count-self : goal.returns-then-count-self
@@ -40,6 +42,7 @@ invariant_of-self-2 c =
     let many = ap length c.deref_mut-2.ensures.value in
     let paired = c.self.invariant.3 in
     let few = c.self.invariant.2 in
+    let filled = c.self.invariant.4 in
     let room = c.requires.room in
     let held = ap (λ (t : SatelliteTail). t.room) c.self.view_is in
     rw (
@@ -57,6 +60,8 @@ invariant_of-self-2 c =
       omega (arith, b, many, room, held),
       omega (arith, b, many, few),
       omega (arith, a, b, long, many, paired),
+      omega (arith, b, many, filled),
+      c.self.invariant.5,
     )
 
 pub returns : goal.returns
