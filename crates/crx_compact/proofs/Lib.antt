@@ -6,6 +6,7 @@ pub mod SameTexts
 pub mod Making
 pub mod LineTexts
 pub mod Characters
+pub mod EncodingRooms
 pub mod EpochLines
 pub mod RowByRow
 pub mod ComeRows

@@ -1,7 +1,7 @@
 -- For how much there is room in an encoder, before and after a row.
-use Rattle.std.specs.Prelude.{◌≡◌, ◌≤◌, ◌<◌, ◌+◌, ◌*◌, ℕ, List, length, map, sum}
+use Rattle.std.specs.Prelude.{◌≡◌, ◌≤◌, ◌<◌, ◌+◌, ◌*◌, ℕ, List, [], length, map, sum}
 use Rattle.crx_base.specs.declared.limits.TheConstants.{HEAD_WIDTH, NAME_WIDTH}
-use Rattle.crx_compact.specs.LineLists.{PendingLines}
+use Rattle.crx_compact.specs.LineLists.{LinesRoom, PendingLines}
 use Rattle.crx_compact.specs.Placing.{HasRoom, HaveRoom, KeepsRooms, OpenHistory, row_room}
 use Rattle.crx_rinex.specs.meaning.Observations.{Epoch, Row}
 
@@ -30,9 +30,24 @@ encoding_room history made =
       free_bytes = made.free_bytes;
     }
 
+-- nothing is held
+abbrev pub no_encoding_room : EncodingRoom
+no_encoding_room =
+    record { rooms = []; text = 0; held = 0; lines = 0; bytes = 0; free_lines = 0; free_bytes = 0 }
+
 -- all lines are dropped: whatever was ever asked for them is free
 abbrev pub all_free : EncodingRoom → EncodingRoom
 all_free room = record room { free_lines = room.lines; free_bytes = room.bytes }
+
+-- the lines have this room, in which none is pending
+abbrev pub with_lines : LinesRoom → EncodingRoom → EncodingRoom
+with_lines lines room =
+    record room {
+      lines = lines.lines;
+      bytes = lines.bytes;
+      free_lines = lines.lines;
+      free_bytes = lines.bytes;
+    }
 
 -- there is room for a row: its satellite is known, and has room for its types, and its line fits
 pub record HasRowRoom (row : Row) (room : EncodingRoom) : Type 0 where

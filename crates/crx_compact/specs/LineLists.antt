@@ -25,6 +25,15 @@ pub record PendingLines : Type 0 where
   pub reserved : ℕ
   pub front : ℕ
 
+-- for how much there is room once all lines are dropped: so many lines in front, and so many behind them, of so many bytes with their LFs
+pub record LinesRoom : Type 0 where
+  pub front : ℕ
+  pub lines : ℕ
+  pub bytes : ℕ
+
+abbrev pub room_of_lines : PendingLines → LinesRoom
+room_of_lines made = record { front = made.reserved; lines = made.all_lines; bytes = made.all_bytes }
+
 -- all lines are dropped: the room that was ever asked for is free
 abbrev pub cleared : PendingLines → PendingLines
 cleared lines = record lines {
@@ -50,6 +59,12 @@ pub record HasMoreRoom (old new : PendingLines) : Type 0 where
 pub record HasSameRoom (old new : PendingLines) : Type 0 where
   pub all_lines : new.all_lines ≡ old.all_lines
   pub all_bytes : new.all_bytes ≡ old.all_bytes
+  pub reserved : new.reserved ≡ old.reserved
+
+-- there is no less room than before once all lines are dropped, behind as many in front
+pub record KeepsLinesRoom (old new : PendingLines) : Type 0 where
+  pub all_lines : old.all_lines ≤ new.all_lines
+  pub all_bytes : old.all_bytes ≤ new.all_bytes
   pub reserved : new.reserved ≡ old.reserved
 
 -- a line was put after others, for which there was room: there is room for one less, and else nothing has changed but the room for bytes

@@ -1,5 +1,5 @@
 -- What columns are seen as: a reader of compact epochs, and for how much it has room.
-use Rattle.std.specs.Prelude.{◌≤◌, ◌<◌, ◌+◌, ℕ, List, All, length, map, sum}
+use Rattle.std.specs.Prelude.{◌≤◌, ◌<◌, ◌+◌, ℕ, List, [], All, length, map, sum}
 use Rattle.crx_base.specs.declared.limits.TheConstants.{LINE_LIMIT}
 use Rattle.crx_compact.specs.EncodingRooms.{EncodingRoom}
 use Rattle.crx_compact.specs.OpenEpochs.{ColumnsState, OpenRawEpoch}
@@ -14,6 +14,10 @@ pub record ReadingRoom : Type 0 where
   pub rooms : List (List ℕ × ℕ)
   pub lines : ℕ
   pub bytes : ℕ
+
+-- nothing is held
+abbrev pub no_reading_room : ReadingRoom
+no_reading_room = record { text = 0; rooms = []; lines = 0; bytes = 0 }
 
 -- the state between two lines, the room for reading, and that for encoding, with how many lines have room in front of an epoch's rows
 pub record HeldColumns : Type 0 where

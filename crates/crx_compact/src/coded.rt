@@ -20,10 +20,15 @@ pub struct Coded {
 
 impl Model for Coded {
     ghost use Rattle.crx_compact.specs.Coded.{CodedEpoch};
+    ghost use Rattle.crx_compact.specs.LineLists.{room_of_lines};
 
     ghost Value = { CodedEpoch };
 
-    ghost view = { λ coded. record { epoch = coded.epoch; lines = coded.lines.lines } };
+    ghost view = { λ coded. record {
+      epoch = coded.epoch;
+      lines = coded.lines.lines;
+      room = room_of_lines coded.lines;
+    } };
 }
 
 impl Coded {

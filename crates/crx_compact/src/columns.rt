@@ -14,11 +14,11 @@ ghost use Rattle.crx_compact.specs.ReadBlocks.{HasReadTo, IsReading};
 ghost use Rattle.crx_base.specs.declared.limits.TheConstants.{LINE_LIMIT};
 ghost use Rattle.crx_header.specs.meaning.EpochColumns.{begins_epoch, is_event_line};
 ghost use Rattle.crx_compact.specs.OpenLines.{IsLineTaken, IsSoundState, step_at};
-ghost use Rattle.crx_compact.specs.EncodingRooms.{HasRoomForEpoch};
+ghost use Rattle.crx_compact.specs.EncodingRooms.{HasRoomForEpoch, KeepsEncodingRoom, no_encoding_room, with_lines};
 ghost use Rattle.crx_compact.specs.EpochLinesRead.{history_cleared};
 ghost use Rattle.crx_compact.specs.declared.lines.TheConstants.{FIRST_LINES};
 ghost use Rattle.crx_compact.specs.Placing.{IsBetween, KeepsRooms, tail_of_history};
-ghost use Rattle.crx_compact.specs.ReadingRooms.{HasRoomFor, KeepsHistoryRoom, KeepsRoom};
+ghost use Rattle.crx_compact.specs.ReadingRooms.{HasRoomFor, KeepsHistoryRoom, KeepsRoom, no_reading_room};
 ghost use Rattle.crx_compact.specs.OpenEpochs.{OpenRawEpoch, Going, awaits_row, is_faulty, is_idle, makes_epoch, tail_held, first_step, step_in, tail_for_line, Faulty, HasMade, HasPrintedLines};
 ghost use Rattle.crx_compact.specs.OpenEpochs.ColumnsState.{Idle};
 ghost use Rattle.crx_compact.specs.meaning.Compaction.{Marked, compact_epoch};
@@ -67,7 +67,7 @@ pub struct Columns {
 }
 
 impl Model for Columns {
-    ghost use Rattle.crx_compact.specs.EncodingRooms.{encoding_room};
+    ghost use Rattle.crx_compact.specs.EncodingRooms.{all_free, encoding_room};
     ghost use Rattle.crx_compact.specs.OpenLines.{columns_state, reading_room, IsSoundBlock, IsSoundState};
     ghost use Rattle.crx_compact.specs.ReadingRooms.{HeldColumns};
 
@@ -76,7 +76,7 @@ impl Model for Columns {
     ghost view = { λ columns. record {
       state = columns_state columns.is_kept columns.stage columns.count columns.history;
       room = reading_room columns.history columns.block;
-      encoding = encoding_room columns.history columns.lines;
+      encoding = all_free (encoding_room columns.history columns.lines);
       front = columns.lines.reserved;
     } };
 
@@ -89,6 +89,10 @@ impl Columns {
     /// Columns without a history.
     pub fn new(alloc: Global) -> Columns
         ensures empty { result.state ≡ Idle None }
+        // No memory is held.
+        ensures room { result.room ≡ no_reading_room }
+        ensures encoding { result.encoding ≡ no_encoding_room }
+        ensures front { result.front ≡ 0 }
     {
         Columns {
             history: History::new(alloc),
@@ -107,6 +111,8 @@ impl Columns {
         ensures emptied { self.new.state ≡ Idle None }
         // The memory is used again.
         ensures room { self.new.room ≡ self.old.room }
+        ensures encoding { self.new.encoding ≡ self.old.encoding }
+        ensures front { self.new.front ≡ self.old.front }
     {
         forget(&mut self.history, &mut self.is_kept, &mut self.stage);
     }
@@ -129,6 +135,7 @@ impl Columns {
             ≡ record {
               epoch = epoch;
               lines = lines_after_tail (tail_written_after full (tail_held self.old.state)) epoch;
+              room = coded.room;
             }) }
         ensures kept { OnOk result (self.new.state
             ≡ Idle (Some (tail_after (tail_written_after full (tail_held self.old.state)) epoch))) }
@@ -136,6 +143,16 @@ impl Columns {
         ensures err { OnErr result (self.new.state ≡ self.old.state) }
         // Where there is room for all that the epoch's lines need, the answer isn't for want of memory.
         ensures known { HasRoomForEpoch epoch self.old.encoding → self.old.front ≡ FIRST_LINES → IsOk result }
+        // After `Ok` there is, once the lines are taken back: for the epoch again, and for each one that needs no more.
+        ensures room { IfOk result (λ coded. HasRoomForEpoch epoch (with_lines coded.room self.new.encoding)
+            × (coded.room.front ≡ FIRST_LINES)) }
+        // There is never less room than before, after a refusal too, but that the lines leave with their memory.
+        ensures rooms_kept { KeepsRooms self.old.encoding.rooms self.new.encoding.rooms }
+        ensures text_kept { self.old.encoding.text ≤ self.new.encoding.text }
+        ensures lines_kept { self.old.front ≡ FIRST_LINES → IfOk result (λ coded.
+            KeepsEncodingRoom self.old.encoding (with_lines coded.room self.new.encoding)) }
+        ensures err_kept { self.old.front ≡ FIRST_LINES → OnErr result
+            (KeepsEncodingRoom self.old.encoding self.new.encoding × (self.new.front ≡ FIRST_LINES)) }
         // After any epochs at all, the lines are those of their compact text, and the columns have their tail.
         ensures left { (epochs : List Marked) → tail_held self.old.state ≡ tail_or_nothing epochs
             → OnOk result (self.new.state ≡ Idle
@@ -195,6 +212,8 @@ impl Columns {
             → first_step types.now (tail_held self.old.state) (Content line.now) ≡ Going begun
             → OnOk result (HasRoomFor begun self.new.room) }
         ensures kept { KeepsRoom self.old.room self.new.room }
+        ensures encoding { KeepsEncodingRoom self.old.encoding self.new.encoding }
+        ensures front { self.new.front ≡ self.old.front }
     {
         if !has_history(&mut self.history, self.is_kept, line) {
             return Err(Fault::NotAnEpoch);
@@ -245,6 +264,8 @@ impl Columns {
             ≡ Wrong (length lines) fault) ⊎ (fault ≡ Fault.OutOfMemory)) }
         // There is never less room than before.
         ensures kept { KeepsRoom self.old.room self.new.room }
+        ensures encoding { KeepsEncodingRoom self.old.encoding self.new.encoding }
+        ensures front { self.new.front ≡ self.old.front }
     {
         match take_line(
             &mut self.history,
@@ -290,6 +311,8 @@ impl Columns {
         ensures kept { KeepsHistoryRoom self.old.room self.new.room }
         ensures lines_kept { IfOk result (λ is_whole. is_whole ≡ false → KeepsRoom self.old.room self.new.room) }
         ensures err_kept { OnErr result (KeepsRoom self.old.room self.new.room) }
+        ensures encoding { KeepsEncodingRoom self.old.encoding self.new.encoding }
+        ensures front { self.new.front ≡ self.old.front }
     {
         match take_line(
             &mut self.history,
@@ -320,6 +343,8 @@ impl Columns {
     pub fn take_back(&mut self, coded: Coded) -> Epoch
         ensures epoch { result ≡ coded.epoch }
         ensures same { (self.new.state ≡ self.old.state) × (self.new.room ≡ self.old.room) }
+        ensures encoding { self.new.encoding ≡ with_lines coded.room self.old.encoding }
+        ensures front { self.new.front ≡ coded.room.front }
     {
         self.lines = coded.lines;
         coded.epoch
@@ -346,6 +371,7 @@ fn has_history(history: &mut History, is_kept: bool, line: &[u8]) -> bool
         ≡ (if result then Some (tail_of_history history.new) else None) }
     ensures rooms { history.new.satellites.rooms ≡ history.old.satellites.rooms }
     ensures held_room { history.new.held_room ≡ history.old.held_room }
+    ensures text_room { history.new.text_room ≡ history.old.text_room }
 {
     if begins_epoch(line) {
         history.clear();
@@ -373,6 +399,7 @@ fn take_line(
     ensures memory { IfErr result (λ fault. fault ≡ Fault.OutOfMemory → ⊥) }
     ensures rooms { KeepsRooms history.old.satellites.rooms history.new.satellites.rooms }
     ensures held_room { history.new.held_room ≡ history.old.held_room }
+    ensures text_room { history.new.text_room ≡ history.old.text_room }
 {
     match *stage {
         Stage::Unbegun => Err(Fault::NotAnEpoch),

@@ -16,7 +16,7 @@ ghost use Rattle.crx_compact.specs.ArcSteps.{shown_value};
 ghost use Rattle.crx_compact.specs.EncodingRooms.{HasRoomForEpoch, HasRowRoom, HasTakenRow, HasTakenText, KeepsEncodingRoom, encoding_room};
 ghost use Rattle.crx_compact.specs.EpochLinesRead.{AreSatellitesRead, AreSatellitesRefused, IsEpochLineRead, IsEpochLineRefused, history_cleared};
 ghost use Rattle.crx_compact.specs.HeldRows.{IsAwaitedSatellite, past_of_tail, row_held};
-ghost use Rattle.crx_compact.specs.LineLists.{HasTakenLine};
+ghost use Rattle.crx_compact.specs.LineLists.{HasTakenLine, KeepsLinesRoom};
 ghost use Rattle.crx_compact.specs.meaning.CompactPlaces.{clock_line_read, satellites_of_line, satellites_of_text};
 ghost use Rattle.crx_compact.specs.meaning.EpochText.{Satellite, names_in, satellites_named};
 ghost use Rattle.crx_compact.specs.Placing.{HasAllowedCount, HasAskedRoom, HasSameTexts, HaveRoom, IsAnnounced, IsBetween, IsPlaced, IsRowRead, KeepsRooms, padded, padded_among, room_of_types, row_of_parts, row_room, satellite_of, tail_of_history};
@@ -80,6 +80,7 @@ impl History {
     pub(crate) fn new(alloc: Global) -> History
         ensures empty { tail_of_history result ≡ no_tail }
         ensures between { IsBetween result }
+        ensures room { (result.text_room ≡ 0) × (result.held_room ≡ 0) × (result.satellites.rooms ≡ []) }
     {
         History {
             text: Vec::new(alloc),
@@ -118,8 +119,16 @@ impl History {
         // Where room was asked for before, the answer isn't for want of memory.
         ensures known { HasRoomForEpoch epoch.now (encoding_room self.old lines.old)
             → FIRST_LINES ≡ lines.old.reserved → IsOk result }
+        // After `Ok` there is, and there is never less room than before, after a refusal too.
+        ensures room { OnOk result (HasRoomForEpoch epoch.now (encoding_room self.new lines.new)) }
+        ensures reserved { OnOk result (lines.new.reserved ≡ FIRST_LINES) }
+        ensures rooms_kept { KeepsRooms self.old.satellites.rooms self.new.satellites.rooms }
+        ensures text_kept { self.old.text_room ≤ self.new.text_room }
+        ensures lines_kept { FIRST_LINES ≡ lines.old.reserved → KeepsLinesRoom lines.old lines.new }
     {
-        make_long(&mut self.next_text, HEAD_WIDTH + NAME_WIDTH * epoch.count())?;
+        let length = HEAD_WIDTH + NAME_WIDTH * epoch.count();
+        make_long(&mut self.next_text, length)?;
+        make_text_room(&mut self.text, length)?;
         let room = prepare_rows(&mut self.satellites, epoch)?;
         lines.reserve_front(FIRST_LINES)?;
         lines.make_room(epoch.count(), room)?;
@@ -238,6 +247,7 @@ impl History {
         ensures err { IfErr result (IsEpochLineRefused types.now line.now self.old self.new) }
         ensures rooms { KeepsRooms self.old.satellites.rooms self.new.satellites.rooms }
         ensures held_room { self.old.held_room ≤ self.new.held_room }
+        ensures text_room { self.old.text_room ≤ self.new.text_room }
     {
         if patch_bytes(&self.text, line, part).is_err() {
             return Err(Fault::BadEpoch);
@@ -298,6 +308,7 @@ impl History {
             → row_held (Some row) (satellite_of row) line.now ≡ Err fault) }
         ensures rooms { KeepsRooms self.old.satellites.rooms self.new.satellites.rooms }
         ensures held_room { self.new.held_room ≡ self.old.held_room }
+        ensures text_room { self.new.text_room ≡ self.old.text_room }
     {
         if begins_epoch(line) {
             return Err(Fault::Truncated);
@@ -427,6 +438,16 @@ fn make_long(text: &mut Vec<u8>, count: usize) -> Result<(), AllocError>
         text.resize(count, b' ')?;
     }
     Ok(())
+}
+
+/// Asks for room for a text of so many characters, in place of one that stays.
+fn make_text_room(text: &mut Vec<u8>, count: usize) -> Result<(), AllocError>
+    ensures same { text.new.items ≡ text.old.items }
+    ensures room { OnOk result (count ≤ vec_capacity text.new) }
+    ensures asked { count ≤ vec_capacity text.old → IsOk result }
+    ensures capacity { vec_capacity text.old ≤ vec_capacity text.new }
+{
+    text.reserve(count.saturating_sub(text.len()))
 }
 
 /// Puts the identifiers of the satellites that have come behind the columns of an epoch line.

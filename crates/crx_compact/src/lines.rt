@@ -7,7 +7,7 @@ ghost use Rattle.std.specs.Borrow.{sem};
 ghost use Rattle.std.specs.Io.BufRead.{Rests};
 ghost use Rattle.std.specs.Option.{option_copied};
 ghost use Rattle.crx_compact.specs.contracts.lines.Lines.{the_row};
-ghost use Rattle.crx_compact.specs.LineLists.{HasMoreRoom, HasSameRoom, HasTakenLine, cleared, lines_text};
+ghost use Rattle.crx_compact.specs.LineLists.{HasMoreRoom, HasSameRoom, HasTakenLine, KeepsLinesRoom, cleared, lines_text};
 ghost use Rattle.crx_compact.specs.Placing.{HasRoom, KeepsRest, room_of_types, row_of_parts};
 ghost use Rattle.crx_compact.specs.PrintedBlocks.{printed_room};
 ghost use Rattle.crx_compact.specs.ShownRows.{shown_row};
@@ -74,6 +74,7 @@ impl Lines {
     pub fn new(alloc: Global) -> Lines
         ensures empty { result.lines ≡ [] }
         ensures reserved { result.reserved ≡ 0 }
+        ensures room { (result.all_lines ≡ 0) × (result.all_bytes ≡ 0) }
     {
         Lines {
             bytes: Vec::new(alloc),
@@ -111,6 +112,7 @@ impl Lines {
         ensures known { lines ≡ self.old.reserved → IsOk result }
         ensures free_lines { lines ≡ self.old.reserved → self.old.all_lines ≤ self.new.free_lines }
         ensures free_bytes { lines ≡ self.old.reserved → self.old.all_bytes ≤ self.new.free_bytes }
+        ensures kept { lines ≡ self.old.reserved → KeepsLinesRoom self.old self.new }
     {
         self.reserved = 0;
         self.clear();

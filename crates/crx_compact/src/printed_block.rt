@@ -24,7 +24,9 @@ pub(crate) struct PrintedBlock {
 
 impl PrintedBlock {
     /// No lines.
-    pub(crate) fn new(alloc: Global) -> PrintedBlock {
+    pub(crate) fn new(alloc: Global) -> PrintedBlock
+        ensures room { (result.lines.all_lines ≡ 0) × (result.lines.all_bytes ≡ 0) }
+    {
         PrintedBlock {
             lines: Lines::new(alloc),
             has_head: false,

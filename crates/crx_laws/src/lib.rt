@@ -17,6 +17,7 @@ pub mod normal_form;
 pub mod read_back;
 pub mod reading_back;
 pub mod rinex_laws;
+pub mod room;
 pub mod salvage;
 pub mod sizes;
 pub mod stretch_examples;

@@ -4,7 +4,9 @@ use Rattle.crx_compact.proofs.Words.{columns_state, OpenHistory, tail_of_history
 use Rattle.crx_compact.proofs.Words.{tail_after, tail_written_after, Tail, Stage, HeldColumns}
 use Rattle.crx_compact.specs.OpenEpochs.ColumnsState.{Idle}
 use Rattle.crx_compact.specs.Coded.{CodedEpoch}
-use Rattle.crx_compact.specs.EncodingRooms.{HasRoomForEpoch}
+use Rattle.crx_compact.specs.EncodingRooms.{HasRoomForEpoch, KeepsEncodingRoom, all_free, encoding_room}
+use Rattle.crx_compact.specs.LineLists.{room_of_lines}
+use Rattle.crx_compact.proofs.EncodingRooms.{all-free-room}
 use Rattle.crx_compact.proofs.reading.Stages.{stage-idle, tail-idle}
 use Rattle.crx_compact.proofs.wayback.Encoding.{lines-coded, tail-coded}
 use Rattle.crx_compact.proofs.columns.Columns.encode.Goals.{then-full, else-full}
@@ -49,7 +51,7 @@ after c = written-after c.args.full c.self.inside.is_kept c.if-full.in_full c.se
 
 pub returns-in-Ok-clause-coded : goal.returns-in-Ok-clause-coded
 returns-in-Ok-clause-coded c =
-    ap (λ lines. record { epoch = c.args.epoch; lines = lines })
+    ap (λ lines. record { epoch = c.args.epoch; lines = lines; room = room_of_lines c.replace-lines.result })
     (ap (λ (made : PendingLines). made.lines) c.replace-lines.ensures.value ∙ c.in-Ok.ensures.written.lines_made
     ∙ ap (λ t. lines_after_tail t c.args.epoch) (after c))
 
@@ -73,5 +75,20 @@ returns-in-Ok-clause-lines c = λ epochs h.
 pub returns-in-Err-clause-known : goal.returns-in-Err-clause-known
 returns-in-Err-clause-known c = λ has front.
     absurd (false≢true (c.in-Err.ensures.known
-    (subst (HasRoomForEpoch c.args.epoch) (sym (ap (λ (held : HeldColumns). held.encoding) c.self.view_is)) has)
+    (all-free-room c.args.epoch _
+    (subst (HasRoomForEpoch c.args.epoch) (sym (ap (λ (held : HeldColumns). held.encoding) c.self.view_is)) has))
     (sym (ap (λ (held : HeldColumns). held.front) c.self.view_is ∙ front))))
+
+pub returns-in-Err-clause-err_kept : goal.returns-in-Err-clause-err_kept
+returns-in-Err-clause-err_kept c = λ front.
+    let as_many = sym (ap (λ (held : HeldColumns). held.front) c.self.view_is ∙ front) in
+    let lines = c.encode.ensures.lines_kept as_many in (
+      subst (λ (held : HeldColumns). KeepsEncodingRoom held.encoding
+          (all_free (encoding_room c.encode.new.self c.encode.new.lines))) c.self.view_is (record {
+        rooms = c.encode.ensures.rooms_kept;
+        text = c.encode.ensures.text_kept;
+        lines = lines.all_lines;
+        bytes = lines.all_bytes;
+      }),
+      lines.reserved ∙ sym as_many,
+    )

@@ -1,8 +1,9 @@
-use Rattle.crx_compact.proofs.Words.{◌≡◌, ◌≤◌, ◌++◌, ◌∷◌, [], ℕ, ℤ, List, Option, false, true, not, length}
+use Rattle.crx_compact.proofs.Words.{◌≡◌, ◌++◌, ◌∷◌, [], ℕ, ℤ, List, Option, true, not, length}
 use Rattle.crx_compact.proofs.Words.{take, sym, ap, ◌∙◌, subst, arith, if◌then◌else◌, is_ok, eqb-true}
 use Rattle.crx_compact.proofs.Words.{length-map, satellites_of, has_satellite, Epoch, Row, HasRoom, HaveRoom}
-use Rattle.crx_compact.proofs.Words.{OpenHistory, PlacedRows, row_of_parts, row_room, tail_of_history}
+use Rattle.crx_compact.proofs.Words.{OpenHistory, row_of_parts, row_room, tail_of_history}
 use Rattle.crx_compact.proofs.Words.{no_tail, row_tail_in, Tail, AreRowsWritten, epoch_by_rows}
+use Rattle.std.specs.Prelude.{vec_capacity}
 use borrow.Author.Count.{falls}
 use Rattle.crx_compact.specs.EncodingRooms.{HasTakenRow, encoding_room}
 use Rattle.crx_compact.specs.Written.{IsEpochWritten, IsRowWritten}
@@ -10,19 +11,21 @@ use Rattle.crx_compact.proofs.ComeRows.{row-new}
 use Rattle.crx_compact.proofs.Making.{taken_all, taken_more}
 use Rattle.crx_compact.proofs.PlaceByPlace.{some-there}
 use Rattle.crx_compact.proofs.Results.{by_ok, from_ok}
-use Rattle.crx_compact.proofs.RowByRow.{all-at, all-of, sum-left}
+use Rattle.std.proofs.Math.Nat.{le-min}
+use Rattle.crx_compact.proofs.EncodingRooms.{lesser-kept, room-kept}
+use Rattle.crx_compact.proofs.RowByRow.{all-at, sum-left}
 use Rattle.crx_compact.proofs.history.History.encode.Goals.{In_default}
 use Rattle.crx_compact.proofs.history.History.encode.Goals as goal
 
 pub loop-row-init : goal.loop-row-init
 loop-row-init c =
     let same : ◌≡◌ {A = Tail} (record {
-      text = c.self.inside.text.items;
+      text = c.make_text_room.new.text.items;
       clock = c.self.inside.clock;
       rows = c.prepare_rows.new.satellites.rows;
     }) (tail_of_history c.args.self.now) =
     (λ j. record {
-      text = ap (λ (h : OpenHistory). h.text) c.self.view_is j;
+      text = (c.make_text_room.ensures.same ∙ ap (λ (h : OpenHistory). h.text) c.self.view_is) j;
       clock = ap (λ (h : OpenHistory). h.clock) c.self.view_is j;
       rows = (c.prepare_rows.ensures.asked.rows ∙ ap (λ (h : OpenHistory). h.satellites.rows) c.self.view_is) j;
     }) in
@@ -33,16 +36,40 @@ loop-row-init c =
     let long = c.in_ok-make_long.ensures.room in
     let first = c.count.ensures.value in
     let text = ap length c.begin_rows.ensures.texts.next_text in
+    let grown = c.make_room.ensures.grown in
+    let held = c.make_long.new.text.ok in
+    let both = c.begin_rows.ensures.texts.text_room in
+    let before = ap (λ (h : OpenHistory). h.text_room) c.self.view_is in
+    let text_kept = lesser-kept before c.make_text_room.ensures.capacity c.make_long.ensures.capacity in
+    let text_room = le-min {a = vec_capacity c.make_text_room.new.text} {b = vec_capacity c.make_long.new.text}
+    c.in_ok-make_text_room.ensures.room (omega (arith, long, held.0, held.1)) in
     record {
       written = subst (AreRowsWritten _ [] c.begin_rows.new.self)
           (sym (c.make_room.ensures.grown.lines ∙ c.reserve_front.ensures.emptied))
           (subst (λ (t : Tail). AreRowsWritten (if c.args.in_full then no_tail else t) [] c.begin_rows.new.self [])
           same c.begin_rows.ensures.begun);
-      room = subst (HaveRoom c.args.epoch.now.rows) (sym c.begin_rows.ensures.rooms) c.in_ok-room.ensures.room;
+      room = record {
+        text = omega (arith, text_room, both, first);
+        rows = subst (HaveRoom c.args.epoch.now.rows) (sym c.begin_rows.ensures.rooms) c.in_ok-room.ensures.room;
+        lines = omega (arith, lines, many, grown.among_lines);
+        bytes = omega (arith, bytes, sized, grown.among_bytes);
+      };
       free_lines = omega (arith, lines, many);
       free_bytes = omega (arith, bytes, sized);
       text = omega (arith, long, first, text);
       front = c.make_room.ensures.grown.front ∙ c.in_ok-reserve_front.ensures.front;
+      reserved = grown.reserved ∙ c.in_ok-reserve_front.ensures.reserved;
+      rooms_kept = λ name count has. subst (HasRoom name count) (sym c.begin_rows.ensures.rooms)
+          (c.prepare_rows.ensures.asked.rooms name count
+          (subst (HasRoom name count) (sym (ap (λ (h : OpenHistory). h.satellites.rooms) c.self.view_is)) has));
+      text_kept = omega (arith, text_kept, both);
+      lines_kept = λ as_many.
+          let dropped = c.reserve_front.ensures.kept as_many in
+          record {
+            all_lines = omega (arith, dropped.all_lines, grown.all_lines);
+            all_bytes = omega (arith, dropped.all_bytes, grown.all_bytes);
+            reserved = grown.reserved ∙ dropped.reserved;
+          };
     }
 
 pub unwrap-requires : goal.unwrap-requires
@@ -63,7 +90,7 @@ unwrap-requires c =
           (subst (λ (values : List (Option ℤ)). HasRoom row.name (length values) rooms)
           (sym c.values.ensures.value)
           (all-at (λ (r : Row). HasRoom r.name (length r.values) rooms) rows index row
-          c.loop-row.invariant.room here));
+          c.loop-row.invariant.room.rows here));
       line = omega (arith, within, free_lines);
       bytes = omega (arith, next, free_bytes, many);
     })
@@ -114,13 +141,21 @@ loop-row-preserved c =
     record {
       written = subst (λ (rs : List Row). AreRowsWritten after rs c.write_row.new.self c.write_row.new.lines.lines)
           ((λ j. so_far ++ parts j ∷ []) ∙ sym (taken_more rows index row here)) (written.written is_new);
-      room = all-of (λ (r : Row). HasRoom r.name (length r.values) c.loop-row.self.satellites.rooms)
-          (λ (r : Row). HasRoom r.name (length r.values) c.write_row.new.self.satellites.rooms) rows
-          (λ r known. kept.rooms r.name (length r.values) known) c.loop-row.invariant.room;
+      room = room-kept c.args.epoch.now old new kept c.loop-row.invariant.room;
       free_lines = omega (arith, free_lines, one_line, all_lines);
       free_bytes = omega (arith, free_bytes, some_bytes, all_bytes, next, many);
       text = omega (arith, text, same);
       front = c.write_row.ensures.front ∙ c.loop-row.invariant.front;
+      reserved = c.write_row.ensures.reserved ∙ c.loop-row.invariant.reserved;
+      rooms_kept = λ name count has. kept.rooms name count (c.loop-row.invariant.rooms_kept name count has);
+      text_kept = omega (arith, kept.text, c.loop-row.invariant.text_kept);
+      lines_kept = λ as_many.
+          let lines = c.loop-row.invariant.lines_kept as_many in
+          record {
+            all_lines = omega (arith, lines.all_lines, kept.lines);
+            all_bytes = omega (arith, lines.all_bytes, kept.bytes);
+            reserved = c.write_row.ensures.reserved ∙ lines.reserved;
+          };
     }
 
 -- all rows are written

@@ -1,19 +1,25 @@
 use Rattle.crx_compact.proofs.Words.{◌≡◌, ◌≤◌, ◌+◌, ◌*◌, ◌-◌, drop, if◌then◌else◌, length, map, sum, take}
-use Rattle.crx_compact.proofs.Words.{HEAD_WIDTH, NAME_WIDTH, HaveRoom, row_room, tail_of_history, no_tail}
+use Rattle.crx_compact.proofs.Words.{HEAD_WIDTH, NAME_WIDTH, KeepsRooms, row_room, tail_of_history, no_tail}
 use Rattle.crx_compact.proofs.Words.{AreRowsWritten}
+use Rattle.crx_compact.specs.EncodingRooms.{HasRoomForEpoch, encoding_room}
+use Rattle.crx_compact.specs.LineLists.{KeepsLinesRoom}
 use Rattle.crx_compact.specs.declared.lines.TheConstants.{FIRST_LINES}
 use Rattle.crx_compact.proofs.history.History.encode.Given as goal
 
--- the rows up to an index are written, and there is room for the others, for the text, and for the first lines
+-- the rows up to an index are written, there is room for the others, for the text, and for the first lines, and no less than before
 abbrev pub invariant-loop-row : goal.invariant-loop-row
 invariant-loop-row l = record {
   written : AreRowsWritten (if l.in_full then no_tail else tail_of_history l.fn.self) (take l.index l.epoch.rows)
       l.self l.lines.lines;
-  room : HaveRoom l.epoch.rows l.self.satellites.rooms;
+  room : HasRoomForEpoch l.epoch (encoding_room l.self l.lines);
   free_lines : length l.epoch.rows ≤ l.lines.free_lines + l.index;
   free_bytes : sum (map row_room (drop l.index l.epoch.rows)) ≤ l.lines.free_bytes;
   text : HEAD_WIDTH + NAME_WIDTH * length l.epoch.rows ≤ length l.self.next_text;
   front : l.lines.front ≡ FIRST_LINES;
+  reserved : l.lines.reserved ≡ FIRST_LINES;
+  rooms_kept : KeepsRooms l.fn.self.satellites.rooms l.self.satellites.rooms;
+  text_kept : l.fn.self.text_room ≤ l.self.text_room;
+  lines_kept : FIRST_LINES ≡ l.fn.lines.reserved → KeepsLinesRoom l.fn.lines l.lines;
 }
 
 abbrev pub decreases-loop-row : goal.decreases-loop-row

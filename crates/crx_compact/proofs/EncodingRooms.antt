@@ -1,0 +1,39 @@
+-- The room that an encoder has for an epoch stays.
+use Rattle.crx_compact.proofs.Words.{◌≡◌, ◌≤◌, ℕ, length, min, arith, Epoch, Row, HasRoom}
+use Rattle.std.proofs.Math.Nat.{le-min, min-le_left, min-le_right}
+use Rattle.crx_compact.specs.EncodingRooms.{EncodingRoom, HasRoomForEpoch, KeepsEncodingRoom, all_free}
+use Rattle.crx_compact.proofs.RowByRow.{all-of}
+
+-- the lesser of two capacities is no less where neither is
+pub lesser-kept : {room first second new_first new_second : ℕ} → min first second ≡ room
+    → first ≤ new_first → second ≤ new_second → room ≤ min new_first new_second
+lesser-kept {room} {first} {second} {new_first} {new_second} is more_first more_second =
+    let left = min-le_left first second in
+    let right = min-le_right first second in
+    le-min {k = room} {a = new_first} {b = new_second} (omega (arith, is, left, more_first))
+    (omega (arith, is, right, more_second))
+
+-- how much of it is free doesn't matter to an epoch before its first row
+pub all-free-room : (epoch : Epoch) (room : EncodingRoom)
+    → HasRoomForEpoch epoch (all_free room) → HasRoomForEpoch epoch room
+all-free-room epoch room has =
+    record { text = has.text; rows = has.rows; lines = has.lines; bytes = has.bytes }
+
+-- where there is room for an epoch, and no less afterwards, there is room for it afterwards
+pub room-kept : (epoch : Epoch) (before after : EncodingRoom)
+    → KeepsEncodingRoom before after → HasRoomForEpoch epoch before → HasRoomForEpoch epoch after
+room-kept epoch before after kept has =
+    let text = has.text in
+    let more_text = kept.text in
+    let lines = has.lines in
+    let more_lines = kept.lines in
+    let bytes = has.bytes in
+    let more_bytes = kept.bytes in
+    record {
+      text = omega (arith, text, more_text);
+      rows = all-of (λ (r : Row). HasRoom r.name (length r.values) before.rooms)
+          (λ (r : Row). HasRoom r.name (length r.values) after.rooms) epoch.rows
+          (λ r known. kept.rooms r.name (length r.values) known) has.rows;
+      lines = omega (arith, lines, more_lines);
+      bytes = omega (arith, bytes, more_bytes);
+    }
