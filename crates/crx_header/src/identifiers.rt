@@ -1,6 +1,6 @@
 //! The identifiers of an epoch's satellites, each at its place: RINEX 3.05, table A3.
 
-ghost use Rattle.std.specs.Prelude.{ℕ, List, ◌≡◌, ◌≤◌, ◌<◌, ◌+◌, ◌++◌, ◌∷◌, [], length, take, not, true, false, OnErr, IfOk};
+ghost use Rattle.std.specs.Prelude.{ℕ, List, ◌≡◌, ◌≤◌, ◌<◌, ◌+◌, ◌*◌, ◌++◌, ◌∷◌, [], Some, length, take, slice_get, not, true, false, get_or, IsOk, OnErr, OnSome, IfOk, IfSome, IfNone};
 ghost use Rattle.crx_header.specs.meaning.Satellites.{is_among};
 
 use crate::columns::is_same_identifier;
@@ -47,6 +47,10 @@ impl Identifiers {
         // There are no more than before, or than the places up to this one.
         ensures few { (n : ℕ) → length self.old ≤ n → place < n → length self.new ≤ n }
         ensures err { OnErr result (is_among (λ (n : List ℕ). n) name (take place self.old) ≡ false) }
+        // Where the same identifier was at the place, no memory is asked for; nor where no fewer of those before it are dropped than stay,
+        // whose memory is used again.
+        ensures known { slice_get self.old place ≡ Some name → IsOk result }
+        ensures used_again { place < length self.old → 2 * place ≤ length self.old → IsOk result }
     {
         let names = self.names.as_slice();
         if place < names.len() && is_same_identifier(names[place], name) {
@@ -66,6 +70,7 @@ impl Identifiers {
         ensures repeated { IfOk result (λ is_new. is_new ≡ false → self.new ≡ take place self.old) }
         ensures err { OnErr result (is_among (λ (n : List ℕ). n) name (take place self.old) ≡ false) }
         ensures refused { OnErr result (self.new ≡ take place self.old) }
+        ensures used_again { place < length self.old → 2 * place ≤ length self.old → IsOk result }
     {
         self.names.truncate(place);
         Ok(self.names.insert(name)?)
