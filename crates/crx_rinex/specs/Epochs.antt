@@ -1,6 +1,5 @@
 -- Beside meaning/Epochs: what code and proofs see of it.
-use Rattle.std.specs.Prelude.{◌≡◌, ◌≤◌, ℕ, List, Bool, [], ◌∷◌, ◌++◌, ◌==◌, length, map, take}
-use Rattle.crx_base.specs.declared.limits.TheConstants.{SATELLITES_LIMIT}
+use Rattle.std.specs.Prelude.{◌≡◌, ◌≤◌, ◌+◌, ◌⊎◌, ℕ, List, Bool, [], ◌∷◌, ◌++◌, ◌==◌, length, map}
 use Rattle.crx_rinex.specs.meaning.Observations.{Row, Epoch}
 use Rattle.crx_rinex.specs.meaning.EpochLines.{IsObservationHead, ObservationHead}
 use Rattle.crx_header.specs.meaning.EpochColumns.{satellites_of}
@@ -18,10 +17,14 @@ with_row epoch row = record epoch { rows = epoch.rows ++ row ∷ [] }
 abbrev pub is_full_epoch : Epoch → Bool
 is_full_epoch epoch = length epoch.rows == satellites_of epoch.head
 
--- What holds of the parts of an epoch: its line is sound, and with these rows it is a sound epoch; the first identifiers are those of the
--- rows, and there are no more than an epoch can have.
+-- What holds of the parts of an epoch: its line is sound, and with these rows it is a sound epoch, and the identifiers are those of the rows.
 abbrev pub AreEpochParts : ObservationHead → List (List ℕ) → List Row → Type 0
 AreEpochParts head names rows =
     IsSoundEpoch (record { head = head.head; clock = head.clock; rows = rows }) × IsObservationHead head
-    × (length rows ≤ length names) × (take (length rows) names ≡ map (λ (row : Row). row.name) rows)
-    × (length names ≤ SATELLITES_LIMIT)
+    × (names ≡ map (λ (row : Row). row.name) rows)
+
+-- an epoch without rows may have no room for them; one with rows has room for as many as its line announces, by how many fit, and by how
+-- many identifiers more do
+abbrev pub HasRowsRoom : List ℕ → List Row → ℕ → ℕ → Type 0
+HasRowsRoom head rows capacity spare =
+    (rows ≡ []) ⊎ ((satellites_of head ≤ capacity) × (satellites_of head ≤ length rows + spare))

@@ -1,6 +1,6 @@
 //! Observation epochs. RINEX 3.05, table A3.
 
-ghost use Rattle.std.specs.Prelude.{◌≡◌, ◌≤◌, ◌⊎◌, length, true, false, OnOk, OnErr, IfErr, IfSome, slice_get};
+ghost use Rattle.std.specs.Prelude.{◌≡◌, ◌≤◌, ◌⊎◌, ◌+◌, [], length, true, false, vec_capacity, OnOk, OnErr, IfErr, IfSome, slice_get};
 ghost use Rattle.std.specs.Option.{option_copied};
 ghost use Rattle.crx_base.specs.declared.limits.TheConstants.{SATELLITES_LIMIT};
 ghost use Rattle.crx_header.specs.meaning.EpochColumns.{satellites_of};
@@ -8,12 +8,14 @@ ghost use Rattle.crx_rinex.specs.meaning.EpochLines.{IsObservationHead};
 ghost use Rattle.crx_rinex.specs.Epochs.{begun, is_full_epoch, with_row};
 ghost use Rattle.crx_rinex.specs.meaning.Epochs.{has_satellite, IsSoundEpoch};
 ghost use Rattle.crx_rinex.specs.meaning.SatelliteLines.{IsSoundRow};
+ghost use Rattle.indexmap.specs.IndexSet.{spare};
 
 use crate::epoch_line::EpochLine;
 use crate::satellite_row::SatRow;
 use crx_base::Fault;
-use crx_header::Identifiers;
-use std::alloc::Global;
+use crx_base::limits::NAME_WIDTH;
+use indexmap::IndexSet;
+use std::alloc::{AllocError, Global};
 use std::marker::Model;
 
 /// An observation epoch: its line and the rows of its satellites, each satellite once.
@@ -21,19 +23,22 @@ use std::marker::Model;
 pub struct Epoch {
     head: EpochLine,
     rows: Vec<SatRow>,
-    /// The identifiers of the rows; one more may follow, of a row for which there was no memory.
-    names: Identifiers,
+    /// The identifiers of the rows.
+    names: IndexSet<[u8; NAME_WIDTH]>,
 }
 
 impl Model for Epoch {
     ghost use Rattle.crx_rinex.specs.meaning.Observations.{Epoch as ObservationEpoch};
-    ghost use Rattle.crx_rinex.specs.Epochs.{AreEpochParts};
+    ghost use Rattle.std.specs.Prelude.{vec_capacity};
+    ghost use Rattle.crx_rinex.specs.Epochs.{AreEpochParts, HasRowsRoom};
+    ghost use Rattle.indexmap.specs.IndexSet.{spare};
 
     ghost Value = { ObservationEpoch };
 
     ghost view = { λ epoch. record { head = epoch.head.head; clock = epoch.head.clock; rows = epoch.rows.items } };
 
-    ghost invariant = { λ epoch. AreEpochParts epoch.head epoch.names epoch.rows.items };
+    ghost invariant = { λ epoch. AreEpochParts epoch.head epoch.names.keys epoch.rows.items
+        × HasRowsRoom epoch.head.head epoch.rows.items (vec_capacity epoch.rows) (spare epoch.names) };
 }
 
 impl Epoch {
@@ -44,7 +49,7 @@ impl Epoch {
         Epoch {
             head,
             rows: Vec::new(alloc),
-            names: Identifiers::new(alloc),
+            names: IndexSet::new(alloc),
         }
     }
 
@@ -61,16 +66,18 @@ impl Epoch {
             ((refused.1 ≡ Fault.RepeatedSatellite) × (has_satellite row.name self.old.rows ≡ true))
             ⊎ ((refused.1 ≡ Fault.OutOfMemory) × (has_satellite row.name self.old.rows ≡ false))) }
         ensures err { OnErr result (self.new ≡ self.old) }
+        // Memory is asked for at the first row alone, for as many as the line announces.
+        ensures asked { IfErr result (λ refused. refused.1 ≡ Fault.OutOfMemory → self.old.rows ≡ []) }
     {
-        match self.names.put(self.rows.len(), row.name()) {
-            Ok(true) => {}
-            Ok(false) => return Err((row, Fault::RepeatedSatellite)),
-            Err(_) => return Err((row, Fault::OutOfMemory)),
+        if self.names.contains(&row.name()) {
+            return Err((row, Fault::RepeatedSatellite));
         }
-        match self.rows.push(row) {
-            Ok(()) => Ok(()),
-            Err(full) => Err((full.value, Fault::OutOfMemory)),
+        if make_room(&mut self.rows, &mut self.names, self.head.count()).is_err() {
+            return Err((row, Fault::OutOfMemory));
         }
+        self.names.insert(row.name()).unwrap();
+        self.rows.push(row).unwrap();
+        Ok(())
     }
 
     /// Whether the epoch has as many rows as its line announces.
@@ -107,4 +114,25 @@ impl Epoch {
     {
         self.rows.get(index)
     }
+}
+
+/// Asks for room for so many rows and identifiers in all, where there are none yet.
+fn make_room(
+    rows: &mut Vec<SatRow>,
+    names: &mut IndexSet<[u8; NAME_WIDTH]>,
+    count: usize,
+) -> Result<(), AllocError>
+    requires asked { (rows.old.items ≡ [])
+        ⊎ ((count ≤ vec_capacity rows.old) × (count ≤ length rows.old.items + spare names.old)) }
+    ensures rows { rows.new.items ≡ rows.old.items }
+    ensures names { names.new.keys ≡ names.old.keys }
+    ensures room { OnOk result
+        ((count ≤ vec_capacity rows.new) × (count ≤ length rows.new.items + spare names.new)) }
+    ensures err { OnErr result (rows.new.items ≡ []) }
+{
+    if rows.is_empty() {
+        rows.reserve_exact(count)?;
+        names.reserve(count)?;
+    }
+    Ok(())
 }

@@ -85,10 +85,10 @@ returns-in-Err-clause-err_kept c = λ front.
     let lines = c.encode.ensures.lines_kept as_many in (
       subst (λ (held : HeldColumns). KeepsEncodingRoom held.encoding
           (all_free (encoding_room c.encode.new.self c.encode.new.lines))) c.self.view_is (record {
-        rooms = c.encode.ensures.rooms_kept;
-        text = c.encode.ensures.text_kept;
-        lines = lines.all_lines;
-        bytes = lines.all_bytes;
-      }),
+            rooms = c.encode.ensures.rooms_kept;
+            text = c.encode.ensures.text_kept;
+            lines = lines.all_lines;
+            bytes = lines.all_bytes;
+          }),
       lines.reserved ∙ sym as_many,
     )

@@ -7,7 +7,7 @@ use Rattle.crx_rinex.proofs.epoch.Epoch.row.Goals as goal
 pub returns-clause-within : goal.returns-clause-within
 returns-clause-within c =
     let same = ap (λ (e : Epoch). length e.rows) c.self.view_is in
-    let within = c.self.invariant.0.within in
+    let within = c.self.invariant.0.0.within in
     omega (arith, within, satellites_few c.self.inside.head.head, same)
 
 pub returns-clause-value : goal.returns-clause-value
