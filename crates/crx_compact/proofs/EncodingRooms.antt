@@ -1,17 +1,7 @@
 -- The room that an encoder has for an epoch stays.
-use Rattle.crx_compact.proofs.Words.{◌≡◌, ◌≤◌, ℕ, length, min, arith, Epoch, Row, HasRoom}
-use Rattle.std.proofs.Math.Nat.{le-min, min-le_left, min-le_right}
+use Rattle.crx_compact.proofs.Words.{length, arith, Epoch, Row, HasRoom}
 use Rattle.crx_compact.specs.EncodingRooms.{EncodingRoom, HasRoomForEpoch, KeepsEncodingRoom, all_free}
 use Rattle.crx_compact.proofs.RowByRow.{all-of}
-
--- the lesser of two capacities is no less where neither is
-pub lesser-kept : {room first second new_first new_second : ℕ} → min first second ≡ room
-    → first ≤ new_first → second ≤ new_second → room ≤ min new_first new_second
-lesser-kept {room} {first} {second} {new_first} {new_second} is more_first more_second =
-    let left = min-le_left first second in
-    let right = min-le_right first second in
-    le-min {k = room} {a = new_first} {b = new_second} (omega (arith, is, left, more_first))
-    (omega (arith, is, right, more_second))
 
 -- how much of it is free doesn't matter to an epoch before its first row
 pub all-free-room : (epoch : Epoch) (room : EncodingRoom)

@@ -1,5 +1,5 @@
 -- For how much there is room in an encoder, before and after a row.
-use Rattle.std.specs.Prelude.{◌≡◌, ◌≤◌, ◌<◌, ◌+◌, ◌*◌, ℕ, List, [], length, map, sum}
+use Rattle.std.specs.Prelude.{◌≡◌, ◌≤◌, ◌<◌, ◌+◌, ◌*◌, ℕ, List, [], length, map, max, sum}
 use Rattle.crx_base.specs.declared.limits.TheConstants.{HEAD_WIDTH, NAME_WIDTH}
 use Rattle.crx_compact.specs.LineLists.{LinesRoom, PendingLines}
 use Rattle.crx_compact.specs.Placing.{HasRoom, HaveRoom, KeepsRooms, OpenHistory, row_room}
@@ -75,9 +75,11 @@ pub record HasTakenText (count : ℕ) (before after : EncodingRoom) : Type 0 whe
   pub next : count ≤ before.held → count ≤ after.text
 
 -- a row was put: there is room for its satellite from now on; one line more is in use, and no more bytes than a line of so many types may have,
--- for which there was room
+-- for which there was room, or no more was asked for
 pub record HasTakenRow (row : Row) (before after : EncodingRoom) : Type 0 where
   pub satellite : HasRoom row.name (length row.values) after.rooms
   pub lines : after.free_lines + (before.lines + 1) ≡ before.free_lines + after.lines
   pub bytes : before.free_bytes + after.bytes ≤ after.free_bytes + (before.bytes + row_room row)
   pub asked : before.bytes + row_room row ≤ before.free_bytes + after.bytes
+  pub only_lines : after.lines + before.free_lines ≤ before.lines + max before.free_lines 1
+  pub only_bytes : after.bytes + before.free_bytes ≤ before.bytes + max before.free_bytes (row_room row)

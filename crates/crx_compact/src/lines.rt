@@ -1,6 +1,6 @@
 //! Lines that are made one after another and borrowed in that order, one by one or as one text.
 
-ghost use Rattle.std.specs.Prelude.{ℕ, ◌≡◌, ◌≤◌, ◌<◌, ◌+◌, ◌++◌, ◌∷◌, [], drop, length, slice_get, slice_set, take, Some, OnOk, IsOk, IsTrue, ◌↔◌, vec_capacity};
+ghost use Rattle.std.specs.Prelude.{ℕ, ◌≡◌, ◌≤◌, ◌<◌, ◌+◌, ◌++◌, ◌∷◌, [], drop, length, max, slice_get, slice_set, take, Some, OnOk, IsOk, IsTrue, ◌↔◌, vec_capacity};
 ghost use Rattle.crx_base.specs.declared.limits.TheConstants.{LINE_LIMIT};
 ghost use Rattle.crx_rinex.specs.meaning.SatelliteLines.{IsSoundRow};
 ghost use Rattle.std.specs.Borrow.{sem};
@@ -18,7 +18,7 @@ ghost use Rattle.crx_rinex.specs.meaning.Printing.{printed_row};
 use crate::satellites::Satellites;
 use crx_base::limits::LINE_LIMIT;
 use crx_text::Text;
-use crx_text::block::{grow, put_line};
+use crx_text::block::put_line;
 use std::alloc::{AllocError, Global};
 use std::marker::Model;
 
@@ -133,6 +133,9 @@ impl Lines {
         ensures grown { HasMoreRoom self.old self.new }
         ensures free_lines { OnOk result (lines ≤ self.new.free_lines) }
         ensures free_bytes { OnOk result (bytes ≤ self.new.free_bytes) }
+        // No more is asked for than that, and where there is room, none.
+        ensures only_lines { self.new.free_lines ≤ max self.old.free_lines lines }
+        ensures only_bytes { self.new.free_bytes ≤ max self.old.free_bytes bytes }
         ensures known { lines ≤ self.old.free_lines → bytes ≤ self.old.free_bytes → IsOk result }
     {
         let filled = self.filled.saturating_add(bytes);
@@ -141,7 +144,9 @@ impl Lines {
         if filled <= self.bytes.len() && count <= self.lengths.len() {
             return Ok(());
         }
-        grow(&mut self.bytes, filled)?;
+        if filled > self.bytes.len() {
+            self.bytes.resize(filled, b'\n')?;
+        }
         if count > self.lengths.len() {
             self.lengths.resize(count, 0)?;
         }

@@ -3,7 +3,6 @@ use Rattle.crx_compact.proofs.Words.{take, sym, ap, ◌∙◌, subst, arith, if�
 use Rattle.crx_compact.proofs.Words.{length-map, satellites_of, has_satellite, Epoch, Row, HasRoom, HaveRoom}
 use Rattle.crx_compact.proofs.Words.{OpenHistory, row_of_parts, row_room, tail_of_history}
 use Rattle.crx_compact.proofs.Words.{no_tail, row_tail_in, Tail, AreRowsWritten, epoch_by_rows}
-use Rattle.std.specs.Prelude.{vec_capacity}
 use borrow.Author.Count.{falls}
 use Rattle.crx_compact.specs.EncodingRooms.{HasTakenRow, encoding_room}
 use Rattle.crx_compact.specs.Written.{IsEpochWritten, IsRowWritten}
@@ -11,8 +10,7 @@ use Rattle.crx_compact.proofs.ComeRows.{row-new}
 use Rattle.crx_compact.proofs.Making.{taken_all, taken_more}
 use Rattle.crx_compact.proofs.PlaceByPlace.{some-there}
 use Rattle.crx_compact.proofs.Results.{by_ok, from_ok}
-use Rattle.std.proofs.Math.Nat.{le-min}
-use Rattle.crx_compact.proofs.EncodingRooms.{lesser-kept, room-kept}
+use Rattle.crx_compact.proofs.EncodingRooms.{room-kept}
 use Rattle.crx_compact.proofs.RowByRow.{all-at, sum-left}
 use Rattle.crx_compact.proofs.history.History.encode.Goals.{In_default}
 use Rattle.crx_compact.proofs.history.History.encode.Goals as goal
@@ -40,16 +38,16 @@ loop-row-init c =
     let held = c.make_long.new.text.ok in
     let both = c.begin_rows.ensures.texts.text_room in
     let before = ap (λ (h : OpenHistory). h.text_room) c.self.view_is in
-    let text_kept = lesser-kept before c.make_text_room.ensures.capacity c.make_long.ensures.capacity in
-    let text_room = le-min {a = vec_capacity c.make_text_room.new.text} {b = vec_capacity c.make_long.new.text}
-    c.in_ok-make_text_room.ensures.room (omega (arith, long, held.0, held.1)) in
+    let wide = c.in_ok-make_text_room.ensures.room in
+    let first_kept = c.make_text_room.ensures.capacity in
+    let next_kept = c.make_long.ensures.capacity in
     record {
       written = subst (AreRowsWritten _ [] c.begin_rows.new.self)
           (sym (c.make_room.ensures.grown.lines ∙ c.reserve_front.ensures.emptied))
           (subst (λ (t : Tail). AreRowsWritten (if c.args.in_full then no_tail else t) [] c.begin_rows.new.self [])
           same c.begin_rows.ensures.begun);
       room = record {
-        text = omega (arith, text_room, both, first);
+        text = omega (arith, wide, long, held.0, held.1, both, first);
         rows = subst (HaveRoom c.args.epoch.now.rows) (sym c.begin_rows.ensures.rooms) c.in_ok-room.ensures.room;
         lines = omega (arith, lines, many, grown.among_lines);
         bytes = omega (arith, bytes, sized, grown.among_bytes);
@@ -62,7 +60,7 @@ loop-row-init c =
       rooms_kept = λ name count has. subst (HasRoom name count) (sym c.begin_rows.ensures.rooms)
           (c.prepare_rows.ensures.asked.rooms name count
           (subst (HasRoom name count) (sym (ap (λ (h : OpenHistory). h.satellites.rooms) c.self.view_is)) has));
-      text_kept = omega (arith, text_kept, both);
+      text_kept = omega (arith, before, first_kept, next_kept, both);
       lines_kept = λ as_many.
           let dropped = c.reserve_front.ensures.kept as_many in
           record {

@@ -127,6 +127,8 @@ returns-clause-taken c = λ is.
     let lines = c.make_room.ensures.grown.grown_lines in
     let bytes = c.make_room.ensures.grown.grown_bytes in
     let asked = c.in_ok-make_room.ensures.free_bytes in
+    let only_lines = c.make_room.ensures.only_lines in
+    let only_bytes = c.make_room.ensures.only_bytes in
     let put = c.put_row.ensures.taken in
     let one = put.free_lines in
     let some = c.put_row.ensures.free_bytes in
@@ -138,6 +140,8 @@ returns-clause-taken c = λ is.
       lines = omega (arith, lines, one, all_lines);
       bytes = omega (arith, bytes, some, all_bytes);
       asked = omega (arith, bytes, asked, all_bytes);
+      only_lines = omega (arith, lines, all_lines, only_lines);
+      only_bytes = omega (arith, bytes, all_bytes, only_bytes);
     }
 
 pub returns-clause-kept : goal.returns-clause-kept
