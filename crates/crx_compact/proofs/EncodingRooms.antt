@@ -16,9 +16,9 @@ room-kept epoch before after kept has =
     let text = has.text in
     let more_text = kept.text in
     let lines = has.lines in
-    let more_lines = kept.lines in
+    let more_lines = kept.held_lines in
     let bytes = has.bytes in
-    let more_bytes = kept.bytes in
+    let more_bytes = kept.held_bytes in
     record {
       text = omega (arith, text, more_text);
       rows = all-of (λ (r : Row). HasRoom r.name (length r.values) before.rooms)

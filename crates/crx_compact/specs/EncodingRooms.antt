@@ -7,7 +7,7 @@ use Rattle.crx_rinex.specs.meaning.Observations.{Epoch, Row}
 
 -- so many types of each satellite that is known; a text of so many characters, and so many where the newest one is,
 -- which the text after the next one takes; so many compact lines of an epoch's rows, of so many bytes with their LFs;
--- and how many of these lines and bytes the open epoch has left
+-- how many of these lines and bytes the open epoch has left; and for how many lines and bytes more memory is held
 pub record EncodingRoom : Type 0 where
   pub rooms : List (List ℕ × ℕ)
   pub text : ℕ
@@ -16,6 +16,8 @@ pub record EncodingRoom : Type 0 where
   pub bytes : ℕ
   pub free_lines : ℕ
   pub free_bytes : ℕ
+  pub spare_lines : ℕ
+  pub spare_bytes : ℕ
 
 -- the room of a history, and of the lines that are made after it
 abbrev pub encoding_room : OpenHistory → PendingLines → EncodingRoom
@@ -28,12 +30,24 @@ encoding_room history made =
       bytes = made.all_bytes;
       free_lines = made.free_lines;
       free_bytes = made.free_bytes;
+      spare_lines = made.spare_lines;
+      spare_bytes = made.spare_bytes;
     }
 
 -- nothing is held
 abbrev pub no_encoding_room : EncodingRoom
 no_encoding_room =
-    record { rooms = []; text = 0; held = 0; lines = 0; bytes = 0; free_lines = 0; free_bytes = 0 }
+    record {
+      rooms = [];
+      text = 0;
+      held = 0;
+      lines = 0;
+      bytes = 0;
+      free_lines = 0;
+      free_bytes = 0;
+      spare_lines = 0;
+      spare_bytes = 0;
+    }
 
 -- all lines are dropped: whatever was ever asked for them is free
 abbrev pub all_free : EncodingRoom → EncodingRoom
@@ -47,20 +61,22 @@ with_lines lines room =
       bytes = lines.bytes;
       free_lines = lines.lines;
       free_bytes = lines.bytes;
+      spare_lines = lines.spare_lines;
+      spare_bytes = lines.spare_bytes;
     }
 
 -- there is room for a row: its satellite is known, and has room for its types, and its line fits
 pub record HasRowRoom (row : Row) (room : EncodingRoom) : Type 0 where
   pub satellite : HasRoom row.name (length row.values) room.rooms
-  pub line : 0 < room.free_lines
-  pub bytes : row_room row ≤ room.free_bytes
+  pub line : 0 < room.free_lines + room.spare_lines
+  pub bytes : row_room row ≤ room.free_bytes + room.spare_bytes
 
 -- there is room for an epoch: its text, its satellites with their types, and the lines of its rows
 pub record HasRoomForEpoch (epoch : Epoch) (room : EncodingRoom) : Type 0 where
   pub text : HEAD_WIDTH + NAME_WIDTH * length epoch.rows ≤ room.text
   pub rows : HaveRoom epoch.rows room.rooms
-  pub lines : length epoch.rows ≤ room.lines
-  pub bytes : sum (map row_room epoch.rows) ≤ room.bytes
+  pub lines : length epoch.rows ≤ room.lines + room.spare_lines
+  pub bytes : sum (map row_room epoch.rows) ≤ room.bytes + room.spare_bytes
 
 -- there is no less room than before
 pub record KeepsEncodingRoom (before after : EncodingRoom) : Type 0 where
@@ -68,6 +84,8 @@ pub record KeepsEncodingRoom (before after : EncodingRoom) : Type 0 where
   pub text : before.text ≤ after.text
   pub lines : before.lines ≤ after.lines
   pub bytes : before.bytes ≤ after.bytes
+  pub held_lines : before.lines + before.spare_lines ≤ after.lines + after.spare_lines
+  pub held_bytes : before.bytes + before.spare_bytes ≤ after.bytes + after.spare_bytes
 
 -- a text of so many characters was put: there is room for it from now on, and where there was before, for the next one too
 pub record HasTakenText (count : ℕ) (before after : EncodingRoom) : Type 0 where

@@ -15,24 +15,37 @@ pub record AreCut (lengths text : List ℕ) (past past_bytes : ℕ) : Type 0 whe
   pub whole : lines_text (cut (drop past lengths) (drop past_bytes text)) ≡ drop past_bytes text
 
 -- lines that are pending; how many lines more, of how many bytes, there is room for; how many lines, of how many bytes, there is room for
--- once all are dropped; for how many lines room is left in front of the first one; and how many can be put there now
+-- once all are dropped; for how many lines and bytes more memory is held; for how many lines room is left in front of the first one; and how
+-- many can be put there now
 pub record PendingLines : Type 0 where
   pub lines : List (List ℕ)
   pub free_lines : ℕ
   pub free_bytes : ℕ
   pub all_lines : ℕ
   pub all_bytes : ℕ
+  pub spare_lines : ℕ
+  pub spare_bytes : ℕ
   pub reserved : ℕ
   pub front : ℕ
 
--- for how much there is room once all lines are dropped: so many lines in front, and so many behind them, of so many bytes with their LFs
+-- for how much there is room once all lines are dropped: so many lines in front, and so many behind them, of so many bytes with their LFs;
+-- and for how many lines and bytes more memory is held
 pub record LinesRoom : Type 0 where
   pub front : ℕ
   pub lines : ℕ
   pub bytes : ℕ
+  pub spare_lines : ℕ
+  pub spare_bytes : ℕ
 
 abbrev pub room_of_lines : PendingLines → LinesRoom
-room_of_lines made = record { front = made.reserved; lines = made.all_lines; bytes = made.all_bytes }
+room_of_lines made =
+    record {
+      front = made.reserved;
+      lines = made.all_lines;
+      bytes = made.all_bytes;
+      spare_lines = made.spare_lines;
+      spare_bytes = made.spare_bytes;
+    }
 
 -- all lines are dropped: the room that was ever asked for is free
 abbrev pub cleared : PendingLines → PendingLines
@@ -50,6 +63,8 @@ pub record HasMoreRoom (old new : PendingLines) : Type 0 where
   pub reserved : new.reserved ≡ old.reserved
   pub all_lines : old.all_lines ≤ new.all_lines
   pub all_bytes : old.all_bytes ≤ new.all_bytes
+  pub held_lines : old.all_lines + old.spare_lines ≤ new.all_lines + new.spare_lines
+  pub held_bytes : old.all_bytes + old.spare_bytes ≤ new.all_bytes + new.spare_bytes
   pub among_lines : new.free_lines ≤ new.all_lines
   pub among_bytes : new.free_bytes ≤ new.all_bytes
   pub grown_lines : new.free_lines + old.all_lines ≡ old.free_lines + new.all_lines
@@ -59,12 +74,16 @@ pub record HasMoreRoom (old new : PendingLines) : Type 0 where
 pub record HasSameRoom (old new : PendingLines) : Type 0 where
   pub all_lines : new.all_lines ≡ old.all_lines
   pub all_bytes : new.all_bytes ≡ old.all_bytes
+  pub spare_lines : new.spare_lines ≡ old.spare_lines
+  pub spare_bytes : new.spare_bytes ≡ old.spare_bytes
   pub reserved : new.reserved ≡ old.reserved
 
 -- there is no less room than before once all lines are dropped, behind as many in front
 pub record KeepsLinesRoom (old new : PendingLines) : Type 0 where
   pub all_lines : old.all_lines ≤ new.all_lines
   pub all_bytes : old.all_bytes ≤ new.all_bytes
+  pub held_lines : old.all_lines + old.spare_lines ≤ new.all_lines + new.spare_lines
+  pub held_bytes : old.all_bytes + old.spare_bytes ≤ new.all_bytes + new.spare_bytes
   pub reserved : new.reserved ≡ old.reserved
 
 -- a line was put after others, for which there was room: there is room for one less, and else nothing has changed but the room for bytes
@@ -72,6 +91,8 @@ pub record HasTakenLine (old new : PendingLines) : Type 0 where
   pub free_lines : new.free_lines + 1 ≡ old.free_lines
   pub all_lines : new.all_lines ≡ old.all_lines
   pub all_bytes : new.all_bytes ≡ old.all_bytes
+  pub spare_lines : new.spare_lines ≡ old.spare_lines
+  pub spare_bytes : new.spare_bytes ≡ old.spare_bytes
   pub reserved : new.reserved ≡ old.reserved
   pub front : new.front ≡ old.front
 

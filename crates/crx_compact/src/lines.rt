@@ -45,7 +45,7 @@ pub struct Lines {
 }
 
 impl Model for Lines {
-    ghost use Rattle.std.specs.Prelude.{◌≤◌, ◌+◌, ◌-◌, ◌*◌, drop, length, take};
+    ghost use Rattle.std.specs.Prelude.{◌≤◌, ◌+◌, ◌-◌, ◌*◌, drop, length, take, vec_capacity};
     ghost use Rattle.crx_base.specs.declared.limits.TheConstants.{LINE_LIMIT};
     ghost use Rattle.crx_compact.specs.LineLists.{cut, AreCut, HasFront, PendingLines};
 
@@ -58,6 +58,8 @@ impl Model for Lines {
       free_bytes = length lines.bytes.items - lines.filled;
       all_lines = length lines.lengths.items - lines.reserved;
       all_bytes = length lines.bytes.items - lines.reserved * (LINE_LIMIT + 1);
+      spare_lines = vec_capacity lines.lengths - length lines.lengths.items;
+      spare_bytes = vec_capacity lines.bytes - length lines.bytes.items;
       reserved = lines.reserved;
       front = lines.front;
     } };
@@ -75,6 +77,7 @@ impl Lines {
         ensures empty { result.lines ≡ [] }
         ensures reserved { result.reserved ≡ 0 }
         ensures room { (result.all_lines ≡ 0) × (result.all_bytes ≡ 0) }
+        ensures spare { (result.spare_lines ≡ 0) × (result.spare_bytes ≡ 0) }
     {
         Lines {
             bytes: Vec::new(alloc),
@@ -112,6 +115,10 @@ impl Lines {
         ensures known { lines ≡ self.old.reserved → IsOk result }
         ensures free_lines { lines ≡ self.old.reserved → self.old.all_lines ≤ self.new.free_lines }
         ensures free_bytes { lines ≡ self.old.reserved → self.old.all_bytes ≤ self.new.free_bytes }
+        ensures held_lines { lines ≡ self.old.reserved
+            → self.old.all_lines + self.old.spare_lines ≤ self.new.free_lines + self.new.spare_lines }
+        ensures held_bytes { lines ≡ self.old.reserved
+            → self.old.all_bytes + self.old.spare_bytes ≤ self.new.free_bytes + self.new.spare_bytes }
         ensures kept { lines ≡ self.old.reserved → KeepsLinesRoom self.old self.new }
     {
         self.reserved = 0;
@@ -136,7 +143,9 @@ impl Lines {
         // No more is asked for than that, and where there is room, none.
         ensures only_lines { self.new.free_lines ≤ max self.old.free_lines lines }
         ensures only_bytes { self.new.free_bytes ≤ max self.old.free_bytes bytes }
-        ensures known { lines ≤ self.old.free_lines → bytes ≤ self.old.free_bytes → IsOk result }
+        // It is refused only where less memory is held.
+        ensures known { lines ≤ self.old.free_lines + self.old.spare_lines
+            → bytes ≤ self.old.free_bytes + self.old.spare_bytes → IsOk result }
     {
         let filled = self.filled.saturating_add(bytes);
         let count = self.count.saturating_add(lines);

@@ -89,6 +89,8 @@ returns-in-Err-clause-err_kept c = λ front.
             text = c.encode.ensures.text_kept;
             lines = lines.all_lines;
             bytes = lines.all_bytes;
+            held_lines = lines.held_lines;
+            held_bytes = lines.held_bytes;
           }),
       lines.reserved ∙ sym as_many,
     )

@@ -12,6 +12,7 @@ pub returns-clause-encoding : goal.returns-clause-encoding
 returns-clause-encoding c =
     let room = c.new.ensures.room in
     let made = c.new-3.ensures.room in
+    let spare = c.new-3.ensures.spare in
     λ j. record {
       rooms = room.2 j;
       text = room.0 j;
@@ -20,4 +21,6 @@ returns-clause-encoding c =
       bytes = made.1 j;
       free_lines = made.0 j;
       free_bytes = made.1 j;
+      spare_lines = spare.0 j;
+      spare_bytes = spare.1 j;
     }

@@ -66,6 +66,8 @@ loop-row-init c =
           record {
             all_lines = omega (arith, dropped.all_lines, grown.all_lines);
             all_bytes = omega (arith, dropped.all_bytes, grown.all_bytes);
+            held_lines = omega (arith, dropped.held_lines, grown.held_lines);
+            held_bytes = omega (arith, dropped.held_bytes, grown.held_bytes);
             reserved = grown.reserved ∙ dropped.reserved;
           };
     }
@@ -152,6 +154,8 @@ loop-row-preserved c =
           record {
             all_lines = omega (arith, lines.all_lines, kept.lines);
             all_bytes = omega (arith, lines.all_bytes, kept.bytes);
+            held_lines = omega (arith, lines.held_lines, kept.held_lines);
+            held_bytes = omega (arith, lines.held_bytes, kept.held_bytes);
             reserved = c.write_row.ensures.reserved ∙ lines.reserved;
           };
     }

@@ -32,11 +32,11 @@ texts c = let same = ap (λ (h : OpenHistory). h.text_room) c.self.view_is in om
 
 pub returns-in_err-place_or_add-clause-kept : goal.returns-in_err-place_or_add-clause-kept
 returns-in_err-place_or_add-clause-kept c =
-    record { rooms = rooms (goal.at.returns-in_err-place_or_add-clause-kept c).After-place_or_add; text = texts (goal.at.returns-in_err-place_or_add-clause-kept c).After-place_or_add; lines = omega arith; bytes = omega arith }
+    record { rooms = rooms (goal.at.returns-in_err-place_or_add-clause-kept c).After-place_or_add; text = texts (goal.at.returns-in_err-place_or_add-clause-kept c).After-place_or_add; lines = omega arith; bytes = omega arith; held_lines = omega arith; held_bytes = omega arith }
 
 pub returns-then-not-branch-clause-kept : goal.returns-then-not-branch-clause-kept
 returns-then-not-branch-clause-kept c =
-    record { rooms = rooms (goal.at.returns-then-not-branch-clause-kept c).After-place_or_add; text = texts (goal.at.returns-then-not-branch-clause-kept c).After-place_or_add; lines = omega arith; bytes = omega arith }
+    record { rooms = rooms (goal.at.returns-then-not-branch-clause-kept c).After-place_or_add; text = texts (goal.at.returns-then-not-branch-clause-kept c).After-place_or_add; lines = omega arith; bytes = omega arith; held_lines = omega arith; held_bytes = omega arith }
 
 -- whether the row's satellite is new
 answer : (c : In_ok-place_or_add) (after : Tail) (rows : List Row)
@@ -73,6 +73,8 @@ returns-in_err-make_room-clause-kept c = record {
   text = texts (goal.at.returns-in_err-make_room-clause-kept c).After-place_or_add;
   lines = c.make_room.ensures.grown.all_lines;
   bytes = c.make_room.ensures.grown.all_bytes;
+  held_lines = c.make_room.ensures.grown.held_lines;
+  held_bytes = c.make_room.ensures.grown.held_bytes;
 }
 
 pub put_row-requires-clause-sound : goal.put_row-requires-clause-sound
@@ -146,13 +148,17 @@ returns-clause-taken c = λ is.
 
 pub returns-clause-kept : goal.returns-clause-kept
 returns-clause-kept c =
-    let lines = c.make_room.ensures.grown.all_lines in
-    let bytes = c.make_room.ensures.grown.all_bytes in
-    let all_lines = c.put_row.ensures.taken.all_lines in
-    let all_bytes = c.put_row.ensures.taken.all_bytes in
+    let grown = c.make_room.ensures.grown in
+    let put = c.put_row.ensures.taken in
+    let lines = grown.all_lines in
+    let bytes = grown.all_bytes in
+    let all_lines = put.all_lines in
+    let all_bytes = put.all_bytes in
     record {
       rooms = λ name count has. c.put_row.ensures.kept.rooms name count (rooms (goal.at.returns-clause-kept c).After-place_or_add name count has);
       text = texts (goal.at.returns-clause-kept c).After-place_or_add;
       lines = omega (arith, lines, all_lines);
       bytes = omega (arith, bytes, all_bytes);
+      held_lines = omega (arith, grown.held_lines, all_lines, put.spare_lines);
+      held_bytes = omega (arith, grown.held_bytes, all_bytes, put.spare_bytes);
     }

@@ -1,5 +1,6 @@
 use Rattle.crx_compact.proofs.Words.{◌≡◌, [], refl, ◌<◌, ◌≤◌, ◌+◌, ◌-◌, ◌*◌, ◌^◌, get_or, List, ℕ, Option}
 use Rattle.crx_compact.proofs.Words.{Some, drop, take, length, ap, sym, ◌∙◌, arith, slice_get, length-take-le}
+use Rattle.std.specs.Prelude.{vec_capacity}
 use Rattle.crx_compact.proofs.Words.{LINE_LIMIT, AreCut, HasFront, PendingLines, cut}
 use Rattle.std.proofs.Common.{Fits, w64}
 use Rattle.std.proofs.Math.ListN.{drop_of_length-le}
@@ -90,6 +91,8 @@ returns c =
           free_bytes = length inside.bytes.items - inside.filled;
           all_lines = length inside.lengths.items - inside.reserved;
           all_bytes = length inside.bytes.items - inside.reserved * (LINE_LIMIT + 1);
+          spare_lines = vec_capacity inside.lengths - length inside.lengths.items;
+          spare_bytes = vec_capacity inside.bytes - length inside.bytes.items;
           reserved = inside.reserved;
           front = inside.front;
         }) next_line.left,
@@ -122,6 +125,8 @@ returns-then-self c =
           free_bytes = c.args.self.now.free_bytes;
           all_lines = c.args.self.now.all_lines;
           all_bytes = c.args.self.now.all_bytes;
+          spare_lines = c.args.self.now.spare_lines;
+          spare_bytes = c.args.self.now.spare_bytes;
           reserved = c.args.self.now.reserved;
           front = c.args.self.now.front;
         }) (none ∙ sym (ap (drop 1) none)),

@@ -1,4 +1,5 @@
 use Rattle.crx_compact.proofs.Words.{◌≤◌, ◌+◌, ◌-◌, ◌*◌, List, ℕ, ap, arith, length, refl, take}
+use Rattle.std.specs.Prelude.{vec_capacity}
 use Rattle.crx_compact.proofs.Words.{length-take-le, LINE_LIMIT, PendingLines}
 use Rattle.crx_compact.proofs.LineTexts.{all-lines, none-left}
 use Rattle.crx_compact.proofs.lines.Lines.take_text.Goals as goal
@@ -19,6 +20,8 @@ returns c =
           free_bytes = length inside.bytes.items - inside.filled;
           all_lines = length inside.lengths.items - inside.reserved;
           all_bytes = length inside.bytes.items - inside.reserved * (LINE_LIMIT + 1);
+          spare_lines = vec_capacity inside.lengths - length inside.lengths.items;
+          spare_bytes = vec_capacity inside.bytes - length inside.bytes.items;
           reserved = inside.reserved;
           front = inside.front;
         }) (none-left lengths inside.bytes.items inside.filled inside.count all),

@@ -25,6 +25,8 @@ loop-self-preserved c =
       room = record {
         all_lines = put.taken.all_lines ∙ c.loop-self.invariant.room.all_lines;
         all_bytes = put.taken.all_bytes ∙ c.loop-self.invariant.room.all_bytes;
+        spare_lines = put.taken.spare_lines ∙ c.loop-self.invariant.room.spare_lines;
+        spare_bytes = put.taken.spare_bytes ∙ c.loop-self.invariant.room.spare_bytes;
         reserved = put.taken.reserved ∙ c.loop-self.invariant.room.reserved;
       };
     }
