@@ -277,7 +277,8 @@ fn grow(indicators: &mut Vec<u8>, arcs: &mut Vec<ObsArc>, count: usize) -> Resul
     ensures arcs { (n : ℕ) → n ≤ length arcs.old.items → take n arcs.new.items ≡ take n arcs.old.items }
     ensures indicators { (n : ℕ) → n ≤ length indicators.old.items
         → take n indicators.new.items ≡ take n indicators.old.items }
-    ensures asked { OnErr result ((vec_capacity indicators.old < 2 * count) ⊎ (vec_capacity arcs.old < count)) }
+    ensures asked { OnErr result
+        ((vec_capacity indicators.old < 2 * count) ⊎ (vec_capacity arcs.old < count)) }
     ensures filled { vec_capacity arcs.new ≡ length arcs.new.items }
     ensures bounded { vec_capacity indicators.new ≤ 2 * TYPES_LIMIT }
 {

@@ -23,7 +23,8 @@ use Rattle.crx_rinex.specs.meaning.SatelliteLines.{all_some, values_in, flags_at
 use Rattle.crx_header.specs.meaning.Satellites.{is_identifier}
 use Rattle.crx_base.specs.declared.fault.Fault.TheVariants.{BadField}
 use Rattle.crx_rinex.specs.meaning.SatelliteLines.{row_with, IsSoundRow}
-use Rattle.crx_rinex.specs.SatelliteLines.{blank_row, row_by_cells, with_flags, with_value, AreAllRead, AreCellsRead}
+use Rattle.crx_rinex.specs.SatelliteLines.{blank_row, row_by_cells, with_flags, with_value, AreAllRead}
+use Rattle.crx_rinex.specs.SatelliteLines.{AreCellsRead}
 use Rattle.crx_text.proofs.EachPlace.{each_place-more, index-each_place, length-each_place}
 
 -- one value more

@@ -1,7 +1,8 @@
 -- Rows of different satellites, one after another.
 use Rattle.std.proofs.Common.{◌≡◌, ℕ, ◌≤◌, Bool, true, false, ◌&&◌, List, [], ◌∷◌, ◌++◌, length}
 use Rattle.std.proofs.Common.{take, map}
-use Rattle.std.proofs.Common.{◌||◌, refl, ap, sym, ◌∙◌, inl, inr, arith, Option, Some, None, unwrap_or, cond, leb}
+use Rattle.std.proofs.Common.{◌||◌, refl, ap, sym, ◌∙◌, inl, inr, arith, Option, Some, None, unwrap_or, cond}
+use Rattle.std.proofs.Common.{leb}
 use Rattle.std.specs.List.{list_all, list_any}
 use Rattle.std.specs.Str.{bytes_eq}
 use Rattle.std.proofs.lemmas.Slice.Eq.{bytes_eq-Decides}
@@ -73,7 +74,8 @@ pub parts-more : (head : ObservationHead) (names : List (List ℕ)) (rows : List
     → IsSoundRow row → has_satellite row.name rows ≡ false
     → AreEpochParts head (names ++ row.name ∷ []) (rows ++ row ∷ [])
 parts-more head names rows row parts unfilled sound new = (
-  sound-with_row (record { head = head.head; clock = head.clock; rows = rows }) row parts.0 sound unfilled new,
+  sound-with_row (record { head = head.head; clock = head.clock; rows = rows }) row
+      parts.0 sound unfilled new,
   parts.1,
   ap (λ (ns : List (List ℕ)). ns ++ row.name ∷ []) parts.2
       ∙ sym (map-append (λ (r : Row). r.name) rows (row ∷ [])),

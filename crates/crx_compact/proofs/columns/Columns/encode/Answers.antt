@@ -75,8 +75,8 @@ returns-in-Ok-clause-lines c = λ epochs h.
 pub returns-in-Err-clause-known : goal.returns-in-Err-clause-known
 returns-in-Err-clause-known c = λ has front.
     absurd (false≢true (c.in-Err.ensures.known
-    (all-free-room c.args.epoch _
-    (subst (HasRoomForEpoch c.args.epoch) (sym (ap (λ (held : HeldColumns). held.encoding) c.self.view_is)) has))
+    (all-free-room c.args.epoch _ (subst (HasRoomForEpoch c.args.epoch)
+    (sym (ap (λ (held : HeldColumns). held.encoding) c.self.view_is)) has))
     (sym (ap (λ (held : HeldColumns). held.front) c.self.view_is ∙ front))))
 
 pub returns-in-Err-clause-err_kept : goal.returns-in-Err-clause-err_kept

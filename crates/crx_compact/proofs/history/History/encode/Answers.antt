@@ -48,7 +48,8 @@ loop-row-init c =
           same c.begin_rows.ensures.begun);
       room = record {
         text = omega (arith, wide, long, held.0, held.1, both, first);
-        rows = subst (HaveRoom c.args.epoch.now.rows) (sym c.begin_rows.ensures.rooms) c.in_ok-room.ensures.room;
+        rows = subst (HaveRoom c.args.epoch.now.rows) (sym c.begin_rows.ensures.rooms)
+            c.in_ok-room.ensures.room;
         lines = omega (arith, lines, many, grown.among_lines);
         bytes = omega (arith, bytes, sized, grown.among_bytes);
       };
@@ -59,7 +60,8 @@ loop-row-init c =
       reserved = grown.reserved ∙ c.in_ok-reserve_front.ensures.reserved;
       rooms_kept = λ name count has. subst (HasRoom name count) (sym c.begin_rows.ensures.rooms)
           (c.prepare_rows.ensures.asked.rooms name count
-          (subst (HasRoom name count) (sym (ap (λ (h : OpenHistory). h.satellites.rooms) c.self.view_is)) has));
+          (subst (HasRoom name count)
+          (sym (ap (λ (h : OpenHistory). h.satellites.rooms) c.self.view_is)) has));
       text_kept = omega (arith, before, first_kept, next_kept, both);
       lines_kept = λ as_many.
           let dropped = c.reserve_front.ensures.kept as_many in

@@ -6,7 +6,8 @@ use Rattle.crx_compact.specs.LineLists.{KeepsLinesRoom}
 use Rattle.crx_compact.specs.declared.lines.TheConstants.{FIRST_LINES}
 use Rattle.crx_compact.proofs.history.History.encode.Given as goal
 
--- the rows up to an index are written, there is room for the others, for the text, and for the first lines, and no less than before
+-- the rows up to an index are written, there is room for the others, for the text, and for the first lines, and
+-- no less than before
 abbrev pub invariant-loop-row : goal.invariant-loop-row
 invariant-loop-row l = record {
   written : AreRowsWritten (if l.in_full then no_tail else tail_of_history l.fn.self) (take l.index l.epoch.rows)

@@ -32,11 +32,27 @@ texts c = let same = ap (λ (h : OpenHistory). h.text_room) c.self.view_is in om
 
 pub returns-in_err-place_or_add-clause-kept : goal.returns-in_err-place_or_add-clause-kept
 returns-in_err-place_or_add-clause-kept c =
-    record { rooms = rooms (goal.at.returns-in_err-place_or_add-clause-kept c).After-place_or_add; text = texts (goal.at.returns-in_err-place_or_add-clause-kept c).After-place_or_add; lines = omega arith; bytes = omega arith; held_lines = omega arith; held_bytes = omega arith }
+    let at = (goal.at.returns-in_err-place_or_add-clause-kept c).After-place_or_add in
+    record {
+      rooms = rooms at;
+      text = texts at;
+      lines = omega arith;
+      bytes = omega arith;
+      held_lines = omega arith;
+      held_bytes = omega arith;
+    }
 
 pub returns-then-not-branch-clause-kept : goal.returns-then-not-branch-clause-kept
 returns-then-not-branch-clause-kept c =
-    record { rooms = rooms (goal.at.returns-then-not-branch-clause-kept c).After-place_or_add; text = texts (goal.at.returns-then-not-branch-clause-kept c).After-place_or_add; lines = omega arith; bytes = omega arith; held_lines = omega arith; held_bytes = omega arith }
+    let at = (goal.at.returns-then-not-branch-clause-kept c).After-place_or_add in
+    record {
+      rooms = rooms at;
+      text = texts at;
+      lines = omega arith;
+      bytes = omega arith;
+      held_lines = omega arith;
+      held_bytes = omega arith;
+    }
 
 -- whether the row's satellite is new
 answer : (c : In_ok-place_or_add) (after : Tail) (rows : List Row)

@@ -1,4 +1,5 @@
-use Rattle.std.proofs.Common.{◌≡◌, ◌≤◌, ◌+◌, ◌++◌, ◌∷◌, [], ℕ, List, length, vec_capacity, arith, rules, sym, ap, ◌∙◌}
+use Rattle.std.proofs.Common.{◌≡◌, ◌≤◌, ◌+◌, ◌++◌, ◌∷◌, [], ℕ, List, length, vec_capacity, arith, rules}
+use Rattle.std.proofs.Common.{sym, ap, ◌∙◌}
 use Rattle.std.proofs.Common.{false, if◌then◌else◌, refl, inl, inr}
 use Rattle.std.specs.List.{list_any}
 use Rattle.std.specs.Str.{bytes_eq}
@@ -41,7 +42,8 @@ invariant_of-self-2 c =
     ∙ sym c.contains.ensures ∙ c.if-contains.false in
     let put : c.insert.new.self.keys ≡ names ++ row.name ∷ [] =
     (rw c.unwrap.ensures at c.insert.ensures.keys)
-    ∙ ap (λ b. if b then c.make_room.new.names.keys else c.make_room.new.names.keys ++ c.name-2.result ∷ []) absent
+    ∙ ap (λ b. if b then c.make_room.new.names.keys
+    else c.make_room.new.names.keys ++ c.name-2.result ∷ []) absent
     ∙ (λ j. same j ++ c.name-2.ensures.value j ∷ []) in
     let pushed : c.push.new.self.items ≡ rows ++ row ∷ [] =
     (rw c.unwrap-2.ensures at c.push.ensures.items) ∙ ap (λ rs. rs ++ row ∷ []) c.make_room.ensures.rows in
