@@ -11,7 +11,7 @@ ghost use Rattle.crx_rinex.specs.Epochs.{is_full_epoch, with_row};
 ghost use Rattle.crx_rinex.specs.meaning.Epochs.{IsSoundEpoch, has_satellite};
 ghost use Rattle.crx_rinex.specs.meaning.Observations.{Row};
 ghost use Rattle.crx_header.specs.meaning.Satellites.{types_of_satellite};
-ghost use Rattle.crx_rinex.specs.meaning.Printing.{printed_row};
+ghost use Rattle.crx_rinex.specs.meaning.Printing.{printed_head, printed_row};
 ghost use Rattle.crx_compact.specs.ArcSteps.{shown_value};
 ghost use Rattle.crx_compact.specs.EncodingRooms.{HasRoomForEpoch, HasRowRoom, HasTakenRow, HasTakenText, KeepsEncodingRoom, encoding_room};
 ghost use Rattle.crx_compact.specs.EpochLinesRead.{AreSatellitesRead, AreSatellitesRefused, IsEpochLineRead, IsEpochLineRefused, history_cleared};
@@ -37,8 +37,9 @@ use crate::satellites::Satellites;
 use crx_base::Fault;
 use crx_base::limits::{CELL_WIDTH, HEAD_WIDTH, LINE_LIMIT, NAME_WIDTH, TYPES_LIMIT};
 use crx_header::{Types, after_columns, all_blank, identifier, padded, put_identifier};
-use crx_rinex::{Epoch, EpochLine, SatRow, begins_epoch, types_of_satellite};
+use crx_rinex::{Epoch, EpochLine, SatRow, begins_epoch, print_head, types_of_satellite};
 use crx_text::block::put_text;
+use crx_text::columns::end_trimmed;
 use crx_text::difference::{append_difference, patch_bytes};
 use crx_text::{Text, code_print, code_read, trim_end};
 use std::alloc::{AllocError, Global};
@@ -272,6 +273,11 @@ impl History {
             clock_line_read (past_of_tail (tail_of_history self.old)) line.now ≡ Err fault) }
         ensures others { self.new ≡ record self.old { clock = self.new.clock } }
     {
+        // Most epochs have no clock offset: this saves some 15 instructions.
+        if line.is_empty() {
+            self.clock.end();
+            return Ok(());
+        }
         if begins_epoch(line) {
             return Err(Fault::Truncated);
         }
@@ -350,6 +356,25 @@ impl History {
         EpochLine::new(padded(&self.text, 1), self.clock.value()).unwrap()
     }
 
+    /// Puts the first line of the epoch that the history shows after others, for which there is room. Most epochs have no clock offset:
+    /// then the columns are put as they are, which saves some 130 instructions.
+    pub(crate) fn put_head(&self, lines: &mut Lines, part: &mut Text)
+        requires announced { is_some (epoch_count (columns self.now.text 1 HEAD_WIDTH)) ≡ true }
+        requires free_line { 0 < lines.old.free_lines }
+        requires free_bytes { LINE_LIMIT < lines.old.free_bytes }
+        ensures lines { lines.new.lines ≡ lines.old.lines
+            ++ printed_head (columns self.now.text 1 HEAD_WIDTH) (shown_value self.now.clock) ∷ [] }
+        ensures taken { HasTakenLine lines.old lines.new }
+        ensures free_bytes { lines.old.free_bytes ≤ lines.new.free_bytes + (LINE_LIMIT + 1) }
+    {
+        let Some(_) = self.clock.value() else {
+            lines.put(end_trimmed(&self.text, 1, HEAD_WIDTH));
+            return;
+        };
+        print_head(&self.head(), part);
+        lines.put(part.bytes());
+    }
+
     /// As many bytes as the printed lines of the history's epoch have at most, each with its LF.
     pub(crate) fn printed_room(&self) -> usize
         requires announced { IsAnnounced self.now }
@@ -362,20 +387,12 @@ impl History {
         room
     }
 
-    /// Puts the printed line of the row at an index after others, for which there is room.
+    /// Its satellites.
     #[inline(always)]
-    pub(crate) fn put_printed(&self, index: usize, lines: &mut Lines)
-        requires within { index < length self.now.satellites.rows }
-        requires free_line { 0 < lines.old.free_lines }
-        requires free_bytes { (row : RowTail) → slice_get self.now.satellites.rows index ≡ Some row
-            → printed_room row ≤ lines.old.free_bytes }
-        ensures lines { (row : RowTail) → slice_get self.now.satellites.rows index ≡ Some row
-            → lines.new.lines ≡ lines.old.lines ++ printed_row (shown_row row) ∷ [] }
-        ensures taken { HasTakenLine lines.old lines.new }
-        ensures free_bytes { (row : RowTail) → slice_get self.now.satellites.rows index ≡ Some row
-            → lines.old.free_bytes ≤ lines.new.free_bytes + printed_room row }
+    pub(crate) fn satellites(&self) -> &Satellites
+        ensures value { result.now ≡ self.now.satellites }
     {
-        lines.put_printed(&self.satellites, index);
+        &self.satellites
     }
 }
 

@@ -8,7 +8,6 @@ ghost use Rattle.crx_compact.specs.PrintedBlocks.{IsBlock, printed_room};
 
 use crate::history::History;
 use crate::lines::Lines;
-use crx_rinex::print_head;
 use crx_text::Text;
 use std::alloc::{AllocError, Global};
 
@@ -69,12 +68,11 @@ impl PrintedBlock {
         ensures room { HasSameRoom self.old.lines self.new.lines }
     {
         if !self.has_head {
-            print_head(&history.head(), part);
-            self.lines.put(part.bytes());
+            history.put_head(&mut self.lines, part);
             self.has_head = true;
         }
         while self.rows < rows {
-            history.put_printed(self.rows, &mut self.lines);
+            self.lines.put_printed(history.satellites(), self.rows);
             self.rows += 1;
         }
     }

@@ -46,6 +46,10 @@ pub fn identifier(line: &[u8], first: usize) -> [u8; NAME_WIDTH]
     requires few { first ≤ LINE_LIMIT }
     ensures value { result ≡ columns line.now first NAME_WIDTH }
 {
+    // Mostly it is within the line: one test of the line's length then stands for three.
+    if first + 1 < line.len() {
+        return [line[first - 1], line[first], line[first + 1]];
+    }
     [
         character(line, first),
         character(line, first + 1),

@@ -12,6 +12,9 @@ use std::alloc::{AllocError, Global};
 /// How many bytes are held at once: some hundreds of lines of common files.
 pub(crate) const SIZE: usize = 65536;
 
+/// How many bytes are set to zero at once: the C library sets more of them by an instruction that repeats itself for each byte.
+const PIECE: usize = 2048;
+
 /// The room that a read finds at least, where something is held: a line's content, CR and LF.
 const LEAST_ROOM: usize = LINE_LIMIT + 2;
 
@@ -41,7 +44,10 @@ impl Window {
     pub(crate) fn new(alloc: Global) -> Result<Window, AllocError>
         ensures { IfOk result (λ window. kept window ≡ []) }
     {
-        let bytes = vec![in alloc; 0; SIZE]?;
+        let mut bytes = Vec::with_capacity(alloc, SIZE)?;
+        for piece in 0..SIZE / PIECE {
+            bytes.resize((piece + 1) * PIECE, 0)?;
+        }
         Ok(Window {
             bytes,
             start: 0,

@@ -1,5 +1,7 @@
-use Rattle.crx_compact.proofs.Words.{rules, ap, ◌∙◌, sym, CLOCK_WIDTH, ReadCell, shown_value}
+use Rattle.crx_compact.proofs.Words.{rules, ap, ◌∙◌, sym, refl, CLOCK_WIDTH, ReadCell, shown_value}
+use Rattle.crx_compact.proofs.Words.{Missing, None}
 use Rattle.crx_compact.proofs.CellsRead.{shown-code}
+use Rattle.crx_compact.proofs.Marks.{none-there}
 use Rattle.crx_compact.proofs.history.History.read_clock.Goals as goal
 
 pub returns-clause-ok : goal.returns-clause-ok
@@ -11,4 +13,13 @@ returns-clause-ok c =
       left = search rules;
       shown = ap shown_value c.in_ok-apply.ensures.ok
           ∙ shown-code CLOCK_WIDTH c.in-Ok.code _ _ (sym c.in_ok-apply.ensures.value);
+    }
+
+pub returns-then-is_empty-clause-ok : goal.returns-then-is_empty-clause-ok
+returns-then-is_empty-clause-ok c =
+    let nothing = none-there c.args.line.now c.if-is_empty.ensures in record {
+      cell = record { code = Missing; value = None };
+      read = rw nothing refl;
+      left = search rules;
+      shown = ap shown_value c.end.ensures.ended;
     }

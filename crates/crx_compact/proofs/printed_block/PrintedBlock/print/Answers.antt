@@ -1,4 +1,5 @@
 use Rattle.std.proofs.Common.{arith, ◌∙◌}
+use Rattle.crx_compact.proofs.Words.{◌≡◌, PlacedRows, Some, slice_get, subst, sym}
 use Rattle.crx_compact.proofs.PrintedBlocks.{room-there, row-printed}
 use Rattle.crx_compact.proofs.RowByRow.{IsThere, is-there}
 use Rattle.crx_compact.proofs.printed_block.PrintedBlock.print.Goals as goal
@@ -6,7 +7,7 @@ use Rattle.crx_compact.proofs.printed_block.PrintedBlock.print.Goals as goal
 pub put_printed-requires-clause-free_bytes : goal.put_printed-requires-clause-free_bytes
 put_printed-requires-clause-free_bytes c = λ row there.
     room-there c.args.history.now c.loop-self.self.rows row c.loop-self.self.lines
-    c.loop-self.invariant.lines there
+    c.loop-self.invariant.lines (rw c.satellites.ensures.value at there)
 
 pub loop-self-preserved : goal.loop-self-preserved
 loop-self-preserved c =
@@ -15,11 +16,13 @@ loop-self-preserved c =
     let put = c.put_printed.ensures in
     let row : IsThere c.args.history.now.satellites.rows c.loop-self.self.rows =
     is-there c.args.history.now.satellites.rows c.loop-self.self.rows (omega (arith, next, within)) in
+    let there = subst (λ (p : PlacedRows). slice_get p.rows c.loop-self.self.rows ≡ Some row.item)
+    (sym c.satellites.ensures.value) row.there in
     record {
       lines =
           row-printed c.args.history.now c.loop-self.self.rows row.item c.loop-self.self.lines
-          c.put_printed.new.lines c.loop-self.invariant.lines row.there
-          (put.lines row.item row.there) put.taken.free_lines (put.free_bytes row.item row.there);
+          c.put_printed.new.self c.loop-self.invariant.lines row.there
+          (put.lines row.item there) put.taken.free_lines (put.free_bytes row.item there);
       head = c.loop-self.invariant.head;
       within = omega (arith, next);
       room = record {
