@@ -65,6 +65,20 @@ impl ExpandedLines {
         mem::swap(&mut self.printed, lines);
     }
 
+    /// Gives the memory of the printed lines, once none of them is pending, for those that are printed next, where it is more than theirs.
+    #[inline(always)]
+    pub(crate) fn give_room(&mut self, lines: &mut Lines)
+        requires drained { self.old ≡ [] }
+        ensures drained { self.new ≡ [] }
+        ensures all_lines { lines.old.all_lines ≤ lines.new.all_lines }
+        ensures all_bytes { lines.old.all_bytes ≤ lines.new.all_bytes }
+    {
+        if lines.has_less_room(&self.printed) {
+            lines.clear();
+            mem::swap(&mut self.printed, lines);
+        }
+    }
+
     /// Whether no line is pending.
     pub fn is_drained(&self) -> bool
         ensures value { IsTrue result ↔ (self.now ≡ []) }

@@ -3,6 +3,7 @@
 ghost use Rattle.std.specs.Prelude.{ℕ, ◌≡◌, ◌≤◌, ◌<◌, ◌+◌, ◌++◌, ◌∷◌, [], drop, length, max, slice_get, slice_set, take, Some, OnOk, IsOk, IsTrue, ◌↔◌, vec_capacity};
 ghost use Rattle.crx_base.specs.declared.limits.TheConstants.{LINE_LIMIT};
 ghost use Rattle.crx_rinex.specs.meaning.SatelliteLines.{IsSoundRow};
+ghost use Rattle.std.specs.Bool.{OnTrue};
 ghost use Rattle.std.specs.Borrow.{sem};
 ghost use Rattle.std.specs.Io.BufRead.{Rests};
 ghost use Rattle.std.specs.Option.{option_copied};
@@ -132,6 +133,18 @@ impl Lines {
         self.reserved = lines;
         self.front = lines;
         Ok(())
+    }
+
+    /// Whether other lines have more room for bytes and no less for lines, and neither have room that is left in front.
+    #[inline(always)]
+    pub(crate) fn has_less_room(&self, other: &Lines) -> bool
+        ensures lines { OnTrue result (self.now.all_lines ≤ other.now.all_lines) }
+        ensures bytes { OnTrue result (self.now.all_bytes ≤ other.now.all_bytes) }
+    {
+        self.bytes.len() < other.bytes.len()
+            && self.lengths.len() <= other.lengths.len()
+            && self.reserved == 0
+            && other.reserved == 0
     }
 
     /// Asks for room for so many lines more, and for so many bytes, in which each line has one more than its length. The lines stay.

@@ -46,6 +46,113 @@ impl CompactReader {
         }
     }
 
+    /// Takes one of the first two lines of compact text.
+    ///
+    /// `NotCompact` comes where the first one isn't that of Compact RINEX 3.0, `BadProgLine` where the second one has another
+    /// label.
+    #[inline(never)]
+    fn first_line(&mut self, count: usize, line: &[u8]) -> Result<(), Fault>
+        requires idle { is_idle self.old.columns.state ≡ true }
+        ensures takes { (choices : Choices) (number : ℕ)
+            → OnOk result (TakesOtherLine (made_of_first_lines count line.now) line.now
+            (seen_in choices number self.old (FirstLines count))
+            (compact_reader_state choices number self.new) false) }
+        ensures refuses { IfErr result (RefusesCompactLine self.old.types (tail_held self.old.columns.state)
+            (made_of_first_lines count line.now) (seen_stage (open_in self.old.columns.state) (FirstLines count))
+            line.now) }
+        ensures types { OnErr result (self.new.types ≡ self.old.types) }
+    {
+        if count == 0 {
+            check_version(line)?;
+            self.stage = Stage::FirstLines { count: 1 };
+        } else {
+            check_program(line)?;
+            self.stage = Stage::Header { is_first: true };
+        }
+        Ok(())
+    }
+
+    /// Takes a header line.
+    ///
+    /// The faults of the first header line come first, then `BadTypesLine`; `OutOfMemory` at a types line alone.
+    #[inline(never)]
+    fn header_line(&mut self, is_first: bool, line: &[u8]) -> Result<(), Fault>
+        requires idle { is_idle self.old.columns.state ≡ true }
+        ensures takes { (choices : Choices) (number : ℕ)
+            → OnOk result (TakesOtherLine (made_of_unit (header_line is_first line.now)) line.now
+            (seen_in choices number self.old (Header is_first))
+            (compact_reader_state choices number self.new) true) }
+        ensures refuses { IfErr result (RefusesCompactLine self.old.types (tail_held self.old.columns.state)
+            (made_of_unit (header_line is_first line.now))
+            (seen_stage (open_in self.old.columns.state) (Header is_first)) line.now) }
+        ensures types { OnErr result (self.new.types ≡ self.old.types) }
+    {
+        accept_header_line(&mut self.types, is_first, line)?;
+        self.columns.reset();
+        self.stage = after_header_line(line);
+        Ok(())
+    }
+
+    /// Takes a record of an event: a types line among those of flags 2 to 5 empties the columns.
+    ///
+    /// `BadTypesLine` comes where types lines count and the letter or the count of one is wrong; `OutOfMemory` at a types line
+    /// that counts alone.
+    #[inline(never)]
+    fn record(&mut self, left: usize, counted: bool, line: &[u8]) -> Result<(), Fault>
+        requires idle { is_idle self.old.columns.state ≡ true }
+        ensures takes { (choices : Choices) (number : ℕ)
+            → OnOk result (TakesOtherLine (made_of_unit (event_record counted line.now)) line.now
+            (seen_in choices number self.old (Event left counted))
+            (compact_reader_state choices number self.new) true) }
+        ensures refuses { IfErr result (RefusesCompactLine self.old.types (tail_held self.old.columns.state)
+            (made_of_unit (event_record counted line.now))
+            (seen_stage (open_in self.old.columns.state) (Event left counted)) line.now) }
+        ensures types { OnErr result (self.new.types ≡ self.old.types) }
+    {
+        let is_emptied = accept_record(&mut self.types, counted, line)?;
+        reset_if(&mut self.columns, is_emptied);
+        self.stage = with_records_left(left.saturating_sub(1), counted);
+        Ok(())
+    }
+
+    /// Takes a line where an epoch or an event may begin; `true` says that it is an event's, which is copied into RINEX as it is.
+    ///
+    /// `BadEpoch` comes where an event's count is none; then the refusals of [`Columns::begin`].
+    #[inline(never)]
+    fn begin(&mut self, line: &[u8]) -> Result<bool, Fault>
+        requires idle { is_idle self.old.columns.state ≡ true }
+        requires short { length line.now ≤ LINE_LIMIT }
+        ensures takes { (choices : Choices) (number : ℕ) (stage : Stage) → IfOk result (TakesOtherLine
+            (compact_begins self.old.types (tail_held self.old.columns.state) (Content line.now)) line.now
+            (seen_in choices number self.old stage) (compact_reader_state choices number self.new)) }
+        ensures refuses { IfErr result (λ fault.
+            RefusesCompactLine self.old.types (tail_held self.old.columns.state)
+            (compact_begins self.old.types (tail_held self.old.columns.state) (Content line.now))
+            BetweenUnits line.now fault) }
+        ensures types { OnErr result (self.new.types ≡ self.old.types) }
+    {
+        if is_event_line(line) {
+            let count = records_announced(line)?;
+            self.stage = with_records_left(count, counts_types(line));
+            return Ok(true);
+        }
+        self.columns.begin(&self.types, line)?;
+        self.stage = Stage::Open;
+        Ok(false)
+    }
+
+    /// Takes the memory of lines that have been written back, where no epoch is open: see [`Columns::take_room`].
+    pub(crate) fn take_room(&mut self, lines: &mut ExpandedLines)
+        requires between { self.old.stage ≢ Open }
+        requires drained { lines.old ≡ [] }
+        ensures drained { lines.new ≡ [] }
+        ensures stage { self.new.stage ≡ self.old.stage }
+        ensures types { self.new.types ≡ self.old.types }
+        ensures columns { self.new.columns.state ≡ self.old.columns.state }
+    {
+        self.columns.take_room(lines);
+    }
+
     /// Takes a line of the epoch that is open. `true` says that it is the last one, and that the lines of the epoch are ready.
     ///
     /// The refusals are those of [`Columns::feed_into`].

@@ -74,6 +74,10 @@ impl Direction for Expansion {
     }
 
     fn take(&mut self, _options: &Options, line: &[u8]) -> Result<bool, Fault> {
+        // The line may begin an epoch: one block of memory serves for the printed lines of all.
+        if let Stage::Between | Stage::Looking = self.reader.stage {
+            self.reader.take_room(&mut self.lines);
+        }
         let is_copied = self.reader.read_between(line)?;
         if is_copied {
             self.lines.copy(line);
