@@ -142,6 +142,25 @@ pub fn take_line<E: Engine, W: Sink, M: Sink>(
             Err(_) => Err(Halt::Unwritten),
         };
     }
+    take_other(engine, writer, messages, line)
+}
+
+/// Does what an engine answered to a line after which more is to be done than to write what is ready. In [`take_line`] the places for the
+/// answer and the line would be cleared for each line.
+#[inline(never)]
+fn take_other<E: Engine, W: Sink, M: Sink>(
+    engine: &mut E,
+    writer: &mut W,
+    messages: &mut M,
+    line: Line<'_>,
+) -> Result<bool, Halt>
+    requires { (before : E) × MayTake E.Engine before (line_number line)
+        × HasAnswered E.Engine before engine.old (λ l. l ≡ line_shown line) (E.answer engine.old) }
+    ensures { (before : E)
+        → HasAnswered E.Engine before engine.old (λ l. l ≡ line_shown line.entry) (E.answer engine.old)
+        → LineIsTaken E.Engine before engine.new (λ l. l ≡ line_shown line.entry)
+        (span W.Sink writer.old writer.new) (span M.Sink messages.old messages.new) result }
+{
     let answer = engine.answer();
     take_answered(engine, writer, messages, Taken::Line(line), answer)
 }

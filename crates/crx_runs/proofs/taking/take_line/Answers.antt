@@ -33,13 +33,12 @@ answered g c answer is =
           (e.answers lines notices shown (subst (IsAwaited notices) same awaited));
     })
 
-pub take_answered-requires : goal.take_answered-requires
-take_answered-requires g c = (
+pub take_other-requires : goal.take_other-requires
+take_other-requires g c = (
   c.args.engine.now,
   c.requires.may_take,
-  answered g (goal.at.take_answered-requires g c).After-take c.answer-answer.result
-      (ap (λ (b : Bool). answer_given b (g.E.Engine.answer c.take.new.self)) c.if-take.false
-      ∙ sym c.answer-answer.ensures.value),
+  answered g (goal.at.take_other-requires g c).After-take (g.E.Engine.answer c.take.new.self)
+      (ap (λ (b : Bool). answer_given b (g.E.Engine.answer c.take.new.self)) c.if-take.false),
 )
 
 pub returns-then-take : goal.returns-then-take
@@ -72,10 +71,9 @@ returns-then-take g c =
 
 pub returns : goal.returns
 returns g c = record {
-  taken = c.take_answered.ensures c.args.engine.now
-      (answered g (goal.at.returns g c).After-take c.answer-answer.result
-      (ap (λ (b : Bool). answer_given b (g.E.Engine.answer c.take.new.self)) c.if-take.false
-      ∙ sym c.answer-answer.ensures.value));
+  taken = c.take_other.ensures c.args.engine.now
+      (answered g (goal.at.returns g c).After-take (g.E.Engine.answer c.take.new.self)
+      (ap (λ (b : Bool). answer_given b (g.E.Engine.answer c.take.new.self)) c.if-take.false));
 }
 
 pub returns-in-Err : goal.returns-in-Err
