@@ -1,51 +1,39 @@
 -- Sums of weighted numbers, and differences as such sums.
 use Rattle.std.specs.Prelude.{◌≡◌, refl, ℕ, zero, suc, ◌+◌, ℤ, pos, neg_ℤ, ◌+ℤ◌, ◌-ℤ◌, ◌*ℤ◌, List, [], ◌∷◌}
-use Rattle.std.proofs.Common.{sym, ◌∙◌, ap, arith}
-use lib.IntN.{suc_ℤ, pred_ℤ, ℤ_ind, +ℤ_one, -ℤ_one, +ℤ-suc_ℤ, +ℤ-pred_ℤ, suc_ℤ-*ℤ, pred_ℤ-*ℤ, +ℤ_idr, +ℤ_invl}
+use Rattle.std.proofs.Common.{◌∙◌, ap, arith, rules}
+use lib.IntN.{ℤ_ind, +ℤ_one, -ℤ_one, +ℤ-suc_ℤ, +ℤ-pred_ℤ, suc_ℤ-*ℤ, pred_ℤ-*ℤ, +ℤ_idr}
 use lib.IntN.{zero-*ℤ}
 use Rattle.std.proofs.lemmas.Int.{ints}
 use Rattle.crx_compact.specs.meaning.Differences.{binomial, alternating, weighted, difference}
+use Rattle.std.proofs.lemmas.Grind.{common_steps}
 
 -- ---- weighted sums
 
 pub weighted-same : (v w : ℕ → ℤ) → ((i : ℕ) → v i ≡ w i) → (xs : List ℤ) → weighted v xs ≡ weighted w xs
 weighted-same v w same [] = refl
-weighted-same v w same (x ∷ xs) =
-    ap (λ n. (n *ℤ x) +ℤ weighted (λ i. v (suc i)) xs) (same zero)
-    ∙ ap (λ n. (w zero *ℤ x) +ℤ n) (weighted-same (λ i. v (suc i)) (λ i. w (suc i)) (λ i. same (suc i)) xs)
+weighted-same v w same (x ∷ xs) = search rules
 
 -- one more on the second summand, and one less
 mul-add_up : (a b x : ℤ) → (a +ℤ b) *ℤ x ≡ (a *ℤ x) +ℤ (b *ℤ x)
     → (a +ℤ (b +ℤ pos 1)) *ℤ x ≡ (a *ℤ x) +ℤ ((b +ℤ pos 1) *ℤ x)
 mul-add_up a b x h =
-    let more : a +ℤ (b +ℤ pos 1) ≡ suc_ℤ (a +ℤ b) = ap (λ n. a +ℤ n) (+ℤ_one b) ∙ +ℤ-suc_ℤ a b in
-    let left : (a +ℤ (b +ℤ pos 1)) *ℤ x ≡ ((a +ℤ b) *ℤ x) +ℤ x = ap (λ n. n *ℤ x) more ∙ suc_ℤ-*ℤ (a +ℤ b) x
-    in
-    let right : (b +ℤ pos 1) *ℤ x ≡ (b *ℤ x) +ℤ x = ap (λ n. n *ℤ x) (+ℤ_one b) ∙ suc_ℤ-*ℤ b x in
-    omega (arith, ints, left, right, h)
+    let more = ap (λ n. a +ℤ n) (+ℤ_one b) ∙ +ℤ-suc_ℤ a b in
+    let first = ap (λ n. n *ℤ x) more ∙ suc_ℤ-*ℤ (a +ℤ b) x in
+    omega (arith, ints, ap (λ n. n *ℤ x) (+ℤ_one b) ∙ suc_ℤ-*ℤ b x, h)
 
 mul-add_down : (a b x : ℤ) → (a +ℤ b) *ℤ x ≡ (a *ℤ x) +ℤ (b *ℤ x)
     → (a +ℤ (b +ℤ neg_ℤ (pos 1))) *ℤ x ≡ (a *ℤ x) +ℤ ((b +ℤ neg_ℤ (pos 1)) *ℤ x)
 mul-add_down a b x h =
-    let less : a +ℤ (b +ℤ neg_ℤ (pos 1)) ≡ pred_ℤ (a +ℤ b) = ap (λ n. a +ℤ n) (-ℤ_one b) ∙ +ℤ-pred_ℤ a b in
-    let left : (a +ℤ (b +ℤ neg_ℤ (pos 1))) *ℤ x ≡ ((a +ℤ b) *ℤ x) -ℤ x = ap (λ n. n *ℤ x) less
-    ∙ pred_ℤ-*ℤ (a +ℤ b) x in
-    let right : (b +ℤ neg_ℤ (pos 1)) *ℤ x ≡ (b *ℤ x) -ℤ x = ap (λ n. n *ℤ x) (-ℤ_one b) ∙ pred_ℤ-*ℤ b x in
-    omega (arith, ints, left, right, h)
+    let less = ap (λ n. a +ℤ n) (-ℤ_one b) ∙ +ℤ-pred_ℤ a b in
+    let first = ap (λ n. n *ℤ x) less ∙ pred_ℤ-*ℤ (a +ℤ b) x in
+    omega (arith, ints, ap (λ n. n *ℤ x) (-ℤ_one b) ∙ pred_ℤ-*ℤ b x, h)
 
 pub mul-add : (a b x : ℤ) → (a +ℤ b) *ℤ x ≡ (a *ℤ x) +ℤ (b *ℤ x)
-mul-add a b x =
-    ℤ_ind (λ n. (a +ℤ n) *ℤ x ≡ (a *ℤ x) +ℤ (n *ℤ x))
-    (ap (λ n. n *ℤ x) (+ℤ_idr a) ∙ sym (ap (λ n. (a *ℤ x) +ℤ n) (zero-*ℤ x) ∙ +ℤ_idr (a *ℤ x)))
-    (λ n h. mul-add_up a (pos n) x h)
-    (λ n h. mul-add_down a (neg_ℤ (pos n)) x h)
-    b
+mul-add a b x = ℤ_ind (λ n. (a +ℤ n) *ℤ x ≡ (a *ℤ x) +ℤ (n *ℤ x)) (cc (+ℤ_idr a, zero-*ℤ x, +ℤ_idr (a *ℤ x)))
+    (λ n h. mul-add_up a (pos n) x h) (λ n h. mul-add_down a (neg_ℤ (pos n)) x h) b
 
 pub mul-neg : (a x : ℤ) → neg_ℤ a *ℤ x ≡ neg_ℤ (a *ℤ x)
-mul-neg a x =
-    let both : (neg_ℤ a *ℤ x) +ℤ (a *ℤ x) ≡ pos 0 = sym (mul-add (neg_ℤ a) a x)
-    ∙ ap (λ n. n *ℤ x) (+ℤ_invl a) ∙ zero-*ℤ x in
-    omega (arith, ints, both)
+mul-neg a x = search rules
 
 four : (a b c d : ℤ) → (a +ℤ b) +ℤ (c +ℤ d) ≡ (a +ℤ c) +ℤ (b +ℤ d)
 four a b c d = omega (arith, ints)
@@ -54,17 +42,15 @@ pub weighted-add : (v w : ℕ → ℤ) (xs : List ℤ)
     → weighted (λ i. v i +ℤ w i) xs ≡ weighted v xs +ℤ weighted w xs
 weighted-add v w [] = refl
 weighted-add v w (x ∷ xs) =
-    ap (λ n. ((v zero +ℤ w zero) *ℤ x) +ℤ n) (weighted-add (λ i. v (suc i)) (λ i. w (suc i)) xs)
-    ∙ ap (λ n. n +ℤ (weighted (λ i. v (suc i)) xs +ℤ weighted (λ i. w (suc i)) xs))
-    (mul-add (v zero) (w zero) x)
-    ∙ four (v zero *ℤ x) (w zero *ℤ x) (weighted (λ i. v (suc i)) xs) (weighted (λ i. w (suc i)) xs)
+    let first =
+    four (v zero *ℤ x) (w zero *ℤ x) (weighted (λ i. v (suc i)) xs) (weighted (λ i. w (suc i)) xs) in
+    cc (weighted-add (λ i. v (suc i)) (λ i. w (suc i)) xs, mul-add (v zero) (w zero) x)
 
 pub weighted-neg : (w : ℕ → ℤ) (xs : List ℤ) → weighted (λ i. neg_ℤ (w i)) xs ≡ neg_ℤ (weighted w xs)
 weighted-neg w [] = refl
 weighted-neg w (x ∷ xs) =
-    ap (λ n. (neg_ℤ (w zero) *ℤ x) +ℤ n) (weighted-neg (λ i. w (suc i)) xs)
-    ∙ ap (λ n. n +ℤ neg_ℤ (weighted (λ i. w (suc i)) xs)) (mul-neg (w zero) x)
-    ∙ neg-sum (w zero *ℤ x) (weighted (λ i. w (suc i)) xs)
+    let first = neg-sum (w zero *ℤ x) (weighted (λ i. w (suc i)) xs) in
+    cc (weighted-neg (λ i. w (suc i)) xs, mul-neg (w zero) x)
   where
     neg-sum : (a b : ℤ) → neg_ℤ a +ℤ neg_ℤ b ≡ neg_ℤ (a +ℤ b)
     neg-sum a b = omega (arith, ints)
@@ -72,9 +58,8 @@ weighted-neg w (x ∷ xs) =
 pub weighted-zero : (w : ℕ → ℤ) → ((i : ℕ) → w i ≡ pos 0) → (xs : List ℤ) → weighted w xs ≡ pos 0
 weighted-zero w none [] = refl
 weighted-zero w none (x ∷ xs) =
-    let head : w zero *ℤ x ≡ pos 0 = ap (λ n. n *ℤ x) (none zero) ∙ zero-mul x in
-    ap (λ n. n +ℤ weighted (λ i. w (suc i)) xs) head
-    ∙ ap (λ n. pos 0 +ℤ n) (weighted-zero (λ i. w (suc i)) (λ i. none (suc i)) xs)
+    let head = ap (λ n. n *ℤ x) (none zero) ∙ zero-mul x in
+    cc (head, weighted-zero (λ i. w (suc i)) (λ i. none (suc i)) xs)
   where
     zero-mul : (x : ℤ) → pos 0 *ℤ x ≡ pos 0
     zero-mul x = omega (arith, ints)
@@ -114,21 +99,14 @@ pub difference-suc : (k : ℕ) (x : ℤ) (xs : List ℤ)
     → difference (suc k) (x ∷ xs) ≡ difference k (x ∷ xs) -ℤ difference k xs
 unfolding weight_of
 difference-suc k x xs =
-    ap (λ n. (pos 1 *ℤ x) +ℤ n) (
-    weighted-same (λ i. alternating (suc i) (pos (binomial (suc k) (suc i))))
-    (λ i. weight_of k (suc i) +ℤ neg_ℤ (weight_of k i)) (next_weight k) xs
-    ∙ weighted-add (λ i. weight_of k (suc i)) (λ i. neg_ℤ (weight_of k i)) xs
-    ∙ ap (λ n. weighted (λ i. weight_of k (suc i)) xs +ℤ n) (weighted-neg (weight_of k) xs))
-    ∙ regroup (pos 1 *ℤ x) (weighted (λ i. weight_of k (suc i)) xs) (weighted (weight_of k) xs)
+    let first = weighted-same (λ i. alternating (suc i) (pos (binomial (suc k) (suc i))))
+    (λ i. weight_of k (suc i) +ℤ neg_ℤ (weight_of k i)) (next_weight k) xs in
+    let second = regroup (pos 1 *ℤ x) (weighted (λ i. weight_of k (suc i)) xs) (weighted (weight_of k) xs) in
+    let third = weighted-add (λ i. weight_of k (suc i)) (λ i. neg_ℤ (weight_of k i)) xs in
+    cc (weighted-neg (weight_of k) xs)
   where
     regroup : (a b c : ℤ) → a +ℤ (b +ℤ neg_ℤ c) ≡ (a +ℤ b) -ℤ c
     regroup a b c = omega (arith, ints)
 
 pub difference-zero : (x : ℤ) (xs : List ℤ) → difference 0 (x ∷ xs) ≡ x
-difference-zero x xs =
-    ap (λ n. (pos 1 *ℤ x) +ℤ n)
-    (weighted-zero (λ i. alternating (suc i) (pos 0)) (λ i. alternating-zero (suc i)) xs)
-    ∙ one (x)
-  where
-    one : (x : ℤ) → (pos 1 *ℤ x) +ℤ pos 0 ≡ x
-    one x = omega (arith, ints)
+difference-zero x xs = grind (arith, common_steps, weighted-zero, alternating-zero)

@@ -1,5 +1,5 @@
 -- One entry of the map gets another value.
-use Rattle.std.proofs.Common.{◌≡◌, ℕ, zero, suc, ◌<◌, ◌≤◌, List, [], ◌∷◌, length, map}
+use Rattle.std.proofs.Common.{◌≡◌, ℕ, zero, suc, ◌<◌, ◌≤◌, List, [], ◌∷◌, length}
 use Rattle.std.proofs.Common.{set, slice_get, Some, refl, ap, sym, ◌∙◌, inl, inr, arith}
 use Rattle.std.proofs.Common.{length-set, subst, Bool, true, false, IsTrue, ◌↔◌}
 use Rattle.std.specs.Cmp.{IsEquivalence}

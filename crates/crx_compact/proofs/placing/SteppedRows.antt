@@ -1,6 +1,6 @@
 -- What is stored of one satellite among those that have come changes: its row, and no other one.
 use Rattle.std.proofs.Common.{◌≡◌, ℕ, zero, suc, ◌-◌, ◌<◌, ◌≤◌, List, [], ◌∷◌, ◌++◌, length, map, take}
-use Rattle.std.proofs.Common.{slice_get, drop, ◌+◌}
+use Rattle.std.proofs.Common.{slice_get, drop}
 use Rattle.std.proofs.Common.{Option, Some, None, option_map, refl, ap, sym, ◌∙◌}
 use Rattle.std.proofs.Common.{arith, slice_set, slice_index_or}
 use Rattle.std.specs.Prelude.{flat_map}
