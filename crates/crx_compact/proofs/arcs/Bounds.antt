@@ -1,7 +1,6 @@
 -- Differences of values within their columns are numbers that a code can hold.
 use Rattle.std.specs.Prelude.{◌↔◌, ◌≡◌, ℕ, zero, suc, ◌+◌, ◌-◌, ◌^◌, ◌<◌, ◌≤◌, min, true, ℤ, pos, negsuc}
-use Rattle.std.specs.Prelude.{neg_ℤ, ◌-ℤ◌}
-use Rattle.std.specs.Prelude.{◌≤ℤ◌, List, [], ◌∷◌, length}
+use Rattle.std.specs.Prelude.{neg_ℤ, ◌-ℤ◌, ◌≤ℤ◌, List, [], ◌∷◌, length}
 use Rattle.std.specs.List.{AllByRecursion}
 use Rattle.std.proofs.Common.{sym, subst, arith}
 use Rattle.std.proofs.lemmas.Int.{ints}
@@ -12,6 +11,7 @@ use Rattle.crx_text.specs.Codes.{IsShort, IsPrintable}
 use Rattle.crx_compact.specs.meaning.Differences.{difference, code_at}
 use Rattle.crx_compact.specs.meaning.ArcValues.{is_within}
 use Rattle.crx_compact.proofs.arcs.Weights.{difference-suc, difference-zero}
+use Rattle.std.proofs.lemmas.Grind.{common_steps}
 
 -- a number is at most so far from 0
 pub record IsNear (bound : ℕ) (z : ℤ) : Type 0 where
@@ -43,20 +43,15 @@ pub difference-near : (k b : ℕ) (xs : List ℤ) → AllByRecursion (IsNear b) 
 difference-near zero b [] h = near-zero b
 difference-near zero b (x ∷ xs) h = near-along b x (difference 0 (x ∷ xs)) (sym (difference-zero x xs)) h.0
 difference-near (suc k) b [] h = near-zero (doubled k b + doubled k b)
-difference-near (suc k) b (x ∷ xs) h =
-    near-along (doubled k b + doubled k b)
-    (difference k (x ∷ xs) -ℤ difference k xs) (difference (suc k) (x ∷ xs)) (sym (difference-suc k x xs))
-    (near-sub (doubled k b) (difference k (x ∷ xs))
-    (difference k xs) (difference-near k b (x ∷ xs) h) (difference-near k b xs h.1))
+difference-near (suc k) b (x ∷ xs) h = near-along _
+    (difference k (x ∷ xs) -ℤ difference k xs) _ (sym (difference-suc k x xs)) (near-sub (doubled k b)
+    (difference k (x ∷ xs)) (difference k xs) (difference-near k b (x ∷ xs) h) (difference-near k b xs h.1))
 
 pub doubled-more : (k n b : ℕ) → k ≤ n → doubled k b ≤ doubled n b
 doubled-more zero zero b h = omega arith
-doubled-more zero (suc n) b h = let le : b ≤ doubled n b = doubled-more zero n b (omega arith)
-    in omega (arith, le)
+doubled-more zero (suc n) b h = omega (arith, doubled-more zero n b (omega arith))
 doubled-more (suc k) zero b h = absurd (omega (arith, h))
-doubled-more (suc k) (suc n) b h = let le : doubled k b ≤ doubled n b = doubled-more k n b (omega (arith, h))
-    in
-    omega (arith, le)
+doubled-more (suc k) (suc n) b h = omega (arith, doubled-more k n b (omega (arith, h)))
 
 short : (b : ℕ) (z : ℤ) → b < 10 ^ DIGITS_LIMIT → IsNear b z → IsShort z
 short b (pos n) h k = omega (arith, ints, h, k.high)
@@ -67,24 +62,19 @@ pub code-printable : (b : ℕ) (xs : List ℤ) → doubled WRITTEN_ORDER b < 10 
     → AllByRecursion (IsNear b) xs → IsPrintable (code_at WRITTEN_ORDER xs)
 code-printable b [] h k = tt
 code-printable b (x ∷ []) h k =
-    let le : b ≤ doubled WRITTEN_ORDER b = doubled-more 0 WRITTEN_ORDER b (omega arith) in
-    (omega arith, short b x (omega (arith, h, le)) k.0)
+    (omega arith, short b x (omega (arith, h, doubled-more 0 WRITTEN_ORDER b (omega arith))) k.0)
 code-printable b (x ∷ y ∷ ys) h k =
-    let order : ℕ = min (length (y ∷ ys)) WRITTEN_ORDER in
-    let le : doubled (min (length (y ∷ ys)) WRITTEN_ORDER) b ≤ doubled WRITTEN_ORDER b =
-    doubled-more (min (length (y ∷ ys)) WRITTEN_ORDER) WRITTEN_ORDER b (omega arith) in
-    short (doubled WRITTEN_ORDER b) (difference order (x ∷ y ∷ ys)) h
-    (near-more (doubled order b) (doubled WRITTEN_ORDER b)
-    (difference order (x ∷ y ∷ ys)) le (difference-near order b (x ∷ y ∷ ys) k))
+    let order = min (length (y ∷ ys)) WRITTEN_ORDER in
+    short _ (difference order (x ∷ y ∷ ys)) h (near-more (doubled order b) (doubled WRITTEN_ORDER b)
+    (difference order (x ∷ y ∷ ys)) (doubled-more (min (length (y ∷ ys)) WRITTEN_ORDER) WRITTEN_ORDER b
+    (omega arith)) (difference-near order b (x ∷ y ∷ ys) k))
 
 pub ten-more : (a b : ℕ) → a ≤ b → 10 ^ a ≤ 10 ^ b
 ten-more a b h = pow-le-pow_right (omega arith) h
 
 -- a value within its columns
 pub near-within : (width : ℕ) (z : ℤ) → IsWithin width z → IsNear (10 ^ (width - 1)) z
-near-within width z h =
-    let more : 10 ^ (width - 2) ≤ 10 ^ (width - 1) = ten-more (width - 2) (width - 1) (omega arith) in
-    record { low = omega (arith, ints, h.low, more); high = omega (arith, ints, h.high) }
+near-within width z h = grind (arith, common_steps, ten-more)
 
 -- the test of a value's columns and the fact
 pub within-is : (width : ℕ) (z : ℤ) → (is_within width z ≡ true) ↔ IsWithin width z

@@ -1,16 +1,16 @@
 -- From the codes of an arc come its values: an induction on the order and on the arc, by one recurrence of
 -- the sums.
 use Rattle.std.specs.Prelude.{◌≡◌, refl, ℕ, zero, suc, ◌+◌, ◌-◌, ◌<◌, ◌≤◌, min, ℤ, pos, ◌+ℤ◌, ◌-ℤ◌, ◌*ℤ◌}
-use Rattle.std.specs.Prelude.{List, [], ◌∷◌}
-use Rattle.std.specs.Prelude.{◌++◌, length, take, reverse, Option, Some}
+use Rattle.std.specs.Prelude.{List, [], ◌∷◌, ◌++◌, length, take, reverse, Option, Some}
 use Rattle.std.specs.Option.{option_map}
-use Rattle.std.proofs.Common.{sym, ◌∙◌, ap, subst, arith, le_of_suc-le-suc, not-suc-le-zero}
+use Rattle.std.proofs.Common.{sym, ◌∙◌, ap, subst, arith, le_of_suc-le-suc, not-suc-le-zero, rules}
 use Rattle.std.proofs.lemmas.Int.{ints}
 use Rattle.std.proofs.lemmas.List.{reverse-append, take-append-le, length-append, length-reverse}
 use Rattle.crx_compact.specs.meaning.Differences.{binomial, weighted, difference, value_at}
 use Rattle.crx_compact.specs.meaning.ArcValues.{Started, since_start, onto_started}
 use Rattle.crx_compact.specs.ArcLaws.{codes_of_arc, Inverts}
 use Rattle.crx_compact.proofs.arcs.Weights.{weighted-same, weighted-add, difference-suc, difference-zero}
+use Rattle.std.proofs.lemmas.Grind.{common_steps}
 
 -- the first differences of an arc, newest first
 abbrev pub steps : List ℤ → List ℤ
@@ -45,19 +45,14 @@ length-steps x (y ∷ ys) = ap suc (length-steps y ys)
 
 pub difference-steps : (k : ℕ) (x y : ℤ) (ys : List ℤ)
     → k ≤ length ys → difference (suc k) (x ∷ y ∷ ys) ≡ difference k (steps (x ∷ y ∷ ys))
-difference-steps zero x y ys h =
-    let all : difference 1 (x ∷ y ∷ ys) ≡ difference 0 (x ∷ y ∷ ys) -ℤ difference 0 (y ∷ ys) =
-    difference-suc 0 x (y ∷ ys) in
-    let one : difference 0 (x ∷ y ∷ ys) ≡ x = difference-zero x (y ∷ ys) in
-    let two : difference 0 (y ∷ ys) ≡ y = difference-zero y ys in
-    let last : difference 0 (steps (x ∷ y ∷ ys)) ≡ x -ℤ y = difference-zero (x -ℤ y) (steps (y ∷ ys)) in
-    all ∙ ap (λ n. n -ℤ difference 0 (y ∷ ys)) one ∙ ap (λ n. x -ℤ n) two ∙ sym last
+difference-steps zero x y ys h = difference-suc 0 x (y ∷ ys)
+    ∙ ap (λ n. n -ℤ difference 0 (y ∷ ys)) (difference-zero x (y ∷ ys))
+    ∙ ap (λ n. x -ℤ n) (difference-zero y ys) ∙ sym (difference-zero (x -ℤ y) (steps (y ∷ ys)))
 difference-steps (suc k) x y [] h = absurd (not-suc-le-zero h)
 difference-steps (suc k) x y (z ∷ zs) h =
-    difference-suc (suc k) x (y ∷ z ∷ zs)
-    ∙ ap (λ n. n -ℤ difference (suc k) (y ∷ z ∷ zs)) (difference-steps k x y (z ∷ zs) (omega (arith, h)))
-    ∙ ap (λ n. difference k (steps (x ∷ y ∷ z ∷ zs)) -ℤ n) (difference-steps k y z zs (le_of_suc-le-suc h))
-    ∙ sym (difference-suc k (x -ℤ y) (steps (y ∷ z ∷ zs)))
+    let first = difference-steps k x y (z ∷ zs) (omega (arith, h)) in
+    let second = difference-steps k y z zs (le_of_suc-le-suc h) in
+    cc (difference-suc (suc k) x (y ∷ z ∷ zs), difference-suc k (x -ℤ y) (steps (y ∷ z ∷ zs)))
 
 -- the numbers but the oldest are those of the steps, of the order below
 pub numbers-steps : (n : ℕ) (xs : List ℤ) → without_oldest (numbers_of (suc n) xs) ≡ numbers_of n (steps xs)
@@ -65,15 +60,11 @@ numbers-steps n [] = refl
 numbers-steps n (x ∷ []) = refl
 numbers-steps n (x ∷ y ∷ ys) =
     let order : min (length (y ∷ ys)) (suc n) ≡ suc (min (length ys) n) = omega arith in
-    let same : min (length (steps (y ∷ ys))) n ≡ min (length ys) n = ap (λ m. min m n) (length-steps y ys) in
-    let head : difference (min (length (y ∷ ys)) (suc n)) (x ∷ y ∷ ys)
-    ≡ difference (min (length (steps (y ∷ ys))) n) (steps (x ∷ y ∷ ys)) =
-    ap (λ k. difference k (x ∷ y ∷ ys)) order
-    ∙ difference-steps (min (length ys) n) x y ys (omega arith)
-    ∙ ap (λ k. difference k (steps (x ∷ y ∷ ys))) (sym same) in
-    ap (λ d. d ∷ without_oldest (numbers_of (suc n) (y ∷ ys))) head
-    ∙ ap (λ r. difference (min (length (steps (y ∷ ys))) n) (steps (x ∷ y ∷ ys)) ∷ r)
-    (numbers-steps n (y ∷ ys))
+    let same = ap (λ m. min m n) (length-steps y ys) in
+    ap (λ d. d ∷ without_oldest (numbers_of (suc n) (y ∷ ys)))
+    (ap (λ k. difference k (x ∷ y ∷ ys)) order ∙ difference-steps (min (length ys) n) x y ys (omega arith)
+    ∙ ap (λ k. difference k (steps (x ∷ y ∷ ys))) (sym same)) ∙
+    ap (λ r. difference (min (length (steps (y ∷ ys))) n) (steps (x ∷ y ∷ ys)) ∷ r) (numbers-steps n (y ∷ ys))
 
 -- ---- the recurrence of the values
 
@@ -85,14 +76,11 @@ take-nil (suc n) = refl
 last-without_weight : (w : ℕ → ℤ) (n : ℕ) (r : List ℤ) (x : ℤ)
     → w (length r) ≡ pos 0 → weighted w (take n (r ++ x ∷ [])) ≡ weighted w (take n r)
 last-without_weight w zero r x h = refl
-last-without_weight w (suc n) [] x h =
-    let none : weighted w (x ∷ take n []) ≡ weighted w (x ∷ []) = ap (λ r. weighted w (x ∷ r)) (take-nil n) in
-    none ∙ ap (λ v. (v *ℤ x) +ℤ pos 0) h ∙ zero_times x
+last-without_weight w (suc n) [] x h = grind (arith, common_steps, take-nil, zero_times)
   where
     zero_times : (x : ℤ) → (pos 0 *ℤ x) +ℤ pos 0 ≡ pos 0
     zero_times x = omega (arith, ints)
-last-without_weight w (suc n) (y ∷ r) x h =
-    ap (λ v. (w zero *ℤ y) +ℤ v) (last-without_weight (λ i. w (suc i)) n r x h)
+last-without_weight w (suc n) (y ∷ r) x h = cc (last-without_weight (λ i. w (suc i)) n r x h)
 
 pos-add : (m n : ℕ) → pos (m + n) ≡ pos m +ℤ pos n
 pos-add m n = omega (arith, ints)
@@ -101,9 +89,7 @@ pub binomial-past : (n i : ℕ) → n < i → binomial n i ≡ 0
 binomial-past n zero h = absurd (not-suc-le-zero h)
 binomial-past zero (suc i) h = refl
 binomial-past (suc n) (suc i) h =
-    let a : binomial n i ≡ 0 = binomial-past n i (le_of_suc-le-suc h) in
-    let b : binomial n (suc i) ≡ 0 = binomial-past n (suc i) (omega (arith, h)) in
-    omega (arith, a, b)
+    omega (arith, binomial-past n i (le_of_suc-le-suc h), binomial-past n (suc i) (omega (arith, h)))
 
 -- the two sums of a value: over the first numbers, oldest first, and over the later ones, newest first
 abbrev firsts : ℕ → ℕ → List ℤ → ℤ
@@ -112,11 +98,9 @@ firsts u count numbers = weighted (λ k. pos (binomial u k)) (take count numbers
 abbrev laters : ℕ → ℕ → List ℤ → ℤ
 laters m count numbers = weighted (λ i. pos (binomial (i + m) m)) (take count numbers)
 
-value_parts : (m : ℕ) (c : List ℤ) (u d : ℕ) (o : List ℤ) → length c - 1 ≡ u → length c - suc m ≡ d
-    → reverse c ≡ o
-    → value_at (suc m) c ≡ firsts u (suc m) o +ℤ laters m d c
-value_parts m c u d o eu ed eo =
-    ap (λ n. firsts n (suc m) (reverse c) +ℤ laters m (length c - suc m) c) eu
+value_parts : (m : ℕ) (c : List ℤ) (u d : ℕ) (o : List ℤ) → length c - 1 ≡ u
+    → length c - suc m ≡ d → reverse c ≡ o → value_at (suc m) c ≡ firsts u (suc m) o +ℤ laters m d c
+value_parts m c u d o eu ed eo = ap (λ n. firsts n (suc m) (reverse c) +ℤ laters m (length c - suc m) c) eu
     ∙ ap (λ n. firsts u (suc m) (reverse c) +ℤ laters m n c) ed
     ∙ ap (λ r. firsts u (suc m) r +ℤ laters m d c) eo
 
@@ -125,32 +109,23 @@ laters-step : (m d : ℕ) (x : ℤ) (c : List ℤ)
     → laters (suc m) d (x ∷ c) ≡ laters (suc m) (d - 1) c +ℤ laters m d (x ∷ c)
 laters-step m zero x c = refl
 laters-step m (suc e) x c =
-    let split : weighted (λ i. pos (binomial (i + suc m) (suc m))) (x ∷ take e c)
-    ≡ weighted (λ i. pos (binomial (i + m) m) +ℤ pos (binomial (i + m) (suc m))) (x ∷ take e c) =
-    weighted-same (λ i. pos (binomial (i + suc m) (suc m)))
-    (λ i. pos (binomial (i + m) m) +ℤ pos (binomial (i + m) (suc m))) (pascal m) (x ∷ take e c) in
-    let sum : weighted (λ i. pos (binomial (i + m) m) +ℤ pos (binomial (i + m) (suc m))) (x ∷ take e c)
-    ≡ laters m (suc e) (x ∷ c) +ℤ weighted (λ i. pos (binomial (i + m) (suc m))) (x ∷ take e c) =
-    weighted-add (λ i. pos (binomial (i + m) m)) (λ i. pos (binomial (i + m) (suc m))) (x ∷ take e c) in
-    let none : pos (binomial (0 + m) (suc m)) ≡ pos 0 = ap pos (binomial-past (0 + m) (suc m) (omega arith))
-    in
-    let shift : weighted (λ i. pos (binomial (suc i + m) (suc m))) (take e c) ≡ laters (suc m) e c =
-    weighted-same (λ i. pos (binomial (suc i + m) (suc m)))
+    let none = ap pos (binomial-past (0 + m) (suc m) (omega arith)) in
+    let shift = weighted-same (λ i. pos (binomial (suc i + m) (suc m)))
     (λ i. pos (binomial (i + suc m) (suc m))) (moved m) (take e c) in
-    let rest : weighted (λ i. pos (binomial (i + m) (suc m))) (x ∷ take e c) ≡ laters (suc m) e c =
-    ap (λ v. (v *ℤ x) +ℤ weighted (λ i. pos (binomial (suc i + m) (suc m))) (take e c)) none
-    ∙ ap (λ v. (pos 0 *ℤ x) +ℤ v) shift
-    ∙ zero_times x (laters (suc m) e c) in
+    let rest = ap (λ v. (v *ℤ x) +ℤ weighted (λ i. pos (binomial (suc i + m) (suc m))) (take e c)) none
+    ∙ ap (λ v. (pos 0 *ℤ x) +ℤ v) shift ∙ zero_times x (laters (suc m) e c) in
     let less : suc e - 1 ≡ e = omega arith in
-    split ∙ sum ∙ ap (λ v. laters m (suc e) (x ∷ c) +ℤ v) rest
-    ∙ turn (laters m (suc e) (x ∷ c)) (laters (suc m) e c)
+    weighted-same (λ i. pos (binomial (i + suc m) (suc m)))
+    (λ i. pos (binomial (i + m) m) +ℤ pos (binomial (i + m) (suc m))) (pascal m) (x ∷ take e c)
+    ∙ weighted-add (λ i. pos (binomial (i + m) m)) (λ i. pos (binomial (i + m) (suc m))) (x ∷ take e c)
+    ∙ ap (λ v. laters m (suc e) (x ∷ c) +ℤ v) rest ∙ turn (laters m (suc e) (x ∷ c)) (laters (suc m) e c)
     ∙ ap (λ n. laters (suc m) n c +ℤ laters m (suc e) (x ∷ c)) (sym less)
   where
     pascal : (m i : ℕ) → pos (binomial (i + suc m) (suc m)) ≡ pos (binomial (i + m) m) +ℤ pos
         (binomial (i + m) (suc m))
     pascal m i =
         let next : i + suc m ≡ suc (i + m) = omega arith in
-        ap (λ n. pos (binomial n (suc m))) next ∙ pos-add (binomial (i + m) m) (binomial (i + m) (suc m))
+        cc (next, pos-add (binomial (i + m) m) (binomial (i + m) (suc m)))
 
     moved : (m i : ℕ) → pos (binomial (suc i + m) (suc m)) ≡ pos (binomial (i + suc m) (suc m))
     moved m i =
@@ -168,22 +143,15 @@ laters-oldest : (m d : ℕ) (b : List ℤ) (z : ℤ) → d ≤ length b → late
 laters-oldest m d b z h = ap (weighted (λ i. pos (binomial (i + m) m))) (take-append-le d b (z ∷ []) h)
 
 -- one step of the first sum
-firsts-step : (n : ℕ) (z x : ℤ) (r : List ℤ)
-    → firsts (suc (length r)) (suc n) (z ∷ (r ++ x ∷ []))
+firsts-step : (n : ℕ) (z x : ℤ) (r : List ℤ) → firsts (suc (length r)) (suc n) (z ∷ (r ++ x ∷ []))
     ≡ firsts (length r) (suc n) (z ∷ r) +ℤ firsts (length r) n (r ++ x ∷ [])
 firsts-step n z x r =
     let w : ℕ → ℤ = λ k. pos (binomial (length r) k) in
     let w' : ℕ → ℤ = λ k. pos (binomial (length r) (suc k)) in
-    let split : weighted (λ k. pos (binomial (suc (length r)) (suc k))) (take n (r ++ x ∷ []))
-    ≡ weighted (λ k. w k +ℤ w' k) (take n (r ++ x ∷ [])) =
-    weighted-same (λ k. pos (binomial (suc (length r)) (suc k))) (λ k. w k +ℤ w' k)
-    (λ k. pos-add (binomial (length r) k) (binomial (length r) (suc k))) (take n (r ++ x ∷ [])) in
-    let sum : weighted (λ k. w k +ℤ w' k) (take n (r ++ x ∷ []))
-    ≡ weighted w (take n (r ++ x ∷ [])) +ℤ weighted w' (take n (r ++ x ∷ [])) =
-    weighted-add w w' (take n (r ++ x ∷ [])) in
-    let last : weighted w' (take n (r ++ x ∷ [])) ≡ weighted w' (take n r) =
-    last-without_weight w' n r x (ap pos (binomial-past (length r) (suc (length r)) (omega arith))) in
-    ap (λ v. (pos 1 *ℤ z) +ℤ v) (split ∙ sum ∙ ap (λ v. weighted w (take n (r ++ x ∷ [])) +ℤ v) last)
+    ap (λ v. (pos 1 *ℤ z) +ℤ v) ((weighted-same (λ k. pos (binomial (suc (length r)) (suc k))) (λ k.
+    w k +ℤ w' k) (λ k. pos-add (binomial (length r) k) (binomial (length r) (suc k))) (take n (r ++ x ∷ [])))
+    ∙ weighted-add w w' (take n (r ++ x ∷ [])) ∙ ap (λ v. weighted w (take n (r ++ x ∷ [])) +ℤ v)
+    (last-without_weight w' n r x (ap pos (binomial-past (length r) (suc (length r)) (omega arith)))))
     ∙ regroup (pos 1 *ℤ z) (weighted w (take n (r ++ x ∷ []))) (weighted w' (take n r))
   where
     regroup : (a b c : ℤ) → a +ℤ (b +ℤ c) ≡ (a +ℤ c) +ℤ b
@@ -204,60 +172,33 @@ length-last b z = length-append b (z ∷ []) ∙ (omega arith)
 pub value-recurs : (n : ℕ) (x : ℤ) (b : List ℤ) (z : ℤ)
     → value_at (suc n) (x ∷ (b ++ z ∷ [])) ≡ value_at (suc n) (b ++ z ∷ []) +ℤ value_at n (x ∷ b)
 value-recurs zero x b z =
-    let long : length (b ++ z ∷ []) ≡ suc (length b) = length-last b z in
-    let left : value_at 1 (x ∷ (b ++ z ∷ []))
-    ≡ firsts (suc (length b)) 1 (z ∷ reverse (x ∷ b)) +ℤ laters 0 (suc (length b)) (x ∷ (b ++ z ∷ [])) =
-    value_parts 0 (x ∷ (b ++ z ∷ [])) (suc (length b))
-    (suc (length b)) (z ∷ reverse (x ∷ b)) (omega (arith, long)) (omega (arith, long))
-    (reverse-last (x ∷ b) z) in
-    let right : value_at 1 (b ++ z ∷ []) ≡ firsts (length b) 1 (z ∷ reverse b) +ℤ laters 0 (length b)
-    (b ++ z ∷ []) =
-    value_parts 0 (b ++ z ∷ []) (length b)
-    (length b) (z ∷ reverse b) (omega (arith, long)) (omega (arith, long)) (reverse-last b z) in
-    left ∙ regroup (pos 1 *ℤ z) x (laters 0 (length b) (b ++ z ∷ [])) ∙ ap (λ v. v +ℤ x) (sym right)
+    let long = length-last b z in
+    value_parts 0 (x ∷ (b ++ z ∷ [])) (suc (length b)) (suc (length b))
+    (z ∷ reverse (x ∷ b)) (omega (arith, long)) (omega (arith, long)) (reverse-last (x ∷ b) z) ∙ regroup
+    (pos 1 *ℤ z) x (laters 0 (length b) (b ++ z ∷ [])) ∙ ap (λ v. v +ℤ x) (sym (value_parts 0 (b ++ z ∷ [])
+    (length b) (length b) (z ∷ reverse b) (omega (arith, long)) (omega (arith, long)) (reverse-last b z)))
   where
     regroup : (a x c : ℤ) → (a +ℤ pos 0) +ℤ ((pos 1 *ℤ x) +ℤ c) ≡ ((a +ℤ pos 0) +ℤ c) +ℤ x
     regroup a x c = omega (arith, ints)
 value-recurs (suc m) x b z =
-    let long : length (b ++ z ∷ []) ≡ suc (length b) = length-last b z in
-    let r : List ℤ = reverse b in
-    let same : length b ≡ length (reverse b) = sym (length-reverse b) in
-    let turned : reverse (x ∷ (b ++ z ∷ [])) ≡ z ∷ (reverse b ++ x ∷ []) = reverse-last (x ∷ b) z
-    ∙ ap (λ q. z ∷ q) (reverse-first x b) in
-    let left : value_at (suc (suc m)) (x ∷ (b ++ z ∷ []))
-    ≡ firsts (suc (length (reverse b)))
-    (suc (suc m)) (z ∷ (reverse b ++ x ∷ [])) +ℤ laters (suc m) (length b - m) (x ∷ (b ++ z ∷ [])) =
-    value_parts (suc m) (x ∷ (b ++ z ∷ [])) (suc (length (reverse b)))
-    (length b - m) (z ∷ (reverse b ++ x ∷ [])) (omega (arith, long, same)) (omega (arith, long)) turned in
-    let right : value_at (suc (suc m)) (b ++ z ∷ [])
-    ≡ firsts (length (reverse b)) (suc (suc m)) (z ∷ reverse b) +ℤ laters (suc m) (length b - m - 1)
-    (b ++ z ∷ []) =
-    value_parts (suc m) (b ++ z ∷ []) (length (reverse b))
+    let long = length-last b z in
+    let same = sym (length-reverse b) in
+    let left = value_parts
+    (suc m) (x ∷ (b ++ z ∷ [])) (suc (length (reverse b))) (length b - m) _ (omega (arith, long, same))
+    (omega (arith, long)) (reverse-last (x ∷ b) z ∙ ap (λ q. z ∷ q) (reverse-first x b)) in
+    let right = value_parts (suc m) (b ++ z ∷ []) (length (reverse b))
     (length b - m - 1) (z ∷ reverse b) (omega (arith, long, same)) (omega (arith, long)) (reverse-last b z) in
-    let below : value_at (suc m) (x ∷ b)
-    ≡ firsts (length (reverse b)) (suc m) (reverse b ++ x ∷ []) +ℤ laters m (length b - m) (x ∷ b) =
-    value_parts m (x ∷ b) (length (reverse b))
+    let below = value_parts m (x ∷ b) (length (reverse b))
     (length b - m) (reverse b ++ x ∷ []) (omega (arith, same)) (omega arith) (reverse-first x b) in
-    let later : laters (suc m) (length b - m) (x ∷ (b ++ z ∷ []))
-    ≡ laters (suc m) (length b - m - 1) (b ++ z ∷ []) +ℤ laters m (length b - m) (x ∷ b) =
-    laters-step m (length b - m) x (b ++ z ∷ [])
-    ∙ ap (λ v. laters (suc m) (length b - m - 1) (b ++ z ∷ []) +ℤ v)
+    let later = laters-step m _ x _ ∙ ap (λ v. laters (suc m) (length b - m - 1) (b ++ z ∷ []) +ℤ v)
     (laters-oldest m (length b - m) (x ∷ b) z (omega arith)) in
-    let first : firsts (suc (length (reverse b))) (suc (suc m)) (z ∷ (reverse b ++ x ∷ []))
-    ≡ firsts (length (reverse b)) (suc (suc m))
-    (z ∷ reverse b) +ℤ firsts (length (reverse b)) (suc m) (reverse b ++ x ∷ []) =
-    firsts-step (suc m) z x (reverse b) in
-    left
-    ∙ ap (λ v. v +ℤ laters (suc m) (length b - m) (x ∷ (b ++ z ∷ []))) first
-    ∙ ap (λ v. (firsts (length (reverse b))
-    (suc (suc m)) (z ∷ reverse b) +ℤ firsts (length (reverse b)) (suc m) (reverse b ++ x ∷ [])) +ℤ v) later
-    ∙ four (firsts (length (reverse b)) (suc (suc m)) (z ∷ reverse b))
-    (firsts (length (reverse b)) (suc m) (reverse b ++ x ∷ []))
-    (laters (suc m) (length b - m - 1) (b ++ z ∷ [])) (laters m (length b - m) (x ∷ b))
-    ∙ ap (λ v. v +ℤ (firsts (length (reverse b)) (suc m) (reverse b ++ x ∷ []) +ℤ laters m (length b - m)
-    (x ∷ b)))
-    (sym right)
-    ∙ ap (λ v. value_at (suc (suc m)) (b ++ z ∷ []) +ℤ v) (sym below)
+    let first = firsts-step (suc m) z x (reverse b) in
+    left ∙ ap (λ v. v +ℤ laters (suc m) (length b - m) (x ∷ (b ++ z ∷ []))) first ∙ ap (λ v. (firsts (length
+    (reverse b)) (suc (suc m)) (z ∷ reverse b) +ℤ firsts (length (reverse b)) (suc m) (reverse b ++ x ∷ []))
+    +ℤ v) later ∙ four (firsts (length (reverse b)) (suc (suc m)) (z ∷ reverse b)) (firsts (length (reverse
+    b)) (suc m) (reverse b ++ x ∷ [])) (laters (suc m) (length b - m - 1) (b ++ z ∷ [])) (laters m (length
+    b - m) (x ∷ b)) ∙ ap (λ v. v +ℤ (firsts (length (reverse b)) (suc m) (reverse b ++ x ∷ []) +ℤ laters m
+    (length b - m) (x ∷ b))) (sym right) ∙ ap (λ v. value_at (suc (suc m)) (b ++ z ∷ []) +ℤ v) (sym below)
   where
     four : (a b c d : ℤ) → (a +ℤ b) +ℤ (c +ℤ d) ≡ (a +ℤ c) +ℤ (b +ℤ d)
     four a b c d = omega (arith, ints)
@@ -266,40 +207,26 @@ value-recurs (suc m) x b z =
 pub value-step : (n : ℕ) (x y : ℤ) (ys : List ℤ)
     → value_at (suc n) (x ∷ y ∷ ys) ≡ value_at (suc n) (y ∷ ys) +ℤ value_at n (without_oldest (x ∷ y ∷ ys))
 value-step n x y ys =
-    let P : List ℤ
-    → Type 0 = λ c. value_at (suc n) (x ∷ c) ≡ value_at (suc n) c +ℤ value_at n (x ∷ without_oldest (y ∷ ys))
-    in
+    let P : List ℤ → Type 0 =
+    λ c. value_at (suc n) (x ∷ c) ≡ value_at (suc n) c +ℤ value_at n (x ∷ without_oldest (y ∷ ys)) in
     subst P (without_oldest-append y ys) (value-recurs n x (without_oldest (y ∷ ys)) (oldest y ys))
 
 -- ---- inversion
 
 pub value-first : (n : ℕ) (d : ℤ) → value_at (suc n) (d ∷ []) ≡ d
-value-first n d =
-    let none : 1 - suc n ≡ 0 = omega arith in
-    ap (λ r. weighted (λ k. pos (binomial (1 - 1) k)) (d ∷ r) +ℤ laters n (1 - suc n) (d ∷ [])) (take-nil n)
-    ∙ ap (λ c. weighted (λ k. pos (binomial (1 - 1) k)) (d ∷ []) +ℤ laters n c (d ∷ [])) none
-    ∙ one d
-  where
-    one : (d : ℤ) → ((pos 1 *ℤ d) +ℤ pos 0) +ℤ pos 0 ≡ d
-    one d = omega (arith, ints)
+value-first n d = search rules
 
 -- the numbers of an arc's codes give its newest value
 pub value-numbers : (n : ℕ) (xs : List ℤ) (x : ℤ) → value_at n (numbers_of n (x ∷ xs)) ≡ x
 value-numbers zero xs x =
     let none : min (length xs) 0 ≡ 0 = omega arith in
     ap (λ k. difference k (x ∷ xs)) none ∙ difference-zero x xs
-value-numbers (suc n) [] x =
-    let none : min 0 (suc n) ≡ 0 = omega arith in
-    value-first n (difference (min 0 (suc n)) (x ∷ [])) ∙ ap (λ k. difference k (x ∷ [])) none
-    ∙ difference-zero x []
-value-numbers (suc n) (y ∷ ys) x =
-    value-step n (difference (min (length (y ∷ ys)) (suc n)) (x ∷ y ∷ ys))
+value-numbers (suc n) [] x = grind (arith, common_steps, value-first, difference-zero)
+value-numbers (suc n) (y ∷ ys) x = value-step n (difference (min (length (y ∷ ys)) (suc n)) (x ∷ y ∷ ys))
     (difference (min (length ys) (suc n)) (y ∷ ys)) (numbers_of (suc n) ys)
     ∙ ap (λ v. v +ℤ value_at n (without_oldest (numbers_of (suc n) (x ∷ y ∷ ys))))
-    (value-numbers (suc n) ys y)
-    ∙ ap (λ c. y +ℤ value_at n c) (numbers-steps n (x ∷ y ∷ ys))
-    ∙ ap (λ v. y +ℤ v) (value-numbers n (steps (y ∷ ys)) (x -ℤ y))
-    ∙ back x y
+    (value-numbers (suc n) ys y) ∙ ap (λ c. y +ℤ value_at n c) (numbers-steps n (x ∷ y ∷ ys))
+    ∙ ap (λ v. y +ℤ v) (value-numbers n (steps (y ∷ ys)) (x -ℤ y)) ∙ back x y
   where
     back : (x y : ℤ) → y +ℤ (x -ℤ y) ≡ x
     back x y = omega (arith, ints)
@@ -307,15 +234,8 @@ value-numbers (suc n) (y ∷ ys) x =
 -- the codes of an arc have its start, and these numbers
 pub started-codes : (n : ℕ) (xs : List ℤ) (x : ℤ)
     → since_start (codes_of_arc n (x ∷ xs)) ≡ Some (record { order = n; numbers = numbers_of n (x ∷ xs) })
-started-codes n [] x =
-    let none : min 0 n ≡ 0 = omega arith in
-    let first : x ≡ difference (min 0 n) (x ∷ []) =
-    sym (ap (λ k. difference k (x ∷ [])) none ∙ difference-zero x []) in
-    ap {B = Option Started} (λ v. Some (record { order = n; numbers = v ∷ [] })) first
-started-codes n (y ∷ ys) x =
-    ap (option_map (onto_started (difference (min (length (y ∷ ys)) n) (x ∷ y ∷ ys)))) (started-codes n ys y)
+started-codes n [] x = search rules
+started-codes n (y ∷ ys) x = cc (started-codes n ys y)
 
 pub inverts : Inverts
-inverts n a older =
-    ap (option_map (λ (arc : Started). value_at arc.order arc.numbers)) (started-codes n older a)
-    ∙ ap {B = Option ℤ} Some (value-numbers n older a)
+inverts n a older = cc (started-codes n older a, value-numbers n older a)

@@ -45,9 +45,8 @@ step-arc : (d : ℤ) (n : ℕ) (numbers : List ℤ) → 0 < length numbers
 step-arc d n [] h = absurd (not-suc-le-zero h)
 step-arc d n (b ∷ bs) h = ap {B = Option ArcTail} Some (values-by_tail n d b bs).tail
 
-step-value_of : (width : ℕ) (d : ℤ) (o : Option Started)
-    → HasNumbers o → value_since width (option_map (onto_started d) o) ≡ value_of_code width (Step d)
-    (started_tail o)
+step-value_of : (width : ℕ) (d : ℤ) (o : Option Started) → HasNumbers o
+    → value_since width (option_map (onto_started d) o) ≡ value_of_code width (Step d) (started_tail o)
 step-value_of width d None h = refl
 step-value_of width d (Some arc) h = step-value width d arc.order arc.numbers h
 
@@ -65,9 +64,7 @@ value-next width (Step d) cs = step-value_of width d (since_start cs) (has-numbe
 pub number-next : (c : Code) (cs : List Code)
     → started_tail (since_start (c ∷ cs)) ≡ arc_of_code c (started_tail (since_start cs))
 number-next Missing cs = refl
-number-next (Start n v) cs =
-    ap {B = Option ArcTail} (λ ds. Some (record { order = n; differences = ds })) (
-    first-differences n (value_at n (v ∷ [])) ∙ ap (λ (x : ℤ). x ∷ []) (value-start n v))
+number-next (Start n v) cs = cc (first-differences n (value_at n (v ∷ [])), value-start n v)
 number-next (Step d) cs = step-arc_of d (since_start cs) (has-numbers cs)
 
 pub code-next : (o : Option ℤ) (os : List (Option ℤ))

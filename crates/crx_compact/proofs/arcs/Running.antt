@@ -1,11 +1,9 @@
 -- Running differences: their step, and their size.
 use Rattle.std.specs.Prelude.{◌≡◌, ◌≤◌, ◌<◌, refl, ℕ, zero, suc, ◌+◌, ◌-◌, ◌^◌, ℤ, pos, negsuc, ◌+ℤ◌, ◌-ℤ◌}
-use Rattle.std.specs.Prelude.{List, []}
-use Rattle.std.specs.Prelude.{◌∷◌, ◌++◌, length, take, drop, min, slice_index_or, slice_set, Bool, true}
-use Rattle.std.specs.Prelude.{false, Option, Some}
-use Rattle.std.specs.Prelude.{Result, Ok, Err, if◌then◌else◌}
+use Rattle.std.specs.Prelude.{List, [], ◌∷◌, ◌++◌, length, take, drop, min, slice_index_or, slice_set, Bool}
+use Rattle.std.specs.Prelude.{true, false, Option, Some, Result, Ok, Err, if◌then◌else◌}
 use Rattle.std.proofs.Common.{sym, ◌∙◌, ap, arith, subst, FitsSigned, w64, to_z, of_z, append_assoc, lit<}
-use Rattle.std.proofs.Common.{lit≤}
+use Rattle.std.proofs.Common.{lit≤, rules}
 use Rattle.std.proofs.Math.Nat.{pow-le-pow_right}
 use Rattle.std.proofs.lemmas.Int.{ints, to_z-of_z}
 use Rattle.std.proofs.lemmas.List.{take_more_set, drop-set-lt, length-take}
@@ -17,8 +15,7 @@ use Rattle.crx_text.specs.declared.code.Code.TheVariants.{Step}
 use Rattle.crx_compact.specs.ArcTails.{ArcTail}
 use Rattle.crx_compact.specs.meaning.Differences.{newest}
 use Rattle.crx_compact.specs.ArcSteps.{differences_after, onto_sum, differences_by, highest, code_of_value}
-use Rattle.crx_compact.specs.ArcSteps.{arc_of_value}
-use Rattle.crx_compact.specs.ArcSteps.{value_of_code, arc_of_code}
+use Rattle.crx_compact.specs.ArcSteps.{arc_of_value, value_of_code, arc_of_code}
 use Rattle.crx_compact.specs.meaning.ArcValues.{in_range, is_within}
 use Rattle.crx_base.specs.declared.fault.Fault.{Fault}
 use Rattle.crx_base.specs.declared.fault.Fault.TheVariants.{OutOfRange}
@@ -35,20 +32,19 @@ order-bound-more : (k j : ℕ) → order_bound k ≤ order_bound (j + k)
 order-bound-more k zero =
     let e : zero + k ≡ k = omega arith in
     let P : ℕ → Type 0 = λ n. order_bound k ≤ order_bound n in
-    subst P (sym e) (omega arith)
+    rw e (omega arith)
 order-bound-more k (suc j) =
     let e : suc j + k ≡ suc (j + k) = omega arith in
-    let below : order_bound k ≤ order_bound (j + k) = order-bound-more k j in
+    let below = order-bound-more k j in
     let P : ℕ → Type 0 = λ n. order_bound k ≤ order_bound n in
-    subst P (sym e) (omega arith)
+    rw e (omega arith)
 
 -- the largest of all, of order 9
 pub order-bound-within : (k : ℕ) → k ≤ 9 → order_bound k ≤ 51200000000000000
 order-bound-within k h =
-    let more : order_bound k ≤ order_bound ((9 - k) + k) = order-bound-more k (9 - k) in
     let e : (9 - k) + k ≡ 9 = omega arith in
     let P : ℕ → Type 0 = λ n. order_bound k ≤ order_bound n in
-    subst P e more
+    subst P e (order-bound-more k (9 - k))
 
 -- the differences at a next value below the bound are as small as those before
 pub after-below : (bound : ℕ) (value : ℤ) (ds : List ℤ)
@@ -60,8 +56,7 @@ after-below bound value (d ∷ ds) h hs =
     less : (b : ℕ) (x y : ℤ) → IsBelow b x → IsBelow b y → IsBelow (b + b) (x -ℤ y)
     less b x y f g = record {
       low = omega (arith, ints, f.low, g.high);
-      high =
-          omega (arith, ints, f.high, g.low);
+      high = omega (arith, ints, f.high, g.low);
     }
 
 pub take-below : (bound n : ℕ) (ds : List ℤ) → AreBelow bound ds → AreBelow bound (take n ds)
@@ -83,17 +78,12 @@ newest-sum d (e ∷ es) = refl
 -- the value that the number of a code leads to: the number and all lower differences together
 pub newest-by : (number : ℤ) (ds : List ℤ) → newest (differences_by number ds) ≡ number +ℤ total ds
 newest-by number [] = omega (arith, ints)
-newest-by number (d ∷ ds) =
-    let rest : newest (differences_by number ds) ≡ number +ℤ total ds = newest-by number ds in
-    let sum : newest (onto_sum d (differences_by number ds)) ≡ d +ℤ newest (differences_by number ds) =
-    newest-sum d (differences_by number ds) in
-    omega (arith, ints, rest, sum)
+newest-by number (d ∷ ds) = omega (arith, ints, newest-by number ds, newest-sum d (differences_by number ds))
 
-some-by : (number : ℤ) (ds : List ℤ) → (onto : ℤ)
-    → onto_sum onto (differences_by number ds)
+some-by : (number : ℤ) (ds : List ℤ) → (onto : ℤ) → onto_sum onto (differences_by number ds)
     ≡ (onto +ℤ newest (differences_by number ds)) ∷ differences_by number ds
 some-by number [] onto = refl
-some-by number (d ∷ ds) onto = some-sum onto d (differences_by number ds)
+some-by number (d ∷ ds) onto = some-sum onto d _
   where
     some-sum : (o d : ℤ) (es : List ℤ)
         → onto_sum o (onto_sum d es) ≡ (o +ℤ newest (onto_sum d es)) ∷ onto_sum d es
@@ -105,13 +95,9 @@ pub by-after : (number : ℤ) (ds : List ℤ)
     → differences_by number ds ≡ differences_after (newest (differences_by number ds)) ds
 by-after number [] = refl
 by-after number (d ∷ ds) =
-    let below : List ℤ = differences_by number ds in
-    let v : ℤ = newest below in
+    let v = newest (differences_by number ds) in
     let back : (d +ℤ v) -ℤ d ≡ v = omega (arith, ints) in
-    some-by number ds d
-    ∙ ap (λ r. (d +ℤ v) ∷ r) (by-after number ds)
-    ∙ ap (λ w. (d +ℤ v) ∷ differences_after w ds) (sym back)
-    ∙ ap (λ w. differences_after w (d ∷ ds)) (sym (ap newest (some-by number ds d)))
+    cc (some-by number ds d, by-after number ds, back, some-by number ds d)
 
 -- only the lower differences count for those up to an order
 pub take-after : (n : ℕ) (value : ℤ) (ds : List ℤ)
@@ -137,30 +123,22 @@ record NextBelow (k : ℕ) (ds : List ℤ) : Type 0 where
 next-below : (k : ℕ) (ds : List ℤ) → k < length ds → AreBelow (order_bound k) (drop k ds) → NextBelow k ds
 next-below k ds h hs =
     let P : List ℤ → Type 0 = λ xs. AreBelow (order_bound k) xs in
-    let split : AreBelow (order_bound k) (slice_index_or ds k (pos 0) ∷ drop (k + 1) ds) =
-    subst P (drop-index ds k h) hs in
-    let more : suc k ≡ k + 1 = omega arith in
-    let Q : ℕ → Type 0 = λ n. AreBelow (order_bound n) (drop (k + 1) ds) in
-    record { first = split.0; rest = subst Q more split.1 }
+    let split = subst P (drop-index ds k h) hs in
+    search rules
 
 -- a number that fits is what its bits stand for
 pub same-bits : (value : ℤ) → FitsSigned w64 value → to_z w64 (of_z w64 value) ≡ value
 same-bits value h = to_z-of_z w64 value h
 
-pub first-fits : (k : ℕ) (ds : List ℤ)
-    → k < length ds → k ≤ 9 → AreBelow (order_bound k) (drop k ds)
-    → FitsSigned w64 (slice_index_or ds k (pos 0))
+pub first-fits : (k : ℕ) (ds : List ℤ) → k < length ds
+    → k ≤ 9 → AreBelow (order_bound k) (drop k ds) → FitsSigned w64 (slice_index_or ds k (pos 0))
 first-fits k ds h few hs =
-    let room : order_bound k ≤ 51200000000000000 = order-bound-within k few in
-    below-fits (order_bound k) (slice_index_or ds k (pos 0)) (omega arith) (next-below k ds h hs).first
+    grind (arith, common_steps, order_bound, order-bound-within, below-fits, slice_index_or, next-below)
 
-pub difference-fits : (k : ℕ) (ds : List ℤ) (next : ℤ)
-    → k < length ds → k ≤ 9 → IsBelow (order_bound k) next → AreBelow (order_bound k) (drop k ds)
-    → FitsSigned w64 (next -ℤ slice_index_or ds k (pos 0))
+pub difference-fits : (k : ℕ) (ds : List ℤ) (next : ℤ) → k < length ds → k ≤ 9 → IsBelow (order_bound k) next
+    → AreBelow (order_bound k) (drop k ds) → FitsSigned w64 (next -ℤ slice_index_or ds k (pos 0))
 difference-fits k ds next h few f hs =
-    let room : order_bound k ≤ 51200000000000000 = order-bound-within k few in
-    let g : IsBelow (order_bound k) (slice_index_or ds k (pos 0)) = (next-below k ds h hs).first in
-    omega (arith, ints, f.low, f.high, g.low, g.high)
+    grind (arith, common_steps, order_bound, order-bound-within, slice_index_or, next-below)
 
 -- one place more of the differences at a next value
 pub record Advanced (k : ℕ) (target ds : List ℤ) (next : ℤ) : Type 0 where
@@ -171,30 +149,16 @@ pub record Advanced (k : ℕ) (target ds : List ℤ) (next : ℤ) : Type 0 where
 pub advance-step : (k : ℕ) (target ds : List ℤ) (next : ℤ) → k < length ds → Advanced k target ds next
     → Advanced (k + 1) target (slice_set ds k next) (next -ℤ slice_index_or ds k (pos 0))
 advance-step k target ds next h a =
-    let b : NextBelow k ds = next-below k ds h a.rest_below in
-    let f : IsBelow (order_bound k) next = a.next_below in
-    let g : IsBelow (order_bound k) (slice_index_or ds k (pos 0)) = b.first in
+    let b = next-below k ds h a.rest_below in
+    let f = a.next_below in
+    let g = b.first in
     let more : k + 1 ≡ suc k = omega arith in
-    let later : drop (k + 1) (slice_set ds k next) ≡ drop (k + 1) ds =
-    drop-set-lt (k + 1) ds k next (omega arith) in
+    let later = drop-set-lt (k + 1) ds k next (omega arith) in
     let P : List ℤ → Type 0 = λ xs. AreBelow (order_bound (k + 1)) xs in
     let Q : ℕ → Type 0 = λ n. IsBelow (order_bound n) (next -ℤ slice_index_or ds k (pos 0)) in
     let small : IsBelow (order_bound (suc k)) (next -ℤ slice_index_or ds k (pos 0)) =
     record { low = omega (arith, ints, f.low, g.high); high = omega (arith, ints, f.high, g.low) } in
-    record {
-      done =
-          ap (λ xs. xs ++ differences_after (next -ℤ slice_index_or ds k (pos 0))
-          (drop (k + 1) (slice_set ds k next)))
-          (take_more_set ds k next h)
-          ∙ ap (λ xs. (take k ds ++ next ∷ []) ++ differences_after (next -ℤ slice_index_or ds k (pos 0)) xs)
-          later
-          ∙ append_assoc (take k ds) (next ∷ [])
-          (differences_after (next -ℤ slice_index_or ds k (pos 0)) (drop (k + 1) ds))
-          ∙ ap (λ xs. take k ds ++ differences_after next xs) (sym (drop-index ds k h))
-          ∙ a.done;
-      next_below = subst Q (sym more) small;
-      rest_below = subst P (sym later) b.rest;
-    }
+    record { done = grind (arith, common_steps); next_below = rw more small; rest_below = rw later b.rest }
 
 -- ---- the same up to order 3, at once
 
@@ -214,10 +178,10 @@ to-third value [] h f hs = absurd (omega (arith, h))
 to-third value (a ∷ []) h f hs = absurd (omega (arith, h))
 to-third value (a ∷ b ∷ []) h f hs = absurd (omega (arith, h))
 to-third value (a ∷ b ∷ c ∷ ds) h f hs =
-    let v : IsBelow 100000000000000 value = f in
-    let x : IsBelow 100000000000000 a = hs.0 in
-    let y : IsBelow 200000000000000 b = hs.1.0 in
-    let z : IsBelow 400000000000000 c = hs.1.1.0 in
+    let v = f in
+    let x = hs.0 in
+    let y = hs.1.0 in
+    let z = hs.1.1.0 in
     record {
       zeroth_before = omega (arith, ints, x.low, x.high);
       first_before = omega (arith, ints, y.low, y.high);
@@ -228,21 +192,18 @@ to-third value (a ∷ b ∷ c ∷ ds) h f hs =
     }
 
 -- the first four of some numbers, put in place one after another
-pub set-four : (ds : List ℤ) (v a b c : ℤ)
-    → 3 < length ds → take 4 (slice_set (slice_set (slice_set (slice_set ds 0 v) 1 a) 2 b) 3 c)
-    ≡ v ∷ a ∷ b ∷ c ∷ []
+pub set-four : (ds : List ℤ) (v a b c : ℤ) → 3 < length ds
+    → take 4 (slice_set (slice_set (slice_set (slice_set ds 0 v) 1 a) 2 b) 3 c) ≡ v ∷ a ∷ b ∷ c ∷ []
 set-four [] v a b c h = absurd (omega (arith, h))
 set-four (d ∷ []) v a b c h = absurd (omega (arith, h))
 set-four (d ∷ e ∷ []) v a b c h = absurd (omega (arith, h))
 set-four (d ∷ e ∷ f ∷ []) v a b c h = absurd (omega (arith, h))
 set-four (d ∷ e ∷ f ∷ g ∷ ds) v a b c h = refl
 
-pub after-three : (ds : List ℤ) (value : ℤ) → 3 < length ds
-    → differences_after value (take 3 ds) ≡ value
-    ∷ (value -ℤ slice_index_or ds 0 (pos 0)) ∷
-    (value -ℤ slice_index_or ds 0 (pos 0) -ℤ slice_index_or ds 1 (pos 0))
-    ∷ (value -ℤ slice_index_or ds 0 (pos 0) -ℤ slice_index_or ds 1 (pos 0) -ℤ slice_index_or ds 2 (pos 0))
-    ∷ []
+pub after-three : (ds : List ℤ) (value : ℤ)
+    → 3 < length ds → differences_after value (take 3 ds) ≡ value ∷ (value -ℤ slice_index_or ds 0 (pos 0))
+    ∷ (value -ℤ slice_index_or ds 0 (pos 0) -ℤ slice_index_or ds 1 (pos 0)) ∷
+    (value -ℤ slice_index_or ds 0 (pos 0) -ℤ slice_index_or ds 1 (pos 0) -ℤ slice_index_or ds 2 (pos 0)) ∷ []
 after-three [] value h = absurd (omega (arith, h))
 after-three (d ∷ []) value h = absurd (omega (arith, h))
 after-three (d ∷ e ∷ []) value h = absurd (omega (arith, h))
@@ -270,10 +231,10 @@ onto-third number [] h f hs = absurd (omega (arith, h))
 onto-third number (a ∷ []) h f hs = absurd (omega (arith, h))
 onto-third number (a ∷ b ∷ []) h f hs = absurd (omega (arith, h))
 onto-third number (a ∷ b ∷ c ∷ ds) h f hs =
-    let n : IsBelow 1000000000000000000 number = f in
-    let x : IsBelow 100000000000000 a = hs.0 in
-    let y : IsBelow 200000000000000 b = hs.1.0 in
-    let z : IsBelow 400000000000000 c = hs.1.1.0 in
+    let n = f in
+    let x = hs.0 in
+    let y = hs.1.0 in
+    let z = hs.1.1.0 in
     record {
       zeroth_before = omega (arith, ints, x.low, x.high);
       first_before = omega (arith, ints, y.low, y.high);
@@ -293,28 +254,21 @@ pub record Summed (k : ℕ) (target value : ℤ) (ds : List ℤ) : Type 0 where
 pub sum-fits : (k : ℕ) (target value : ℤ) (ds : List ℤ)
     → k < length ds → k ≤ 9 → Summed k target value ds → FitsSigned w64 (value +ℤ slice_index_or ds k (pos 0))
 sum-fits k target value ds h few s =
-    let room : order_bound k ≤ 51200000000000000 = order-bound-within k few in
-    let f : IsBelow (10 ^ 18 + order_bound k) value = s.value_below in
-    let g : IsBelow (order_bound k) (slice_index_or ds k (pos 0)) = (next-below k ds h s.rest_below).first in
-    omega (arith, ints, f.low, f.high, g.low, g.high)
+    grind (arith, common_steps, order_bound, order-bound-within, slice_index_or, next-below)
 
-pub sum-step : (k : ℕ) (target value : ℤ) (ds : List ℤ)
-    → k < length ds → Summed k target value ds
-    → Summed (k + 1) target (value +ℤ slice_index_or ds k (pos 0)) ds
+pub sum-step : (k : ℕ) (target value : ℤ) (ds : List ℤ) → k < length ds
+    → Summed k target value ds → Summed (k + 1) target (value +ℤ slice_index_or ds k (pos 0)) ds
 sum-step k target value ds h s =
-    let b : NextBelow k ds = next-below k ds h s.rest_below in
-    let f : IsBelow (10 ^ 18 + order_bound k) value = s.value_below in
-    let g : IsBelow (order_bound k) (slice_index_or ds k (pos 0)) = b.first in
+    let b = next-below k ds h s.rest_below in
+    let f = s.value_below in
+    let g = b.first in
     let more : k + 1 ≡ suc k = omega arith in
     let Q : ℕ → Type 0 = λ n. IsBelow (10 ^ 18 + order_bound n) (value +ℤ slice_index_or ds k (pos 0)) in
     let small : IsBelow (10 ^ 18 + order_bound (suc k)) (value +ℤ slice_index_or ds k (pos 0)) =
     record { low = omega (arith, ints, f.low, g.low); high = omega (arith, ints, f.high, g.high) } in
-    let split : total (drop k ds) ≡ slice_index_or ds k (pos 0) +ℤ total (drop (k + 1) ds) =
-    ap total (drop-index ds k h) in
     record {
-      done = regroup value (slice_index_or ds k (pos 0)) (total (drop (k + 1) ds))
-          ∙ ap (λ x. value +ℤ x) (sym split) ∙ s.done;
-      value_below = subst Q (sym more) small;
+      done = regroup value _ _ ∙ ap (λ x. value +ℤ x) (sym (ap total (drop-index ds k h))) ∙ s.done;
+      value_below = rw more small;
       rest_below = b.rest;
     }
   where
@@ -339,7 +293,7 @@ take-take (suc n) (suc m) [] =
     sym (ap (λ k. take k []) more)
 take-take (suc n) (suc m) (d ∷ ds) =
     let more : min (suc n) (suc m) ≡ suc (min n m) = omega arith in
-    ap (λ r. d ∷ r) (take-take n m ds) ∙ sym (ap (λ k. take k (d ∷ ds)) more)
+    cc (take-take n m ds, more)
 
 -- a value that fits its columns is below the bound of all
 pub within-below : (width : ℕ) (value : ℤ) → width ≤ 15 → IsWithin width value → IsBelow value_bound value
@@ -371,7 +325,7 @@ pub lower-below : (order count last : ℕ) (ds : List ℤ)
     → IsLast order count last → AreBelow value_bound (take count ds) → AreBelow value_bound (take last ds)
 lower-below order count last ds e h =
     let P : List ℤ → Type 0 = λ xs. AreBelow value_bound xs in
-    subst P (lower-taken order count last ds e) (take-below value_bound order (take count ds) h)
+    rw (← lower-taken order count last ds e) (take-below value_bound order (take count ds) h)
 
 -- the same of an arc of order 3 that has all of its differences
 module _ (width order count : ℕ) (ds : List ℤ) (third : (order ≡ 3) × (count ≡ 4))
@@ -380,14 +334,12 @@ module _ (width order count : ℕ) (ds : List ℤ) (third : (order ≡ 3) × (co
   third-last = record { least = omega (arith, third.0, third.1) }
 
   pub to-third-kept : (value : ℤ) → IsWithin width value → ToThird value ds
-  to-third-kept value h =
-      to-third value ds (omega (arith, long)) (within-below width value kept.few_columns h)
-      (lower-below order count 3 ds third-last kept.below)
+  to-third-kept value h = to-third value ds (omega (arith, long))
+      (within-below width value kept.few_columns h) (lower-below order count 3 ds third-last kept.below)
 
   pub onto-third-kept : (number : ℤ) → IsShort number → OntoThird number ds
-  onto-third-kept number h =
-      onto-third number ds (omega (arith, long)) (short-below number h)
-      (lower-below order count 3 ds third-last kept.below)
+  onto-third-kept number h = onto-third number ds
+      (omega (arith, long)) (short-below number h) (lower-below order count 3 ds third-last kept.below)
     where
       short-below : (n : ℤ) → IsShort n → IsBelow (10 ^ 18) n
       short-below (pos n) s = record { low = omega (arith, ints); high = omega (arith, ints, s) }
@@ -411,15 +363,9 @@ pub goes-on : (order count last : ℕ) (value : ℤ) (ds : List ℤ)
 goes-on order zero last value ds e h l = absurd (omega arith)
 goes-on order (suc count) last value [] e h l = absurd (omega arith)
 goes-on order (suc count) last value (d ∷ ds) e h l =
-    let after : take (suc order) (differences_after value (take (suc count) (d ∷ ds)))
-    ≡ differences_after value (take last (d ∷ ds)) =
-    take-after order value (take (suc count) (d ∷ ds))
+    let after = take-after order value (take (suc count) (d ∷ ds))
     ∙ ap (differences_after value) (lower-taken order (suc count) last (d ∷ ds) e) in
-    record {
-      code = ap (λ xs. Step (highest xs)) (sym after);
-      tail = sym (some-kept order value (take last (d ∷ ds)))
-          ∙ ap {B = Option ArcTail} (λ xs. Some (record { order = order; differences = xs })) (sym after);
-    }
+    record { code = cc (after); tail = cc (some-kept order value (take last (d ∷ ds)), after) }
 
 -- the arc after a next value in range is kept as well
 newest-after : (width : ℕ) (value : ℤ) (ds : List ℤ)
@@ -427,21 +373,17 @@ newest-after : (width : ℕ) (value : ℤ) (ds : List ℤ)
 newest-after width value [] h = h
 newest-after width value (d ∷ ds) h = h
 
-pub goes-on-kept : (width order count last : ℕ) (ds ds' : List ℤ) (value : ℤ)
-    → IsLast order count last → IsArcInRange width order count (take count ds) → IsWithin width value
-    → take (last + 1) ds' ≡ differences_after value (take last ds)
-    → IsArcInRange width order (last + 1) (take (last + 1) ds')
+pub goes-on-kept : (width order count last : ℕ) (ds ds' : List ℤ) (value : ℤ) → IsLast order count last
+    → IsArcInRange width order count (take count ds) → IsWithin width value → take (last + 1) ds'
+    ≡ differences_after value (take last ds) → IsArcInRange width order (last + 1) (take (last + 1) ds')
 goes-on-kept width order count last ds ds' value e k h after =
     let P : List ℤ → Type 0 = λ xs. AreBelow value_bound xs in
-    let least : last ≡ min order count = e.least in
     record {
       few_columns = k.few_columns;
       order_within = k.order_within;
       counted = omega arith;
-      below = subst P (sym after) (after-below value_bound value
-          (take last ds) (within-below width value k.few_columns h)
-          (lower-below order count last ds e k.below));
-      newest = subst (IsNewestWithin width) (sym after) (newest-after width value (take last ds) h);
+      below = grind (arith, common_steps, after-below, value_bound, within-below, lower-below);
+      newest = rw after (newest-after width value (take last ds) h);
     }
 
 -- an arc that has its first value alone
@@ -452,16 +394,13 @@ begun-list (d ∷ ds) value h = refl
 pub begun-tail : (order count : ℕ) (ds ds' : List ℤ) (value : ℤ) → 0 < length ds → count ≡ 0
     → kept_tail WRITTEN_ORDER (take 1 (slice_set ds 0 value))
     ≡ arc_of_value (Some value) (kept_tail order (take count ds'))
-begun-tail order count ds ds' value l e =
-    ap (kept_tail WRITTEN_ORDER) (begun-list ds value l)
-    ∙ ap (λ n. arc_of_value (Some value) (kept_tail order (take n ds'))) (sym e)
+begun-tail order count ds ds' value l e = cc (begun-list ds value l, e)
 
-pub begun-kept : (width order : ℕ) (ds : List ℤ) (value : ℤ) → 0 < length ds
-    → width ≤ 15 → order ≤ 9 → IsWithin width value
-    → IsArcInRange width order 1 (take 1 (slice_set ds 0 value))
+pub begun-kept : (width order : ℕ) (ds : List ℤ) (value : ℤ) → 0 < length ds → width ≤ 15
+    → order ≤ 9 → IsWithin width value → IsArcInRange width order 1 (take 1 (slice_set ds 0 value))
 begun-kept width order ds value l few o h =
     let P : List ℤ → Type 0 = λ xs. IsArcInRange width order 1 xs in
-    subst P (sym (begun-list ds value l)) (record {
+    rw (begun-list ds value l) (record {
       few_columns = few;
       order_within = o;
       counted = omega arith;
@@ -481,59 +420,49 @@ pub steps-on : (width order count last : ℕ) (number value : ℤ) (ds : List �
 steps-on width order zero last number value ds e h l v = absurd (omega arith)
 steps-on width order (suc count) last number value [] e h l v = absurd (omega arith)
 steps-on width order (suc count) last number value (d ∷ ds) e h l v =
-    let lower : take order (take (suc count) (d ∷ ds)) ≡ take last (d ∷ ds) =
-    lower-taken order (suc count) last (d ∷ ds) e in
-    let by : differences_after value (take last (d ∷ ds))
-    ≡ differences_by number (take order (take (suc count) (d ∷ ds))) =
-    ap (λ x. differences_after x (take last (d ∷ ds))) v
-    ∙ sym (by-after number (take last (d ∷ ds))) ∙ ap (differences_by number) (sym lower) in
+    let lower = lower-taken order _ last _ e in
     record {
-      value_is = ap (in_range width) (v ∙ ap (λ xs. newest (differences_by number xs)) (sym lower));
-      tail = sym (some-kept order value (take last (d ∷ ds)))
-          ∙ ap {B = Option ArcTail} (λ xs. Some (record { order = order; differences = xs })) by;
+      value_is = cc;
+      tail = sym (some-kept order value _) ∙ ap {B = Option ArcTail} (λ xs. Some
+          (record { order = order; differences = xs })) (ap (λ x. differences_after x (take last (d ∷ ds))) v
+          ∙ sym (by-after number (take last (d ∷ ds))) ∙ ap (differences_by number) (sym lower));
     }
 
 -- what the number of a next code leads to
-pub stepped : (width order count last : ℕ) (number value : ℤ) (ds : List ℤ)
-    → last ≡ min order count → 0 < count → length ds ≡ 10
-    → value ≡ newest (differences_by (to_z w64 (of_z w64 number)) (take last ds))
+pub stepped : (width order count last : ℕ) (number value : ℤ) (ds : List ℤ) → last ≡ min order count
+    → 0 < count → length ds ≡ 10 → value ≡ newest (differences_by (to_z w64 (of_z w64 number)) (take last ds))
     → FitsSigned w64 number → StepsOn width order count last number value ds
-stepped width order count last number value ds e h l v f =
-    steps-on width order count last number value ds (record { least = e }) h (omega arith)
-    (v ∙ ap (λ x. newest (differences_by x (take last ds))) (same-bits number f))
+stepped width order count last number value ds e h l v f = steps-on width order count last number value ds
+    (record { least = e }) h (omega arith) (cc (v, same-bits number f))
 
 -- what a value that is tested gives
 pub in-range-by : (width : ℕ) (value : ℤ) (b : Bool) → b ≡ is_within width value
     → (if b then Ok (Some value) else Err OutOfRange) ≡ in_range width value
-in-range-by width value b e = ap {B = Result (Option ℤ) Fault} (λ t. if t then Ok (Some value) else Err OutOfRange) e
+in-range-by width value b e = cc
 
 -- a value that the code's test lets through
-pub accepted : (width : ℕ) (value : ℤ) (b : Bool)
-    → b ≡ is_within width (to_z w64 (of_z w64 value)) → b ≡ true → FitsSigned w64 value
-    → is_within width value ≡ true
+pub accepted : (width : ℕ) (value : ℤ) (b : Bool) → b ≡ is_within width (to_z w64 (of_z w64 value))
+    → b ≡ true → FitsSigned w64 value → is_within width value ≡ true
 accepted width value b e h f = ap (is_within width) (sym (same-bits value f)) ∙ sym e ∙ h
 
 -- a value that the code's test refuses
 pub refused : (width : ℕ) (value : ℤ) (b : Bool) → b ≡ is_within width (to_z w64 (of_z w64 value))
     → b ≡ false → FitsSigned w64 value → Err OutOfRange ≡ in_range width value
-refused width value b e h f =
-    in-range-by width value false (sym h ∙ e ∙ ap (is_within width) (same-bits value f))
+refused width value b e h f = in-range-by width value false (cc (h, e, same-bits value f))
 
 -- the highest difference at a next value in range is a number that a code may have
 highest-below : (k : ℕ) (ds : List ℤ) → length ds + k ≤ 10 → AreBelow (order_bound k) ds
     → IsShort (highest ds)
 highest-below k [] few h = omega arith
 highest-below k (d ∷ []) few h =
-    let room : order_bound k ≤ 51200000000000000 = order-bound-within k (omega arith) in
-    below-short (order_bound k) d (omega arith) h.0
+    let room = order-bound-within k (omega arith) in
+    below-short _ d (omega arith) h.0
 highest-below k (d ∷ e ∷ es) few h = highest-below (suc k) (e ∷ es) (omega arith) h.1
 
 pub highest-short : (width order count last : ℕ) (value : ℤ) (ds : List ℤ)
     → IsLast order count last → IsArcInRange width order count (take count ds) → IsWithin width value
     → IsShort (highest (differences_after value (take last ds)))
-highest-short width order count last value ds e k h =
-    let least : last ≡ min order count = e.least in
-    highest-below 0 (differences_after value (take last ds))
+highest-short width order count last value ds e k h = highest-below 0 (differences_after value (take last ds))
     (omega (arith, length-after value (take last ds), length-take last ds, k.order_within))
     (after-below value_bound value
     (take last ds) (within-below width value k.few_columns h) (lower-below order count last ds e k.below))

@@ -1,8 +1,7 @@
 -- Sums of weighted numbers, and differences as such sums.
 use Rattle.std.specs.Prelude.{◌≡◌, refl, ℕ, zero, suc, ◌+◌, ℤ, pos, neg_ℤ, ◌+ℤ◌, ◌-ℤ◌, ◌*ℤ◌, List, [], ◌∷◌}
 use Rattle.std.proofs.Common.{◌∙◌, ap, arith, rules}
-use lib.IntN.{ℤ_ind, +ℤ_one, -ℤ_one, +ℤ-suc_ℤ, +ℤ-pred_ℤ, suc_ℤ-*ℤ, pred_ℤ-*ℤ, +ℤ_idr}
-use lib.IntN.{zero-*ℤ}
+use lib.IntN.{ℤ_ind, +ℤ_one, -ℤ_one, +ℤ-suc_ℤ, +ℤ-pred_ℤ, suc_ℤ-*ℤ, pred_ℤ-*ℤ, +ℤ_idr, zero-*ℤ}
 use Rattle.std.proofs.lemmas.Int.{ints}
 use Rattle.crx_compact.specs.meaning.Differences.{binomial, alternating, weighted, difference}
 use Rattle.std.proofs.lemmas.Grind.{common_steps}
@@ -83,8 +82,7 @@ pos-add m n = omega (arith, ints)
 -- the weight after the first of a difference of the next order: Pascal's law
 next_weight : (k i : ℕ) → alternating (suc i) (pos (binomial (suc k) (suc i)))
     ≡ alternating (suc i) (pos (binomial k (suc i))) +ℤ neg_ℤ (alternating i (pos (binomial k i)))
-next_weight k i =
-    ap (alternating (suc i)) (pos-add (binomial k i) (binomial k (suc i)))
+next_weight k i = ap (alternating (suc i)) (pos-add (binomial k i) (binomial k (suc i)))
     ∙ alternating-add (suc i) (pos (binomial k i)) (pos (binomial k (suc i)))
     ∙ turn (alternating (suc i) (pos (binomial k i))) (alternating (suc i) (pos (binomial k (suc i))))
   where
