@@ -36,8 +36,7 @@ AreWritten codes = AllByRecursion (λ (c : Code). list_all is_code_character (co
 
 pub one_cell : (c : Code) (cs : List Code) (marks : List ℕ)
     → flat_map cell_text (c ∷ cs) ++ marks ≡ code_text c ++ 32 ∷ (flat_map cell_text cs ++ marks)
-one_cell c cs marks =
-    append_assoc (code_text c ++ 32 ∷ []) (flat_map cell_text cs) marks
+one_cell c cs marks = append_assoc (code_text c ++ 32 ∷ []) (flat_map cell_text cs) marks
     ∙ append_assoc (code_text c) (32 ∷ []) (flat_map cell_text cs ++ marks)
 
 pub cells-written : (codes : List Code) (marks : List ℕ) → AreWritten codes
@@ -47,20 +46,15 @@ cells-written (c ∷ cs) marks h =
     let line = flat_map cell_text (c ∷ cs) ++ marks in
     let first = first_cell-trimmed line ∙ ap first_cell (one_cell c cs marks)
     ∙ first_cell-text (code_text c) (flat_map cell_text cs ++ marks) h.0 in
-    let after =
-    after_cell-trimmed line ∙ ap without_end_blanks (ap after_cell (one_cell c cs marks)
+    let after = after_cell-trimmed line ∙ ap without_end_blanks (ap after_cell (one_cell c cs marks)
     ∙ after_cell-text (code_text c) (flat_map cell_text cs ++ marks) h.0) in
-    ap (λ t. t ∷ cells_of (length cs) (after_cell (without_end_blanks line))) first
-    ∙ ap (λ r. code_text c ∷ cells_of (length cs) r) after
-    ∙ ap (λ r. code_text c ∷ r) (cells-written cs marks h.1)
+    cc (first, after, cells-written cs marks h.1)
 
-pub marks-written : (codes : List Code) (marks : List ℕ) → AreWritten codes
-    → after_cells (length codes) (without_end_blanks (flat_map cell_text codes ++ marks))
-    ≡ without_end_blanks marks
+pub marks-written : (codes : List Code) (marks : List ℕ) → AreWritten codes → after_cells
+    (length codes) (without_end_blanks (flat_map cell_text codes ++ marks)) ≡ without_end_blanks marks
 marks-written [] marks h = refl
 marks-written (c ∷ cs) marks h =
-    let line : List ℕ = flat_map cell_text (c ∷ cs) ++ marks in
-    let after : after_cell (without_end_blanks line) ≡ without_end_blanks (flat_map cell_text cs ++ marks) =
-    after_cell-trimmed line ∙ ap without_end_blanks (ap after_cell (one_cell c cs marks)
-    ∙ after_cell-text (code_text c) (flat_map cell_text cs ++ marks) h.0) in
-    ap (after_cells (length cs)) after ∙ marks-written cs marks h.1
+    let line = flat_map cell_text (c ∷ cs) ++ marks in
+    ap (after_cells (length cs))
+    (after_cell-trimmed line ∙ ap without_end_blanks (ap after_cell (one_cell c cs marks)
+    ∙ after_cell-text (code_text c) (flat_map cell_text cs ++ marks) h.0)) ∙ marks-written cs marks h.1

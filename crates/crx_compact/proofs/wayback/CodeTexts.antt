@@ -8,6 +8,7 @@ use Rattle.std.proofs.lemmas.Fmt.{decimal_digit}
 use Rattle.crx_text.proofs.ReadBack.{decimal_is_digits}
 use Rattle.crx_text.specs.Codes.{IsShort}
 use Rattle.crx_base.specs.declared.limits.TheConstants.{ORDER_LIMIT}
+use Rattle.std.proofs.lemmas.Grind.{common_steps}
 
 -- ---- characters of codes: digits, a minus and &
 
@@ -20,7 +21,7 @@ digits-characters (c ∷ cs) h =
     let first : is_ascii_digit c ≡ true = grind (arith, h) in
     let rest : all_ascii_digits cs ≡ true = grind (arith, h) in
     let here : is_code_character c ≡ true = grind (arith, first) in
-    ap (λ b. b && list_all is_code_character cs) here ∙ digits-characters cs rest
+    cc (here, digits-characters cs rest)
 
 -- a bound that both the digits of a code and those of an order meet
 small : (n : ℕ) → n < 10 ^ DIGITS_LIMIT → n < 2 ^ 64
@@ -40,6 +41,4 @@ pub code-characters : (c : Code) → IsPrintable c → list_all is_code_characte
 code-characters Missing h = refl
 code-characters (Step z) h = signed-characters z h
 code-characters (Start n z) h =
-    let less : n ≤ ORDER_LIMIT = h.0 in
-    let first : is_code_character (48 + n) ≡ true = grind (arith, less) in
-    rw (order-text n less, first, signed-characters z h.1)
+    grind (arith, common_steps, ORDER_LIMIT, is_code_character, order-text, signed-characters)

@@ -16,13 +16,12 @@ use Rattle.crx_compact.proofs.Characters.{at-by_position, same_characters, list_
 use Rattle.crx_compact.proofs.Characters.{if_some}
 use Rattle.crx_compact.proofs.wayback.Runs.{IsUnmarked}
 use Rattle.crx_text.proofs.Characters.{at-append, at-append_past}
+use Rattle.std.proofs.lemmas.Grind.{common_steps}
 
 -- ---- tests of all characters
 
 kept-unmarked : (c : ℕ) → is_kept c ≡ true → c ≢ 38
-kept-unmarked c h e =
-    let no : is_kept 38 ≡ true = ap is_kept (sym e) ∙ h in
-    true≢false (sym no)
+kept-unmarked c h e = cc
 
 pub unmarked : (text : List ℕ) → list_all is_kept text ≡ true → IsUnmarked text
 unmarked text h p = kept-unmarked (at text p) (list_all-at is_kept refl text h p)
@@ -35,56 +34,44 @@ mark-printable a b h = grind (arith, h)
 
 pub at-difference : (old new : List ℕ) (p : ℕ)
     → at (text_difference old new) p ≡ mark_of (at old p) (at new p)
-at-difference old new p = at-without_end_blanks (by_position mark_of old new) p
-    ∙ at-by_position mark_of refl old new p
+at-difference old new p = at-without_end_blanks _ p ∙ at-by_position mark_of refl old new p
 
 -- the marks of a text that may be written are printable
 pub difference-printable : (old new : List ℕ)
     → list_all is_kept new ≡ true → list_all is_printable (text_difference old new) ≡ true
 difference-printable old new h =
-    list_all-from_at is_printable (text_difference old new) (λ p.
-    ap is_printable (at-difference old new p)
+    list_all-from_at is_printable (text_difference old new) (λ p. ap is_printable (at-difference old new p)
     ∙ mark-printable (at old p) (at new p) (kept-printable (at new p) (list_all-at is_kept refl new h p)))
 
 -- ---- an epoch's head and text
 
 pub head_tests : (types : List Count) (e : Epoch) → IsWholeEpoch types e
     → (begins_epoch e.head && is_observation_flag (character_at e.head 32) && list_all is_kept e.head) ≡ true
-head_tests types e h = if_some (begins_epoch e.head && is_observation_flag (character_at e.head 32)
-    && list_all is_kept e.head) (satellites_in e.head) (length e.rows) (head-counted types e h)
+head_tests types e h = if_some _ (satellites_in e.head) (length e.rows) (head-counted types e h)
 
 pub head-kept : (types : List Count) (e : Epoch) → IsWholeEpoch types e → list_all is_kept e.head ≡ true
 head-kept types e h = (and_parts (begins_epoch e.head && is_observation_flag (character_at e.head 32))
-    (list_all is_kept e.head) (head_tests types e h)).1
+    _ (head_tests types e h)).1
 
 head-begins : (types : List Count) (e : Epoch) → IsWholeEpoch types e → begins_epoch e.head ≡ true
-head-begins types e h =
-    (and_parts (begins_epoch e.head) (is_observation_flag (character_at e.head 32))
-    (and_parts (begins_epoch e.head && is_observation_flag (character_at e.head 32))
-    (list_all is_kept e.head) (head_tests types e h)).0).0
+head-begins types e h = grind (arith, common_steps)
 
 names-kept : (types : List Count) (rows : List Row)
     → AllByRecursion (IsTypedRow types) rows → list_all is_kept (flat_map (λ (r : Row). r.name) rows) ≡ true
 names-kept types [] h = refl
-names-kept types (r ∷ rs) h = list_all-append is_kept r.name
-    (flat_map (λ (q : Row). q.name) rs) (sound-name_kept r h.0.0) (names-kept types rs h.1)
+names-kept types (r ∷ rs) h = list_all-append _ r.name _ (sound-name_kept r h.0.0) (names-kept types rs h.1)
 
 pub text-kept : (types : List Count) (e : Epoch) → IsWholeEpoch types e
     → list_all is_kept (epoch_text e) ≡ true
-text-kept types e h = list_all-append is_kept e.head
-    (flat_map (λ (r : Row). r.name) e.rows) (head-kept types e h)
-    (names-kept types e.rows (typed-rows types e h))
+text-kept types e h =
+    list_all-append _ e.head _ (head-kept types e h) (names-kept types e.rows (typed-rows types e h))
 
 pub text-head : (types : List Count) (e : Epoch)
     → IsWholeEpoch types e → (p : ℕ) → p < 41 → at (epoch_text e) p ≡ at e.head p
-text-head types e h p less = at-append e.head
-    (flat_map (λ (r : Row). r.name) e.rows) p (omega (arith, less, h.sound.head_sound.width))
+text-head types e h p less = at-append e.head _ p (omega (arith, less, h.sound.head_sound.width))
 
 pub text-begins : (types : List Count) (e : Epoch) → IsWholeEpoch types e → at (epoch_text e) 0 ≡ 62
-text-begins types e h =
-    let c : ℕ = at e.head 0 in
-    let first : nat_eq (at e.head 0) 62 ≡ true = head-begins types e h in
-    text-head types e h 0 (omega arith) ∙ is_same (at e.head 0) first
+text-begins types e h = grind (arith, common_steps, nat_eq, head-begins, text-head, is_same)
   where
     is_same : (c : ℕ) → nat_eq c 62 ≡ true → c ≡ 62
     is_same c h = grind (arith, h)
@@ -97,18 +84,15 @@ length-names types (r ∷ rs) h =
 
 pub length-text : (types : List Count) (e : Epoch)
     → IsWholeEpoch types e → length (epoch_text e) ≡ 41 + 3 * length e.rows
-length-text types e h =
-    grind (
-      arith,
-      length-append e.head (flat_map (λ (r : Row). r.name) e.rows),
-      length-names types e.rows (typed-rows types e h),
-    )
+length-text types e h = grind (
+  arith,
+  length-append e.head (flat_map (λ (r : Row). r.name) e.rows),
+  length-names types e.rows (typed-rows types e h),
+)
 
-pub text-names : (types : List Count) (e : Epoch)
-    → IsWholeEpoch types e → (p : ℕ)
-    → at (epoch_text e) (41 + p) ≡ at (flat_map (λ (r : Row). r.name) e.rows) p
-text-names types e h p =
-    at-append_past e.head (flat_map (λ (r : Row). r.name) e.rows) 41 p h.sound.head_sound.width
+pub text-names : (types : List Count) (e : Epoch) → IsWholeEpoch types e
+    → (p : ℕ) → at (epoch_text e) (41 + p) ≡ at (flat_map (λ (r : Row). r.name) e.rows) p
+text-names types e h p = at-append_past e.head _ 41 p h.sound.head_sound.width
 
 pub trimmed-again : (text : List ℕ) → without_end_blanks (without_end_blanks text) ≡ without_end_blanks text
 trimmed-again text = same_characters (without_end_blanks text) text (λ p. at-without_end_blanks text p)
@@ -116,16 +100,15 @@ trimmed-again text = same_characters (without_end_blanks text) text (λ p. at-wi
 -- ---- identifiers
 
 -- the identifiers that are from an offset on
-pub names-read : (types : List Count) (text : List ℕ) (offset : ℕ) (rows : List Row)
-    → AllByRecursion (IsTypedRow types) rows
-    → ((p : ℕ) → at text (offset + p) ≡ at (flat_map (λ (r : Row). r.name) rows) p)
+pub names-read : (types : List Count) (text : List ℕ) (offset : ℕ) (rows : List Row) → AllByRecursion
+    (IsTypedRow types) rows → ((p : ℕ) → at text (offset + p) ≡ at (flat_map (λ (r : Row). r.name) rows) p)
     → each_place (length rows) (λ k. columns text (offset + 1 + 3 * k) 3) ≡ map (λ (r : Row). r.name) rows
 names-read types text offset [] h e = refl
 names-read types text offset (r ∷ rs) h e =
     let first : columns text (offset + 1 + 3 * 0) 3 ≡ r.name =
     columns-are text (offset + 1 + 3 * 0) 3 r.name (name-length r h.0.0)
     (λ p less. let place : offset + 1 + 3 * 0 - 1 + p ≡ offset + p = omega arith in ap (at text) place ∙ e p
-    ∙ at-append r.name (flat_map (λ (q : Row). q.name) rs) p (omega (arith, less, (name-length r h.0.0)))) in
+    ∙ at-append r.name (flat_map (λ (q : Row). q.name) rs) p (omega (arith, less, name-length r h.0.0))) in
     let later : (k : ℕ) → columns text (offset + 1 + 3 * suc k) 3 ≡ columns text (offset + 3 + 1 + 3 * k) 3 =
     λ k. let place : offset + 1 + 3 * suc k ≡ offset + 3 + 1 + 3 * k = omega arith in ap
     (λ n. columns text n 3) place in
@@ -144,17 +127,12 @@ abbrev pub satellites_of_rows : List Row → List Satellite
 satellites_of_rows rows = map (λ (r : Row). record { name = r.name; count = length r.values }) rows
 
 pub satellites-good : (types : List Count) (earlier : List (List ℕ)) (rows : List Row)
-    → AllByRecursion (IsTypedRow types) rows → AreNew (λ (r : Row). r.name) earlier rows
-    → are_different rows ≡ true
-    → satellites_named types earlier (map (λ (r : Row). r.name) rows) ≡ Ok (satellites_of_rows rows)
+    → AllByRecursion (IsTypedRow types) rows → AreNew (λ (r : Row). r.name) earlier rows → are_different rows
+    ≡ true → satellites_named types earlier (map (λ (r : Row). r.name) rows) ≡ Ok (satellites_of_rows rows)
 satellites-good types earlier [] h new k = refl
 satellites-good types earlier (r ∷ rs) h new k =
-    let others : Result (List Satellite) Fault =
-    satellites_named types (r.name ∷ earlier) (map (λ (q : Row). q.name) rs) in
-    let alone : has_satellite r.name rs ≡ false =
-    not-true (has_satellite r.name rs) (and_parts (not (has_satellite r.name rs)) (are_different rs) k).0 in
-    let rest : satellites_named types (r.name ∷ earlier) (map (λ (q : Row). q.name) rs) ≡ Ok
-    (satellites_of_rows rs) = satellites-good types (r.name ∷ earlier) rs h.1
-    (new-after (λ (q : Row). q.name) r.name earlier rs new.1 alone)
-    (and_parts (not (has_satellite r.name rs)) (are_different rs) k).1 in
+    let others = satellites_named types (r.name ∷ earlier) (map (λ (q : Row). q.name) rs) in
+    let rest = satellites-good types (r.name ∷ earlier) rs h.1 (new-after (λ (q : Row). q.name)
+    r.name earlier rs new.1 (not-true (has_satellite r.name rs) (and_parts (not (has_satellite r.name rs))
+    (are_different rs) k).0)) (and_parts (not (has_satellite r.name rs)) (are_different rs) k).1 in
     cc

@@ -8,9 +8,7 @@ use Rattle.crx_compact.proofs.Words.{CLOCK_WIDTH, code_at, Marked, epoch_text, s
 use Rattle.crx_compact.proofs.Words.{newest_text, indicators_before, codes_of, satellite_line, cell_text}
 use Rattle.crx_compact.proofs.Words.{compact_epoch, Count, IsWithin, AreWhole, each_place-all}
 use Rattle.crx_compact.proofs.Words.{length-each_place, IsWholeEpoch, few_kept}
-use Rattle.std.specs.Prelude.{neg_ℤ}
-use Rattle.std.specs.Prelude.{◌<ℤ◌}
-use Rattle.std.specs.Prelude.{flat_map}
+use Rattle.std.specs.Prelude.{neg_ℤ, ◌<ℤ◌, flat_map}
 use Rattle.std.proofs.lemmas.Int.{ints}
 use Rattle.std.proofs.lemmas.Fmt.{length-decimal-le}
 use Rattle.std.proofs.lemmas.List.{length-append}
@@ -25,22 +23,16 @@ use Rattle.crx_compact.proofs.wayback.Runs.{marked}
 use Rattle.crx_compact.proofs.wayback.Rows.{IsRowOf, clocks-fit, lines-each, near-all, stretch-within}
 use Rattle.crx_compact.proofs.wayback.Rows.{values-fit}
 use Rattle.crx_compact.proofs.wayback.Facts.{length-text}
+use Rattle.std.proofs.lemmas.Grind.{common_steps}
 
 -- ---- numbers and codes
 
 signed-length : (k b : ℕ) (z : ℤ)
     → 0 < k → k ≤ DIGITS_LIMIT → b < 10 ^ k → IsNear b z → length (signed_decimal z) ≤ k + 1
 signed-length k b (pos n) some few h near =
-    let less : n < 10 ^ k = omega (arith, ints, near.high, h) in
-    let wide : 10 ^ k ≤ 10 ^ DIGITS_LIMIT = pow-le-pow_right (omega arith) few in
-    let len : length (decimal n) ≤ k = length-decimal-le k n some less (omega (arith, less, wide)) in
-    omega (arith, len)
+    grind (arith, common_steps, DIGITS_LIMIT, pow-le-pow_right, length-decimal-le)
 signed-length k b (negsuc n) some few h near =
-    let less : suc n < 10 ^ k = omega (arith, ints, near.low, h) in
-    let wide : 10 ^ k ≤ 10 ^ DIGITS_LIMIT = pow-le-pow_right (omega arith) few in
-    let len : length (decimal (suc n)) ≤ k = length-decimal-le k (suc n) some less (omega (arith, less, wide))
-    in
-    omega (arith, len)
+    grind (arith, common_steps, DIGITS_LIMIT, pow-le-pow_right, length-decimal-le)
 
 -- a number that fits its columns: a minus takes the place of a digit
 within-length : (j : ℕ) (z : ℤ) → 0 < j → j + 1 ≤ DIGITS_LIMIT → IsWithin (j + 2) z
@@ -48,50 +40,36 @@ within-length : (j : ℕ) (z : ℤ) → 0 < j → j + 1 ≤ DIGITS_LIMIT → IsW
 within-length j (pos n) some few h =
     let same : j + 2 - 1 ≡ j + 1 = omega arith in
     let P : ℕ → Type 0 = λ m. pos n <ℤ pos (10 ^ m) in
-    let high : pos n <ℤ pos (10 ^ (j + 1)) = subst P same h.high in
-    let less : n < 10 ^ (j + 1) = omega (arith, ints, high) in
-    let wide : 10 ^ (j + 1) ≤ 10 ^ DIGITS_LIMIT = ten-more (j + 1) DIGITS_LIMIT few in
-    length-decimal-le (j + 1) n (omega arith) less (omega (arith, less, wide))
+    grind (arith, common_steps, DIGITS_LIMIT, ten-more, length-decimal-le)
 within-length j (negsuc n) some few h =
     let same : j + 2 - 2 ≡ j = omega arith in
     let P : ℕ → Type 0 = λ m. neg_ℤ (pos (10 ^ m)) <ℤ negsuc n in
     let low : neg_ℤ (pos (10 ^ j)) <ℤ negsuc n = subst P same h.low in
-    let less : suc n < 10 ^ j = omega (arith, ints, low) in
-    let fewer : j ≤ DIGITS_LIMIT = omega (arith, few) in
-    let wide : 10 ^ j ≤ 10 ^ DIGITS_LIMIT = ten-more j DIGITS_LIMIT fewer in
-    let len : length (decimal (suc n)) ≤ j = length-decimal-le j (suc n) some less (omega (arith, less, wide))
-    in
-    omega (arith, len)
+    grind (arith, common_steps, DIGITS_LIMIT, ten-more, length-decimal-le)
 
 -- a code of an arc whose values fit so many columns: a first value has two characters before it, and a
 -- difference one
 -- digit more than a value
 pub code-length : (j : ℕ) (xs : List ℤ)
     → 0 < j → j + 2 ≤ DIGITS_LIMIT → doubled WRITTEN_ORDER (10 ^ (j + 1)) < 10 ^ (j + 2)
-    → AllByRecursion (IsWithin (j + 2)) xs
-    → length (code_text (code_at WRITTEN_ORDER xs)) ≤ j + 3
+    → AllByRecursion (IsWithin (j + 2)) xs → length (code_text (code_at WRITTEN_ORDER xs)) ≤ j + 3
 code-length j [] some few h all = omega arith
-code-length j (x ∷ []) some few h all =
-    grind (
-      arith,
-      within-length j x some (omega (arith, few)) all.0,
-      order-text WRITTEN_ORDER (omega arith),
-    )
+code-length j (x ∷ []) some few h all = grind (
+  arith,
+  within-length j x some (omega (arith, few)) all.0,
+  order-text WRITTEN_ORDER (omega arith),
+)
 code-length j (x ∷ y ∷ ys) some few h all =
-    let order : ℕ = min (length (y ∷ ys)) WRITTEN_ORDER in
-    let b : ℕ = 10 ^ (j + 1) in
+    let order = min (length (y ∷ ys)) WRITTEN_ORDER in
+    let b = 10 ^ (j + 1) in
     let same : j + 2 - 1 ≡ j + 1 = omega arith in
     let P : ℕ → Type 0 = λ m. AllByRecursion (IsNear (10 ^ m)) (x ∷ y ∷ ys) in
-    let near : AllByRecursion (IsNear (10 ^ (j + 1))) (x ∷ y ∷ ys) =
-    subst P same (near-all (j + 2) (x ∷ y ∷ ys) all) in
-    let le : doubled order b ≤ doubled WRITTEN_ORDER b = doubled-more order WRITTEN_ORDER b (omega arith) in
-    let step : IsNear (doubled WRITTEN_ORDER b) (difference order (x ∷ y ∷ ys)) =
-    near-more (doubled order b) (doubled WRITTEN_ORDER b)
-    (difference order (x ∷ y ∷ ys)) le (difference-near order b (x ∷ y ∷ ys) near) in
-    let number : length (signed_decimal (difference order (x ∷ y ∷ ys))) ≤ j + 2 + 1 =
-    signed-length (j + 2) (doubled WRITTEN_ORDER b) (difference order (x ∷ y ∷ ys)) (omega arith) few h step
-    in
-    omega (arith, number)
+    let step = near-more (doubled order b) (doubled WRITTEN_ORDER b)
+    (difference order (x ∷ y ∷ ys)) (doubled-more order WRITTEN_ORDER b (omega arith))
+    (difference-near order b (x ∷ y ∷ ys) (subst P same (near-all (j + 2) (x ∷ y ∷ ys) all))) in
+    let first = signed-length
+    (j + 2) (doubled WRITTEN_ORDER b) (difference order (x ∷ y ∷ ys)) (omega arith) few h step in
+    omega arith
 
 -- ---- texts
 
@@ -100,12 +78,12 @@ by_position-length : (f : ℕ → ℕ → ℕ) (n : ℕ) (xs ys : List ℕ)
 by_position-length f n [] [] h k = omega arith
 by_position-length f zero (x ∷ xs) ys h k = absurd (omega (arith, h))
 by_position-length f zero [] (y ∷ ys) h k = absurd (omega (arith, k))
-by_position-length f (suc n) (x ∷ xs) [] h k = let le : length (by_position f xs []) ≤ n =
-    by_position-length f n xs [] (omega (arith, h)) (omega arith) in omega (arith, le)
-by_position-length f (suc n) [] (y ∷ ys) h k = let le : length (by_position f [] ys) ≤ n =
-    by_position-length f n [] ys (omega arith) (omega (arith, k)) in omega (arith, le)
-by_position-length f (suc n) (x ∷ xs) (y ∷ ys) h k = let le : length (by_position f xs ys) ≤ n =
-    by_position-length f n xs ys (omega (arith, h)) (omega (arith, k)) in omega (arith, le)
+by_position-length f (suc n) (x ∷ xs) [] h k =
+    omega (arith, by_position-length f n xs [] (omega (arith, h)) (omega arith))
+by_position-length f (suc n) [] (y ∷ ys) h k =
+    omega (arith, by_position-length f n [] ys (omega arith) (omega (arith, k)))
+by_position-length f (suc n) (x ∷ xs) (y ∷ ys) h k =
+    omega (arith, by_position-length f n xs ys (omega (arith, h)) (omega (arith, k)))
 
 pub difference-length : (n : ℕ) (old new : List ℕ)
     → length old ≤ n → length new ≤ n → length (text_difference old new) ≤ n
@@ -115,13 +93,12 @@ difference-length n old new h k =
 pub cells-length : (n : ℕ) (codes : List Code) → AllByRecursion (λ (c : Code). length (code_text c) ≤ n) codes
     → length (flat_map cell_text codes) ≤ (n + 1) * length codes
 cells-length n [] h = omega arith
-cells-length n (c ∷ cs) h =
-    grind (
-      arith,
-      length-append (code_text c) (32 ∷ []),
-      length-append (code_text c ++ 32 ∷ []) (flat_map cell_text cs),
-      cells-length n cs h.1,
-    )
+cells-length n (c ∷ cs) h = grind (
+  arith,
+  length-append (code_text c) (32 ∷ []),
+  length-append (code_text c ++ 32 ∷ []) (flat_map cell_text cs),
+  cells-length n cs h.1,
+)
 
 -- ---- counts of satellites
 
@@ -146,47 +123,42 @@ before-length types name (r ∷ []) h = omega arith
 before-length types name (r ∷ q ∷ qs) h = omega (arith, h.1.0.is_row.0.paired, h.1.0.is_row.0.counted.1)
 
 row-short : (types : List Count) (name : List ℕ) (run : List Row) (r : Row)
-    → AllByRecursion (IsRowOf types name) run → IsTypedRow types r
-    → length (satellite_line run r) ≤ most
+    → AllByRecursion (IsRowOf types name) run → IsTypedRow types r → length (satellite_line run r) ≤ most
 row-short types name run r h k =
     let codes = codes_of (length r.values) run in
     let marks = text_difference (indicators_before run) r.flags in
-    let each = each_place-all (λ (c : Code). length (code_text c) ≤ 15) (length r.values)
-    (λ j. code_at WRITTEN_ORDER (arc_of j run))
-    (λ j. code-length 12 (arc_of j run) (omega arith) (omega arith) (omega arith)
-    (stretch-within OBSERVATION_WIDTH (map (value_in j) run) (values-fit types name j run h))) in
+    let each = each_place-all (λ (c : Code). length (code_text c) ≤ 15) (length r.values) (λ j. code_at
+    WRITTEN_ORDER (arc_of j run)) (λ j. code-length 12 (arc_of j run) (omega arith) (omega arith) (omega
+    arith) (stretch-within OBSERVATION_WIDTH (map (value_in j) run) (values-fit types name j run h))) in
     let count = length-each_place (length r.values) (λ j. code_at WRITTEN_ORDER (arc_of j run)) in
     let cells = cells-length 15 codes each in
     let tail = difference-length (2 * TYPES_LIMIT) (indicators_before run) r.flags
     (before-length types name run h) (omega (arith, k.0.paired, k.0.counted.1)) in
-    let all = length-append (flat_map cell_text codes) marks in
-    let trimmed = few_kept (flat_map cell_text codes ++ marks) in
-    omega (arith, count, cells, tail, all, trimmed, k.0.counted.1)
+    grind (arith, common_steps, length-append, flat_map, cell_text, few_kept)
 
 clock-short : (types : List Count) (ms : List Marked) → AreWhole types (since_full ms)
     → length (code_text (code_at WRITTEN_ORDER (clock_arc ms))) ≤ 16
 clock-short types ms h =
-    code-length 13 (clock_arc ms) (omega arith) (omega arith) (omega arith)
-    (stretch-within CLOCK_WIDTH (map (λ (e : Epoch). e.clock) (since_full ms))
-    (clocks-fit types (since_full ms) h))
+    code-length 13 (clock_arc ms) (omega arith) (omega arith) (omega arith) (stretch-within CLOCK_WIDTH
+    (map (λ (e : Epoch). e.clock) (since_full ms)) (clocks-fit types (since_full ms) h))
 
-old-short : (types : List Count) (full : Bool) (e : Epoch) (older : List Marked)
-    → AreWhole types (since_full (marked full e ∷ older))
-    → length (if full then [] else newest_text older) ≤ 41 + 3 * SATELLITES_LIMIT
+old-short : (types : List Count) (full : Bool) (e : Epoch) (older : List Marked) → AreWhole types (since_full
+    (marked full e ∷ older)) → length (if full then [] else newest_text older) ≤ 41 + 3 * SATELLITES_LIMIT
 old-short types true e older h = omega arith
 old-short types false e [] h = omega arith
 old-short types false e (m ∷ older) h = text-short types m.epoch h.1.0
 
 -- none of the compact lines of an epoch is too long
 pub lines-short : (types : List Count) (full : Bool) (e : Epoch) (older : List Marked)
-    → AreWhole types (since_full (marked full e ∷ older))
-    → AllByRecursion (λ (line : List ℕ). length line ≤ 18 * TYPES_LIMIT)
-    (compact_epoch (marked full e ∷ older))
+    → AreWhole types (since_full (marked full e ∷ older)) → AllByRecursion
+    (λ (line : List ℕ). length line ≤ 18 * TYPES_LIMIT) (compact_epoch (marked full e ∷ older))
 lines-short types full e older h =
     let ms = marked full e ∷ older in
-    let line = difference-length (41 + 3 * SATELLITES_LIMIT) (if full then [] else newest_text older)
-    (epoch_text e) (old-short types full e older h) (text-short types e h.0) in
-    let clock = clock-short types ms h in
-    let rows = lines-each (λ l. length l ≤ most) types ms (row-short types) h e.rows (typed-rows types e h.0)
-    in
-    (omega (arith, line), (omega (arith, clock), rows))
+    let line = difference-length _ _
+    (epoch_text e) (old-short types full e older h) (text-short types e h.0) in (
+      omega (arith, line),
+      (
+        omega (arith, clock-short types ms h),
+        lines-each (λ l. length l ≤ most) types ms (row-short types) h e.rows (typed-rows types e h.0),
+      ),
+    )

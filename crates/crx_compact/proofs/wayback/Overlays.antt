@@ -21,11 +21,9 @@ at-All P e (c ∷ cs) h (suc p) = at-All P e cs (λ k d less. h (suc k) d (omega
 
 pub patched-difference : (old new : List ℕ)
     → All (λ c. c ≢ 38) new → patched old (text_difference old new) ≡ without_end_blanks new
-patched-difference old new h =
-    same_characters (by_position character_of old (text_difference old new)) new (λ p.
-    at-by_position character_of refl old (text_difference old new) p
-    ∙ ap (character_of (at old p)) (at-without_end_blanks (by_position mark_of old new) p
-    ∙ at-by_position mark_of refl old new p)
+patched-difference old new h = same_characters (by_position character_of old (text_difference old new)) new
+    (λ p. at-by_position character_of refl old (text_difference old new) p ∙ ap (character_of (at old p))
+    (at-without_end_blanks (by_position mark_of old new) p ∙ at-by_position mark_of refl old new p)
     ∙ character-mark (at old p) (at new p) (at-All (λ c. c ≢ 38) (omega arith) new h p))
 
 -- ---- marks over one another
@@ -41,25 +39,19 @@ past_longest (w ∷ ws) p h = cc (at_past w p (omega (arith, h)), past_longest w
 
 pub at-longest : (marks : List (List ℕ)) (p : ℕ)
     → at (each_place (longest marks) (λ q. shown (latest_mark marks q))) p ≡ shown (latest_mark marks p)
-at-longest marks p = index-each_place
-    (longest marks) p (λ q. shown (latest_mark marks q)) 32 (λ h. ap shown (past_longest marks p h))
+at-longest marks p = index-each_place _ p _ 32 (λ h. ap shown (past_longest marks p h))
 
 pub at-overlaid : (marks : List (List ℕ)) (p : ℕ) → at (overlaid marks) p ≡ shown (latest_mark marks p)
-at-overlaid marks p =
-    at-without_end_blanks (each_place (longest marks) (λ q. shown (latest_mark marks q))) p
-    ∙ at-longest marks p
+at-overlaid marks p = at-without_end_blanks _ p ∙ at-longest marks p
 
 character-shown : (old c : ℕ) → character_of (shown old) c ≡ shown (if is_blank c then old else c)
 character-shown old c = grind arith
 
 pub overlaid-patched : (w : List ℕ) (ws : List (List ℕ)) → overlaid (w ∷ ws) ≡ patched (overlaid ws) w
-overlaid-patched w ws =
-    same_characters (each_place (longest (w ∷ ws)) (λ q. shown (latest_mark (w ∷ ws) q)))
-    (by_position character_of (overlaid ws) w) (λ p.
-    at-longest (w ∷ ws) p
-    ∙ sym (at-by_position character_of refl (overlaid ws) w p
-    ∙ ap (λ n. character_of n (at w p)) (at-overlaid ws p)
-    ∙ character-shown (latest_mark ws p) (at w p)))
+overlaid-patched w ws = same_characters (each_place (longest (w ∷ ws)) (λ q. shown (latest_mark (w ∷ ws) q)))
+    (by_position character_of (overlaid ws) w)
+    (λ p. at-longest (w ∷ ws) p ∙ sym (at-by_position character_of refl (overlaid ws) w p
+    ∙ ap (λ n. character_of n (at w p)) (at-overlaid ws p) ∙ character-shown (latest_mark ws p) (at w p)))
 
 pub overlaid-in_turn : (marks : List (List ℕ)) → overlaid marks ≡ patched_in_turn marks
 overlaid-in_turn [] = refl

@@ -16,10 +16,8 @@ use Rattle.crx_compact.proofs.Words.{IsWholeEpoch, raw_row, raw_of, raws_of, Are
 use Rattle.crx_compact.proofs.Words.{few_kept, at, at-without_end_blanks, columns-are}
 use Rattle.std.proofs.Common.{drop_of_length-le}
 use Rattle.std.proofs.lemmas.List.{length-append, append_assoc}
-use Rattle.crx_compact.specs.ReadingLaws.{EpochReadsBack, read_of, lines_of_epoch}
-use Rattle.crx_compact.specs.ReadingLaws.{EachReadsBack, text_lines, epochs_at, marked_of, counts_of}
-use Rattle.crx_compact.specs.ReadingLaws.{reads_of}
-use Rattle.crx_compact.specs.ReadingLaws.{ReadsBack}
+use Rattle.crx_compact.specs.ReadingLaws.{EpochReadsBack, read_of, lines_of_epoch, EachReadsBack, text_lines}
+use Rattle.crx_compact.specs.ReadingLaws.{epochs_at, marked_of, counts_of, reads_of, ReadsBack}
 use Rattle.crx_compact.proofs.Lists.{all-from}
 use Rattle.crx_compact.proofs.wayback.Writable.{head-counted, typed-rows}
 use Rattle.crx_compact.proofs.wayback.CodeTexts.{is_code_character, code-characters}
@@ -27,8 +25,7 @@ use Rattle.crx_compact.proofs.wayback.Runs.{raw_block, marked, Begins, begins_fu
 use Rattle.crx_compact.proofs.wayback.Runs.{raw_run}
 use Rattle.crx_compact.proofs.wayback.Runs.{runs-read, clocks-read, value-back, text-read, rows_before}
 use Rattle.crx_compact.proofs.wayback.Facts.{text-kept, text-head, text-begins, length-text, text-names}
-use Rattle.crx_compact.proofs.wayback.Facts.{names-read}
-use Rattle.crx_compact.proofs.wayback.Facts.{satellites_of_rows, satellites-good, unmarked}
+use Rattle.crx_compact.proofs.wayback.Facts.{names-read, satellites_of_rows, satellites-good, unmarked}
 use Rattle.crx_compact.proofs.wayback.Facts.{difference-printable}
 use Rattle.crx_compact.proofs.wayback.Rows.{run-begins, rows-of_run, clock-printable, satellite_of, row-read}
 use Rattle.crx_compact.proofs.Identifiers.{each-own, none-earlier}
@@ -42,7 +39,7 @@ epochs-begin types epochs h = all-from (λ (e : Epoch). at (epoch_text e) 0 ≡ 
 
 pub epochs-unmarked : (types : List Count) (epochs : List Epoch)
     → AreWhole types epochs → AllByRecursion (λ (e : Epoch). (p : ℕ) → at (epoch_text e) p ≢ 38) epochs
-epochs-unmarked types epochs h = all-from (λ (e : Epoch). (p : ℕ) → at (epoch_text e) p ≢ 38)
+epochs-unmarked types epochs h = all-from _
     (λ e whole. unmarked (epoch_text e) (text-kept types e whole)) epochs h
 
 -- ---- what is before the line in its block
@@ -57,22 +54,16 @@ not-empty (x ∷ xs) raw block e = refl
 
 -- what the lines of an epoch are read against
 past-found : (full : Bool) (e : Epoch) (older : List Marked) (raws : List RawEpoch)
-    → Begins (marked full e ∷ older)
-    → (full ≡ false → block_of raws ≡ block_of (raws_of older))
+    → Begins (marked full e ∷ older) → (full ≡ false → block_of raws ≡ block_of (raws_of older))
     → past_of_line raws (epoch_line (marked full e) older) ≡ Some (past_of_block (before full older))
 past-found true e older raws h k = cc (begins_full (epoch_text e) h.0)
 past-found false e [] raws h k = cc (begins_full (epoch_text e) h.0)
 past-found false e (m ∷ older) raws h k =
-    let block : block_of raws ≡ raw_block (m ∷ older) = k refl ∙ block-raws (m ∷ older) h.1 in
-    rw (
-      begins_later (epoch_text m.epoch) (epoch_text e) h.1.0 h.0,
-      not-empty raws (raw_of m older) (before m.in_full older) block,
-      block,
-    )
+    let block = k refl ∙ block-raws (m ∷ older) h.1 in
+    rw (begins_later _ _ h.1.0 h.0, not-empty raws _ _ block, block)
 
 block-found : (full : Bool) (e : Epoch) (older : List Marked) (raws : List RawEpoch)
-    → Begins (marked full e ∷ older)
-    → (full ≡ false → block_of raws ≡ block_of (raws_of older))
+    → Begins (marked full e ∷ older) → (full ≡ false → block_of raws ≡ block_of (raws_of older))
     → block_of (raw_of (marked full e) older ∷ raws) ≡ block_of (raws_of (marked full e ∷ older))
 block-found true e older raws h k = cc (begins_full (epoch_text e) h.0)
 block-found false e older raws h k = grind arith
@@ -81,15 +72,13 @@ block-found false e older raws h k = grind arith
 
 text-columns : (types : List Count) (e : Epoch)
     → IsWholeEpoch types e → columns (without_end_blanks (epoch_text e)) 1 41 ≡ e.head
-text-columns types e h =
-    columns-are (without_end_blanks (epoch_text e)) 1 41 e.head h.sound.head_sound.width (λ p less.
+text-columns types e h = columns-are _ 1 41 e.head h.sound.head_sound.width (λ p less.
     let place : 1 - 1 + p ≡ p = omega arith in
     ap (at (without_end_blanks (epoch_text e))) place
     ∙ at-without_end_blanks (epoch_text e) p ∙ text-head types e h p less)
 
-text-good : (types : List Count) (e : Epoch)
-    → IsWholeEpoch types e → satellites_of_text types (without_end_blanks (epoch_text e))
-    ≡ Ok (satellites_of_rows e.rows)
+text-good : (types : List Count) (e : Epoch) → IsWholeEpoch types e
+    → satellites_of_text types (without_end_blanks (epoch_text e)) ≡ Ok (satellites_of_rows e.rows)
 text-good types e h =
     let text = without_end_blanks (epoch_text e) in
     let count = ap epoch_count (text-columns types e h) ∙ head-counted types e h in
@@ -98,30 +87,24 @@ text-good types e h =
     let rest = drop_of_length-le (without_end_blanks (epoch_text e)) (omega (arith, long, whole)) in
     let names = names-read types (without_end_blanks (epoch_text e)) 41 e.rows (typed-rows types e h)
     (λ p. at-without_end_blanks (epoch_text e) (41 + p) ∙ text-names types e h p) in
-    ap (satellites_counted types text) count
-    ∙ ap {B = Result (List Satellite) Fault}
-    (λ r. if not (list_all is_blank r) then Err BadEpoch else
-    satellites_named types [] (names_in text (length e.rows))) rest ∙ ap (satellites_named types []) names
-    ∙ satellites-good types [] e.rows (typed-rows types e h) (none-earlier (λ (r : Row). r.name) e.rows)
-    h.sound.apart
+    ap (satellites_counted types text) count ∙ ap {B = Result (List Satellite) Fault}
+    (λ r. if not (list_all is_blank r) then Err BadEpoch else satellites_named types []
+    (names_in text (length e.rows))) rest ∙ ap (satellites_named types []) names ∙ satellites-good
+    types [] e.rows (typed-rows types e h) (none-earlier (λ (r : Row). r.name) e.rows) h.sound.apart
 
 text-good_line : (types : List Count) (full : Bool) (e : Epoch) (older : List Marked)
-    → AreWhole types (since_full (marked full e ∷ older))
-    → overlaid (epoch_line (marked full e) older ∷ map (λ (q : RawEpoch). q.line) (before full older))
-    ≡ without_end_blanks (epoch_text e)
+    → AreWhole types (since_full (marked full e ∷ older)) → overlaid (epoch_line (marked full e) older ∷ map
+    (λ (q : RawEpoch). q.line) (before full older)) ≡ without_end_blanks (epoch_text e)
 text-good_line types full e older h =
     text-read (marked full e ∷ older) (epochs-unmarked types (since_full (marked full e ∷ older)) h)
 
 line-good : (types : List Count) (full : Bool) (e : Epoch) (older : List Marked)
-    → AreWhole types (since_full (marked full e ∷ older))
-    → satellites_of_line types (past_of_block (before full older)) (epoch_line (marked full e) older)
-    ≡ Ok (satellites_of_rows e.rows)
+    → AreWhole types (since_full (marked full e ∷ older)) → satellites_of_line types
+    (past_of_block (before full older)) (epoch_line (marked full e) older) ≡ Ok (satellites_of_rows e.rows)
 line-good types full e older h =
-    cc (
-      difference-printable (if full then [] else newest_text older) (epoch_text e) (text-kept types e h.0),
-      text-good_line types full e older h,
-      text-good types e h.0,
-    )
+    let first =
+    difference-printable (if full then [] else newest_text older) (epoch_text e) (text-kept types e h.0) in
+    cc (text-good_line types full e older h, text-good types e h.0)
 
 -- ---- the clock line
 
@@ -131,33 +114,28 @@ text-other (c ∷ cs) h = grind arith
 
 no-end_blanks : (text : List ℕ) → list_all is_code_character text ≡ true → without_end_blanks text ≡ text
 no-end_blanks [] h = refl
-no-end_blanks (c ∷ cs) h =
-    grind (
-      arith,
-      no-end_blanks cs (and_parts (is_code_character c) (list_all is_code_character cs) h).1,
-      (and_parts (is_code_character c) (list_all is_code_character cs) h).0,
-    )
+no-end_blanks (c ∷ cs) h = grind (
+  arith,
+  no-end_blanks cs (and_parts (is_code_character c) (list_all is_code_character cs) h).1,
+  (and_parts (is_code_character c) (list_all is_code_character cs) h).0,
+)
 
-clock-good : (types : List Count) (full : Bool) (e : Epoch) (older : List Marked)
-    → AreWhole types (since_full (marked full e ∷ older))
-    → clock_line_read (past_of_block (before full older))
+clock-good : (types : List Count) (full : Bool) (e : Epoch) (older : List Marked) → AreWhole types
+    (since_full (marked full e ∷ older)) → clock_line_read (past_of_block (before full older))
     (code_text (code_at WRITTEN_ORDER (clock_arc (marked full e ∷ older))))
     ≡ Ok (record { code = code_at WRITTEN_ORDER (clock_arc (marked full e ∷ older)); value = e.clock })
 clock-good types full e older h =
-    let past : Past = past_of_block (before full older) in
-    let code : Code = code_at WRITTEN_ORDER (clock_arc (marked full e ∷ older)) in
-    let printable : IsPrintable code = clock-printable types (since_full (marked full e ∷ older)) h in
-    let characters : list_all is_code_character (code_text code) ≡ true = code-characters code printable in
-    let value : past.clock code ≡ Ok e.clock = ap (value_of CLOCK_WIDTH) (clocks-read (marked full e ∷ older))
-    ∙ value-back CLOCK_WIDTH e.clock
-    (map (λ (q : Epoch). q.clock)
-    (map (λ (m : Marked). m.epoch) (if full then [] else back_to (λ (m : Marked). m.in_full) older)))
-    h.0.sound.head_sound.ranged in
+    let past = past_of_block (before full older) in
+    let code = code_at WRITTEN_ORDER (clock_arc (marked full e ∷ older)) in
+    let printable = clock-printable types (since_full (marked full e ∷ older)) h in
+    let characters = code-characters code printable in
     rw (
       text-other (code_text code) characters,
       no-end_blanks (code_text code) characters,
       code_of-code_text code printable,
-      value,
+      ap (value_of CLOCK_WIDTH) (clocks-read (marked full e ∷ older))
+          ∙ value-back CLOCK_WIDTH e.clock (map (λ (q : Epoch). q.clock) (map (λ (m : Marked). m.epoch)
+          (if full then [] else back_to (λ (m : Marked). m.in_full) older))) h.0.sound.head_sound.ranged,
     )
 
 -- ---- the satellite lines
@@ -177,21 +155,17 @@ abbrev RowReads : Past → List Marked → Row → Type 0
 RowReads past ms r = satellite_line_read past (satellite_of r) (line_in ms r) ≡ Ok (read_in ms r)
 
 row-reads : (types : List Count) (full : Bool) (e : Epoch) (older : List Marked)
-    → AreWhole types (since_full (marked full e ∷ older))
-    → (r : Row) → row_named r.name e.rows ≡ Some r
+    → AreWhole types (since_full (marked full e ∷ older)) → (r : Row) → row_named r.name e.rows ≡ Some r
     → RowReads (past_of_block (before full older)) (marked full e ∷ older) r
 row-reads types full e older h r own =
-    let run = run-begins full e older r own in
-    let rows = rows-of_run types full e older h r own in
     let Q : List Row → Type 0 = λ q. satellite_line_read (past_of_block (before full older))
     (satellite_of r) (satellite_line q r) ≡ Ok (record { raw = raw_row q r; row = r }) in
-    subst Q (sym run) (row-read types
-    (before full older) r (rows_before full r.name older) rows (run-before full r.name older))
+    subst Q (sym (run-begins full e older r own)) (row-read types (before full older) r
+    (rows_before full r.name older) (rows-of_run types full e older h r own) (run-before full r.name older))
 
 rows-good : (past : Past) (ms : List Marked) (rows : List Row) (rest : List ReadLine)
-    → AllByRecursion (RowReads past ms) rows
-    → rows_read past (satellites_of_rows rows) (map Content (map (line_in ms) rows) ++ rest)
-    ≡ Here (map (read_in ms) rows) (length rows)
+    → AllByRecursion (RowReads past ms) rows → rows_read past (satellites_of_rows rows)
+    (map Content (map (line_in ms) rows) ++ rest) ≡ Here (map (read_in ms) rows) (length rows)
 rows-good past ms [] rest h = refl
 rows-good past ms (r ∷ rs) rest h = grind (arith, rows-good past ms rs rest h.1)
 
@@ -201,33 +175,26 @@ map-row : (ms : List Marked) (rows : List Row) → map (λ (r : ReadRow). r.row)
 map-row ms [] = refl
 map-row ms (r ∷ rs) = ap (λ q. r ∷ q) (map-row ms rs)
 
-epoch-good : (types : List Count)
-    (full : Bool) (e : Epoch) (older : List Marked) (raws : List RawEpoch) (rest : List ReadLine)
-    → AreWhole types (since_full (marked full e ∷ older))
-    → (full ≡ false → block_of raws ≡ block_of (raws_of older))
-    → epoch_at types raws (lines_of_epoch (marked full e ∷ older) ++ rest)
-    ≡ Here (read_of (marked full e) older) (2 + length e.rows)
+epoch-good : (types : List Count) (full : Bool) (e : Epoch) (older : List Marked)
+    (raws : List RawEpoch) (rest : List ReadLine) → AreWhole types (since_full (marked full e ∷ older))
+    → (full ≡ false → block_of raws ≡ block_of (raws_of older)) → epoch_at types raws (lines_of_epoch
+    (marked full e ∷ older) ++ rest) ≡ Here (read_of (marked full e) older) (2 + length e.rows)
 epoch-good types full e older raws rest h k =
-    let ms : List Marked = marked full e ∷ older in
-    let past : Past = past_of_block (before full older) in
-    let line : List ℕ = epoch_line (marked full e) older in
-    let code : Code = code_at WRITTEN_ORDER (clock_arc (marked full e ∷ older)) in
+    let ms = marked full e ∷ older in
+    let past = past_of_block (before full older) in
+    let line = epoch_line (marked full e) older in
+    let code = code_at WRITTEN_ORDER (clock_arc (marked full e ∷ older)) in
     let begun : BegunEpoch = record { line = line; past = past; satellites = satellites_of_rows e.rows } in
     let clock : ReadCell = record { code = code; value = e.clock } in
-    let others : List ReadLine = map Content (map (line_in ms) e.rows) ++ rest in
-    let later : List ReadLine = Content (code_text code) ∷ others in
-    let first : epoch_begun types line (past_of_line raws line) ≡ Ok begun = ap (epoch_begun types line)
+    let later = Content (code_text code) ∷ (map Content (map (line_in ms) e.rows) ++ rest) in
+    let first = ap (epoch_begun types line)
     (past-found full e older raws (epochs-begin types (since_full (marked full e ∷ older)) h) k)
     ∙ ap {B = Result BegunEpoch Fault} (λ r. and_then r (λ satellites. Ok (record {
       line = line;
       past = past;
       satellites = satellites;
     }))) (line-good types full e older h) in
-    let reads : AllByRecursion (RowReads past ms) e.rows = all-from (RowReads past ms)
-    (λ r own. row-reads types full e older h r own) e.rows
-    (each-own (λ (r : Row). r.name) e.rows h.0.sound.apart) in
-    let same : epoch_of_rows begun clock (map (read_in ms) e.rows) ≡ read_of (marked full e) older =
-    rw (
+    let same : epoch_of_rows begun clock (map (read_in ms) e.rows) ≡ read_of (marked full e) older = rw (
       map-map (λ (r : ReadRow). r.raw) (read_in ms) e.rows,
       map-row ms e.rows,
       text-good_line types full e older h,
@@ -236,7 +203,8 @@ epoch-good types full e older raws rest h k =
     rw (
       first,
       clock-good types full e older h,
-      rows-good past ms e.rows rest reads,
+      rows-good past ms e.rows rest (all-from (RowReads past ms) (λ r own. row-reads
+          types full e older h r own) e.rows (each-own (λ (r : Row). r.name) e.rows h.0.sound.apart)),
       same,
       counted (length e.rows),
     )
@@ -248,8 +216,8 @@ each-reads : (types : List Count) (m : Marked) (older : List Marked) (raws : Lis
     → AreWhole types (since_full (m ∷ older))
     → (m.in_full ≡ false → block_of raws ≡ block_of (raws_of older)) → EpochReadsBack types m older raws
 each-reads types m older raws h k = record {
-  reads = λ rest. epoch-good types m.in_full m.epoch older raws rest h k;
-  block = block-found m.in_full m.epoch older raws (epochs-begin types (since_full (m ∷ older)) h) k;
+  reads = λ rest. epoch-good types _ _ older raws rest h k;
+  block = block-found _ m.epoch older raws (epochs-begin types (since_full (m ∷ older)) h) k;
 }
 
 pub each-reads_back : EachReadsBack
@@ -264,13 +232,12 @@ map-raws (m ∷ older) = ap (λ rs. raw_of m older ∷ rs) (map-raws older)
 pub reads-back : ReadsBack
 reads-back [] rest h = refl
 reads-back (t ∷ older) rest h =
-    let ms : List Marked = marked_of older in
-    let m : Marked = t.marked in
-    let text : List (List ℕ) = text_lines ms in
-    let lines : List (List ℕ) = compact_epoch (m ∷ ms) in
-    let all : List ReadLine = map Content (text ++ lines) ++ rest in
-    let split : map Content (text ++ lines) ++ rest ≡ map Content text ++ (map Content lines ++ rest) =
-    ap (λ l. l ++ rest) (map-append Content text lines)
+    let ms = marked_of older in
+    let m = t.marked in
+    let text = text_lines ms in
+    let lines = compact_epoch (m ∷ ms) in
+    let all = map Content (text ++ lines) ++ rest in
+    let split = ap (λ l. l ++ rest) (map-append Content text lines)
     ∙ append_assoc (map Content text) (map Content lines) rest in
     let first : epochs_at (counts_of older) all ≡ Here (reads_of ms) (length text) =
     ap (epochs_at (counts_of older)) split ∙ reads-back older (map Content lines ++ rest) h.1 in
@@ -278,8 +245,7 @@ reads-back (t ∷ older) rest h =
     cc (split, length-map text Content, drop-append_seam (map Content text) (map Content lines ++ rest)) in
     let next : epoch_at t.types (raws_of ms) (map Content lines ++ rest) ≡ Here (read_of m ms)
     (2 + length m.epoch.rows) = (each-reads_back t.types m ms (raws_of ms) h.0 (λ later. refl)).reads rest in
-    let rows : length (map (λ (r : Row). satellite_line (run_of r.name (m ∷ ms)) r) m.epoch.rows) ≡ length
-    m.epoch.rows = length-map m.epoch.rows (λ (r : Row). satellite_line (run_of r.name (m ∷ ms)) r) in
+    let rows = length-map m.epoch.rows (λ (r : Row). satellite_line (run_of r.name (m ∷ ms)) r) in
     let count : length text + (2 + length m.epoch.rows + 0) ≡ length (text ++ lines) = let sum : length
     (text ++ lines) ≡ length text + length lines = length-append text lines in omega (arith, sum, rows) in
     rw (first, left, map-raws ms, next, count)

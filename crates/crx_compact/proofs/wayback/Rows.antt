@@ -30,6 +30,7 @@ use Rattle.crx_compact.proofs.Characters.{bytes_eq-is}
 use Rattle.crx_compact.proofs.arcs.Bounds.{IsNear, near-within, code-printable}
 use Rattle.crx_compact.proofs.wayback.Facts.{unmarked, at-difference, difference-printable, trimmed-again}
 use Rattle.crx_text.proofs.Characters.{at-drop}
+use Rattle.std.proofs.Common.{rules}
 
 -- ---- rows of a run
 
@@ -41,18 +42,14 @@ pub record IsRowOf (types : List Count) (name : List ℕ) (row : Row) : Type 0 w
 found-step : (types : List Count) (name : List ℕ) (q r : Row) (rest : Option Row) (b : Bool)
     → bytes_eq q.name name ≡ b → IsTypedRow types q
     → (rest ≡ Some r → IsRowOf types name r) → cond b (Some q) rest ≡ Some r → IsRowOf types name r
-found-step types name q r rest true e h next found =
-    let same : q ≡ r = ap (λ o. unwrap_or o q) found in
-    let P : Row → Type 0 = λ x. IsRowOf types name x in
-    subst P same (record { is_row = h; is_named = bytes_eq-is q.name name e })
+found-step types name q r rest true e h next found = search rules
 found-step types name q r rest false e h next found = next found
 
 found-row : (types : List Count) (name : List ℕ) (rows : List Row)
     → AllByRecursion (IsTypedRow types) rows → (r : Row) → row_named name rows ≡ Some r → IsRowOf types name r
 found-row types name [] h r found = cc
 found-row types name (q ∷ qs) h r found =
-    found-step types name q r (row_named name qs) (bytes_eq q.name name) refl h.0
-    (found-row types name qs h.1 r) found
+    found-step types name q r _ _ refl h.0 (found-row types name qs h.1 r) found
 
 run-rows_step : (types : List Count) (name : List ℕ) (o : Option Row) (os : List (Option Row))
     → ((r : Row) → o ≡ Some r → IsRowOf types name r) → AllByRecursion (IsRowOf types name) (stretch os)
@@ -63,16 +60,13 @@ run-rows_step types name (Some r) os h next = (h r refl, next)
 pub run-rows : (types : List Count) (name : List ℕ) (epochs : List Epoch) → AreWhole types epochs
     → AllByRecursion (IsRowOf types name) (stretch (map (λ (e : Epoch). row_named name e.rows) epochs))
 run-rows types name [] h = tt
-run-rows types name (e ∷ es) h =
-    run-rows_step types name (row_named name e.rows) (map (λ (q : Epoch). row_named name q.rows) es)
+run-rows types name (e ∷ es) h = run-rows_step types name _ _
     (found-row types name e.rows (typed-rows types e h.0)) (run-rows types name es h.1)
 
 -- the run of a satellite at an epoch that has a row of it: that row, and the rows before it
 pub run-begins : (full : Bool) (e : Epoch) (older : List Marked) (r : Row) → row_named r.name e.rows ≡ Some r
     → run_of r.name (marked full e ∷ older) ≡ r ∷ rows_before full r.name older
-run-begins full e older r own = ap (λ (o : Option Row). stretch
-    (o ∷ map (λ (q : Epoch). row_named r.name q.rows)
-    (map (λ (m : Marked). m.epoch) (if full then [] else back_to (λ (m : Marked). m.in_full) older)))) own
+run-begins full e older r own = cc
 
 pub rows-of_run : (types : List Count) (full : Bool) (e : Epoch) (older : List Marked)
     → AreWhole types (since_full (marked full e ∷ older)) → (r : Row) → row_named r.name e.rows ≡ Some r
@@ -82,15 +76,13 @@ rows-of_run types full e older h r own = subst (λ q. AllByRecursion (IsRowOf ty
 
 -- a property of the line that any row has after any run of its satellite holds of the lines of some rows
 pub lines-each : (P : List ℕ → Type 0) (types : List Count) (ms : List Marked)
-    → ((name : List ℕ) (run : List Row) (r : Row) → AllByRecursion (IsRowOf types name) run
-    → IsTypedRow types r
-    → P (satellite_line run r)) → AreWhole types (since_full ms)
-    → (rows : List Row) → AllByRecursion (IsTypedRow types) rows
-    → AllByRecursion P (map (λ (r : Row). satellite_line (run_of r.name ms) r) rows)
+    → ((name : List ℕ) (run : List Row) (r : Row) → AllByRecursion (IsRowOf types name) run → IsTypedRow
+    types r → P (satellite_line run r)) → AreWhole types (since_full ms) → (rows : List Row) → AllByRecursion
+    (IsTypedRow types) rows → AllByRecursion P (map (λ (r : Row). satellite_line (run_of r.name ms) r) rows)
 lines-each P types ms each h [] k = tt
 lines-each P types ms each h (r ∷ rs) k =
-    let run = run-rows types r.name (since_full ms) h in
-    (each r.name (run_of r.name ms) r run k.0, lines-each P types ms each h rs k.1)
+    let run = run-rows types r.name _ h in
+    (each r.name _ r run k.0, lines-each P types ms each h rs k.1)
 
 -- ---- values of a run
 
@@ -110,11 +102,9 @@ value-fits (v ∷ vs) zero h = All-head IsValue v vs h
 value-fits (v ∷ vs) (suc j) h = value-fits vs j (All-tail IsValue v vs h)
 
 pub values-fit : (types : List Count) (name : List ℕ) (j : ℕ) (run : List Row)
-    → AllByRecursion (IsRowOf types name) run
-    → AllByRecursion IsValue (map (value_in j) run)
+    → AllByRecursion (IsRowOf types name) run → AllByRecursion IsValue (map (value_in j) run)
 values-fit types name j [] h = tt
-values-fit types name j (r ∷ rs) h =
-    (value-fits r.values j h.0.is_row.0.ranged, values-fit types name j rs h.1)
+values-fit types name j (r ∷ rs) h = (value-fits _ j h.0.is_row.0.ranged, values-fit types name j rs h.1)
 
 pub clocks-fit : (types : List Count) (epochs : List Epoch)
     → AreWhole types epochs → AllByRecursion IsClockOffset (map (λ (e : Epoch). e.clock) epochs)
@@ -122,43 +112,35 @@ clocks-fit types [] h = tt
 clocks-fit types (e ∷ es) h = (h.0.sound.head_sound.ranged, clocks-fit types es h.1)
 
 pub run-printable : (types : List Count) (name : List ℕ) (run : List Row)
-    → AllByRecursion (IsRowOf types name) run
-    → (j : ℕ) → IsPrintable (code_at WRITTEN_ORDER (arc_of j run))
+    → AllByRecursion (IsRowOf types name) run → (j : ℕ) → IsPrintable (code_at WRITTEN_ORDER (arc_of j run))
 run-printable types name run h j =
-    let within = stretch-within OBSERVATION_WIDTH (map (value_in j) run) (values-fit types name j run h) in
-    code-printable (10 ^ (OBSERVATION_WIDTH - 1)) (arc_of j run)
-    (omega arith) (near-all OBSERVATION_WIDTH (arc_of j run) within)
+    code-printable (10 ^ (OBSERVATION_WIDTH - 1)) _ (omega arith) (near-all OBSERVATION_WIDTH
+    (arc_of j run) (stretch-within OBSERVATION_WIDTH (map (value_in j) run) (values-fit types name j run h)))
 
 pub clock-printable : (types : List Count) (epochs : List Epoch) → AreWhole types epochs
     → IsPrintable (code_at WRITTEN_ORDER (stretch (map (λ (e : Epoch). e.clock) epochs)))
 clock-printable types epochs h =
-    let arc = stretch (map (λ (e : Epoch). e.clock) epochs) in
-    let within = stretch-within CLOCK_WIDTH (map (λ (e : Epoch). e.clock) epochs) (clocks-fit types epochs h)
-    in
-    code-printable (10 ^ (CLOCK_WIDTH - 1)) arc (omega arith) (near-all CLOCK_WIDTH arc within)
+    let arc = stretch _ in
+    code-printable (10 ^ (CLOCK_WIDTH - 1)) arc (omega arith) (near-all CLOCK_WIDTH arc
+    (stretch-within CLOCK_WIDTH (map (λ (e : Epoch). e.clock) epochs) (clocks-fit types epochs h)))
 
 pub are-printable : (types : List Count) (m : Marked) (older : List Marked)
     → AreWhole types (since_full (m ∷ older)) → CodesFit m older
 are-printable types m older h = record {
   clock = clock-printable types (since_full (m ∷ older)) h;
-  cells = λ name place. run-printable types name
-      (run_of name (m ∷ older)) (run-rows types name (since_full (m ∷ older)) h) place;
+  cells = λ name place. run-printable types name _ (run-rows types name (since_full (m ∷ older)) h) place;
 }
 
 -- ---- the codes of a line
 
 cells-good : (value : ℕ → Code → Result (Option ℤ) Fault) (n : ℕ) (f : ℕ → Code) (v : ℕ → Option ℤ)
-    → ((i : ℕ) → IsPrintable (f i))
-    → ((i : ℕ) → value i (f i) ≡ Ok (v i))
-    → cells_read value (map code_text (each_place n f))
-    ≡ Ok (each_place n (λ i. record { code = f i; value = v i }))
+    → ((i : ℕ) → IsPrintable (f i)) → ((i : ℕ) → value i (f i) ≡ Ok (v i)) → cells_read value
+    (map code_text (each_place n f)) ≡ Ok (each_place n (λ i. record { code = f i; value = v i }))
 cells-good value zero f v p h = refl
 cells-good value (suc n) f v p h =
-    cc (
-      code_of-code_text (f 0) (p 0),
-      h 0,
-      cells-good (λ i. value (suc i)) n (λ i. f (suc i)) (λ i. v (suc i)) (λ i. p (suc i)) (λ i. h (suc i)),
-    )
+    let first =
+    cells-good (λ i. value (suc i)) n (λ i. f (suc i)) (λ i. v (suc i)) (λ i. p (suc i)) (λ i. h (suc i)) in
+    cc (code_of-code_text (f 0) (p 0), h 0)
 
 first_other : (text rest : List ℕ)
     → list_all is_code_character text ≡ true → nat_eq (at (text ++ 32 ∷ rest) 0) 62 ≡ false
@@ -169,27 +151,22 @@ pub line-begins : (codes : List Code) (marks : List ℕ) → 0 < length codes �
     → begins_epoch (without_end_blanks (flat_map cell_text codes ++ marks)) ≡ false
 line-begins [] marks less h = absurd (not-suc-le-zero less)
 line-begins (c ∷ cs) marks less h =
-    cc (
-      at-without_end_blanks (flat_map cell_text (c ∷ cs) ++ marks) 0,
-      one_cell c cs marks,
-      first_other (code_text c) (flat_map cell_text cs ++ marks) h.0,
-    )
+    let first = first_other (code_text c) (flat_map cell_text cs ++ marks) h.0 in
+    cc (at-without_end_blanks _ 0, one_cell c cs marks)
 
 -- ---- the marks of a line
 
 -- nothing but blanks is past the longer of two texts
 difference-past : (n : ℕ) (old new : List ℕ)
     → length old ≤ n → length new ≤ n → list_all is_blank (drop n (text_difference old new)) ≡ true
-difference-past n old new h k =
-    list_all-from_at is_blank (drop n (text_difference old new)) (λ p.
-    let a : at old (n + p) ≡ 32 = at_past old (n + p) (omega (arith, h)) in
-    let b : at new (n + p) ≡ 32 = at_past new (n + p) (omega (arith, k)) in
+difference-past n old new h k = list_all-from_at is_blank (drop n (text_difference old new)) (λ p.
+    let a = at_past old (n + p) (omega (arith, h)) in
+    let b = at_past new (n + p) (omega (arith, k)) in
     ap is_blank (at-drop n (text_difference old new) p
     ∙ at-difference old new (n + p) ∙ ap (λ c. mark_of c (at new (n + p))) a ∙ ap (mark_of 32) b))
 
 before-short : (types : List Count) (name : List ℕ) (r : Row) (rs : List Row)
-    → AllByRecursion (IsRowOf types name) (r ∷ rs)
-    → length (indicators_before (r ∷ rs)) ≤ 2 * length r.values
+    → AllByRecursion (IsRowOf types name) (r ∷ rs) → length (indicators_before (r ∷ rs)) ≤ 2 * length r.values
 before-short types name r [] h = omega arith
 before-short types name r (q ∷ qs) h = grind arith
 
@@ -212,23 +189,18 @@ codes_at run j = code_at WRITTEN_ORDER (arc_of j run)
 pub written-codes : (types : List Count) (name : List ℕ) (n : ℕ) (run : List Row)
     → AllByRecursion (IsRowOf types name) run → AreWritten (codes_of n run)
 written-codes types name n run h =
-    each_place-all (λ (c : Code). list_all is_code_character (code_text c) ≡ true) n
-    (codes_at run) (λ j. code-characters (codes_at run j) (run-printable types name run h j))
+    each_place-all _ n _ (λ j. code-characters (codes_at run j) (run-printable types name run h j))
 
 -- the value at a place, by the codes of a run
 value-good : (types : List Count) (name : List ℕ) (r : Row) (rs : List Row)
     → AllByRecursion (IsRowOf types name) (r ∷ rs)
     → (j : ℕ) → value_of OBSERVATION_WIDTH (map (code_in j) (raw_run (r ∷ rs))) ≡ Ok (value_in j r)
-value-good types name r rs h j =
-    ap (value_of OBSERVATION_WIDTH) (codes-read j (r ∷ rs))
-    ∙ value-back OBSERVATION_WIDTH (value_in j r) (map (value_in j) rs)
-    (value-fits r.values j h.0.is_row.0.ranged)
+value-good types name r rs h j = ap (value_of OBSERVATION_WIDTH) (codes-read j (r ∷ rs))
+    ∙ value-back OBSERVATION_WIDTH _ (map (value_in j) rs) (value-fits r.values j h.0.is_row.0.ranged)
 
 first-code : (r : Row) (rs : List Row) (i : ℕ) → code_in i (raw_row (r ∷ rs) r) ≡ codes_at (r ∷ rs) i
-first-code r rs i =
-    index-each_place (length r.values) i (codes_at (r ∷ rs)) Missing (λ le.
-    ap (λ (o : Option ℤ). code_at WRITTEN_ORDER (stretch (o ∷ map (value_in i) rs)))
-    (get_or_past r.values i None le))
+first-code r rs i = index-each_place (length r.values) i (codes_at (r ∷ rs)) Missing (λ le. ap (λ (o : Option
+    ℤ). code_at WRITTEN_ORDER (stretch (o ∷ map (value_in i) rs))) (get_or_past r.values i None le))
 
 values-again : (vs : List (Option ℤ)) → each_place (length vs) (λ j. slice_index_or vs j None) ≡ vs
 values-again [] = refl
@@ -236,12 +208,10 @@ values-again (v ∷ vs) = ap (λ r. v ∷ r) (values-again vs)
 
 pub flags-run : (types : List Count) (name : List ℕ) (run : List Row)
     → AllByRecursion (IsRowOf types name) run → AllByRecursion HasFlags run
-flags-run types name run h =
-    all-from HasFlags (λ r q. record {
-      unmarked = unmarked r.flags q.is_row.0.kept;
-      counted =
-          q.is_row.0.paired;
-    }) run h
+flags-run types name run h = all-from _ (λ r q. record {
+  unmarked = unmarked r.flags q.is_row.0.kept;
+  counted = q.is_row.0.paired;
+}) run h
 
 abbrev pub satellite_of : Row → Satellite
 satellite_of r = record { name = r.name; count = length r.values }
@@ -252,50 +222,43 @@ cells_at r rs j = record { code = codes_at (r ∷ rs) j; value = value_in j r }
 
 -- what the cells and marks of a line that was written stand for
 row-again : (types : List Count) (block : List RawEpoch) (r : Row) (rs : List Row)
-    → AllByRecursion (IsRowOf types r.name) (r ∷ rs)
-    → raw_run_of r.name block ≡ raw_run rs
-    → row_of_cells (past_of_block block) r.name
-    (text_difference (indicators_before (r ∷ rs)) r.flags) (each_place (length r.values) (cells_at r rs))
-    ≡ record { raw = raw_row (r ∷ rs) r; row = r }
-row-again types block r rs h e =
-    grind (
-      arith,
-      map-each_place (λ (c : ReadCell). c.code) (length r.values) (cells_at r rs),
-      map-each_place (λ (c : ReadCell). c.value) (length r.values) (cells_at r rs),
-      values-again r.values,
-      length-each_place (length r.values) (cells_at r rs),
-      e,
-      marks-new r rs (flags-run types r.name (r ∷ rs) h),
-      columns-are
-          (without_end_blanks r.flags) 1 (2 * length r.values) r.flags h.0.is_row.0.paired
-          (λ p less. let place : 1 - 1 + p ≡ p = omega arith in ap (at (without_end_blanks r.flags)) place
-          ∙ at-without_end_blanks r.flags p),
-    )
+    → AllByRecursion (IsRowOf types r.name) (r ∷ rs) → raw_run_of r.name block ≡ raw_run rs
+    → row_of_cells (past_of_block block) r.name (text_difference (indicators_before (r ∷ rs)) r.flags)
+    (each_place (length r.values) (cells_at r rs)) ≡ record { raw = raw_row (r ∷ rs) r; row = r }
+row-again types block r rs h e = grind (
+  arith,
+  map-each_place (λ (c : ReadCell). c.code) (length r.values) (cells_at r rs),
+  map-each_place (λ (c : ReadCell). c.value) (length r.values) (cells_at r rs),
+  values-again r.values,
+  length-each_place (length r.values) (cells_at r rs),
+  e,
+  marks-new r rs (flags-run types r.name (r ∷ rs) h),
+  columns-are (without_end_blanks r.flags) 1 (2 * length r.values) r.flags h.0.is_row.0.paired
+      (λ p less. let place : 1 - 1 + p ≡ p = omega arith in ap (at (without_end_blanks r.flags)) place
+      ∙ at-without_end_blanks r.flags p),
+)
 
 -- a line that was written reads as its codes and marks, and as its row
 pub row-read : (types : List Count) (block : List RawEpoch) (r : Row) (rs : List Row)
-    → AllByRecursion (IsRowOf types r.name) (r ∷ rs)
-    → raw_run_of r.name block ≡ raw_run rs
+    → AllByRecursion (IsRowOf types r.name) (r ∷ rs) → raw_run_of r.name block ≡ raw_run rs
     → satellite_line_read (past_of_block block) (satellite_of r) (satellite_line (r ∷ rs) r)
     ≡ Ok (record { raw = raw_row (r ∷ rs) r; row = r })
 row-read types block r rs h e =
-    let past : Past = past_of_block block in
-    let marks : List ℕ = text_difference (indicators_before (r ∷ rs)) r.flags in
-    let codes : List Code = codes_of (length r.values) (r ∷ rs) in
-    let line : List ℕ = satellite_line (r ∷ rs) r in
-    let count : length codes ≡ length r.values = length-each_place (length r.values) (codes_at (r ∷ rs)) in
-    let written : AreWritten codes = written-codes types r.name (length r.values) (r ∷ rs) h in
-    let begins : begins_epoch line ≡ false =
-    line-begins codes marks (omega (arith, count, h.0.is_row.0.counted.0)) written in
-    let texts : cells_of (length r.values) line ≡ map code_text codes =
-    ap (λ k. cells_of k line) (sym count) ∙ cells-written codes marks written in
-    let after : after_cells (length r.values) line ≡ marks =
-    ap (λ k. after_cells k line) (sym count) ∙ marks-written codes marks written
-    ∙ trimmed-again (by_position mark_of (indicators_before (r ∷ rs)) r.flags) in
-    let good : cells_read (past.value r.name) (map code_text codes) ≡ Ok
-    (each_place (length r.values) (cells_at r rs)) = cells-good (past.value r.name) (length r.values)
-    (codes_at (r ∷ rs)) (λ j. value_in j r) (run-printable types r.name (r ∷ rs) h)
-    (λ i. ap (λ run. value_of OBSERVATION_WIDTH (codes_at (r ∷ rs) i ∷ map (code_in i) run)) e
-    ∙ ap (λ c. value_of OBSERVATION_WIDTH (c ∷ map (code_in i) (raw_run rs))) (sym (first-code r rs i))
-    ∙ value-good types r.name r rs h i) in
-    rw (begins, texts, good, after, marks-good types r.name r rs h, row-again types block r rs h e)
+    let past = past_of_block block in
+    let marks = text_difference (indicators_before (r ∷ rs)) r.flags in
+    let codes = codes_of (length r.values) (r ∷ rs) in
+    let line = satellite_line (r ∷ rs) r in
+    let count = length-each_place (length r.values) (codes_at (r ∷ rs)) in
+    let written = written-codes types r.name (length r.values) (r ∷ rs) h in
+    rw (
+      line-begins codes marks (omega (arith, count, h.0.is_row.0.counted.0)) written,
+      ap (λ k. cells_of k line) (sym count) ∙ cells-written codes marks written,
+      cells-good (past.value r.name) (length r.values) (codes_at (r ∷ rs)) (λ j. value_in j r)
+          (run-printable types r.name (r ∷ rs) h) (λ i. ap (λ run. value_of OBSERVATION_WIDTH
+          (codes_at (r ∷ rs) i ∷ map (code_in i) run)) e ∙ ap (λ c. value_of OBSERVATION_WIDTH
+          (c ∷ map (code_in i) (raw_run rs))) (sym (first-code r rs i)) ∙ value-good types r.name r rs h i),
+      ap (λ k. after_cells k line) (sym count) ∙ marks-written codes marks written
+          ∙ trimmed-again (by_position mark_of (indicators_before (r ∷ rs)) r.flags),
+      marks-good types r.name r rs h,
+      row-again types block r rs h e,
+    )

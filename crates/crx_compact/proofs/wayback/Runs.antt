@@ -44,13 +44,11 @@ pub begins_later : (old new : List ℕ)
 begins_later old new h k = cc (first_mark old new, h, k)
 
 block-step : (full : Bool) (e : Epoch) (older : List Marked)
-    → (Begins older → block_of (raws_of older) ≡ raw_block older)
-    → Begins (marked full e ∷ older)
+    → (Begins older → block_of (raws_of older) ≡ raw_block older) → Begins (marked full e ∷ older)
     → block_of (raws_of (marked full e ∷ older)) ≡ raw_block (marked full e ∷ older)
 block-step true e older next h = cc (begins_full (epoch_text e) h.0)
 block-step false e [] next h = grind arith
-block-step false e (m ∷ older) next h =
-    cc (begins_later (epoch_text m.epoch) (epoch_text e) h.1.0 h.0, next h.1)
+block-step false e (m ∷ older) next h = cc (begins_later _ _ h.1.0 h.0, next h.1)
 
 pub block-raws : (ms : List Marked) → Begins ms → block_of (raws_of ms) ≡ raw_block ms
 block-raws [] h = refl
@@ -71,11 +69,10 @@ named-made name_x name_y make h name [] = refl
 named-made name_x name_y make h name (x ∷ xs) =
     cc (h (name_x x) x, step (bytes_eq (name_x x) name) refl (named-made name_x name_y make h name xs))
   where
-    step : (b : Bool) → bytes_eq (name_x x) name ≡ b
-        → named name_y name (map (λ y. make (name_x y) y) xs) ≡ option_map (make name) (named name_x name xs)
-        → cond b (Some (make (name_x x) x)) (named name_y name (map (λ y. make (name_x y) y) xs))
-        ≡ option_map (make name) (cond b (Some x) (named name_x name xs))
-    step true e next = ap (λ n. Some (make n x)) (bytes_eq-is (name_x x) name e)
+    step : (b : Bool) → bytes_eq (name_x x) name ≡ b → named name_y name (map (λ y. make (name_x y) y) xs)
+        ≡ option_map (make name) (named name_x name xs) → cond b (Some (make (name_x x) x)) (named name_y name
+        (map (λ y. make (name_x y) y) xs)) ≡ option_map (make name) (cond b (Some x) (named name_x name xs))
+    step true e next = cc (bytes_eq-is (name_x x) name e)
     step false e next = next
 
 -- the rows of a satellite in the epochs before one, back to the latest in full; none before one in full
@@ -83,12 +80,10 @@ abbrev pub rows_before : Bool → List ℕ → List Marked → List Row
 rows_before full name older = stretch (map (λ (q : Epoch). row_named name q.rows)
     (map (λ (m : Marked). m.epoch) (if full then [] else back_to (λ (m : Marked). m.in_full) older)))
 
-run-step : (full : Bool) (name : List ℕ) (e : Epoch) (older : List Marked) (found : Option Row)
-    → row_named name e.rows ≡ found
-    → raw_run_of name (raw_block older) ≡ raw_run (run_of name older)
-    → stretch (option_map (raw_row (run_of name (marked full e ∷ older))) found
-    ∷ map (λ (q : RawEpoch). raw_row_named name q.rows) (if full then [] else raw_block older))
-    ≡ raw_run (run_of name (marked full e ∷ older))
+run-step : (full : Bool) (name : List ℕ) (e : Epoch) (older : List Marked) (found : Option Row) → row_named
+    name e.rows ≡ found → raw_run_of name (raw_block older) ≡ raw_run (run_of name older) → stretch
+    (option_map (raw_row (run_of name (marked full e ∷ older))) found ∷ map (λ (q : RawEpoch). raw_row_named
+    name q.rows) (if full then [] else raw_block older)) ≡ raw_run (run_of name (marked full e ∷ older))
 run-step full name e older None h next = cc
 run-step true name e older (Some r) h next = cc
 run-step false name e older (Some r) h next = cc
@@ -110,17 +105,14 @@ abbrev pub codes_of_values : List (Option ℤ) → List Code
 codes_of_values [] = []
 codes_of_values (o ∷ os) = code_at WRITTEN_ORDER (stretch (o ∷ os)) ∷ codes_of_values os
 
-clock-step : (full : Bool) (e : Epoch) (older : List Marked)
-    → map (λ (q : RawEpoch). q.clock) (raw_block older)
-    ≡ codes_of_values (map (λ (q : Epoch). q.clock) (since_full older))
+clock-step : (full : Bool) (e : Epoch) (older : List Marked) → map (λ (q : RawEpoch). q.clock)
+    (raw_block older) ≡ codes_of_values (map (λ (q : Epoch). q.clock) (since_full older))
     → map (λ (q : RawEpoch). q.clock) (raw_block (marked full e ∷ older))
     ≡ codes_of_values (map (λ (q : Epoch). q.clock) (since_full (marked full e ∷ older)))
 clock-step true e older next = refl
-clock-step false e older next =
-    ap (λ cs. code_at WRITTEN_ORDER (clock_arc (marked false e ∷ older)) ∷ cs) next
+clock-step false e older next = cc
 
-pub clocks-read : (ms : List Marked)
-    → map (λ (q : RawEpoch). q.clock) (raw_block ms)
+pub clocks-read : (ms : List Marked) → map (λ (q : RawEpoch). q.clock) (raw_block ms)
     ≡ codes_of_values (map (λ (q : Epoch). q.clock) (since_full ms))
 clocks-read [] = refl
 clocks-read (m ∷ older) = clock-step m.in_full m.epoch older (clocks-read older)
@@ -143,9 +135,8 @@ started-values x [] = refl
 started-values x (None ∷ os) = refl
 started-values x (Some y ∷ os) = cc (started-values y os)
 
-value-present : (width : ℕ) (x : ℤ) (arc : List ℤ) (cs : List Code)
-    → value_of width (code_at WRITTEN_ORDER (x ∷ arc) ∷ cs)
-    ≡ value_since width (since_start (code_at WRITTEN_ORDER (x ∷ arc) ∷ cs))
+value-present : (width : ℕ) (x : ℤ) (arc : List ℤ) (cs : List Code) → value_of width (code_at WRITTEN_ORDER
+    (x ∷ arc) ∷ cs) ≡ value_since width (since_start (code_at WRITTEN_ORDER (x ∷ arc) ∷ cs))
 value-present width x [] cs = refl
 value-present width x (y ∷ ys) cs = refl
 
@@ -171,24 +162,20 @@ IsUnmarked text = (p : ℕ) → at text p ≢ 38
 -- a patch of a text whose end blanks are gone
 pub patched-back : (old new : List ℕ)
     → IsUnmarked new → patched (without_end_blanks old) (text_difference old new) ≡ without_end_blanks new
-patched-back old new h =
-    same_characters (by_position character_of (without_end_blanks old) (text_difference old new)) new (λ p.
-    at-by_position character_of refl (without_end_blanks old) (text_difference old new) p
+patched-back old new h = same_characters (by_position character_of (without_end_blanks old) (text_difference
+    old new)) new (λ p. at-by_position character_of refl (without_end_blanks old) (text_difference old new) p
     ∙ ap (λ c. character_of c (at (text_difference old new) p)) (at-without_end_blanks old p)
     ∙ ap (character_of (at old p)) (at-without_end_blanks (by_position mark_of old new) p
-    ∙ at-by_position mark_of refl old new p)
-    ∙ character-mark (at old p) (at new p) (h p))
+    ∙ at-by_position mark_of refl old new p) ∙ character-mark (at old p) (at new p) (h p))
 
 first_overlay : (new : List ℕ) → IsUnmarked new
     → overlaid (text_difference [] new ∷ []) ≡ without_end_blanks new
 first_overlay new h = overlaid-patched (text_difference [] new) [] ∙ patched-back [] new h
 
-next_overlay : (old new : List ℕ) (marks : List (List ℕ)) → IsUnmarked new
-    → overlaid marks ≡ without_end_blanks old
-    → overlaid (text_difference old new ∷ marks) ≡ without_end_blanks new
+next_overlay : (old new : List ℕ) (marks : List (List ℕ)) → IsUnmarked new → overlaid marks
+    ≡ without_end_blanks old → overlaid (text_difference old new ∷ marks) ≡ without_end_blanks new
 next_overlay old new marks h e =
-    overlaid-patched (text_difference old new) marks
-    ∙ ap (λ t. patched t (text_difference old new)) e ∙ patched-back old new h
+    cc (overlaid-patched (text_difference old new) marks, e, patched-back old new h)
 
 abbrev pub AreUnmarked : List Marked → Type 0
 AreUnmarked ms = AllByRecursion (λ (e : Epoch). IsUnmarked (epoch_text e)) (since_full ms)
@@ -196,14 +183,13 @@ AreUnmarked ms = AllByRecursion (λ (e : Epoch). IsUnmarked (epoch_text e)) (sin
 abbrev lines_of : List RawEpoch → List (List ℕ)
 lines_of raws = map (λ (q : RawEpoch). q.line) raws
 
-text-step : (full : Bool) (e : Epoch) (older : List Marked)
-    → (AreUnmarked older → overlaid (lines_of (raw_block older)) ≡ without_end_blanks (newest_text older))
-    → AreUnmarked (marked full e ∷ older)
+text-step : (full : Bool) (e : Epoch) (older : List Marked) → (AreUnmarked older → overlaid (lines_of
+    (raw_block older)) ≡ without_end_blanks (newest_text older)) → AreUnmarked (marked full e ∷ older)
     → overlaid (lines_of (raw_block (marked full e ∷ older))) ≡ without_end_blanks (epoch_text e)
 text-step true e older next h = first_overlay (epoch_text e) h.0
 text-step false e [] next h = first_overlay (epoch_text e) h.0
 text-step false e (m ∷ older) next h =
-    next_overlay (epoch_text m.epoch) (epoch_text e) (lines_of (raw_block (m ∷ older))) h.0 (next h.1)
+    next_overlay (epoch_text m.epoch) _ (lines_of (raw_block (m ∷ older))) h.0 (next h.1)
 
 -- a reader finds the newest epoch's text
 pub text-read : (ms : List Marked)
@@ -217,21 +203,18 @@ pub record HasFlags (row : Row) : Type 0 where
   pub counted : length row.flags ≡ 2 * length row.values
 
 -- nothing of them is past the types of the row's line
-marks-cut : (r : Row) (rs : List Row) → HasFlags r → overlaid
-    (text_difference (indicators_before (r ∷ rs)) r.flags ∷ marks_of (raw_run rs))
-    ≡ without_end_blanks r.flags
-    → overlaid (marks_of (raw_run (r ∷ rs))) ≡ without_end_blanks r.flags
+marks-cut : (r : Row) (rs : List Row)
+    → HasFlags r → overlaid (text_difference (indicators_before (r ∷ rs)) r.flags ∷ marks_of (raw_run rs))
+    ≡ without_end_blanks r.flags → overlaid (marks_of (raw_run (r ∷ rs))) ≡ without_end_blanks r.flags
 marks-cut r rs h e =
     let n = 2 * length (codes_of (length r.values) (r ∷ rs)) in
     let count = length-each_place (length r.values) (λ j. code_at WRITTEN_ORDER (arc_of j (r ∷ rs))) in
     overlaid-take n (text_difference (indicators_before (r ∷ rs)) r.flags ∷ marks_of (raw_run rs))
-    ∙ ap (λ t. without_end_blanks (take n t)) e
-    ∙ trimmed-within n r.flags (omega (arith, count, h.counted))
+    ∙ ap (λ t. without_end_blanks (take n t)) e ∙ trimmed-within n r.flags (omega (arith, count, h.counted))
 
 -- a reader finds the indicators of a run's newest row, by its marks over those before
-pub marks-new : (r : Row) (rs : List Row) → AllByRecursion HasFlags (r ∷ rs)
-    → overlaid (text_difference (indicators_before (r ∷ rs)) r.flags ∷ marks_of (raw_run rs))
-    ≡ without_end_blanks r.flags
+pub marks-new : (r : Row) (rs : List Row) → AllByRecursion HasFlags (r ∷ rs) → overlaid (text_difference
+    (indicators_before (r ∷ rs)) r.flags ∷ marks_of (raw_run rs)) ≡ without_end_blanks r.flags
 marks-new r [] h = first_overlay r.flags h.0.unmarked
 marks-new r (q ∷ qs) h = next_overlay q.flags r.flags
     (marks_of (raw_run (q ∷ qs))) h.0.unmarked (marks-cut q qs h.1.0 (marks-new q qs h.1))

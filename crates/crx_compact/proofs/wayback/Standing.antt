@@ -21,52 +21,45 @@ use Rattle.crx_compact.proofs.wayback.Facts.{head_tests, text-kept, text-head}
 use Rattle.crx_compact.proofs.wayback.Facts.{text-begins, at-difference, difference-printable}
 use Rattle.crx_compact.proofs.wayback.Rows.{IsRowOf, clock-printable, line-begins, lines-each, written-codes}
 use Rattle.crx_compact.proofs.wayback.Reading.{text-other}
+use Rattle.std.proofs.lemmas.Grind.{common_steps}
 
 -- ---- characters
 
 code-printable : (text : List ℕ) → list_all is_code_character text ≡ true → list_all is_printable text ≡ true
 code-printable [] h = refl
-code-printable (c ∷ cs) h =
-    grind (
-      arith,
-      (and_parts (is_code_character c) (list_all is_code_character cs) h).0,
-      code-printable cs (and_parts (is_code_character c) (list_all is_code_character cs) h).1,
-    )
+code-printable (c ∷ cs) h = grind (
+  arith,
+  (and_parts (is_code_character c) (list_all is_code_character cs) h).0,
+  code-printable cs (and_parts (is_code_character c) (list_all is_code_character cs) h).1,
+)
 
 cells-printable : (codes : List Code) → AreWritten codes → list_all is_printable (flat_map cell_text codes)
     ≡ true
 cells-printable [] h = refl
-cells-printable (c ∷ cs) h =
-    list_all-append is_printable (code_text c ++ 32 ∷ []) (flat_map cell_text cs)
+cells-printable (c ∷ cs) h = list_all-append is_printable (code_text c ++ 32 ∷ []) (flat_map cell_text cs)
     (list_all-append is_printable (code_text c) (32 ∷ []) (code-printable (code_text c) h.0) refl)
     (cells-printable cs h.1)
 
 pub trimmed-printable : (text : List ℕ)
     → list_all is_printable text ≡ true → list_all is_printable (without_end_blanks text) ≡ true
-trimmed-printable text h =
-    list_all-from_at is_printable (without_end_blanks text)
+trimmed-printable text h = list_all-from_at is_printable (without_end_blanks text)
     (λ p. ap is_printable (at-without_end_blanks text p) ∙ list_all-at is_printable refl text h p)
 
 -- ---- satellite lines
 
-row-printable : (types : List Count) (name : List ℕ) (run : List Row) (r : Row)
-    → AllByRecursion (IsRowOf types name) run → IsTypedRow types r
-    → list_all is_printable (satellite_line run r) ≡ true
-row-printable types name run r h k =
-    trimmed-printable (flat_map cell_text (codes_of (length r.values) run)
-    ++ text_difference (indicators_before run) r.flags)
-    (list_all-append is_printable (flat_map cell_text (codes_of (length r.values) run))
-    (text_difference (indicators_before run) r.flags)
+row-printable : (types : List Count) (name : List ℕ) (run : List Row) (r : Row) → AllByRecursion
+    (IsRowOf types name) run → IsTypedRow types r → list_all is_printable (satellite_line run r) ≡ true
+row-printable types name run r h k = trimmed-printable (flat_map cell_text (codes_of (length r.values) run)
+    ++ text_difference (indicators_before run) r.flags) (list_all-append is_printable
+    (flat_map cell_text (codes_of (length r.values) run)) (text_difference (indicators_before run) r.flags)
     (cells-printable (codes_of (length r.values) run) (written-codes types name (length r.values) run h))
     (difference-printable (indicators_before run) r.flags k.0.kept))
 
-row-begins : (types : List Count) (name : List ℕ) (run : List Row) (r : Row)
-    → AllByRecursion (IsRowOf types name) run → IsTypedRow types r
-    → begins_epoch (satellite_line run r) ≡ false
+row-begins : (types : List Count) (name : List ℕ) (run : List Row) (r : Row) → AllByRecursion
+    (IsRowOf types name) run → IsTypedRow types r → begins_epoch (satellite_line run r) ≡ false
 row-begins types name run r h k =
     let count = length-each_place (length r.values) (λ j. code_at WRITTEN_ORDER (arc_of j run)) in
-    line-begins (codes_of (length r.values) run) (text_difference (indicators_before run) r.flags)
-    (omega (arith, count, k.0.counted.0)) (written-codes types name (length r.values) run h)
+    grind (arith, common_steps, line-begins, codes_of, text_difference, indicators_before, written-codes)
 
 -- ---- the epoch line
 
@@ -75,9 +68,8 @@ line-begins_epoch : (types : List Count) (full : Bool) (e : Epoch) (older : List
     → begins_epoch (epoch_line (marked full e) older) ≡ (full || has_no_epochs older)
 line-begins_epoch types true e older h = begins_full (epoch_text e) (text-begins types e h.0)
 line-begins_epoch types false e [] h = begins_full (epoch_text e) (text-begins types e h.0)
-line-begins_epoch types false e (m ∷ older) h =
-    begins_later (epoch_text m.epoch) (epoch_text e) (text-begins types m.epoch h.1.0)
-    (text-begins types e h.0)
+line-begins_epoch types false e (m ∷ older) h = begins_later
+    (epoch_text m.epoch) (epoch_text e) (text-begins types m.epoch h.1.0) (text-begins types e h.0)
 
 -- the flag of an epoch's text is one of observations, and so is its mark in a line from the empty text
 flag-mark : (c : ℕ) → is_observation_flag c ≡ true → is_event_flag (mark_of 32 c) ≡ false
@@ -86,24 +78,17 @@ flag-mark c h = grind (arith, h)
 full-no_event : (types : List Count) (e : Epoch)
     → IsWholeEpoch types e → is_event_line (text_difference [] (epoch_text e)) ≡ false
 full-no_event types e h =
-    let line : List ℕ = text_difference [] (epoch_text e) in
-    let flag : is_observation_flag (at e.head 31) ≡ true =
-    (and_parts (begins_epoch e.head) (is_observation_flag (character_at e.head 32))
-    (and_parts (begins_epoch e.head && is_observation_flag (character_at e.head 32))
-    (list_all is_kept e.head) (head_tests types e h)).0).1 in
-    let none : is_event_flag (at line 31) ≡ false =
-    ap is_event_flag (at-difference [] (epoch_text e) 31
-    ∙ ap (mark_of 32) (text-head types e h 31 (omega arith)))
-    ∙ flag-mark (at e.head 31) flag in
-    ap (λ b. begins_epoch line && b) none ∙ false-right (begins_epoch line)
+    let line = text_difference [] (epoch_text e) in
+    let flag : is_observation_flag (at e.head 31) ≡ true = grind (arith, common_steps) in
+    ap (λ b. begins_epoch line && b) (ap is_event_flag (at-difference [] (epoch_text e) 31 ∙ ap (mark_of 32)
+    (text-head types e h 31 (omega arith))) ∙ flag-mark (at e.head 31) flag) ∙ false-right (begins_epoch line)
   where
     false-right : (b : Bool) → (b && false) ≡ false
     false-right true = refl
     false-right false = refl
 
-line-no_event : (types : List Count) (full : Bool) (e : Epoch) (older : List Marked)
-    → AreWhole types (since_full (marked full e ∷ older))
-    → is_event_line (epoch_line (marked full e) older) ≡ false
+line-no_event : (types : List Count) (full : Bool) (e : Epoch) (older : List Marked) → AreWhole types
+    (since_full (marked full e ∷ older)) → is_event_line (epoch_line (marked full e) older) ≡ false
 line-no_event types true e older h = full-no_event types e h.0
 line-no_event types false e [] h = full-no_event types e h.0
 line-no_event types false e (m ∷ older) h = cc (line-begins_epoch types false e (m ∷ older) h)
@@ -111,24 +96,20 @@ line-no_event types false e (m ∷ older) h = cc (line-begins_epoch types false 
 -- ---- all lines
 
 pub lines-stand : (types : List Count) (full : Bool) (e : Epoch) (older : List Marked)
-    → AreWhole types (since_full (marked full e ∷ older))
-    → LinesCanStand (marked full e) older
+    → AreWhole types (since_full (marked full e ∷ older)) → LinesCanStand (marked full e) older
 lines-stand types full e older h =
     let ms = marked full e ∷ older in
-    let text = code_text (code_at WRITTEN_ORDER (clock_arc ms)) in
-    let lines = map (λ (r : Row). satellite_line (run_of r.name ms) r) e.rows in
+    let text = code_text _ in
+    let lines = map _ e.rows in
     let rows = typed-rows types e h.0 in
-    let clock = code-characters (code_at WRITTEN_ORDER (clock_arc ms))
-    (clock-printable types (since_full ms) h) in
+    let clock = code-characters _ (clock-printable types (since_full ms) h) in
     let others : AllByRecursion (λ (line : List ℕ). begins_epoch line ≡ false) (text ∷ lines) = (
       text-other text clock,
-      lines-each (λ line. begins_epoch line ≡ false) types ms
-          (row-begins types) h e.rows rows,
+      lines-each _ types ms (row-begins types) h e.rows rows,
     ) in
     let first = difference-printable (if full then [] else newest_text older) (epoch_text e)
     (text-kept types e h.0) in
-    let printable = lines-each (λ line. list_all is_printable line ≡ true) types ms
-    (row-printable types) h e.rows rows in
+    let printable = lines-each _ types ms (row-printable types) h e.rows rows in
     let no_event = all-from (λ (line : List ℕ). is_event_line line ≡ false)
     (λ line begins. ap (λ b. b && is_event_flag (character_at line 32)) begins) (text ∷ lines) others in
     record {

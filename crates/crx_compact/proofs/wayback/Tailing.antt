@@ -31,35 +31,27 @@ cell-found : (name : List ℕ) (rest : List (Option Row)) (found : Option Row) (
     → cell_of_tail j (option_map (row_tail (stretch (found ∷ rest))) found)
     ≡ arc_tail WRITTEN_ORDER (arc_of j (stretch (found ∷ rest)))
 cell-found name rest None j = refl
-cell-found name rest (Some r) j =
-    index-each_place (length r.values) j (λ i. arc_tail WRITTEN_ORDER (arc_of i (r ∷ stretch rest))) None
-    (λ le.
-    ap (λ (o : Option ℤ). arc_tail WRITTEN_ORDER (stretch (o ∷ map (value_in j) (stretch rest))))
-    (get_or_past r.values j None le))
+cell-found name rest (Some r) j = index-each_place _ j _ None (λ le. ap (λ (o : Option ℤ).
+    arc_tail WRITTEN_ORDER (stretch (o ∷ map (value_in j) (stretch rest)))) (get_or_past r.values j None le))
 
-flags-found : (rest : List (Option Row)) (found : Option Row)
-    → flags_of_tail (option_map (row_tail (stretch (found ∷ rest))) found)
-    ≡ head_flags (stretch (found ∷ rest))
+flags-found : (rest : List (Option Row)) (found : Option Row) → flags_of_tail
+    (option_map (row_tail (stretch (found ∷ rest))) found) ≡ head_flags (stretch (found ∷ rest))
 flags-found rest None = refl
 flags-found rest (Some r) = refl
 
-cell-left : (full : Bool) (name : List ℕ) (older : List Marked) (j : ℕ)
-    → cell_of_tail j (tail_named name (start full older))
-    ≡ arc_tail WRITTEN_ORDER (arc_of j (rows_before full name older))
+cell-left : (full : Bool) (name : List ℕ) (older : List Marked) (j : ℕ) → cell_of_tail j
+    (tail_named name (start full older)) ≡ arc_tail WRITTEN_ORDER (arc_of j (rows_before full name older))
 cell-left true name older j = refl
 cell-left false name [] j = refl
-cell-left false name (m ∷ older) j =
-    ap (cell_of_tail j) (named-made (λ (r : Row). r.name)
+cell-left false name (m ∷ older) j = ap (cell_of_tail j) (named-made (λ (r : Row). r.name)
     (λ (t : RowTail). t.name) (λ n r. row_tail (run_of n (m ∷ older)) r) (λ n r. refl) name m.epoch.rows)
-    ∙ cell-found name (map (λ (q : Epoch). row_named name q.rows) (map (λ (k : Marked). k.epoch)
-    (if m.in_full then [] else back_to (λ (k : Marked). k.in_full) older))) (row_named name m.epoch.rows) j
+    ∙ cell-found name _ _ j
 
 flags-left : (full : Bool) (name : List ℕ) (older : List Marked)
     → flags_of_tail (tail_named name (start full older)) ≡ head_flags (rows_before full name older)
 flags-left true name older = refl
 flags-left false name [] = refl
-flags-left false name (m ∷ older) =
-    ap flags_of_tail (named-made (λ (r : Row). r.name)
+flags-left false name (m ∷ older) = ap flags_of_tail (named-made (λ (r : Row). r.name)
     (λ (t : RowTail). t.name) (λ n r. row_tail (run_of n (m ∷ older)) r) (λ n r. refl) name m.epoch.rows)
     ∙ flags-found (map (λ (q : Epoch). row_named name q.rows) (map (λ (k : Marked). k.epoch)
     (if m.in_full then [] else back_to (λ (k : Marked). k.in_full) older))) (row_named name m.epoch.rows)
@@ -82,18 +74,16 @@ row-by_tail full e older r own =
     let run = run-begins full e older r own in
     let found = tail_named r.name (start full older) in
     let codes = each_place-same (length r.values) (λ j. code_at WRITTEN_ORDER (arc_of j (r ∷ rs)))
-    (λ j. code_of_value (value_in j r) (cell_of_tail j found))
-    (λ j. code-next (value_in j r) (map (value_in j) rs)
-    ∙ ap (code_of_value (value_in j r)) (sym (cell-left full r.name older j))) in
-    let cells = each_place-same (length r.values) (λ j. arc_tail WRITTEN_ORDER (arc_of j (r ∷ rs)))
-    (λ j. arc_of_value (value_in j r) (cell_of_tail j found))
-    (λ j. arc-next (value_in j r) (map (value_in j) rs)
-    ∙ ap (arc_of_value (value_in j r)) (sym (cell-left full r.name older j))) in
+    (λ j. code_of_value (value_in j r) (cell_of_tail j found)) (λ j. code-next (value_in j r)
+    (map (value_in j) rs) ∙ ap (code_of_value (value_in j r)) (sym (cell-left full r.name older j))) in
     let flags =
     before-flags r rs ∙ ap (λ t. text_difference t r.flags) (sym (flags-left full r.name older)) in
     record {
       line = ap (λ q. satellite_line q r) run ∙ rw (codes, flags);
-      tail = ap (λ q. row_tail q r) run ∙ rw cells;
+      tail = ap (λ q. row_tail q r) run
+          ∙ rw (each_place-same (length r.values) (λ j. arc_tail WRITTEN_ORDER (arc_of j (r ∷ rs)))
+          (λ j. arc_of_value (value_in j r) (cell_of_tail j found)) (λ j. arc-next (value_in j r)
+          (map (value_in j) rs) ∙ ap (arc_of_value (value_in j r)) (sym (cell-left full r.name older j))));
     }
 
 -- ---- one epoch more
@@ -107,16 +97,15 @@ clock-left : (full : Bool) (older : List Marked)
 clock-left true older = refl
 clock-left false older = refl
 
-text-left : (full : Bool) (older : List Marked) (new : List ℕ)
-    → text_difference (if full then [] else newest_text older) new
-    ≡ text_difference (start full older).text new
+text-left : (full : Bool) (older : List Marked) (new : List ℕ) → text_difference
+    (if full then [] else newest_text older) new ≡ text_difference (start full older).text new
 text-left true older new = refl
 text-left false older new = sym (before-trimmed (newest_text older) new)
 
 epoch-by : (full : Bool) (e : Epoch) (older : List Marked)
     → are_different e.rows ≡ true → EpochByTail (marked full e) older
 epoch-by full e older h =
-    let ms : List Marked = marked full e ∷ older in
+    let ms = marked full e ∷ older in
     let rows = (start full older).rows in
     let own = each-own (λ (r : Row). r.name) e.rows h in
     let code = code-next e.clock (clocks_before full older) in
