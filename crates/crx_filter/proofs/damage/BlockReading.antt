@@ -82,19 +82,15 @@ pub skipped-here : (items : List (Item ReadEpoch)) (fault : Fault)
 skipped-here items fault h may = cc
 
 -- the next line that begins with > cuts an epoch off
-pub place-cut : (items : List (Item ReadEpoch)) (first : List ℕ) (lines : List ReadLine) (line : List ℕ)
-    (rest : List ReadLine) → IsBetweenUnits items → is_event_line first ≡ false → begins_epoch line ≡ true
-    → compact_place items (Content first ∷ lines) ≡ Wanted
-    → compact_place items (Content first ∷ (lines ++ Content line ∷ rest))
-    ≡ Wrong (suc (length lines)) Truncated
-place-cut items first lines line rest h none begins e =
-    let cut : compact_place items (Content first ∷ (lines ++ Content line ∷ [])) ≡ Wrong (suc (length lines))
-    Truncated = place-inside items first (lines ++ Content line ∷ []) h none
-    ∙ ap as_observation (epoch-cut (types_in_force items) (raws_kept items) first lines line begins
-    (observation-wanted _ (sym (place-inside items first lines h none) ∙ e))) in
-    ap (λ ls. compact_place items (Content first ∷ ls)) (sym (append_assoc lines (Content line ∷ []) rest))
-    ∙ wrong-stays compact_place compact-forward items (Content first ∷ (lines ++ Content line ∷ [])) rest
-    (suc (length lines)) Truncated cut
+pub place-cut : (items : List (Item ReadEpoch)) (first : List ℕ) (lines : List ReadLine)
+    (line : List ℕ) (rest : List ReadLine) → IsBetweenUnits items → is_event_line first ≡ false
+    → begins_epoch line ≡ true → compact_place items (Content first ∷ lines) ≡ Wanted → compact_place items
+    (Content first ∷ (lines ++ Content line ∷ rest)) ≡ Wrong (suc (length lines)) Truncated
+place-cut items first lines line rest h none begins e = ap (λ ls. compact_place items (Content first ∷ ls))
+    (sym (append_assoc lines (Content line ∷ []) rest)) ∙ wrong-stays compact_place compact-forward items
+    (Content first ∷ (lines ++ Content line ∷ [])) rest _ _ (place-inside items first
+    (lines ++ Content line ∷ []) h none ∙ ap as_observation (epoch-cut (types_in_force items) (raws_kept
+    items) first lines line begins (observation-wanted _ (sym (place-inside items first lines h none) ∙ e))))
 
 -- ---- the reading
 
@@ -106,8 +102,7 @@ with_reads items (read ∷ later) = with_reads (Accepted (Observation read) ∷ 
 pub reads-between : (items : List (Item ReadEpoch)) (reads : List ReadEpoch)
     → IsBetweenUnits items → IsBetweenUnits (with_reads items reads)
 reads-between items [] h = h
-reads-between items (read ∷ later) h =
-    reads-between (Accepted (Observation read) ∷ items) later (record { header = h.header; none = refl })
+reads-between items (read ∷ later) h = reads-between _ later (record { header = h.header; none = refl })
 
 pub reads-types : (items : List (Item ReadEpoch)) (reads : List ReadEpoch)
     → types_in_force (with_reads items reads) ≡ types_in_force items
@@ -171,7 +166,6 @@ within-block (suc units) items number lines few h text = by_place (compact_place
       ends = inl (number, lines, text, e, within-wanted compact_place true units items number lines e);
     })
 
-pub block-read : (items : List (Item ReadEpoch)) (number : ℕ) (lines : List ReadLine)
-    → IsBetweenUnits items → IsBlockText lines → IsBlockRead items
-    (reading_from compact_place true items number lines)
+pub block-read : (items : List (Item ReadEpoch)) (number : ℕ) (lines : List ReadLine) → IsBetweenUnits items
+    → IsBlockText lines → IsBlockRead items (reading_from compact_place true items number lines)
 block-read items number lines h text = within-block (length lines + 1) items number lines (omega arith) h text

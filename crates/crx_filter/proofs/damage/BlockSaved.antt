@@ -58,28 +58,25 @@ pub epochs-lines : (choices : Choices) (before : List (Item Epoch)) (epochs : Li
     → lines_back choices.every
     (with_epochs before epochs) ≡ lines_back choices.every before ++ lines_of_epochs choices before epochs
 epochs-lines choices before [] = sym (append-nil (lines_back choices.every before))
-epochs-lines choices before (epoch ∷ later) =
-    epochs-lines choices (Accepted (Observation epoch) ∷ before) later
+epochs-lines choices before (epoch ∷ later) = epochs-lines choices _ later
     ∙ append_assoc (lines_back choices.every before) (compact_unit choices before (Observation epoch))
     (lines_of_epochs choices (Accepted (Observation epoch) ∷ before) later)
 
 -- ---- how compact text is read up to some items
 
-pub back-between : (every : Option ℕ) (items : List (Item Epoch))
-    → AreInPlace items → header_has_ended items ≡ true → records_left items ≡ 0
-    → IsBetweenUnits (read_back every items)
+pub back-between : (every : Option ℕ) (items : List (Item Epoch)) → AreInPlace items
+    → header_has_ended items ≡ true → records_left items ≡ 0 → IsBetweenUnits (read_back every items)
 back-between every items h header none = record {
-  header = header-same (known_back every) items ∙ header;
-  none = left-same (known_back every) items h ∙ none;
+  header = header-same _ items ∙ header;
+  none = left-same _ items h ∙ none;
 }
 
 pub up_to : (every : Option ℕ) (items : List (Item Epoch)) (more : List ReadLine) → AreInPlace items
     → reading_from compact_place true [] 3 (map Content (lines_back every items) ++ more)
     ≡ reading_from compact_place true (read_back every items) (3 + length (lines_back every items)) more
-up_to every items more h =
-    resumed compact_place compact-forward true [] 3 (map Content (lines_back every items)) more
-    ∙ ap (λ r. continued_reading compact_place true r more) (reads-again compact_place
-    (known_back every) (body_unit every) compact-forward (unit-here every) true 3 items h)
+up_to every items more h = resumed compact_place compact-forward true [] 3 (map Content
+    (lines_back every items)) more ∙ ap (λ r. continued_reading compact_place true r more) (reads-again
+    compact_place (known_back every) (body_unit every) compact-forward (unit-here every) true 3 items h)
 
 -- ---- after the block
 
@@ -99,13 +96,11 @@ pub record IsUndamaged (every : Option ℕ) (after block : List (Item Epoch)) : 
   pub left : records_left block ≡ 0
   pub closed : records_left (after ++ block) ≡ 0
 
-anew-saved : (every : Option ℕ) (after block : List (Item Epoch))
-    (items : List (Item ReadEpoch)) (r : Reading ReadEpoch) (line : List ℕ) (tail : List ReadLine)
-    → IsUndamaged every after block → map Content (lines_on every after block) ≡ Content line ∷ tail
-    → starts_anew 0 (Content line ∷ tail) ≡ true
-    → IsBetweenUnits items → types_in_force items ≡ types_in_force block
-    → GoesOnAt items (Content line ∷ tail) r
-    → IsSaved items (read_back every block) (read_back every (after ++ block)) (ended_reading true r)
+anew-saved : (every : Option ℕ) (after block : List (Item Epoch)) (items : List (Item ReadEpoch))
+    (r : Reading ReadEpoch) (line : List ℕ) (tail : List ReadLine) → IsUndamaged every after block → map
+    Content (lines_on every after block) ≡ Content line ∷ tail → starts_anew 0 (Content line ∷ tail) ≡ true →
+    IsBetweenUnits items → types_in_force items ≡ types_in_force block → GoesOnAt items (Content line ∷ tail)
+    r → IsSaved items (read_back every block) (read_back every (after ++ block)) (ended_reading true r)
 anew-saved every after block items r line tail h e anew between types g =
     let x = with_warnings g.warnings items in
     let y = read_back every block in
@@ -136,9 +131,8 @@ anew-saved every after block items r line tail h e anew between types g =
 
 -- what comes after a block that was read, whatever it is
 pub tail-saved : (every : Option ℕ) (after block : List (Item Epoch)) (before : List (Item ReadEpoch))
-    (number : ℕ) (lines tail : List ReadLine) (b : IsBlockRead before
-    (reading_from compact_place true before number lines))
-    → IsUndamaged every after block → map Content (lines_on every after block) ≡ tail
+    (number : ℕ) (lines tail : List ReadLine) (b : IsBlockRead before (reading_from compact_place true
+    before number lines)) → IsUndamaged every after block → map Content (lines_on every after block) ≡ tail
     → starts_anew 0 tail ≡ true → IsBetweenUnits before → types_in_force before ≡ types_in_force block
     → IsSaved (with_reads before b.reads) (read_back every block) (read_back every (after ++ block))
     (ended_reading true (reading_from compact_place true before number (lines ++ tail)))
@@ -176,18 +170,16 @@ pub record IsPlaced (choices : Choices)
 pub placed : (input : List ℕ) (choices : Choices) (damaged : List ℕ) (d : IsDamaged input choices damaged)
     → IsPlaced choices d.before d.first d.others d.after
 placed input choices damaged d = record {
-  settled = subst IsSettled d.parts (whole-settled false input d.standard.good);
-  no_returns = subst HaveNoReturns d.parts (whole-copied NoReturn false (map seen (lines_of input))
+  settled = rw (← d.parts) (whole-settled false input d.standard.good);
+  no_returns = rw (← d.parts) (whole-copied NoReturn false (map seen (lines_of input))
       (plain-no_return (pieces_of input) d.standard.plain));
 }
 
 -- the compact text of all items is that up to the block's end and that after it
-pub text-parts : (choices : Choices) (after block : List (Item Epoch))
-    → AreInPlace (after ++ block) → header_has_ended (after ++ block) ≡ true → header_has_ended block ≡ true
-    → compact_lines choices (after ++ block) ≡ compact_lines choices block ++ lines_on choices.every
-    after block
-text-parts choices after block h all header =
-    lines-same choices (after ++ block) h (started (after ++ block) all)
+pub text-parts : (choices : Choices) (after block : List (Item Epoch)) → AreInPlace (after ++ block)
+    → header_has_ended (after ++ block) ≡ true → header_has_ended block ≡ true → compact_lines choices
+    (after ++ block) ≡ compact_lines choices block ++ lines_on choices.every after block
+text-parts choices after block h all header = lines-same choices _ h (started (after ++ block) all)
     ∙ ap (λ ls. version_line ∷ program_line choices.date ∷ ls) (written-on choices.every after block)
     ∙ sym (ap (λ ls. ls ++ lines_on choices.every after block)
     (lines-same choices block (rest-in_place after block h) (started block header)))

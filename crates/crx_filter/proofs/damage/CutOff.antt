@@ -33,22 +33,19 @@ cut-then : {X Y : Type 0} (first : List ReadLine → Place X) (next : X → List
     → IsCutOff first → ((x : X) → IsCutOff (next x)) → IsCutOff (λ lines. then_place (first lines) lines next)
 cut-then first next steady one two lines line begins e = by-first (first lines) refl
   where
-    by-first : (p : Place _) → first lines ≡ p → then_place
-        (first (lines ++ Content line ∷ [])) (lines ++ Content line ∷ []) next
-        ≡ Wrong (length lines) Truncated
+    by-first : (p : Place _) → first lines ≡ p → then_place (first (lines ++ Content line ∷ []))
+        (lines ++ Content line ∷ []) next ≡ Wrong (length lines) Truncated
     by-first (Here x count) f =
-        let stays = subst
-        (λ p. Remains (length lines) p (first (lines ++ Content line ∷ []))) f (steady lines
-        (Content line ∷ [])) in
+        let stays = subst (λ p. Remains (length lines) p (first (lines ++ Content line ∷ []))) f
+        (steady lines (Content line ∷ [])) in
         let within = stays.0 in
         let wanted : next x (drop count lines) ≡ Wanted =
         after-wanted _ _ (sym (ap (λ p. then_place p lines next) f) ∙ e) in
         let counted : count + length (drop count lines) ≡ length lines =
         omega (arith, within, length-drop count lines) in
-        ap (λ p. then_place p (lines ++ Content line ∷ []) next) stays.1
-        ∙ ap (λ ls. after_lines count (next x ls)) (drop-append-le count lines (Content line ∷ []) within)
-        ∙ ap (after_lines count) (two x (drop count lines) line begins wanted)
-        ∙ ap (λ n. Wrong n Truncated) counted
+        ap (λ p. then_place p (lines ++ Content line ∷ []) next) stays.1 ∙ ap (λ ls. after_lines count
+        (next x ls)) (drop-append-le count lines (Content line ∷ []) within) ∙ ap (after_lines count)
+        (two x (drop count lines) line begins wanted) ∙ ap (λ n. Wrong n Truncated) counted
     by-first (Wrong k fault) f = let never = sym (ap (λ p. then_place p lines next) f) ∙ e in absurd (cc)
     by-first Wanted f = ap (λ p. then_place p (lines ++ Content line ∷ []) next) (one lines line begins f)
 
@@ -64,28 +61,23 @@ row-cut past satellite line begins = ap (λ b. cond b (Err Truncated) (row_of_li
 
 rows-cut : (past : Past) (satellites : List Satellite) → IsCutOff (rows_read past satellites)
 rows-cut past [] = cut-here []
-rows-cut past (satellite ∷ satellites) =
-    cut-then (λ lines. first_line lines (satellite_line_read past satellite))
-    (λ row others. then_place (rows_read past satellites others) others (λ rows rest. Here (row ∷ rows) 0))
-    (steady-first_line (satellite_line_read past satellite))
-    (cut-first (satellite_line_read past satellite) (row-cut past satellite)) (λ row.
-    cut-then (rows_read past satellites) (λ rows rest. Here (row ∷ rows) 0)
-    (steady-rows_read past satellites) (rows-cut past satellites) (λ rows. cut-here (row ∷ rows)))
+rows-cut past (satellite ∷ satellites) = cut-then (λ lines. first_line lines (satellite_line_read past
+    satellite)) (λ row others. then_place (rows_read past satellites others) others (λ rows rest. Here (row
+    ∷ rows) 0)) (steady-first_line (satellite_line_read past satellite)) (cut-first (satellite_line_read past
+    satellite) (row-cut past satellite)) (λ row. cut-then (rows_read past satellites) (λ rows rest. Here (row
+    ∷ rows) 0) (steady-rows_read past satellites) (rows-cut past satellites) (λ rows. cut-here (row ∷ rows)))
 
 after_line-cut : (begun : BegunEpoch) → IsCutOff (epoch_after_line begun)
-after_line-cut begun =
-    cut-then (λ lines. first_line lines (clock_line_read begun.past)) (λ clock others. then_place
-    (rows_read begun.past begun.satellites others) others
-    (λ rows rest. Here (epoch_of_rows begun clock rows) 0)) (steady-first_line (clock_line_read begun.past))
-    (cut-first (clock_line_read begun.past) (clock-cut begun.past)) (λ clock.
-    cut-then (rows_read begun.past begun.satellites) (λ rows rest. Here (epoch_of_rows begun clock rows) 0)
-    (steady-rows_read begun.past begun.satellites) (rows-cut begun.past begun.satellites) (λ rows.
-    cut-here (epoch_of_rows begun clock rows)))
+after_line-cut begun = cut-then (λ lines. first_line lines (clock_line_read begun.past)) (λ clock others.
+    then_place (rows_read begun.past begun.satellites others) others (λ rows rest. Here (epoch_of_rows begun
+    clock rows) 0)) (steady-first_line (clock_line_read begun.past)) (cut-first (clock_line_read begun.past)
+    (clock-cut begun.past)) (λ clock. cut-then (rows_read begun.past begun.satellites)
+    (λ rows rest. Here (epoch_of_rows begun clock rows) 0) (steady-rows_read begun.past begun.satellites)
+    (rows-cut begun.past begun.satellites) (λ rows. cut-here (epoch_of_rows begun clock rows)))
 
 begun-cut : (r : Result BegunEpoch Fault) (first : ReadLine) (lines : List ReadLine) (line : List ℕ)
-    → begins_epoch line ≡ true
-    → then_place (one_line r) (first ∷ lines) (λ begun others. epoch_after_line begun others) ≡ Wanted
-    → then_place (one_line r) (first ∷ (lines ++ Content line ∷ []))
+    → begins_epoch line ≡ true → then_place (one_line r) (first ∷ lines) (λ begun others.
+    epoch_after_line begun others) ≡ Wanted → then_place (one_line r) (first ∷ (lines ++ Content line ∷ []))
     (λ begun others. epoch_after_line begun others) ≡ Wrong (suc (length lines)) Truncated
 begun-cut (Ok begun) first lines line begins e =
     let counted : 1 + length lines ≡ suc (length lines) = omega arith in
@@ -94,7 +86,6 @@ begun-cut (Err fault) first lines line begins e = absurd (cc)
 
 -- an epoch whose first line has come
 pub epoch-cut : (types : List Count) (older : List RawEpoch) (first : List ℕ) (lines : List ReadLine)
-    (line : List ℕ) → begins_epoch line ≡ true → epoch_at types older (Content first ∷ lines) ≡ Wanted
-    → epoch_at types older (Content first ∷ (lines ++ Content line ∷ []))
-    ≡ Wrong (suc (length lines)) Truncated
+    (line : List ℕ) → begins_epoch line ≡ true → epoch_at types older (Content first ∷ lines) ≡ Wanted →
+    epoch_at types older (Content first ∷ (lines ++ Content line ∷ [])) ≡ Wrong (suc (length lines)) Truncated
 epoch-cut types older first lines line begins e = begun-cut _ _ _ _ begins e

@@ -92,23 +92,19 @@ module _ (choices : Choices) (before : List (Item Epoch)) (first : Epoch)
 
   all-clean : AllByRecursion IsClean (lines_back choices.every (block_of before first others))
       × AllByRecursion IsClean (lines_on choices.every after (block_of before first others))
-  all-clean = all-parts IsClean (lines_back choices.every (block_of before first others))
-      (lines_on choices.every after (block_of before first others)) (rw (← written-on choices.every after
-      (block_of before first others)) (lines-clean choices.every (after ++ (block_of before first others))
-      p.settled.in_place p.settled.copied p.no_returns))
+  all-clean = all-parts _ _ _
+      (rw (← written-on choices.every after (block_of before first others)) (lines-clean choices.every
+      (after ++ (block_of before first others)) p.settled.in_place p.settled.copied p.no_returns))
 
   block-clean : AllByRecursion IsClean (lines_back choices.every before)
       × AllByRecursion IsClean (lines_of_epochs choices before (first ∷ others))
-  block-clean = all-parts IsClean (lines_back choices.every before) (lines_of_epochs choices before
+  block-clean = all-parts _ _ (lines_of_epochs choices before
       (first ∷ others)) (rw (← epochs-lines choices before (first ∷ others)) all-clean.0)
 
   front-clean : is_date choices.date ≡ true → AllByRecursion IsClean (front_of choices before first)
   front-clean dated = (
     version-clean,
-    (
-      program-clean _ dated,
-      all-append _ _ _ block-clean.0 ((block-clean.1).0, tt),
-    ),
+    (program-clean _ dated, all-append _ _ _ block-clean.0 ((block-clean.1).0, tt)),
   )
 
   front-same : compact_lines choices before ++ take 1 (compact_unit choices before (Observation first))
@@ -117,23 +113,19 @@ module _ (choices : Choices) (before : List (Item Epoch)) (first : Epoch)
 
   pub lines-parts : compact_lines choices (after ++ (block_of before first others)) ≡ compact_lines choices
       (block_of before first others) ++ lines_on choices.every after (block_of before first others)
-  lines-parts = text-parts choices after (block_of before first others) p.settled.in_place p.settled.header
-      block-header
+  lines-parts = text-parts choices after _ p.settled.in_place p.settled.header block-header
 
   pub after-same : lines_after choices (block_of before first others)
       (after ++ (block_of before first others)) ≡ lines_on choices.every after (block_of before first others)
   after-same = ap (drop (length (compact_lines choices (block_of before first others)))) lines-parts
-      ∙ drop-append_seam (compact_lines choices (block_of before first others))
-      (lines_on choices.every after (block_of before first others))
+      ∙ drop-append_seam (compact_lines choices (block_of before first others)) _
 
   pub block-parts : compact_lines choices (block_of before first others)
       ≡ compact_lines choices before ++ lines_of_epochs choices before (first ∷ others)
-  block-parts = lines-same choices (block_of before first others) block-in_place
-      (started (block_of before first others) block-header)
-      ∙ ap (λ ls. version_line ∷ program_line choices.date ∷ ls)
-      (epochs-lines choices before (first ∷ others))
-      ∙ sym (ap (λ ls. ls ++ lines_of_epochs choices before (first ∷ others))
-      (lines-same choices before first-in_place.1 (started before before-header)))
+  block-parts = lines-same choices (block_of before first others) block-in_place (started
+      (block_of before first others) block-header) ∙ ap (λ ls. version_line ∷ program_line choices.date ∷ ls)
+      (epochs-lines choices before (first ∷ others)) ∙ sym (ap (λ ls. ls ++ lines_of_epochs choices before
+      (first ∷ others)) (lines-same choices before first-in_place.1 (started before before-header)))
 
   none-after : (bytes : List ℕ) → (after ≡ []) ⊎ (list_all (λ (piece : Piece). piece.is_ended)
       (pieces_of bytes) ≡ true) → (lines_on choices.every after (block_of before first others) ≡ [])
@@ -142,14 +134,12 @@ module _ (choices : Choices) (before : List (Item Epoch)) (first : Epoch)
   none-after bytes (inr e) = inr e
 
   -- the lines of the damaged text, as they are read
-  pub lines-cut : (instead : List ℕ) → is_date choices.date ≡ true
-      → (after ≡ []) ⊎ (list_all (λ (piece : Piece). piece.is_ended) (pieces_of instead) ≡ true)
-      → map seen (lines_of (lines_text
-      (compact_lines choices before ++ take 1 (compact_unit choices before (Observation first))) ++ instead
-      ++ lines_text (lines_after choices (block_of before first others)
-      (after ++ (block_of before first others))))) ≡ map Content (front_of choices before first)
-      ++ (map seen (lines_of instead) ++ map Content (lines_on choices.every after
-      (block_of before first others)))
+  pub lines-cut : (instead : List ℕ) → is_date choices.date ≡ true → (after ≡ [])
+      ⊎ (list_all (λ (piece : Piece). piece.is_ended) (pieces_of instead) ≡ true) → map seen (lines_of
+      (lines_text (compact_lines choices before ++ take 1 (compact_unit choices before (Observation first)))
+      ++ instead ++ lines_text (lines_after choices (block_of before first others)
+      (after ++ (block_of before first others))))) ≡ map Content (front_of choices before first) ++ (map seen
+      (lines_of instead) ++ map Content (lines_on choices.every after (block_of before first others)))
   lines-cut instead dated ends =
       let rest = lines_after choices (block_of before first others) (after ++ block_of before first others) in
       ap (λ t. map seen (lines_of t)) (append_assoc (lines_text (compact_lines choices before ++ take 1
@@ -160,9 +150,8 @@ module _ (choices : Choices) (before : List (Item Epoch)) (first : Epoch)
       (block_of before first others)) (front-clean dated) all-clean.1 (none-after instead ends)
 
   -- the reading of the block's lines up to its end is that of the lines before and these
-  pub block-reading : (lines : List ReadLine)
-      → reading_from compact_place true [] 3 (map Content (lines_back choices.every before) ++ lines)
-      ≡ reading_from compact_place true
+  pub block-reading : (lines : List ReadLine) → reading_from compact_place true [] 3
+      (map Content (lines_back choices.every before) ++ lines) ≡ reading_from compact_place true
       (read_back choices.every before) (3 + length (lines_back choices.every before)) lines
   block-reading lines = up_to choices.every before lines first-in_place.1
 
@@ -172,30 +161,25 @@ module _ (choices : Choices) (before : List (Item Epoch)) (first : Epoch)
 
   -- the epochs that are read of the block are whole
   pub epochs-whole : (lines : List ReadLine) (b : IsBlockRead (read_back choices.every before) (reading_from
-      compact_place true (read_back choices.every before)
-      (3 + length (lines_back choices.every before)) lines))
-      → AllByRecursion (IsWholeEpoch (types_in_force before)) (epochs_in b.reads)
-  epochs-whole lines b =
-      let r = reading_from compact_place true (read_back choices.every before) (3 + length
-      (lines_back choices.every before)) lines in
-      rw before-types at (whole-block (read_back choices.every before) b.reads r b.ends (subst
-      (λ (s : Reading ReadEpoch). ItemsAreRead compact_place s.items) (block-reading lines)
+      compact_place true (read_back choices.every before) (3 + length (lines_back choices.every before))
+      lines)) → AllByRecursion (IsWholeEpoch (types_in_force before)) (epochs_in b.reads)
+  epochs-whole lines b = rw before-types at (whole-block (read_back choices.every before) b.reads
+      (reading_from compact_place true (read_back choices.every before)
+      (3 + length (lines_back choices.every before)) lines) b.ends (rw (← block-reading lines)
       (items-read compact_place true 3 (map Content (lines_back choices.every before) ++ lines))))
 
   -- ---- the block's own epochs
 
   -- the epochs of a block up to one of them are in place
   own-in_place : (count : ℕ) → AreInPlace (with_epochs before (take (suc count) (first ∷ others)))
-  own-in_place count = epochs-in_place (with_epochs before (take (suc count) (first ∷ others)))
-      (drop (suc count) (first ∷ others)) (subst AreInPlace (epochs-append before (take (suc count)
-      (first ∷ others)) (drop (suc count) (first ∷ others))) (rw (take-append-drop (suc count)
-      (first ∷ others)) block-in_place))
+  own-in_place count = epochs-in_place _ (drop (suc count) (first ∷ others))
+      (rw (← epochs-append before (take (suc count) (first ∷ others)) (drop (suc count) (first ∷ others)))
+      (rw (take-append-drop (suc count) (first ∷ others)) block-in_place))
 
   -- where the lines begin with those of some of its epochs, what is read goes on after these
-  own-reading : (lines rest : List (List ℕ)) (count : ℕ)
-      → lines ≡ drop 1 (lines_of_epochs choices before (take (suc count) (first ∷ others))) ++ rest
-      → reading_from compact_place true (read_back choices.every before)
-      (3 + length (lines_back choices.every before))
+  own-reading : (lines rest : List (List ℕ)) (count : ℕ) → lines
+      ≡ drop 1 (lines_of_epochs choices before (take (suc count) (first ∷ others))) ++ rest → reading_from
+      compact_place true (read_back choices.every before) (3 + length (lines_back choices.every before))
       (Content (first_line_of choices before first) ∷ map Content lines) ≡ reading_from compact_place true
       (read_back choices.every (with_epochs before (take (suc count) (first ∷ others)))) (3 + length
       (lines_back choices.every (with_epochs before (take (suc count) (first ∷ others))))) (map Content rest)
@@ -205,47 +189,38 @@ module _ (choices : Choices) (before : List (Item Epoch)) (first : Epoch)
       let old = lines_back choices.every before in
       let same : Content (first_line_of choices before first) ∷ map Content lines ≡ map Content own_lines ++
       map Content rest = cc (e, map-append Content (drop 1 own_lines) rest) in
-      let joined : map Content (lines_back choices.every (with_epochs before own)) ++ map Content rest
-      ≡ map Content old ++ (map Content own_lines ++ map Content rest) = ap (λ ls. map Content ls ++ map
-      Content rest) (epochs-lines choices before own) ∙ ap (λ ls. ls ++ map Content rest)
-      (map-append Content old own_lines) ∙ append_assoc (map Content old) (map Content own_lines)
-      (map Content rest) in
       sym (block-reading (Content (first_line_of choices before first) ∷ map Content lines))
       ∙ ap (λ ls. reading_from compact_place true [] 3 (map Content old ++ ls)) same
-      ∙ ap (reading_from compact_place true [] 3) (sym joined) ∙ up_to choices.every (with_epochs before own)
-      (map Content rest) (own-in_place count)
+      ∙ ap (reading_from compact_place true [] 3) (sym (ap (λ ls. map Content ls ++ map Content rest)
+      (epochs-lines choices before own) ∙ ap (λ ls. ls ++ map Content rest) (map-append Content old own_lines)
+      ∙ append_assoc (map Content old) (map Content own_lines) (map Content rest)))
+      ∙ up_to choices.every (with_epochs before own) (map Content rest) (own-in_place count)
 
   pub own-epochs : (lines : List (List ℕ)) (b : IsBlockRead (read_back choices.every before)
-      (reading_from compact_place true (read_back choices.every before)
-      (3 + length (lines_back choices.every before))
-      (Content (first_line_of choices before first) ∷ map Content lines)))
+      (reading_from compact_place true (read_back choices.every before) (3 + length
+      (lines_back choices.every before)) (Content (first_line_of choices before first) ∷ map Content lines)))
       → AllByRecursion IsInside (map Content lines) → (count : ℕ) (rest : List (List ℕ))
       → lines ≡ drop 1 (lines_of_epochs choices before (take (suc count) (first ∷ others))) ++ rest
       → (more : List Epoch) × (epochs_in b.reads ≡ take (suc count) (first ∷ others) ++ more)
   own-epochs lines b inside count rest e =
-      let own : List Epoch = take (suc count) (first ∷ others) in
-      let start : List (Item ReadEpoch) = read_back choices.every before in
-      let then_items : List (Item ReadEpoch) = read_back choices.every (with_epochs before own) in
-      let number : ℕ = 3 + length (lines_back choices.every (with_epochs before own)) in
-      let between : IsBetweenUnits then_items = back-between choices.every (with_epochs before own)
-      (own-in_place count) (epochs-header before own before-header) (epochs-left before own before-left) in
-      let left_inside : AllByRecursion IsInside (map Content rest) =
-      (all-parts IsInside (map Content (drop 1 (lines_of_epochs choices before own))) (map Content rest)
-      (subst (AllByRecursion IsInside) (ap (map Content) e
+      let own = take (suc count) (first ∷ others) in
+      let start = read_back choices.every before in
+      let then_items = read_back choices.every (with_epochs before own) in
+      let number = 3 + length (lines_back choices.every (with_epochs before own)) in
+      let left_inside : AllByRecursion IsInside (map Content rest) = (all-parts _ (map Content
+      (drop 1 (lines_of_epochs choices before own))) _ (subst (AllByRecursion IsInside) (ap (map Content) e
       ∙ map-append Content (drop 1 (lines_of_epochs choices before own)) rest) inside)).1 in
-      let later : IsBlockRead then_items (reading_from compact_place true then_items number
-      (map Content rest)) =
-      block-read then_items number (map Content rest) between (inside-text (map Content rest) left_inside) in
-      let same : epochs_of start ++ epochs_in b.reads ≡ epochs_of start ++ (own ++ epochs_in later.reads) =
-      sym (epochs-ended start b.reads (reading_from compact_place true start (3 + length
-      (lines_back choices.every before)) (Content (first_line_of choices before first) ∷ map Content
-      lines)) b.ends) ∙ ap (λ (s : Reading ReadEpoch). epochs_of s.items) (own-reading lines rest count e)
-      ∙ epochs-ended then_items later.reads
-      (reading_from compact_place true then_items number (map Content rest)) later.ends
+      let later = block-read _ number (map Content rest) (back-between choices.every (with_epochs before own)
+      (own-in_place count) (epochs-header before own before-header) (epochs-left before own before-left))
+      (inside-text (map Content rest) left_inside) in
+      let same = sym (epochs-ended start _ (reading_from compact_place true start (3 + length (lines_back
+      choices.every before)) (Content (first_line_of choices before first) ∷ map Content lines)) b.ends)
+      ∙ ap (λ (s : Reading ReadEpoch). epochs_of s.items) (own-reading lines rest count e) ∙ epochs-ended
+      then_items later.reads (reading_from compact_place true then_items number (map Content rest)) later.ends
       ∙ ap (λ es. es ++ epochs_in later.reads) (epochs-back choices.every before own)
       ∙ append_assoc (epochs_of start) own (epochs_in later.reads) in (
         epochs_in later.reads,
-        append_cancel_left (epochs_of start) (epochs_in b.reads) (own ++ epochs_in later.reads) same,
+        append_cancel_left _ _ _ same,
       )
 
 -- ---- what is written and reported
@@ -272,13 +247,12 @@ warnings-same : (every : Option ℕ) (before block all : List (Item Epoch)) (rea
     (warnings : List At) (more : List (Item ReadEpoch)) → more ++ read_back every block ≡ read_back every all
     → warnings_in (more ++ with_warnings warnings (with_reads (read_back every before) reads)) ≡ warnings
 warnings-same every before block all reads warnings more rest =
-    let start : List (Item ReadEpoch) = read_back every before in
-    let items : List (Item ReadEpoch) = with_reads start reads in
-    let none : warnings_in more ≡ [] = none-first (warnings_in more) (warnings_in (read_back every block))
-    (sym (warnings-append more (read_back every block)) ∙ ap warnings_in rest ∙ no-warnings every all) in
-    warnings-append more (with_warnings warnings items)
-    ∙ ap (λ w. w ++ warnings_in (with_warnings warnings items)) none ∙ warnings-with warnings items
-    ∙ ap (λ w. warnings ++ w) (warnings-read start reads ∙ no-warnings every before) ∙ append-nil warnings
+    let start = read_back every before in
+    let items = with_reads start reads in
+    let none = none-first _ (warnings_in (read_back every block))
+    (cc (warnings-append more (read_back every block), rest, no-warnings every all)) in
+    warnings-append more _ ∙ ap (λ w. w ++ warnings_in (with_warnings warnings items)) none ∙ warnings-with
+    _ items ∙ ap (λ w. warnings ++ w) (warnings-read start reads ∙ no-warnings every before) ∙ append-nil _
 
 -- ---- the law
 
@@ -287,62 +261,45 @@ pub saved-lines : (input : List ℕ) (choices expanding : Choices) (damaged : Li
     → is_date choices.date ≡ true → expanding.skip ≡ true
     → (d : IsDamaged input choices damaged) → IsSalvaged input choices damaged d (expanded damaged expanding)
 saved-lines input choices expanding damaged dated skips d =
-    let p : IsPlaced choices d.before d.first d.others d.after = placed input choices damaged d in
-    let block : List (Item Epoch) = block_of d.before d.first d.others in
-    let whole_items : List (Item Epoch) = d.after ++ block in
-    let cs : List (List ℕ) = contents (lines_of d.instead) in
+    let p = placed input _ _ d in
+    let block = block_of d.before d.first d.others in
+    let whole_items = d.after ++ block in
+    let cs = contents (lines_of d.instead) in
     let inside = instead-inside (lines_of d.instead) d.allowed in
-    let start : List (Item ReadEpoch) = read_back choices.every d.before in
-    let old : List (List ℕ) = lines_back choices.every d.before in
-    let number : ℕ = 3 + length old in
-    let full : List ℕ = first_line_of choices d.before d.first in
-    let lines : List ReadLine = Content full ∷ map Content cs in
-    let tail : List ReadLine = map Content (lines_on choices.every d.after block) in
-    let known : IsUndamaged choices.every d.after block =
-    undamaged choices d.before d.first d.others d.after p in
-    let between : IsBetweenUnits start = before-between choices d.before d.first d.others d.after p in
-    let b : IsBlockRead start (reading_from compact_place true start number lines) = block-read
-    start number lines between (block_text choices d.before d.first d.others d.after p
-    (map Content cs) inside.1) in
-    let items : List (Item ReadEpoch) = with_reads start b.reads in
-    let s : IsSaved items (read_back choices.every block) (read_back choices.every whole_items)
-    (ended_reading true (reading_from compact_place true start number (lines ++ tail))) =
-    tail-saved choices.every d.after block start number lines tail b known refl
+    let start = read_back choices.every d.before in
+    let old = lines_back choices.every d.before in
+    let number = 3 + length old in
+    let full = first_line_of choices d.before d.first in
+    let lines = Content full ∷ map Content cs in
+    let tail = map _ _ in
+    let known = undamaged _ _ _ _ _ p in
+    let between = before-between _ _ _ _ _ p in
+    let b = block-read start number lines between
+    (block_text choices d.before d.first d.others d.after p (map Content cs) inside.1) in
+    let items = with_reads start b.reads in
+    let s = tail-saved _ _ block start number lines tail b known refl
     (text-anew choices block d.after known.header known.left known.in_place d.anew) between
     (types-kept choices d.before d.first d.others d.after p) in
-    let last : List (Item ReadEpoch) = with_warnings s.warnings items in
-    let cut : map seen (lines_of damaged)
-    ≡ Content version_line ∷ Content (program_line choices.date) ∷ (map Content old ++ (lines ++ tail)) =
-    ap (λ t. map seen (lines_of t)) d.text
-    ∙ ap (λ all. map seen (lines_of (lines_text (compact_lines choices d.before ++ take 1
-    (compact_unit choices d.before
-    (Observation d.first))) ++ d.instead ++ lines_text (lines_after choices block all)))) d.parts
-    ∙ lines-cut choices d.before d.first d.others d.after p d.instead dated d.ended
-    ∙ ap (λ ls. map Content (front_of choices d.before d.first) ++ (ls ++ tail)) inside.0
-    ∙ ap (λ ls. Content version_line ∷ Content (program_line choices.date) ∷ ls)
-    (one-more old full (map Content cs ++ tail)) in
-    let whole : whole_compact expanding.skip (map seen (lines_of damaged))
-    ≡ record { items = s.more ++ last; fault = None } =
-    ap (λ skip. whole_compact skip (map seen (lines_of damaged))) skips ∙ ap (whole_compact true) cut
-    ∙ whole-after true choices.date (map Content old ++ (lines ++ tail))
-    ∙ ap (ended_reading true) (block-reading choices d.before d.first d.others d.after p (lines ++ tail))
-    ∙ s.same in
-    let text : expanded_lines (s.more ++ last) ≡ (printed_items d.before ++ flat_map printed_epoch
-    (epochs_in b.reads)) ++ drop (length (printed_items block)) (printed_items whole_items) =
-    output-same choices.every d.before block whole_items b.reads s.warnings s.more s.rest in
-    let warned : warnings_in (s.more ++ last) ≡ s.warnings =
-    warnings-same choices.every d.before block whole_items b.reads s.warnings s.more s.rest in
-    let once : reverse (warnings_in (s.more ++ last)) ≡ s.warnings = ap reverse warned
-    ∙ few-reversed s.warnings s.few in
-    subst (IsSalvaged input choices damaged d) (sym (ap (result_of expanded_unit) whole))
-    (record {
+    let last = with_warnings s.warnings items in
+    let cut = ap (λ t. map seen (lines_of t)) d.text ∙ ap (λ all. map seen (lines_of (lines_text
+    (compact_lines choices d.before ++ take 1 (compact_unit choices d.before (Observation d.first))) ++
+    d.instead ++ lines_text (lines_after choices block all)))) d.parts ∙ lines-cut _ _ _ _ _ p _ dated d.ended
+    ∙ ap (λ ls. map Content (front_of choices d.before d.first) ++ (ls ++ tail)) inside.0 ∙ ap (λ ls. Content
+    version_line ∷ Content (program_line choices.date) ∷ ls) (one-more old full (map Content cs ++ tail)) in
+    let whole = ap (λ skip. whole_compact skip (map seen (lines_of damaged))) skips ∙ ap (whole_compact true)
+    cut ∙ whole-after true choices.date (map Content old ++ (lines ++ tail)) ∙ ap (ended_reading true)
+    (block-reading choices d.before d.first d.others d.after p (lines ++ tail)) ∙ s.same in
+    let once = ap reverse (warnings-same
+    choices.every d.before block whole_items b.reads s.warnings s.more s.rest) ∙ few-reversed _ s.few in
+    rw (ap (result_of expanded_unit) whole) (record {
       epochs = epochs_in b.reads;
       whole = epochs-whole choices d.before d.first d.others d.after p lines b;
       warnings = s.warnings;
       few = s.few;
-      output = ap lines_text text ∙ ap (λ all. lines_text ((printed_items d.before ++ flat_map printed_epoch
+      output = ap lines_text (output-same choices.every d.before block whole_items b.reads
+          s.warnings s.more s.rest) ∙ ap (λ all. lines_text ((printed_items d.before ++ flat_map printed_epoch
           (epochs_in b.reads)) ++ drop (length (printed_items block)) (printed_items all))) (sym d.parts);
-      messages = append-nil (notices_text (reverse (warnings_in (s.more ++ last)))) ∙ ap notices_text once;
+      messages = cc (append-nil (notices_text (reverse (warnings_in (s.more ++ last)))), once);
       status = ap (λ w. status_after w None) once;
       fault = refl;
       own = λ count rest e. own-epochs choices d.before d.first d.others d.after p cs b inside.1 count rest e;
@@ -352,7 +309,7 @@ saved-lines input choices expanding damaged dated skips d =
 pub of-compaction : (input : List ℕ) (choices : Choices) (damaged : List ℕ)
     (d : IsDamaged input choices damaged) → IsOfCompaction input choices damaged d
 of-compaction input choices damaged d =
-    let p = placed input choices damaged d in
+    let p = placed input _ _ d in
     let block = block_of d.before d.first d.others in
     let head = compact_lines choices d.before ++ lines_of_epochs choices d.before (d.first ∷ d.others) in
     ap (λ (w : WholeReading Epoch). lines_text (compact_lines choices w.items)) (same-reading choices.skip

@@ -16,7 +16,7 @@ use Rattle.crx_filter.proofs.reading.Each.{contents}
 pub each-ended : (ps : List Piece) → list_all (λ (piece : Piece). piece.is_ended) ps ≡ true → EachEnded ps
 each-ended [] e = tt
 each-ended (p ∷ ps) e = (
-  (and_parts p.is_ended (list_all (λ (piece : Piece). piece.is_ended) ps) e).0,
+  (and_parts _ _ e).0,
   each-ended ps (and_parts p.is_ended (list_all (λ (piece : Piece). piece.is_ended) ps) e).1,
 )
 
@@ -25,27 +25,24 @@ onto-append : (b : ℕ) (ps qs : List Piece)
 onto-append b [] qs e = let never = e.0 in absurd (cc)
 onto-append b (p ∷ ps) qs e = (e, refl)
 
-byte-append : (b : ℕ) (one two : List ℕ)
-    → (EachEnded (pieces_of one) → pieces_of (one ++ two) ≡ pieces_of one ++ pieces_of two)
-    → ((b == 10) ≡ true) × (b ≡ 10) ⊎ ((b == 10) ≡ false) × (b ≢ 10)
-    → EachEnded (cond (b == 10) (record { bytes = []; is_ended = true } ∷ pieces_of one)
-    (onto_first b (pieces_of one)))
+byte-append : (b : ℕ) (one two : List ℕ) → (EachEnded (pieces_of one) → pieces_of (one ++ two) ≡ pieces_of
+    one ++ pieces_of two) → ((b == 10) ≡ true) × (b ≡ 10) ⊎ ((b == 10) ≡ false) × (b ≢ 10) → EachEnded
+    (cond (b == 10) (record { bytes = []; is_ended = true } ∷ pieces_of one) (onto_first b (pieces_of one)))
     → cond (b == 10) (record { bytes = []; is_ended = true } ∷ pieces_of (one ++ two))
-    (onto_first b (pieces_of (one ++ two)))
-    ≡ cond (b == 10) (record { bytes = []; is_ended = true } ∷ pieces_of one)
-    (onto_first b (pieces_of one)) ++ pieces_of two
+    (onto_first b (pieces_of (one ++ two))) ≡ cond (b == 10)
+    (record { bytes = []; is_ended = true } ∷ pieces_of one) (onto_first b (pieces_of one)) ++ pieces_of two
 byte-append b one two h (inl is) =
     let P : Bool → Type 0 = λ t. EachEnded (cond t (record { bytes = []; is_ended = true } ∷ pieces_of one)
     (onto_first b (pieces_of one))) → cond t (record { bytes = []; is_ended = true } ∷ pieces_of (one ++ two))
     (onto_first b (pieces_of (one ++ two))) ≡ cond t (record { bytes = []; is_ended = true } ∷ pieces_of one)
     (onto_first b (pieces_of one)) ++ pieces_of two in
-    subst P (sym is.0) (λ e. ap (λ ps. record { bytes = []; is_ended = true } ∷ ps) (h e.1))
+    rw is.0 (λ e. ap (λ ps. record { bytes = []; is_ended = true } ∷ ps) (h e.1))
 byte-append b one two h (inr is) =
     let P : Bool → Type 0 = λ t. EachEnded (cond t (record { bytes = []; is_ended = true } ∷ pieces_of one)
     (onto_first b (pieces_of one))) → cond t (record { bytes = []; is_ended = true } ∷ pieces_of (one ++ two))
     (onto_first b (pieces_of (one ++ two))) ≡ cond t (record { bytes = []; is_ended = true } ∷ pieces_of one)
     (onto_first b (pieces_of one)) ++ pieces_of two in
-    subst P (sym is.0) (λ e.
+    rw is.0 (λ e.
     let onto = onto-append b (pieces_of one) (pieces_of two) e in
     ap (onto_first b) (h onto.0) ∙ onto.1)
 
@@ -57,8 +54,7 @@ pieces-append (b ∷ one) two e = byte-append b one two (pieces-append one two) 
 pub lines-append : (one two : List ℕ) → EachEnded (pieces_of one) → map seen (lines_of (one ++ two))
     ≡ map seen (lines_of one) ++ map seen (lines_of two)
 lines-append one two e = ap (λ ps. map seen (map line_of ps)) (pieces-append one two e)
-    ∙ ap (map seen) (map-append line_of (pieces_of one) (pieces_of two))
-    ∙ map-append seen (map line_of (pieces_of one)) (map line_of (pieces_of two))
+    ∙ ap (map seen) (map-append line_of (pieces_of one) (pieces_of two)) ∙ map-append seen _ _
 
 -- ---- written lines before a text
 
@@ -68,29 +64,24 @@ front-cut [] text h = refl
 front-cut (line ∷ lines) text h =
     let same = ap (λ t. t ++ text) (append_assoc line (10 ∷ []) (lines_text lines))
     ∙ append_assoc line (10 ∷ lines_text lines) text in
-    ap (λ t. map seen (lines_of t)) same ∙ ap (λ ps. map seen (map line_of ps)) (pieces-first line
-    (lines_text lines ++ text) (IsClean.one_line h.0)) ∙ ap (λ l. l ∷ map seen (lines_of
-    (lines_text lines ++ text))) (seen-clean line h.0) ∙ ap (λ ls. Content line ∷ ls)
-    (front-cut lines text h.1)
+    ap (λ t. map seen (lines_of t)) same ∙ ap (λ ps. map seen (map line_of ps)) (pieces-first line (lines_text
+    lines ++ text) (IsClean.one_line h.0)) ∙ ap (λ l. l ∷ map seen (lines_of (lines_text lines ++ text)))
+    (seen-clean line h.0) ∙ ap (λ ls. Content line ∷ ls) (front-cut lines text h.1)
 
 -- the lines before a block and its first, those that come in place of the others, and those after it
-pub damaged-cut : (front : List (List ℕ)) (instead : List ℕ) (rest : List (List ℕ))
-    → AllByRecursion IsClean front → AllByRecursion IsClean rest
-    → (rest ≡ []) ⊎ (list_all (λ (piece : Piece). piece.is_ended) (pieces_of instead) ≡ true)
-    → map seen (lines_of (lines_text front ++ (instead ++ lines_text rest)))
+pub damaged-cut : (front : List (List ℕ)) (instead : List ℕ) (rest : List (List ℕ)) → AllByRecursion
+    IsClean front → AllByRecursion IsClean rest → (rest ≡ []) ⊎ (list_all (λ (piece : Piece). piece.is_ended)
+    (pieces_of instead) ≡ true) → map seen (lines_of (lines_text front ++ (instead ++ lines_text rest)))
     ≡ map Content front ++ (map seen (lines_of instead) ++ map Content rest)
 damaged-cut front instead rest h k (inl none) =
     let last : map seen (lines_of instead) ≡ map seen (lines_of instead) ++ map Content rest = rw none
-    (sym (append-nil (map seen (lines_of instead)))) in
-    front-cut front (instead ++ lines_text rest) h ∙ ap (λ t. map Content front ++ map seen (lines_of t))
-    (ap (λ (ls : List (List ℕ)). instead ++ lines_text ls) none ∙ append-nil instead)
-    ∙ ap (λ ls. map Content front ++ ls) last
+    (sym (append-nil _)) in
+    cc (front-cut front (instead ++ lines_text rest) h, none, append-nil instead, last)
 damaged-cut front instead rest h k (inr all) =
     let last = ap (λ t. map seen (lines_of t)) (sym (append-nil (lines_text rest))) ∙ front-cut rest [] k
-    ∙ append-nil (map Content rest) in
-    front-cut front (instead ++ lines_text rest) h ∙ ap (λ ls. map Content front ++ ls)
-    (lines-append instead (lines_text rest) (each-ended (pieces_of instead) all))
-    ∙ ap (λ ls. map Content front ++ (map seen (lines_of instead) ++ ls)) last
+    ∙ append-nil _ in
+    let first = lines-append instead (lines_text rest) (each-ended (pieces_of instead) all) in
+    cc (front-cut front (instead ++ lines_text rest) h, last)
 
 -- ---- the lines in place of the block's
 
@@ -104,10 +95,7 @@ instead-inside (line ∷ lines) e =
     let short = not-true (is_long line) (and_parts (not (is_long line)) (not (begins_epoch line.content))
     one).0 in
     let inside = not-true (begins_epoch line.content) (and_parts (not (is_long line))
-    (not (begins_epoch line.content)) one).1 in (
-      cc,
-      (inside, rest.1),
-    )
+    (not (begins_epoch line.content)) one).1 in (cc, (inside, rest.1))
 
 -- ---- texts of lines
 

@@ -37,10 +37,9 @@ pub record GoesOnAt (items : List (Item ReadEpoch)) (tail : List ReadLine)
   pub same : r ≡ reading_from compact_place true (with_warnings warnings items) number tail
 
 -- an epoch that is open is cut off, and reading goes on at the very line that does so
-pub open-goes_on : (items : List (Item ReadEpoch)) (number : ℕ) (first : List ℕ) (rest : List ReadLine)
-    (line : List ℕ) (tail : List ReadLine) → IsBetweenUnits items → is_event_line first ≡ false
-    → compact_place items (Content first ∷ rest) ≡ Wanted → begins_epoch line ≡ true
-    → GoesOnAt items (Content line ∷ tail)
+pub open-goes_on : (items : List (Item ReadEpoch)) (number : ℕ) (first : List ℕ) (rest : List ReadLine) (line
+    : List ℕ) (tail : List ReadLine) → IsBetweenUnits items → is_event_line first ≡ false → compact_place
+    items (Content first ∷ rest) ≡ Wanted → begins_epoch line ≡ true → GoesOnAt items (Content line ∷ tail)
     (reading_from compact_place true items number (Content first ∷ (rest ++ Content line ∷ tail)))
 open-goes_on items number first rest line tail h no_event e begins =
     let open_lines = Content first ∷ rest in
@@ -54,24 +53,21 @@ open-goes_on items number first rest line tail h no_event e begins =
       warnings = at ∷ [];
       few = omega arith;
       number = number + n;
-      same = enough-units compact_place compact-forward true (length all + 1) (suc (length all)) items number
-          all (omega arith) (omega arith)
-          ∙ within-wrong compact_place true (length all) items number all offset Truncated
-          (place-cut items first rest line tail h no_event begins e)
-          ∙ fault-skipped true read items number all offset Truncated (skipped-here items Truncated h refl)
-          ∙ ap (λ ls. looked_for (read (Warned at ∷ items)) (Warned at ∷ items) (number + n) ls)
-          (ap (λ k. drop k all) past ∙ drop-append_seam open_lines (Content line ∷ tail))
-          ∙ looked-here (read (Warned at ∷ items)) (Warned at ∷ items) (number + n) (Content line) tail begins
-          ∙ enough-units compact_place compact-forward true (length all) (length (Content line ∷ tail) + 1)
-          (Warned at ∷ items) (number + n) (Content line ∷ tail)
-          (omega (arith, length-append open_lines (Content line ∷ tail))) (omega arith);
+      same = enough-units compact_place compact-forward true (length all + 1) (suc (length all)) items
+          number all (omega arith) (omega arith) ∙ within-wrong compact_place true (length all) items number
+          all offset Truncated (place-cut items first rest line tail h no_event begins e) ∙ fault-skipped true
+          read items number all offset Truncated (skipped-here items Truncated h refl) ∙ ap (λ ls. looked_for
+          (read (Warned at ∷ items)) (Warned at ∷ items) (number + n) ls) (ap (λ k. drop k all) past ∙
+          drop-append_seam open_lines (Content line ∷ tail)) ∙ looked-here (read (Warned at ∷ items)) (Warned
+          at ∷ items) (number + n) (Content line) tail begins ∙ enough-units compact_place compact-forward
+          true (length all) (length (Content line ∷ tail) + 1) (Warned at ∷ items) (number + n)
+          (Content line ∷ tail) (omega (arith, length-append open_lines (Content line ∷ tail))) (omega arith);
     }
 
-cut-goes_on : (items : List (Item ReadEpoch)) (number : ℕ) (rest : List ReadLine) (line : List ℕ)
-    (tail : List ReadLine)
-    → IsBetweenUnits items → IsBlockText rest → compact_place items rest ≡ Wanted → begins_epoch line ≡ true
-    → GoesOnAt items (Content line ∷ tail) (reading_from compact_place true items number
-    (rest ++ Content line ∷ tail))
+cut-goes_on : (items : List (Item ReadEpoch))
+    (number : ℕ) (rest : List ReadLine) (line : List ℕ) (tail : List ReadLine) → IsBetweenUnits items
+    → IsBlockText rest → compact_place items rest ≡ Wanted → begins_epoch line ≡ true → GoesOnAt items
+    (Content line ∷ tail) (reading_from compact_place true items number (rest ++ Content line ∷ tail))
 cut-goes_on items number [] line tail h text e begins =
     record { warnings = []; few = omega arith; number = number; same = refl }
 cut-goes_on items number (Overlong ∷ rest) line tail h text e begins = absurd text
@@ -88,18 +84,16 @@ goes_on items r line tail h (inr (at, number, is)) begins = record {
   warnings = at ∷ [];
   few = omega arith;
   number = number;
-  same = ap (λ s. continued_reading compact_place true s (Content line ∷ tail)) is
-      ∙ looked-here (reading_from compact_place true (Warned at ∷ items)) (Warned at ∷ items) number
-      (Content line) tail begins;
+  same = ap (λ s. continued_reading compact_place true s (Content line ∷ tail)) is ∙ looked-here (reading_from
+      compact_place true (Warned at ∷ items)) (Warned at ∷ items) number (Content line) tail begins;
 }
 
 -- after a block that was read, at a line that begins with >
-pub block-goes_on : (items : List (Item ReadEpoch)) (r : Reading ReadEpoch)
-    (h : IsBlockRead items r) (line : List ℕ) (tail : List ReadLine) → IsBetweenUnits items
-    → begins_epoch line ≡ true → GoesOnAt (with_reads items h.reads)
-    (Content line ∷ tail) (continued_reading compact_place true r (Content line ∷ tail))
+pub block-goes_on : (items : List (Item ReadEpoch)) (r : Reading ReadEpoch) (h : IsBlockRead items r) (line
+    : List ℕ) (tail : List ReadLine) → IsBetweenUnits items → begins_epoch line ≡ true → GoesOnAt (with_reads
+    items h.reads) (Content line ∷ tail) (continued_reading compact_place true r (Content line ∷ tail))
 block-goes_on items r h line tail between begins =
-    goes_on (with_reads items h.reads) r line tail (reads-between items h.reads between) h.ends begins
+    goes_on _ r line tail (reads-between items h.reads between) h.ends begins
 
 -- ---- the end of the input
 
@@ -110,11 +104,10 @@ pub record EndsAfter (items : List (Item ReadEpoch)) (whole : WholeReading ReadE
   pub same : whole ≡ record { items = with_warnings warnings items; fault = None }
 
 -- the end after whole units is good
-pub ends-well : (items : List (Item ReadEpoch)) (number : ℕ) → IsBetweenUnits items
-    → ended_reading true (record { items = items; stop = AtLines number [] })
-    ≡ record { items = items; fault = None }
+pub ends-well : (items : List (Item ReadEpoch)) (number : ℕ) → IsBetweenUnits items → ended_reading true
+    (record { items = items; stop = AtLines number [] }) ≡ record { items = items; fault = None }
 ends-well [] number h = let never = h.header in absurd (cc)
-ends-well (item ∷ before) number h = ap (ended_with true (item ∷ before) (number + 0)) (good h.header h.none)
+ends-well (item ∷ before) number h = cc (good h.header h.none)
   where
     good : header_has_ended (item ∷ before) ≡ true
         → records_left (item ∷ before) ≡ 0 → fault_at_end (item ∷ before) [] ≡ None
@@ -126,8 +119,7 @@ pub ends-inside : (items : List (Item ReadEpoch)) (number : ℕ) (line : ReadLin
 ends-inside [] number line rest h = let never = h.header in absurd (cc)
 ends-inside (item ∷ before) number line rest h =
     let at : At = record { line = number + length (line ∷ rest); fault = Truncated } in
-    let on : is_skipped true (item ∷ before) Truncated ≡ true =
-    skipped-here (item ∷ before) Truncated h refl in
+    let on = skipped-here (item ∷ before) Truncated h refl in
     record { warnings = at ∷ []; few = omega arith; same = skips on }
   where
     skips : is_skipped true (item ∷ before) Truncated ≡ true
@@ -147,5 +139,4 @@ ends-after items r h (inr (at, number, is)) = record { warnings = at ∷ []; few
 -- after a block that was read, at the end of the input
 pub block-ends : (items : List (Item ReadEpoch)) (r : Reading ReadEpoch) (h : IsBlockRead items r)
     → IsBetweenUnits items → EndsAfter (with_reads items h.reads) (ended_reading true r)
-block-ends items r h between = ends-after (with_reads items h.reads) r
-    (reads-between items h.reads between) h.ends
+block-ends items r h between = ends-after _ r (reads-between items h.reads between) h.ends

@@ -17,9 +17,8 @@ epochs_in reads = map (λ (read : ReadEpoch). read.epoch) reads
 pub lines-append : (later before : List (Item ReadEpoch))
     → expanded_lines (later ++ before) ≡ expanded_lines before ++ expanded_lines later
 lines-append [] before = sym (append-nil (expanded_lines before))
-lines-append (Accepted unit ∷ later) before = ap (λ ls. ls ++ expanded_unit before unit)
-    (lines-append later before)
-    ∙ append_assoc (expanded_lines before) (expanded_lines later) (expanded_unit before unit)
+lines-append (Accepted unit ∷ later) before = ap (λ ls. ls ++ expanded_unit before unit) (lines-append
+    later before) ∙ append_assoc (expanded_lines before) (expanded_lines later) (expanded_unit before unit)
 lines-append (Warned at ∷ later) before = lines-append later before
 
 pub lines-warned : (warnings : List At) (items : List (Item ReadEpoch))
@@ -27,13 +26,11 @@ pub lines-warned : (warnings : List At) (items : List (Item ReadEpoch))
 lines-warned [] items = refl
 lines-warned (at ∷ older) items = lines-warned older items
 
-pub lines-read : (items : List (Item ReadEpoch)) (reads : List ReadEpoch)
-    → expanded_lines (with_reads items reads) ≡ expanded_lines items ++ flat_map printed_epoch
-    (epochs_in reads)
+pub lines-read : (items : List (Item ReadEpoch)) (reads : List ReadEpoch) → expanded_lines
+    (with_reads items reads) ≡ expanded_lines items ++ flat_map printed_epoch (epochs_in reads)
 lines-read items [] = sym (append-nil (expanded_lines items))
-lines-read items (read ∷ later) = lines-read (Accepted (Observation read) ∷ items) later
-    ∙ append_assoc (expanded_lines items) (printed_epoch read.epoch)
-    (flat_map printed_epoch (epochs_in later))
+lines-read items (read ∷ later) = lines-read _ later ∙ append_assoc
+    (expanded_lines items) (printed_epoch read.epoch) (flat_map printed_epoch (epochs_in later))
 
 -- ---- what is reported
 
@@ -79,13 +76,12 @@ good-before : (items : List (Item ReadEpoch)) (reads : List ReadEpoch)
 good-before items [] h = h
 good-before items (read ∷ later) h = (good-before (Accepted (Observation read) ∷ items) later h).1
 
-whole-reads : (items : List (Item ReadEpoch)) (reads : List ReadEpoch)
-    → AreGoodEpochs (with_reads items reads) → AllByRecursion (IsWholeEpoch (types_in_force items))
-    (epochs_in reads)
+whole-reads : (items : List (Item ReadEpoch)) (reads : List ReadEpoch) → AreGoodEpochs
+    (with_reads items reads) → AllByRecursion (IsWholeEpoch (types_in_force items)) (epochs_in reads)
 whole-reads items [] h = tt
 whole-reads items (read ∷ later) h =
-    let one = good-before (Accepted (Observation read) ∷ items) later h in
-    (IsGood.whole one.0, whole-reads (Accepted (Observation read) ∷ items) later h)
+    let one = good-before _ later h in
+    (IsGood.whole one.0, whole-reads _ later h)
 
 read-ends : (items : List (Item ReadEpoch)) (r : Reading ReadEpoch)
     → EndsBlock items r → ItemsAreRead compact_place r.items → ItemsAreRead compact_place items
@@ -109,7 +105,7 @@ epochs_of (Accepted unit ∷ before) = epochs_of before
 epochs-read : (items : List (Item ReadEpoch)) (reads : List ReadEpoch)
     → epochs_of (with_reads items reads) ≡ epochs_of items ++ epochs_in reads
 epochs-read items [] = sym (append-nil (epochs_of items))
-epochs-read items (read ∷ later) = epochs-read (Accepted (Observation read) ∷ items) later
+epochs-read items (read ∷ later) = epochs-read _ later
     ∙ append_assoc (epochs_of items) (read.epoch ∷ []) (epochs_in later)
 
 pub epochs-ended : (items : List (Item ReadEpoch)) (reads : List ReadEpoch) (r : Reading ReadEpoch)
@@ -120,5 +116,4 @@ epochs-ended items reads r (inr (at, number, is)) = cc (is, epochs-read items re
 pub epochs-back : (every : Option ℕ) (before : List (Item Epoch)) (epochs : List Epoch)
     → epochs_of (read_back every (with_epochs before epochs)) ≡ epochs_of (read_back every before) ++ epochs
 epochs-back every before [] = sym (append-nil (epochs_of (read_back every before)))
-epochs-back every before (epoch ∷ later) = epochs-back every (Accepted (Observation epoch) ∷ before) later
-    ∙ append_assoc (epochs_of (read_back every before)) (epoch ∷ []) later
+epochs-back every before (epoch ∷ later) = epochs-back every _ later ∙ append_assoc _ _ later

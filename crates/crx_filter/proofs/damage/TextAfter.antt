@@ -23,44 +23,37 @@ lines_on every (Accepted unit ∷ later) before = lines_on every later before ++
     (later ++ before) unit
 lines_on every (Warned at ∷ later) before = lines_on every later before
 
-pub written-on : (every : Option ℕ) (later before : List (Item Epoch)) → written_lines
-    (body_unit every) (later ++ before) ≡ written_lines (body_unit every) before ++ lines_on every
-    later before
+pub written-on : (every : Option ℕ) (later before : List (Item Epoch)) → written_lines (body_unit every)
+    (later ++ before) ≡ written_lines (body_unit every) before ++ lines_on every later before
 written-on every [] before = sym (append-nil (written_lines (body_unit every) before))
-written-on every (Accepted unit ∷ later) before =
-    ap (λ ls. ls ++ body_unit every (later ++ before) unit) (written-on every later before) ∙ append_assoc
-    (written_lines (body_unit every) before) (lines_on every later before)
-    (body_unit every (later ++ before) unit)
+written-on every (Accepted unit ∷ later) before = ap (λ ls. ls ++ body_unit every (later ++ before) unit)
+    (written-on every later before) ∙ append_assoc (written_lines (body_unit every) before)
+    (lines_on every later before) (body_unit every (later ++ before) unit)
 written-on every (Warned at ∷ later) before = written-on every later before
 
 -- ---- they are read as their units
 
 pub reads-on : (every : Option ℕ) (skip : Bool) (number : ℕ) (later before : List (Item Epoch))
-    → AreInPlace (later ++ before) → reading_from compact_place skip (read_back every before) number
-    (map Content (lines_on every later before))
-    ≡ record {
+    → AreInPlace (later ++ before) → reading_from compact_place skip
+    (read_back every before) number (map Content (lines_on every later before)) ≡ record {
       items = read_back every (later ++ before);
       stop = AtLines (number + length (lines_on every later before)) [];
     }
-reads-on every skip number [] before h = within-wanted compact_place skip 0 (read_back every before) number []
-    (compact-forward.wants (read_back every before)) ∙ at-line (read_back every before) number (number + 0)
-    (omega arith)
+reads-on every skip number [] before h = within-wanted compact_place skip 0 _ number []
+    (compact-forward.wants (read_back every before)) ∙ at-line _ number _ (omega arith)
 reads-on every skip number (Warned at ∷ later) before h = reads-on every skip number later before h.1
 reads-on every skip number (Accepted unit ∷ later) before h =
     let first = lines_on every later before in
     let more = body_unit every (later ++ before) unit in
     let same = length-map more Content in
     let all = length-append first more in
-    let here = unit-here every (later ++ before) unit h ∙ ap (λ n. Here (unit_back every (later ++ before)
+    let here = unit-here every _ unit h ∙ ap (λ n. Here (unit_back every (later ++ before)
     unit) n) (sym same) in
     ap (λ ls. reading_from compact_place skip (read_back every before) number ls) (map-append Content first
     more) ∙ resumed compact_place compact-forward skip (read_back every before) number (map Content first)
     (map Content more) ∙ ap (λ r. continued_reading compact_place skip r (map Content more))
     (reads-on every skip number later before h.1) ∙ one-unit compact_place compact-forward skip
-    (read_back every (later ++ before)) (number + length first) (map Content more) (unit_back every
-    (later ++ before) unit) here ∙ at-line (Accepted (unit_back every (later ++ before) unit) ∷ read_back
-    every (later ++ before)) (number + length first + length (map Content more)) (number + length
-    (first ++ more)) (omega (arith, same, all))
+    _ (number + length first) (map Content more) _ here ∙ at-line _ _ _ (omega (arith, same, all))
 
 -- ---- all starts anew
 
@@ -101,15 +94,14 @@ first-full choices block epoch (Warned at ∷ items) h none =
 
 pub one-more : (first : List (List ℕ)) (line : List ℕ) (more : List ReadLine)
     → map Content (first ++ line ∷ []) ++ more ≡ map Content first ++ Content line ∷ more
-one-more first line more = ap (λ ls. ls ++ more) (map-append Content first (line ∷ []))
-    ∙ append_assoc (map Content first) (Content line ∷ []) more
+one-more first line more =
+    cc (map-append Content first (line ∷ []), append_assoc (map Content first) (Content line ∷ []) more)
 
 event-begins : (line : List ℕ) → is_event_line line ≡ true → begins_epoch line ≡ true
 event-begins line e = (and_parts (begins_epoch line) (is_event_flag (character_at line 32)) e).0
 
-anew-event : (line : List ℕ) (more : List ReadLine)
-    → is_event_line line ≡ true → starts_anew 0 (Content line ∷ more)
-    ≡ starts_anew (records_announced line) more
+anew-event : (line : List ℕ) (more : List ReadLine) → is_event_line line ≡ true
+    → starts_anew 0 (Content line ∷ more) ≡ starts_anew (records_announced line) more
 anew-event line more e = cc (event-begins line e, e)
 
 anew-epoch : (line : List ℕ) (more : List ReadLine)
@@ -140,9 +132,8 @@ goes-anew choices block (Accepted (EventLine line) ∷ items) header none h k mo
     ∙ ap (λ b. cond (has_observation items) true b) (anew-event line more (h.0).2)
 goes-anew choices block (Accepted (EventRecord line) ∷ items) header none h k more = ap (starts_anew 0)
     (one-more (lines_on choices.every items block) line more) ∙ goes-anew choices block items header none h.1
-    (begins-rest choices block (Accepted (EventRecord line)) items k) (Content line ∷ more)
-    ∙ ap (λ b. cond (has_observation items) true b) (anew-record (records_left (items ++ block)) line more
-    (h.0).1)
+    (begins-rest choices block (Accepted (EventRecord line)) items k) (Content line ∷ more) ∙ ap
+    (λ b. cond (has_observation items) true b) (anew-record (records_left (items ++ block)) line more (h.0).1)
 goes-anew choices block (Accepted (Observation epoch) ∷ items) header none h k more =
     let before = items ++ block in
     let m = marked_now choices.every before epoch in
@@ -150,15 +141,12 @@ goes-anew choices block (Accepted (Observation epoch) ∷ items) header none h k
     let lines = compact_epoch (m ∷ older) in
     let stands = epoch-stands choices.every before epoch h in
     let first = lines_on choices.every items block in
-    ap (λ ls. starts_anew 0 (ls ++ more)) (map-append Content first lines)
-    ∙ ap (starts_anew 0) (append_assoc (map Content first) (map Content lines) more)
-    ∙ goes-anew choices block items header none h.1 (begins-rest choices block (Accepted (Observation epoch))
-    items k) (map Content lines ++ more) ∙ by_observation (has_observation items) refl
-    (starts_anew (records_left before) (map Content lines ++ more))
-    (λ no_epoch. ap (λ n. starts_anew n (map Content lines ++ more)) (h.0).1
-    ∙ anew-epoch (epoch_line m older) (map Content (tail_of lines) ++ more) (stands.first
-    ∙ ap (λ b. b || has_no_epochs older) (first-full choices block epoch items k no_epoch))
-    (stands.no_event).0)
+    ap (λ ls. starts_anew 0 (ls ++ more)) (map-append Content first lines) ∙ ap (starts_anew 0)
+    (append_assoc (map Content first) (map Content lines) more) ∙ goes-anew choices block items header
+    none h.1 (begins-rest choices block (Accepted (Observation epoch)) items k) (map Content lines ++ more)
+    ∙ by_observation _ refl _ (λ no_epoch. ap (λ n. starts_anew n (map Content lines ++ more)) (h.0).1
+    ∙ anew-epoch (epoch_line m older) (map Content (tail_of lines) ++ more) (stands.first ∙
+    ap (λ b. b || has_no_epochs older) (first-full choices block epoch items k no_epoch)) (stands.no_event).0)
   where
     tail_of : List (List ℕ) → List (List ℕ)
     tail_of [] = []
@@ -180,11 +168,9 @@ no-more (suc n) = refl
 pub text-anew : (choices : Choices) (block items : List (Item Epoch)) → header_has_ended block ≡ true
     → records_left block ≡ 0 → AreInPlace (items ++ block) → BeginsAnew choices block items
     → starts_anew 0 (map Content (lines_on choices.every items block)) ≡ true
-text-anew choices block items header none h k =
-    ap (starts_anew 0) (sym (append-nil (map Content (lines_on choices.every items block))))
-    ∙ goes-anew choices block items header none h k []
-    ∙ ap (λ b. cond (has_observation items) true b) (no-more (records_left (items ++ block)))
-    ∙ either (has_observation items)
+text-anew choices block items header none h k = ap (starts_anew 0) (sym (append-nil
+    (map Content (lines_on choices.every items block)))) ∙ goes-anew choices block items header none h k []
+    ∙ ap (λ b. cond (has_observation items) true b) (no-more (records_left (items ++ block))) ∙ either _
   where
     either : (b : Bool) → cond b true true ≡ true
     either true = refl

@@ -24,21 +24,16 @@ same-compaction one other choices h k same = cc (as-normal one choices h, same, 
 
 pub canonical : (one other : List ℕ) (choices : Choices) → IsCanonical one other choices
 canonical one other choices dated h k = (
-  λ same.
-      let back : written_well (normal_form one) ≡ written_well (normal_form other) =
-      sym (normal-comes_back one choices choices dated h.good h.no_returns)
-      ∙ ap (λ t. expanded t choices) same
-      ∙ normal-comes_back other choices choices dated k.good k.no_returns in
-      ap (λ (r : FilterResult). r.output) back,
+  λ same. ap (λ (r : FilterResult). r.output)
+      (sym (normal-comes_back one choices choices dated h.good h.no_returns) ∙ ap (λ t. expanded t choices)
+      same ∙ normal-comes_back other choices choices dated k.good k.no_returns),
   λ same. ap (λ (r : FilterResult). r.output) (same-compaction one other choices h k same),
 )
 
 -- ---- in runs
 
-pub depends-on_normal : (choices : Choices)
-    (writer messages : Device) (status : ℕ) (fault : Option At) (file : List ℕ)
-    → IsResult (compacted file choices) writer messages status fault
+pub depends-on_normal : (choices : Choices) (writer messages : Device) (status : ℕ)
+    (fault : Option At) (file : List ℕ) → IsResult (compacted file choices) writer messages status fault
     → DependsOnNormalForm choices writer messages status fault file
 depends-on_normal choices writer messages status fault file ran other h k same =
-    subst (λ r. IsResult r writer messages status fault)
-    (same-compaction file other choices h k (sym same)) ran
+    rw (← same-compaction file other choices h k (sym same)) ran

@@ -52,9 +52,8 @@ left-same known (Accepted (EventRecord line) ∷ before) h = ap (λ n. n - 1) (l
 left-same known (Warned at ∷ before) h = left-same known before h.1 ∙ (h.0).1
 left-same known items h = refl
 
-pub count-same : {E : Type 0} (known : List (Item Epoch) → Epoch → E) (items : List (Item Epoch))
-    → AreInPlace items → 0 < records_left items → records_count_types (carried known items)
-    ≡ records_count_types items
+pub count-same : {E : Type 0} (known : List (Item Epoch) → Epoch → E) (items : List (Item Epoch)) → AreInPlace
+    items → 0 < records_left items → records_count_types (carried known items) ≡ records_count_types items
 count-same known (Accepted (EventRecord line) ∷ before) h some = count-same known before h.1 (h.0).1
 count-same known (Warned at ∷ before) h some = absurd (omega (arith, some))
 count-same known items h some = refl
@@ -74,24 +73,22 @@ types-same known items h = ap types_of (declares-same known items h)
 
 -- ---- header lines and records at their places
 
-pub header-here : {E : Type 0} (beginning : List (Item E)
-    → List ReadLine → Place (FileUnit E)) (items : List (Item E)) (line : List ℕ)
-    → header_has_ended items ≡ false → header_line_fault (is_at_start items) line ≡ None
-    → unit_place beginning items (Content line ∷ []) ≡ Here (HeaderLine line) 1
+pub header-here : {E : Type 0} (beginning : List (Item E) → List ReadLine → Place (FileUnit E)) (items : List
+    (Item E)) (line : List ℕ) → header_has_ended items ≡ false → header_line_fault (is_at_start items) line
+    ≡ None → unit_place beginning items (Content line ∷ []) ≡ Here (HeaderLine line) 1
 header-here beginning items line e f = rw (e, f) refl
 
 record-read : {E : Type 0} (b : Bool) (line : List ℕ) → cond b (types_fault line) None ≡ None
     → first_line (Content line ∷ []) (event_record {E = E} b) ≡ Here (EventRecord line) 1
 record-read b line e = rw e refl
 
-pub record-here : {E : Type 0} (beginning : List (Item E)
-    → List ReadLine → Place (FileUnit E)) (items : List (Item E)) (line : List ℕ) (left : ℕ)
-    → header_has_ended items ≡ true → records_left items ≡ left → 0 < left → cond (records_count_types items)
-    (types_fault line) None ≡ None → unit_place beginning items (Content line ∷ [])
-    ≡ Here (EventRecord line) 1
+pub record-here : {E : Type 0} (beginning : List (Item E) → List ReadLine → Place (FileUnit E))
+    (items : List (Item E)) (line : List ℕ) (left : ℕ) → header_has_ended items ≡ true
+    → records_left items ≡ left → 0 < left → cond (records_count_types items) (types_fault line) None ≡ None
+    → unit_place beginning items (Content line ∷ []) ≡ Here (EventRecord line) 1
 record-here beginning items line zero ended_reading e some good = absurd (omega (arith, some))
 record-here beginning items line (suc left) ended_reading e some good = record-place beginning items left
-    (Content line ∷ []) ended_reading e ∙ record-read (records_count_types items) line good
+    (Content line ∷ []) ended_reading e ∙ record-read _ line good
 
 -- ---- one unit after another
 
@@ -100,12 +97,11 @@ pub one-unit : {E : Type 0} (place : List (Item E) → List ReadLine → Place (
     → (skip : Bool) (items : List (Item E)) (number : ℕ) (lines : List ReadLine) (unit : FileUnit E)
     → place items lines ≡ Here unit (length lines) → reading_from place skip items number lines
     ≡ record { items = Accepted unit ∷ items; stop = AtLines (number + length lines) [] }
-one-unit place h skip items number lines unit e = enough-units place h skip (length lines + 1)
-    (suc (suc (length lines))) items number lines (omega arith) (omega arith)
-    ∙ within-here place skip (suc (length lines)) items number lines unit (length lines) e
-    ∙ ap (λ ls. reading_within place skip (suc (length lines)) (Accepted unit ∷ items) (number + length lines)
-    ls) (drop_all (length lines) lines (omega arith)) ∙ within-wanted place skip (length lines)
-    (Accepted unit ∷ items) (number + length lines) [] (h.wants (Accepted unit ∷ items))
+one-unit place h skip items number lines unit e = enough-units place h skip _ (suc (suc (length lines)))
+    items number lines (omega arith) (omega arith) ∙ within-here place skip (suc (length lines))
+    items number lines unit (length lines) e ∙ ap (λ ls. reading_within place skip (suc (length lines))
+    (Accepted unit ∷ items) (number + length lines) ls) (drop_all (length lines) lines (omega arith))
+    ∙ within-wanted place skip (length lines) _ _ [] (h.wants (Accepted unit ∷ items))
 
 pub at-line : {E : Type 0} (items : List (Item E)) (m n : ℕ) → m ≡ n → ◌≡◌ {A = Reading E}
     (record { items = items; stop = AtLines m [] }) (record { items = items; stop = AtLines n [] })
@@ -119,47 +115,37 @@ StandsAgain place known lines_of_unit = (before : List (Item Epoch)) (unit : Fil
     → place (carried known before) (map Content (lines_of_unit before unit))
     ≡ Here (carried_unit known before unit) (length (lines_of_unit before unit))
 
-pub reads-again : {E : Type 0} (place : List (Item E) → List ReadLine → Place (FileUnit E))
-    (known : List (Item Epoch)
-    → Epoch → E) (lines_of_unit : List (Item Epoch) → FileUnit Epoch → List (List ℕ))
-    → IsReadForward place → StandsAgain place known lines_of_unit
-    → (skip : Bool) (number : ℕ) (items : List (Item Epoch)) → AreInPlace items
+pub reads-again : {E : Type 0}
+    (place : List (Item E) → List ReadLine → Place (FileUnit E)) (known : List (Item Epoch) → Epoch → E)
+    (lines_of_unit : List (Item Epoch) → FileUnit Epoch → List (List ℕ)) → IsReadForward place → StandsAgain
+    place known lines_of_unit → (skip : Bool) (number : ℕ) (items : List (Item Epoch)) → AreInPlace items
     → reading_from place skip [] number (map Content (written_lines lines_of_unit items)) ≡ record {
       items = carried known items;
       stop = AtLines (number + length (written_lines lines_of_unit items)) [];
     }
 reads-again place known lines_of_unit forward stands skip number [] h =
-    within-wanted place skip 0 [] number [] (forward.wants []) ∙ at-line [] number (number + 0) (omega arith)
+    within-wanted place skip 0 [] number [] (forward.wants []) ∙ at-line [] number _ (omega arith)
 reads-again place known lines_of_unit forward stands skip number (Warned at ∷ before) h =
-    reads-again place known lines_of_unit forward stands skip number before h.1
+    reads-again place known _ forward stands skip number before h.1
 reads-again place known lines_of_unit forward stands skip number (Accepted unit ∷ before) h =
-    let first : List (List ℕ) = written_lines lines_of_unit before in
-    let more : List (List ℕ) = lines_of_unit before unit in
-    let same : length (map Content more) ≡ length more = length-map more Content in
-    let all : length (first ++ more) ≡ length first + length more = length-append first more in
-    let here : place (carried known before) (map Content more)
-    ≡ Here (carried_unit known before unit) (length (map Content more)) =
-    stands before unit h ∙ ap (λ n. Here (carried_unit known before unit) n) (sym same) in
-    ap (λ ls. reading_from place skip [] number ls) (map-append Content first more)
-    ∙ resumed place forward skip [] number (map Content first) (map Content more)
-    ∙ ap (λ r. continued_reading place skip r (map Content more))
-    (reads-again place known lines_of_unit forward stands skip number before h.1)
-    ∙ one-unit place forward skip (carried known before)
-    (number + length first) (map Content more) (carried_unit known before unit) here
-    ∙ at-line (Accepted (carried_unit known before unit) ∷ carried known before)
-    (number + length first + length (map Content more)) (number + length (first ++ more))
-    (omega (arith, same, all))
+    let first = written_lines lines_of_unit before in
+    let more = lines_of_unit before unit in
+    let same = length-map more _ in
+    ap (λ ls. reading_from place skip [] number ls) (map-append Content first more) ∙ resumed place forward
+    skip [] number (map Content first) (map Content more) ∙ ap (λ r. continued_reading place skip r (map
+    Content more)) (reads-again place known lines_of_unit forward stands skip number before h.1) ∙ one-unit
+    place forward skip _ (number + length first) _ _ (stands before unit h ∙ ap (λ n. Here (carried_unit
+    known before unit) n) (sym same)) ∙ at-line _ _ _ (omega (arith, same, length-append first more))
 
 -- ---- the end
 
-pub whole-again : {E : Type 0} (place : List (Item E) → List ReadLine → Place (FileUnit E))
-    (known : List (Item Epoch)
-    → Epoch → E) (lines_of_unit : List (Item Epoch) → FileUnit Epoch → List (List ℕ))
-    → IsReadForward place → StandsAgain place known lines_of_unit → (skip : Bool) (number : ℕ)
-    (items : List (Item Epoch)) → AreInPlace items → header_has_ended items ≡ true → records_left items ≡ 0
-    → whole_reading place skip number (map Content (written_lines lines_of_unit items))
-    ≡ record { items = carried known items; fault = None }
+pub whole-again : {E : Type 0}
+    (place : List (Item E) → List ReadLine → Place (FileUnit E)) (known : List (Item Epoch) → Epoch → E)
+    (lines_of_unit : List (Item Epoch) → FileUnit Epoch → List (List ℕ)) → IsReadForward place → StandsAgain
+    place known lines_of_unit → (skip : Bool) (number : ℕ) (items : List (Item Epoch)) → AreInPlace items
+    → header_has_ended items ≡ true → records_left items ≡ 0 → whole_reading place skip number
+    (map Content (written_lines lines_of_unit items)) ≡ record { items = carried known items; fault = None }
 whole-again place known lines_of_unit forward stands skip number items h header none =
-    ap (ended_reading skip) (reads-again place known lines_of_unit forward stands skip number items h)
-    ∙ ap (ended_with skip (carried known items) (number + length (written_lines lines_of_unit items) + 0))
-    (closes-well (carried known items) (header-same known items ∙ header) (left-same known items h ∙ none))
+    let first =
+    closes-well (carried known items) (header-same known items ∙ header) (left-same known items h ∙ none) in
+    cc (reads-again place known lines_of_unit forward stands skip number items h)

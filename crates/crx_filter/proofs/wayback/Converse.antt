@@ -49,15 +49,14 @@ lines-plain (line ∷ lines) h = cc
 
 replicate-text : (n c : ℕ) → is_printable c ≡ true → list_all is_printable (replicate n c) ≡ true
 replicate-text zero c h = refl
-replicate-text (suc n) c h = and_from (is_printable c) (list_all is_printable (replicate n c)) h
-    (replicate-text n c h)
+replicate-text (suc n) c h = and_from _ _ h (replicate-text n c h)
 
 kept-text : (text : List ℕ) → list_all is_kept text ≡ true → list_all is_printable text ≡ true
 kept-text [] h = refl
 kept-text (c ∷ cs) h =
     let both = and_parts (is_kept c) _ h in
-    let first = and_parts (is_printable c) _ both.0 in
-    and_from (is_printable c) (list_all is_printable cs) first.0 (kept-text cs both.1)
+    and_from (is_printable c)
+    (list_all is_printable cs) (and_parts (is_printable c) _ both.0).0 (kept-text cs both.1)
 
 digit-printable : (c : ℕ) → is_ascii_digit c ≡ true → is_printable c ≡ true
 digit-printable c h = grind (arith, h)
@@ -81,27 +80,22 @@ small-size width size h k =
     omega (arith, k, pow-le-pow_right {n = 10} (omega arith) fewer)
 
 size-printable : (decimals size : ℕ) → size < 2 ^ 64 → list_all is_printable (size_text decimals size) ≡ true
-size-printable decimals size h =
-    let whole = digits-text (decimal (size / 10 ^ decimals)) (decimal_is_digits (size / 10 ^ decimals)
-    (grind (arith, h))) in
-    let part = digits-text (decimal (size % 10 ^ decimals)) (decimal_is_digits (size % 10 ^ decimals)
-    (grind (arith, h))) in
-    append-printable (decimal (size / 10 ^ decimals)) (46 ∷ zero_padded decimals (size % 10 ^ decimals)) whole
-    (append-printable (replicate (decimals - length (decimal (size % 10 ^ decimals))) 48)
-    (decimal (size % 10 ^ decimals)) (replicate-text (decimals - length (decimal (size % 10 ^ decimals))) 48
-    refl) part)
+size-printable decimals size h = append-printable (decimal (size / 10 ^ decimals))
+    (46 ∷ zero_padded decimals (size % 10 ^ decimals)) (digits-text (decimal (size / 10 ^ decimals))
+    (decimal_is_digits (size / 10 ^ decimals) (grind (arith, h)))) (append-printable
+    (replicate (decimals - length (decimal (size % 10 ^ decimals))) 48) (decimal (size % 10 ^ decimals))
+    (replicate-text (decimals - length (decimal (size % 10 ^ decimals))) 48 refl) (digits-text
+    (decimal (size % 10 ^ decimals)) (decimal_is_digits (size % 10 ^ decimals) (grind (arith, h)))))
 
-number-printable : (width decimals : ℕ) (value : Option ℤ)
-    → width ≤ 19 → IsMissingOrWithin width value → list_all is_printable
-    (number_text width decimals value) ≡ true
+number-printable : (width decimals : ℕ) (value : Option ℤ) → width ≤ 19
+    → IsMissingOrWithin width value → list_all is_printable (number_text width decimals value) ≡ true
 unfolding number_text
 number-printable width decimals None h within = replicate-text width 32 refl
-number-printable width decimals (Some (pos n)) h within = append-printable (replicate
-    (width - length (size_text decimals n)) 32) (size_text decimals n) (replicate-text
-    (width - length (size_text decimals n)) 32 refl) (size-printable decimals n
-    (small-size width n h (abs_within width (pos n) within)))
+number-printable width decimals (Some (pos n)) h within = append-printable (replicate (width - length
+    (size_text decimals n)) 32) (size_text decimals n) (replicate-text (width - length (size_text decimals n))
+    32 refl) (size-printable decimals n (small-size width n h (abs_within width (pos n) within)))
 number-printable width decimals (Some (negsuc n)) h within =
-    let size : n + 1 < 10 ^ (width - 1) = omega (arith, abs_within width (negsuc n) within) in
+    let size : n + 1 < 10 ^ (width - 1) = omega (arith, abs_within width _ within) in
     append-printable (replicate (width - length (45 ∷ size_text decimals (n + 1))) 32)
     (45 ∷ size_text decimals (n + 1)) (replicate-text (width - length (45 ∷ size_text decimals (n + 1))) 32
     refl) (size-printable decimals (n + 1) (small-size width (n + 1) h size))
@@ -115,14 +109,12 @@ cells-printable (value ∷ values) flags h k =
     OBSERVATION_DECIMALS value (omega arith) (All-head IsValue value values h)) (take-printable 2 flags k))
     (cells-printable values (drop 2 flags) (All-tail IsValue value values h) (drop-text 2 flags k))
 
-rows-printable : (rows : List Row)
-    → All IsSoundRow rows → AllByRecursion (λ (line : List ℕ). list_all is_printable line ≡ true)
-    (map printed_row rows)
+rows-printable : (rows : List Row) → All IsSoundRow rows
+    → AllByRecursion (λ (line : List ℕ). list_all is_printable line ≡ true) (map printed_row rows)
 rows-printable [] k = tt
 rows-printable (row ∷ rows) k = (
-  trimmed-printable (row.name ++ printed_cells row.values row.flags)
-      (append-printable row.name (printed_cells row.values row.flags)
-      (kept-text row.name (sound-name_kept row (All-head IsSoundRow row rows k)))
+  trimmed-printable (row.name ++ printed_cells row.values row.flags) (append-printable row.name (printed_cells
+      row.values row.flags) (kept-text row.name (sound-name_kept row (All-head IsSoundRow row rows k)))
       (cells-printable row.values row.flags (IsSoundRow.ranged (All-head IsSoundRow row rows k))
       (kept-text row.flags (IsSoundRow.kept (All-head IsSoundRow row rows k))))),
   rows-printable rows (All-tail IsSoundRow row rows k),
@@ -135,14 +127,13 @@ epoch-printable types epoch h = (
   trimmed-printable (epoch.head ++ clock_text epoch.clock)
       (append-printable epoch.head (clock_text epoch.clock) (kept-text epoch.head (head-kept types epoch h))
       (number-printable CLOCK_WIDTH CLOCK_DECIMALS epoch.clock (omega arith) h.sound.head_sound.ranged)),
-  rows-printable epoch.rows h.sound.rows_sound,
+  rows-printable _ h.sound.rows_sound,
 )
 
 -- ---- the lines of all units
 
-printable-plain : (lines : List (List ℕ))
-    → AllByRecursion (λ (line : List ℕ). list_all is_printable line ≡ true) lines
-    → AllByRecursion IsPlainLine lines
+printable-plain : (lines : List (List ℕ)) → AllByRecursion
+    (λ (line : List ℕ). list_all is_printable line ≡ true) lines → AllByRecursion IsPlainLine lines
 printable-plain [] h = tt
 printable-plain (line ∷ lines) h = (
   record { one_line = printable-no_feed line h.0; no_return = printable-no_return line h.0 },
@@ -155,9 +146,8 @@ printed-plain [] h k e = tt
 printed-plain (Accepted (Observation epoch) ∷ before) h k e =
     all-append IsPlainLine (printed_items before) (printed_epoch epoch) (printed-plain before h.1 k.1 e.1)
     (printable-plain (printed_epoch epoch) (epoch-printable (types_in_force before) epoch (h.0).2))
-printed-plain (Accepted unit ∷ before) h k e =
-    all-append IsPlainLine (printed_items before) (printed_unit unit) (printed-plain before h.1 k.1 e.1)
-    (record { one_line = (k.0).0; no_return = e.0 }, tt)
+printed-plain (Accepted unit ∷ before) h k e = all-append IsPlainLine (printed_items before) (printed_unit
+    unit) (printed-plain before h.1 k.1 e.1) (record { one_line = (k.0).0; no_return = e.0 }, tt)
 printed-plain (Warned at ∷ before) h k e = printed-plain before h.1 k e
 
 pub all-plain : (lines : List (List ℕ)) → list_all (λ (line : InputLine). line.is_plain)

@@ -26,16 +26,14 @@ seen-short l h = rw (le-ltb LINE_LIMIT (length l.content) h) refl
 pub seen-clean : (line : List ℕ)
     → IsClean line → seen (line_of (record { bytes = line; is_ended = true })) ≡ Content line
 seen-clean line h =
-    let kept : without_return line ≡ line = return-kept line h.no_return in
-    seen-short (line_of (record { bytes = line; is_ended = true }))
-    (subst (λ l. length l ≤ LINE_LIMIT) (sym kept) h.short) ∙ ap Content kept
+    let kept = return-kept line h.no_return in
+    seen-short (line_of (record { bytes = line; is_ended = true })) (rw kept h.short) ∙ ap Content kept
 
 -- the first of some lines, cut off their text
-pub first-cut : (line : List ℕ) (lines : List (List ℕ)) → HasNoFeed line
-    → pieces_of (lines_text (line ∷ lines)) ≡ record { bytes = line; is_ended = true } ∷ pieces_of
-    (lines_text lines)
+pub first-cut : (line : List ℕ) (lines : List (List ℕ)) → HasNoFeed line → pieces_of
+    (lines_text (line ∷ lines)) ≡ record { bytes = line; is_ended = true } ∷ pieces_of (lines_text lines)
 first-cut line lines one =
-    ap pieces_of (append_assoc line (10 ∷ []) (lines_text lines)) ∙ pieces-first line (lines_text lines) one
+    cc (append_assoc line (10 ∷ []) (lines_text lines), pieces-first line (lines_text lines) one)
 
 pub lines-cut : (lines : List (List ℕ))
     → AllByRecursion IsClean lines → map seen (lines_of (lines_text lines)) ≡ map Content lines
@@ -62,10 +60,9 @@ onto-no_feed : (b : ℕ) (ps : List Piece)
 onto-no_feed b [] other h = (All-cons NoFeed b [] other (All-nil NoFeed), tt)
 onto-no_feed b (p ∷ ps) other h = (All-cons NoFeed b p.bytes other h.0, h.1)
 
-by-byte : (b : ℕ) (ps : List Piece)
-    → AllByRecursion FeedsNone ps → ((b == 10) ≡ true) × (b ≡ 10) ⊎ ((b == 10) ≡ false) × (b ≢ 10)
-    → AllByRecursion FeedsNone (cond (b == 10) (record { bytes = []; is_ended = true } ∷ ps)
-    (onto_first b ps))
+by-byte : (b : ℕ) (ps : List Piece) → AllByRecursion FeedsNone ps
+    → ((b == 10) ≡ true) × (b ≡ 10) ⊎ ((b == 10) ≡ false) × (b ≢ 10) → AllByRecursion FeedsNone
+    (cond (b == 10) (record { bytes = []; is_ended = true } ∷ ps) (onto_first b ps))
 by-byte b ps h (inl is) = rw is.0 (All-nil NoFeed, h)
 by-byte b ps h (inr is) = rw is.0 (onto-no_feed b ps is.1 h)
 
@@ -77,13 +74,12 @@ no_feed-without_return : (bytes : List ℕ) → HasNoFeed bytes → HasNoFeed (w
 no_feed-without_return [] h = h
 no_feed-without_return (b ∷ []) h =
     elim (b == 13) as (λ t. HasNoFeed (cond t [] (b ∷ []))) [ true ↦ All-nil NoFeed | false ↦ h ]
-no_feed-without_return (b ∷ c ∷ bs) h = All-cons NoFeed b (without_return (c ∷ bs))
+no_feed-without_return (b ∷ c ∷ bs) h = All-cons NoFeed b _
     (All-head NoFeed b (c ∷ bs) h) (no_feed-without_return (c ∷ bs) (All-tail NoFeed b (c ∷ bs) h))
 
 seen-stands : (l : InputLine) → HasNoFeed l.content → OfContent CanStand (seen l)
-seen-stands l h = by_bool (is_long l)
-    (λ long. rw long tt)
-    (λ short. rw short (h, ltb-false LINE_LIMIT (length l.content) short))
+seen-stands l h = by_bool
+    (is_long l) (λ long. rw long tt) (λ short. rw short (h, ltb-false LINE_LIMIT (length l.content) short))
 
 pieces-stand : (ps : List Piece)
     → AllByRecursion FeedsNone ps → AllByRecursion (OfContent CanStand) (map seen (map line_of ps))

@@ -101,15 +101,14 @@ place-begun types raws (Content line ∷ lines) = by_bool (is_event_line line)
     (λ on. rw on (of-event (OfHere IsBegun) line (records_in line) refl (λ count e. (on, ap is_some e)) tt))
     (λ off. rw off (observed (epoch_at types raws (Content line ∷ lines))))
 
-begun-placed : (before : List (Item ReadEpoch)) (unit : FileUnit ReadEpoch)
-    → header_has_ended before ≡ true → records_left before ≡ 0
-    → IsGoodUnit (types_in_force before) unit → IsBegun unit → IsPlaced before unit
+begun-placed : (before : List (Item ReadEpoch)) (unit : FileUnit ReadEpoch) → header_has_ended before ≡ true
+    → records_left before ≡ 0 → IsGoodUnit (types_in_force before) unit → IsBegun unit → IsPlaced before unit
 begun-placed before (EventLine line) ended none good h =
     (header-read before ∙ ended, left-read before ∙ none, h.0, h.1)
 begun-placed before (Observation read) ended none good h = (
   header-read before ∙ ended,
   left-read before ∙ none,
-  subst (λ types. IsWholeEpoch types read.epoch) (sym (types-read before)) good,
+  rw (types-read before) good,
 )
 begun-placed before unit ended none good h = absurd h
 
@@ -120,11 +119,9 @@ in-body before unit lines count e good ended zero none = begun-placed before uni
     (subst (λ p. OfHere IsBegun p) (sym (body-place compact_beginning before lines ended none) ∙ e)
     (place-begun (types_in_force before) (raws_kept before) lines))
 in-body before unit lines count e good ended (suc left) some = subst (λ p. OfHere (IsPlaced before) p)
-    (sym (record-place compact_beginning before left lines ended some)
-    ∙ e) (first-line (IsPlaced before) (event_record (records_count_types before)) lines
-    (λ line. unless-wrong (IsPlaced before) (EventRecord line) (cond (records_count_types before)
-    (types_fault line) None)
-    (λ right. (
+    (sym (record-place compact_beginning before left lines ended some) ∙ e) (first-line (IsPlaced before)
+    (event_record (records_count_types before)) lines (λ line. unless-wrong (IsPlaced before)
+    (EventRecord line) (cond (records_count_types before) (types_fault line) None) (λ right. (
       header-read before ∙ ended,
       omega (arith, some, left-read before),
       cc (count-read before, right),
@@ -132,11 +129,9 @@ in-body before unit lines count e good ended (suc left) some = subst (λ p. OfHe
 
 in-header : (before : List (Item ReadEpoch)) (unit : FileUnit ReadEpoch) (lines : List ReadLine) (count : ℕ)
     → compact_place before lines ≡ Here unit count → header_has_ended before ≡ false → IsPlaced before unit
-in-header before unit lines count e open_header = subst (λ p. OfHere (IsPlaced before) p)
-    (sym (at_header lines open_header) ∙ e) (first-line (IsPlaced before) (header_line (is_at_start before))
-    lines
-    (λ line. unless-wrong (IsPlaced before) (HeaderLine line) (header_line_fault (is_at_start before) line)
-    (λ right. (
+in-header before unit lines count e open_header = subst (λ p. OfHere (IsPlaced before) p) (sym (at_header
+    lines open_header) ∙ e) (first-line (IsPlaced before) (header_line (is_at_start before)) lines (λ line.
+    unless-wrong (IsPlaced before) (HeaderLine line) (header_line_fault (is_at_start before) line) (λ right. (
       header-read before ∙ open_header,
       cc (start-read before, right),
     ))))
@@ -159,9 +154,9 @@ items-placed : (items : List (Item ReadEpoch)) → ItemsAreRead compact_place it
     → AreInPlace (rinex_items items)
 items-placed [] h good = tt
 items-placed (Accepted unit ∷ before) h good = (
-  (by_bool (header_has_ended before) (λ on. in-body before unit ((h.0).0) ((h.0).1) ((h.0).2)
+  by_bool (header_has_ended before) (λ on. in-body before unit ((h.0).0) ((h.0).1) ((h.0).2)
       (good-unit before unit good) on (records_left before) refl) (λ off. in-header before unit ((h.0).0)
-      ((h.0).1) ((h.0).2) off)),
+      ((h.0).1) ((h.0).2) off),
   items-placed before h.1 (good-before before unit good),
 )
 items-placed (Warned at ∷ before) h good = (
@@ -196,8 +191,7 @@ items-copied : (P : List ℕ → Type 0) (skip : Bool) (number : ℕ) (lines : L
     → AllByRecursion (OfContent P) lines
     → OfCopiedLines P (rinex_items (reading_from compact_place skip [] number lines).items)
 items-copied P skip number lines all = (within-kept compact_place skip
-    (λ items ls. OfCopiedLines P (rinex_items items) × AllByRecursion (OfContent P) ls)
-    (record {
+    (λ items ls. OfCopiedLines P (rinex_items items) × AllByRecursion (OfContent P) ls) (record {
       here = λ items ls unit count e h. (
         (subst (λ p. OfHere (Copies P) p) e (copied-unit P items ls h.1), h.0),
         all-drop (OfContent P) count ls h.1,
@@ -208,17 +202,15 @@ items-copied P skip number lines all = (within-kept compact_place skip
 
 pub compact-copied : (P : List ℕ → Type 0) (skip : Bool) (lines : List ReadLine)
     → AllByRecursion (OfContent P) lines → OfCopiedLines P (rinex_items (compact_reading skip lines).items)
-compact-copied P skip lines all = by_place (first_lines lines)
-    (λ two count e. rw (e, compact_reading)
+compact-copied P skip lines all = by_place (first_lines lines) (λ two count e. rw (e, compact_reading)
     (items-copied P skip (count + 1) (drop count lines) (all-drop (OfContent P) count lines all)))
     (λ offset fault e. rw (e, compact_reading) tt) (λ e. rw (e, compact_reading) tt)
 
 -- ---- the end
 
 end-settled : (skip : Bool) (items : List (Item ReadEpoch)) (number : ℕ) (rest : List ReadLine)
-    → AreInPlace (rinex_items items) → OfCopiedLines CanStand (rinex_items items)
-    → (o : Option Fault) → fault_at_end items rest ≡ o
-    → WholeReading.fault (ended_with skip items number o) ≡ None
+    → AreInPlace (rinex_items items) → OfCopiedLines CanStand (rinex_items items) → (o : Option Fault)
+    → fault_at_end items rest ≡ o → WholeReading.fault (ended_with skip items number o) ≡ None
     → IsSettled (rinex_items (WholeReading.items (ended_with skip items number o)))
 end-settled skip items number rest h k None e f =
     let good = end-means items rest e in
@@ -232,12 +224,10 @@ end-settled skip items number rest h k (Some fault) e f = by_bool (is_skipped sk
       none = refl;
     })) (λ off. not-ended (record { line = number; fault = fault }) (rw off at f))
 
-stop-settled : (skip : Bool) (items : List (Item ReadEpoch)) (stop : Stop) (next : ℕ)
-    → AreInPlace (rinex_items items) → OfCopiedLines CanStand (rinex_items items)
-    → IsStopped compact_place items stop next
-    → WholeReading.fault (ended_reading skip (record { items = items; stop = stop })) ≡ None
-    → IsSettled (rinex_items
-    (WholeReading.items (ended_reading skip (record { items = items; stop = stop }))))
+stop-settled : (skip : Bool) (items : List (Item ReadEpoch)) (stop : Stop) (next : ℕ) → AreInPlace
+    (rinex_items items) → OfCopiedLines CanStand (rinex_items items) → IsStopped compact_place items stop next
+    → WholeReading.fault (ended_reading skip (record { items = items; stop = stop })) ≡ None → IsSettled
+    (rinex_items (WholeReading.items (ended_reading skip (record { items = items; stop = stop }))))
 stop-settled skip items (AtFault at) next h k s f = not-ended at f
 stop-settled skip items (AtLines number rest) next h k s f = end-settled _ _ _ _ h k _ refl f
 stop-settled skip items (Looking number) next h k s f = record {
@@ -252,20 +242,19 @@ from-settled : (skip : Bool) (number : ℕ) (lines : List ReadLine) → AllByRec
     → IsSettled (rinex_items (WholeReading.items (ended_reading skip
     (reading_from compact_place skip [] number lines))))
 from-settled skip number lines h f =
-    let r : Reading ReadEpoch = reading_from compact_place skip [] number lines in
-    let read : ItemsAreRead compact_place r.items = items-read compact_place skip number lines in
-    stop-settled skip r.items r.stop (number + length lines)
+    let r = reading_from _ skip [] number lines in
+    let read = items-read _ skip number lines in
+    stop-settled skip _ r.stop (number + length lines)
     (items-placed r.items read (epochs-good r.items read)) (items-copied CanStand skip number lines h)
     (reading-stopped compact_place compact-forward skip [] number (number + length lines) lines refl) f
 
 pub read-settled : (skip : Bool) (lines : List ReadLine) → AllByRecursion (OfContent CanStand) lines
     → WholeReading.fault (whole_compact skip lines) ≡ None
     → IsSettled (rinex_items (WholeReading.items (whole_compact skip lines)))
-read-settled skip lines h f = by_place (first_lines lines)
-    (λ two count e. rw (e, whole_compact) (from-settled skip (count + 1) (drop count lines)
-    (all-drop (OfContent CanStand) count lines h) (rw (e, whole_compact) at f)))
-    (λ offset fault e. not-ended (record { line = offset + 1; fault = fault }) (rw (e, whole_compact) at f))
-    (λ e.
+read-settled skip lines h f =
+    by_place (first_lines lines) (λ two count e. rw (e, whole_compact) (from-settled skip (count + 1)
+    (drop count lines) (all-drop (OfContent CanStand) count lines h) (rw (e, whole_compact) at f))) (λ offset
+    fault e. not-ended (record { line = offset + 1; fault = fault }) (rw (e, whole_compact) at f)) (λ e.
     let never = rw (e, whole_compact) at f in
     absurd (cc))
 
@@ -293,9 +282,8 @@ cut-plain : (lines : List (List ℕ)) → AllByRecursion HasNoFeed lines
 cut-plain [] h e = tt
 cut-plain (line ∷ lines) h e =
     let are_plain : List Piece → Bool = λ ps. list_all (λ (l : InputLine). l.is_plain) (map line_of ps) in
-    let both = and_parts (InputLine.is_plain (line_of (record { bytes = line; is_ended = true })))
-    (are_plain (pieces_of (lines_text lines))) (sym (ap are_plain (first-cut line lines h.0)) ∙ e) in
-    (not-true (ends_with_return line) both.0, cut-plain lines h.1 both.1)
+    let both = and_parts _ _ (cc (first-cut line lines h.0, e)) in
+    (not-true _ both.0, cut-plain lines h.1 both.1)
 
 copied-plain : (items : List (Item Epoch))
     → AllByRecursion NoReturn (printed_items items) → HaveNoReturns items
@@ -308,9 +296,8 @@ copied-plain (Warned at ∷ before) h = copied-plain before h
 
 plain-copied : (items : List (Item Epoch)) → IsSettled items → HaveNoReturns items
     → has_plain_lines (lines_text (printed_items items)) ≡ true
-plain-copied items h none = ap (list_all (λ (line : InputLine). line.is_plain))
-    (lines-plain (printed_items items) (printed-plain items h.in_place h.copied none))
-    ∙ all-plain (printed_items items)
+plain-copied items h none = ap (list_all (λ (line : InputLine). line.is_plain)) (lines-plain
+    (printed_items items) (printed-plain items h.in_place h.copied none)) ∙ all-plain (printed_items items)
 
 pub expanded-standard : (text : List ℕ) (choices : Choices) → WhatIsExpandedIsStandard text choices
 expanded-standard text choices good =
@@ -323,7 +310,7 @@ expanded-standard text choices good =
     → HaveNoReturns items = λ plain. copied-plain items (cut-plain (printed_items items)
     (printed-no_feed items settled.in_place settled.copied) (cc (same, plain))) in
     record {
-      standard = λ plain. subst IsStandard (sym same) (settled-standard items settled (none plain));
+      standard = λ plain. rw same (settled-standard items settled (none plain));
       copied = (none, λ copies. cc (same, plain-copied items settled copies));
     }
 

@@ -24,9 +24,8 @@ epoch-stood types raws lines p e = tt
 
 begun-stood : (types : List Count) (raws : List RawEpoch) (lines : List ReadLine)
     → OfHere (StoodThere types raws) (compact_epoch_place types raws lines)
-begun-stood types raws lines =
-    of-compact (OfHere (StoodThere types raws)) types raws lines tt tt (λ line rest e. tt)
-    (epoch-stood types raws lines (epoch_at types raws lines) refl)
+begun-stood types raws lines = of-compact (OfHere (StoodThere types raws)) types raws lines tt tt
+    (λ line rest e. tt) (epoch-stood types raws lines (epoch_at types raws lines) refl)
 
 unit-stood : (items : List (Item ReadEpoch)) (lines : List ReadLine)
     → OfHere (StoodThere (types_in_force items) (raws_kept items)) (compact_place items lines)
@@ -69,9 +68,9 @@ marks-printable (Warned at ∷ before) h = tt
 pub epochs-good : (items : List (Item ReadEpoch)) → ItemsAreRead compact_place items → AreGoodEpochs items
 epochs-good [] h = tt
 epochs-good (Accepted (Observation read) ∷ before) h =
-    let rest : AreGoodEpochs before = epochs-good before h.1 in
+    let rest = epochs-good before h.1 in
     let stood = epoch-read before read (h.0).0 (h.0).1 (h.0).2 in (
-      reads-whole (types_in_force before) (raws_kept before) stood.0 read stood.1 (counts-in_force before)
+      reads-whole _ (raws_kept before) stood.0 read stood.1 (counts-in_force before)
           (marks-printable before rest) stood.2,
       rest,
     )

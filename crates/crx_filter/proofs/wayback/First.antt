@@ -16,29 +16,26 @@ use Rattle.crx_lines.proofs.PieceLemmas.{NoFeed}
 -- ---- the date's columns
 
 date-width : (date : List ℕ) → length (left_justified 20 date) ≡ 20
-date-width date = length-take-le 20 (date ++ replicate 20 32)
-    (omega (arith, length-append date (replicate 20 32)))
+date-width date = length-take-le 20 _ (omega (arith, length-append date (replicate 20 32)))
 
 drop-exact : (n : ℕ) (xs ys : List ℕ) → length xs ≡ n → drop n (xs ++ ys) ≡ ys
 drop-exact n xs ys e = subst (λ k. drop k (xs ++ ys) ≡ ys) e (drop-append_seam xs ys)
 
 program-read : (date : List ℕ) → crinex_program (program_line date) ≡ Ok (program_line date)
 program-read date =
-    let label = ap (λ t. bytes_eq t CRINEX_PROGRAM_LABEL) (ap (λ (t : List ℕ). without_end_blanks
-    (take 20 (t ++ replicate 20 32))) (drop-exact 20 (left_justified 20 date) CRINEX_PROGRAM_LABEL
-    (date-width date))) in
+    let label = ap (λ t. bytes_eq t CRINEX_PROGRAM_LABEL) (ap (λ (t : List ℕ). without_end_blanks (take 20 (t
+    ++ replicate 20 32))) (drop-exact 20 (left_justified 20 date) CRINEX_PROGRAM_LABEL (date-width date))) in
     rw label refl
 
-pub first-lines_read : (date : List ℕ) (rest : List ReadLine) → first_lines
-    (Content version_line ∷ Content (program_line date) ∷ rest)
-    ≡ Here (version_line ∷ program_line date ∷ []) 2
+pub first-lines_read : (date : List ℕ) (rest : List ReadLine) → first_lines (Content version_line ∷ Content
+    (program_line date) ∷ rest) ≡ Here (version_line ∷ program_line date ∷ []) 2
 first-lines_read date rest = rw (program-read date) refl
 
 -- ---- each is cut off again
 
 -- a printable character is none that isn't
 pub printable-other : (c d : ℕ) → is_printable d ≡ false → is_printable c ≡ true → c ≢ d
-printable-other c d isn_t is_so is = let same : is_printable c ≡ is_printable d = ap is_printable is in
+printable-other c d isn_t is_so is = let same = ap is_printable is in
     absurd (cc)
 
 pub printable-no_feed : (line : List ℕ) → list_all is_printable line ≡ true → HasNoFeed line
@@ -58,7 +55,7 @@ pub append-printable : (a b : List ℕ)
 append-printable [] b h k = k
 append-printable (c ∷ cs) b h k =
     let both = and_parts (is_printable c) _ h in
-    and_from (is_printable c) (list_all is_printable (cs ++ b)) both.0 (append-printable cs b both.1 k)
+    and_from _ (list_all is_printable (cs ++ b)) both.0 (append-printable cs b both.1 k)
 
 pub take-printable : (n : ℕ) (a : List ℕ) → list_all is_printable a ≡ true
     → list_all is_printable (take n a) ≡ true
@@ -66,28 +63,24 @@ take-printable zero a h = refl
 take-printable (suc n) [] h = refl
 take-printable (suc n) (c ∷ cs) h =
     let both = and_parts (is_printable c) _ h in
-    and_from (is_printable c) (list_all is_printable (take n cs)) both.0 (take-printable n cs both.1)
+    and_from _ (list_all is_printable (take n cs)) both.0 (take-printable n cs both.1)
 
 pub program-printable : (date : List ℕ) → is_date date ≡ true
     → list_all is_printable (program_line date) ≡ true
-program-printable date h =
-    let columns = take-printable 20 (date ++ replicate 20 32) (append-printable date (replicate 20 32)
-    ((and_parts (nat_le (length date) DATE_LIMIT) (list_all is_printable date) h).1) refl) in
-    append-printable CRINEX_PROGRAM (left_justified 20 date ++ CRINEX_PROGRAM_LABEL) refl
-    (append-printable (left_justified 20 date) CRINEX_PROGRAM_LABEL columns refl)
+program-printable date h = append-printable CRINEX_PROGRAM
+    (left_justified 20 date ++ CRINEX_PROGRAM_LABEL) refl (append-printable (left_justified 20 date)
+    CRINEX_PROGRAM_LABEL (take-printable 20 (date ++ replicate 20 32) (append-printable date (replicate 20 32)
+    ((and_parts (nat_le (length date) DATE_LIMIT) (list_all is_printable date) h).1) refl)) refl)
 
 pub program-clean : (date : List ℕ) → is_date date ≡ true → IsClean (program_line date)
 program-clean date h =
-    let all : list_all is_printable (program_line date) ≡ true = program-printable date h in
-    let width : length (left_justified 20 date) ≡ 20 = date-width date in
-    let two : length (left_justified 20 date ++ CRINEX_PROGRAM_LABEL) ≡ length (left_justified 20 date) + 18 =
-    length-append (left_justified 20 date) CRINEX_PROGRAM_LABEL in
-    let three : length (program_line date) ≡ 40 + length (left_justified 20 date ++ CRINEX_PROGRAM_LABEL) =
-    length-append CRINEX_PROGRAM (left_justified 20 date ++ CRINEX_PROGRAM_LABEL) in
+    let all = program-printable date h in
     record {
       one_line = printable-no_feed (program_line date) all;
       no_return = printable-no_return (program_line date) all;
-      short = omega (arith, width, two, three);
+      short =
+          let first = length-append CRINEX_PROGRAM (left_justified 20 date ++ CRINEX_PROGRAM_LABEL) in
+          omega (arith, date-width date, length-append (left_justified 20 date) CRINEX_PROGRAM_LABEL);
     }
 
 pub version-clean : IsClean version_line

@@ -57,15 +57,13 @@ whole-since : (every : Option ℕ) (items : List (Item Epoch)) → AreInPlace it
 whole-since every (Accepted (Observation epoch) ∷ before) h e = (
   (h.0).2,
   by_bool (is_in_full every before)
-      (λ on. rw on tt)
-      (λ off. rw off (whole-since every before h.1 (not-interrupted every before off))),
+      (λ on. rw on tt) (λ off. rw off (whole-since every before h.1 (not-interrupted every before off))),
 )
 whole-since every items h e = absurd (cc)
 
 pub whole-next : (every : Option ℕ) (before : List (Item Epoch)) (epoch : Epoch)
-    → AreInPlace (Accepted (Observation epoch) ∷ before)
-    → AreWhole (types_in_force before) (since_full (marked_now every before epoch ∷ marked_epochs every
-    before))
+    → AreInPlace (Accepted (Observation epoch) ∷ before) → AreWhole
+    (types_in_force before) (since_full (marked_now every before epoch ∷ marked_epochs every before))
 whole-next every before epoch h = whole-since every (Accepted (Observation epoch) ∷ before) h refl
 
 -- the reader's block is that of the epochs written so far, where the next epoch may go on from them
@@ -81,17 +79,14 @@ block-same every items h e = absurd (cc)
 epoch-back : (every : Option ℕ) (before : List (Item Epoch)) (epoch : Epoch)
     → AreInPlace (Accepted (Observation epoch) ∷ before) → EpochReadsBack (types_in_force before)
     (marked_now every before epoch) (marked_epochs every before) (raws_kept (read_back every before))
-epoch-back every before epoch h = each-reads_back (types_in_force before) (marked_now every before epoch)
-    (marked_epochs every before) (raws_kept (read_back every before)) (whole-next every before epoch h)
+epoch-back every before epoch h = each-reads_back _ _ _ _ (whole-next every before epoch h)
     (λ full. block-same every before h.1 (not-interrupted every before full))
 
-pub epoch-stands : (every : Option ℕ) (before : List (Item Epoch)) (epoch : Epoch)
-    → AreInPlace (Accepted (Observation epoch) ∷ before)
-    → LinesCanStand (marked_now every before epoch) (marked_epochs every before)
+pub epoch-stands : (every : Option ℕ) (before : List (Item Epoch)) (epoch : Epoch) → AreInPlace (Accepted
+    (Observation epoch) ∷ before) → LinesCanStand (marked_now every before epoch) (marked_epochs every before)
 epoch-stands every before epoch h =
-    let m : Marked = marked_now every before epoch in
-    let older : List Marked = marked_epochs every before in
-    lines-stand (types_in_force before) m.in_full m.epoch older (whole-next every before epoch h)
+    let m = marked_now every before epoch in
+    lines-stand (types_in_force before) _ _ (marked_epochs every before) (whole-next every before epoch h)
 
 -- ---- what is at a unit's lines
 
@@ -111,37 +106,29 @@ epoch-begins : (types : List Count) (raws : List RawEpoch) (line : List ℕ) (re
 epoch-begins types raws line rest e = rw e refl
 
 pub unit-here : (every : Option ℕ) (before : List (Item Epoch)) (unit : FileUnit Epoch)
-    → AreInPlace (Accepted unit ∷ before)
-    → compact_place (read_back every before) (map Content (body_unit every before unit))
-    ≡ Here (unit_back every before unit) (length (body_unit every before unit))
+    → AreInPlace (Accepted unit ∷ before) → compact_place (read_back every before) (map Content
+    (body_unit every before unit)) ≡ Here (unit_back every before unit) (length (body_unit every before unit))
 unit-here every before (HeaderLine line) h = header-here compact_beginning (read_back every before) line
-    (header-same (known_back every) before ∙ (h.0).0)
-    (ap (λ b. header_line_fault b line) (start-same (known_back every) before h.1) ∙ (h.0).1)
-unit-here every before (EventLine line) h =
-    body-place compact_beginning (read_back every before) (Content line ∷ [])
-    (header-same (known_back every) before ∙ (h.0).0) (left-same (known_back every) before h.1 ∙ (h.0).1)
-    ∙ event-begins (types_in_force (read_back every before)) (raws_kept (read_back every before)) line
-    (h.0).2 (h.0).3
-unit-here every before (EventRecord line) h =
-    record-here compact_beginning (read_back every before) line (records_left before)
-    (header-same (known_back every) before ∙ (h.0).0) (left-same (known_back every) before h.1) (h.0).1
-    (ap (λ b. cond b (types_fault line) None) (count-same (known_back every) before h.1 (h.0).1) ∙ (h.0).2)
+    (header-same (known_back every) before ∙ (h.0).0) (cc (start-same (known_back every) before h.1, (h.0).1))
+unit-here every before (EventLine line) h = body-place compact_beginning
+    (read_back every before) (Content line ∷ []) (header-same (known_back every) before ∙ (h.0).0)
+    (left-same (known_back every) before h.1 ∙ (h.0).1) ∙ event-begins
+    (types_in_force (read_back every before)) (raws_kept (read_back every before)) line (h.0).2 (h.0).3
+unit-here every before (EventRecord line) h = record-here compact_beginning (read_back every before) line
+    (records_left before) (header-same (known_back every) before ∙ (h.0).0) (left-same
+    (known_back every) before h.1) (h.0).1 (cc (count-same (known_back every) before h.1 (h.0).1, (h.0).2))
 unit-here every before (Observation epoch) h =
-    let m : Marked = marked_now every before epoch in
-    let older : List Marked = marked_epochs every before in
-    let raws : List RawEpoch = raws_kept (read_back every before) in
-    let lines : List ReadLine = lines_of_epoch (m ∷ older) in
-    let stands : LinesCanStand m older = epoch-stands every before epoch h in
-    let reads : epoch_at (types_in_force before) raws (lines ++ [])
-    ≡ Here (read_of m older) (2 + length epoch.rows) =
-    EpochReadsBack.reads (epoch-back every before epoch h) [] in
-    let kept : length (map (λ (r : Row). satellite_line (run_of r.name (m ∷ older)) r) epoch.rows)
-    ≡ length epoch.rows = length-map epoch.rows (λ (r : Row). satellite_line (run_of r.name (m ∷ older)) r) in
-    let counted : 2 + length epoch.rows ≡ length (compact_epoch (m ∷ older)) = omega (arith, kept) in
+    let m = marked_now every before epoch in
+    let older = marked_epochs every before in
+    let raws = raws_kept (read_back every before) in
+    let lines = lines_of_epoch (m ∷ older) in
+    let stands = epoch-stands every before epoch h in
+    let reads = EpochReadsBack.reads (epoch-back every before epoch h) [] in
+    let counted : 2 + length epoch.rows ≡ length (compact_epoch (m ∷ older)) =
+    omega (arith, length-map epoch.rows (λ (r : Row). satellite_line (run_of r.name (m ∷ older)) r)) in
     body-place compact_beginning (read_back every before) lines (header-same (known_back every) before
-    ∙ (h.0).0) (left-same (known_back every) before h.1 ∙ (h.0).1)
-    ∙ ap (λ types. compact_epoch_place types raws lines) (types-same (known_back every) before h.1)
-    ∙ epoch-begins (types_in_force before) raws
+    ∙ (h.0).0) (left-same (known_back every) before h.1 ∙ (h.0).1) ∙ ap (λ types. compact_epoch_place
+    types raws lines) (types-same (known_back every) before h.1) ∙ epoch-begins (types_in_force before) raws
     (epoch_line m older) (map Content (drop 1 (compact_epoch (m ∷ older)))) (stands.no_event).0
     ∙ ap (λ ls. as_observation (epoch_at (types_in_force before) raws ls)) (sym (append-nil lines))
     ∙ ap as_observation reads ∙ ap (λ n. Here (Observation (read_of m older)) n) counted

@@ -32,9 +32,8 @@ same_epoch before epoch = epoch
 abbrev accepted : List (Item Epoch) → List (Item Epoch)
 accepted items = carried same_epoch items
 
-event-stands : (types : List Count) (line : List ℕ) (o : Option ℕ) → records_in line ≡ o
-    → is_some o ≡ true → is_event_line line ≡ true → epoch_place types (Content line ∷ [])
-    ≡ Here (EventLine line) 1
+event-stands : (types : List Count) (line : List ℕ) (o : Option ℕ) → records_in line ≡ o → is_some o ≡ true
+    → is_event_line line ≡ true → epoch_place types (Content line ∷ []) ≡ Here (EventLine line) 1
 event-stands types line None e h event = absurd (cc)
 event-stands types line (Some n) e h event =
     let both = and_parts (begins_epoch line) _ event in
@@ -45,7 +44,7 @@ stands before (HeaderLine line) h = header-here rinex_beginning (accepted before
     before ∙ (h.0).0) (cc (start-same same_epoch before h.1, (h.0).1))
 stands before (EventLine line) h = body-place rinex_beginning (accepted before) (Content line ∷ [])
     (header-same same_epoch before ∙ (h.0).0) (left-same same_epoch before h.1 ∙ (h.0).1)
-    ∙ event-stands (types_in_force (accepted before)) line (records_in line) refl (h.0).3 (h.0).2
+    ∙ event-stands (types_in_force (accepted before)) line _ refl (h.0).3 (h.0).2
 stands before (EventRecord line) h = record-here rinex_beginning (accepted before) line (records_left before)
     (header-same same_epoch before ∙ (h.0).0) (left-same same_epoch before h.1) (h.0).1
     (cc (count-same same_epoch before h.1 (h.0).1, (h.0).2))
@@ -65,21 +64,19 @@ none-at-end : (items : List (Item Epoch)) (number : ℕ) (o : Option Fault)
 none-at-end items number None = refl
 none-at-end items number (Some fault) = refl
 
-none-ended : (items : List (Item Epoch)) (stop : Stop)
-    → warnings_in (WholeReading.items (ended_reading false (record { items = items; stop = stop })))
-    ≡ warnings_in items
+none-ended : (items : List (Item Epoch)) (stop : Stop) → warnings_in
+    (WholeReading.items (ended_reading false (record { items = items; stop = stop }))) ≡ warnings_in items
 none-ended items (AtLines number lines) = none-at-end items (number + length lines) (fault_at_end items lines)
 none-ended items stop = refl
 
 pub whole-none : (lines : List ReadLine) → warnings_in (WholeReading.items (whole_rinex false lines)) ≡ []
 whole-none lines =
     let r = rinex_reading false lines in
-    let kept = within-kept rinex_place false (λ items ls. warnings_in items ≡ []) (record {
+    none-ended _ r.stop ∙ (within-kept rinex_place false (λ items ls. warnings_in items ≡ []) (record {
       here = λ items ls unit count e h. h;
       warned = λ items ls at on h. absurd (cc);
       passed = λ items ls n h. h;
-    }) (length lines + 1) [] 1 lines refl in
-    none-ended r.items r.stop ∙ kept.1
+    }) (length lines + 1) [] 1 lines refl).1
 
 unit-same : (before : List (Item Epoch)) (unit : FileUnit Epoch) → carried_unit same_epoch before unit ≡ unit
 unit-same before (Observation epoch) = refl
@@ -99,23 +96,28 @@ rows-within : (n : ℕ) → 16 * TYPES_LIMIT + 3 ≤ n → (rows : List Row) →
     → AllByRecursion (λ (line : List ℕ). length line ≤ n) (map printed_row rows)
 rows-within n most [] h = tt
 rows-within n most (row ∷ rows) h =
-    let sound : IsSoundRow row = All-head IsSoundRow row rows h in
-    let all : length (row.name ++ printed_cells row.values row.flags)
-    ≡ 16 * length row.values + 3 = length-row row sound in
+    let sound = All-head IsSoundRow row rows h in
     let fewer : length (printed_row row) ≤ length (row.name ++ printed_cells row.values row.flags) =
-    few_kept (row.name ++ printed_cells row.values row.flags) in
-    let few : length row.values ≤ TYPES_LIMIT = sound.counted.1 in
-    (omega (arith, all, fewer, few, most), rows-within n most rows (All-tail IsSoundRow row rows h))
+    few_kept _ in (
+      omega (arith, length-row row sound, fewer, sound.counted.1, most),
+      rows-within n most rows (All-tail IsSoundRow row rows h),
+    )
 
 pub epoch-within : (n : ℕ) → 16 * TYPES_LIMIT + 3 ≤ n → (types : List Count) (epoch : Epoch)
     → IsWholeEpoch types epoch → AllByRecursion (λ (line : List ℕ). length line ≤ n) (printed_epoch epoch)
 epoch-within n most types epoch h =
-    let all : length (epoch.head ++ clock_text epoch.clock) ≡ 56 = length-head
-    (record { head = epoch.head; count = satellites_of epoch.head; clock = epoch.clock })
-    h.sound.head_sound in
     let fewer : length (without_end_blanks (epoch.head ++ clock_text epoch.clock))
-    ≤ length (epoch.head ++ clock_text epoch.clock) = few_kept (epoch.head ++ clock_text epoch.clock) in
-    (omega (arith, all, fewer, most), rows-within n most epoch.rows h.sound.rows_sound)
+    ≤ length (epoch.head ++ clock_text epoch.clock) = few_kept _ in (
+      omega (
+        arith,
+        length-head
+            (record { head = epoch.head; count = satellites_of epoch.head; clock = epoch.clock })
+            h.sound.head_sound,
+        fewer,
+        most,
+      ),
+      rows-within n most _ h.sound.rows_sound,
+    )
 
 printed-short : (items : List (Item Epoch))
     → AreInPlace items → OfCopiedLines CanStand items → AllByRecursion IsShort (printed_items items)
@@ -134,13 +136,11 @@ both-clean (line ∷ lines) h k = (
 )
 
 -- what was accepted, printed and read again
-pub printed-again : (items : List (Item Epoch)) → IsSettled items → HaveNoReturns items → whole_of
-    (lines_text (printed_items items))
-    ≡ record { items = carried (λ before epoch. epoch) items; fault = None }
+pub printed-again : (items : List (Item Epoch)) → IsSettled items → HaveNoReturns items → whole_of (lines_text
+    (printed_items items)) ≡ record { items = carried (λ before epoch. epoch) items; fault = None }
 printed-again items h none = ap (whole_rinex false) (lines-cut (printed_items items) (both-clean
-    (printed_items items) (printed-plain items h.in_place h.copied none)
-    (printed-short items h.in_place h.copied))) ∙ whole-again rinex_place same_epoch
-    (λ before. printed_unit) rinex-forward stands false 1 items h.in_place h.header h.none
+    (printed_items items) (printed-plain items h.in_place h.copied none) (printed-short items h.in_place
+    h.copied))) ∙ whole-again rinex_place _ _ rinex-forward stands false 1 items h.in_place h.header h.none
 
 -- ---- what was accepted, printed, is a standard file
 

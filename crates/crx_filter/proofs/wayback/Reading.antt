@@ -29,17 +29,15 @@ first-copied Q P read [] k h = tt
 first-copied Q P read (Overlong ∷ lines) k h = tt
 first-copied Q P read (Content line ∷ lines) k h = one-line Q (read line) (k line h.0)
 
-pub unit-copied : {E : Type 0} (Q : FileUnit E → Type 0) (P : List ℕ → Type 0)
-    (beginning : List (Item E) → List ReadLine → Place (FileUnit E)) (items : List (Item E))
-    (lines : List ReadLine) → ((line : List ℕ) → P line → Q (HeaderLine line))
-    → ((line : List ℕ) → P line → Q (EventRecord line)) → AllByRecursion (OfContent P) lines
-    → OfHere Q (beginning items lines) → OfHere Q (unit_place beginning items lines)
+pub unit-copied : {E : Type 0} (Q : FileUnit E → Type 0) (P : List ℕ → Type 0) (beginning : List (Item E)
+    → List ReadLine → Place (FileUnit E)) (items : List (Item E)) (lines : List ReadLine) → ((line : List ℕ)
+    → P line → Q (HeaderLine line)) → ((line : List ℕ) → P line → Q (EventRecord line)) → AllByRecursion
+    (OfContent P) lines → OfHere Q (beginning items lines) → OfHere Q (unit_place beginning items lines)
 unit-copied Q P beginning items lines of_header of_record h begun = of-unit (OfHere Q) beginning items lines
     (first-copied Q P (header_line (is_at_start items)) lines (λ line k. unless-wrong Q (HeaderLine line)
-    (header_line_fault (is_at_start items) line) (λ right. of_header line k)) h)
-    (first-copied Q P (event_record (records_count_types items)) lines
-    (λ line k. unless-wrong Q (EventRecord line) (cond (records_count_types items) (types_fault line) None)
-    (λ right. of_record line k)) h) begun
+    (header_line_fault (is_at_start items) line) (λ right. of_header line k)) h) (first-copied Q P
+    (event_record (records_count_types items)) lines (λ line k. unless-wrong Q (EventRecord line)
+    (cond (records_count_types items) (types_fault line) None) (λ right. of_record line k)) h) begun
 
 observed : (P : List ℕ → Type 0) (p : Place Epoch) (lines : List ReadLine)
     → OfHere (OfCopiedLine P) (after_lines 1 (then_place p lines (λ epoch rest. Here (Observation epoch) 0)))
@@ -70,13 +68,12 @@ copied-unit P items lines h = unit-copied (OfCopiedLine P) P
 -- what holds of each line's content holds of each line that is copied
 pub items-copied : (P : List ℕ → Type 0) (skip : Bool) (lines : List ReadLine)
     → AllByRecursion (OfContent P) lines → OfCopiedLines P (reading_from rinex_place skip [] 1 lines).items
-items-copied P skip lines all =
-    (within-kept rinex_place skip (λ items ls. OfCopiedLines P items × AllByRecursion (OfContent P) ls)
-    (record {
+items-copied P skip lines all = (within-kept rinex_place skip
+    (λ items ls. OfCopiedLines P items × AllByRecursion (OfContent P) ls) (record {
       here = λ items ls unit count e h. (
         (subst (λ p. OfHere (OfCopiedLine P) p) e (copied-unit P items ls h.1), h.0),
         all-drop (OfContent P) count ls h.1,
       );
       warned = λ items ls at on h. h;
       passed = λ items ls n h. (h.0, all-drop (OfContent P) n ls h.1);
-    }) (length lines + 1) [] 1 lines (tt, all)).1.0
+    }) _ [] 1 lines (tt, all)).1.0

@@ -34,7 +34,7 @@ returns-fewer (b ∷ c ∷ bs) e = omega (arith, returns-fewer (c ∷ bs) e)
 pub printable-none : (text : List ℕ) → list_all is_printable text ≡ true → returns text ≡ 0
 printable-none [] h = refl
 printable-none (c ∷ cs) h =
-    let both = and_parts (is_printable c) _ h in
+    let both = and_parts _ _ h in
     rw (ne_eqb c 13 (printable-other c 13 refl both.0), printable-none cs both.1) refl
 
 -- ---- of lines that are written
@@ -117,9 +117,8 @@ left-kept [] = omega arith
 left-kept (line ∷ lines) = omega (arith, returns-kept line, left-kept lines)
 
 -- lines that are written and read again have lost one CR where one ended them
-pub read-written : (lines : List (List ℕ))
-    → AllByRecursion HasNoFeed lines → returns_read (map seen (lines_of (lines_text lines)))
-    ≤ returns_left lines
+pub read-written : (lines : List (List ℕ)) → AllByRecursion HasNoFeed lines
+    → returns_read (map seen (lines_of (lines_text lines))) ≤ returns_left lines
 read-written [] h = omega arith
 read-written (line ∷ lines) h =
     let one = read-one (line_of (record { bytes = line; is_ended = true })) (map seen

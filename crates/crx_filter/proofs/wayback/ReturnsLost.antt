@@ -36,14 +36,10 @@ written-returns : (items : List (Item ReadEpoch))
     → AreGoodEpochs items → returns_in (expanded_lines items) ≡ returns_copied items
 written-returns [] h = refl
 written-returns (Accepted (Observation read) ∷ before) h =
-    let none = in-printable (printed_epoch read.epoch) (epoch-printable (types_in_force before) read.epoch
-    (IsGood.whole h.0)) in
-    omega (
-      arith,
-      in-append (expanded_lines before) (printed_epoch read.epoch),
-      none,
-      written-returns before h.1,
-    )
+    let first = in-printable
+    (printed_epoch read.epoch) (epoch-printable (types_in_force before) read.epoch (IsGood.whole h.0)) in
+    let second = in-append (expanded_lines before) (printed_epoch read.epoch) in
+    omega (arith, written-returns before h.1)
 written-returns (Accepted unit ∷ before) h = omega
     (arith, in-append (expanded_lines before) (expanded_unit before unit), written-returns before h)
 written-returns (Warned at ∷ before) h = written-returns before h
@@ -56,31 +52,24 @@ end-good skip items number (Some fault) h =
 
 ended-good : (skip : Bool) (items : List (Item ReadEpoch)) (stop : Stop) → AreGoodEpochs items
     → AreGoodEpochs (WholeReading.items (ended_reading skip (record { items = items; stop = stop })))
-ended-good skip items (AtLines number lines) h =
-    end-good skip items (number + length lines) (fault_at_end items lines) h
+ended-good skip items (AtLines number lines) h = end-good skip items _ _ h
 ended-good skip items stop h = h
 
 pub whole-good : (skip : Bool) (lines : List ReadLine) → AreGoodEpochs
     (WholeReading.items (whole_compact skip lines))
-whole-good skip lines = by_place (first_lines lines)
-    (λ two count e.
+whole-good skip lines = by_place (first_lines lines) (λ two count e.
     let r = reading_from compact_place skip [] (count + 1) (drop count lines) in
     rw (e, whole_compact) (ended-good skip r.items r.stop
     (epochs-good r.items (items-read compact_place skip (count + 1) (drop count lines)))))
-    (λ offset fault e. rw (e, whole_compact) tt)
-    (λ e. rw (e, whole_compact) tt)
+    (λ offset fault e. rw (e, whole_compact) tt) (λ e. rw (e, whole_compact) tt)
 
 -- an expansion writes no more of them than it reads
 expanded-returns : (text : List ℕ) (choices : Choices)
     → returns (FilterResult.output (expanded text choices)) ≤ returns_read (map seen (lines_of text))
 expanded-returns text choices =
     let items = WholeReading.items (whole_compact choices.skip (map seen (lines_of text))) in
-    omega (
-      arith,
-      in-text (expanded_lines items),
-      written-returns items (whole-good choices.skip (map seen (lines_of text))),
-      compact-within choices.skip (map seen (lines_of text)),
-    )
+    let first = written-returns items (whole-good choices.skip (map seen (lines_of text))) in
+    omega (arith, in-text (expanded_lines items), compact-within choices.skip (map seen (lines_of text)))
 
 -- ---- compact text
 
@@ -123,9 +112,8 @@ keeps-or_loses (Accepted (Observation epoch) ∷ before) =
     elim (keeps-or_loses before) [ inl none ↦ inl (tt, none) | inr less ↦ inr (omega (arith, less)) ]
 keeps-or_loses (Warned at ∷ before) = keeps-or_loses before
 
-pub printable-lines : (lines : List (List ℕ))
-    → AllByRecursion (λ (line : List ℕ). list_all is_printable line ≡ true) lines
-    → AllByRecursion HasNoFeed lines
+pub printable-lines : (lines : List (List ℕ)) → AllByRecursion
+    (λ (line : List ℕ). list_all is_printable line ≡ true) lines → AllByRecursion HasNoFeed lines
 printable-lines [] h = tt
 printable-lines (line ∷ lines) h = (printable-no_feed line h.0, printable-lines lines h.1)
 
@@ -137,7 +125,7 @@ record AreBack (lines : List (List ℕ)) (n : ℕ) : Type 0 where
 copied-back : (lines : List (List ℕ)) (line : List ℕ) (n : ℕ)
     → HasNoFeed line → AreBack lines n → AreBack (lines ++ line ∷ []) (returns (without_return line) + n)
 copied-back lines line n h b = record {
-  no_feed = all-append HasNoFeed lines (line ∷ []) b.no_feed (h, tt);
+  no_feed = all-append _ lines _ b.no_feed (h, tt);
   left = omega (arith, left-append lines (line ∷ []), b.left);
 }
 
@@ -152,13 +140,13 @@ lines-back : (every : Option ℕ) (items : List (Item Epoch))
     → AreInPlace items → OfCopiedLines CanStand items → AreBack (lines_back every items) (left_copied items)
 lines-back every [] h k = record { no_feed = tt; left = omega arith }
 lines-back every (Accepted (HeaderLine line) ∷ before) h k =
-    copied-back (lines_back every before) line (left_copied before) (k.0).0 (lines-back every before h.1 k.1)
+    copied-back _ line _ (k.0).0 (lines-back every before h.1 k.1)
 lines-back every (Accepted (EventLine line) ∷ before) h k =
-    copied-back (lines_back every before) line (left_copied before) (k.0).0 (lines-back every before h.1 k.1)
+    copied-back _ line _ (k.0).0 (lines-back every before h.1 k.1)
 lines-back every (Accepted (EventRecord line) ∷ before) h k =
-    copied-back (lines_back every before) line (left_copied before) (k.0).0 (lines-back every before h.1 k.1)
+    copied-back _ line _ (k.0).0 (lines-back every before h.1 k.1)
 lines-back every (Accepted (Observation epoch) ∷ before) h k = epoch-back (lines_back every before)
-    (compact_epoch (marked_now every before epoch ∷ marked_epochs every before)) (left_copied before)
+    (compact_epoch (marked_now every before epoch ∷ marked_epochs every before)) _
     (LinesCanStand.printable (epoch-stands every before epoch h)) (lines-back every before h.1 k.1)
 lines-back every (Warned at ∷ before) h k = lines-back every before h.1 k
 
@@ -166,22 +154,22 @@ first-none : (line : List ℕ) → list_all is_printable line ≡ true → retur
 first-none line h = omega (arith, left-kept (line ∷ []), in-printable (line ∷ []) (h, tt))
 
 -- compact text is read with no more of them than are left
-compacted-returns : (choices : Choices) (items : List (Item Epoch)) → is_date choices.date ≡ true
-    → IsSettled items
-    → returns_read (map seen (lines_of (lines_text (compact_lines choices items)))) ≤ left_copied items
+compacted-returns : (choices : Choices) (items : List (Item Epoch)) → is_date choices.date ≡ true → IsSettled
+    items → returns_read (map seen (lines_of (lines_text (compact_lines choices items)))) ≤ left_copied items
 compacted-returns choices items dated h =
-    let back : AreBack (lines_back choices.every items) (left_copied items) =
-    lines-back choices.every items h.in_place h.copied in
-    let lines : List (List ℕ) = version_line ∷ program_line choices.date ∷ lines_back choices.every items in
-    let same : compact_lines choices items ≡ lines = lines-same choices items h.in_place
-    (started items h.header) in
-    let one : returns_left (version_line ∷ []) ≡ 0 = first-none version_line refl in
-    let two : returns_left (program_line choices.date ∷ []) ≡ 0 =
-    first-none (program_line choices.date) (program-printable choices.date dated) in
-    let read : returns_read (map seen (lines_of (lines_text lines))) ≤ returns_left lines = read-written lines
-    (IsClean.one_line version-clean, (IsClean.one_line (program-clean choices.date dated), back.no_feed)) in
-    let rest : returns_left (lines_back choices.every items) ≤ left_copied items = back.left in
-    rw same (omega (arith, one, two, read, rest))
+    let back = lines-back choices.every items h.in_place h.copied in
+    let lines = version_line ∷ program_line choices.date ∷ lines_back choices.every items in
+    rw (lines-same choices items h.in_place (started items h.header)) (omega (
+      arith,
+      first-none version_line
+          refl,
+      first-none (program_line choices.date) (program-printable choices.date dated),
+      read-written lines (
+        IsClean.one_line version-clean,
+        (IsClean.one_line (program-clean choices.date dated), back.no_feed),
+      ),
+      back.left,
+    ))
 
 -- ---- a file that comes back
 

@@ -59,9 +59,8 @@ record-lines E counts (Content line ∷ lines) = record-of E line lines (cond co
 unit-lines : (E : Type 0) (beginning : List (Item E) → List ReadLine → Place (FileUnit E))
     → ((items : List (Item E)) (lines : List ReadLine) → IsOfLines lines (beginning items lines))
     → (items : List (Item E)) (lines : List ReadLine) → IsOfLines lines (unit_place beginning items lines)
-unit-lines E beginning h items lines = of-unit (IsOfLines lines) beginning items lines
-    (header-lines E (is_at_start items) lines)
-    (record-lines E (records_count_types items) lines) (h items lines)
+unit-lines E beginning h items lines = of-unit (IsOfLines lines) beginning items lines (header-lines E
+    (is_at_start items) lines) (record-lines E (records_count_types items) lines) (h items lines)
 
 -- in RINEX
 
@@ -84,8 +83,7 @@ epoch-lines types (Content line ∷ lines) = begun-of types line lines (head_of 
 
 rinex-lines : (items : List (Item Epoch)) (lines : List ReadLine) → IsOfLines lines (rinex_place items lines)
 rinex-lines items lines = unit-lines Epoch (λ (before : List (Item Epoch)). epoch_place
-    (types_in_force before))
-    (λ before ls. epoch-lines (types_in_force before) ls) items lines
+    (types_in_force before)) (λ before ls. epoch-lines (types_in_force before) ls) items lines
 
 -- in compact text
 
@@ -100,16 +98,15 @@ compact-begun types raws lines = of-compact (IsOfLines lines) types raws lines t
 
 compact-lines : (items : List (Item ReadEpoch)) (lines : List ReadLine)
     → IsOfLines lines (compact_place items lines)
-compact-lines items lines = unit-lines ReadEpoch
+compact-lines items lines = unit-lines _
     (λ (before : List (Item ReadEpoch)). compact_epoch_place (types_in_force before) (raws_kept before))
     (λ before ls. compact-begun (types_in_force before) (raws_kept before) ls) items lines
 
 -- ---- nor have all units
 
-all-within : {E : Type 0} (place : List (Item E) → List ReadLine → Place (FileUnit E))
-    → ((items : List (Item E)) (lines : List ReadLine) → IsOfLines lines (place items lines))
-    → (skip : Bool) (number : ℕ) (lines : List ReadLine)
-    → returns_copied (reading_from place skip [] number lines).items ≤ returns_read lines
+all-within : {E : Type 0} (place : List (Item E) → List ReadLine → Place (FileUnit E)) → ((items : List (Item
+    E)) (lines : List ReadLine) → IsOfLines lines (place items lines)) → (skip : Bool) (number : ℕ) (lines
+    : List ReadLine) → returns_copied (reading_from place skip [] number lines).items ≤ returns_read lines
 all-within {E = E} place p skip number lines =
     let kept = within-kept place skip
     (λ items ls. returns_copied items + returns_read ls ≤ returns_read lines) (record {
@@ -128,8 +125,7 @@ end-same skip items number (Some fault) =
 
 ended-same : {E : Type 0} (skip : Bool) (items : List (Item E)) (stop : Stop) → returns_copied
     (WholeReading.items (ended_reading skip (record { items = items; stop = stop }))) ≡ returns_copied items
-ended-same skip items (AtLines number lines) = end-same skip items (number + length lines)
-    (fault_at_end items lines)
+ended-same skip items (AtLines number lines) = end-same skip items _ _
 ended-same skip items stop = refl
 
 whole-within : {E : Type 0} (place : List (Item E) → List ReadLine → Place (FileUnit E))
@@ -146,10 +142,8 @@ rinex-within skip lines = whole-within rinex_place rinex-lines skip 1 lines
 
 pub compact-within : (skip : Bool) (lines : List ReadLine)
     → returns_copied (WholeReading.items (whole_compact skip lines)) ≤ returns_read lines
-compact-within skip lines = by_place (first_lines lines)
-    (λ two count e.
-    let rest = whole-within compact_place compact-lines skip (count + 1) (drop count lines) in
-    let cut = read-cut count lines in
-    rw (e, whole_compact) (omega (arith, rest, cut)))
-    (λ offset fault e. rw (e, whole_compact) (omega arith))
-    (λ e. rw (e, whole_compact) (omega arith))
+compact-within skip lines = by_place (first_lines lines) (λ two count e. rw (e, whole_compact) (omega (
+  arith,
+  whole-within compact_place compact-lines skip (count + 1) (drop count lines),
+  read-cut count lines,
+))) (λ offset fault e. rw (e, whole_compact) (omega arith)) (λ e. rw (e, whole_compact) (omega arith))

@@ -27,21 +27,17 @@ ended-same : {E : Type 0} (skip : Bool) (items : List (Item E)) (number : ℕ) (
 ended-same skip items number None f = refl
 ended-same skip items number (Some fault) f = not-ended (record { line = number; fault = fault }) f
 
-within-same : {E : Type 0} (place : List (Item E) → List ReadLine
-    → Place (FileUnit E)) (skip : Bool) (units : ℕ) (items : List (Item E)) (number : ℕ)
-    (lines : List ReadLine)
-    → WholeReading.fault (ended_reading false (reading_within place false units items number lines)) ≡ None
-    → ended_reading skip (reading_within place skip units items number lines)
-    ≡ ended_reading false (reading_within place false units items number lines)
-within-same place skip zero items number lines f = ended-same skip items (number + length lines)
-    (fault_at_end items lines) f
-within-same place skip (suc units) items number lines f = by_place (place items lines)
-    (λ unit count e. rw (e, reading_within) (within-same place skip units (Accepted unit ∷ items)
-    (number + count) (drop count lines) (rw (e, reading_within) at f)))
+within-same : {E : Type 0} (place : List (Item E) → List ReadLine → Place (FileUnit E)) (skip : Bool) (units :
+    ℕ) (items : List (Item E)) (number : ℕ) (lines : List ReadLine) → WholeReading.fault (ended_reading false
+    (reading_within place false units items number lines)) ≡ None → ended_reading skip (reading_within place
+    skip units items number lines) ≡ ended_reading false (reading_within place false units items number lines)
+within-same place skip zero items number lines f = ended-same skip items _ _ f
+within-same place skip (suc units) items number lines f =
+    by_place (place items lines) (λ unit count e. rw (e, reading_within) (within-same place skip units
+    (Accepted unit ∷ items) (number + count) (drop count lines) (rw (e, reading_within) at f)))
     (λ offset fault e. not-ended (record { line = number + offset; fault = fault })
-    (rw (e, reading_within, after_fault) at f))
-    (λ e. rw (e, reading_within) (ended-same skip items (number + length lines) (fault_at_end items lines)
-    (rw (e, reading_within) at f)))
+    (rw (e, reading_within, after_fault) at f)) (λ e. rw (e, reading_within)
+    (ended-same skip items (number + length lines) (fault_at_end items lines) (rw (e, reading_within) at f)))
 
 pub same-reading : (skip : Bool) (lines : List ReadLine)
     → WholeReading.fault (whole_rinex false lines) ≡ None → whole_rinex skip lines ≡ whole_rinex false lines
@@ -49,10 +45,9 @@ same-reading skip lines f = within-same rinex_place skip (length lines + 1) [] 1
 
 -- ---- no line ends in CR
 
-ended-copied : (P : List ℕ → Type 0) (skip : Bool) (items : List (Item Epoch)) (stop : Stop)
-    → OfCopiedLines P items
-    → OfCopiedLines P (WholeReading.items (ended_reading skip (record { items = items; stop = stop })))
-ended-copied P skip items (AtLines number lines) h = at-end (fault_at_end items lines)
+ended-copied : (P : List ℕ → Type 0) (skip : Bool) (items : List (Item Epoch)) (stop : Stop) → OfCopiedLines P
+    items → OfCopiedLines P (WholeReading.items (ended_reading skip (record { items = items; stop = stop })))
+ended-copied P skip items (AtLines number lines) h = at-end _
   where
     at-end : (o : Option Fault) → OfCopiedLines P (WholeReading.items
         (ended_with skip items (number + length lines) o))
@@ -62,8 +57,8 @@ ended-copied P skip items stop h = h
 
 pub whole-copied : (P : List ℕ → Type 0) (skip : Bool) (lines : List ReadLine)
     → AllByRecursion (OfContent P) lines → OfCopiedLines P (WholeReading.items (whole_rinex skip lines))
-whole-copied P skip lines h = let r : Reading Epoch = rinex_reading skip lines in
-    ended-copied P skip r.items r.stop (items-copied P skip lines h)
+whole-copied P skip lines h = let r = rinex_reading skip lines in
+    ended-copied P skip _ r.stop (items-copied P skip lines h)
 
 abbrev pub NoReturn : List ℕ → Type 0
 NoReturn line = ends_with_return line ≡ false
@@ -71,8 +66,8 @@ NoReturn line = ends_with_return line ≡ false
 -- the bytes of a plain line, which no CR ends
 plain-piece : (p : Piece) → InputLine.is_plain (line_of p) ≡ true → (p.is_ended ≡ true) × NoReturn p.bytes
 plain-piece p e =
-    let both = and_parts p.is_ended _ e in
-    (both.0, not-true (ends_with_return p.bytes) both.1)
+    let both = and_parts _ _ e in
+    (both.0, not-true _ both.1)
 
 abbrev are_plain : List Piece → Bool
 are_plain ps = list_all (λ (line : InputLine). line.is_plain) (map line_of ps)
@@ -81,7 +76,7 @@ are_plain ps = list_all (λ (line : InputLine). line.is_plain) (map line_of ps)
 plain-parts : (p : Piece) (ps : List Piece) → are_plain (p ∷ ps) ≡ true
     → (p.is_ended ≡ true) × NoReturn p.bytes × (are_plain ps ≡ true)
 plain-parts p ps e =
-    let both = and_parts (InputLine.is_plain (line_of p)) (are_plain ps) e in
+    let both = and_parts _ _ e in
     let first = plain-piece p both.0 in
     (first.0, first.1, both.1)
 
@@ -103,12 +98,10 @@ onto-text : (b : ℕ) (bs : List ℕ) (ps : List Piece)
 onto-text b bs [] e h = let never = e.0 in absurd (cc)
 onto-text b bs (p ∷ ps) e h = ap (λ t. b ∷ t) (h e)
 
-byte-text : (b : ℕ) (bs : List ℕ) (ps : List Piece) → (EachEnded ps
-    → lines_text (map (λ (p : Piece). p.bytes) ps) ≡ bs)
-    → ((b == 10) ≡ true) × (b ≡ 10) ⊎ ((b == 10) ≡ false) × (b ≢ 10)
-    → EachEnded (cond (b == 10) (record { bytes = []; is_ended = true } ∷ ps) (onto_first b ps))
-    → lines_text (map (λ (p : Piece). p.bytes)
-    (cond (b == 10) (record { bytes = []; is_ended = true } ∷ ps) (onto_first b ps))) ≡ b ∷ bs
+byte-text : (b : ℕ) (bs : List ℕ) (ps : List Piece) → (EachEnded ps → lines_text (map (λ (p : Piece). p.bytes)
+    ps) ≡ bs) → ((b == 10) ≡ true) × (b ≡ 10) ⊎ ((b == 10) ≡ false) × (b ≢ 10) → EachEnded (cond (b == 10)
+    (record { bytes = []; is_ended = true } ∷ ps) (onto_first b ps)) → lines_text (map (λ (p : Piece).
+    p.bytes) (cond (b == 10) (record { bytes = []; is_ended = true } ∷ ps) (onto_first b ps))) ≡ b ∷ bs
 byte-text b bs ps h (inl is) = rw is.0 (λ e. ap (λ t. 10 ∷ t) (h e.1) ∙ ap (λ c. c ∷ bs) (sym is.1))
 byte-text b bs ps h (inr is) = rw is.0 (λ e. onto-text b bs ps e h)
 
@@ -149,6 +142,5 @@ pub standard-comes_back : (input : List ℕ) (compacting expanding : Choices)
 standard-comes_back input compacting expanding dated standard =
     let none = whole-copied NoReturn false (map seen (lines_of input)) (plain-no_return (pieces_of input)
     standard.plain) in
-    normal-comes_back input compacting expanding dated standard.good none
-    ∙ ap (λ ls. written_well (lines_text ls)) (sym standard.given_back)
-    ∙ ap written_well (plain-text input standard.plain)
+    normal-comes_back input compacting expanding dated standard.good none ∙ ap (λ ls. written_well
+    (lines_text ls)) (sym standard.given_back) ∙ ap written_well (plain-text input standard.plain)

@@ -41,7 +41,7 @@ no-return line h = h.no_return
 settled : (units : List (FileUnit Epoch)) → MakeAFile units → IsSettled (as_items units)
 settled units h = record {
   in_place = in-place units h.in_order;
-  copied = copied CanStand can-stand units h.in_order;
+  copied = copied _ can-stand units h.in_order;
   header = h.header;
   none = h.complete;
 }
@@ -57,9 +57,8 @@ none-warned (unit ∷ before) = none-warned before
 
 whole-text : (units : List (FileUnit Epoch)) → MakeAFile units
     → whole_of (rinex_text units) ≡ record { items = as_items units; fault = None }
-whole-text units h = printed-again (as_items units) (settled units h) (no-returns units h)
-    ∙ ap (λ (all : List (Item Epoch)). record { items = all; fault = None })
-    (accepted-all (as_items units) (none-warned units))
+whole-text units h = printed-again (as_items units) (settled units h) (no-returns units h) ∙ ap (λ (all : List
+    (Item Epoch)). record { items = all; fault = None }) (accepted-all (as_items units) (none-warned units))
 
 compacts : (units : List (FileUnit Epoch)) (choices : Choices) → MakeAFile units
     → compacted (rinex_text units) choices ≡ written_well (compact_text choices units)
@@ -79,19 +78,17 @@ texts-of_units units compacting expanding h = record {
 
 -- ---- in runs
 
-pub writes-units : (choices : Choices)
-    (writer messages : Device) (status : ℕ) (fault : Option At) (file : List ℕ)
-    → IsResult (compacted file choices) writer messages status fault
+pub writes-units : (choices : Choices) (writer messages : Device) (status : ℕ)
+    (fault : Option At) (file : List ℕ) → IsResult (compacted file choices) writer messages status fault
     → WritesUnits choices writer messages status fault file
 writes-units choices writer messages status fault file ran units h same = subst (λ r. IsResult r writer
     messages status fault) (cc (same, compacts units choices h)) ran
 
-pub reads-units : (expanding : Choices)
-    (writer messages : Device) (status : ℕ) (fault : Option At) (text : List ℕ)
-    → IsResult (expanded text expanding) writer messages status fault
+pub reads-units : (expanding : Choices) (writer messages : Device) (status : ℕ)
+    (fault : Option At) (text : List ℕ) → IsResult (expanded text expanding) writer messages status fault
     → ReadsUnits writer messages status fault text
 reads-units expanding writer messages status fault text ran units compacting dated h same =
-    subst (λ r. IsResult r writer messages status fault) (ap (λ t. expanded t expanding) same
+    rw (← ap (λ t. expanded t expanding) same
     ∙ items-back (as_items units) compacting expanding dated (settled units h) (no-returns units h)) ran
 
 -- ---- a standard file is the text of its units
@@ -132,8 +129,7 @@ all-accepted file = all-units (WholeReading.items (whole_of file)) (whole-none (
 pub read-units : (file : List ℕ) → IsStandard file → MakeAFile (units_in (WholeReading.items (whole_of file)))
 read-units file h =
     let all = all-accepted file in
-    make-file (units_in (WholeReading.items (whole_of file))) (subst IsSettled (sym all)
-    (whole-settled false file h.good)) (subst HaveNoReturns (sym all) (whole-copied NoReturn false
+    make-file _ (rw all (whole-settled false file h.good)) (rw all (whole-copied NoReturn false
     (map seen (lines_of file)) (plain-no_return (pieces_of file) h.plain)))
 
 units-of_standard : (file : List ℕ) → IsStandard file
@@ -146,5 +142,5 @@ units-of_standard file h =
 pub standard-by_units : (file : List ℕ) → IsStandardByUnits file
 standard-by_units file = (
   units-of_standard file,
-  λ h. subst IsStandard (sym h.2) (settled-standard (as_items h.0) (settled h.0 h.1) (no-returns h.0 h.1)),
+  λ h. rw h.2 (settled-standard (as_items h.0) (settled h.0 h.1) (no-returns h.0 h.1)),
 )

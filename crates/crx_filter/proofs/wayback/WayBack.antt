@@ -52,12 +52,11 @@ pub end-means : {E : Type 0} (items : List (Item E)) (rest : List ReadLine)
 end-means [] rest e = absurd (cc)
 end-means (item ∷ before) (line ∷ rest) e = absurd (cc)
 end-means (item ∷ before) [] e =
-    let both = end-body (header_has_ended (item ∷ before)) (nat_lt 0 (records_left (item ∷ before))) _ _ e in
-    (both.0, lt-none (records_left (item ∷ before)) both.1)
+    let both = end-body _ _ _ _ e in
+    (both.0, lt-none _ both.1)
 
-end-settled : (skip : Bool) (items : List (Item Epoch)) (number : ℕ) (rest : List ReadLine)
-    → AreInPlace items → OfCopiedLines CanStand items
-    → (o : Option Fault) → fault_at_end items rest ≡ o → WholeReading.fault
+end-settled : (skip : Bool) (items : List (Item Epoch)) (number : ℕ) (rest : List ReadLine) → AreInPlace items
+    → OfCopiedLines CanStand items → (o : Option Fault) → fault_at_end items rest ≡ o → WholeReading.fault
     (ended_with skip items number o) ≡ None → IsSettled (WholeReading.items (ended_with skip items number o))
 end-settled skip items number rest h k None e f = let good = end-means items rest e in
     record { in_place = h; copied = k; header = good.0; none = good.1 }
@@ -77,12 +76,11 @@ settled skip items (AtLines number rest) next h k s f = end-settled _ _ _ _ h k 
 settled skip items (Looking number) next h k s f =
     record { in_place = h; copied = k; header = s.1; none = s.2 }
 
-pub whole-settled : (skip : Bool) (input : List ℕ) → WholeReading.fault
-    (whole_rinex skip (map seen (lines_of input)))
-    ≡ None → IsSettled (WholeReading.items (whole_rinex skip (map seen (lines_of input))))
+pub whole-settled : (skip : Bool) (input : List ℕ) → WholeReading.fault (whole_rinex skip (map seen
+    (lines_of input))) ≡ None → IsSettled (WholeReading.items (whole_rinex skip (map seen (lines_of input))))
 whole-settled skip input f =
-    let lines : List ReadLine = map seen (lines_of input) in
-    let r : Reading Epoch = rinex_reading skip lines in
+    let lines = map seen (lines_of input) in
+    let r = rinex_reading skip lines in
     settled skip r.items r.stop (1 + length lines) (items-in_place r.items
     (items-read rinex_place skip 1 lines)) (items-copied CanStand skip lines (input-stands input))
     (reading-stopped rinex_place rinex-forward skip [] 1 (1 + length lines) lines refl) f
@@ -118,9 +116,8 @@ epoch-clean (line ∷ lines) h k = (
 )
 
 unit-clean : (every : Option ℕ) (before : List (Item Epoch)) (unit : FileUnit Epoch)
-    → AreInPlace (Accepted unit ∷ before)
-    → OfCopiedLine CanStand unit → OfCopiedLine (λ (line : List ℕ). ends_with_return line ≡ false) unit
-    → AllByRecursion IsClean (body_unit every before unit)
+    → AreInPlace (Accepted unit ∷ before) → OfCopiedLine CanStand unit → OfCopiedLine (λ (line : List ℕ).
+    ends_with_return line ≡ false) unit → AllByRecursion IsClean (body_unit every before unit)
 unit-clean every before (HeaderLine line) h k e = (clean line k e, tt)
 unit-clean every before (EventLine line) h k e = (clean line k e, tt)
 unit-clean every before (EventRecord line) h k e = (clean line k e, tt)
@@ -133,9 +130,8 @@ unit-clean every before (Observation epoch) h k e =
 pub lines-clean : (every : Option ℕ) (items : List (Item Epoch)) → AreInPlace items
     → OfCopiedLines CanStand items → HaveNoReturns items → AllByRecursion IsClean (lines_back every items)
 lines-clean every [] h k e = tt
-lines-clean every (Accepted unit ∷ before) h k e = all-append IsClean (lines_back every before)
-    (body_unit every before unit) (lines-clean every before h.1 k.1 e.1)
-    (unit-clean every before unit h k.0 e.0)
+lines-clean every (Accepted unit ∷ before) h k e = all-append IsClean (lines_back every before) (body_unit
+    every before unit) (lines-clean every before h.1 k.1 e.1) (unit-clean every before unit h k.0 e.0)
 lines-clean every (Warned at ∷ before) h k e = lines-clean every before h.1 k e
 
 -- ---- what is written in the end
@@ -164,9 +160,8 @@ pub whole-after : (skip : Bool) (date : List ℕ) (rest : List ReadLine)
 whole-after skip date rest = rw (first-lines_read date rest, whole_compact) refl
 
 -- what was accepted comes back from its compact text
-pub items-back : (items : List (Item Epoch)) (compacting expanding : Choices)
-    → is_date compacting.date ≡ true → IsSettled items → HaveNoReturns items
-    → expanded (lines_text (compact_lines compacting items)) expanding
+pub items-back : (items : List (Item Epoch)) (compacting expanding : Choices) → is_date compacting.date ≡ true
+    → IsSettled items → HaveNoReturns items → expanded (lines_text (compact_lines compacting items)) expanding
     ≡ written_well (lines_text (printed_items items))
 items-back items compacting expanding dated h none =
     let lines = version_line ∷ program_line compacting.date ∷ lines_back compacting.every items in
@@ -174,13 +169,12 @@ items-back items compacting expanding dated h none =
       version-clean,
       (program-clean compacting.date dated, lines-clean compacting.every items h.in_place h.copied none),
     ) in
-    ap (λ ls. expanded (lines_text ls) expanding) (lines-same compacting items h.in_place
-    (started items h.header)) ∙ ap (expansion_result expanding) (lines-cut lines clean)
-    ∙ ap (result_of expanded_unit) (whole-after expanding.skip compacting.date (map Content
-    (lines_back compacting.every items)) ∙ whole-again compact_place (known_back compacting.every)
-    (body_unit compacting.every) compact-forward (unit-here compacting.every) expanding.skip 3 items
-    h.in_place h.header h.none) ∙ result-well (read_back compacting.every items) (printed_items items)
-    (printed-same compacting.every items) (no-warnings compacting.every items)
+    ap (λ ls. expanded (lines_text ls) expanding) (lines-same compacting items h.in_place (started
+    items h.header)) ∙ ap (expansion_result expanding) (lines-cut lines clean) ∙ ap (result_of expanded_unit)
+    (whole-after expanding.skip compacting.date (map Content (lines_back compacting.every items))
+    ∙ whole-again compact_place (known_back compacting.every) (body_unit compacting.every) compact-forward
+    (unit-here compacting.every) expanding.skip 3 items h.in_place h.header h.none) ∙ result-well (read_back
+    compacting.every items) _ (printed-same compacting.every items) (no-warnings compacting.every items)
 
 pub comes-back : (input : List ℕ) (compacting expanding : Choices) → ComesBack input compacting expanding
 comes-back input compacting expanding dated f none = items-back (WholeReading.items
