@@ -44,12 +44,10 @@ check-carried_out = record {
 -- the end of the input
 pub check-end : (lines : List ReadLine) → IsEndedBy (printed_items (rinex_reading false lines).items)
     (printed_items (whole_rinex false lines).items) (warnings_in (rinex_reading false lines).items)
-    (warnings_in (whole_rinex false lines).items) (whole_rinex false lines).fault
-    (seen_end checking (seen_of checking rinex_open totals_of no_choices (length lines)
-    (rinex_reading false lines)))
+    (warnings_in (whole_rinex false lines).items) (whole_rinex false lines).fault (seen_end checking
+    (seen_of checking rinex_open totals_of no_choices (length lines) (rinex_reading false lines)))
 check-end lines =
-    let r : Reading Epoch = rinex_reading false lines in
-    let stopped = reading-stopped rinex_place rinex-forward false [] 1 (length lines + 1) lines
-    (omega arith) in
-    next-end _ checking rinex_open
-    totals_of printed_after no_choices check-carried_out r.items r.stop (length lines) stopped
+    let r = rinex_reading false lines in
+    next-end _ checking rinex_open totals_of printed_after no_choices check-carried_out r.items r.stop
+    (length lines)
+    (reading-stopped rinex_place rinex-forward false [] 1 (length lines + 1) lines (omega arith))

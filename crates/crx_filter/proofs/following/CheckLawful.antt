@@ -15,8 +15,7 @@ check-lawful = record {
       ap (λ ls. WholeReading.fault (whole_rinex false ls)) (map-append seen lines more)
       ∙ ap (λ (w : WholeReading Epoch). w.fault) stays.ended in
       ap (λ o. record { output = report_unless o (findings_of (lines ++ more)); warnings = []; fault = o })
-      fault
-      ∙ ap (λ o. record { output = []; warnings = []; fault = o }) (sym e);
+      fault ∙ ap (λ o. record { output = []; warnings = []; fault = o }) (sym e);
   grows = λ lines more. record { rest = []; same = refl };
   goes_on = λ lines more. record {
     rest = report_unless (whole_reading_of (lines ++ more)).fault (findings_of (lines ++ more));

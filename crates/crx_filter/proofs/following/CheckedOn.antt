@@ -26,7 +26,7 @@ same-seen lines = cc (length-map lines seen)
 once-again : (lines : List ReadLine) (line : ReadLine)
     → is_again (seen_next checking (reading_seen lines) line).answer ≡ false
 once-again lines line =
-    let s : Seen OpenEpoch Totals = reading_seen lines in
+    let s = reading_seen lines in
     never-again (length lines) s.phase s.types s.kept line (made_in checking s.phase s.types s.kept line)
 
 -- the printed lines of a reading
@@ -73,17 +73,15 @@ one-on lines line =
 -- ---- as many lines are printed as have come
 
 one-less : (lines : List ReadLine) (line : ReadLine)
-    → fault_of_stop (rinex_reading false (lines ++ line ∷ [])).stop ≡ None → (o : Option At)
-    → fault_of_stop (rinex_reading false lines).stop ≡ o
-    → fault_of_stop (rinex_reading false lines).stop ≡ None
+    → fault_of_stop (rinex_reading false (lines ++ line ∷ [])).stop ≡ None → (o : Option At) → fault_of_stop
+    (rinex_reading false lines).stop ≡ o → fault_of_stop (rinex_reading false lines).stop ≡ None
 one-less lines line none None e = e
 one-less lines line none (Some at) e =
     let stays = rinex-stays false lines (line ∷ []) at e in
-    absurd (none-some at (sym none ∙ ap (λ (r : Reading Epoch). fault_of_stop r.stop) stays.same ∙ e))
+    absurd (none-some at (cc (none, stays.same, e)))
 
-good-before : (lines : List ReadLine) (line : ReadLine) → fault_of_stop
-    (rinex_reading false (lines ++ line ∷ [])).stop
-    ≡ None → fault_of_stop (rinex_reading false lines).stop ≡ None
+good-before : (lines : List ReadLine) (line : ReadLine) → fault_of_stop (rinex_reading false
+    (lines ++ line ∷ [])).stop ≡ None → fault_of_stop (rinex_reading false lines).stop ≡ None
 good-before lines line none = one-less lines line none (fault_of_stop (rinex_reading false lines).stop) refl
 
 all-before : (more lines : List ReadLine) → fault_of_stop (rinex_reading false (lines ++ more)).stop ≡ None

@@ -7,6 +7,5 @@ use Rattle.crx_filter.proofs.following.Compaction.{compaction-carried_out}
 
 pub compacted-on : (choices : Choices) (lines : List ReadLine) (line : ReadLine)
     → IsCompactedOn choices lines line
-compacted-on choices lines line = more-line (compaction-carried_out choices) 1 (length lines)
-    (length (lines ++ line ∷ [])) lines (lines ++ line ∷ []) line (omega arith)
-    (length-append lines (line ∷ [])) refl
+compacted-on choices lines line = more-line (compaction-carried_out choices) 1 (length lines) (length
+    (lines ++ line ∷ [])) lines (lines ++ line ∷ []) line (omega arith) (length-append lines (line ∷ [])) refl

@@ -25,9 +25,8 @@ nothing-left false = refl
 
 -- what the next epoch is written after
 same-tail : (choices : Choices) (items : List (Item Epoch)) (epoch : Epoch)
-    → tail_before (marked choices items epoch) (marked_epochs choices.every items)
-    ≡ tail_written_after (is_at_every choices.every (epochs_accepted items))
-    (written_of choices.every items).tail
+    → tail_before (marked choices items epoch) (marked_epochs choices.every items) ≡ tail_written_after
+    (is_at_every choices.every (epochs_accepted items)) (written_of choices.every items).tail
 same-tail choices [] epoch = nothing-left _
 same-tail choices (Accepted (Observation last) ∷ before) epoch = refl
 same-tail choices (Warned at ∷ before) epoch = nothing-left _
@@ -37,25 +36,22 @@ same-epochs : (choices : Choices)
     → AreSame compaction (written_of choices.every) (compact_unit choices) choices
 same-epochs choices = record {
   same = λ items lines epoch count here.
-      let whole = sound-epoch_place (types_in_force items) lines epoch count (counts-in_force items) here in
       let by_tail = epoch-by_tail (marked choices items epoch) (marked_epochs choices.every items)
-      whole.0.sound.apart in
+      (sound-epoch_place (types_in_force items) lines epoch count (counts-in_force items) here).0.sound.apart
+      in
       record {
-        kept = λ number phase types kept either.
-            ap (λ (k : Written). compaction.kept_after (seen_in choices number phase types k)
-            (Observation epoch)) (either-same either)
+        kept = λ number phase types kept either. ap (λ (k : Written). compaction.kept_after
+            (seen_in choices number phase types k) (Observation epoch)) (either-same either)
             ∙ ap (λ (t : Tail). record { index = epochs_accepted items + 1; tail = Some t })
-            (ap (λ t. tail_after t epoch) (sym (same-tail choices items epoch)) ∙ sym by_tail.tail);
-        lines = λ number phase types kept either.
-            ap (λ (k : Written). compaction.written (seen_in choices number phase types k)
-            (Observation epoch)) (either-same either)
+            (cc (same-tail choices items epoch, by_tail.tail));
+        lines = λ number phase types kept either. ap (λ (k : Written). compaction.written
+            (seen_in choices number phase types k) (Observation epoch)) (either-same either)
             ∙ ap (λ t. lines_after_tail t epoch) (sym (same-tail choices items epoch)) ∙ sym by_tail.lines;
       };
 }
 
-pub compaction-carried_out : (choices : Choices)
-    → IsCarriedOut (λ (before : List (Item Epoch)). epoch_place (types_in_force before)) compaction rinex_open
-    (written_of choices.every) (compact_unit choices) choices
+pub compaction-carried_out : (choices : Choices) → IsCarriedOut (λ (before : List (Item Epoch)). epoch_place
+    (types_in_force before)) compaction rinex_open (written_of choices.every) (compact_unit choices) choices
 compaction-carried_out choices = record {
   forward = rinex-forward;
   wants = λ items. refl;

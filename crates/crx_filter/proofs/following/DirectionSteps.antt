@@ -28,25 +28,20 @@ warned-then before after more e = ap reverse e ∙ reverse-append more before
 goes-by : {E U O K : Type 0} (direction : Direction U O K) (seen_after : List ReadLine → Seen O K)
     (unit_lines : List (Item E) → FileUnit E → List (List ℕ)) (reading : List ReadLine → Reading E)
     (whole : List ReadLine → WholeReading E) (memory : List ReadLine → ReadLine → Option (List At))
-    → ((lines : List ReadLine) (line : ReadLine) → IsFollowed (seen_after (lines ++ line ∷ []))
-    (written_lines unit_lines (reading lines).items)
-    (written_lines unit_lines (reading (lines ++ line ∷ [])).items)
-    (warnings_in (reading lines).items) (warnings_in (reading (lines ++ line ∷ [])).items)
-    (fault_of_stop (reading (lines ++ line ∷ [])).stop) (fed direction (seen_after lines) line))
-    → ((lines : List ReadLine) → IsEndedBy (written_lines unit_lines (reading lines).items)
-    (written_lines unit_lines (whole lines).items) (warnings_in (reading lines).items)
-    (warnings_in (whole lines).items) (whole lines).fault (seen_end direction (seen_after lines)))
-    → ((lines : List ReadLine) → (seen_after lines).number ≡ length lines)
-    → ((lines : List ReadLine) (line : ReadLine)
-    → takes_memory direction (seen_after lines) line ≡ true → memory lines line ≡ Some [])
-    → ((lines : List ReadLine) (line : ReadLine) (next : Seen O K) (notice : At)
-    → record { answer = Notice notice true; handed_out = []; next = next }
-    ≡ seen_next direction (seen_after lines) line
-    → takes_memory direction next line ≡ true → memory lines line ≡ Some (notice ∷ []))
-    → IsReadyWhereHandedOut direction
-    → ((types : List Count) (kept : K) → direction.begins types kept Overlong ≡ Fails LineTooLong)
-    → ((so_far : O) → direction.continues so_far Overlong ≡ Fails LineTooLong)
-    → GoesLineByLine direction seen_after (record {
+    → ((lines : List ReadLine) (line : ReadLine) → IsFollowed (seen_after (lines ++ line ∷ [])) (written_lines
+    unit_lines (reading lines).items) (written_lines unit_lines (reading (lines ++ line ∷ [])).items)
+    (warnings_in (reading lines).items) (warnings_in (reading (lines ++ line ∷ [])).items) (fault_of_stop
+    (reading (lines ++ line ∷ [])).stop) (fed direction (seen_after lines) line)) → ((lines : List ReadLine) →
+    IsEndedBy (written_lines unit_lines (reading lines).items) (written_lines unit_lines (whole lines).items)
+    (warnings_in (reading lines).items) (warnings_in (whole lines).items) (whole lines).fault (seen_end
+    direction (seen_after lines))) → ((lines : List ReadLine) → (seen_after lines).number ≡ length lines)
+    → ((lines : List ReadLine) (line : ReadLine) → takes_memory direction (seen_after lines) line ≡ true
+    → memory lines line ≡ Some []) → ((lines : List ReadLine) (line : ReadLine)
+    (next : Seen O K) (notice : At) → record { answer = Notice notice true; handed_out = []; next = next }
+    ≡ seen_next direction (seen_after lines) line → takes_memory direction next line ≡ true
+    → memory lines line ≡ Some (notice ∷ [])) → IsReadyWhereHandedOut direction → ((types : List Count)
+    (kept : K) → direction.begins types kept Overlong ≡ Fails LineTooLong) → ((so_far : O)
+    → direction.continues so_far Overlong ≡ Fails LineTooLong) → GoesLineByLine direction seen_after (record {
       so_far = λ lines. course_so_far unit_lines (reading (map seen lines));
       whole = λ lines. whole_course unit_lines (whole (map seen lines));
       memory_after = λ lines line. memory (map seen lines) (seen line);
@@ -83,17 +78,15 @@ goes-by direction seen_after unit_lines reading whole memory on ends number firs
 
 pub compaction-goes : (choices : Choices)
     → GoesLineByLine compaction (compaction_seen choices) (compaction_filter choices)
-compaction-goes choices = goes-by compaction (compaction_seen choices) (compact_unit choices)
-    (rinex_reading choices.skip) (whole_rinex choices.skip)
-    (λ lines line. memory_allowed rinex_place compaction_takes
-    choices.skip (rinex_reading choices.skip lines) line) (compacted-on choices) (compaction-ended choices)
-    (λ lines. refl) (compaction-allowed choices) (compaction-allowed-again choices) compaction-ready
-    (λ types kept. refl) (λ so_far. refl)
+compaction-goes choices = goes-by compaction
+    (compaction_seen choices) (compact_unit choices) (rinex_reading choices.skip) (whole_rinex choices.skip)
+    (λ lines line. memory_allowed rinex_place compaction_takes choices.skip (rinex_reading choices.skip lines)
+    line) (compacted-on choices) (compaction-ended choices) (λ lines. refl) (compaction-allowed choices)
+    (compaction-allowed-again choices) compaction-ready (λ types kept. refl) (λ so_far. refl)
 
 pub expansion-goes : (choices : Choices) → GoesLineByLine expansion (expansion_seen choices)
     (expansion_filter choices)
 expansion-goes choices = goes-by expansion (expansion_seen choices) expanded_unit
     (compact_reading choices.skip) (whole_compact choices.skip) (compact_memory choices.skip)
-    (expanded-on choices)
-    (expansion-ended choices) (λ lines. refl) (expansion-allowed choices) (expansion-allowed-again choices)
-    expansion-ready (λ types kept. refl) (λ so_far. refl)
+    (expanded-on choices) (expansion-ended choices) (λ lines. refl) (expansion-allowed choices)
+    (expansion-allowed-again choices) expansion-ready (λ types kept. refl) (λ so_far. refl)

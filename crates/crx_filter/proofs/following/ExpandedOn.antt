@@ -18,13 +18,12 @@ use Rattle.crx_filter.proofs.following.Expansion.{expansion-carried_out}
 
 -- the reading of compact text by what is at its first two lines
 abbrev pub reading_by : Bool → List ReadLine → Place (List (List ℕ)) → Reading ReadEpoch
-reading_by skip lines p =
-    elim p [
-      | Here two count ↦ reading_from compact_place skip [] (count + 1) (drop count lines)
-      | Wrong offset fault ↦ record
-          { items = []; stop = AtFault (record { line = offset + 1; fault = fault }) }
-      | Wanted ↦ record { items = []; stop = AtLines 1 lines }
-    ]
+reading_by skip lines p = elim p [
+  | Here two count ↦ reading_from compact_place skip [] (count + 1) (drop count lines)
+  | Wrong offset fault ↦ record
+      { items = []; stop = AtFault (record { line = offset + 1; fault = fault }) }
+  | Wanted ↦ record { items = []; stop = AtLines 1 lines }
+]
 
 abbrev pub phase_by : List ReadLine → Place (List (List ℕ)) → Phase OpenRawEpoch → Phase OpenRawEpoch
 phase_by lines p phase =
@@ -42,9 +41,8 @@ abbrev FollowsAs : Choices → List ReadLine → ReadLine → Place (List (List 
 FollowsAs choices lines line before after line_fed =
     let then : Reading ReadEpoch = reading_by choices.skip (lines ++ line ∷ []) after in
     IsFollowed (seen_by choices (lines ++ line ∷ []) after)
-    (expanded_lines (reading_by choices.skip lines before).items) (expanded_lines then.items)
-    (warnings_in (reading_by choices.skip lines before).items) (warnings_in then.items)
-    (fault_of_stop then.stop) line_fed
+    (expanded_lines (reading_by choices.skip lines before).items) (expanded_lines then.items) (warnings_in
+    (reading_by choices.skip lines before).items) (warnings_in then.items) (fault_of_stop then.stop) line_fed
 
 abbrev FollowsBy : Choices → List ReadLine → ReadLine → Place (List (List ℕ)) → Place (List (List ℕ)) → Type 0
 FollowsBy choices lines line before after =
@@ -58,16 +56,13 @@ FollowsOnce choices lines line = FollowsAs choices lines line Wanted (first_line
 by-once : (choices : Choices) (lines : List ReadLine) (line : ReadLine) → FollowsOnce choices lines line
     → FollowsBy choices lines line Wanted (first_lines (lines ++ line ∷ []))
 by-once choices lines line once =
-    let seen : Seen OpenRawEpoch (Option Tail) = seen_by choices lines Wanted in
-    subst (λ f. FollowsAs choices lines line Wanted (first_lines (lines ++ line ∷ [])) f)
-    (sym (fed-once expansion seen line (quiet-elsewhere expansion seen line
-    (made_in expansion seen.phase seen.types seen.kept line) refl))) once
+    let seen = seen_by choices lines Wanted in
+    rw (fed-once expansion seen line (quiet-elsewhere expansion seen line
+    (made_in expansion seen.phase seen.types seen.kept line) refl)) once
 
 -- a fault in the first two lines is never skipped
-ends : (choices : Choices) (count : ℕ) (line : ReadLine) (fault : Fault)
-    → fed_once (step_of_made expansion (seen_in choices count (InFirstLines count) [] None) line
-    (Fails fault))
-    ≡ record {
+ends : (choices : Choices) (count : ℕ) (line : ReadLine) (fault : Fault) → fed_once (step_of_made expansion
+    (seen_in choices count (InFirstLines count) [] None) line (Fails fault)) ≡ record {
       warned = [];
       failed = Some (record { line = count + 1; fault = fault });
       handed_out = [];
@@ -147,22 +142,18 @@ by-first_lines : (choices : Choices) (lines : List ReadLine) (line : ReadLine) (
     → first_lines lines ≡ p → FollowsBy choices lines line (first_lines lines)
     (first_lines (lines ++ line ∷ []))
 by-first_lines choices lines line (Here two count) e =
-    let remains = subst
-    (λ p. Remains (length lines) p (first_lines (lines ++ line ∷ []))) e (steady-first_lines lines
-    (line ∷ [])) in
-    subst (λ p. FollowsBy choices lines line p (first_lines (lines ++ line ∷ []))) (sym e)
-    (subst (λ q. FollowsBy choices lines line (Here two count) q) (sym remains.1)
-    (more-line (expansion-carried_out choices) (count + 1) (length lines) (length (lines ++ line ∷ []))
-    (drop count lines) (drop count (lines ++ line ∷ [])) line
-    (omega (arith, length-drop count lines, remains.0)) (length-append lines (line ∷ []))
-    (drop-append-le count lines (line ∷ []) remains.0)))
+    let remains = subst (λ p. Remains (length lines) p (first_lines (lines ++ line ∷ []))) e
+    (steady-first_lines lines (line ∷ [])) in
+    subst (λ p. FollowsBy choices lines line p (first_lines (lines ++ line ∷ []))) (sym e) (subst
+    (λ q. FollowsBy choices lines line (Here two count) q) (sym remains.1) (more-line (expansion-carried_out
+    choices) (count + 1) (length lines) (length (lines ++ line ∷ [])) (drop count lines)
+    (drop count (lines ++ line ∷ [])) line (omega (arith, length-drop count lines, remains.0))
+    (length-append lines (line ∷ [])) (drop-append-le count lines (line ∷ []) remains.0)))
 by-first_lines choices lines line (Wrong offset fault) e =
-    let remains = subst
-    (λ p. Remains (length lines) p (first_lines (lines ++ line ∷ []))) e (steady-first_lines lines
-    (line ∷ [])) in
-    subst (λ p. FollowsBy choices lines line p (first_lines (lines ++ line ∷ []))) (sym e)
-    (subst (λ q. FollowsBy choices lines line (Wrong offset fault) q) (sym remains.1)
-    (record {
+    let remains = subst (λ p. Remains (length lines) p (first_lines (lines ++ line ∷ []))) e
+    (steady-first_lines lines (line ∷ [])) in
+    subst (λ p. FollowsBy choices lines line p (first_lines (lines ++ line ∷ [])))
+    (sym e) (subst (λ q. FollowsBy choices lines line (Wrong offset fault) q) (sym remains.1) (record {
       next = cc (length-append lines (line ∷ []));
       handed_out = refl;
       warned = refl;

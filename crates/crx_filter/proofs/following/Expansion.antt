@@ -64,16 +64,18 @@ same-epoch choices items lines read held count here same = record {
 }
 
 -- what some lines make where no event begins, by the step that the last of them is
-agree-step : (choices : Choices) (items : List (Item ReadEpoch)) (lines : List ReadLine) (before : ℕ)
-    (step : RawStep)
-    → compact_beginning items lines ≡ as_observation (epoch_at (types_in_force items) (raws_kept items) lines)
-    → placed_as (held_after (tail_of_items items)) (epoch_after (types_in_force items)
-    (tail_of_items items) lines) ≡ place_of_step before step
+agree-step : (choices : Choices) (items : List (Item ReadEpoch))
+    (lines : List ReadLine) (before : ℕ) (step : RawStep) → compact_beginning items lines ≡ as_observation
+    (epoch_at (types_in_force items) (raws_kept items) lines) → placed_as (held_after (tail_of_items items))
+    (epoch_after (types_in_force items) (tail_of_items items) lines) ≡ place_of_step before step
     → compact_open items lines ≡ open_raw_after step [] → Agrees choices items lines (made_of_raw_step step)
-agree-step choices items lines before (Going so_far) place placed opens =
-    let here = place-by_tail (types_in_force items) (raws_kept items) lines
-    ∙ placed-wanted (tail_of_items items) _ placed in
-    (so_far, refl, place ∙ ap as_observation here, opens)
+agree-step choices items lines before (Going so_far) place placed opens = (
+  so_far,
+  refl,
+  place ∙ ap as_observation (place-by_tail (types_in_force items) (raws_kept items) lines
+      ∙ placed-wanted (tail_of_items items) _ placed),
+  opens,
+)
 agree-step choices items lines before (Whole held) place placed opens =
     let h = placed-here (tail_of_items items) _ held (suc before) placed in
     let here = place-by_tail (types_in_force items) (raws_kept items) lines ∙ h.here in (
@@ -82,10 +84,11 @@ agree-step choices items lines before (Whole held) place placed opens =
       place ∙ ap as_observation here,
       same-epoch choices items lines h.read held (suc before) here h.same,
     )
-agree-step choices items lines before (Faulty fault) place placed opens =
-    let here = place-by_tail (types_in_force items) (raws_kept items) lines
-    ∙ placed-wrong (tail_of_items items) _ before fault placed in
-    (before, place ∙ ap as_observation here)
+agree-step choices items lines before (Faulty fault) place placed opens = (
+  before,
+  place ∙ ap as_observation (place-by_tail (types_in_force items) (raws_kept items) lines
+      ∙ placed-wrong (tail_of_items items) _ before fault placed),
+)
 
 -- a first line alone
 steps-last : (step : RawStep) → place_of_steps 0 step [] ≡ place_of_step 0 step
@@ -93,10 +96,9 @@ steps-last (Going so_far) = refl
 steps-last step = refl
 
 agree-event : (choices : Choices) (items : List (Item ReadEpoch)) (content : List ℕ)
-    → is_event_line content ≡ true → (o : Option ℕ) → records_in content ≡ o
-    → Agrees choices items (Content content ∷ []) (made_of_unit
-    (elim o as (λ _. Result (FileUnit HeldEpoch) Fault)
-    [ Some count ↦ Ok (EventLine content) | None ↦ Err BadEpoch ]))
+    → is_event_line content ≡ true → (o : Option ℕ)
+    → records_in content ≡ o → Agrees choices items (Content content ∷ []) (made_of_unit (elim o as
+    (λ _. Result (FileUnit HeldEpoch) Fault) [ Some count ↦ Ok (EventLine content) | None ↦ Err BadEpoch ]))
 agree-event choices items content is None e = (0, rw is (rw (e, event_line) refl))
 agree-event choices items content is (Some count) e = (1, rw is (rw (e, event_line) refl), refl)
 
@@ -174,7 +176,7 @@ no-lines items [] wanted none = refl
 no-lines items (line ∷ lines) wanted none = by_bool (begins_event (line ∷ lines))
     (λ on. absurd (event-not_wanted items line lines on wanted)) (λ off.
     let after = sym (place-by_tail (types_in_force items) (raws_kept items) (line ∷ lines))
-    ∙ (observation-wanted _ (sym (at-observation items line lines off) ∙ wanted)) in
+    ∙ observation-wanted _ (sym (at-observation items line lines off) ∙ wanted) in
     absurd (true≢false (sym (ap is_wanted after) ∙ wanted-where_open (types_in_force items)
     (tail_of_items items) (line ∷ lines) ∙ ap is_some (sym (by-steps items (line ∷ lines) off) ∙ none))))
 

@@ -27,30 +27,25 @@ seen_in choices number phase types kept =
     record { choices = choices; number = number; phase = phase; types = types; kept = kept }
 
 -- an epoch that is read, and the same as it comes line by line: what is kept after it, and its lines
-pub record IsSameEpoch {E U O K : Type 0} (direction : Direction U O K) (kept_of : List (Item E)
-    → K) (unit_lines : List (Item E)
-    → FileUnit E → List (List ℕ)) (choices : Choices) (items : List (Item E)) (epoch : E)
-    (held : U) : Type 0 where
+pub record IsSameEpoch {E U O K : Type 0} (direction : Direction U O K)
+    (kept_of : List (Item E) → K) (unit_lines : List (Item E) → FileUnit E → List (List ℕ))
+    (choices : Choices) (items : List (Item E)) (epoch : E) (held : U) : Type 0 where
   pub kept : (number : ℕ) (phase : Phase O) (types : List Count) (kept : K)
-      → (kept ≡ kept_of items) ⊎ (kept ≡ direction.kept_open (kept_of items))
-      → direction.kept_after (seen_in choices number phase types kept) (Observation held)
-      ≡ kept_of (Accepted (Observation epoch) ∷ items)
+      → (kept ≡ kept_of items) ⊎ (kept ≡ direction.kept_open (kept_of items)) → direction.kept_after (seen_in
+      choices number phase types kept) (Observation held) ≡ kept_of (Accepted (Observation epoch) ∷ items)
   pub lines : (number : ℕ) (phase : Phase O) (types : List Count) (kept : K)
-      → (kept ≡ kept_of items) ⊎ (kept ≡ direction.kept_open (kept_of items))
-      → direction.written (seen_in choices number phase types kept) (Observation held)
-      ≡ unit_lines items (Observation epoch)
+      → (kept ≡ kept_of items) ⊎ (kept ≡ direction.kept_open (kept_of items)) → direction.written
+      (seen_in choices number phase types kept) (Observation held) ≡ unit_lines items (Observation epoch)
 
 module _ {E U O K : Type 0} (beginning : List (Item E) → List ReadLine → Place (FileUnit E))
-    (direction : Direction U O K)
-    (open_with : List (Item E) → List ReadLine → Option O) (kept_of : List (Item E) → K)
-    (unit_lines : List (Item E) → FileUnit E → List (List ℕ)) (choices : Choices) where
+    (direction : Direction U O K) (open_with : List (Item E) → List ReadLine → Option O) (kept_of : List
+    (Item E) → K) (unit_lines : List (Item E) → FileUnit E → List (List ℕ)) (choices : Choices) where
   -- what is at some lines where an epoch or an event may begin, and what the last of them makes
   abbrev pub AgreeOn : List (Item E) → List ReadLine → Made U O → Type 0
   AgreeOn items lines (Completes (EventLine line)) = (count : ℕ)
       × (beginning items lines ≡ Here (EventLine line) count) × (length lines ≡ 1)
-  AgreeOn items lines (Completes (Observation held)) =
-      (count : ℕ) × (epoch : E) × (beginning items lines ≡ Here (Observation epoch) count)
-      × IsSameEpoch direction kept_of unit_lines choices items epoch held
+  AgreeOn items lines (Completes (Observation held)) = (count : ℕ) × (epoch : E) × (beginning items lines
+      ≡ Here (Observation epoch) count) × IsSameEpoch direction kept_of unit_lines choices items epoch held
   AgreeOn items lines (Moves phase) = (so_far : O)
       × (phase ≡ InEpoch so_far) × (beginning items lines ≡ Wanted) × (open_with items lines ≡ Some so_far)
   AgreeOn items lines (Fails fault) = (offset : ℕ) × (beginning items lines ≡ Wrong offset fault)
@@ -65,9 +60,8 @@ module _ {E U O K : Type 0} (beginning : List (Item E) → List ReadLine → Pla
         → beginning items lines ≡ Wanted → open_with items lines ≡ None → lines ≡ []
     pub begins : (items : List (Item E)) (line : ReadLine)
         → AgreeOn items (line ∷ []) (direction.begins (types_in_force items) (kept_of items) line)
-    pub continues : (items : List (Item E)) (lines : List ReadLine) (line : ReadLine) (so_far : O)
-        → open_with items lines ≡ Some so_far
-        → AgreeOn items (lines ++ line ∷ []) (direction.continues so_far line)
+    pub continues : (items : List (Item E)) (lines : List ReadLine) (line : ReadLine) (so_far : O) → open_with
+        items lines ≡ Some so_far → AgreeOn items (lines ++ line ∷ []) (direction.continues so_far line)
     pub header_kept : (items : List (Item E)) (number : ℕ) (types : List Count) (line : List ℕ)
         → direction.kept_after (seen_in choices number (InHeader (is_at_start items)) types (kept_of items))
         (HeaderLine line) ≡ kept_of (Accepted (HeaderLine line) ∷ items)
@@ -75,19 +69,16 @@ module _ {E U O K : Type 0} (beginning : List (Item E) → List ReadLine → Pla
         → direction.written (seen_in choices number (InHeader (is_at_start items)) types (kept_of items))
         (HeaderLine line) ≡ unit_lines items (HeaderLine line)
     pub event_kept : (items : List (Item E)) (number : ℕ) (phase : Phase O) (types : List Count)
-        (line : List ℕ)
-        → direction.kept_after (seen_in choices number phase types (kept_of items)) (EventLine line)
-        ≡ kept_of (Accepted (EventLine line) ∷ items)
-    pub event_lines : (items : List (Item E))
-        (number : ℕ) (phase : Phase O) (types : List Count) (kept : K) (line : List ℕ)
-        → direction.written (seen_in choices number phase types kept) (EventLine line)
+        (line : List ℕ) → direction.kept_after (seen_in choices number phase types (kept_of items))
+        (EventLine line) ≡ kept_of (Accepted (EventLine line) ∷ items)
+    pub event_lines : (items : List (Item E)) (number : ℕ) (phase : Phase O) (types : List Count) (kept : K)
+        (line : List ℕ) → direction.written (seen_in choices number phase types kept) (EventLine line)
         ≡ unit_lines items (EventLine line)
     pub record_kept : (items : List (Item E)) (number left : ℕ) (types : List Count) (line : List ℕ)
         → direction.kept_after (seen_in choices number (InEvent left (records_count_types items)) types
         (kept_of items)) (EventRecord line) ≡ kept_of (Accepted (EventRecord line) ∷ items)
-    pub record_lines : (items : List (Item E))
-        (number : ℕ) (phase : Phase O) (types : List Count) (kept : K) (line : List ℕ)
-        → direction.written (seen_in choices number phase types kept) (EventRecord line)
+    pub record_lines : (items : List (Item E)) (number : ℕ) (phase : Phase O) (types : List Count) (kept : K)
+        (line : List ℕ) → direction.written (seen_in choices number phase types kept) (EventRecord line)
         ≡ unit_lines items (EventRecord line)
     pub warned : (items : List (Item E)) (at : At) → direction.emptied (kept_of items)
         ≡ kept_of (Warned at ∷ items)
@@ -97,15 +88,13 @@ module _ {E U O K : Type 0} (beginning : List (Item E) → List ReadLine → Pla
 -- ---- what follows from tests that are known
 
 -- where an epoch or an event may begin
-pub body-place : {E : Type 0} (beginning : List (Item E)
-    → List ReadLine → Place (FileUnit E)) (items : List (Item E)) (lines : List ReadLine)
-    → header_has_ended items ≡ true → records_left items ≡ 0 → unit_place beginning items lines
-    ≡ beginning items lines
+pub body-place : {E : Type 0} (beginning : List (Item E) → List ReadLine → Place (FileUnit E))
+    (items : List (Item E)) (lines : List ReadLine) → header_has_ended items ≡ true
+    → records_left items ≡ 0 → unit_place beginning items lines ≡ beginning items lines
 body-place beginning items lines ended none = rw (ended, none) refl
 
-body-skipped : {E : Type 0} (skip : Bool) (items : List (Item E)) (fault : Fault)
-    → header_has_ended items ≡ true
-    → records_left items ≡ 0 → is_skipped skip items fault ≡ (skip && is_skippable fault)
+body-skipped : {E : Type 0} (skip : Bool) (items : List (Item E)) (fault : Fault) → header_has_ended items
+    ≡ true → records_left items ≡ 0 → is_skipped skip items fault ≡ (skip && is_skippable fault)
 body-skipped skip items fault ended none = rw (ended, none) refl
 
 pub body-phase : {E O : Type 0} (items : List (Item E)) (so_far : Option O) → header_has_ended items ≡ true
@@ -131,9 +120,8 @@ kept-after_record direction phase kept = refl
 
 kept-after_unit : {U O K : Type 0} (direction : Direction U O K) (phase : Phase O) (unit : FileUnit U)
     (kept : K) → kept_in direction (phase_after phase unit) kept ≡ kept
-kept-after_unit direction phase (HeaderLine line) kept = elim (is_end_of_header
-    line) as (λ b. kept_in direction (cond b BetweenUnits (InHeader false)) kept
-    ≡ kept) [ true ↦ refl | false ↦ refl ]
+kept-after_unit direction phase (HeaderLine line) kept = elim (is_end_of_header line) as
+    (λ b. kept_in direction (cond b BetweenUnits (InHeader false)) kept ≡ kept) [ true ↦ refl | false ↦ refl ]
 kept-after_unit direction phase (EventLine line) kept =
     kept-with_records direction (records_announced line) (counts_types line) kept
 kept-after_unit direction phase (EventRecord line) kept = kept-after_record direction phase kept
@@ -152,8 +140,7 @@ pub fed-twice : {U O K : Type 0} (direction : Direction U O K) (seen : Seen O K)
 fed-twice direction seen line e = rw (e, fed) refl
 
 pub failed-ends : {U O K : Type 0} (direction : Direction U O K) (seen : Seen O K) (line : ReadLine)
-    (fault : Fault) → is_skipped_in seen fault ≡ false → failed_step direction seen line fault
-    ≡ record {
+    (fault : Fault) → is_skipped_in seen fault ≡ false → failed_step direction seen line fault ≡ record {
       answer = Failed (record { line = seen.number + 1; fault = fault });
       handed_out = [];
       next = with_phase direction seen (Ended (record { line = seen.number + 1; fault = fault }));
@@ -161,8 +148,7 @@ pub failed-ends : {U O K : Type 0} (direction : Direction U O K) (seen : Seen O 
 failed-ends direction seen line fault e = rw e refl
 
 pub failed-skipped : {U O K : Type 0} (direction : Direction U O K) (seen : Seen O K) (line : ReadLine)
-    (fault : Fault) → is_skipped_in seen fault ≡ true → failed_step direction seen line fault
-    ≡ record {
+    (fault : Fault) → is_skipped_in seen fault ≡ true → failed_step direction seen line fault ≡ record {
       answer = Notice (record { line = seen.number + 1; fault = fault }) (is_in_epoch seen.phase
           && can_go_on line);
       handed_out = [];
@@ -184,15 +170,13 @@ module _ {E : Type 0} {place : List (Item E) → List ReadLine → Place (FileUn
         (count : ℕ) → place items rest ≡ Wanted → place items (rest ++ line ∷ []) ≡ Here unit count → count
         ≡ length rest + 1
     here-last items rest line unit count wanted e =
-        let past : length rest < count = subst (IsDecidedAfter (length rest)) e
-        (decided-after items rest line wanted) in
         let most = (here-within place h items (rest ++ line ∷ []) unit count e).1 in
-        omega (arith, past, most, length-append rest (line ∷ []))
+        let first = subst (IsDecidedAfter (length rest)) e (decided-after items rest line wanted) in
+        omega (arith, most, length-append rest (line ∷ []))
 
-    pub wrong-last : (items : List (Item E)) (rest : List ReadLine) (line : ReadLine) (offset : ℕ)
-        (fault : Fault)
-        → place items rest ≡ Wanted → place items (rest ++ line ∷ []) ≡ Wrong offset fault → offset
-        ≡ length rest
+    pub wrong-last : (items : List (Item E))
+        (rest : List ReadLine) (line : ReadLine) (offset : ℕ) (fault : Fault) → place items rest ≡ Wanted
+        → place items (rest ++ line ∷ []) ≡ Wrong offset fault → offset ≡ length rest
     wrong-last items rest line offset fault wanted e =
         let past : length rest ≤ offset = subst (IsDecidedAfter (length rest)) e
         (decided-after items rest line wanted) in
@@ -207,22 +191,20 @@ module _ {E : Type 0} {place : List (Item E) → List ReadLine → Place (FileUn
         (h.wants items)
 
     -- a unit that the next line completes
-    pub last-here : (skip : Bool) (units : ℕ)
-        (items : List (Item E)) (number : ℕ) (rest : List ReadLine) (line : ReadLine) (unit : FileUnit E)
-        (count : ℕ) → place items rest ≡ Wanted → place items (rest ++ line ∷ []) ≡ Here unit count
-        → reading_within place skip (suc units) items number (rest ++ line ∷ [])
-        ≡ record { items = Accepted unit ∷ items; stop = AtLines (number + count) [] }
+    pub last-here : (skip : Bool) (units : ℕ) (items : List (Item E)) (number : ℕ) (rest : List ReadLine)
+        (line : ReadLine) (unit : FileUnit E) (count : ℕ) → place items rest ≡ Wanted → place items
+        (rest ++ line ∷ []) ≡ Here unit count → reading_within place skip (suc units) items number
+        (rest ++ line ∷ []) ≡ record { items = Accepted unit ∷ items; stop = AtLines (number + count) [] }
     last-here skip units items number rest line unit count wanted e = within-here place skip units items
         number (rest ++ line ∷ []) unit count e ∙ ap (reading_within place skip units (Accepted unit ∷ items)
         (number + count)) (ap (λ n. drop n (rest ++ line ∷ [])) ((here-last _ _ _ _ _ wanted e)
         ∙ sym (length-append rest (line ∷ []))) ∙ drop-length (rest ++ line ∷ [])) ∙ within-nothing _ _ _ _
 
     -- a fault that ends the run
-    pub last-ends : (skip : Bool) (units : ℕ)
-        (items : List (Item E)) (number count : ℕ) (rest : List ReadLine) (line : ReadLine) (offset : ℕ)
-        (fault : Fault) → place items rest ≡ Wanted → place items (rest ++ line ∷ []) ≡ Wrong offset fault
-        → is_skipped skip items fault ≡ false → number + length rest ≡ count + 1
-        → reading_within place skip (suc units) items number (rest ++ line ∷ [])
+    pub last-ends : (skip : Bool) (units : ℕ) (items : List (Item E)) (number count : ℕ)
+        (rest : List ReadLine) (line : ReadLine) (offset : ℕ) (fault : Fault) → place items rest ≡ Wanted
+        → place items (rest ++ line ∷ []) ≡ Wrong offset fault → is_skipped skip items fault ≡ false → number
+        + length rest ≡ count + 1 → reading_within place skip (suc units) items number (rest ++ line ∷ [])
         ≡ record { items = items; stop = AtFault (record { line = count + 1; fault = fault }) }
     last-ends skip units items number count rest line offset fault wanted e off counted = within-wrong place
         skip units items number (rest ++ line ∷ []) offset fault e
@@ -231,14 +213,12 @@ module _ {E : Type 0} {place : List (Item E) → List ReadLine → Place (FileUn
         (omega (arith, wrong-last _ _ _ _ _ wanted e, counted))
 
     -- a fault that is skipped
-    pub last-skipped : (skip : Bool) (units : ℕ)
-        (items : List (Item E)) (number count : ℕ) (rest : List ReadLine) (line : ReadLine) (offset : ℕ)
-        (fault : Fault) → place items rest ≡ Wanted → place items (rest ++ line ∷ []) ≡ Wrong offset fault
-        → is_skipped skip items fault ≡ true → number + length rest ≡ count + 1
-        → reading_within place skip (suc units) items number (rest ++ line ∷ [])
-        ≡ looked_for (reading_within place skip units (Warned
-        (record { line = count + 1; fault = fault }) ∷ items))
-        (Warned (record { line = count + 1; fault = fault }) ∷ items)
+    pub last-skipped : (skip : Bool) (units : ℕ) (items : List (Item E)) (number count : ℕ)
+        (rest : List ReadLine) (line : ReadLine) (offset : ℕ) (fault : Fault) → place items rest ≡ Wanted
+        → place items (rest ++ line ∷ []) ≡ Wrong offset fault → is_skipped skip items fault ≡ true → number
+        + length rest ≡ count + 1 → reading_within place skip (suc units) items number (rest ++ line ∷ [])
+        ≡ looked_for (reading_within place skip units (Warned (record { line = count + 1; fault = fault })
+        ∷ items)) (Warned (record { line = count + 1; fault = fault }) ∷ items)
         (number + max (length rest) 1) (drop (max (length rest) 1) (rest ++ line ∷ []))
     last-skipped skip units items number count rest line offset fault wanted e on counted =
         let last = wrong-last _ _ _ _ _ wanted e in
@@ -253,7 +233,7 @@ looked-through-later : (first : ReadLine) (rest : List ReadLine) (line : ReadLin
     → drop (max (length (first ∷ rest)) 1) ((first ∷ rest) ++ line ∷ []) ≡ line ∷ []
 looked-through-later first rest line =
     let same : max (length (first ∷ rest)) 1 ≡ length (first ∷ rest) = omega arith in
-    ap (λ n. drop n ((first ∷ rest) ++ line ∷ [])) same ∙ drop-append_seam (first ∷ rest) (line ∷ [])
+    cc (same, drop-append_seam (first ∷ rest) (line ∷ []))
 
 -- ---- what a step comes to
 
@@ -271,10 +251,9 @@ skipped-same choices count phase types kept items fault ended none may = cc
     (body-skipped choices.skip items fault ended none, may)
 
 module _ {E U O K : Type 0} {beginning : List (Item E) → List ReadLine → Place (FileUnit E)}
-    {direction : Direction U O K}
-    {open_with : List (Item E) → List ReadLine → Option O} {kept_of : List (Item E) → K}
-    {unit_lines : List (Item E) → FileUnit E → List (List ℕ)} {choices : Choices}
-    (h : IsCarriedOut beginning direction open_with kept_of unit_lines choices) where
+    {direction : Direction U O K} {open_with : List (Item E) → List ReadLine → Option O}
+    {kept_of : List (Item E) → K} {unit_lines : List (Item E) → FileUnit E → List (List ℕ)}
+    {choices : Choices} (h : IsCarriedOut beginning direction open_with kept_of unit_lines choices) where
   abbrev pub place : List (Item E) → List ReadLine → Place (FileUnit E)
   place = unit_place beginning
 
@@ -292,20 +271,18 @@ module _ {E U O K : Type 0} {beginning : List (Item E) → List ReadLine → Pla
 
   -- the reading after one line more, and what it is fed as
   abbrev pub Follows : ℕ → List (Item E) → Reading E → Fed O K → Type 0
-  Follows count items r line_fed =
-      IsFollowed (seen_of direction open_with kept_of choices count r) (written_lines unit_lines items)
-      (written_lines unit_lines r.items) (warnings_in items) (warnings_in r.items)
-      (fault_of_stop r.stop) line_fed
+  Follows count items r line_fed = IsFollowed (seen_of direction open_with kept_of choices count r)
+      (written_lines unit_lines items) (written_lines unit_lines r.items)
+      (warnings_in items) (warnings_in r.items) (fault_of_stop r.stop) line_fed
 
   -- the next line completes a unit
-  pub followed-unit : (count n : ℕ) (items : List (Item E)) (phase : Phase O) (kept : K) (unit : FileUnit E)
-      (same : FileUnit U) → open_with (Accepted unit ∷ items) [] ≡ None
+  pub followed-unit : (count n : ℕ) (items : List (Item E)) (phase : Phase O)
+      (kept : K) (unit : FileUnit E) (same : FileUnit U) → open_with (Accepted unit ∷ items) [] ≡ None
       → phase_after_items {O = O} (Accepted unit ∷ items) None ≡ phase_after phase same
       → types_in_force (Accepted unit ∷ items) ≡ types_after phase (types_in_force items) same
       → direction.kept_after (seen_at count phase items kept) same ≡ kept_of (Accepted unit ∷ items)
       → direction.written (seen_at count phase items kept) same ≡ unit_lines items unit → Follows
-      (count + 1) items (record { items = Accepted unit ∷ items; stop = AtLines n [] })
-      (fed_once (record {
+      (count + 1) items (record { items = Accepted unit ∷ items; stop = AtLines n [] }) (fed_once (record {
         answer = Ready;
         handed_out = direction.written (seen_at count phase items kept) same;
         next = after_unit direction (seen_at count phase items kept) same;
@@ -326,9 +303,8 @@ module _ {E U O K : Type 0} {beginning : List (Item E) → List ReadLine → Pla
       → is_skipped_in (seen_at count phase items kept) fault ≡ false → Follows (count + 1) items (record
       { items = items; stop = AtFault (record { line = count + 1; fault = fault }) })
       (fed_once (failed_step direction (seen_at count phase items kept) line fault))
-  followed-end count items phase kept line fault emptied off = subst (λ s. Follows (count + 1) items
-      (record { items = items; stop = AtFault (record { line = count + 1; fault = fault }) }) (fed_once s))
-      (sym (failed-ends direction (seen_at count phase items kept) line fault off)) (record {
+  followed-end count items phase kept line fault emptied off =
+      rw (failed-ends direction (seen_at count phase items kept) line fault off) (record {
         next = seen-same choices (count + 1) _ _ _ _ _ _ refl refl (cc);
         handed_out = sym (append-nil (written_lines unit_lines items));
         warned = refl;
@@ -337,15 +313,13 @@ module _ {E U O K : Type 0} {beginning : List (Item E) → List ReadLine → Pla
 
   -- the next line's fault is skipped, and no line is at hand to go on at
   followed-skip : (count n : ℕ) (items : List (Item E)) (phase : Phase O) (kept : K) (line : ReadLine)
-      (fault : Fault)
-      → direction.emptied kept ≡ kept_of (Warned (record { line = count + 1; fault = fault }) ∷ items)
-      → is_skipped_in (seen_at count phase items kept) fault ≡ true
+      (fault : Fault) → direction.emptied kept ≡ kept_of (Warned (record { line = count + 1; fault = fault })
+      ∷ items) → is_skipped_in (seen_at count phase items kept) fault ≡ true
       → (is_in_epoch phase && can_go_on line) ≡ false → Follows (count + 1) items
       (record { items = Warned (record { line = count + 1; fault = fault }) ∷ items; stop = Looking n })
       (fed_once (failed_step direction (seen_at count phase items kept) line fault))
-  followed-skip count n items phase kept line fault emptied on off = subst (λ s. Follows (count + 1) items
-      (record { items = Warned (record { line = count + 1; fault = fault }) ∷ items; stop = Looking n })
-      (fed_once s)) (sym (failed-skipped direction (seen_at count phase items kept) line fault on)) (record {
+  followed-skip count n items phase kept line fault emptied on off =
+      rw (failed-skipped direction (seen_at count phase items kept) line fault on) (record {
         next = cc (seen-same choices (count + 1) _ _ _ _ _ _ refl refl (sym emptied), off);
         handed_out = sym (append-nil (written_lines unit_lines items));
         warned = refl;
@@ -353,11 +327,10 @@ module _ {E U O K : Type 0} {beginning : List (Item E) → List ReadLine → Pla
       })
 
   -- the next line leaves an epoch open
-  followed-open : (count n : ℕ) (items : List (Item E)) (lines : List ReadLine) (phase : Phase O) (kept : K)
-      (so_far : O) → header_has_ended items ≡ true → records_left items ≡ 0
+  followed-open : (count n : ℕ) (items : List (Item E)) (lines : List ReadLine)
+      (phase : Phase O) (kept : K) (so_far : O) → header_has_ended items ≡ true → records_left items ≡ 0
       → open_with items lines ≡ Some so_far → direction.kept_open kept ≡ direction.kept_open (kept_of items)
-      → Follows (count + 1) items (record { items = items; stop = AtLines n lines })
-      (fed_once (record {
+      → Follows (count + 1) items (record { items = items; stop = AtLines n lines }) (fed_once (record {
         answer = Quiet;
         handed_out = [];
         next = with_phase direction (seen_at count phase items kept) (InEpoch so_far);
@@ -394,45 +367,38 @@ module _ {E U O K : Type 0} {beginning : List (Item E) → List ReadLine → Pla
   open-same items kept (inr e) = ap direction.kept_open e ∙ h.open_open (kept_of items)
 
   -- a fault that is skipped, no line being at hand to go on at
-  skipped-looking : (units : ℕ)
-      (items : List (Item E)) (phase : Phase O) (kept : K) (number : ℕ) (rest : List ReadLine)
-      (line : ReadLine) (at : At)
-      → IsInside items phase kept rest → (is_in_epoch phase && can_go_on line) ≡ false
-      → (n : ℕ) × (looked_for (reads units (Warned at ∷ items))
-      (Warned at ∷ items) (number + max (length rest) 1) (drop (max (length rest) 1) (rest ++ line ∷ []))
-      ≡ record { items = Warned at ∷ items; stop = Looking n })
+  skipped-looking : (units : ℕ) (items : List (Item E))
+      (phase : Phase O) (kept : K) (number : ℕ) (rest : List ReadLine) (line : ReadLine) (at : At)
+      → IsInside items phase kept rest → (is_in_epoch phase && can_go_on line) ≡ false → (n : ℕ)
+      × (looked_for (reads units (Warned at ∷ items)) (Warned at ∷ items) (number + max (length rest) 1) (drop
+      (max (length rest) 1) (rest ++ line ∷ [])) ≡ record { items = Warned at ∷ items; stop = Looking n })
   skipped-looking units items phase kept number [] line at inside off = (number + 1, refl)
   skipped-looking units items phase kept number (first ∷ rest) line at inside off = (
     number + max (length (first ∷ rest)) 1 + 1,
-    ap (looked_for (reads units (Warned at ∷ items)) (Warned at ∷ items)
-        (number + max (length (first ∷ rest)) 1)) (looked-through-later first rest line)
-        ∙ looked-on (reads units (Warned at ∷ items)) (Warned at ∷ items)
-        (number + max (length (first ∷ rest)) 1) line [] (ap (λ b. b && can_go_on line) (sym inside) ∙ off),
+    ap (looked_for (reads units (Warned at ∷ items)) (Warned at ∷ items) (number + max (length (first ∷ rest))
+        1)) (looked-through-later first rest line) ∙ looked-on (reads units (Warned at ∷ items))
+        (Warned at ∷ items) (number + max (length (first ∷ rest)) 1) line [] (cc (inside, off)),
   )
 
   -- a fault that is skipped, and reading goes on at this line
   pub skipped-again : (units : ℕ) (items : List (Item E)) (number count : ℕ) (rest : List ReadLine)
       (line : ReadLine) (at : At) → 0 < length rest → number + length rest ≡ count + 1 → can_go_on line ≡ true
-      → looked_for (reads units (Warned at ∷ items))
-      (Warned at ∷ items) (number + max (length rest) 1) (drop (max (length rest) 1) (rest ++ line ∷ []))
-      ≡ reads units (Warned at ∷ items) (count + 1) (line ∷ [])
+      → looked_for (reads units (Warned at ∷ items)) (Warned at ∷ items) (number + max (length rest) 1) (drop
+      (max (length rest) 1) (rest ++ line ∷ [])) ≡ reads units (Warned at ∷ items) (count + 1) (line ∷ [])
   skipped-again units items number count [] line at some counted on = absurd (omega (arith, some))
-  skipped-again units items number count (first ∷ rest) line at some counted on =
-      ap (looked_for (reads units (Warned at ∷ items)) (Warned at ∷ items)
-      (number + max (length (first ∷ rest)) 1)) (looked-through-later first rest line)
-      ∙ looked-here (reads units (Warned at ∷ items))
+  skipped-again units items number count (first ∷ rest) line at some counted on = ap (looked_for
+      (reads units (Warned at ∷ items)) (Warned at ∷ items) (number + max (length (first ∷ rest)) 1))
+      (looked-through-later first rest line) ∙ looked-here (reads units (Warned at ∷ items))
       (Warned at ∷ items) (number + max (length (first ∷ rest)) 1) line [] on
       ∙ ap (λ n. reads units (Warned at ∷ items) n (line ∷ [])) (omega (arith, counted))
 
   -- the next line, where it is given once
-  pub body-once : (units : ℕ) (items : List (Item E))
-      (number count : ℕ) (rest : List ReadLine) (line : ReadLine) (phase : Phase O) (kept : K)
-      (made : Made U O)
-      → header_has_ended items ≡ true → records_left items ≡ 0 → beginning items rest ≡ Wanted
-      → Agrees items (rest ++ line ∷ []) made → may_skip phase ≡ true → AreKept items kept
-      → IsInside items phase kept rest → number + length rest ≡ count + 1
-      → is_again (step_of_made direction (seen_at count phase items kept) line made).answer ≡ false
-      → Follows (count + 1) items (reads (suc units) items number (rest ++ line ∷ []))
+  pub body-once : (units : ℕ) (items : List (Item E)) (number count : ℕ) (rest : List ReadLine)
+      (line : ReadLine) (phase : Phase O) (kept : K) (made : Made U O) → header_has_ended items ≡ true
+      → records_left items ≡ 0 → beginning items rest ≡ Wanted → Agrees items (rest ++ line ∷ []) made
+      → may_skip phase ≡ true → AreKept items kept → IsInside items phase kept rest → number + length rest
+      ≡ count + 1 → is_again (step_of_made direction (seen_at count phase items kept) line made).answer
+      ≡ false → Follows (count + 1) items (reads (suc units) items number (rest ++ line ∷ []))
       (fed_once (step_of_made direction (seen_at count phase items kept) line made))
   body-once units items number count rest line phase kept
       (Completes (EventLine l)) ended none wanted agree may keeps inside counted quiet =
@@ -441,15 +407,12 @@ module _ {E U O K : Type 0} {beginning : List (Item E) → List ReadLine → Pla
       let all : length (rest ++ line ∷ []) ≡ length rest + 1 = length-append rest (line ∷ []) in
       let one : length (rest ++ line ∷ []) ≡ 1 = agree.2 in
       let same : kept ≡ kept_of items = first_kept rest inside (omega (arith, all, one)) in
-      subst (λ r. Follows (count + 1) items r (fed_once (step_of_made
-      direction (seen_at count phase items kept) line (Completes (EventLine l)))))
-      (sym (last-here h.forward choices.skip units items number rest line
-      (EventLine l) agree.0 wanted_here here)) (followed-unit count
-      (number + agree.0) items phase kept (EventLine l) (EventLine l)
-      (h.none_open (Accepted (EventLine l) ∷ items)) event-phase refl
-      (ap (λ k. direction.kept_after (seen_at count phase items k) (EventLine l)) same
-      ∙ h.event_kept items count phase (types_in_force items) l)
-      (h.event_lines items count phase (types_in_force items) kept l))
+      subst (λ r. Follows (count + 1) items r (fed_once (step_of_made direction (seen_at count phase items
+      kept) line (Completes (EventLine l))))) (sym (last-here h.forward choices.skip units items number rest
+      line (EventLine l) agree.0 wanted_here here)) (followed-unit count (number + agree.0) items phase kept
+      (EventLine l) (EventLine l) (h.none_open (Accepted (EventLine l) ∷ items)) event-phase refl
+      (ap (λ k. direction.kept_after (seen_at count phase items k) (EventLine l)) same ∙ h.event_kept items
+      count phase (types_in_force items) l) (h.event_lines items count phase (types_in_force items) kept l))
     where
       first_kept : (rest : List ReadLine) → IsInside items phase kept rest → length rest ≡ 0 → kept
           ≡ kept_of items
@@ -464,25 +427,21 @@ module _ {E U O K : Type 0} {beginning : List (Item E) → List ReadLine → Pla
       let wanted_here = body-place beginning items rest ended none ∙ wanted in
       let here = body-place beginning items (rest ++ line ∷ []) ended none ∙ agree.2 in
       let same = agree.3 in
-      subst (λ r. Follows (count + 1) items r (fed_once (step_of_made
-      direction (seen_at count phase items kept) line (Completes (Observation held)))))
-      (sym (last-here h.forward choices.skip units items number rest line
-      (Observation agree.1) agree.0 wanted_here here)) (followed-unit count
-      (number + agree.0) items phase kept (Observation agree.1) (Observation held)
-      (h.none_open (Accepted (Observation agree.1) ∷ items)) (rw ended refl) refl
-      (same.kept count phase (types_in_force items) kept keeps)
-      (same.lines count phase (types_in_force items) kept keeps))
+      subst (λ r. Follows (count + 1) items r (fed_once (step_of_made direction
+      (seen_at count phase items kept) line (Completes (Observation held))))) (sym (last-here
+      h.forward choices.skip units items number rest line (Observation agree.1) agree.0 wanted_here here))
+      (followed-unit count (number + agree.0) items phase kept (Observation agree.1) (Observation held)
+      (h.none_open (Accepted (Observation agree.1) ∷ items)) (rw ended refl) refl (same.kept count phase
+      (types_in_force items) kept keeps) (same.lines count phase (types_in_force items) kept keeps))
   body-once units items number count rest line phase kept
       (Moves next) ended none wanted agree may keeps inside counted quiet =
       let here = body-place beginning items (rest ++ line ∷ []) ended none ∙ agree.2 in
-      subst (λ r. Follows (count + 1) items r
-      (fed_once (step_of_made direction (seen_at count phase items kept) line (Moves next))))
-      (sym (within-wanted place choices.skip units items number (rest ++ line ∷ []) here))
-      (subst (λ p. Follows
-      (count + 1) items (record { items = items; stop = AtLines number (rest ++ line ∷ []) })
-      (fed_once (step_of_made direction (seen_at count phase items kept) line (Moves p)))) (sym agree.1)
-      (followed-open count number items (rest ++ line ∷ []) phase kept agree.0 ended none agree.3
-      (open-same items kept keeps)))
+      subst (λ r. Follows (count + 1) items r (fed_once
+      (step_of_made direction (seen_at count phase items kept) line (Moves next)))) (sym (within-wanted
+      place choices.skip units items number (rest ++ line ∷ []) here)) (subst (λ p. Follows (count + 1) items
+      (record { items = items; stop = AtLines number (rest ++ line ∷ []) }) (fed_once (step_of_made direction
+      (seen_at count phase items kept) line (Moves p)))) (sym agree.1) (followed-open count number items
+      (rest ++ line ∷ []) phase kept agree.0 ended none agree.3 (open-same items kept keeps)))
   body-once units items number count rest line phase kept
       (Fails fault) ended none wanted agree may keeps inside counted quiet =
       let wanted_here = body-place beginning items rest ended none ∙ wanted in
@@ -490,19 +449,15 @@ module _ {E U O K : Type 0} {beginning : List (Item E) → List ReadLine → Pla
       let emptied = emptied-same items kept keeps in
       let at : At = record { line = count + 1; fault = fault } in
       let tested = skipped-same choices count phase (types_in_force items) kept items fault ended none may in
-      by_bool (is_skipped_in (seen_at count phase items kept) fault)
-      (λ on.
+      by_bool (is_skipped_in (seen_at count phase items kept) fault) (λ on.
       let off : (is_in_epoch phase && can_go_on line) ≡ false = sym (ap (λ (s : Step _ _). is_again s.answer)
       (failed-skipped direction (seen_at count phase items kept) line fault on)) ∙ quiet in
       let looking = skipped-looking units items phase kept number rest line at inside off in
-      subst (λ r. Follows (count + 1) items r
-      (fed_once (failed_step direction (seen_at count phase items kept) line fault)))
-      (sym (last-skipped h.forward choices.skip units items number count rest line agree.0 fault
-      wanted_here here (tested ∙ on) counted ∙ looking.1))
-      (followed-skip count looking.0 items phase kept line fault (emptied ∙ h.warned items at) on off))
-      (λ off.
-      subst (λ r. Follows (count + 1) items r
-      (fed_once (failed_step direction (seen_at count phase items kept) line fault)))
+      subst (λ r. Follows (count + 1) items r (fed_once (failed_step direction (seen_at
+      count phase items kept) line fault))) (sym (last-skipped h.forward choices.skip units items number
+      count rest line agree.0 fault wanted_here here (tested ∙ on) counted ∙ looking.1)) (followed-skip count
+      looking.0 items phase kept line fault (emptied ∙ h.warned items at) on off)) (λ off. subst (λ r. Follows
+      (count + 1) items r (fed_once (failed_step direction (seen_at count phase items kept) line fault)))
       (sym (last-ends h.forward choices.skip units items number count rest line agree.0 fault wanted_here here
       (tested ∙ off) counted)) (followed-end count items phase kept line fault emptied off))
   body-once units items number count rest line phase kept

@@ -19,22 +19,16 @@ both lines more = map-append seen lines more
 pub compaction-lawful : (choices : Choices) → IsLawful (compaction_filter choices)
 compaction-lawful choices = record {
   nothing = refl;
-  decided = λ (lines more : List InputLine) (at : At) (e : fault_of_stop
-      (rinex_reading choices.skip (map seen lines)).stop ≡ Some at).
-      let s = rinex-stays choices.skip (map seen lines) (map seen more) at e in
+  decided = λ (lines more : List InputLine)
+      (at : At) (e : fault_of_stop (rinex_reading choices.skip (map seen lines)).stop ≡ Some at).
       ap (λ (ls : List ReadLine). whole_course (compact_unit choices) (whole_rinex choices.skip ls))
-      (both lines more) ∙ ap (λ (w : WholeReading Epoch). whole_course (compact_unit choices) w) s.ended
-      ∙ ap (λ (f : Option At). record (course_so_far
+      (both lines more) ∙ ap (λ (w : WholeReading Epoch). whole_course (compact_unit choices) w) (rinex-stays
+      choices.skip (map seen lines) (map seen more) at e).ended ∙ ap (λ (f : Option At). record (course_so_far
       (compact_unit choices) (rinex_reading choices.skip (map seen lines))) { fault = f }) (sym e);
   grows = λ (lines more : List InputLine).
-      subst (λ (ls : List ReadLine). Begins (compacted_so_far ls choices)
-      (compacted_so_far (map seen lines) choices))
-      (sym (both lines more)) ((compacted-first choices (map seen lines)).longer (map seen more));
-  goes_on = λ (lines more : List InputLine).
-      subst (λ (ls : List ReadLine). Begins (lines_text (compact_lines choices
-      (whole_rinex choices.skip ls).items))
-      (compacted_so_far (map seen lines) choices)) (sym (both lines more)) (text-more (compact_unit choices)
-      _ _ (whole-items rinex_place rinex-forward choices.skip 1 (map seen lines) (map seen more)));
+      rw (both lines more) ((compacted-first choices (map seen lines)).longer (map seen more));
+  goes_on = λ (lines more : List InputLine). rw (both lines more) (text-more (compact_unit choices) _ _
+      (whole-items rinex_place rinex-forward choices.skip 1 (map seen lines) (map seen more)));
   found = λ lines at e. rinex-found choices.skip (map seen lines) at e;
   found_at_end = λ lines at e. rinex-found-at-end choices.skip (map seen lines) at e;
 }
@@ -42,21 +36,14 @@ compaction-lawful choices = record {
 pub expansion-lawful : (choices : Choices) → IsLawful (expansion_filter choices)
 expansion-lawful choices = record {
   nothing = refl;
-  decided = λ (lines more : List InputLine) (at : At) (e : fault_of_stop
-      (compact_reading choices.skip (map seen lines)).stop ≡ Some at).
-      let s = compact-stays choices.skip (map seen lines) (map seen more) at e in
-      ap (λ (ls : List ReadLine). whole_course expanded_unit (whole_compact choices.skip ls))
-      (both lines more) ∙ ap (λ (w : WholeReading ReadEpoch). whole_course expanded_unit w) s.ended
-      ∙ ap (λ (f : Option At). record (course_so_far expanded_unit
-      (compact_reading choices.skip (map seen lines))) { fault = f }) (sym e);
+  decided = λ (lines more : List InputLine) (at : At) (e : fault_of_stop (compact_reading choices.skip
+      (map seen lines)).stop ≡ Some at). ap (λ (ls : List ReadLine). whole_course expanded_unit (whole_compact
+      choices.skip ls)) (both lines more) ∙ ap (λ (w : WholeReading ReadEpoch). whole_course expanded_unit w)
+      (compact-stays choices.skip (map seen lines) (map seen more) at e).ended ∙ ap (λ (f : Option At). record
+      (course_so_far expanded_unit (compact_reading choices.skip (map seen lines))) { fault = f }) (sym e);
   grows = λ (lines more : List InputLine).
-      subst (λ (ls : List ReadLine). Begins (expanded_so_far ls choices)
-      (expanded_so_far (map seen lines) choices))
-      (sym (both lines more)) ((expanded-first choices (map seen lines)).longer (map seen more));
-  goes_on = λ (lines more : List InputLine).
-      subst (λ (ls : List ReadLine). Begins (lines_text (expanded_lines
-      (whole_compact choices.skip ls).items))
-      (expanded_so_far (map seen lines) choices)) (sym (both lines more))
+      rw (both lines more) ((expanded-first choices (map seen lines)).longer (map seen more));
+  goes_on = λ (lines more : List InputLine). rw (both lines more)
       (text-more expanded_unit _ _ (whole-more choices.skip (map seen lines) (map seen more) _ refl));
   found = λ lines at e. compact-found choices.skip (map seen lines) at e;
   found_at_end = λ lines at e. compact-found-at-end choices.skip (map seen lines) at e;

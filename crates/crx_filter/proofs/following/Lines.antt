@@ -27,9 +27,8 @@ use Rattle.crx_filter.proofs.following.Following.{body-once}
 pub quiet-elsewhere : {U O K : Type 0} (direction : Direction U O K) (seen : Seen O K) (line : ReadLine)
     (made : Made U O) → is_in_epoch seen.phase ≡ false → is_again
     (step_of_made direction seen line made).answer ≡ false
-quiet-elsewhere direction seen line (Fails fault) e = by_bool (is_skipped_in seen fault)
-    (λ on. cc (failed-skipped direction seen line fault on, e))
-    (λ off. cc (failed-ends direction seen line fault off))
+quiet-elsewhere direction seen line (Fails fault) e = by_bool (is_skipped_in seen fault) (λ on. cc
+    (failed-skipped direction seen line fault on, e)) (λ off. cc (failed-ends direction seen line fault off))
 quiet-elsewhere direction seen line made e = refl
 
 -- ---- lines of the header, and an event's records
@@ -42,26 +41,23 @@ header-phase : {E O : Type 0} (items : List (Item E)) (is_first : Bool) (line : 
     → header_has_ended items ≡ false → phase_after_items {O = O} (Accepted (HeaderLine line) ∷ items) None
     ≡ phase_after {U = E} (InHeader is_first) (HeaderLine line)
 header-phase {E = E} {O = O} items is_first line e =
-    let inside : Phase O = InHeader false in
-    let outside : Phase O = BetweenUnits in
-    ap (λ b. cond (not (is_end_of_header line || b)) inside outside) e
-    ∙ (elim (is_end_of_header line) as (λ b. cond (not (b || false)) inside outside ≡ cond b outside inside)
-    [ true ↦ refl | false ↦ refl ])
+    let inside = InHeader false in
+    let outside = BetweenUnits in
+    ap (λ b. cond (not (is_end_of_header line || b)) inside outside) e ∙ (elim (is_end_of_header line) as
+    (λ b. cond (not (b || false)) inside outside ≡ cond b outside inside) [ true ↦ refl | false ↦ refl ])
 
 pub never-in-event : (skip : Bool) (left : ℕ) (b : Bool) → (skip && ((suc left == 0) && b)) ≡ false
 never-in-event skip left b = let some : (suc left == 0) ≡ false = search rules in
     rw some (never-before skip b)
 
-record-types : (counted : Bool) (lines : List (List ℕ)) (line : List ℕ) → types_of
-    (cond counted (lines ++ line ∷ []) lines) ≡ cond counted (with_line (types_of lines) line)
-    (types_of lines)
+record-types : (counted : Bool) (lines : List (List ℕ)) (line : List ℕ) → types_of (cond counted
+    (lines ++ line ∷ []) lines) ≡ cond counted (with_line (types_of lines) line) (types_of lines)
 record-types true lines line = types_of-push lines line
 record-types false lines line = refl
 
-record-phase : {E O : Type 0} (items : List (Item E)) (left : ℕ) (line : List ℕ)
-    → header_has_ended items ≡ true → records_left items ≡ suc left
-    → phase_after_items {O = O} (Accepted (EventRecord line) ∷ items) None
-    ≡ phase_after {U = E} (InEvent (suc left) (records_count_types items)) (EventRecord line)
+record-phase : {E O : Type 0} (items : List (Item E)) (left : ℕ) (line : List ℕ) → header_has_ended items
+    ≡ true → records_left items ≡ suc left → phase_after_items {O = O} (Accepted (EventRecord line) ∷ items)
+    None ≡ phase_after {U = E} (InEvent (suc left) (records_count_types items)) (EventRecord line)
 record-phase items left line ended some = rw (ended, some) (records-phase _ _)
 
 pub header-place : {E : Type 0} (beginning : List (Item E) → List ReadLine → Place (FileUnit E))
@@ -115,10 +111,9 @@ made-looking direction types kept line e = rw e refl
 -- ---- one line more
 
 module _ {E U O K : Type 0} {beginning : List (Item E) → List ReadLine → Place (FileUnit E)}
-    {direction : Direction U O K}
-    {open_with : List (Item E) → List ReadLine → Option O} {kept_of : List (Item E) → K}
-    {unit_lines : List (Item E) → FileUnit E → List (List ℕ)} {choices : Choices}
-    (h : IsCarriedOut beginning direction open_with kept_of unit_lines choices) where
+    {direction : Direction U O K} {open_with : List (Item E) → List ReadLine → Option O}
+    {kept_of : List (Item E) → K} {unit_lines : List (Item E) → FileUnit E → List (List ℕ)}
+    {choices : Choices} (h : IsCarriedOut beginning direction open_with kept_of unit_lines choices) where
   -- what is kept of a line that comes twice, in the order of its two steps
   followed-twice : (count : ℕ) (items : List (Item E)) (at : At) (r : Reading E) (next : Seen O K)
       (two : Step O K) → Follows h count (Warned at ∷ items) r (fed_once two) → Follows h count items r
@@ -132,27 +127,20 @@ module _ {E U O K : Type 0} {beginning : List (Item E) → List ReadLine → Pla
 
   -- the next line where an epoch or an event may begin or in an epoch, given a second time where it is to
   -- come again
-  body-line : (units : ℕ) (items : List (Item E))
-      (number count : ℕ) (rest : List ReadLine) (line : ReadLine) (phase : Phase O) (kept : K)
-      (made : Made U O)
-      → header_has_ended items ≡ true → records_left items ≡ 0 → beginning items rest ≡ Wanted
-      → Agrees h items (rest ++ line ∷ []) made
+  body-line : (units : ℕ) (items : List (Item E)) (number count : ℕ) (rest : List ReadLine)
+      (line : ReadLine) (phase : Phase O) (kept : K) (made : Made U O) → header_has_ended items ≡ true
+      → records_left items ≡ 0 → beginning items rest ≡ Wanted → Agrees h items (rest ++ line ∷ []) made
       → may_skip phase ≡ true → AreKept h items kept → IsInside h items phase kept rest
       → (is_in_epoch phase ≡ true → 0 < length rest) → number + length rest ≡ count + 1 → length rest < units
-      → made_in direction phase (types_in_force items) kept line ≡ made
-      → Follows h (count + 1) items (reads h (suc units) items number (rest ++ line ∷ []))
-      (fed direction (seen_at h count phase items kept) line)
-  body-line units items number count
-      rest line phase kept made ended none wanted agree may keeps inside within counted enough e =
-      by_bool (is_again (step made).answer)
-      (λ on. subst (λ f. Follows h (count + 1) items after f)
-      (sym (fed-twice direction seen line (ap (λ m. is_again (step m).answer) e ∙ on)
+      → made_in direction phase (types_in_force items) kept line ≡ made → Follows h (count + 1) items (reads h
+      (suc units) items number (rest ++ line ∷ [])) (fed direction (seen_at h count phase items kept) line)
+  body-line units items number count rest line phase kept made ended none wanted agree may keeps inside
+      within counted enough e = by_bool (is_again (step made).answer) (λ on. subst (λ f. Follows h (count + 1)
+      items after f) (sym (fed-twice direction seen line (ap (λ m. is_again (step m).answer) e ∙ on)
       ∙ ap (λ m. fed_twice (step m) (seen_next direction (step m).next line)) e)) (again made agree on))
-      (λ off. subst (λ f. Follows h (count + 1) items after f)
-      (sym (fed-once direction seen line (ap (λ m. is_again (step m).answer) e ∙ off)
-      ∙ ap (λ m. fed_once (step m)) e))
-      (body-once h units items number count rest line phase kept made ended none wanted agree may keeps inside
-      counted off))
+      (λ off. subst (λ f. Follows h (count + 1) items after f) (sym (fed-once direction seen line
+      (ap (λ m. is_again (step m).answer) e ∙ off) ∙ ap (λ m. fed_once (step m)) e)) (body-once h units
+      items number count rest line phase kept made ended none wanted agree may keeps inside counted off))
     where
       seen : Seen O K
       seen = seen_at h count phase items kept
@@ -167,17 +155,14 @@ module _ {E U O K : Type 0} {beginning : List (Item E) → List ReadLine → Pla
           → Follows h (count + 1) items after (fed_twice (step m) (seen_next direction (step m).next line))
       again (Fails fault) a on =
           let at : At = record { line = count + 1; fault = fault } in
-          by_bool (is_skipped_in seen fault)
-          (λ skipped.
-          let both : (is_in_epoch phase && can_go_on line) ≡ true =
-          sym (ap (λ (s : Step _ _). is_again s.answer) (failed-skipped direction seen line fault
-          skipped)) ∙ on in
+          by_bool (is_skipped_in seen fault) (λ skipped.
+          let both : (is_in_epoch phase && can_go_on line) ≡ true = sym (ap
+          (λ (s : Step _ _). is_again s.answer) (failed-skipped direction seen line fault skipped)) ∙ on in
           let each = and_parts (is_in_epoch phase) (can_go_on line) both in
           let looking : Seen O K = seen_at h count LookingOn items (direction.emptied kept) in
           let is_one : failed_step direction seen line fault
           ≡ record { answer = Notice at true; handed_out = []; next = looking } =
-          failed-skipped direction seen line fault skipped
-          ∙ ap (λ (b : Bool). record {
+          failed-skipped direction seen line fault skipped ∙ ap (λ (b : Bool). record {
             answer = Notice at b;
             handed_out = [];
             next = after_warning direction seen b;
@@ -191,46 +176,38 @@ module _ {E U O K : Type 0} {beginning : List (Item E) → List ReadLine → Pla
           ∙ ap (λ k. direction.begins (types_in_force items) k line) kept_then in
           let some : 0 < length rest = within each.0 in
           let anew : Reading E = reads h 2 (Warned at ∷ items) (count + 1) (line ∷ []) in
-          let same_reading : after ≡ anew =
-          last-skipped h.forward choices.skip units items number count rest line a.0 fault
-          (body-place beginning items rest ended none ∙ wanted)
-          (body-place beginning items (rest ++ line ∷ []) ended none ∙ a.1)
-          (skipped-same choices count phase (types_in_force items) kept items fault ended none may ∙ skipped)
-          counted ∙ skipped-again h units items number count rest line at some counted each.1
-          ∙ enough-units (place h) h.forward choices.skip units 2
-          (Warned at ∷ items) (count + 1) (line ∷ []) (omega (arith, enough, some)) (omega arith) in
-          subst (λ r. Follows h (count + 1) items r
-          (fed_twice (step (Fails fault)) (seen_next direction (step (Fails fault)).next line)))
-          (sym same_reading) (subst (λ (s : Step O K). Follows h (count + 1) items anew
-          (fed_twice s (seen_next direction s.next line))) (sym is_one)
-          (subst (λ m. Follows h (count + 1) items anew (fed_twice (record {
+          let same_reading : after ≡ anew = last-skipped h.forward choices.skip
+          units items number count rest line a.0 fault (body-place beginning items rest ended none ∙ wanted)
+          (body-place beginning items (rest ++ line ∷ []) ended none ∙ a.1) (skipped-same choices count phase
+          (types_in_force items) kept items fault ended none may ∙ skipped) counted ∙ skipped-again h units
+          items number count rest line at some counted each.1 ∙ enough-units (place h) h.forward choices.skip
+          units 2 (Warned at ∷ items) (count + 1) (line ∷ []) (omega (arith, enough, some)) (omega arith) in
+          subst (λ r. Follows h (count + 1) items r (fed_twice (step (Fails fault))
+          (seen_next direction (step (Fails fault)).next line))) (sym same_reading) (subst
+          (λ (s : Step O K). Follows h (count + 1) items anew (fed_twice s (seen_next direction s.next line)))
+          (sym is_one) (subst (λ m. Follows h (count + 1) items anew (fed_twice (record {
             answer = Notice at true;
             handed_out = [];
             next = looking;
-          }) (step_of_made direction looking line m))) (sym is_made)
-          (followed-twice (count + 1) items at anew looking (step_of_made direction looking line made_then)
-          (body-once h 1 (Warned at ∷ items) (count + 1) count [] line LookingOn (direction.emptied kept)
-          made_then
-          ended refl (h.wants (Warned at ∷ items)) (h.begins (Warned at ∷ items) line) refl (inl kept_then)
-          kept_then (omega arith) (quiet-elsewhere direction looking line made_then refl))))))
-          (λ off. false-true (sym (ap (λ (s : Step _ _). is_again s.answer)
-          (failed-ends direction seen line fault off)) ∙ on))
+          }) (step_of_made direction looking line m))) (sym is_made) (followed-twice (count + 1) items
+          at anew looking (step_of_made direction looking line made_then) (body-once h 1 (Warned at ∷ items)
+          (count + 1) count [] line LookingOn (direction.emptied kept) made_then ended refl
+          (h.wants (Warned at ∷ items)) (h.begins (Warned at ∷ items) line) refl (inl kept_then) kept_then
+          (omega arith) (quiet-elsewhere direction looking line made_then refl)))))) (λ off. false-true
+          (sym (ap (λ (s : Step _ _). is_again s.answer) (failed-ends direction seen line fault off)) ∙ on))
       again m a on = false-true on
 
   -- a line that is a unit of its own, or has a fault that is never skipped
-  simple-line : (units : ℕ) (items : List (Item E))
-      (count : ℕ) (line : ReadLine) (phase : Phase O) (fault : Option Fault) (unit : FileUnit E)
-      (same : FileUnit U) → place h items (line ∷ []) ≡ one_line (unless_wrong unit fault)
-      → ((f : Fault) → is_skipped choices.skip items f ≡ false)
+  simple-line : (units : ℕ) (items : List (Item E)) (count : ℕ) (line : ReadLine) (phase : Phase O)
+      (fault : Option Fault) (unit : FileUnit E) (same : FileUnit U) → place h items (line ∷ [])
+      ≡ one_line (unless_wrong unit fault) → ((f : Fault) → is_skipped choices.skip items f ≡ false)
       → ((f : Fault) → is_skipped_in (seen_at h count phase items (kept_of items)) f ≡ false)
-      → phase_after_items {O = O} (Accepted unit ∷ items) None ≡ phase_after phase same
-      → types_in_force (Accepted unit ∷ items) ≡ types_after phase (types_in_force items) same
-      → direction.kept_after (seen_at h count phase items (kept_of items)) same
-      ≡ kept_of (Accepted unit ∷ items)
-      → direction.written (seen_at h count phase items (kept_of items)) same ≡ unit_lines items unit
-      → Follows h (count + 1) items (reads h (suc units) items (count + 1) (line ∷ []))
-      (fed_once (step_of_made direction (seen_at h count phase items (kept_of items)) line
-      (made_of_unit (unless_wrong same fault))))
+      → phase_after_items {O = O} (Accepted unit ∷ items) None ≡ phase_after phase same → types_in_force
+      (Accepted unit ∷ items) ≡ types_after phase (types_in_force items) same → direction.kept_after
+      (seen_at h count phase items (kept_of items)) same ≡ kept_of (Accepted unit ∷ items)
+      → direction.written (seen_at h count phase items (kept_of items)) same ≡ unit_lines items unit → Follows
+      h (count + 1) items (reads h (suc units) items (count + 1) (line ∷ [])) (fed_once (step_of_made
+      direction (seen_at h count phase items (kept_of items)) line (made_of_unit (unless_wrong same fault))))
   simple-line units items count line phase None unit same here never never_in phases types keeps lines = rw
       (last-here h.forward choices.skip units items (count + 1) [] line unit 1 (h.forward.wants items) here)
       (followed-unit h count (count + 1 + 1) items phase (kept_of items) unit same (h.none_open
@@ -245,17 +222,15 @@ module _ {E U O K : Type 0} {beginning : List (Item E) → List ReadLine → Pla
       → is_in_epoch phase ≡ false → Follows h (count + 1) items r
       (fed_once (seen_next direction (seen_at h count phase items (kept_of items)) line))
       → Follows h (count + 1) items r (fed direction (seen_at h count phase items (kept_of items)) line)
-  line-once count items line phase r outside follows = rw (fed-once direction seen line
-      (quiet-elsewhere direction seen line (made_in direction phase seen.types seen.kept line) outside))
-      follows
+  line-once count items line phase r outside follows = rw (fed-once direction seen line (quiet-elsewhere
+      direction seen line (made_in direction phase seen.types seen.kept line) outside)) follows
     where
       seen : Seen O K
       seen = seen_at h count phase items (kept_of items)
 
   -- the next line in the header
-  header-line : (units : ℕ) (items : List (Item E)) (count : ℕ) (line : ReadLine)
-      → header_has_ended items ≡ false
-      → Follows h (count + 1) items (reads h (suc units) items (count + 1) (line ∷ []))
+  header-line : (units : ℕ) (items : List (Item E)) (count : ℕ) (line : ReadLine) → header_has_ended items
+      ≡ false → Follows h (count + 1) items (reads h (suc units) items (count + 1) (line ∷ []))
       (fed direction (seen_at h count (InHeader (is_at_start items)) items (kept_of items)) line)
   header-line units items count line e = line-once count items line (InHeader (is_at_start items))
       (reads h (suc units) items (count + 1) (line ∷ [])) refl (by_line line)
@@ -263,16 +238,14 @@ module _ {E U O K : Type 0} {beginning : List (Item E) → List ReadLine → Pla
       simple : (content : List ℕ) (l : ReadLine) (fault : Option Fault)
           → place h items (l ∷ []) ≡ one_line (unless_wrong (HeaderLine content) fault)
           → Follows h (count + 1) items (reads h (suc units) items (count + 1) (l ∷ []))
-          (fed_once (step_of_made direction
-          (seen_at h count (InHeader (is_at_start items)) items (kept_of items)) l
-          (made_of_unit (unless_wrong (HeaderLine content) fault))))
+          (fed_once (step_of_made direction (seen_at h count (InHeader (is_at_start items)) items
+          (kept_of items)) l (made_of_unit (unless_wrong (HeaderLine content) fault))))
       simple content l fault here = simple-line units items count l
           (InHeader (is_at_start items)) fault (HeaderLine content) (HeaderLine content) here
           (λ f. rw e (never-before choices.skip ((records_left items == 0) && is_skippable f)))
           (λ f. never-before choices.skip (is_skippable f)) (header-phase items (is_at_start items) content e)
-          (types_of-push (declaring_lines items) content)
-          (h.header_kept items count (types_in_force items) content)
-          (h.header_lines items count (types_in_force items) content)
+          (types_of-push (declaring_lines items) content) (h.header_kept items count
+          (types_in_force items) content) (h.header_lines items count (types_in_force items) content)
 
       by_line : (l : ReadLine) → Follows h (count + 1) items (reads h (suc units) items (count + 1) (l ∷ []))
           (fed_once (seen_next direction (seen_at h count (InHeader (is_at_start items)) items
@@ -284,25 +257,22 @@ module _ {E U O K : Type 0} {beginning : List (Item E) → List ReadLine → Pla
   -- the next record of an event
   record-line : (units : ℕ) (items : List (Item E)) (count left : ℕ) (line : ReadLine)
       → header_has_ended items ≡ true → records_left items ≡ suc left
-      → Follows h (count + 1) items (reads h (suc units) items (count + 1) (line ∷ []))
-      (fed direction (seen_at h count (InEvent (suc left) (records_count_types items)) items (kept_of items))
-      line)
+      → Follows h (count + 1) items (reads h (suc units) items (count + 1) (line ∷ [])) (fed direction
+      (seen_at h count (InEvent (suc left) (records_count_types items)) items (kept_of items)) line)
   record-line units items count left line ended some =
       line-once count items line phase (reads h (suc units) items (count + 1) (line ∷ [])) refl (by_line line)
     where
       phase : Phase O
       phase = InEvent (suc left) (records_count_types items)
 
-      simple : (content : List ℕ) (l : ReadLine) (fault : Option Fault)
-          → place h items (l ∷ []) ≡ one_line (unless_wrong (EventRecord content) fault)
-          → Follows h (count + 1) items (reads h (suc units) items (count + 1) (l ∷ []))
-          (fed_once (step_of_made direction (seen_at h count phase items (kept_of items)) l
-          (made_of_unit (unless_wrong (EventRecord content) fault))))
-      simple content l fault here =
-          simple-line units items count l phase fault (EventRecord content) (EventRecord content) here
-          (λ f. rw (ended, some) (never-in-event choices.skip left (is_skippable f)))
-          (λ f. never-before choices.skip (is_skippable f)) (record-phase items left content ended some)
-          (record-types (records_count_types items) (declaring_lines items) content)
+      simple : (content : List ℕ) (l : ReadLine) (fault : Option Fault) → place h items (l ∷ [])
+          ≡ one_line (unless_wrong (EventRecord content) fault) → Follows h (count + 1) items
+          (reads h (suc units) items (count + 1) (l ∷ [])) (fed_once (step_of_made direction (seen_at
+          h count phase items (kept_of items)) l (made_of_unit (unless_wrong (EventRecord content) fault))))
+      simple content l fault here = simple-line units items count l phase fault (EventRecord content)
+          (EventRecord content) here (λ f. rw (ended, some) (never-in-event choices.skip left
+          (is_skippable f))) (λ f. never-before choices.skip (is_skippable f)) (record-phase items
+          left content ended some) (record-types (records_count_types items) (declaring_lines items) content)
           (h.record_kept items count (suc left) (types_in_force items) content)
           (h.record_lines items count phase (types_in_force items) (kept_of items) content)
 
@@ -315,10 +285,9 @@ module _ {E U O K : Type 0} {beginning : List (Item E) → List ReadLine → Pla
 
   -- where an epoch or an event may begin, no line of it having come
   fresh-line : (items : List (Item E)) (number count : ℕ) (line : ReadLine) (phase : Phase O)
-      → header_has_ended items ≡ true → records_left items ≡ 0
-      → may_skip phase ≡ true → is_in_epoch phase ≡ false → number ≡ count + 1
-      → made_in direction phase (types_in_force items) (kept_of items) line
-      ≡ direction.begins (types_in_force items) (kept_of items) line
+      → header_has_ended items ≡ true → records_left items ≡ 0 → may_skip phase ≡ true
+      → is_in_epoch phase ≡ false → number ≡ count + 1 → made_in direction phase (types_in_force items)
+      (kept_of items) line ≡ direction.begins (types_in_force items) (kept_of items) line
       → Follows h (count + 1) items (reading_from (place h) choices.skip items number (line ∷ []))
       (fed direction (seen_at h count phase items (kept_of items)) line)
   fresh-line items number count line phase ended none may outside counted made = body-line 1 items number
@@ -328,26 +297,21 @@ module _ {E U O K : Type 0} {beginning : List (Item E) → List ReadLine → Pla
 
   -- what is so in each phase that a reading can be in where more lines are wanted, is so there
   pub by_phase : (P : List ReadLine → Phase O → Type 0) (items : List (Item E)) (rest : List ReadLine)
-      → place h items rest ≡ Wanted
-      → (header_has_ended items ≡ false → P [] (InHeader (is_at_start items)))
-      → ((left : ℕ) → header_has_ended items ≡ true → records_left items ≡ suc left
-      → P [] (InEvent (suc left) (records_count_types items)))
-      → (header_has_ended items ≡ true → records_left items ≡ 0 → P [] BetweenUnits)
-      → ((so_far : O) → header_has_ended items ≡ true → records_left items ≡ 0
-      → open_with items rest ≡ Some so_far → P rest (InEpoch so_far))
-      → P rest (phase_after_items items (open_with items rest))
+      → place h items rest ≡ Wanted → (header_has_ended items ≡ false → P [] (InHeader (is_at_start items)))
+      → ((left : ℕ) → header_has_ended items ≡ true → records_left items ≡ suc left → P [] (InEvent (suc left)
+      (records_count_types items))) → (header_has_ended items ≡ true → records_left items ≡ 0 → P []
+      BetweenUnits) → ((so_far : O) → header_has_ended items ≡ true → records_left items ≡ 0 → open_with items
+      rest ≡ Some so_far → P rest (InEpoch so_far)) → P rest (phase_after_items items (open_with items rest))
   by_phase P items rest wanted header event between epoch =
       cases (header_has_ended items) refl (records_left items) refl (open_with items rest) refl
     where
-      both : {ls : List ReadLine} {p : Phase O} → P ls p → rest ≡ ls
-          → phase_after_items items (open_with items rest) ≡ p
-          → P rest (phase_after_items items (open_with items rest))
+      both : {ls : List ReadLine} {p : Phase O} → P ls p → rest ≡ ls → phase_after_items items
+          (open_with items rest) ≡ p → P rest (phase_after_items items (open_with items rest))
       both {ls = ls} here lines phase = subst (λ l. P l (phase_after_items items (open_with items rest)))
           (sym lines) (subst (P ls) (sym phase) here)
 
-      in_body : {o : Option O} → header_has_ended items ≡ true → records_left items ≡ 0
-          → open_with items rest ≡ o → phase_after_items items (open_with items rest)
-          ≡ phase_in_body 0 (records_count_types items) o
+      in_body : {o : Option O} → header_has_ended items ≡ true → records_left items ≡ 0 → open_with items rest
+          ≡ o → phase_after_items items (open_with items rest) ≡ phase_in_body 0 (records_count_types items) o
       in_body e none opens = body-phase items (open_with items rest) e none
           ∙ ap (λ o. phase_in_body 0 (records_count_types items) o) opens
 
@@ -370,22 +334,19 @@ module _ {E U O K : Type 0} {beginning : List (Item E) → List ReadLine → Pla
       → Follows h (count + 1) items (reading_from (place h) choices.skip items number (rest ++ line ∷ []))
       (fed direction (seen_at h count (phase_after_items items (open_with items rest)) items
       (kept_in direction (phase_after_items items (open_with items rest)) (kept_of items))) line)
-  lines-line items number count rest line wanted = by_phase (λ ls p. number + length ls ≡ count + 1
-      → Follows h (count + 1) items (reading_from (place h) choices.skip items number (ls ++ line ∷ []))
-      (fed direction (seen_at h count p items (kept_in direction p (kept_of items))) line)) items rest wanted
-      (λ e counted.
+  lines-line items number count rest line wanted = by_phase (λ ls p. number + length ls ≡ count + 1 → Follows
+      h (count + 1) items (reading_from (place h) choices.skip items number (ls ++ line ∷ [])) (fed direction
+      (seen_at h count p items (kept_in direction p (kept_of items))) line)) items rest wanted (λ e counted.
       let same : number ≡ count + 1 = omega (arith, counted) in
-      rw same (header-line 1 items count line e))
-      (λ left e some counted.
+      rw same (header-line 1 items count line e)) (λ left e some counted.
       let same : number ≡ count + 1 = omega (arith, counted) in
-      rw same (record-line 1 items count left line e some))
-      (λ e none counted.
-      fresh-line items number count line BetweenUnits e none refl refl (omega (arith, counted)) refl)
+      rw same (record-line 1 items count left line e some)) (λ e none
+      counted. fresh-line items number count line BetweenUnits e none refl refl (omega (arith, counted)) refl)
       (λ so_far e none opens counted. rw (more-units (place h) h.forward choices.skip items number rest line)
       (body-line (suc (length rest)) items number count rest line (InEpoch so_far) (direction.kept_open
       (kept_of items)) (direction.continues so_far line) e none (sym (body-place beginning items rest e none)
-      ∙ wanted) (h.continues items rest line so_far opens) refl (inr refl) (inside so_far rest opens)
-      (λ in_epoch. some_lines so_far rest opens) counted (omega arith) refl))
+      ∙ wanted) (h.continues items rest line so_far opens) refl (inr refl)
+      (inside so_far rest opens) (λ in_epoch. some_lines so_far rest opens) counted (omega arith) refl))
     where
       inside : (so_far : O) (ls : List ReadLine) → open_with items ls ≡ Some so_far
           → IsInside h items (InEpoch so_far) (direction.kept_open (kept_of items)) ls
@@ -398,10 +359,9 @@ module _ {E U O K : Type 0} {beginning : List (Item E) → List ReadLine → Pla
 
   -- one line more, wherever a reading has stopped
   pub next-line : (items : List (Item E)) (stop : Stop) (count : ℕ) (line : ReadLine)
-      → IsStopped (place h) items stop (count + 1) → Follows h (count + 1) items
-      (continued_reading (place h) choices.skip (record { items = items; stop = stop }) (line ∷ []))
-      (fed direction (seen_of direction open_with kept_of choices count
-      (record { items = items; stop = stop })) line)
+      → IsStopped (place h) items stop (count + 1) → Follows h (count + 1) items (continued_reading
+      (place h) choices.skip (record { items = items; stop = stop }) (line ∷ [])) (fed direction
+      (seen_of direction open_with kept_of choices count (record { items = items; stop = stop })) line)
   next-line items (AtFault at) count line stopped = record {
     next = refl;
     handed_out = sym (append-nil (written_lines unit_lines items));
@@ -414,9 +374,8 @@ module _ {E U O K : Type 0} {beginning : List (Item E) → List ReadLine → Pla
       (λ on. rw (looked-here (reading_from (place h) choices.skip items) items number line [] on)
       (fresh-line items number count line LookingOn stopped.1 stopped.2 refl refl stopped.0
       (made-looking direction (types_in_force items) (kept_of items) line on)))
-      (λ off. rw (looked-on (reading_from (place h) choices.skip items) items number line [] off)
-      (line-once count items line LookingOn (record { items = items; stop = Looking (number + 1) }) refl
-      (passed off)))
+      (λ off. rw (looked-on (reading_from (place h) choices.skip items) items number line [] off) (line-once
+      count items line LookingOn (record { items = items; stop = Looking (number + 1) }) refl (passed off)))
     where
       seen : Seen O K
       seen = seen_at h count LookingOn items (kept_of items)

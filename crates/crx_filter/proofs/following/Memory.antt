@@ -50,9 +50,8 @@ header-takes {E = E} takes items is_first line = by_fault (header_line_fault is_
 
 -- a record of an event
 record-takes : {E : Type 0} (takes : ℕ → Bool → Bool) (items : List (Item E)) (line : List ℕ)
-    → (records_count_types items && is_some (count_of_types_line line)) ≡ true
-    → place_takes takes items 0 (first_line (Content line ∷ [])
-    (event_record (records_count_types items))) ≡ true
+    → (records_count_types items && is_some (count_of_types_line line)) ≡ true → place_takes takes items 0
+    (first_line (Content line ∷ []) (event_record (records_count_types items))) ≡ true
 record-takes {E = E} takes items line h =
     let each = and_parts (records_count_types items) (is_some (count_of_types_line line)) h in
     let well = counts-well line each.1 in
@@ -73,25 +72,22 @@ pub record TakesAsItStands {E U O K : Type 0} (beginning : List (Item E) → Lis
       → place_takes takes items (length lines) (beginning items (lines ++ Content line ∷ [])) ≡ true
 
 module _ {E U O K : Type 0} {beginning : List (Item E) → List ReadLine → Place (FileUnit E)}
-    {direction : Direction U O K}
-    {open_with : List (Item E) → List ReadLine → Option O} {kept_of : List (Item E) → K}
-    {unit_lines : List (Item E) → FileUnit E → List (List ℕ)} {choices : Choices}
-    (h : IsCarriedOut beginning direction open_with kept_of unit_lines choices) {takes : ℕ → Bool → Bool}
-    (t : TakesAsItStands beginning direction open_with kept_of takes) where
+    {direction : Direction U O K} {open_with : List (Item E) → List ReadLine → Option O}
+    {kept_of : List (Item E) → K} {unit_lines : List (Item E) → FileUnit E → List (List ℕ)}
+    {choices : Choices} (h : IsCarriedOut beginning direction open_with kept_of unit_lines choices)
+    {takes : ℕ → Bool → Bool} (t : TakesAsItStands beginning direction open_with kept_of takes) where
   -- whether memory may run out in a phase
   abbrev taken_in : List (Item E) → ReadLine → Phase O → Bool
-  taken_in items line phase = may_take_memory
-      (direction.memory_first (types_in_force items) (kept_in direction phase (kept_of items)))
-      direction.memory_next phase line
+  taken_in items line phase = may_take_memory (direction.memory_first
+      (types_in_force items) (kept_in direction phase (kept_of items))) direction.memory_next phase line
 
   -- where an epoch or an event may begin
   begins-takes : (items : List (Item E)) (line : List ℕ) → header_has_ended items ≡ true
       → records_left items ≡ 0 → (not (is_event_line line) && direction.memory_first (types_in_force items)
       (kept_of items) line) ≡ true → line_takes (place h) takes items [] (Content line) ≡ true
-  begins-takes items line ended none e =
-      ap (place_takes takes items 0) (body-place beginning items (Content line ∷ []) ended none)
-      ∙ t.first items line (not-true (is_event_line line) (and_parts (not (is_event_line line)) _ e).0)
-      (and_parts (not (is_event_line line)) _ e).1
+  begins-takes items line ended none e = ap (place_takes takes items 0) (body-place beginning items
+      (Content line ∷ []) ended none) ∙ t.first items line (not-true (is_event_line line)
+      (and_parts (not (is_event_line line)) _ e).0) (and_parts (not (is_event_line line)) _ e).1
 
   -- by the content of a line, where an overlong one takes nothing
   by_content : (items : List (Item E)) (rest : List ReadLine) (phase : Phase O) (line : ReadLine)
@@ -106,10 +102,9 @@ module _ {E U O K : Type 0} {beginning : List (Item E) → List ReadLine → Pla
       → taken_in items line (phase_after_items items (open_with items rest)) ≡ true
       → line_takes (place h) takes items rest line ≡ true
   lines-take items rest line wanted = by_phase h (λ ls p. taken_in items line p ≡ true
-      → line_takes (place h) takes items ls line ≡ true) items rest wanted
-      (λ e. by_content items [] (InHeader (is_at_start items)) line refl (λ content taken.
-      ap (place_takes takes items 0) (header-place beginning items (Content content ∷ []) e)
-      ∙ header-takes takes items (is_at_start items) content taken))
+      → line_takes (place h) takes items ls line ≡ true) items rest wanted (λ e. by_content items []
+      (InHeader (is_at_start items)) line refl (λ content taken. ap (place_takes takes items 0) (header-place
+      beginning items (Content content ∷ []) e) ∙ header-takes takes items (is_at_start items) content taken))
       (λ left e some. by_content items [] (InEvent (suc left) (records_count_types items)) line refl
       (λ content taken. ap (place_takes takes items 0) (record-place beginning items left
       (Content content ∷ []) e some) ∙ record-takes takes items content taken))
@@ -133,19 +128,17 @@ module _ {E U O K : Type 0} {beginning : List (Item E) → List ReadLine → Pla
   allowed-first items stop count Overlong stopped e = false-true e
 
   -- a line that cuts an epoch off, and is read anew after the warning
-  cut-takes : (items : List (Item E)) (number count : ℕ) (rest : List ReadLine) (line : ReadLine) (so_far : O)
-      (next : Seen O K) (notice : At) → place h items rest ≡ Wanted → number + length rest ≡ count + 1
-      → header_has_ended items ≡ true → records_left items ≡ 0 → open_with items rest ≡ Some so_far
-      → (m : Made U O) → AgreeOn beginning direction open_with kept_of unit_lines choices items
-      (rest ++ line ∷ []) m
+  cut-takes : (items : List (Item E))
+      (number count : ℕ) (rest : List ReadLine) (line : ReadLine) (so_far : O) (next : Seen O K) (notice : At)
+      → place h items rest ≡ Wanted → number + length rest ≡ count + 1 → header_has_ended items ≡ true
+      → records_left items ≡ 0 → open_with items rest ≡ Some so_far → (m : Made U O)
+      → AgreeOn beginning direction open_with kept_of unit_lines choices items (rest ++ line ∷ []) m
       → record { answer = Notice notice true; handed_out = []; next = next } ≡ step_of_made direction
-      (seen_in choices count (InEpoch so_far) (types_in_force items)
-      (direction.kept_open (kept_of items))) line m → takes_memory direction next line ≡ true
-      → memory_allowed (place h) takes choices.skip (record
-      { items = items; stop = AtLines number rest }) line ≡ Some (notice ∷ [])
-  cut-takes items number count rest line so_far next notice wanted counted ended none open_is (Fails fault) a
-      e taken = by_bool (is_skipped_in before fault)
-      (λ on.
+      (seen_in choices count (InEpoch so_far) (types_in_force items) (direction.kept_open (kept_of items)))
+      line m → takes_memory direction next line ≡ true → memory_allowed (place h) takes choices.skip
+      (record { items = items; stop = AtLines number rest }) line ≡ Some (notice ∷ [])
+  cut-takes items number count rest line so_far next notice wanted counted ended none open_is
+      (Fails fault) a e taken = by_bool (is_skipped_in before fault) (λ on.
       let is = e ∙ failed-skipped direction before line fault on in
       let goes = sym (ap (λ (s : Step O K). is_again s.answer) is) in
       let noted = ap (λ (s : Step O K). noticed_or at s.answer) is in
@@ -155,15 +148,13 @@ module _ {E U O K : Type 0} {beginning : List (Item E) → List ReadLine → Pla
       let same : number + a.0 ≡ count + 1 = omega (arith, last, counted) in
       let skipped = skipped-same choices count (InEpoch so_far) (types_in_force items)
       (direction.kept_open (kept_of items)) items fault ended none refl ∙ on in
-      ap (λ (p : Place (FileUnit E)). cond (place_takes takes items (length rest) p) (Some [])
-      (takes_after_warning (place h) takes choices.skip items number line p)) here
+      ap (λ (p : Place (FileUnit E)). cond (place_takes takes items (length rest) p)
+      (Some []) (takes_after_warning (place h) takes choices.skip items number line p)) here
       ∙ ap (λ (n : ℕ). cond (is_skipped choices.skip items fault && ((nat_lt 0 a.0 && can_go_on line) &&
-      line_takes (place h) takes (Warned (record { line = n; fault = fault }) ∷ items) [] line))
-      (Some (record { line = n; fault = fault } ∷ [])) None) same ∙ ap (λ b. cond b (Some (at ∷ [])) None)
-      (all-true skipped (ap (nat_lt 0) last ∙ not_none rest open_is) goes (anew line (subst
-      (λ (s : Seen O K). takes_memory direction s line ≡ true) then taken)))
-      ∙ ap (λ (n : At). Some (n ∷ [])) (sym noted))
-      (λ off.
+      line_takes (place h) takes (Warned (record { line = n; fault = fault }) ∷ items) [] line)) (Some (record
+      { line = n; fault = fault } ∷ [])) None) same ∙ ap (λ b. cond b (Some (at ∷ [])) None) (all-true skipped
+      (ap (nat_lt 0) last ∙ not_none rest open_is) goes (anew line (subst (λ (s : Seen O K). takes_memory
+      direction s line ≡ true) then taken))) ∙ ap (λ (n : At). Some (n ∷ [])) (sym noted)) (λ off.
       let no = ap (λ (s : Step O K). is_again s.answer) (e ∙ failed-ends direction before line fault off) in
       absurd (cc))
     where
@@ -200,19 +191,17 @@ module _ {E U O K : Type 0} {beginning : List (Item E) → List ReadLine → Pla
       let no = ap (λ (s : Step O K). is_again s.answer) e in absurd (cc)
 
   -- memory may run out at a line after its warning
-  pub allowed-again : (items : List (Item E)) (stop : Stop) (count : ℕ) (line : ReadLine) (next : Seen O K)
-      (notice : At) → IsStopped (place h) items stop (count + 1)
+  pub allowed-again : (items : List (Item E)) (stop : Stop) (count : ℕ)
+      (line : ReadLine) (next : Seen O K) (notice : At) → IsStopped (place h) items stop (count + 1)
       → record { answer = Notice notice true; handed_out = []; next = next } ≡ seen_next direction
       (seen_of direction open_with kept_of choices count (record { items = items; stop = stop })) line
-      → takes_memory direction next line ≡ true
-      → memory_allowed (place h) takes choices.skip (record { items = items; stop = stop }) line
-      ≡ Some (notice ∷ [])
+      → takes_memory direction next line ≡ true → memory_allowed
+      (place h) takes choices.skip (record { items = items; stop = stop }) line ≡ Some (notice ∷ [])
   allowed-again items stop count line next notice stopped e taken = by_stop stop stopped
       (comes-again direction _ next line notice [] e) e
     where
-      by_stop : (s : Stop) → IsStopped (place h) items s (count + 1)
-          → ComesAgain (seen_of direction open_with kept_of choices count
-          (record { items = items; stop = s })) next line
+      by_stop : (s : Stop) → IsStopped (place h) items s (count + 1) → ComesAgain
+          (seen_of direction open_with kept_of choices count (record { items = items; stop = s })) next line
           → record { answer = Notice notice true; handed_out = []; next = next } ≡ seen_next direction
           (seen_of direction open_with kept_of choices count (record { items = items; stop = s })) line
           → memory_allowed (place h) takes choices.skip (record { items = items; stop = s }) line
@@ -222,10 +211,9 @@ module _ {E U O K : Type 0} {beginning : List (Item E) → List ReadLine → Pla
       by_stop (AtLines number rest) stopped again e = by_phase h (λ ls p. is_in_epoch p ≡ true
           → record { answer = Notice notice true; handed_out = []; next = next } ≡ seen_next direction
           (seen_in choices count p (types_in_force items) (kept_in direction p (kept_of items))) line
-          → memory_allowed (place h) takes choices.skip
-          (record { items = items; stop = AtLines number rest }) line ≡ Some (notice ∷ [])) items rest
-          stopped.0 (λ f inside. false-true inside) (λ left f some inside. false-true inside)
-          (λ f none inside. false-true inside)
-          (λ so_far f none opens inside step. cut-takes items number count rest line so_far next notice
-          stopped.0 stopped.1 f none opens (direction.continues so_far line)
+          → memory_allowed (place h) takes choices.skip (record { items = items; stop = AtLines number rest })
+          line ≡ Some (notice ∷ [])) items rest stopped.0 (λ f inside. false-true inside)
+          (λ left f some inside. false-true inside) (λ f none inside. false-true inside)
+          (λ so_far f none opens inside step. cut-takes items number count
+          rest line so_far next notice stopped.0 stopped.1 f none opens (direction.continues so_far line)
           (h.continues items rest line so_far opens) step taken) again.epoch e

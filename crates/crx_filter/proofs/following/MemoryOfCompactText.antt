@@ -63,9 +63,8 @@ first-clock types tail Overlong = refl
 first-clock types tail (Content line) = by-tail types line (tail_for_line tail line)
 
 -- where the clock line has come, two lines are before the next one
-takes-next : (items : List (Item ReadEpoch)) (lines : List ReadLine) (so_far : OpenRawEpoch)
-    → compact_open items lines ≡ Some so_far → has_come so_far.clock ≡ true
-    → expansion_takes (length lines) true ≡ true
+takes-next : (items : List (Item ReadEpoch)) (lines : List ReadLine) (so_far : OpenRawEpoch) → compact_open
+    items lines ≡ Some so_far → has_come so_far.clock ≡ true → expansion_takes (length lines) true ≡ true
 takes-next items [] so_far opens read = absurd (none-some so_far opens)
 takes-next items (line ∷ []) so_far opens read = by_event (begins_event (line ∷ [])) refl
   where
@@ -82,11 +81,9 @@ takes-next items (line ∷ []) so_far opens read = by_event (begins_event (line 
       where
         closed : begins_event (line ∷ []) ≡ true → compact_open items (line ∷ []) ≡ None
         closed h = rw h refl
-    by_event false e =
-        let none : clock_of (compact_open items (line ∷ [])) ≡ false = ap clock_of (same e)
-        ∙ of_step (first_step (types_in_force items) (tail_of_items items) line)
-        ∙ first-clock (types_in_force items) (tail_of_items items) line in
-        false-true (sym none ∙ ap clock_of opens ∙ read)
+    by_event false e = false-true
+        (sym (ap clock_of (same e) ∙ of_step (first_step (types_in_force items) (tail_of_items items) line)
+        ∙ first-clock (types_in_force items) (tail_of_items items) line) ∙ ap clock_of opens ∙ read)
       where
         same : begins_event (line ∷ []) ≡ false → compact_open items (line ∷ [])
             ≡ open_raw_with (types_in_force items) (tail_of_items items) (line ∷ [])
@@ -99,8 +96,7 @@ takes-always is_whole = refl
 pub expansion-takes : (choices : Choices)
     → TakesAsItStands compact_beginning expansion compact_open tail_of_items expansion_takes
 expansion-takes choices = record {
-  first = λ items line other good.
-      step-takes choices items (Content line ∷ []) 0
+  first = λ items line other good. step-takes choices items (Content line ∷ []) 0
       (first_step (types_in_force items) (tail_of_items items) (Content line)) takes-always
       (not-true (is_faulty (first_step (types_in_force items) (tail_of_items items) (Content line))) good)
       (agree-content choices items line false other);
@@ -116,18 +112,16 @@ expansion-takes choices = record {
 -- the same by what is at the first two lines
 abbrev memory_by : Choices → List ReadLine → ReadLine → Place (List (List ℕ)) → Place (List (List ℕ))
     → Option (List At)
-memory_by choices lines line p read =
-    elim p [
-      | Here two count ↦
-          memory_allowed compact_place expansion_takes choices.skip (reading_by choices.skip lines read) line
-      | Wrong offset fault ↦ None
-      | Wanted ↦ None
-    ]
+memory_by choices lines line p read = elim p [
+  | Here two count ↦
+      memory_allowed compact_place expansion_takes choices.skip (reading_by choices.skip lines read) line
+  | Wrong offset fault ↦ None
+  | Wanted ↦ None
+]
 
 stopped-after : (choices : Choices) (lines : List ReadLine) (two : List (List ℕ)) (count : ℕ)
-    → first_lines lines ≡ Here two count
-    → IsStopped compact_place (reading_from compact_place choices.skip [] (count + 1)
-    (drop count lines)).items
+    → first_lines lines ≡ Here two count → IsStopped compact_place
+    (reading_from compact_place choices.skip [] (count + 1) (drop count lines)).items
     (reading_from compact_place choices.skip [] (count + 1) (drop count lines)).stop (length lines + 1)
 stopped-after choices lines two count e =
     let remains = subst
@@ -135,9 +129,8 @@ stopped-after choices lines two count e =
     reading-stopped compact_place compact-forward choices.skip [] (count + 1) (length lines + 1)
     (drop count lines) (omega (arith, length-drop count lines, remains.0))
 
-pub expansion-allowed : (choices : Choices) (lines : List ReadLine) (line : ReadLine)
-    → takes_memory expansion (expansion_seen choices lines) line ≡ true
-    → compact_memory choices.skip lines line ≡ Some []
+pub expansion-allowed : (choices : Choices) (lines : List ReadLine) (line : ReadLine) → takes_memory expansion
+    (expansion_seen choices lines) line ≡ true → compact_memory choices.skip lines line ≡ Some []
 expansion-allowed choices lines line e = decided (first_lines lines) line refl e
   where
     decided : (p : Place (List (List ℕ))) (l : ReadLine) → first_lines lines ≡ p
@@ -157,9 +150,8 @@ pub expansion-allowed-again : (choices : Choices) (lines : List ReadLine) (line 
 expansion-allowed-again choices lines line next notice step e = decided (first_lines lines) refl step
   where
     decided : (p : Place (List (List ℕ))) → first_lines lines ≡ p
-        → record { answer = Notice notice true; handed_out = []; next = next }
-        ≡ seen_next expansion (seen_by choices lines p) line
-        → memory_by choices lines line p p ≡ Some (notice ∷ [])
+        → record { answer = Notice notice true; handed_out = []; next = next } ≡ seen_next expansion
+        (seen_by choices lines p) line → memory_by choices lines line p p ≡ Some (notice ∷ [])
     decided (Here two count) is s =
         let r = reading_from compact_place choices.skip [] (count + 1) (drop count lines) in
         allowed-again (expansion-carried_out choices) (expansion-takes choices) r.items r.stop (length lines)

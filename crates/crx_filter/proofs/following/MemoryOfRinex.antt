@@ -42,10 +42,9 @@ module _ {K : Type 0} (direction : Direction Epoch OpenEpoch K) (kept_of : List 
   whole-takes sure (Completes (Observation epoch)) e a = ap (place_takes takes items 0) a.2 ∙ sure
   whole-takes sure m e a = false-true e
 
-  step-takes : (count : ℕ) → ((is_whole : Bool) → takes count is_whole ≡ true)
-      → (step : EpochStep) → is_fine step ≡ true
-      → AgreeOn rinex_beginning direction rinex_open kept_of unit_lines choices items lines
-      (made_of_epoch_step step) → place_takes takes items count (rinex_beginning items lines) ≡ true
+  step-takes : (count : ℕ) → ((is_whole : Bool) → takes count is_whole ≡ true) → (step : EpochStep)
+      → is_fine step ≡ true → AgreeOn rinex_beginning direction rinex_open kept_of unit_lines choices items
+      lines (made_of_epoch_step step) → place_takes takes items count (rinex_beginning items lines) ≡ true
   step-takes count sure (Going so_far) e a = ap (place_takes takes items count) a.2 ∙ sure false
   step-takes count sure (Whole epoch) e a = ap (place_takes takes items count) a.2 ∙ sure true
   step-takes count sure (Faulty fault) e a = false-true e
@@ -62,15 +61,13 @@ after-first takes sure items (line ∷ lines) so_far opens is_whole = sure (leng
 pub compaction-takes : (choices : Choices)
     → TakesAsItStands rinex_beginning compaction rinex_open (written_of choices.every) compaction_takes
 compaction-takes choices = record {
-  first = λ items line other good.
-      whole-takes compaction (written_of choices.every) (compact_unit choices) choices items
-      (Content line ∷ []) compaction_takes refl
+  first = λ items line other good. whole-takes compaction (written_of choices.every)
+      (compact_unit choices) choices items (Content line ∷ []) compaction_takes refl
       (rinex_begins (types_in_force items) (written_of choices.every items) (Content line)) good
       ((compaction-carried_out choices).begins items (Content line));
-  next = λ items lines line so_far opens good.
-      step-takes compaction (written_of choices.every) (compact_unit choices) choices items
-      (lines ++ Content line ∷ []) compaction_takes (length lines)
-      (after-first compaction_takes (λ count is_whole. refl) items lines so_far opens)
+  next = λ items lines line so_far opens good. step-takes compaction (written_of choices.every)
+      (compact_unit choices) choices items (lines ++ Content line ∷ []) compaction_takes
+      (length lines) (after-first compaction_takes (λ count is_whole. refl) items lines so_far opens)
       (epoch_step so_far (Content line)) (fine-row so_far (next_row so_far line) good)
       ((compaction-carried_out choices).continues items lines (Content line) so_far opens);
 }
@@ -78,42 +75,38 @@ compaction-takes choices = record {
 pub check-takes : TakesAsItStands rinex_beginning checking rinex_open totals_of check_takes
 check-takes = record {
   first = λ items line other good. false-true good;
-  next = λ items lines line so_far opens good.
-      step-takes checking totals_of printed_after no_choices items (lines ++ Content line ∷ [])
-      check_takes (length lines) (after-first check_takes (λ count is_whole. refl) items lines so_far opens)
-      (epoch_step so_far (Content line)) (fine-row so_far (next_row so_far line) good)
-      (check-carried_out.continues items lines (Content line) so_far opens);
+  next = λ items lines line so_far opens good. step-takes checking totals_of printed_after no_choices items
+      (lines ++ Content line ∷ []) check_takes (length lines) (after-first check_takes
+      (λ count is_whole. refl) items lines so_far opens) (epoch_step so_far (Content line)) (fine-row so_far
+      (next_row so_far line) good) (check-carried_out.continues items lines (Content line) so_far opens);
 }
 
 -- ---- where memory may run out
 
 pub compaction-allowed : (choices : Choices) (lines : List ReadLine) (line : ReadLine)
-    → takes_memory compaction (compaction_seen choices lines) line ≡ true
-    → memory_allowed rinex_place compaction_takes choices.skip (rinex_reading choices.skip lines) line
-    ≡ Some []
+    → takes_memory compaction (compaction_seen choices lines) line ≡ true → memory_allowed
+    rinex_place compaction_takes choices.skip (rinex_reading choices.skip lines) line ≡ Some []
 compaction-allowed choices lines line e =
-    let r : Reading Epoch = rinex_reading choices.skip lines in
+    let r = rinex_reading choices.skip lines in
     allowed-first (compaction-carried_out choices) (compaction-takes choices) r.items r.stop (length lines)
     line
     (reading-stopped rinex_place rinex-forward choices.skip [] 1 (length lines + 1) lines (omega arith)) e
 
-pub compaction-allowed-again : (choices : Choices) (lines : List ReadLine) (line : ReadLine)
-    (next : Seen OpenEpoch Written) (notice : At)
-    → record { answer = Notice notice true; handed_out = []; next = next }
-    ≡ seen_next compaction (compaction_seen choices lines) line → takes_memory compaction next line ≡ true
-    → memory_allowed rinex_place compaction_takes choices.skip (rinex_reading choices.skip lines) line
-    ≡ Some (notice ∷ [])
+pub compaction-allowed-again : (choices : Choices)
+    (lines : List ReadLine) (line : ReadLine) (next : Seen OpenEpoch Written) (notice : At)
+    → record { answer = Notice notice true; handed_out = []; next = next } ≡ seen_next compaction
+    (compaction_seen choices lines) line → takes_memory compaction next line ≡ true → memory_allowed
+    rinex_place compaction_takes choices.skip (rinex_reading choices.skip lines) line ≡ Some (notice ∷ [])
 compaction-allowed-again choices lines line next notice step e =
-    let r : Reading Epoch = rinex_reading choices.skip lines in
+    let r = rinex_reading choices.skip lines in
     allowed-again (compaction-carried_out choices) (compaction-takes choices) r.items r.stop (length lines)
     line next notice (reading-stopped rinex_place rinex-forward choices.skip [] 1 (length lines + 1) lines
     (omega arith)) step e
 
-pub check-allowed : (lines : List ReadLine) (line : ReadLine)
-    → takes_memory checking (seen_of checking rinex_open totals_of no_choices (length lines)
-    (rinex_reading false lines)) line ≡ true
+pub check-allowed : (lines : List ReadLine) (line : ReadLine) → takes_memory checking
+    (seen_of checking rinex_open totals_of no_choices (length lines) (rinex_reading false lines)) line ≡ true
     → memory_allowed rinex_place check_takes false (rinex_reading false lines) line ≡ Some []
 check-allowed lines line e =
-    let r : Reading Epoch = rinex_reading false lines in
+    let r = rinex_reading false lines in
     allowed-first check-carried_out check-takes r.items r.stop (length lines) line
     (reading-stopped rinex_place rinex-forward false [] 1 (length lines + 1) lines (omega arith)) e

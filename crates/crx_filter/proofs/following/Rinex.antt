@@ -44,9 +44,8 @@ module _ {K : Type 0} {direction : Direction Epoch OpenEpoch K} {kept_of : List 
       (1, epoch_of so_far, place, s.same items (Content content ∷ []) (epoch_of so_far) 1 place)
   agree-when items content so_far (suc wanted) place opens = (so_far, refl, place, opens)
 
-  agree-beginning : (items : List (Item Epoch)) (content : List ℕ) (b : Result Beginning Fault)
-      → beginning_of content ≡ b
-      → Agrees items (Content content ∷ []) (made_of_beginning (types_in_force items) b)
+  agree-beginning : (items : List (Item Epoch)) (content : List ℕ) (b : Result Beginning Fault) → beginning_of
+      content ≡ b → Agrees items (Content content ∷ []) (made_of_beginning (types_in_force items) b)
   agree-beginning items content (Err fault) e = (0, rw e refl)
   agree-beginning items content (Ok (EventBegins line)) e = (1, rw e refl, refl)
   agree-beginning items content (Ok (EpochBegins head)) e = agree-when items content

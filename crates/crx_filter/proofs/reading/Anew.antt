@@ -21,12 +21,10 @@ use Rattle.crx_filter.proofs.reading.ForwardCompact.{compact_beginning}
 
 -- ---- the types after a record
 
-record-types : (items : List (Item ReadEpoch)) (line : List ℕ)
-    → types_in_force (Accepted (EventRecord line) ∷ items)
-    ≡ cond (records_count_types items) (with_line (types_in_force items) line) (types_in_force items)
+record-types : (items : List (Item ReadEpoch)) (line : List ℕ) → types_in_force (Accepted (EventRecord line)
+    ∷ items) ≡ cond (records_count_types items) (with_line (types_in_force items) line) (types_in_force items)
 record-types items line = by_bool (records_count_types items)
-    (λ on. rw on (types_of-push (declaring_lines items) line))
-    (λ off. rw off refl)
+    (λ on. rw on (types_of-push (declaring_lines items) line)) (λ off. rw off refl)
 
 -- ---- two lists of items that are alike
 
@@ -71,8 +69,7 @@ same-unit a b unit f h = record { alike = alike-unit a b unit f h.alike; block =
     block-same (HeaderLine line) f = absurd f
     block-same (EventLine line) f = h.block
     block-same (EventRecord line) f = by_bool (empties_state (records_count_types b) line)
-        (λ on. rw (h.alike.counts f, on) refl)
-        (λ off. rw (h.alike.counts f, off) h.block)
+        (λ on. rw (h.alike.counts f, on) refl) (λ off. rw (h.alike.counts f, off) h.block)
     block-same (Observation read) f = rw h.block refl
 
 same-warned : (a b : List (Item ReadEpoch)) (at : At) → AreAlike a b → AreSame (Warned at ∷ a) (Warned at ∷ b)
@@ -127,9 +124,8 @@ epoch-follows items p = tt
 
 begun-follows : (items : List (Item ReadEpoch)) (types : List Count) (raws : List RawEpoch)
     (lines : List ReadLine) → OfHere (MayFollow items) (compact_epoch_place types raws lines)
-begun-follows items types raws lines =
-    of-compact (OfHere (MayFollow items)) types raws lines tt tt (λ line rest e. tt)
-    (epoch-follows items (epoch_at types raws lines))
+begun-follows items types raws lines = of-compact (OfHere (MayFollow items)) types raws lines tt tt
+    (λ line rest e. tt) (epoch-follows items (epoch_at types raws lines))
 
 unit-follows : (items : List (Item ReadEpoch)) (lines : List ReadLine) → header_has_ended items ≡ true
     → (n : ℕ) → records_left items ≡ n → OfHere (MayFollow items) (compact_place items lines)
@@ -160,14 +156,12 @@ stopped : {a b : List (Item ReadEpoch)} (stop : Stop)
     → GoOnAlike a b (record { items = a; stop = stop }) (record { items = b; stop = stop })
 stopped stop = record { more = []; stop = stop; first = refl; second = refl }
 
-looked : (a b : List (Item ReadEpoch)) (one two : ℕ
-    → List ReadLine → Reading ReadEpoch) (number : ℕ) (lines : List ReadLine)
-    → ((n : ℕ) (ls : List ReadLine) → GoOnAlike a b (one n ls) (two n ls))
+looked : (a b : List (Item ReadEpoch)) (one two : ℕ → List ReadLine → Reading ReadEpoch) (number : ℕ)
+    (lines : List ReadLine) → ((n : ℕ) (ls : List ReadLine) → GoOnAlike a b (one n ls) (two n ls))
     → GoOnAlike a b (looked_for one a number lines) (looked_for two b number lines)
 looked a b one two number [] h = stopped (Looking number)
-looked a b one two number (line ∷ lines) h = by_bool (can_go_on line)
-    (λ on. rw (on, looked_for) (h number (line ∷ lines)))
-    (λ off. rw (off, looked_for) (looked a b one two (number + 1) lines h))
+looked a b one two number (line ∷ lines) h = by_bool (can_go_on line) (λ on. rw (on, looked_for)
+    (h number (line ∷ lines))) (λ off. rw (off, looked_for) (looked a b one two (number + 1) lines h))
 
 -- after the one and the other items, so many units are read alike
 abbrev ReadAlike : Bool → ℕ → List (Item ReadEpoch) → List (Item ReadEpoch) → ℕ → List ReadLine → Type 0
@@ -176,11 +170,10 @@ ReadAlike skip units a b number lines = GoOnAlike a b (reading_within compact_pl
 
 -- one step: what is there is the same, and what is read after it goes on alike
 one-step : (skip : Bool) (units : ℕ) (a b : List (Item ReadEpoch)) (number : ℕ) (lines : List ReadLine)
-    → AreAlike a b → compact_place a lines ≡ compact_place b lines
-    → ((unit : FileUnit ReadEpoch) (count : ℕ) → compact_place a lines ≡ Here unit count
-    → ReadAlike skip units (Accepted unit ∷ a) (Accepted unit ∷ b) (number + count) (drop count lines))
-    → ((at : At) (n : ℕ) (ls : List ReadLine) → ReadAlike skip units (Warned at ∷ a) (Warned at ∷ b) n ls)
-    → ReadAlike skip (suc units) a b number lines
+    → AreAlike a b → compact_place a lines ≡ compact_place b lines → ((unit : FileUnit ReadEpoch) (count : ℕ)
+    → compact_place a lines ≡ Here unit count → ReadAlike skip units (Accepted unit ∷ a)
+    (Accepted unit ∷ b) (number + count) (drop count lines)) → ((at : At) (n : ℕ) (ls : List ReadLine)
+    → ReadAlike skip units (Warned at ∷ a) (Warned at ∷ b) n ls) → ReadAlike skip (suc units) a b number lines
 one-step skip units a b number lines h same next warned = by_place (compact_place a lines)
     (λ unit count e. rw (e, sym same ∙ e, reading_within) (onto (next unit count e)))
     (λ offset fault e. by_bool (is_skipped skip a fault) (λ on.
@@ -196,20 +189,18 @@ one-step skip units a b number lines h same next warned = by_place (compact_plac
 reads-same : (skip : Bool) (units : ℕ) (a b : List (Item ReadEpoch)) (number : ℕ) (lines : List ReadLine)
     → AreSame a b → ReadAlike skip units a b number lines
 reads-same skip zero a b number lines h = stopped (AtLines number lines)
-reads-same skip (suc units) a b number lines h =
-    one-step skip units a b number lines h.alike (place-same a b lines h (records_left a) refl)
-    (λ unit count e. reads-same skip units (Accepted unit ∷ a) (Accepted unit ∷ b) (number + count)
-    (drop count lines) (same-unit a b unit (subst (OfHere (MayFollow a)) e (unit-follows a lines h.alike.one
-    (records_left a) refl)) h))
+reads-same skip (suc units) a b number lines h = one-step skip units a b number lines h.alike
+    (place-same a b lines h (records_left a) refl) (λ unit count e. reads-same skip units
+    (Accepted unit ∷ a) (Accepted unit ∷ b) (number + count) (drop count lines) (same-unit a b unit
+    (subst (OfHere (MayFollow a)) e (unit-follows a lines h.alike.one (records_left a) refl)) h))
     (λ at n ls. reads-same skip units (Warned at ∷ a) (Warned at ∷ b) n ls (same-warned a b at h.alike))
 
 -- ---- where all starts anew
 
 -- so it is where all starts anew, of so many units
 abbrev IsAnew : Bool → ℕ → Type 0
-IsAnew skip units = (a b : List (Item ReadEpoch)) (number : ℕ) (lines : List ReadLine) (left : ℕ)
-    → AreAlike a b → records_left a ≡ left → starts_anew left lines ≡ true
-    → ReadAlike skip units a b number lines
+IsAnew skip units = (a b : List (Item ReadEpoch)) (number : ℕ) (lines : List ReadLine) (left : ℕ) → AreAlike
+    a b → records_left a ≡ left → starts_anew left lines ≡ true → ReadAlike skip units a b number lines
 
 module _ (skip : Bool) (units : ℕ) (ih : IsAnew skip units)
     (a b : List (Item ReadEpoch)) (h : AreAlike a b) (number : ℕ) where
@@ -243,26 +234,22 @@ module _ (skip : Bool) (units : ℕ) (ih : IsAnew skip units)
       ∷ b) (number + 1) lines left (alike-unit _ _ _ (omega (arith, e)) h) (omega (arith, e)) anew
   anew-record line lines left (Some fault) e anew = tt
 
-  anew-event : (line : List ℕ) (lines : List ReadLine) (o : Option ℕ)
-      → records_in line ≡ o → starts_anew (records_announced line) lines ≡ true
-      → Next (Content line ∷ lines) (one_line (event_line line))
+  anew-event : (line : List ℕ) (lines : List ReadLine) (o : Option ℕ) → records_in line ≡ o → starts_anew
+      (records_announced line) lines ≡ true → Next (Content line ∷ lines) (one_line (event_line line))
   anew-event line lines None is anew = rw (is, event_line) tt
   anew-event line lines (Some n) is anew =
-      let next = ih (Accepted (EventLine line) ∷ a) (Accepted (EventLine line) ∷ b) (number + 1) lines
-      (records_announced line) (alike-unit a b (EventLine line) tt h) refl anew in
-      rw (is, event_line) next
+      rw (is, event_line) (ih (Accepted (EventLine line) ∷ a) (Accepted (EventLine line) ∷ b)
+      (number + 1) lines (records_announced line) (alike-unit a b (EventLine line) tt h) refl anew)
 
   anew-line : (line : List ℕ) (lines : List ReadLine) → records_left a ≡ 0 → begins_epoch line ≡ true
       → cond (is_event_line line) (starts_anew (records_announced line) lines) true ≡ true
       → ReadAlike skip (suc units) a b number (Content line ∷ lines)
   anew-line line lines e begins anew =
-      let all : List ReadLine = Content line ∷ lines in
-      let one : compact_place a all ≡ compact_beginning a all = body-place compact_beginning a all h.one e in
-      let two : compact_place b all ≡ compact_beginning b all =
-      body-place compact_beginning b all h.two (sym h.left ∙ e) in
-      by_bool (is_event_line line)
-      (λ on. alike-step all (one_line (event_line line)) (one ∙ rw on refl) (two ∙ rw on refl)
-      (anew-event line lines (records_in line) refl (rw on at anew)))
+      let all = Content line ∷ lines in
+      let one = body-place compact_beginning a all h.one e in
+      let two = body-place compact_beginning b all h.two (sym h.left ∙ e) in
+      by_bool (is_event_line line) (λ on. alike-step all (one_line (event_line line))
+      (one ∙ rw on refl) (two ∙ rw on refl) (anew-event line lines (records_in line) refl (rw on at anew)))
       (λ off. alike-step all (as_observation (epoch_at (types_in_force a) [] all))
       (one ∙ rw (off, (forgets (types_in_force a) (raws_kept a) line lines begins).place) refl)
       (two ∙ rw (off, (forgets (types_in_force b) (raws_kept b) line lines begins).place, h.types) refl)
@@ -270,18 +257,15 @@ module _ (skip : Bool) (units : ℕ) (ih : IsAnew skip units)
 
   anew-step : (lines : List ReadLine) (left : ℕ) → records_left a ≡ left → starts_anew left lines ≡ true
       → ReadAlike skip (suc units) a b number lines
-  anew-step [] zero e anew = alike-step [] Wanted
-      (body-place compact_beginning a [] h.one e) (body-place compact_beginning b [] h.two
-      (sym h.left ∙ e)) tt
+  anew-step [] zero e anew = alike-step [] Wanted (body-place compact_beginning a [] h.one e)
+      (body-place compact_beginning b [] h.two (sym h.left ∙ e)) tt
   anew-step (Overlong ∷ lines) zero e anew = absurd (cc)
   anew-step (Content line ∷ lines) zero e anew =
       let both = and_parts (begins_epoch line) _ anew in
       anew-line line lines e both.0 both.1
-  anew-step lines (suc left) e anew =
-      alike-step lines (first_line lines (event_record (records_count_types a)))
-      (record-place compact_beginning a left lines h.one e)
-      (sym (event-same a b left lines h e) ∙ record-place compact_beginning a left lines h.one e)
-      (next lines anew)
+  anew-step lines (suc left) e anew = alike-step lines (first_line lines
+      (event_record (records_count_types a))) (record-place compact_beginning a left lines h.one e) (sym
+      (event-same a b left lines h e) ∙ record-place compact_beginning a left lines h.one e) (next lines anew)
     where
       next : (lines : List ReadLine) → starts_anew (suc left) lines ≡ true
           → Next lines (first_line lines (event_record (records_count_types a)))

@@ -24,9 +24,8 @@ pub whole-at : (skip : Bool) (lines : List ReadLine) (two : List (List ℕ)) (co
     (drop count lines)
 whole-at skip lines two count e = rw (e, whole_compact) refl
 
-reading-more : (skip : Bool) (lines more : List ReadLine) (p : Place (List (List ℕ)))
-    → first_lines lines ≡ p → AreMore (compact_reading skip lines).items
-    (compact_reading skip (lines ++ more)).items
+reading-more : (skip : Bool) (lines more : List ReadLine) (p : Place (List (List ℕ))) → first_lines lines ≡ p
+    → AreMore (compact_reading skip lines).items (compact_reading skip (lines ++ more)).items
 reading-more skip lines more (Here two count) e =
     let h = remains lines more (Here two count) e in
     let same : drop count (lines ++ more) ≡ drop count lines ++ more = drop-append-le count lines more h.0 in
@@ -34,9 +33,8 @@ reading-more skip lines more (Here two count) e =
     (reading-items compact_place compact-forward skip (count + 1) (drop count lines) more)
 reading-more skip lines more p e = rw (e, compact_reading) (from-none _)
 
-pub whole-more : (skip : Bool) (lines more : List ReadLine) (p : Place (List (List ℕ)))
-    → first_lines lines ≡ p → AreMore (compact_reading skip lines).items
-    (whole_compact skip (lines ++ more)).items
+pub whole-more : (skip : Bool) (lines more : List ReadLine) (p : Place (List (List ℕ))) → first_lines lines
+    ≡ p → AreMore (compact_reading skip lines).items (whole_compact skip (lines ++ more)).items
 whole-more skip lines more (Here two count) e =
     let h = remains lines more (Here two count) e in
     let same : drop count (lines ++ more) ≡ drop count lines ++ more = drop-append-le count lines more h.0 in

@@ -18,31 +18,28 @@ use Rattle.crx_filter.proofs.reading.Ending.{next-end}
 
 pub compaction-ended : (choices : Choices) (lines : List ReadLine) → IsCompactionEnded choices lines
 compaction-ended choices lines =
-    let r : Reading Epoch = rinex_reading choices.skip lines in
-    let stopped = reading-stopped rinex_place rinex-forward choices.skip [] 1 (length lines + 1) lines
-    (omega arith) in
+    let r = rinex_reading choices.skip lines in
     next-end _ compaction rinex_open (written_of choices.every)
-    (compact_unit choices) choices (compaction-carried_out choices) r.items r.stop (length lines) stopped
+    (compact_unit choices) choices (compaction-carried_out choices) r.items r.stop (length lines)
+    (reading-stopped rinex_place rinex-forward choices.skip [] 1 (length lines + 1) lines (omega arith))
 
 -- the whole reading of compact text by what is at its first two lines
 abbrev whole_by : Bool → List ReadLine → Place (List (List ℕ)) → WholeReading ReadEpoch
-whole_by skip lines p =
-    elim p [
-      | Here two count ↦ ended_reading skip (reading_from compact_place skip [] (count + 1)
-          (drop count lines))
-      | Wrong offset fault ↦ record { items = []; fault = Some (record { line = offset + 1; fault = fault }) }
-      | Wanted ↦ record {
-        items = [];
-        fault = Some (record { line = length lines + 1; fault = fault_in_first_lines (length lines) });
-      }
-    ]
+whole_by skip lines p = elim p [
+  | Here two count ↦ ended_reading skip (reading_from compact_place skip [] (count + 1)
+      (drop count lines))
+  | Wrong offset fault ↦ record { items = []; fault = Some (record { line = offset + 1; fault = fault }) }
+  | Wanted ↦ record {
+    items = [];
+    fault = Some (record { line = length lines + 1; fault = fault_in_first_lines (length lines) });
+  }
+]
 
 abbrev EndsBy : Choices → List ReadLine → Place (List (List ℕ)) → Type 0
 EndsBy choices lines p = IsEndedBy (expanded_lines (reading_by choices.skip lines p).items)
     (expanded_lines (whole_by choices.skip lines p).items)
-    (warnings_in (reading_by choices.skip lines p).items)
-    (warnings_in (whole_by choices.skip lines p).items) (whole_by choices.skip lines p).fault
-    (seen_end expansion (seen_by choices lines p))
+    (warnings_in (reading_by choices.skip lines p).items) (warnings_in (whole_by choices.skip lines p).items)
+    (whole_by choices.skip lines p).fault (seen_end expansion (seen_by choices lines p))
 
 by-first_lines : (choices : Choices) (lines : List ReadLine) (p : Place (List (List ℕ)))
     → first_lines lines ≡ p → EndsBy choices lines p

@@ -22,12 +22,10 @@ EndsAs unit_lines items whole end = IsEndedBy (written_lines unit_lines items)
 
 -- where the phase means what the items mean
 ends-same : {E U O K : Type 0} (direction : Direction U O K) (unit_lines : List (Item E)
-    → FileUnit E → List (List ℕ)) (choices : Choices)
-    (items : List (Item E)) (count : ℕ) (phase : Phase O) (types : List Count) (kept : K)
-    (fault : Option Fault) → ((f : Fault) → is_skipped choices.skip items f ≡ is_skipped_in
-    (seen_in choices count phase types kept) f)
-    → EndsAs unit_lines items (ended_with choices.skip items (count + 1) fault)
-    (end_step direction (seen_in choices count phase types kept) fault)
+    → FileUnit E → List (List ℕ)) (choices : Choices) (items : List (Item E)) (count : ℕ) (phase : Phase O)
+    (types : List Count) (kept : K) (fault : Option Fault) → ((f : Fault) → is_skipped choices.skip items f
+    ≡ is_skipped_in (seen_in choices count phase types kept) f) → EndsAs unit_lines items (ended_with
+    choices.skip items (count + 1) fault) (end_step direction (seen_in choices count phase types kept) fault)
 ends-same direction unit_lines choices items count phase types kept None same =
     record { once = refl; handed_out = refl; written = refl; warned = refl; failed = refl }
 ends-same {E = E} {K = K} direction unit_lines choices items count phase types kept (Some fault) same =
@@ -38,8 +36,7 @@ ends-same {E = E} {K = K} direction unit_lines choices items count phase types k
       written = refl;
       warned = refl;
       failed = refl;
-    }))
-    (λ off. rw (same fault ∙ off, off)
+    })) (λ off. rw (same fault ∙ off, off)
     (record { once = refl; handed_out = refl; written = refl; warned = refl; failed = refl }))
 
 in-header : {E : Type 0} (items : List (Item E)) → header_has_ended items ≡ false
@@ -65,27 +62,27 @@ in-epoch [] line lines e = absurd (cc)
 in-epoch (item ∷ before) line lines e = refl
 
 -- the end where more lines are wanted
-lines-end : {E U O K : Type 0} (beginning : List (Item E) → List ReadLine
-    → Place (FileUnit E)) (direction : Direction U O K) (open_with : List (Item E) → List ReadLine → Option O)
-    (kept_of : List (Item E) → K) (unit_lines : List (Item E) → FileUnit E → List (List ℕ))
-    (choices : Choices) → IsCarriedOut beginning direction open_with kept_of unit_lines choices
-    → (items : List (Item E)) (number count : ℕ) (rest : List ReadLine)
-    → unit_place beginning items rest ≡ Wanted → number + length rest ≡ count + 1
-    → (has_ended : Bool) → header_has_ended items ≡ has_ended
-    → (left : ℕ) → records_left items ≡ left → (so_far : Option O) → open_with items rest ≡ so_far
-    → EndsAs unit_lines items (ended_with choices.skip items (number + length rest) (fault_at_end items rest))
-    (seen_end direction (seen_in choices count (phase_after_items items (open_with items rest))
-    (types_in_force items) (kept_in direction (phase_after_items items (open_with items rest))
-    (kept_of items))))
+lines-end : {E U O K : Type 0} (beginning : List (Item E) → List ReadLine → Place (FileUnit E))
+    (direction : Direction U O K) (open_with : List (Item E) → List ReadLine → Option O) (kept_of : List
+    (Item E) → K) (unit_lines : List (Item E) → FileUnit E → List (List ℕ)) (choices : Choices)
+    → IsCarriedOut beginning direction open_with kept_of unit_lines choices → (items : List (Item E))
+    (number count : ℕ) (rest : List ReadLine) → unit_place beginning items rest ≡ Wanted
+    → number + length rest ≡ count + 1 → (has_ended : Bool) → header_has_ended items ≡ has_ended → (left : ℕ)
+    → records_left items ≡ left → (so_far : Option O) → open_with items rest ≡ so_far → EndsAs unit_lines
+    items (ended_with choices.skip items (number + length rest) (fault_at_end items rest)) (seen_end direction
+    (seen_in choices count (phase_after_items items (open_with items rest)) (types_in_force items)
+    (kept_in direction (phase_after_items items (open_with items rest)) (kept_of items))))
 lines-end {E = E} {O = O} beginning direction open_with kept_of unit_lines choices h items number count rest
     wanted counted false in_header left e_left so_far e_open =
-    let none : rest ≡ [] = only_none (header_line {E = E} (is_at_start items)) rest
-    (sym (at_header rest in_header) ∙ wanted) in
     let phase : phase_after_items items (open_with items rest) ≡ InHeader (is_at_start items) = rw in_header
     refl in
-    rw (phase, ap (λ ls. fault_at_end items ls) none ∙ in-header items in_header, counted)
-    (ends-same direction unit_lines choices items count (InHeader (is_at_start items)) (types_in_force items)
-    (kept_of items) (Some (cond (is_at_start items) MissingVersion NoEndOfHeader))
+    rw (
+      phase,
+      ap (λ ls. fault_at_end items ls) (only_none (header_line {E = E} (is_at_start items)) rest
+          (sym (at_header rest in_header) ∙ wanted)) ∙ in-header items in_header,
+      counted,
+    ) (ends-same direction unit_lines choices items count (InHeader (is_at_start items))
+    (types_in_force items) (kept_of items) (Some (cond (is_at_start items) MissingVersion NoEndOfHeader))
     (λ f. rw in_header (never-before choices.skip ((records_left items == 0) && is_skippable f))
     ∙ sym (never-before choices.skip (is_skippable f))))
   where
@@ -94,48 +91,46 @@ lines-end {E = E} {O = O} beginning direction open_with kept_of unit_lines choic
     at_header ls e = rw e refl
 lines-end {O = O} beginning direction open_with kept_of unit_lines choices h items number count rest wanted
     counted true has_ended (suc left) e_left so_far e_open =
-    let none : rest ≡ [] = only_none (event_record (records_count_types items)) rest
-    (sym (record-place beginning items left rest has_ended e_left) ∙ wanted) in
     let phase : phase_after_items items (open_with items rest) ≡ InEvent (suc left)
     (records_count_types items) = rw (has_ended, e_left) refl in
-    rw (phase, ap (λ ls. fault_at_end items ls) none ∙ in-event items left has_ended e_left, counted)
-    (ends-same direction unit_lines choices items count (InEvent (suc left) (records_count_types items))
-    (types_in_force items) (kept_of items) (Some Truncated)
-    (λ f. rw (has_ended, e_left) (never-in-event choices.skip left (is_skippable f))
-    ∙ sym (never-before choices.skip (is_skippable f))))
-lines-end {O = O} beginning direction open_with kept_of unit_lines choices h items number count rest wanted
-    counted true has_ended zero e_left None e_open =
-    let none : rest ≡ [] = h.wanted_open items rest (sym (body-place beginning items rest has_ended e_left)
-    ∙ wanted) e_open in
-    let phase : phase_after_items items (open_with items rest) ≡ BetweenUnits = body-phase items
-    (open_with items rest) has_ended e_left ∙ ap (λ o. phase_in_body 0 (records_count_types items) o) e_open
-    in
-    rw (phase, ap (λ ls. fault_at_end items ls) none ∙ closes-well items has_ended e_left)
-    (ends-same direction unit_lines choices items count BetweenUnits (types_in_force items) (kept_of items)
-    None
-    (λ f. skipped-same {O = O} choices count BetweenUnits (types_in_force items) (kept_of items) items f
-    has_ended e_left refl))
+    rw (
+      phase,
+      ap (λ ls. fault_at_end items ls) (only_none (event_record (records_count_types items)) rest
+          (sym (record-place beginning items left rest has_ended e_left) ∙ wanted))
+          ∙ in-event items left has_ended e_left,
+      counted,
+    ) (ends-same direction unit_lines choices items count (InEvent (suc left) (records_count_types items))
+    (types_in_force items) (kept_of items) (Some Truncated) (λ f. rw (has_ended, e_left) (never-in-event
+    choices.skip left (is_skippable f)) ∙ sym (never-before choices.skip (is_skippable f))))
+lines-end {O = O} beginning direction open_with kept_of
+    unit_lines choices h items number count rest wanted counted true has_ended zero e_left None e_open = rw (
+      body-phase items (open_with items rest) has_ended e_left
+          ∙ ap (λ o. phase_in_body 0 (records_count_types items) o) e_open,
+      ap (λ ls. fault_at_end items ls) (h.wanted_open items rest (sym (body-place
+          beginning items rest has_ended e_left) ∙ wanted) e_open) ∙ closes-well items has_ended e_left,
+    ) (ends-same direction unit_lines choices items count BetweenUnits
+    (types_in_force items) (kept_of items) None (λ f. skipped-same {O = O} choices count BetweenUnits
+    (types_in_force items) (kept_of items) items f has_ended e_left refl))
 lines-end {O = O} beginning direction open_with kept_of unit_lines choices h items number count [] wanted
     counted true has_ended zero e_left (Some so_far) e_open = absurd (none-some so_far
     (sym (h.none_open items) ∙ e_open))
-lines-end {O = O} beginning direction open_with kept_of unit_lines choices h items number count (first ∷ rest)
-    wanted counted true has_ended zero e_left (Some so_far) e_open =
-    let phase : phase_after_items items (open_with items (first ∷ rest)) ≡ InEpoch so_far = body-phase items
-    (open_with items (first ∷ rest)) has_ended e_left ∙ ap (λ o. phase_in_body 0 (records_count_types items)
-    o) e_open in
-    rw (phase, in-epoch items first rest has_ended, counted) (ends-same direction unit_lines choices items
-    count (InEpoch so_far) (types_in_force items) (direction.kept_open (kept_of items)) (Some Truncated)
-    (λ f. skipped-same choices count (InEpoch so_far) (types_in_force items) (direction.kept_open
-    (kept_of items)) items f has_ended e_left refl))
+lines-end {O = O} beginning direction open_with kept_of unit_lines choices h items number count
+    (first ∷ rest) wanted counted true has_ended zero e_left (Some so_far) e_open = rw (
+      body-phase items (open_with items (first ∷ rest)) has_ended e_left
+          ∙ ap (λ o. phase_in_body 0 (records_count_types items) o) e_open,
+      in-epoch items first rest has_ended,
+      counted,
+    ) (ends-same direction unit_lines choices items count (InEpoch so_far) (types_in_force items)
+    (direction.kept_open (kept_of items)) (Some Truncated) (λ f. skipped-same choices count (InEpoch so_far)
+    (types_in_force items) (direction.kept_open (kept_of items)) items f has_ended e_left refl))
 
-pub next-end : {E U O K : Type 0} (beginning : List (Item E) → List ReadLine
-    → Place (FileUnit E)) (direction : Direction U O K) (open_with : List (Item E) → List ReadLine → Option O)
-    (kept_of : List (Item E) → K) (unit_lines : List (Item E) → FileUnit E → List (List ℕ))
-    (choices : Choices) → IsCarriedOut beginning direction open_with kept_of unit_lines choices
-    → (items : List (Item E)) (stop : Stop) (count : ℕ) → IsStopped (unit_place beginning) items stop
-    (count + 1) → EndsAs unit_lines items (ended_reading choices.skip (record { items = items; stop = stop }))
-    (seen_end direction (seen_of direction open_with kept_of choices count
-    (record { items = items; stop = stop })))
+pub next-end : {E U O K : Type 0} (beginning : List (Item E) → List ReadLine → Place (FileUnit E))
+    (direction : Direction U O K) (open_with : List (Item E) → List ReadLine → Option O) (kept_of : List
+    (Item E) → K) (unit_lines : List (Item E) → FileUnit E → List (List ℕ)) (choices : Choices)
+    → IsCarriedOut beginning direction open_with kept_of unit_lines choices → (items : List (Item E))
+    (stop : Stop) (count : ℕ) → IsStopped (unit_place beginning) items stop (count + 1)
+    → EndsAs unit_lines items (ended_reading choices.skip (record { items = items; stop = stop })) (seen_end
+    direction (seen_of direction open_with kept_of choices count (record { items = items; stop = stop })))
 next-end beginning direction open_with kept_of unit_lines choices h items (AtLines number rest) count
     stopped = lines-end _ _ _ _ _ _ h _ _ _ _ stopped.0 stopped.1 _ refl _ refl _ refl
 next-end beginning direction open_with kept_of unit_lines choices h items stop count stopped =

@@ -51,9 +51,8 @@ module _ (test : Fault → Bool) where
   place-line (Ok x) a = tt
   place-line (Err fault) a = a
 
-  pub place-first : test LineTooLong ≡ true → {X : Type 0} (lines : List ReadLine)
-      (read : List ℕ → Result X Fault)
-      → ((line : List ℕ) → FaultsPass test (read line)) → FaultsPassAt test (first_line lines read)
+  pub place-first : test LineTooLong ≡ true → {X : Type 0} (lines : List ReadLine) (read : List ℕ → Result
+      X Fault) → ((line : List ℕ) → FaultsPass test (read line)) → FaultsPassAt test (first_line lines read)
   place-first long [] read a = tt
   place-first long (Overlong ∷ lines) read a = long
   place-first long (Content line ∷ lines) read a = place-line (read line) (a line)
@@ -134,10 +133,9 @@ named-skippable types earlier (name ∷ names) = before-skippable earlier name (
 counted-skippable : (types : List Count) (text : List ℕ) (count : Option ℕ)
     → IsSkippableResult (satellites_counted types text count)
 counted-skippable types text None = refl
-counted-skippable types text (Some count) =
-    chosen IsSkippableResult (not (list_all is_blank (drop (HEAD_WIDTH + NAME_WIDTH * count) text)))
-    (Err BadEpoch) (satellites_named types [] (names_in text count)) refl
-    (named-skippable types [] (names_in text count))
+counted-skippable types text (Some count) = chosen IsSkippableResult
+    (not (list_all is_blank (drop (HEAD_WIDTH + NAME_WIDTH * count) text))) (Err BadEpoch)
+    (satellites_named types [] (names_in text count)) refl (named-skippable types [] (names_in text count))
 
 -- an epoch line that was read, by what is given to its lines
 abbrev IsBegunWell : Result BegunEpoch Fault → Type 0
@@ -145,9 +143,8 @@ IsBegunWell (Ok begun) = IsSkippablePast begun.past
 IsBegunWell (Err fault) = is_skippable fault ≡ true
 
 begun-well : (line : List ℕ) (past : Past)
-    → IsSkippablePast past → (r : Result (List Satellite) Fault) → IsSkippableResult r
-    → IsBegunWell (and_then r
-    (λ satellites. Ok (record { line = line; past = past; satellites = satellites })))
+    → IsSkippablePast past → (r : Result (List Satellite) Fault) → IsSkippableResult r → IsBegunWell
+    (and_then r (λ satellites. Ok (record { line = line; past = past; satellites = satellites })))
 begun-well line past h (Ok satellites) a = h
 begun-well line past h (Err fault) a = a
 
@@ -171,21 +168,18 @@ clock_line-skippable past h line = chosen IsSkippableResult (begins_epoch line) 
     (cell_read BadClock past.clock (code_of (without_end_blanks line)))
     refl (cell-skippable BadClock past.clock (code_of (without_end_blanks line)) refl h.clock)
 
-cells-skippable : (value : ℕ → Code → Result (Option ℤ) Fault) → ((place : ℕ) (c : Code)
-    → IsSkippableResult (value place c)) → (texts : List (List ℕ))
-    → IsSkippableResult (cells_read value texts)
+cells-skippable : (value : ℕ → Code → Result (Option ℤ) Fault) → ((place : ℕ) (c : Code) → IsSkippableResult
+    (value place c)) → (texts : List (List ℕ)) → IsSkippableResult (cells_read value texts)
 cells-skippable value h [] = tt
-cells-skippable value h (text ∷ texts) =
-    skippable-and_then (cell_read BadField (value 0) (code_of text)) (λ cell. before_all cell
-    (cells_read (λ place. value (suc place)) texts)) (cell-skippable BadField (value 0)
-    (code_of text) refl (h 0))
-    (λ cell. skippable-before cell (cells_read (λ place. value (suc place)) texts)
+cells-skippable value h (text ∷ texts) = skippable-and_then (cell_read BadField (value 0) (code_of text)) (λ
+    cell. before_all cell (cells_read (λ place. value (suc place)) texts)) (cell-skippable BadField (value 0)
+    (code_of text) refl (h 0)) (λ cell. skippable-before cell (cells_read (λ place. value (suc place)) texts)
     (cells-skippable (λ place. value (suc place)) (λ place c. h (suc place) c) texts))
 
 row_line-skippable : (past : Past) → IsSkippablePast past
     → (satellite : Satellite) (line : List ℕ) → IsSkippableResult (satellite_line_read past satellite line)
 row_line-skippable past h satellite line =
-    let marks : List ℕ = after_cells satellite.count line in
+    let marks = after_cells satellite.count line in
     chosen IsSkippableResult (begins_epoch line) (Err Truncated) (row_of_line past satellite line) refl
     (skippable-and_then (cells_read (past.value satellite.name) (cells_of satellite.count line))
     (λ cells. row_with_marks past satellite marks cells)
@@ -197,9 +191,8 @@ rows_read-skippable : (past : Past) → IsSkippablePast past
     → (satellites : List Satellite) (lines : List ReadLine) → IsSkippableAt (rows_read past satellites lines)
 rows_read-skippable past h [] lines = tt
 rows_read-skippable past h (satellite ∷ satellites) lines =
-    place-then is_skippable (first_line lines (satellite_line_read past satellite))
-    lines _ (place-first is_skippable refl lines
-    (satellite_line_read past satellite) (row_line-skippable past h satellite))
+    place-then is_skippable (first_line lines (satellite_line_read past satellite)) lines _ (place-first
+    is_skippable refl lines (satellite_line_read past satellite) (row_line-skippable past h satellite))
     (λ row others. place-then is_skippable (rows_read past satellites others) others
     (λ rows rest. Here (row ∷ rows) 0) (rows_read-skippable past h satellites others) (λ rows rest. tt))
 

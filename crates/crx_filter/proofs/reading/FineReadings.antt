@@ -18,31 +18,26 @@ IsFineStop stop = ⊤
 abbrev IsFinePlace : {E : Type 0} → (List (Item E) → List ReadLine → Place (FileUnit E)) → Type 0
 IsFinePlace {E = E} place = (items : List (Item E)) (lines : List ReadLine) → IsFineAt (place items lines)
 
-looked-fine : {E : Type 0} (items : List (Item E)) (read : ℕ
-    → List ReadLine → Reading E) (number : ℕ) (lines : List ReadLine)
-    → ((n : ℕ) (ls : List ReadLine) → IsFineStop (read n ls).stop)
+looked-fine : {E : Type 0} (items : List (Item E)) (read : ℕ → List ReadLine → Reading E)
+    (number : ℕ) (lines : List ReadLine) → ((n : ℕ) (ls : List ReadLine) → IsFineStop (read n ls).stop)
     → IsFineStop (looked_for read items number lines).stop
 looked-fine items read number [] k = tt
-looked-fine items read number (line ∷ lines) k = by_bool (can_go_on line)
-    (λ on. rw (on, looked_for) (k number (line ∷ lines)))
-    (λ off. rw (off, looked_for) (looked-fine items read (number + 1) lines k))
+looked-fine items read number (line ∷ lines) k = by_bool (can_go_on line) (λ on. rw (on, looked_for)
+    (k number (line ∷ lines))) (λ off. rw (off, looked_for) (looked-fine items read (number + 1) lines k))
 
 within-fine : {E : Type 0} (place : List (Item E) → List ReadLine → Place (FileUnit E))
     → IsFinePlace place → (skip : Bool) (units : ℕ) (items : List (Item E)) (number : ℕ)
     (lines : List ReadLine) → IsFineStop (reading_within place skip units items number lines).stop
 within-fine place h skip zero items number lines = tt
 within-fine place h skip (suc units) items number lines = by_place (place items lines)
-    (λ unit count e. rw (within-here place skip units items number lines unit count e)
-    (within-fine place h skip units (Accepted unit ∷ items) (number + count) (drop count lines)))
-    (λ offset fault e.
+    (λ unit count e. rw (within-here place skip units items number lines unit count e) (within-fine
+    place h skip units (Accepted unit ∷ items) (number + count) (drop count lines))) (λ offset fault e.
     let at : At = record { line = number + offset; fault = fault } in
-    rw (within-wrong place skip units items number lines offset fault e) (by_bool (is_skipped skip items
-    fault)
-    (λ on. rw (on, after_fault) (looked-fine (Warned at ∷ items) (reading_within place skip units
-    (Warned at ∷ items)) (number + max offset 1) (drop (max offset 1) lines)
-    (λ n ls. within-fine place h skip units (Warned at ∷ items) n ls)))
-    (λ off. rw (off, after_fault) (subst (λ (p : Place _). IsFineAt p) e (h items lines)))))
-    (λ e. rw (within-wanted place skip units items number lines e) tt)
+    rw (within-wrong place skip units items number lines offset fault e) (by_bool (is_skipped skip
+    items fault) (λ on. rw (on, after_fault) (looked-fine (Warned at ∷ items) (reading_within place skip units
+    (Warned at ∷ items)) (number + max offset 1) (drop (max offset 1) lines) (λ n ls. within-fine place h skip
+    units (Warned at ∷ items) n ls))) (λ off. rw (off, after_fault) (subst (λ (p : Place _). IsFineAt p) e
+    (h items lines))))) (λ e. rw (within-wanted place skip units items number lines e) tt)
 
 from-fine : {E : Type 0} (place : List (Item E) → List ReadLine → Place (FileUnit E)) → IsFinePlace place
     → (skip : Bool) (number : ℕ) (lines : List ReadLine)
@@ -58,10 +53,9 @@ IsFineEnd (Some at) = is_of_lines at.fault ≡ true
 at_end-fine : {E : Type 0} (items : List (Item E)) (lines : List ReadLine)
     → IsFineFault (fault_at_end items lines)
 at_end-fine [] lines = refl
-at_end-fine (item ∷ before) [] = by_bool (not (header_has_ended (item ∷ before)))
-    (λ on. rw on refl)
-    (λ off. by_bool (nat_lt 0 (records_left (item ∷ before))) (λ more. rw (off, more) refl)
-    (λ none. rw (off, none) tt))
+at_end-fine (item ∷ before) [] =
+    by_bool (not (header_has_ended (item ∷ before))) (λ on. rw on refl) (λ off. by_bool
+    (nat_lt 0 (records_left (item ∷ before))) (λ more. rw (off, more) refl) (λ none. rw (off, none) tt))
 at_end-fine (item ∷ before) (line ∷ lines) = refl
 
 with-fine : {E : Type 0} (skip : Bool) (items : List (Item E)) (number : ℕ) (fault : Option Fault)
@@ -81,7 +75,7 @@ whole-fine : {E : Type 0} (place : List (Item E) → List ReadLine → Place (Fi
     → (skip : Bool) (number : ℕ) (lines : List ReadLine)
     → IsFineEnd (whole_reading place skip number lines).fault
 whole-fine place h skip number lines =
-    let r : Reading _ = reading_from place skip [] number lines in
+    let r = reading_from place skip [] number lines in
     ended-fine skip r.items r.stop (from-fine place h skip number lines)
 
 -- ---- both directions
@@ -90,14 +84,14 @@ of-stop : (stop : Stop) (at : At) → IsFineStop stop → fault_of_stop stop
     ≡ Some at → is_of_lines at.fault ≡ true
 of-stop (AtFault fault) at h e =
     let same : fault ≡ at = cc in
-    subst (λ (a : At). is_of_lines a.fault ≡ true) same h
+    rw (← same) h
 of-stop stop at h e = absurd (cc)
 
 of-end : (o : Option At) (at : At) → IsFineEnd o → o ≡ Some at → is_of_lines at.fault ≡ true
 of-end None at h e = absurd (cc)
 of-end (Some fault) at h e =
     let same : fault ≡ at = cc in
-    subst (λ (a : At). is_of_lines a.fault ≡ true) same h
+    rw (← same) h
 
 pub rinex-found : (skip : Bool) (lines : List ReadLine) (at : At)
     → fault_of_stop (rinex_reading skip lines).stop ≡ Some at → is_of_lines at.fault ≡ true

@@ -26,16 +26,13 @@ pub unit_place-forward : {E : Type 0} (beginning : List (Item E) → List ReadLi
     → ((items : List (Item E)) → IsSteady (beginning items))
     → ((items : List (Item E)) → beginning items [] ≡ Wanted) → IsReadForward (unit_place beginning)
 unit_place-forward beginning steady wants = record {
-  steady = λ items.
-      chosen_steady (not (header_has_ended items)) (λ lines. first_line lines
-      (header_line (is_at_start items)))
-      (λ lines. cond (nat_lt 0 (records_left items))
-      (first_line lines (event_record (records_count_types items))) (beginning items lines))
-      (steady-first_line (header_line (is_at_start items))) (chosen_steady (nat_lt 0 (records_left items))
-      (λ lines. first_line lines (event_record (records_count_types items))) (beginning items)
-      (steady-first_line (event_record (records_count_types items))) (steady items));
-  wants = λ items.
-      chosen_wanted (not (header_has_ended items)) Wanted
+  steady = λ items. chosen_steady (not (header_has_ended items))
+      (λ lines. first_line lines (header_line (is_at_start items))) (λ lines. cond
+      (nat_lt 0 (records_left items)) (first_line lines (event_record (records_count_types items)))
+      (beginning items lines)) (steady-first_line (header_line (is_at_start items))) (chosen_steady
+      (nat_lt 0 (records_left items)) (λ lines. first_line lines (event_record (records_count_types items)))
+      (beginning items) (steady-first_line (event_record (records_count_types items))) (steady items));
+  wants = λ items. chosen_wanted (not (header_has_ended items)) Wanted
       (cond (nat_lt 0 (records_left items)) Wanted (beginning items [])) refl
       (chosen_wanted (nat_lt 0 (records_left items)) Wanted (beginning items []) refl (wants items));
 }

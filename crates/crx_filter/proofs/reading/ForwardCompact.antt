@@ -15,9 +15,8 @@ abbrev pub compact_beginning : List (Item ReadEpoch) → List ReadLine → Place
 compact_beginning items = compact_epoch_place (types_in_force items) (raws_kept items)
 
 pub steady-epoch_at : (types : List Count) (older : List RawEpoch) → IsSteady (epoch_at types older)
-steady-epoch_at types older =
-    steady-then (λ lines. first_line lines (λ line. epoch_begun types line (past_of_line older line)))
-    epoch_after_line
+steady-epoch_at types older = steady-then
+    (λ lines. first_line lines (λ line. epoch_begun types line (past_of_line older line))) epoch_after_line
     (steady-first_line (λ line. epoch_begun types line (past_of_line older line))) steady-after_line
 
 -- ---- where an epoch or an event may begin
@@ -43,21 +42,18 @@ line-remains count (Err fault) h = (omega (arith, h), refl)
 
 steady-compact : (types : List Count) (older : List RawEpoch) → IsSteady (compact_epoch_place types older)
 steady-compact types older [] [] = tt
-steady-compact types older [] (Overlong ∷ more) =
-    observation-decided 0 (epoch_at types older (Overlong ∷ more))
-    (steady-epoch_at types older [] (Overlong ∷ more))
+steady-compact types older [] (Overlong ∷ more) = observation-decided 0
+    (epoch_at types older (Overlong ∷ more)) (steady-epoch_at types older [] (Overlong ∷ more))
 steady-compact types older [] (Content line ∷ more) = by_bool (is_event_line line)
-    (λ on. rw on (line-decided (event_line {E = ReadEpoch} line)))
-    (λ off. rw off (observation-decided 0 (epoch_at types older (Content line ∷ more))
-    (steady-epoch_at types older [] (Content line ∷ more))))
+    (λ on. rw on (line-decided (event_line {E = ReadEpoch} line))) (λ off. rw off (observation-decided 0
+    (epoch_at types older (Content line ∷ more)) (steady-epoch_at types older [] (Content line ∷ more))))
 steady-compact types older (Overlong ∷ lines) more =
     observation-remains (length (Overlong ∷ lines)) (epoch_at types older (Overlong ∷ lines))
     (epoch_at types older (Overlong ∷ (lines ++ more))) (steady-epoch_at types older (Overlong ∷ lines) more)
 steady-compact types older (Content line ∷ lines) more = by_bool (is_event_line line)
-    (λ on. rw on (line-remains (suc (length lines)) (event_line {E = ReadEpoch} line) (omega arith)))
-    (λ off. rw off (observation-remains (suc (length lines)) (epoch_at types older (Content line ∷ lines))
-    (epoch_at types older (Content line ∷ (lines ++ more)))
-    (steady-epoch_at types older (Content line ∷ lines) more)))
+    (λ on. rw on (line-remains (suc (length lines)) (event_line {E = ReadEpoch} line) (omega arith))) (λ off.
+    rw off (observation-remains (suc (length lines)) (epoch_at types older (Content line ∷ lines)) (epoch_at
+    types older (Content line ∷ (lines ++ more))) (steady-epoch_at types older (Content line ∷ lines) more)))
 
 pub compact-forward : IsReadForward compact_place
 compact-forward = unit_place-forward _ (λ items. steady-compact _ _) (λ items. refl)
@@ -65,10 +61,8 @@ compact-forward = unit_place-forward _ (λ items. steady-compact _ _) (λ items.
 -- ---- the first two lines
 
 pub steady-first_lines : IsSteady first_lines
-steady-first_lines =
-    steady-then (λ lines. first_line lines crinex_version) (λ version others.
-    then_place (first_line others crinex_program) others (λ program rest. Here (version ∷ program ∷ []) 0))
-    (steady-first_line crinex_version)
-    (λ version. steady-then (λ lines. first_line lines crinex_program)
-    (λ program rest. Here (version ∷ program ∷ []) 0)
+steady-first_lines = steady-then (λ lines. first_line lines crinex_version) (λ version others. then_place
+    (first_line others crinex_program) others (λ program rest. Here (version ∷ program ∷ []) 0))
+    (steady-first_line crinex_version) (λ version. steady-then
+    (λ lines. first_line lines crinex_program) (λ program rest. Here (version ∷ program ∷ []) 0)
     (steady-first_line crinex_program) (λ program. steady-here (version ∷ program ∷ [])))

@@ -41,14 +41,12 @@ clock-begun line head count (Some clock) = tt
 epoch-begun : (line : List ℕ) (o : Option ℕ) → OfOk IsEventBegun (begun_by line (epoch_head line o))
 epoch-begun line None = tt
 epoch-begun line (Some count) = chosen (λ r. OfOk IsEventBegun (begun_by line r))
-    (not (list_all is_blank (drop (HEAD_WIDTH + CLOCK_WIDTH) line))) (Err BadEpoch)
-    (with_clock (columns line 1 HEAD_WIDTH) count (clock_of (columns line (HEAD_WIDTH + 1) CLOCK_WIDTH))) tt
-    (clock-begun line (columns line 1 HEAD_WIDTH) count
-    (clock_of (columns line (HEAD_WIDTH + 1) CLOCK_WIDTH)))
+    (not (list_all is_blank (drop (HEAD_WIDTH + CLOCK_WIDTH) line))) (Err BadEpoch) (with_clock
+    (columns line 1 HEAD_WIDTH) count (clock_of (columns line (HEAD_WIDTH + 1) CLOCK_WIDTH))) tt (clock-begun
+    line (columns line 1 HEAD_WIDTH) count (clock_of (columns line (HEAD_WIDTH + 1) CLOCK_WIDTH)))
 
 line-begun : (line : List ℕ) → OfOk IsEventBegun (beginning_of line)
-line-begun line = by_bool (begins_epoch line)
-    (λ on. by_bool (is_event_flag (character_at line 32))
+line-begun line = by_bool (begins_epoch line) (λ on. by_bool (is_event_flag (character_at line 32))
     (λ event. rw (on, event, head_of) (event-begun line (records_in line) (is_event on event) refl))
     (λ other. rw (on, other, head_of) (epoch-begun line (epoch_count (columns line 1 HEAD_WIDTH)))))
     (λ off. rw (off, head_of) tt)
@@ -72,9 +70,8 @@ unit-begun : (types : List Count) (r : Result Beginning Fault) (lines : List Rea
     → OfOk IsEventBegun r → OfHere IsBegun (then_place (one_line r) lines (unit_begun types))
 unit-begun types (Err fault) lines h = tt
 unit-begun types (Ok (EventBegins line)) lines h = h
-unit-begun types (Ok (EpochBegins head)) lines h =
-    after-here IsBegun 1 (unit_begun types (EpochBegins head) (drop 1 lines))
-    (observed (rest_at (opened types head) (drop 1 lines)) (drop 1 lines))
+unit-begun types (Ok (EpochBegins head)) lines h = after-here IsBegun 1 (unit_begun types
+    (EpochBegins head) (drop 1 lines)) (observed (rest_at (opened types head) (drop 1 lines)) (drop 1 lines))
 
 place-begun : (types : List Count) (lines : List ReadLine) → OfHere IsBegun (epoch_place types lines)
 place-begun types [] = tt
@@ -87,9 +84,8 @@ begun-in_place : (before : List (Item Epoch)) (unit : FileUnit Epoch) (lines : L
     → header_has_ended before ≡ true → records_left before ≡ 0
     → epoch_place (types_in_force before) lines ≡ Here unit count → IsBegun unit → IsInPlace before unit
 begun-in_place before (EventLine line) lines count ended none e h = (ended, none, h.0, h.1)
-begun-in_place before (Observation epoch) lines count ended none e h = let whole =
-    sound-epoch_place (types_in_force before) lines epoch count (counts-in_force before) e in
-    (ended, none, whole.0)
+begun-in_place before (Observation epoch) lines count ended none e h =
+    (ended, none, (sound-epoch_place (types_in_force before) lines epoch count (counts-in_force before) e).0)
 begun-in_place before unit lines count ended none e h = absurd h
 
 in-body : (before : List (Item Epoch)) (unit : FileUnit Epoch) (lines : List ReadLine) (count : ℕ)
@@ -106,10 +102,9 @@ in-body before unit lines count e ended (suc left) some = rw (sym (record-place 
 
 in-header : (before : List (Item Epoch)) (unit : FileUnit Epoch) (lines : List ReadLine) (count : ℕ)
     → rinex_place before lines ≡ Here unit count → header_has_ended before ≡ false → IsInPlace before unit
-in-header before unit lines count e open_header = rw (sym (at_header lines open_header)
-    ∙ e) at (first-line (IsInPlace before) (header_line (is_at_start before)) lines
-    (λ line. unless-wrong (IsInPlace before) (HeaderLine line) (header_line_fault (is_at_start before) line)
-    (λ good. (open_header, good))))
+in-header before unit lines count e open_header = rw (sym (at_header lines open_header) ∙ e) at (first-line
+    (IsInPlace before) (header_line (is_at_start before)) lines (λ line. unless-wrong (IsInPlace before)
+    (HeaderLine line) (header_line_fault (is_at_start before) line) (λ good. (open_header, good))))
   where
     at_header : (ls : List ReadLine) → header_has_ended before ≡ false → rinex_place before ls
         ≡ first_line ls (header_line (is_at_start before))
@@ -118,8 +113,8 @@ in-header before unit lines count e open_header = rw (sym (at_header lines open_
 pub items-in_place : (items : List (Item Epoch)) → ItemsAreRead rinex_place items → AreInPlace items
 items-in_place [] h = tt
 items-in_place (Accepted unit ∷ before) h = (
-  (by_bool (header_has_ended before) (λ on. in-body before unit ((h.0).0) ((h.0).1) ((h.0).2) on
-      (records_left before) refl) (λ off. in-header before unit ((h.0).0) ((h.0).1) ((h.0).2) off)),
+  by_bool (header_has_ended before) (λ on. in-body before unit ((h.0).0) ((h.0).1) ((h.0).2) on
+      (records_left before) refl) (λ off. in-header before unit ((h.0).0) ((h.0).1) ((h.0).2) off),
   items-in_place before h.1,
 )
 items-in_place (Warned at ∷ before) h = (h.0, items-in_place before h.1)

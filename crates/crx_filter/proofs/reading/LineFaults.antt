@@ -58,9 +58,8 @@ types-fine line = chosen IsFineFault (is_bad_types_line line) (Some BadTypesLine
 
 version-fine : (line : List ℕ) → IsFineFault (first_header_fault line)
 version-fine line = chosen IsFineFault (not (has_label VERSION_LABEL line)) (Some MissingVersion) _ refl
-    (chosen IsFineFault (not (is_supported (without_blanks (columns line 1 9))))
-    (Some UnsupportedVersion) _ refl
-    (chosen IsFineFault (not (character_at line 21 == 79)) (Some NotObservation) None refl tt))
+    (chosen IsFineFault (not (is_supported (without_blanks (columns line 1 9)))) (Some UnsupportedVersion)
+    _ refl (chosen IsFineFault (not (character_at line 21 == 79)) (Some NotObservation) None refl tt))
 
 header-fine : (E : Type 0) (is_first : Bool) (line : List ℕ) → IsFine (header_line {E = E} is_first line)
 header-fine E is_first line = fine-unless (HeaderLine line) (header_line_fault is_first line)
@@ -68,8 +67,7 @@ header-fine E is_first line = fine-unless (HeaderLine line) (header_line_fault i
     (chosen IsFineFault is_first (first_header_fault line) None (version-fine line) tt) (types-fine line))
 
 record-fine : (E : Type 0) (counted : Bool) (line : List ℕ) → IsFine (event_record {E = E} counted line)
-record-fine E counted line = fine-unless (EventRecord line)
-    (cond counted (types_fault line) None)
+record-fine E counted line = fine-unless (EventRecord line) (cond counted (types_fault line) None)
     (chosen IsFineFault counted (types_fault line) None (types-fine line) tt)
 
 unit-fine : {E : Type 0} (beginning : List (Item E) → List ReadLine → Place (FileUnit E))
@@ -117,34 +115,30 @@ new_row-fine rows (Ok row) a =
     chosen IsFine (has_satellite row.name rows) (Err RepeatedSatellite) (Ok row) refl tt
 
 next_row-fine : (so_far : OpenEpoch) (line : List ℕ) → IsFine (next_row so_far line)
-next_row-fine so_far line =
-    chosen IsFine (begins_epoch line) (Err Truncated) (row_if_new so_far.rows (row_of so_far.types line)) refl
-    (new_row-fine so_far.rows (row_of so_far.types line)
-    (row_of_types-fine line (types_of_satellite so_far.types line)))
+next_row-fine so_far line = chosen IsFine (begins_epoch line)
+    (Err Truncated) (row_if_new so_far.rows (row_of so_far.types line)) refl (new_row-fine so_far.rows
+    (row_of so_far.types line) (row_of_types-fine line (types_of_satellite so_far.types line)))
 
 rows-fine : (so_far : OpenEpoch) (count : ℕ) (lines : List ReadLine) → IsFineAt (rows_at so_far count lines)
 rows-fine so_far zero lines = tt
 rows-fine so_far (suc count) lines = place-then is_of_lines (row_at so_far lines) lines
-    (λ row rest. rows_at (with_next_row so_far row) count rest)
-    (place-first is_of_lines refl lines (next_row so_far) (next_row-fine so_far))
-    (λ row rest. rows-fine (with_next_row so_far row) count rest)
+    (λ row rest. rows_at (with_next_row so_far row) count rest) (place-first is_of_lines refl lines
+    (next_row so_far) (next_row-fine so_far)) (λ row rest. rows-fine (with_next_row so_far row) count rest)
 
 unit_begun-fine : (types : List Count) (beginning : Beginning) (lines : List ReadLine)
     → IsFineAt (unit_begun types beginning lines)
 unit_begun-fine types (EventBegins line) lines = tt
-unit_begun-fine types (EpochBegins head) lines =
-    place-then is_of_lines (rest_at (opened types head) lines) lines
-    (λ epoch rest. Here (Observation epoch) 0)
+unit_begun-fine types (EpochBegins head) lines = place-then is_of_lines
+    (rest_at (opened types head) lines) lines (λ epoch rest. Here (Observation epoch) 0)
     (rows-fine (opened types head) (rows_wanted (opened types head)) lines) (λ epoch rest. tt)
 
 epoch-fine : (types : List Count) (lines : List ReadLine) → IsFineAt (epoch_place types lines)
-epoch-fine types lines = place-then is_of_lines (first_line lines beginning_of) lines (unit_begun types)
-    (place-first is_of_lines refl lines beginning_of
-    (λ line. begun-fine line (head_of line) (chosen IsFine (not (begins_epoch line)) (Err NotAnEpoch) _ refl
-    (chosen IsFine (is_event_flag (character_at line 32)) (event_head (character_at line 32)
-    (records_in line)) (epoch_head line (epoch_count (columns line 1 HEAD_WIDTH)))
-    (event_head-fine (character_at line 32) (records_in line)) (epoch_head-fine line
-    (epoch_count (columns line 1 HEAD_WIDTH))))))) (unit_begun-fine types)
+epoch-fine types lines = place-then is_of_lines (first_line lines beginning_of) lines
+    (unit_begun types) (place-first is_of_lines refl lines beginning_of (λ line. begun-fine line
+    (head_of line) (chosen IsFine (not (begins_epoch line)) (Err NotAnEpoch) _ refl (chosen IsFine
+    (is_event_flag (character_at line 32)) (event_head (character_at line 32) (records_in line)) (epoch_head
+    line (epoch_count (columns line 1 HEAD_WIDTH))) (event_head-fine (character_at line 32) (records_in line))
+    (epoch_head-fine line (epoch_count (columns line 1 HEAD_WIDTH))))))) (unit_begun-fine types)
 
 pub rinex-fine : (items : List (Item Epoch)) (lines : List ReadLine) → IsFineAt (rinex_place items lines)
 rinex-fine items lines = unit-fine (λ (before : List (Item Epoch)). epoch_place (types_in_force before))
@@ -172,17 +166,14 @@ compact_epoch-fine types older lines = of-compact IsFineAt types older lines tt 
 
 pub compact-fine : (items : List (Item ReadEpoch)) (lines : List ReadLine)
     → IsFineAt (compact_place items lines)
-compact-fine items lines =
-    unit-fine (λ (before : List (Item ReadEpoch)). compact_epoch_place (types_in_force before)
-    (raws_kept before))
+compact-fine items lines = unit-fine
+    (λ (before : List (Item ReadEpoch)). compact_epoch_place (types_in_force before) (raws_kept before))
     (λ before ls. compact_epoch-fine (types_in_force before) (raws_kept before) ls) items lines
 
 pub first_lines-fine : (lines : List ReadLine) → IsFineAt (first_lines lines)
 first_lines-fine lines = place-then is_of_lines (first_line lines crinex_version) lines _
-    (place-first is_of_lines refl lines crinex_version
-    (λ line. chosen IsFine (bytes_eq (without_blanks (columns line 1 20)) CRINEX_VERSION
-    && has_label CRINEX_VERSION_LABEL line) (Ok line) (Err NotCompact) tt refl))
-    (λ version others. place-then is_of_lines (first_line others crinex_program) others _
-    (place-first is_of_lines refl others crinex_program (λ line.
-    chosen IsFine (has_label CRINEX_PROGRAM_LABEL line) (Ok line) (Err BadProgLine) tt refl))
-    (λ program rest. tt))
+    (place-first is_of_lines refl lines crinex_version (λ line. chosen IsFine
+    (bytes_eq (without_blanks (columns line 1 20)) CRINEX_VERSION && has_label CRINEX_VERSION_LABEL line)
+    (Ok line) (Err NotCompact) tt refl)) (λ version others. place-then is_of_lines (first_line
+    others crinex_program) others _ (place-first is_of_lines refl others crinex_program (λ line. chosen IsFine
+    (has_label CRINEX_PROGRAM_LABEL line) (Ok line) (Err BadProgLine) tt refl)) (λ program rest. tt))

@@ -24,7 +24,7 @@ pub more_of_more : {E : Type 0} (items some_more all : List (Item E))
     → AreMore items some_more → AreMore some_more all → AreMore items all
 more_of_more items some_more all h k = record {
   news = k.news ++ h.news;
-  same = k.same ∙ ap (λ l. k.news ++ l) h.same ∙ sym (append_assoc k.news h.news items);
+  same = cc (k.same, h.same, append_assoc k.news h.news items);
 }
 
 more-kept : {E : Type 0} (place : List (Item E) → List ReadLine → Place (FileUnit E)) (skip : Bool)
@@ -41,17 +41,15 @@ within-items : {E : Type 0} (place : List (Item E) → List ReadLine
 within-items place skip units items number lines = (within-kept place skip (λ all ls. AreMore items all)
     (more-kept place skip items) units items number lines (no_more items)).1
 
-pub continued_reading-items : {E : Type 0} (place : List (Item E)
-    → List ReadLine → Place (FileUnit E)) (skip : Bool) (items : List (Item E)) (stop : Stop)
-    (more : List ReadLine)
+pub continued_reading-items : {E : Type 0} (place : List (Item E) → List ReadLine → Place (FileUnit E))
+    (skip : Bool) (items : List (Item E)) (stop : Stop) (more : List ReadLine)
     → AreMore items (continued_reading place skip (record { items = items; stop = stop }) more).items
 continued_reading-items place skip items (AtFault at) more = no_more items
 continued_reading-items place skip items (AtLines number lines) more =
     within-items place skip (length (lines ++ more) + 1) items number (lines ++ more)
-continued_reading-items place skip items (Looking number) more =
-    (looked-kept place skip (λ all ls. AreMore items all) (more-kept place skip items) items
-    (reading_from place skip items) number more (no_more items)
-    (λ m ls h. (ls, within-items place skip (length ls + 1) items m ls))).1
+continued_reading-items place skip items (Looking number) more = (looked-kept place skip
+    (λ all ls. AreMore items all) (more-kept place skip items) items (reading_from place skip items)
+    number more (no_more items) (λ m ls h. (ls, within-items place skip (length ls + 1) items m ls))).1
 
 ended_with-items : {E : Type 0} (skip : Bool) (items : List (Item E)) (number : ℕ) (fault : Option Fault)
     → AreMore items (ended_with skip items number fault).items
@@ -91,17 +89,15 @@ text-more unit_lines items all h =
 
 -- the items of the reading of some lines and more
 pub reading-items : {E : Type 0} (place : List (Item E) → List ReadLine → Place (FileUnit E))
-    → IsReadForward place → (skip : Bool) (number : ℕ) (lines more : List ReadLine)
-    → AreMore (reading_from place skip [] number lines).items
-    (reading_from place skip [] number (lines ++ more)).items
+    → IsReadForward place → (skip : Bool) (number : ℕ) (lines more : List ReadLine) → AreMore
+    (reading_from place skip [] number lines).items (reading_from place skip [] number (lines ++ more)).items
 reading-items place h skip number lines more =
     let r = reading_from place skip [] number lines in
     rw (resumed place h skip [] number lines more) (continued_reading-items place skip r.items r.stop more)
 
 pub whole-items : {E : Type 0} (place : List (Item E) → List ReadLine → Place (FileUnit E))
-    → IsReadForward place → (skip : Bool) (number : ℕ) (lines more : List ReadLine)
-    → AreMore (reading_from place skip [] number lines).items
-    (whole_reading place skip number (lines ++ more)).items
+    → IsReadForward place → (skip : Bool) (number : ℕ) (lines more : List ReadLine) → AreMore
+    (reading_from place skip [] number lines).items (whole_reading place skip number (lines ++ more)).items
 whole-items place h skip number lines more =
     let all = reading_from place skip [] number (lines ++ more) in
     more_of_more _ _ _ (reading-items _ h _ _ _ _) (ended-items _ _ _)

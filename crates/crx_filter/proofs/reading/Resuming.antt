@@ -51,9 +51,8 @@ module _ {E : Type 0} (place : List (Item E) → List ReadLine → Place (FileUn
 module _ {E : Type 0} (skip : Bool) (read : List (Item E) → ℕ → List ReadLine → Reading E)
     (items : List (Item E)) (number : ℕ) (lines : List ReadLine) (offset : ℕ) (fault : Fault) where
   -- a fault that is skipped, and one that isn't
-  pub fault-skipped : is_skipped skip items fault ≡ true
-      → after_fault skip read items number lines offset fault
-      ≡ looked_for (read (Warned (record { line = number + offset; fault = fault }) ∷ items))
+  pub fault-skipped : is_skipped skip items fault ≡ true → after_fault skip read items number lines
+      offset fault ≡ looked_for (read (Warned (record { line = number + offset; fault = fault }) ∷ items))
       (Warned (record { line = number + offset; fault = fault }) ∷ items)
       (number + max offset 1) (drop (max offset 1) lines)
   fault-skipped e = rw (e, after_fault) refl
@@ -91,15 +90,13 @@ looked-same items one two bound number (line ∷ lines) h short = by_bool (can_g
     (λ off. rw (off, looked_for) (looked-same items one two bound (number + 1) lines h (omega arith)))
 
 pub enough-units : {E : Type 0} (place : List (Item E) → List ReadLine → Place (FileUnit E))
-    → IsReadForward place
-    → (skip : Bool) (one two : ℕ) (items : List (Item E)) (number : ℕ) (lines : List ReadLine)
-    → length lines < one → length lines < two
+    → IsReadForward place → (skip : Bool) (one two : ℕ)
+    (items : List (Item E)) (number : ℕ) (lines : List ReadLine) → length lines < one → length lines < two
     → reading_within place skip one items number lines ≡ reading_within place skip two items number lines
 enough-units place h skip zero two items number lines short_one short_two = absurd (omega arith)
 enough-units place h skip (suc one) zero items number lines short_one short_two = absurd (omega arith)
-enough-units place h skip (suc one) (suc two) items number lines short_one short_two = by_place
-    (place items lines)
-    (λ unit count e.
+enough-units place h skip (suc one) (suc two) items number lines short_one short_two =
+    by_place (place items lines) (λ unit count e.
     let within = here-within place h items lines unit count e in
     let some = within.0 in
     let in_lines = within.1 in
@@ -108,42 +105,36 @@ enough-units place h skip (suc one) (suc two) items number lines short_one short
     (omega (arith, some, in_lines, left)) (omega (arith, some, in_lines, left)) in
     rw (e, reading_within) same) (λ offset fault e. by_bool (is_skipped skip items fault) (λ on.
     let at : At = record { line = number + offset; fault = fault } in
-    let same = looked-same (Warned at ∷ items) (reading_within place skip one (Warned at ∷ items))
-    (reading_within place skip two (Warned at ∷ items)) (length lines) (number + max offset 1)
-    (drop (max offset 1) lines)
+    rw (e, reading_within, on, after_fault) (looked-same (Warned at ∷ items)
+    (reading_within place skip one (Warned at ∷ items)) (reading_within place skip two (Warned at ∷ items))
+    (length lines) (number + max offset 1) (drop (max offset 1) lines)
     (λ m ls few. enough-units place h skip one two (Warned at ∷ items) m ls (omega arith) (omega arith))
-    (omega (arith, wrong-within place h items lines offset fault e, length-drop (max offset 1) lines)) in
-    rw (e, reading_within, on, after_fault) same) (λ off. rw (e, reading_within, off, after_fault) refl))
-    (λ e. rw (e, reading_within) refl)
+    (omega (arith, wrong-within place h items lines offset fault e, length-drop (max offset 1) lines))))
+    (λ off. rw (e, reading_within, off, after_fault) refl)) (λ e. rw (e, reading_within) refl)
 
 -- ---- more lines
 
-looked-more : {E : Type 0} (place : List (Item E) → List ReadLine → Place (FileUnit E)) (skip : Bool)
-    (items : List (Item E)) (one two : ℕ → List ReadLine → Reading E) (bound number : ℕ)
-    (lines more : List ReadLine) → ((number : ℕ) (lines : List ReadLine)
-    → length lines < bound → two number (lines ++ more) ≡ continued_reading place skip
-    (one number lines) more) → ((number : ℕ) (lines : List ReadLine)
-    → length lines < suc (length more) → two number lines ≡ reading_from place skip items number lines)
-    → length lines < bound → looked_for two items number (lines ++ more)
-    ≡ continued_reading place skip (looked_for one items number lines) more
+looked-more : {E : Type 0} (place : List (Item E) → List ReadLine → Place (FileUnit E))
+    (skip : Bool) (items : List (Item E)) (one two : ℕ → List ReadLine → Reading E) (bound number : ℕ)
+    (lines more : List ReadLine) → ((number : ℕ) (lines : List ReadLine) → length lines < bound
+    → two number (lines ++ more) ≡ continued_reading place skip (one number lines) more)
+    → ((number : ℕ) (lines : List ReadLine) → length lines < suc (length more)
+    → two number lines ≡ reading_from place skip items number lines) → length lines < bound → looked_for
+    two items number (lines ++ more) ≡ continued_reading place skip (looked_for one items number lines) more
 looked-more place skip items one two bound number [] more h rest short =
     looked-same items two (reading_from place skip items) (suc (length more)) number more rest (omega arith)
-looked-more place skip items one two bound number (line ∷ lines) more h rest short = by_bool (can_go_on line)
-    (λ on. rw (on, looked_for) (h number (line ∷ lines) short))
-    (λ off. rw (off, looked_for)
+looked-more place skip items one two bound number (line ∷ lines) more h rest short = by_bool
+    (can_go_on line) (λ on. rw (on, looked_for) (h number (line ∷ lines) short)) (λ off. rw (off, looked_for)
     (looked-more place skip items one two bound (number + 1) lines more h rest (omega arith)))
 
-pub resumed-within : {E : Type 0} (place : List (Item E) → List ReadLine → Place (FileUnit E))
-    → IsReadForward place
-    → (skip : Bool) (one two : ℕ) (items : List (Item E)) (number : ℕ) (lines more : List ReadLine)
-    → length lines < one → length lines + length more < two
-    → reading_within place skip two items number (lines ++ more)
-    ≡ continued_reading place skip (reading_within place skip one items number lines) more
+pub resumed-within : {E : Type 0} (place : List (Item E) → List ReadLine → Place (FileUnit E)) → IsReadForward
+    place → (skip : Bool) (one two : ℕ) (items : List (Item E)) (number : ℕ) (lines more : List ReadLine)
+    → length lines < one → length lines + length more < two → reading_within place skip two items number
+    (lines ++ more) ≡ continued_reading place skip (reading_within place skip one items number lines) more
 resumed-within place h skip zero two items number lines more short_one short_two = absurd (omega arith)
 resumed-within place h skip (suc one) zero items number lines more short_one short_two = absurd (omega arith)
-resumed-within place h skip (suc one) (suc two) items number lines more short_one short_two = by_place
-    (place items lines)
-    (λ unit count e.
+resumed-within place h skip (suc one) (suc two) items number lines more short_one short_two =
+    by_place (place items lines) (λ unit count e.
     let within = here-within place h items lines unit count e in
     let some = within.0 in
     let in_lines = within.1 in
@@ -154,8 +145,7 @@ resumed-within place h skip (suc one) (suc two) items number lines more short_on
           unit count e),
       drop-append-le count lines more in_lines,
     ) (resumed-within place h skip one two (Accepted unit ∷ items) (number + count) (drop count lines) more
-    (omega (arith, some, in_lines, left)) (omega (arith, some, in_lines, left))))
-    (λ offset fault e. rw (
+    (omega (arith, some, in_lines, left)) (omega (arith, some, in_lines, left)))) (λ offset fault e. rw (
       within-wrong place skip one items number lines offset fault e,
       within-wrong place skip two items number (lines ++ more) offset fault (wrong-stays place h items lines
           more offset fault e),
@@ -163,22 +153,18 @@ resumed-within place h skip (suc one) (suc two) items number lines more short_on
     let at : At = record { line = number + offset; fault = fault } in
     let n = max offset 1 in
     let short = wrong-within place h items lines offset fault e in
-    rw (on, after_fault, drop-append-le n lines more (omega (arith, short))) (looked-more place skip
-    (Warned at ∷ items) (reading_within place skip one (Warned at ∷ items)) (reading_within place skip two
-    (Warned at ∷ items)) (length lines) (number + n) (drop n lines) more
+    rw (on, after_fault, drop-append-le n lines more (omega (arith, short)))
+    (looked-more place skip (Warned at ∷ items) (reading_within place skip one (Warned at ∷ items))
+    (reading_within place skip two (Warned at ∷ items)) (length lines) (number + n) (drop n lines) more
     (λ m ls few. resumed-within place h skip one two (Warned at ∷ items) m ls more (omega arith)
-    (omega arith))
-    (λ m ls few. enough-units place h skip two (length ls + 1) (Warned at ∷ items) m ls
-    (omega (arith, short, few, short_two)) (omega arith))
-    (omega (arith, short, length-drop (max offset 1) lines))))
-    (λ off. rw (off, after_fault) refl)))
-    (λ e. rw (within-wanted place skip one items number lines e) (enough-units place h skip (suc two)
-    (length (lines ++ more) + 1) items number (lines ++ more)
-    (omega (arith, short_two, length-append lines more)) (omega arith)))
+    (omega arith)) (λ m ls few. enough-units place h skip two (length ls + 1) (Warned at ∷ items) m ls (omega
+    (arith, short, few, short_two)) (omega arith)) (omega (arith, short, length-drop (max offset 1) lines))))
+    (λ off. rw (off, after_fault) refl))) (λ e. rw (within-wanted place skip one items number lines e)
+    (enough-units place h skip (suc two) (length (lines ++ more) + 1) items number
+    (lines ++ more) (omega (arith, short_two, length-append lines more)) (omega arith)))
 
 -- the reading of some lines and more goes on from the reading of the first
 pub resumed : {E : Type 0} (place : List (Item E) → List ReadLine → Place (FileUnit E))
     → IsReadForward place → IsResumed place
-resumed place h skip items number lines more = resumed-within place h skip (length lines + 1)
-    (length (lines ++ more) + 1) items number lines more (omega arith)
-    (omega (arith, length-append lines more))
+resumed place h skip items number lines more = resumed-within place h skip (length lines + 1) (length
+    (lines ++ more) + 1) items number lines more (omega arith) (omega (arith, length-append lines more))

@@ -10,9 +10,6 @@ pub compacted-first : (choices : Choices) (lines : List ReadLine)
 compacted-first choices lines = record {
   longer = λ more. text-more (compact_unit choices)
       _ _ (reading-items rinex_place rinex-forward choices.skip 1 lines more);
-  whole = λ input more e.
-      subst (λ all. Begins (lines_text (compact_lines choices (whole_rinex choices.skip all).items))
-      (compacted_so_far lines choices)) (sym e)
-      (text-more (compact_unit choices) _ _ (whole-items rinex_place rinex-forward choices.skip 1
-      lines more));
+  whole = λ input more e. rw e (text-more
+      (compact_unit choices) _ _ (whole-items rinex_place rinex-forward choices.skip 1 lines more));
 }

@@ -63,9 +63,8 @@ by-first_lines skip lines more at (Here two count) e f =
     let split : drop count (lines ++ more) ≡ drop count lines ++ more = drop-append-le count lines more h.0 in
     let now : compact_reading skip lines ≡ reading_from compact_place skip [] (count + 1) (drop count lines) =
     reading-at skip lines two count e in
-    let s = stays-from compact_place compact-forward skip
-    (count + 1) (drop count lines) more at (sym (ap (λ (r : Reading ReadEpoch). fault_of_stop r.stop)
-    now) ∙ f) in
+    let s = stays-from compact_place compact-forward skip (count + 1)
+    (drop count lines) more at (sym (ap (λ (r : Reading ReadEpoch). fault_of_stop r.stop) now) ∙ f) in
     record {
       same = reading-at skip (lines ++ more) two count h.1
           ∙ ap (λ ls. reading_from compact_place skip [] (count + 1) ls) split ∙ s.same ∙ sym now;
@@ -79,16 +78,13 @@ by-first_lines skip lines more at (Wrong offset fault) e f =
     let now = wrong-reading skip lines offset fault e in
     record {
       same = wrong-reading skip (lines ++ more) offset fault h.1 ∙ sym now;
-      ended = wrong-whole skip (lines ++ more) offset fault h.1
-          ∙ ap (λ (o : Option At). record { items = []; fault = o })
-          (sym (ap (λ (r : Reading ReadEpoch). fault_of_stop r.stop) now) ∙ f)
+      ended = wrong-whole skip (lines ++ more) offset fault h.1 ∙ ap (λ (o : Option At). record
+          { items = []; fault = o }) (sym (ap (λ (r : Reading ReadEpoch). fault_of_stop r.stop) now) ∙ f)
           ∙ ap (λ (r : Reading ReadEpoch). record { items = r.items; fault = Some at }) (sym now);
     }
-by-first_lines skip lines more at Wanted e f =
-    absurd (none-some at (sym (ap (λ (r : Reading ReadEpoch). fault_of_stop r.stop)
-    (wanted-reading skip lines e)) ∙ f))
+by-first_lines skip lines more at Wanted e f = absurd (none-some at
+    (sym (ap (λ (r : Reading ReadEpoch). fault_of_stop r.stop) (wanted-reading skip lines e)) ∙ f))
 
-pub compact-stays : (skip : Bool) (lines more : List ReadLine) (at : At) → fault_of_stop
-    (compact_reading skip lines).stop ≡ Some at → StaysEnded (compact_reading skip)
-    (whole_compact skip) lines more at
+pub compact-stays : (skip : Bool) (lines more : List ReadLine) (at : At) → fault_of_stop (compact_reading
+    skip lines).stop ≡ Some at → StaysEnded (compact_reading skip) (whole_compact skip) lines more at
 compact-stays skip lines more at e = by-first_lines skip lines more at (first_lines lines) refl e

@@ -10,28 +10,22 @@ use Rattle.crx_filter.proofs.reading.WhatWasRead.{allowed}
 use Rattle.crx_filter.proofs.following.Lines.{IsStopped}
 
 looked-stopped : {E : Type 0} (place : List (Item E) → List ReadLine → Place (FileUnit E))
-    (items : List (Item E)) (read : ℕ → List ReadLine → Reading E) (bound number next : ℕ)
-    (lines : List ReadLine) → header_has_ended items ≡ true → records_left items ≡ 0
-    → ((n : ℕ) (ls : List ReadLine)
-    → length ls < bound → n + length ls ≡ next → IsStopped place (read n ls).items (read n ls).stop next)
-    → length lines < bound → number + length lines ≡ next
-    → IsStopped place (looked_for read items number lines).items
-    (looked_for read items number lines).stop next
+    (items : List (Item E)) (read : ℕ → List ReadLine → Reading E)
+    (bound number next : ℕ) (lines : List ReadLine) → header_has_ended items ≡ true → records_left items ≡ 0
+    → ((n : ℕ) (ls : List ReadLine) → length ls < bound → n + length ls ≡ next → IsStopped place
+    (read n ls).items (read n ls).stop next) → length lines < bound → number + length lines ≡ next → IsStopped
+    place (looked_for read items number lines).items (looked_for read items number lines).stop next
 looked-stopped place items read bound number next [] ended none h short counted =
     (omega (arith, counted), ended, none)
 looked-stopped place items read bound number next (line ∷ lines) ended none h short counted =
-    by_bool (can_go_on line)
-    (λ on. rw (on, looked_for) (h number (line ∷ lines) short counted))
-    (λ off. rw (off, looked_for)
-    (looked-stopped place items read bound (number + 1) next lines ended none h (omega arith)
-    (omega (arith, counted))))
+    by_bool (can_go_on line) (λ on. rw (on, looked_for) (h number (line ∷ lines) short counted))
+    (λ off. rw (off, looked_for) (looked-stopped place items read bound
+    (number + 1) next lines ended none h (omega arith) (omega (arith, counted))))
 
-within-stopped : {E : Type 0} (place : List (Item E) → List ReadLine → Place (FileUnit E))
-    → IsReadForward place
-    → (skip : Bool) (units : ℕ) (items : List (Item E)) (number next : ℕ) (lines : List ReadLine)
-    → length lines < units → number + length lines ≡ next
-    → IsStopped place (reading_within place skip units items number lines).items
-    (reading_within place skip units items number lines).stop next
+within-stopped : {E : Type 0} (place : List (Item E) → List ReadLine → Place (FileUnit E)) → IsReadForward
+    place → (skip : Bool) (units : ℕ) (items : List (Item E)) (number next : ℕ) (lines : List ReadLine)
+    → length lines < units → number + length lines ≡ next → IsStopped place (reading_within
+    place skip units items number lines).items (reading_within place skip units items number lines).stop next
 within-stopped place h skip zero items number next lines short counted = absurd (omega arith)
 within-stopped place h skip (suc units) items number next lines short counted = by_place (place items lines)
     (λ unit count e.
@@ -40,10 +34,8 @@ within-stopped place h skip (suc units) items number next lines short counted = 
     let left = length-drop count lines in
     rw (within-here place skip units items number lines unit count e) (within-stopped place h skip units
     (Accepted unit ∷ items) (number + count) next (drop count lines) (omega (arith, within.0, in_lines, left))
-    (omega (arith, in_lines, left, counted))))
-    (λ offset fault e. rw (within-wrong place skip units items number lines offset fault e)
-    (by_bool (is_skipped skip items fault)
-    (λ on.
+    (omega (arith, in_lines, left, counted)))) (λ offset fault e. rw (within-wrong
+    place skip units items number lines offset fault e) (by_bool (is_skipped skip items fault) (λ on.
     let at : At = record { line = number + offset; fault = fault } in
     let n = max offset 1 in
     let few = wrong-within place h items lines offset fault e in
@@ -51,8 +43,7 @@ within-stopped place h skip (suc units) items number next lines short counted = 
     rw (on, after_fault) (looked-stopped place (Warned at ∷ items) (reading_within place skip units
     (Warned at ∷ items)) (length lines) (number + n) next (drop n lines) (allowed skip items fault on).0 refl
     (λ m ls fewer more. within-stopped place h skip units (Warned at ∷ items) m next ls (omega arith) more)
-    (omega (arith, few, left)) (omega (arith, few, left, counted))))
-    (λ off. rw (off, after_fault) tt)))
+    (omega (arith, few, left)) (omega (arith, few, left, counted)))) (λ off. rw (off, after_fault) tt)))
     (λ e. rw (within-wanted place skip units items number lines e) (e, counted))
 
 pub reading-stopped : {E : Type 0} (place : List (Item E) → List ReadLine → Place (FileUnit E))

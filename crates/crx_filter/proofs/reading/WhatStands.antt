@@ -37,15 +37,13 @@ unless-wrong P unit None h = h refl
 unless-wrong P unit (Some fault) h = tt
 
 -- wherever a unit may be
-pub of-unit : {E : Type 0} (P : Place (FileUnit E) → Type 0)
-    (beginning : List (Item E) → List ReadLine → Place (FileUnit E))
-    (items : List (Item E)) (lines : List ReadLine) → P (first_line lines (header_line (is_at_start items)))
-    → P (first_line lines (event_record (records_count_types items)))
+pub of-unit : {E : Type 0} (P : Place (FileUnit E) → Type 0) (beginning : List (Item E) → List ReadLine
+    → Place (FileUnit E)) (items : List (Item E)) (lines : List ReadLine) → P (first_line lines
+    (header_line (is_at_start items))) → P (first_line lines (event_record (records_count_types items)))
     → P (beginning items lines) → P (unit_place beginning items lines)
-of-unit P beginning items lines header records begun =
-    chosen P (not (header_has_ended items)) (first_line lines (header_line (is_at_start items))) _ header
-    (chosen P (nat_lt 0 (records_left items)) (first_line lines (event_record (records_count_types items)))
-    (beginning items lines) records begun)
+of-unit P beginning items lines header records begun = chosen P (not (header_has_ended items))
+    (first_line lines (header_line (is_at_start items))) _ header (chosen P (nat_lt 0 (records_left items))
+    (first_line lines (event_record (records_count_types items))) (beginning items lines) records begun)
 
 -- where an epoch or an event of compact text may begin
 of-event : (P : Place (FileUnit ReadEpoch) → Type 0) (line : List ℕ) (o : Option ℕ) → records_in line ≡ o
@@ -60,5 +58,4 @@ pub of-compact : (P : Place (FileUnit ReadEpoch) → Type 0) (types : List Count
 of-compact P types raws [] wanted bad event read = wanted
 of-compact P types raws (Overlong ∷ lines) wanted bad event read = read
 of-compact P types raws (Content line ∷ lines) wanted bad event read = by_bool (is_event_line line)
-    (λ on. rw on (of-event P line (records_in line) refl (event line lines refl) bad))
-    (λ off. rw off read)
+    (λ on. rw on (of-event P line (records_in line) refl (event line lines refl) bad)) (λ off. rw off read)

@@ -39,9 +39,8 @@ good-stop items (AtFault at) e = e
 good-stop items stop e = refl
 
 -- and no epoch is open
-none-open : (number : ℕ) (phase : Phase OpenEpoch) (types : List Count) (kept : Totals)
-    → failed_by (seen_end checking (seen_in no_choices number phase types kept)).answer ≡ None
-    → printed_open phase ≡ []
+none-open : (number : ℕ) (phase : Phase OpenEpoch) (types : List Count) (kept : Totals) → failed_by
+    (seen_end checking (seen_in no_choices number phase types kept)).answer ≡ None → printed_open phase ≡ []
 none-open number (InEpoch so_far) types kept e = absurd (none-some _ (sym e))
 none-open number phase types kept e = refl
 
@@ -53,9 +52,8 @@ record IsFirst (items : List (Item Epoch)) : Type 0 where
   some : is_at_start items ≡ false → (first : List ℕ) × (rest : List (List ℕ))
       × (printed_items items ≡ first ∷ rest)
 
-first-kept : (items : List (Item Epoch)) (more : List (List ℕ)) → IsFirst items
-    → is_at_start items ≡ false → version_accepted items
-    ≡ version_in (first_header_line (printed_items items ++ more))
+first-kept : (items : List (Item Epoch)) (more : List (List ℕ)) → IsFirst items → is_at_start items ≡ false
+    → version_accepted items ≡ version_in (first_header_line (printed_items items ++ more))
 first-kept items more h e =
     let some = h.some e in
     cc
@@ -83,7 +81,7 @@ is-first (Warned at ∷ before) h =
 pub version-same : (lines : List ReadLine) → version_accepted (rinex_reading false lines).items
     ≡ version_in (first_header_line (printed_items (rinex_reading false lines).items))
 version-same lines =
-    let r : Reading Epoch = rinex_reading false lines in
+    let r = rinex_reading false lines in
     (is-first r.items (items-in_place r.items (items-read rinex_place false 1 lines))).version
 
 -- ---- the end
@@ -95,21 +93,21 @@ kept-always phase kept = refl
 
 pub check-ended : (lines : List InputLine) → IsCheckEnded lines
 check-ended lines =
-    let r : Reading Epoch = rinex_reading false (map seen lines) in
-    let items : WholeReading.items (whole_reading_of lines) ≡ r.items = whole-items (map seen lines) in
-    let failed : WholeReading.fault (whole_reading_of lines)
-    ≡ failed_by (seen_end checking (check_seen lines).reading).answer = (check-end (map seen lines)).failed
-    ∙ ap (λ (s : Seen OpenEpoch Totals). failed_by (seen_end checking s).answer) (sym (same-seen lines)) in
+    let r = rinex_reading false (map seen lines) in
+    let items = whole-items (map seen lines) in
+    let failed : WholeReading.fault (whole_reading_of lines) ≡ failed_by (seen_end checking
+    (check_seen lines).reading).answer = cc ((check-end (map seen lines)).failed, same-seen lines) in
     record {
       fault = failed;
       found = λ good.
           let s : Seen OpenEpoch Totals = (check_seen lines).reading in
-          let shut : printed_open s.phase ≡ [] = none-open s.number s.phase s.types s.kept
-          (sym failed ∙ good) in
-          let printed : printed_so_far lines ≡ printed_items r.items =
-          ap (λ ls. printed_items r.items ++ ls) shut ∙ append-nil (printed_items r.items) in
-          let kept : s.kept ≡ totals_of r.items = kept-always s.phase (totals_of r.items) in
-          rw (items, kept, version-same (map seen lines), printed) refl;
+          let shut = none-open s.number s.phase s.types s.kept (sym failed ∙ good) in
+          rw (
+            items,
+            kept-always s.phase (totals_of r.items),
+            version-same (map seen lines),
+            ap (λ ls. printed_items r.items ++ ls) shut ∙ append-nil (printed_items r.items),
+          ) refl;
     }
 
 -- where the end is good, printing gives back as many lines as have come

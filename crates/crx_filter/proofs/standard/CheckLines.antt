@@ -48,13 +48,12 @@ body-reached (suc left) counted so_far = tt
 stop-reached : (items : List (Item Epoch)) (stop : Stop)
     → IsFound stop → IsReached (phase_of rinex_open (record { items = items; stop = stop }))
 stop-reached items (AtFault at) h = tt
-stop-reached items (AtLines number lines) h = by_bool (header_has_ended items) (λ on. rw on
-    (body-reached (records_left items) (records_count_types items) (rinex_open items lines)))
-    (λ off. rw off tt)
+stop-reached items (AtLines number lines) h = by_bool (header_has_ended items) (λ on. rw on (body-reached
+    (records_left items) (records_count_types items) (rinex_open items lines))) (λ off. rw off tt)
 stop-reached items (Looking number) h = absurd h
 
 pub phase-reached : (lines : List ReadLine) → IsReached (phase_of rinex_open (rinex_reading false lines))
-phase-reached lines = let r : Reading Epoch = rinex_reading false lines in
+phase-reached lines = let r = rinex_reading false lines in
     stop-reached r.items r.stop (within-found (length lines + 1) [] 1 lines)
 
 -- ---- the last line of what a line makes
@@ -82,17 +81,14 @@ none-open zero counted = refl
 none-open (suc left) counted = refl
 
 header-grows : (number : ℕ) (is_first : Bool)
-    (types : List Count) (kept : Totals) (content : List ℕ) (fault : Option Fault)
-    → Grows number (InHeader is_first) types kept
-    (Content content) (made_of_unit (unless_wrong (HeaderLine content) fault))
-header-grows number is_first types kept content None f =
-    elim (is_end_of_header content) as (λ b. content ∷ printed_open (cond b BetweenUnits (InHeader false))
-    ≡ content ∷ []) [ true ↦ refl | false ↦ refl ]
+    (types : List Count) (kept : Totals) (content : List ℕ) (fault : Option Fault) → Grows number
+    (InHeader is_first) types kept (Content content) (made_of_unit (unless_wrong (HeaderLine content) fault))
+header-grows number is_first types kept content None f = elim (is_end_of_header content) as (λ b. content
+    ∷ printed_open (cond b BetweenUnits (InHeader false)) ≡ content ∷ []) [ true ↦ refl | false ↦ refl ]
 header-grows number is_first types kept content (Some fault) f = absurd (none-some _ (sym f))
 
-record-grows : (number left : ℕ)
-    (counted : Bool) (types : List Count) (kept : Totals) (content : List ℕ) (fault : Option Fault)
-    → Grows number (InEvent left counted) types kept
+record-grows : (number left : ℕ) (counted : Bool) (types : List Count)
+    (kept : Totals) (content : List ℕ) (fault : Option Fault) → Grows number (InEvent left counted) types kept
     (Content content) (made_of_unit (unless_wrong (EventRecord content) fault))
 record-grows number left counted types kept content None f = cc (none-open (left - 1) counted)
 record-grows number left counted types kept content (Some fault) f = absurd (none-some _ (sym f))
@@ -103,18 +99,16 @@ opened-grows : (number : ℕ) (types : List Count) (kept : Totals) (content : Li
 opened-grows number types kept content head zero f = refl
 opened-grows number types kept content head (suc wanted) f = refl
 
-beginning-grows : (number : ℕ) (types : List Count) (kept : Totals) (content : List ℕ)
-    (b : Result Beginning Fault)
-    → Grows number BetweenUnits types kept (Content content) (made_of_beginning types b)
+beginning-grows : (number : ℕ) (types : List Count) (kept : Totals) (content : List ℕ) (b : Result
+    Beginning Fault) → Grows number BetweenUnits types kept (Content content) (made_of_beginning types b)
 beginning-grows number types kept content (Err fault) f = absurd (none-some _ (sym f))
 beginning-grows number types kept content (Ok (EventBegins line)) f =
-    ap (λ ls. line ∷ ls) (none-open (records_announced line) (counts_types line))
+    cc (none-open (records_announced line) (counts_types line))
 beginning-grows number types kept content (Ok (EpochBegins head)) f =
     opened-grows number types kept content head (rows_wanted (opened types head)) f
 
-wanted-grows : (number : ℕ) (types : List Count)
-    (kept : Totals) (content : List ℕ) (so_far : OpenEpoch) (row : Row) (wanted : ℕ)
-    → Grows number (InEpoch so_far) types kept
+wanted-grows : (number : ℕ) (types : List Count) (kept : Totals) (content : List ℕ)
+    (so_far : OpenEpoch) (row : Row) (wanted : ℕ) → Grows number (InEpoch so_far) types kept
     (Content content) (made_of_epoch_step (when_wanted wanted (with_next_row so_far row)))
 wanted-grows number types kept content so_far row zero f =
     append-nil (printed_epoch (epoch_of (with_next_row so_far row))) ∙ row-printed so_far row
@@ -145,9 +139,8 @@ line-grows number phase types kept Overlong h f = absurd (none-some _ (sym f))
 
 -- ---- no line comes again
 
-pub never-again : (number : ℕ)
-    (phase : Phase OpenEpoch) (types : List Count) (kept : Totals) (line : ReadLine)
-    (made : Made Epoch OpenEpoch)
+pub never-again : (number : ℕ) (phase : Phase OpenEpoch)
+    (types : List Count) (kept : Totals) (line : ReadLine) (made : Made Epoch OpenEpoch)
     → is_again (step_of_made checking (seen_in no_choices number phase types kept) line made).answer ≡ false
 never-again number phase types kept line (Completes unit) = refl
 never-again number phase types kept line made = refl

@@ -61,10 +61,9 @@ pub standard-exactly_where_same : (input : List ℕ) (compacting expanding : Cho
     → IsStandardExactlyWhereSame input compacting expanding
 standard-exactly_where_same input compacting expanding dated good =
     let named = named-where_not input good in (
-      λ zero_status.
-          let standard : IsStandard input = named.0 (none-where_0 (findings_of (lines_of input)).not_standard
-          (sym (status-is input good) ∙ zero_status)) in
-          ap (λ (r : FilterResult). r.output) (standard-comes_back input compacting expanding dated standard),
+      λ zero_status. ap (λ (r : FilterResult). r.output)
+          (standard-comes_back input compacting expanding dated (named.0 (none-where_0
+          (findings_of (lines_of input)).not_standard (sym (status-is input good) ∙ zero_status)))),
       λ same. status-is input good
           ∙ ap report_status (named.1 (standard-where_same input compacting expanding dated good same)),
     )

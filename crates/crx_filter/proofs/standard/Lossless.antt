@@ -28,5 +28,4 @@ pub brings-back_passed : (expanding : Choices) (writer messages : Device) (statu
     (text : List ℕ) → IsResult (expanded text expanding) writer messages status fault
     → BringsBackWhatPasses writer messages status fault text
 brings-back_passed expanding writer messages status fault text ran file compacting dated e same =
-    subst (λ r. IsResult r writer messages status fault)
-    (ap (λ t. expanded t expanding) same ∙ what-passes file e compacting expanding dated) ran
+    rw (← ap (λ t. expanded t expanding) same ∙ what-passes file e compacting expanding dated) ran

@@ -60,9 +60,8 @@ alike-on every (Accepted (EventRecord line) ∷ kept) block items h header alike
     (cc (so_far.left, back-parts every kept block, left-same (known_back every) (kept ++ block) h.1)) (h.0).1)
     so_far
 alike-on every (Accepted (Observation epoch) ∷ kept) block items h header alike = alike-unit
-    (back_on every kept block ++ items) (back_on every kept block ++ read_back every block)
-    (Observation (known_back every (kept ++ block) epoch)) tt (alike-on every kept block items h.1 header
-    alike)
+    (back_on every kept block ++ items) (back_on every kept block ++ read_back every block) (Observation
+    (known_back every (kept ++ block) epoch)) tt (alike-on every kept block items h.1 header alike)
 
 -- ---- where what is kept begins anew, it comes after whole units
 
@@ -72,9 +71,8 @@ anew-between choices [] block h anew = inl refl
 anew-between choices (Warned at ∷ []) block h anew = absurd anew
 anew-between choices (Accepted (EventLine line) ∷ []) block h anew = inr (h.0).1
 anew-between choices (Accepted (Observation epoch) ∷ []) block h anew = inr (h.0).1
-anew-between choices (newest ∷ item ∷ items) block h anew =
-    inr (some (anew-between choices (item ∷ items) block (rest-in_place (newest ∷ [])
-    ((item ∷ items) ++ block) h) (rest anew)))
+anew-between choices (newest ∷ item ∷ items) block h anew = inr (some (anew-between choices
+    (item ∷ items) block (rest-in_place (newest ∷ []) ((item ∷ items) ++ block) h) (rest anew)))
   where
     rest : BeginsAnew choices block (newest ∷ item ∷ items) → BeginsAnew choices block (item ∷ items)
     rest h = by_newest newest h
@@ -119,20 +117,19 @@ module _ (every : Option ℕ) (kept block : List (Item Epoch)) (items : List (It
   block-alike : (news : List (Item ReadEpoch)) → AreEpochs news
       → AreAlike (news ++ items) (read_back every block)
   block-alike news epochs =
-      let after : IsBetweenUnits (news ++ items) = epochs-between news items epochs h.between in
+      let after = epochs-between news items epochs h.between in
       record {
         one = after.header;
         two = block-between.header;
         left = after.none ∙ sym block-between.none;
-        counts = λ some. (let none = after.none in absurd (omega (arith, some, none)));
+        counts = λ some. (absurd (omega (arith, some, after.none)));
         types = epochs-types news items epochs ∙ h.types
             ∙ sym (types-same (known_back every) block (rest-in_place kept block h.in_place));
       }
 
   after-alike : (news : List (Item ReadEpoch)) → AreEpochs news
       → AreAlike (back_on every kept block ++ (news ++ items)) (read_back every (kept ++ block))
-  after-alike news epochs = subst (λ all. AreAlike (back_on every kept block ++ (news ++ items)) all) (sym
-      (back-parts every kept block))
+  after-alike news epochs = rw (back-parts every kept block)
       (alike-on every kept block (news ++ items) h.in_place h.header (block-alike news epochs))
 
   -- no lines are kept
@@ -166,23 +163,20 @@ module _ (every : Option ℕ) (kept block : List (Item Epoch)) (items : List (It
       still (inr (number, is)) = inr (number, cc (is))
 
   -- some are kept
-  lines-kept : (r : Reading ReadEpoch) (line : List ℕ) (tail : List ReadLine) → IsOpen items r
-      → map Content (lines_on every kept block) ≡ Content line ∷ tail
-      → starts_anew 0 (Content line ∷ tail) ≡ true
+  lines-kept : (r : Reading ReadEpoch) (line : List ℕ) (tail : List ReadLine) → IsOpen items r → map Content
+      (lines_on every kept block) ≡ Content line ∷ tail → starts_anew 0 (Content line ∷ tail) ≡ true
       → IsKeptRead every kept block items (continued_reading compact_place true r (Content line ∷ tail))
   lines-kept r line tail stops e anew =
-      let begins : begins_epoch line ≡ true = (and_parts
-      (begins_epoch line) (cond (is_event_line line) (starts_anew
-      (records_announced line) tail) true) anew).0 in
+      let begins : begins_epoch line ≡ true = (and_parts (begins_epoch line)
+      (cond (is_event_line line) (starts_anew (records_announced line) tail) true) anew).0 in
       let g : GoesOnAfter items (Content line ∷ tail) (continued_reading compact_place true r
       (Content line ∷ tail)) = open-continued items r line tail h.between stops begins in
       let x : List (Item ReadEpoch) = g.news ++ items in
       let y : List (Item ReadEpoch) = read_back every block in
       let same : AreAlike x y = block-alike g.news g.epochs in
       let alike : GoOnAlike x y (reading_from compact_place true x g.number (Content line ∷ tail))
-      (reading_from compact_place true y g.number (Content line ∷ tail)) =
-      depends-on_types true x y g.number (Content line ∷ tail)
-      (epochs-between g.news items g.epochs h.between) block-between same.types anew in
+      (reading_from compact_place true y g.number (Content line ∷ tail)) = depends-on_types true x y g.number
+      (Content line ∷ tail) (epochs-between g.news items g.epochs h.between) block-between same.types anew in
       let last : ℕ = g.number + length (lines_on every kept block) in
       let both : ◌≡◌ {A = Reading ReadEpoch} (record { items = alike.more ++ y; stop = alike.stop })
       (record { items = read_back every (kept ++ block); stop = AtLines last [] }) =
@@ -221,6 +215,6 @@ pub kept-more : (choices : Choices) (kept block : List (Item Epoch)) (items : Li
     (reading_from compact_place true [] 3 (so_far ++ map Content (lines_on choices.every kept block)))
 kept-more choices kept block items so_far h anew stops =
     let lines = map Content (lines_on choices.every kept block) in
-    subst (IsKeptRead choices.every kept block items) (sym (resumed compact_place compact-forward true [] 3
-    so_far lines)) (by-lines choices.every kept block items h (reading_from compact_place true [] 3 so_far)
-    lines stops refl (text-anew choices block kept h.header h.left h.in_place anew))
+    rw (resumed compact_place compact-forward true [] 3 so_far lines)
+    (by-lines choices.every kept block items h (reading_from compact_place true [] 3 so_far) lines stops refl
+    (text-anew choices block kept h.header h.left h.in_place anew))

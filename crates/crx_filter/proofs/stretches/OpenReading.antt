@@ -70,8 +70,7 @@ onto : (item : Item ReadEpoch) (items : List (Item ReadEpoch)) (r : Reading Read
 onto item items r one h = record {
   news = h.news ++ item ∷ [];
   epochs = epochs-append h.news (item ∷ []) h.epochs one;
-  stops = subst (λ (all : List (Item ReadEpoch)). IsOpen all r) (sym (append_assoc h.news
-      (item ∷ []) items)) h.stops;
+  stops = rw (append_assoc h.news (item ∷ []) items) h.stops;
 }
 
 -- ---- what is at such lines
@@ -89,21 +88,17 @@ bad-event items line lines h text event = cc
 
 -- where more lines are wanted, the first one is no event's
 wanted-no_event : (items : List (Item ReadEpoch)) (line : List ℕ) (lines : List ReadLine)
-    → IsBetweenUnits items
-    → announces_records line ≡ false → compact_place items (Content line ∷ lines) ≡ Wanted
-    → is_event_line line ≡ false
+    → IsBetweenUnits items → announces_records line ≡ false
+    → compact_place items (Content line ∷ lines) ≡ Wanted → is_event_line line ≡ false
 wanted-no_event items line lines h text e = by_bool (is_event_line line)
-    (λ event. let never = sym (bad-event items line lines h text event) ∙ e in absurd (cc))
-    (λ other. other)
+    (λ event. let never = sym (bad-event items line lines h text event) ∙ e in absurd (cc)) (λ other. other)
 
-stretch-epoch : (items : List (Item ReadEpoch)) (lines : List ReadLine) (unit : FileUnit ReadEpoch)
-    (count : ℕ)
-    → IsBetweenUnits items → AllByRecursion IsNoEvent lines → compact_place items lines ≡ Here unit count
-    → (read : ReadEpoch) × (unit ≡ Observation read)
+stretch-epoch : (items : List (Item ReadEpoch)) (lines : List ReadLine)
+    (unit : FileUnit ReadEpoch) (count : ℕ) → IsBetweenUnits items → AllByRecursion IsNoEvent lines
+    → compact_place items lines ≡ Here unit count → (read : ReadEpoch) × (unit ≡ Observation read)
 stretch-epoch items [] unit count h text e = let never = sym (place-between items [] h) ∙ e in absurd (cc)
-stretch-epoch items (Overlong ∷ lines) unit count h text e =
-    observation-here (epoch_at (types_in_force items) (raws_kept items) (Overlong ∷ lines)) unit count
-    (sym (place-between items (Overlong ∷ lines) h) ∙ e)
+stretch-epoch items (Overlong ∷ lines) unit count h text e = observation-here (epoch_at (types_in_force items)
+    (raws_kept items) (Overlong ∷ lines)) unit count (sym (place-between items (Overlong ∷ lines) h) ∙ e)
 stretch-epoch items (Content line ∷ lines) unit count h text e = by_bool (is_event_line line)
     (λ event. let never = sym (bad-event items line lines h text.0 event) ∙ e in absurd (cc))
     (λ other. observation-here (epoch_at (types_in_force items) (raws_kept items) (Content line ∷ lines))
@@ -126,18 +121,15 @@ stretch-fault items (Content line ∷ lines) offset fault h text e = by_bool (is
 -- ---- the reading
 
 -- from wherever reading goes on, epochs and warnings are read
-looked-stretch : (read : ℕ → List ReadLine
-    → Reading ReadEpoch) (items : List (Item ReadEpoch)) (bound number : ℕ)
-    (lines : List ReadLine) → ((n : ℕ) (ls : List ReadLine) → length ls < bound
-    → AllByRecursion IsNoEvent ls → IsStretchRead items (read n ls))
-    → length lines < bound → AllByRecursion IsNoEvent lines
-    → IsStretchRead items (looked_for read items number lines)
+looked-stretch : (read : ℕ → List ReadLine → Reading ReadEpoch) (items : List (Item ReadEpoch))
+    (bound number : ℕ) (lines : List ReadLine) → ((n : ℕ) (ls : List ReadLine) → length ls < bound
+    → AllByRecursion IsNoEvent ls → IsStretchRead items (read n ls)) → length lines < bound
+    → AllByRecursion IsNoEvent lines → IsStretchRead items (looked_for read items number lines)
 looked-stretch read items bound number [] h few text =
     record { news = []; epochs = tt; stops = inr (number, refl) }
 looked-stretch read items bound number (line ∷ lines) h few text = by_bool (can_go_on line)
-    (λ on. subst (IsStretchRead items) (sym (looked-here read items number line lines on))
-    (h number (line ∷ lines) few text))
-    (λ off. subst (IsStretchRead items) (sym (looked-on read items number line lines off))
+    (λ on. rw (looked-here read items number line lines on) (h number (line ∷ lines) few text))
+    (λ off. rw (looked-on read items number line lines off)
     (looked-stretch read items bound (number + 1) lines h (omega (arith, few)) text.1))
 
 within-stretch : (units : ℕ) (items : List (Item ReadEpoch)) (number : ℕ) (lines : List ReadLine)
@@ -152,25 +144,22 @@ within-stretch (suc units) items number lines few h text = by_place (compact_pla
     let rest = within-stretch units (Accepted (Observation read) ∷ items) (number + count) (drop count lines)
     (omega (arith, few, within.0, within.1, length-drop count lines))
     (record { header = h.header; none = refl }) (all-drop IsNoEvent count lines text) in
-    subst (IsStretchRead items)
-    (cc (within-here compact_place true units items number lines unit count e, epoch.1))
-    (onto (Accepted (Observation read)) items _ tt rest))
-    (λ offset fault e.
+    subst
+    (IsStretchRead items) (cc (within-here compact_place true units items number lines unit count e, epoch.1))
+    (onto (Accepted (Observation read)) items _ tt rest)) (λ offset fault e.
     let at : At = record { line = number + offset; fault = fault } in
     let n = max offset 1 in
     subst (IsStretchRead items) (sym (within-wrong compact_place true units items number lines offset fault e
     ∙ fault-skipped true (reading_within compact_place true units) items number lines offset fault
-    (skipped-here items fault h (stretch-fault items lines offset fault h text e)))) (onto (Warned at) items _
-    tt (looked-stretch (reading_within compact_place true units (Warned at ∷ items)) (Warned at ∷ items) units
-    (number + n) (drop n lines)
-    (λ m ls less none. within-stretch units (Warned at ∷ items) m ls less
-    (record { header = h.header; none = refl }) none) (omega (
+    (skipped-here items fault h (stretch-fault items lines offset fault h text e))))
+    (onto (Warned at) items _ tt (looked-stretch (reading_within compact_place true units (Warned at ∷ items))
+    (Warned at ∷ items) units (number + n) (drop n lines) (λ m ls less none. within-stretch units
+    (Warned at ∷ items) m ls less (record { header = h.header; none = refl }) none) (omega (
       arith,
       few,
       wrong-within compact_place compact-forward items lines offset fault e,
       length-drop n lines,
-    )) (all-drop IsNoEvent n lines text))))
-    (λ e. record {
+    )) (all-drop IsNoEvent n lines text)))) (λ e. record {
       news = [];
       epochs = tt;
       stops = inl (number, lines, text, e, within-wanted compact_place true units items number lines e);
@@ -181,23 +170,17 @@ pub stretch-more : (items : List (Item ReadEpoch)) (so_far lines : List ReadLine
     → IsOpen items (reading_from compact_place true [] 3 so_far) → AllByRecursion IsNoEvent lines
     → IsStretchRead items (reading_from compact_place true [] 3 (so_far ++ lines))
 stretch-more items so_far lines between stops text =
-    subst (IsStretchRead items) (sym (resumed compact_place compact-forward true [] 3 so_far lines))
-    (goes-on stops)
+    rw (resumed compact_place compact-forward true [] 3 so_far lines) (goes-on stops)
   where
     r : Reading ReadEpoch
     r = reading_from compact_place true [] 3 so_far
 
     goes-on : IsOpen items r → IsStretchRead items (continued_reading compact_place true r lines)
-    goes-on (inl (number, rest, none, e, is)) =
-        subst (λ (s : Reading ReadEpoch). IsStretchRead items (continued_reading compact_place true s lines))
-        (sym is)
-        (within-stretch (length (rest ++ lines) + 1) items number (rest ++ lines) (omega arith) between
-        (all-append IsNoEvent rest lines none text))
-    goes-on (inr (number, is)) =
-        subst (λ (s : Reading ReadEpoch). IsStretchRead items (continued_reading compact_place true s lines))
-        (sym is) (looked-stretch (reading_from compact_place true items) items (length lines + 1) number lines
-        (λ m ls less none. within-stretch (length ls + 1) items m ls (omega arith) between none)
-        (omega arith) text)
+    goes-on (inl (number, rest, none, e, is)) = rw is (within-stretch (length (rest ++ lines) + 1)
+        items number (rest ++ lines) (omega arith) between (all-append IsNoEvent rest lines none text))
+    goes-on (inr (number, is)) = rw is
+        (looked-stretch (reading_from compact_place true items) items (length lines + 1) number lines (λ m ls
+        less none. within-stretch (length ls + 1) items m ls (omega arith) between none) (omega arith) text)
 
 -- ---- the next line that begins with >
 
@@ -242,11 +225,9 @@ open-continued items r line tail between (inl (number, [], none, e, is)) begins 
 }
 open-continued items r line tail between (inl (number, Overlong ∷ rest, none, e, is)) begins =
     let never = sym (place-between items (Overlong ∷ rest) between) ∙ e in absurd (cc)
-open-continued items r line tail between (inl (number, Content first ∷ rest, none, e, is)) begins = subst
-    (λ (s : Reading ReadEpoch). GoesOnAfter items (Content line ∷ tail) (continued_reading compact_place true
-    s (Content line ∷ tail))) (sym is) (after-warnings items (Content line ∷ tail) _
-    (open-goes_on items number first rest line tail between (wanted-no_event items first rest between none.0
-    e) e begins))
+open-continued items r line tail between (inl (number, Content first ∷ rest, none, e, is)) begins =
+    rw is (after-warnings items (Content line ∷ tail) _ (open-goes_on
+    items number first rest line tail between (wanted-no_event items first rest between none.0 e) e begins))
 open-continued items r line tail between (inr (number, is)) begins = record {
   news = [];
   epochs = tt;

@@ -78,9 +78,8 @@ kept-lines choices kept block h header = ap (drop (length (compact_lines choices
 pub kept-clean : (choices : Choices) (kept block : List (Item Epoch)) → AreGood (kept ++ block)
     → AllByRecursion IsClean (lines_on choices.every kept block)
 kept-clean choices kept block h =
-    (all-parts IsClean (lines_back choices.every block) (lines_on choices.every kept block)
-    (subst (AllByRecursion IsClean) (written-on choices.every kept block)
-    (lines-clean choices.every (kept ++ block) h.in_place h.copied h.no_returns))).1
+    (all-parts IsClean (lines_back choices.every block) (lines_on choices.every kept block) (rw (← written-on
+    choices.every kept block) (lines-clean choices.every (kept ++ block) h.in_place h.copied h.no_returns))).1
 
 -- ---- the lines of the text
 
@@ -89,23 +88,20 @@ ended-cut : (instead : List ℕ) (lines : List (List ℕ)) (text : List ℕ) →
     → list_all (λ (piece : Piece). piece.is_ended) (pieces_of instead) ≡ true
     → map seen (lines_of (instead ++ (lines_text lines ++ text)))
     ≡ map seen (lines_of instead) ++ (map Content lines ++ map seen (lines_of text))
-ended-cut instead lines text clean ended =
-    lines-append instead (lines_text lines ++ text) (each-ended (pieces_of instead) ended)
-    ∙ ap (λ ls. map seen (lines_of instead) ++ ls) (front-cut lines text clean)
+ended-cut instead lines text clean ended = lines-append instead (lines_text lines ++ text) (each-ended
+    (pieces_of instead) ended) ∙ ap (λ ls. map seen (lines_of instead) ++ ls) (front-cut lines text clean)
 
 -- bytes with nothing after them
-last-cut : (choices : Choices) (before : List (Item Epoch)) (s : Stretch) (later : List Stretch)
-    → s.kept ≡ [] → later ≡ [] → lines_after choices (up_to_end before s) (up_to_next before s)
-    ≡ lines_on choices.every s.kept (up_to_end before s)
-    → map seen (lines_of (stretches_text choices before (s ∷ later)))
+last-cut : (choices : Choices) (before : List (Item Epoch)) (s : Stretch) (later : List Stretch) → s.kept ≡ []
+    → later ≡ [] → lines_after choices (up_to_end before s) (up_to_next before s) ≡ lines_on choices.every
+    s.kept (up_to_end before s) → map seen (lines_of (stretches_text choices before (s ∷ later)))
     ≡ lines_of_stretches choices.every before (s ∷ later)
 last-cut choices before s later none last same =
     let nothing = ap (λ (kept : List (Item Epoch)). lines_on choices.every kept (up_to_end before s)) none in
     let text : stretches_text choices before (s ∷ later)
     ≡ s.instead = cc (same, nothing, last, append-nil s.instead) in
-    let lines : lines_of_stretches choices.every before (s ∷ later) ≡ map seen (lines_of s.instead) =
-    ap (λ (l : List Stretch). stretch_lines choices.every before s ++ lines_of_stretches choices.every
-    (up_to_next before s) l) last ∙ append-nil (stretch_lines choices.every before s)
+    let lines = ap (λ (l : List Stretch). stretch_lines choices.every before s ++ lines_of_stretches
+    choices.every (up_to_next before s) l) last ∙ append-nil (stretch_lines choices.every before s)
     ∙ ap (λ (ls : List (List ℕ)). map seen (lines_of s.instead) ++ map Content ls) nothing
     ∙ append-nil (map seen (lines_of s.instead)) in
     cc (text, lines)
@@ -115,9 +111,8 @@ pub stretches-cut : (choices : Choices) (before : List (Item Epoch)) (stretches 
     → header_has_ended before ≡ true → map seen (lines_of (stretches_text choices before stretches))
     ≡ lines_of_stretches choices.every before stretches
 stretches-cut choices before [] h good header = refl
-stretches-cut choices before (s ∷ later) h good header =
-    either (IsStretch.ended h.0) (stretches-cut choices next later h.1 good
-    (header-append s.kept block block-header))
+stretches-cut choices before (s ∷ later) h good header = either (IsStretch.ended h.0)
+    (stretches-cut choices next later h.1 good (header-append s.kept block block-header))
   where
     block : List (Item Epoch)
     block = up_to_end before s
@@ -134,17 +129,14 @@ stretches-cut choices before (s ∷ later) h good header =
     same : lines_after choices block next ≡ lines_on choices.every s.kept block
     same = kept-lines choices s.kept block here.in_place block-header
 
-    either : ((s.kept ≡ []) × (later ≡ []))
-        ⊎ (list_all (λ (piece : Piece). piece.is_ended) (pieces_of s.instead) ≡ true)
-        → map seen (lines_of (stretches_text choices next later))
-        ≡ lines_of_stretches choices.every next later
-        → map seen (lines_of (stretches_text choices before (s ∷ later)))
-        ≡ lines_of_stretches choices.every before (s ∷ later)
+    either : ((s.kept ≡ []) × (later ≡ [])) ⊎ (list_all (λ (piece : Piece). piece.is_ended)
+        (pieces_of s.instead) ≡ true) → map seen (lines_of (stretches_text choices next later))
+        ≡ lines_of_stretches choices.every next later → map seen (lines_of
+        (stretches_text choices before (s ∷ later))) ≡ lines_of_stretches choices.every before (s ∷ later)
     either (inl nothing) rest = last-cut choices before s later nothing.0 nothing.1 same
-    either (inr ended) rest = ap (λ (ls : List (List ℕ)). map seen (lines_of (s.instead ++ (lines_text ls
-        ++ stretches_text choices next later)))) same
-        ∙ ended-cut s.instead (lines_on choices.every s.kept block) (stretches_text choices next later)
-        (kept-clean choices s.kept block here) ended
-        ∙ sym (append_assoc (map seen (lines_of s.instead)) (map Content
+    either (inr ended) rest = ap (λ (ls : List (List ℕ)). map seen
+        (lines_of (s.instead ++ (lines_text ls ++ stretches_text choices next later)))) same ∙ ended-cut
+        s.instead (lines_on choices.every s.kept block) (stretches_text choices next later) (kept-clean
+        choices s.kept block here) ended ∙ sym (append_assoc (map seen (lines_of s.instead)) (map Content
         (lines_on choices.every s.kept block)) (map seen (lines_of (stretches_text choices next later))))
         ∙ ap (λ ls. stretch_lines choices.every before s ++ ls) rest

@@ -3,9 +3,8 @@ use Rattle.crx_filter.proofs.Words.{ℕ, List, Option, subst, At, Choices, expan
 use Rattle.crx_filter.specs.meaning.Stretches.{KeepsUndamaged, WritesWholeUnits}
 use Rattle.crx_filter.proofs.stretches.StretchesSaved.{rest-kept, whole-first}
 
-pub keeps-undamaged : (expanding : Choices)
-    (writer messages : Device) (status : ℕ) (fault : Option At) (damaged : List ℕ)
-    → IsResult (expanded damaged expanding) writer messages status fault
+pub keeps-undamaged : (expanding : Choices) (writer messages : Device) (status : ℕ) (fault : Option At)
+    (damaged : List ℕ) → IsResult (expanded damaged expanding) writer messages status fault
     → KeepsUndamaged expanding writer messages status fault damaged
 keeps-undamaged expanding writer messages status fault damaged ran file compacting dated skips damage =
     (expanded damaged expanding, rest-kept file compacting expanding damaged dated skips damage, ran)
@@ -15,4 +14,4 @@ pub writes-whole_units : (expanding : Choices)
     → IsResult (expanded text expanding) writer messages status fault → WritesWholeUnits writer text
 writes-whole_units expanding writer messages status fault text ran file compacting dated whole =
     let begins = whole-first file compacting expanding text dated whole in
-    (begins.rest, subst (λ output. writer.took output) begins.same ran.output)
+    (begins.rest, rw (← begins.same) ran.output)

@@ -66,9 +66,8 @@ end-left choices before s sound anew = either (anew-between choices s.kept (up_t
     either (inr e) = e
 
 pub one-stretch : (choices : Choices) (before : List (Item Epoch)) (s : Stretch) (later : List Stretch)
-    (so_far : List ReadLine) (items : List (Item ReadEpoch)) → IsStretch choices before s later
-    → AllowsLines s
-    → IsSound before s → HasCome so_far items before → IsStepRead choices before s so_far items
+    (so_far : List ReadLine) (items : List (Item ReadEpoch)) → IsStretch choices before s later → AllowsLines
+    s → IsSound before s → HasCome so_far items before → IsStepRead choices before s so_far items
 one-stretch choices before s later so_far items h allowed sound come =
     let block = up_to_end before s in
     let first = stretch-more items so_far (map seen (lines_of s.instead)) come.between come.stops allowed in
@@ -85,9 +84,8 @@ one-stretch choices before s later so_far items h allowed sound come =
     let front = back_on choices.every s.kept block in
     let there : HasCome (so_far ++ stretch_lines choices.every before s) (front ++ (k.news ++ x))
     (up_to_next before s) = record {
-      stops = subst (λ ls. IsOpen (front ++ (k.news ++ x)) (reading_from compact_place true [] 3 ls))
-          (append_assoc so_far (map seen (lines_of s.instead)) (map Content (lines_on choices.every s.kept
-          block))) k.stops;
+      stops = rw (← append_assoc so_far
+          (map seen (lines_of s.instead)) (map Content (lines_on choices.every s.kept block))) k.stops;
       between = record {
         header = (k.alike).one;
         none = (k.alike).left ∙ left-same (known_back choices.every) (up_to_next before s) sound.in_place
@@ -98,8 +96,7 @@ one-stretch choices before s later so_far items h allowed sound come =
     record {
       news = k.news ++ first.news;
       epochs = epochs-append k.news first.news k.epochs first.epochs;
-      come = subst (λ (all : List (Item ReadEpoch)). HasCome (so_far ++ stretch_lines choices.every before s)
-          (front ++ all) (up_to_next before s)) (sym (append_assoc k.news first.news items)) there;
+      come = rw (append_assoc k.news first.news items) there;
     }
 
 -- ---- what is written for it
@@ -108,10 +105,9 @@ one-stretch choices before s later so_far items h allowed sound come =
 news-printed : (news : List (Item ReadEpoch))
     → AreEpochs news → expanded_lines news ≡ flat_map printed_epoch (epochs_of news)
 news-printed [] h = refl
-news-printed (Accepted (Observation read) ∷ news) h =
-    ap (λ ls. ls ++ printed_epoch read.epoch) (news-printed news h)
-    ∙ ap (λ ls. flat_map printed_epoch (epochs_of news) ++ ls) (sym (append-nil (printed_epoch read.epoch)))
-    ∙ sym (flat_map-append printed_epoch (epochs_of news) (read.epoch ∷ []))
+news-printed (Accepted (Observation read) ∷ news) h = ap (λ ls. ls ++ printed_epoch read.epoch)
+    (news-printed news h) ∙ ap (λ ls. flat_map printed_epoch (epochs_of news) ++ ls) (sym (append-nil
+    (printed_epoch read.epoch))) ∙ sym (flat_map-append printed_epoch (epochs_of news) (read.epoch ∷ []))
 news-printed (Warned at ∷ news) h = news-printed news h
 news-printed (Accepted unit ∷ news) h = absurd h
 
@@ -125,9 +121,8 @@ good-rest (Accepted unit ∷ later) items h = good-rest later items h
 news-whole : (news items : List (Item ReadEpoch)) → AreEpochs news → AreGoodEpochs (news ++ items)
     → AllByRecursion (IsWholeEpoch (types_in_force items)) (epochs_of news)
 news-whole [] items h good = tt
-news-whole (Accepted (Observation read) ∷ news) items h good = all-append _ _ _ (news-whole news items h
-    good.1)
-    (subst (λ types. IsWholeEpoch types read.epoch) (epochs-types news items h) (IsGood.whole good.0), tt)
+news-whole (Accepted (Observation read) ∷ news) items h good = all-append _ _ _
+    (news-whole news items h good.1) (rw (← epochs-types news items h) (IsGood.whole good.0), tt)
 news-whole (Warned at ∷ news) items h good = news-whole news items h good
 news-whole (Accepted unit ∷ news) items h good = absurd h
 
@@ -154,9 +149,8 @@ pub record AreSound (before : List (Item Epoch)) (stretches : List Stretch) : Ty
 pub in_place-up_to : (before : List (Item Epoch)) (stretches : List Stretch)
     → AreInPlace (with_stretches before stretches) → AreInPlace before
 in_place-up_to before [] h = h
-in_place-up_to before (s ∷ later) h =
-    rest-in_place s.lost before (rest-in_place s.kept (up_to_end before s) (in_place-up_to
-    (up_to_next before s) later h))
+in_place-up_to before (s ∷ later) h = rest-in_place s.lost before
+    (rest-in_place s.kept (up_to_end before s) (in_place-up_to (up_to_next before s) later h))
 
 -- the units up to the next stretch, or the end, are whole
 pub next-closed : (choices : Choices) (next : List (Item Epoch)) (later : List Stretch)
@@ -193,13 +187,12 @@ stretches-read choices before (s ∷ later) so_far items h allowed sound come =
     let all = rest.more ++ (front ++ one.news) in
     let joined = ap (λ (l : List (Item ReadEpoch)). rest.more ++ l) (sym (append_assoc front one.news items))
     ∙ sym (append_assoc rest.more (front ++ one.news) items) in
-    let printed : expanded_lines all ≡ flat_map printed_epoch (epochs_of one.news) ++ (printed_items s.kept ++
-    expanded_lines rest.more) = lines-append rest.more (front ++ one.news)
-    ∙ ap (λ ls. ls ++ expanded_lines rest.more) (lines-append front one.news)
-    ∙ append_assoc (expanded_lines one.news) (expanded_lines front) (expanded_lines rest.more)
-    ∙ ap (λ ls. ls ++ (expanded_lines front ++ expanded_lines rest.more)) (news-printed one.news one.epochs)
-    ∙ ap (λ ls. flat_map printed_epoch (epochs_of one.news) ++ (ls ++ expanded_lines rest.more))
-    (back-printed choices.every s.kept block) in
+    let printed : expanded_lines all ≡ flat_map printed_epoch (epochs_of one.news) ++ (printed_items s.kept
+    ++ expanded_lines rest.more) = lines-append rest.more (front ++ one.news) ∙ ap (λ ls. ls ++ expanded_lines
+    rest.more) (lines-append front one.news) ∙ append_assoc (expanded_lines one.news) (expanded_lines front)
+    (expanded_lines rest.more) ∙ ap (λ ls. ls ++ (expanded_lines front ++ expanded_lines rest.more))
+    (news-printed one.news one.epochs) ∙ ap (λ ls. flat_map printed_epoch
+    (epochs_of one.news) ++ (ls ++ expanded_lines rest.more)) (back-printed choices.every s.kept block) in
     record {
       more = all;
       come = subst (λ (l : List (Item ReadEpoch)). HasCome (so_far ++ lines_of_stretches choices.every before

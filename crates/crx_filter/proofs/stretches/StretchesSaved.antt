@@ -40,7 +40,7 @@ file-settled file choices h = whole-settled choices.skip file h.good
 pub file-good : (file : List ℕ) (choices : Choices) → IsReadWhole file choices
     → AreGood (read_of_file file choices).items
 file-good file choices h =
-    let settled : IsSettled (read_of_file file choices).items = file-settled file choices h in
+    let settled = file-settled file choices h in
     record { in_place = settled.in_place; copied = settled.copied; no_returns = h.no_returns }
 
 -- ---- the first lines of a text
@@ -55,10 +55,9 @@ front-clean choices before dated h = (
   (program-clean choices.date dated, lines-clean choices.every before h.in_place h.copied h.no_returns),
 )
 
-pub front-seen : (choices : Choices) (before : List (Item Epoch)) (text : List ℕ)
-    → is_date choices.date ≡ true → AreGood before → is_at_start before ≡ false
-    → map seen (lines_of (lines_text (compact_lines choices before) ++ text))
-    ≡ map Content (front_lines choices before) ++ map seen (lines_of text)
+pub front-seen : (choices : Choices) (before : List (Item Epoch)) (text : List ℕ) → is_date choices.date
+    ≡ true → AreGood before → is_at_start before ≡ false → map seen (lines_of (lines_text (compact_lines
+    choices before) ++ text)) ≡ map Content (front_lines choices before) ++ map seen (lines_of text)
 front-seen choices before text dated h begun =
     ap (λ ls. map seen (lines_of (lines_text ls ++ text))) (lines-same choices before h.in_place begun)
     ∙ front-cut (front_lines choices before) text (front-clean choices before dated h)
@@ -66,9 +65,8 @@ front-seen choices before text dated h begun =
 pub front-read : (skip : Bool) (every : Option ℕ) (before : List (Item Epoch)) → AreInPlace before
     → reading_from compact_place skip [] 3 (map Content (lines_back every before))
     ≡ record { items = read_back every before; stop = AtLines (3 + length (lines_back every before)) [] }
-front-read skip every before h =
-    reads-again compact_place (known_back every) (body_unit every) compact-forward
-    (unit-here every) skip 3 before h
+front-read skip every before h = reads-again compact_place
+    (known_back every) (body_unit every) compact-forward (unit-here every) skip 3 before h
 
 -- ---- the end of the input
 
@@ -79,8 +77,8 @@ open-ends items r between (inl (number, [], text, e, is)) = record {
   few = omega arith;
   same = cc (is, ends-well items number between);
 }
-open-ends items r between (inl (number, line ∷ rest, text, e, is)) = subst (λ (s : Reading ReadEpoch).
-    EndsAfter items (ended_reading true s)) (sym is) (ends-inside items number line rest between)
+open-ends items r between (inl (number, line ∷ rest, text, e, is)) =
+    rw is (ends-inside items number line rest between)
 open-ends items r between (inr (number, is)) = record { warnings = []; few = omega arith; same = cc (is) }
 
 open-items : (items : List (Item ReadEpoch)) (r : Reading ReadEpoch) → IsOpen items r → r.items ≡ items
@@ -109,34 +107,29 @@ rest-kept file choices expanding damaged dated skips d =
       between = back-between choices.every d.before front.in_place d.header closed;
       types = types-same (known_back choices.every) d.before front.in_place;
     } in
-    let r : AreStretchesRead choices d.before d.stretches old start =
-    stretches-read choices d.before d.stretches old start d.each
-    (stretches-allowed choices d.before d.stretches d.each)
+    let r : AreStretchesRead choices d.before d.stretches old start = stretches-read
+    choices d.before d.stretches old start d.each (stretches-allowed choices d.before d.stretches d.each)
     (record { in_place = settled.in_place; header = d.header; closed = settled.none }) come in
     let items : List (Item ReadEpoch) = r.more ++ start in
     let reading : Reading ReadEpoch = reading_from compact_place true [] 3 (old ++ new) in
     let end : EndsAfter items (ended_reading true reading) =
     open-ends items reading (HasCome.between r.come) (HasCome.stops r.come) in
     let all : List (Item ReadEpoch) = with_warnings end.warnings items in
-    let cut : map seen (lines_of damaged)
-    ≡ Content version_line ∷ Content (program_line choices.date) ∷ (old ++ new) =
-    ap (λ t. map seen (lines_of t)) d.text
-    ∙ front-seen choices d.before _ dated front (started d.before d.header)
-    ∙ ap (λ ls. Content version_line ∷ Content (program_line choices.date) ∷ (old ++ ls))
-    (stretches-cut choices d.before d.stretches d.each good d.header) in
+    let cut : map seen (lines_of damaged) ≡ Content version_line ∷ Content (program_line choices.date)
+    ∷ (old ++ new) = ap (λ t. map seen (lines_of t)) d.text ∙ front-seen choices d.before _ dated front
+    (started d.before d.header) ∙ ap (λ ls. Content version_line ∷ Content (program_line choices.date)
+    ∷ (old ++ ls)) (stretches-cut choices d.before d.stretches d.each good d.header) in
     let whole : whole_compact expanding.skip (map seen (lines_of damaged)) ≡ record {
       items = all;
       fault = None;
     } = ap (λ skip. whole_compact skip (map seen (lines_of damaged))) skips
     ∙ ap (whole_compact true) cut ∙ whole-after true choices.date (old ++ new) ∙ end.same in
-    let read : AreGoodEpochs items = epochs-good items
-    (subst (ItemsAreRead compact_place) (open-items items reading (HasCome.stops r.come))
-    (items-read compact_place true 3 (old ++ new))) in
+    let read : AreGoodEpochs items = epochs-good items (subst (ItemsAreRead compact_place)
+    (open-items items reading (HasCome.stops r.come)) (items-read compact_place true 3 (old ++ new))) in
     let text : expanded_lines all ≡ printed_items d.before ++ expanded_lines r.more =
     lines-warned end.warnings items ∙ lines-append r.more start
     ∙ ap (λ ls. ls ++ expanded_lines r.more) (printed-same choices.every d.before) in
-    subst (KeepsTheRest file choices damaged d) (sym (ap (result_of expanded_unit) whole))
-    (record {
+    subst (KeepsTheRest file choices damaged d) (sym (ap (result_of expanded_unit) whole)) (record {
       lines = expanded_lines r.more;
       saves = r.saves read;
       warnings = reverse (warnings_in all);
@@ -155,25 +148,21 @@ whole-so_far expanding choices before h = ap (λ (r : Reading ReadEpoch). lines_
     (first-lines_read choices.date (map Content (lines_back choices.every before)))
     ∙ front-read expanding.skip choices.every before h) ∙ ap lines_text (printed-same choices.every before)
 
-begun-first : (expanding choices : Choices) (before : List (Item Epoch)) (text more : List ℕ)
-    → is_date choices.date ≡ true → AreGood before → is_at_start before ≡ false
-    → text ≡ lines_text (compact_lines choices before) ++ more
-    → Begins (expanded text expanding).output (lines_text (printed_items before))
-begun-first expanding choices before text more dated h begun e = subst (λ t. Begins
-    (expanded text expanding).output t) (whole-so_far expanding choices before h.in_place)
-    (IsWrittenFirst.whole (expanded-first expanding (map Content (front_lines choices before))) text
-    (map seen (lines_of more)) (cc (e, front-seen choices before more dated h begun)))
+begun-first : (expanding choices : Choices) (before : List (Item Epoch)) (text more : List ℕ) → is_date
+    choices.date ≡ true → AreGood before → is_at_start before ≡ false → text ≡ lines_text (compact_lines
+    choices before) ++ more → Begins (expanded text expanding).output (lines_text (printed_items before))
+begun-first expanding choices before text more dated h begun e = rw (← whole-so_far expanding choices before
+    h.in_place) (IsWrittenFirst.whole (expanded-first expanding (map Content (front_lines choices before)))
+    text (map seen (lines_of more)) (cc (e, front-seen choices before more dated h begun)))
 
 pub whole-first : (file : List ℕ) (choices expanding : Choices) (text : List ℕ)
     → is_date choices.date ≡ true → (h : BeginsWhole file choices text)
     → Begins (expanded text expanding).output (lines_text (printed_items h.before))
-whole-first file choices expanding text dated h =
-    by_units h.before (good-before h.after h.before (subst AreGood h.parts
-    (file-good file choices h.file_good))) h.text_is
+whole-first file choices expanding text dated h = by_units h.before
+    (good-before h.after h.before (rw (← h.parts) (file-good file choices h.file_good))) h.text_is
   where
-    by_units : (before : List (Item Epoch)) → AreGood before
-        → text ≡ lines_text (compact_lines choices before) ++ h.more
-        → Begins (expanded text expanding).output (lines_text (printed_items before))
+    by_units : (before : List (Item Epoch)) → AreGood before → text ≡ lines_text (compact_lines choices
+        before) ++ h.more → Begins (expanded text expanding).output (lines_text (printed_items before))
     by_units [] good e = record { rest = (expanded text expanding).output; same = refl }
     by_units (item ∷ before) good e =
         begun-first expanding choices (item ∷ before) text h.more dated good refl e
