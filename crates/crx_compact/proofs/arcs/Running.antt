@@ -218,12 +218,9 @@ pub record OntoThird (number : ℤ) (ds : List ℤ) : Type 0 where
   pub first : FitsSigned w64 (slice_index_or ds 1 (pos 0) +ℤ (slice_index_or ds 2 (pos 0) +ℤ number))
   pub value : FitsSigned w64 (slice_index_or ds 0
       (pos 0) +ℤ (slice_index_or ds 1 (pos 0) +ℤ (slice_index_or ds 2 (pos 0) +ℤ number)))
-  pub sums :
-      (slice_index_or ds 0 (pos 0) +ℤ
-      (slice_index_or ds 1 (pos 0) +ℤ (slice_index_or ds 2 (pos 0) +ℤ number)))
-      ∷ (slice_index_or ds 1 (pos 0) +ℤ (slice_index_or ds 2 (pos 0) +ℤ number))
-      ∷ (slice_index_or ds 2 (pos 0) +ℤ number) ∷ number ∷ []
-      ≡ differences_by number (take 3 ds)
+  pub sums : (slice_index_or ds 0 (pos 0) +ℤ (slice_index_or ds 1 (pos 0) +ℤ (slice_index_or ds 2
+      (pos 0) +ℤ number))) ∷ (slice_index_or ds 1 (pos 0) +ℤ (slice_index_or ds 2 (pos 0) +ℤ number))
+      ∷ (slice_index_or ds 2 (pos 0) +ℤ number) ∷ number ∷ [] ≡ differences_by number (take 3 ds)
 
 pub onto-third : (number : ℤ) (ds : List ℤ)
     → 3 < length ds → IsBelow (10 ^ 18) number → AreBelow value_bound (take 3 ds) → OntoThird number ds

@@ -16,6 +16,7 @@ use Rattle.crx_compact.specs.Placing.{HasCome, empty_row, row_tail_named, row_ta
 use Rattle.crx_compact.specs.Tails.{RowTail}
 use Rattle.crx_compact.proofs.placing.Ranges.{among-up_to, found-in_range, named-map, none-named, not-before}
 use Rattle.crx_compact.proofs.placing.Ranges.{rest-one_more}
+use Rattle.std.proofs.lemmas.Grind.{common_steps}
 
 abbrev pub has_row : List ℕ → List RowTail → Bool
 has_row name rows = is_among (λ (row : RowTail). row.name) name rows
@@ -37,46 +38,36 @@ unknown-no_row name count es h = among-rows name (take count es) ∙ first count
         rw parts.0 (first count es parts.1)
 
 -- those that have come and those that haven't are all that mean something
-pub all-awaited : (placed live : ℕ) (es : List Entry) → placed ≤ live
-    → map row_of_entry (take placed es) ++ map row_of_entry (drop placed (take live es))
-    ≡ map row_of_entry (take live es)
-all-awaited placed live es few =
-    sym (map-append row_of_entry (take placed es) (drop placed (take live es)))
+pub all-awaited : (placed live : ℕ) (es : List Entry) → placed ≤ live → map row_of_entry
+    (take placed es) ++ map row_of_entry (drop placed (take live es)) ≡ map row_of_entry (take live es)
+all-awaited placed live es few = sym (map-append row_of_entry (take placed es) (drop placed (take live es)))
     ∙ ap (λ front. map row_of_entry (front ++ drop placed (take live es)))
-    (sym (take-take placed live es few))
-    ∙ ap (map row_of_entry) (take-append-drop placed (take live es))
+    (sym (take-take placed live es few)) ∙ ap (map row_of_entry) (take-append-drop placed (take live es))
 
 module _ (name : List ℕ) (placed live found : ℕ) (old known : List Entry)
     (is : IsFound name found old known) where
   -- it has come already
   pub repeated : found < placed → placed ≤ length old → has_row name (map row_of_entry (take placed old))
       ≡ true
-  repeated before within =
-      among-rows name (take placed old) ∙ ap (is_among key_of name) (sym (is.front placed within))
+  repeated before within = among-rows name _ ∙ ap (is_among key_of name) (sym (is.front placed within))
       ∙ among-up_to placed known found (name, is.satellite) is.there before
 
   -- it hasn't come
   pub is-new : IsDistinct bytes_eq (keys_of known) → placed ≤ found → placed ≤ length old
       → has_row name (map row_of_entry (take placed old)) ≡ false
-  is-new apart behind within =
-      among-rows name (take placed old) ∙ ap (is_among key_of name) (sym (is.front placed within))
+  is-new apart behind within = among-rows name _ ∙ ap (is_among key_of name) (sym (is.front placed within))
       ∙ not-before placed known found (name, is.satellite) apart is.there behind
 
   -- the rows, with one more
   rows-more : (entry : Entry) (new : List Entry) → placed ≤ length old
-      → take (placed + 1) new ≡ take placed known ++ entry ∷ []
-      → map row_of_entry (take (placed + 1) new) ≡ map row_of_entry (take placed old)
-      ++ row_of_entry entry ∷ []
-  rows-more entry new within e =
-      ap (map row_of_entry) e ∙ map-append row_of_entry (take placed known) (entry ∷ [])
-      ∙ ap (λ es. map row_of_entry es ++ row_of_entry entry ∷ []) (is.front placed within)
+      → take (placed + 1) new ≡ take placed known ++ entry ∷ [] → map row_of_entry (take (placed + 1) new)
+      ≡ map row_of_entry (take placed old) ++ row_of_entry entry ∷ []
+  rows-more entry new within e = grind (arith, common_steps, row_of_entry, map-append)
 
   -- what is found among rows is what is found among their entries
   by-entries : (other : List ℕ) (es fs : List Entry) → named key_of other es ≡ named key_of other fs
       → row_tail_named other (map row_of_entry es) ≡ row_tail_named other (map row_of_entry fs)
-  by-entries other es fs e =
-      named-map (λ (row : RowTail). row.name) row_of_entry other es
-      ∙ ap (option_map row_of_entry) e ∙ sym (named-map (λ (row : RowTail). row.name) row_of_entry other fs)
+  by-entries other es fs e = grind (arith, common_steps, named-map, row_of_entry, option_map)
 
   -- one of the epoch before comes
   pub come-awaited : (new : List Entry) → IsDistinct bytes_eq (keys_of known) → placed ≤ found → found < live
@@ -85,48 +76,38 @@ module _ (name : List ℕ) (placed live found : ℕ) (old known : List Entry)
   come-awaited new apart behind before within put =
       let front : take live known ≡ take live old = is.front live within in
       let there : row_tail_named name (map row_of_entry (drop placed (take live old)))
-      ≡ Some (row_tail_of name is.satellite) =
-      named-map (λ (row : RowTail). row.name) row_of_entry name (drop placed (take live old))
-      ∙ ap (λ es. option_map row_of_entry (named key_of name (drop placed es))) (sym front)
-      ∙ ap (option_map row_of_entry)
+      ≡ Some (row_tail_of name is.satellite) = named-map (λ (row : RowTail). row.name) row_of_entry name
+      (drop placed (take live old)) ∙ ap (λ es. option_map row_of_entry (named key_of name (drop placed es)))
+      (sym front) ∙ ap (option_map row_of_entry)
       (found-in_range placed live known found (name, is.satellite) apart is.there behind before) in
       record {
-        rows =
-            rows-more (name, is.satellite) new (omega arith) (put.come (name, is.satellite) is.there)
+        rows = rows-more (name, is.satellite) new (omega arith) (put.come (name, is.satellite) is.there)
             ∙ ap (λ r. map row_of_entry (take placed old) ++ unwrap_or r (empty_row name) ∷ []) (sym there);
-        others = λ other differs.
-            by-entries other (drop (placed + 1) (take live new)) (drop placed (take live old))
-            (put.others live (name, is.satellite) other before is.there (other_way other name differs)
-            ∙ ap (λ es. named key_of other (drop placed es)) front);
+        others = λ other differs. by-entries other _ _ (put.others live (name, is.satellite) other before
+            is.there (other_way other name differs) ∙ ap (λ es. named key_of other (drop placed es)) front);
       }
 
   -- any other one comes
   pub come-anew : (revived new : List Entry) → IsDistinct bytes_eq (keys_of known) → placed ≤ live
-      → live ≤ found
-      → live ≤ length old → IsRevived live found known revived → IsPutNext placed live revived new
-      → HasCome name (placed_rows placed live old) (placed_rows (placed + 1) (live + 1) new)
+      → live ≤ found → live ≤ length old → IsRevived live found known revived → IsPutNext placed
+      live revived new → HasCome name (placed_rows placed live old) (placed_rows (placed + 1) (live + 1) new)
   come-anew revived new apart few behind within anew put =
       let front : take live known ≡ take live old = is.front live within in
       let blank : Entry = (name, record is.satellite { flags = []; cells = [] }) in
       let there : slice_get revived live ≡ Some blank = anew.there name is.satellite is.there in
-      let none : row_tail_named name (map row_of_entry (drop placed (take live old))) ≡ None =
-      named-map (λ (row : RowTail). row.name) row_of_entry name (drop placed (take live old))
-      ∙ ap (option_map row_of_entry) (none-named key_of name placed (take live old)
-      (ap (is_among key_of name) (sym front)
-      ∙ not-before live known found (name, is.satellite) apart is.there behind)) in
-      let first : take placed revived ≡ take placed known =
-      sym (take-take placed live revived few) ∙ ap (take placed) anew.front ∙ take-take placed live known few
-      in
+      let none : row_tail_named name (map row_of_entry (drop placed (take live old)))
+      ≡ None = named-map (λ (row : RowTail). row.name) row_of_entry name (drop placed (take live old))
+      ∙ ap (option_map row_of_entry) (none-named key_of name placed (take live old) (ap (is_among key_of name)
+      (sym front) ∙ not-before live known found (name, is.satellite) apart is.there behind)) in
+      let first : take placed revived ≡ take placed known = sym (take-take placed live _ few)
+      ∙ ap (take placed) anew.front ∙ take-take placed live known few in
       let next : live + 1 ≡ suc live = omega arith in
       record {
-        rows =
-            rows-more blank new (omega arith) (put.come blank there ∙ ap (λ es. es ++ blank ∷ []) first)
+        rows = rows-more blank new (omega arith) (put.come blank there ∙ ap (λ es. es ++ blank ∷ []) first)
             ∙ ap (λ r. map row_of_entry (take placed old) ++ unwrap_or r (empty_row name) ∷ []) (sym none);
         others = λ other differs.
             let apart-from : bytes_eq name other ≡ false = other_way other name differs in
-            by-entries other (drop (placed + 1) (take (live + 1) new)) (drop placed (take live old))
-            (put.others (live + 1) blank other (omega arith) there apart-from
-            ∙ ap (λ n. named key_of other (drop placed (take n revived))) next
-            ∙ rest-one_more placed live revived blank other few there apart-from
-            ∙ ap (λ es. named key_of other (drop placed es)) (anew.front ∙ front));
+            by-entries other _ _ (put.others (live + 1) blank other (omega arith) there apart-from ∙ ap (λ n.
+            named key_of other (drop placed (take n revived))) next ∙ rest-one_more placed live revived blank
+            other few there apart-from ∙ ap (λ es. named key_of other (drop placed es)) (anew.front ∙ front));
       }

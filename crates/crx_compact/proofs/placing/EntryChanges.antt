@@ -1,7 +1,7 @@
 -- One entry of the map gets another value.
-use Rattle.std.proofs.Common.{◌≡◌, ℕ, zero, suc, ◌<◌, ◌≤◌, List, [], ◌∷◌, length}
-use Rattle.std.proofs.Common.{set, slice_get, Some, refl, ap, sym, ◌∙◌, inl, inr, arith}
-use Rattle.std.proofs.Common.{length-set, subst, Bool, true, false, IsTrue, ◌↔◌}
+use Rattle.std.proofs.Common.{◌≡◌, ℕ, zero, suc, ◌<◌, ◌≤◌, List, [], ◌∷◌, length, set, slice_get, Some, refl}
+use Rattle.std.proofs.Common.{ap, sym, ◌∙◌, inl, inr, arith, length-set, subst, Bool, true, false, IsTrue}
+use Rattle.std.proofs.Common.{◌↔◌, rules}
 use Rattle.std.specs.Cmp.{IsEquivalence}
 use Rattle.std.specs.Str.{bytes_eq}
 use Rattle.std.proofs.lemmas.Bool.{cases_Bool, cond-true, cond-false, false≢true}
@@ -16,33 +16,21 @@ use Rattle.crx_compact.specs.Entries.{Entry, IsFound, rooms_of}
 use Rattle.crx_compact.specs.Placing.{HasRoom, KeepsRooms, SatelliteTail}
 use Rattle.crx_compact.proofs.Characters.{bytes_eq-same}
 use Rattle.crx_compact.proofs.placing.Rooms.{known-room, room-from_look_up, rooms-kept}
+use Rattle.std.proofs.lemmas.Grind.{common_steps}
 
 pub bytes_eq-equiv : IsEquivalence bytes_eq
-bytes_eq-equiv =
-    record {
-      refl = bytes_eq-same;
-      symm = λ x y. elim (cases_Bool (bytes_eq x y)) [
-        | inl t ↦
-            let same : x ≡ y = (bytes_eq-Decides x y).0 t in
-            ap (λ n. bytes_eq n y) same ∙ ap (λ n. bytes_eq y n) (sym same)
-        | inr f ↦ f ∙ sym (other_way x y f)
-      ];
-      congr = λ x y z t. ap (λ n. bytes_eq n z) ((bytes_eq-Decides x y).0 t);
-    }
+bytes_eq-equiv = search rules
 
 pub set-there : {X : Type 0} (xs : List X) (i : ℕ) (x : X) → i < length xs → slice_get (set xs i x) i ≡ Some x
 set-there xs i x within =
-    slice_get_read (set xs i x) (length xs) i x (sym (length-set xs i x)) within
-    (sym (get_or-set_same xs i x x within))
+    slice_get_read _ _ i x (sym (length-set xs i x)) within (sym (get_or-set_same xs i x x within))
 
 -- the entry keeps its identifier
 pub changed-is : (es : List Entry) (i : ℕ) (name : List ℕ) (before after : SatelliteTail)
     → slice_get es i ≡ Some (name, before) → set_value_at es i after ≡ set es i (name, after)
 changed-is [] i name before after there = refl
-changed-is (e ∷ es) zero name before after there =
-    ap (λ (x : Entry). (x.0, after) ∷ es) (same_Some e (name, before) there)
-changed-is (e ∷ es) (suc i) name before after there =
-    ap (λ xs. e ∷ xs) (changed-is es i name before after there)
+changed-is (e ∷ es) zero name before after there = cc (same_Some e (name, before) there)
+changed-is (e ∷ es) (suc i) name before after there = cc (changed-is es i name before after there)
 
 -- ---- the room of the satellites
 
@@ -52,33 +40,23 @@ module _ {S : Type 0} (m : IndexMap (List ℕ) SatelliteTail S) (i : ℕ) (name 
   -- the one at an index is found by its identifier
   pub room-there : (count : ℕ) → HasRoom name count (rooms_of m.entries) → count ≤ before.room
   room-there count has =
-      let known = known-room name count m.entries has in
-      let same : known.0 ≡ before =
-      same_Some known.0 before
-      (sym known.1 ∙ hash_map_get_place bytes_eq-equiv m i name before unique there) in
-      let within = known.2 in
-      subst (λ (s : SatelliteTail). count ≤ s.room) same within
+      let known = known-room name count _ has in
+      subst (λ (s : SatelliteTail). count ≤ s.room) (same_Some known.0 before
+      (sym known.1 ∙ hash_map_get_place bytes_eq-equiv m i name before unique there)) known.2
 
   pub room-here : (count : ℕ) → count ≤ before.room → HasRoom name count (rooms_of m.entries)
-  room-here count within =
-      room-from_look_up name count m.entries before
+  room-here count within = room-from_look_up name count _ before
       (hash_map_get_place bytes_eq-equiv m i name before unique there) within
 
   pub rooms-changed : before.room ≤ after.room
       → KeepsRooms (rooms_of m.entries) (rooms_of (set_value_at m.entries i after))
   rooms-changed more =
       let updates = updates-with_value_at m i after bytes_eq-equiv unique name before there in
-      rooms-kept m.entries (set_value_at m.entries i after) (λ other satellite known.
-      elim (cases_Bool (bytes_eq name other)) [
+      rooms-kept _ _ (λ other satellite known. elim (cases_Bool (bytes_eq name other)) [
         | inl t ↦
             let same : name ≡ other = (bytes_eq-Decides name other).0 t in
-            let is : satellite ≡ before = same_Some satellite before (sym known
-            ∙ ap (λ n. get bytes_eq m n) (sym same)
-            ∙ hash_map_get_place bytes_eq-equiv m i name before unique there) in (
-              after,
-              updates.0 other ∙ cond-true (bytes_eq name other) (Some after) (get bytes_eq m other) t,
-              subst (λ (s : SatelliteTail). s.room ≤ after.room) (sym is) more,
-            )
+            let is = same_Some satellite before
+            (cc (known, same, hash_map_get_place bytes_eq-equiv m i name before unique there)) in search rules
         | inr f ↦ (
           satellite,
           updates.0 other ∙ cond-false (bytes_eq name other) (Some after) (get bytes_eq m other) f ∙ known,
@@ -91,16 +69,15 @@ module _ {S : Type 0} (m : IndexMap (List ℕ) SatelliteTail S) (i : ℕ) (name 
       → KeepsRooms (rooms_of (set_value_at m.entries i after)) (rooms_of m.entries)
   rooms-changed-back less =
       let updates = updates-with_value_at m i after bytes_eq-equiv unique name before there in
-      rooms-kept (set_value_at m.entries i after) m.entries (λ other satellite known.
-      elim (cases_Bool (bytes_eq name other)) [
+      rooms-kept _ _ (λ other satellite known. elim (cases_Bool (bytes_eq name other)) [
         | inl t ↦
             let same : name ≡ other = (bytes_eq-Decides name other).0 t in
-            let is : satellite ≡ after = same_Some satellite after (sym known
+            let is = same_Some satellite after (sym known
             ∙ updates.0 other ∙ cond-true (bytes_eq name other) (Some after) (get bytes_eq m other) t) in (
               before,
               ap (λ n. get bytes_eq m n) (sym same)
                   ∙ hash_map_get_place bytes_eq-equiv m i name before unique there,
-              subst (λ (s : SatelliteTail). s.room ≤ before.room) (sym is) less,
+              rw is less,
             )
         | inr f ↦ (
           satellite,
@@ -114,9 +91,7 @@ module _ {S : Type 0} (m : IndexMap (List ℕ) SatelliteTail S) (i : ℕ) (name 
       → HasRoom name count (rooms_of (set_value_at m.entries i after))
   has-room count within =
       let updates = updates-with_value_at m i after bytes_eq-equiv unique name before there in
-      room-from_look_up name count (set_value_at m.entries i after) after
-      (updates.0 name ∙ cond-true (bytes_eq name name) (Some after) (get bytes_eq m name)
-      (bytes_eq-same name)) within
+      grind (arith, common_steps, room-from_look_up, set_value_at, cond-true, bytes_eq, bytes_eq-same)
 
 -- ---- the room of a satellite that is found
 
@@ -129,7 +104,5 @@ module _ {S : Type 0} (m : IndexMap (List ℕ) SatelliteTail S) (found : ℕ) (n
         room-here m found name is.satellite is.satellite unique is.there count ((answer _ is.there).0 roomy)
 
     pub little-room : has ≡ false → HasRoom name count (rooms_of m.entries) → ⊥
-    little-room full room =
-        false≢true (sym full
-        ∙ (answer _ is.there).1
+    little-room full room = false≢true (sym full ∙ (answer _ is.there).1
         (room-there m found name is.satellite is.satellite unique is.there count room))

@@ -1,9 +1,7 @@
 -- A satellite is found by its identifier, or added behind the others.
-use Rattle.std.proofs.Common.{◌≡◌, ℕ, ◌<◌, List, [], ◌∷◌, ◌++◌, length, take, slice_get}
-use Rattle.std.proofs.Common.{get_or, position, Option, Some, None, IfSome}
-use Rattle.std.proofs.Common.{is_some, option_map, refl, ap, sym, ◌∙◌}
-use Rattle.std.proofs.Common.{inl, inr, arith}
-use Rattle.std.proofs.Common.{Bool, false}
+use Rattle.std.proofs.Common.{◌≡◌, ℕ, ◌<◌, List, [], ◌∷◌, ◌++◌, length, take, slice_get, get_or, position}
+use Rattle.std.proofs.Common.{Option, Some, None, IfSome, is_some, option_map, refl, ap, sym, ◌∙◌, inl, inr}
+use Rattle.std.proofs.Common.{arith, Bool, false}
 use Rattle.std.specs.Str.{bytes_eq}
 use Rattle.std.specs.Map.{keys_of, lookup}
 use Rattle.std.proofs.lemmas.Bool.{cases_Bool, false≢true}
@@ -20,37 +18,31 @@ use Rattle.crx_compact.proofs.placing.Rooms.{rooms-kept}
 
 pub found-there : (name : List ℕ) (i : ℕ) (es : List Entry) (satellite : SatelliteTail)
     → slice_get es i ≡ Some (name, satellite) → IsFound name i es es
-found-there name i es satellite there =
-    record {
-      satellite = satellite;
-      there = there;
-      front = λ count within. refl;
-      known = λ within. refl;
-      rooms = λ other count has. has;
-    }
+found-there name i es satellite there = record {
+  satellite = satellite;
+  there = there;
+  front = λ count within. refl;
+  known = λ within. refl;
+  rooms = λ other count has. has;
+}
 
 -- where another identifier is there, which is the same
-pub found-same : (name other : List ℕ) (i : ℕ) (es : List Entry)
-    → (satellite : SatelliteTail) × (slice_get es i ≡ Some (other, satellite)) → other ≡ name
-    → IsFound name i es es
-found-same name other i es there same =
-    found-there name i es there.0 (there.1 ∙ ap (λ (n : List ℕ). Some (n, there.0)) same)
+pub found-same : (name other : List ℕ) (i : ℕ) (es : List Entry) → (satellite : SatelliteTail)
+    × (slice_get es i ≡ Some (other, satellite)) → other ≡ name → IsFound name i es es
+found-same name other i es there same = found-there name i es there.0 (cc (there.1, same))
 
 found-by_look_up : (name : List ℕ) (i : ℕ) (es : List Entry)
     → position (bytes_eq name) (keys_of es) ≡ Some i → IsFound name i es es
 found-by_look_up name i es is =
     let at = position-Some (bytes_eq name) (keys_of es) i [] is in
-    let few = at.0 in
-    let within : i < length es = omega (arith, few, length-map es key_of) in
+    let within : i < length es = omega (arith, at.0, length-map es key_of) in
     let entry = there-is es i within in
     let same : name ≡ key_of entry.0 = (bytes_eq-Decides name (get_or (keys_of es) i [])).0 at.1
-    ∙ get_or_from_slice_get (keys_of es) i (key_of entry.0) []
-    (slice_get-map key_of es i ∙ ap (option_map key_of) entry.1) in
+    ∙ get_or_from_slice_get (keys_of es) i (key_of entry.0) [] (cc (slice_get-map key_of es i, entry.1)) in
     found-there name i es entry.0.1 (entry.1 ∙ ap (λ (n : List ℕ). Some (n, entry.0.1)) (sym same))
 
 pub found-if_some : (name : List ℕ) (es : List Entry) (r : Option ℕ)
-    → position (bytes_eq name) (keys_of es) ≡ r
-    → IfSome r (λ i. IsFound name i es es)
+    → position (bytes_eq name) (keys_of es) ≡ r → IfSome r (λ i. IsFound name i es es)
 found-if_some name es None is = tt
 found-if_some name es (Some i) is = found-by_look_up name i es is
 
@@ -61,27 +53,25 @@ at-seam (y ∷ xs) x = at-seam xs x
 look_up-more : (test : List ℕ → Bool) (es more : List Entry) (satellite : SatelliteTail)
     → lookup test es ≡ Some satellite → lookup test (es ++ more) ≡ Some satellite
 look_up-more test [] more satellite h = absurd (none-some satellite h)
-look_up-more test (e ∷ es) more satellite h =
-    elim (cases_Bool (test e.0)) [
-      | inl t ↦ rw t (rw t at h)
-      | inr f ↦ rw f (look_up-more test es more satellite (rw f at h))
-    ]
+look_up-more test (e ∷ es) more satellite h = elim (cases_Bool (test e.0)) [
+  | inl t ↦ rw t (rw t at h)
+  | inr f ↦ rw f (look_up-more test es more _ (rw f at h))
+]
 
 pub found-added : (name : List ℕ) (satellite : SatelliteTail) (es new : List Entry)
     → new ≡ es ++ (name, satellite) ∷ [] → IsFound name (length es) es new
-found-added name satellite es new is =
-    record {
-      satellite = satellite;
-      there = ap (λ xs. slice_get xs (length es)) is ∙ at-seam es (name, satellite);
-      front = λ count within. ap (take count) is ∙ take-append-le count es ((name, satellite) ∷ []) within;
-      known = λ within. absurd (omega (arith, within));
-      rooms = rooms-kept es new (λ other found known. (
-        found,
-        ap (lookup (bytes_eq other)) is
-            ∙ look_up-more (bytes_eq other) es ((name, satellite) ∷ []) found known,
-        omega arith,
-      ));
-    }
+found-added name satellite es new is = record {
+  satellite = satellite;
+  there = ap (λ xs. slice_get xs (length es)) is ∙ at-seam es _;
+  front = λ count within. ap (take count) is ∙ take-append-le count es _ within;
+  known = λ within. absurd (omega (arith, within));
+  rooms = rooms-kept es new (λ other found known. (
+    found,
+    ap (lookup (bytes_eq other)) is
+        ∙ look_up-more (bytes_eq other) es ((name, satellite) ∷ []) found known,
+    omega arith,
+  ));
+}
 
 pub none-there : {X : Type 0} (r : Option X) → is_some r ≡ false → r ≡ None
 none-there None h = refl
@@ -91,8 +81,7 @@ none-there (Some x) h = absurd (false≢true (sym h))
 pub not-found : (name : List ℕ) (es : List Entry) → is_some (lookup (bytes_eq name) es) ≡ false
     → is_among key_of name es ≡ false
 not-found name [] h = refl
-not-found name (e ∷ es) h =
-    elim (cases_Bool (bytes_eq name e.0)) [
-      | inl t ↦ absurd (false≢true (sym h ∙ rw t refl))
-      | inr f ↦ rw (other_way name e.0 f) (not-found name es (rw f at h))
-    ]
+not-found name (e ∷ es) h = elim (cases_Bool (bytes_eq name e.0)) [
+  | inl t ↦ absurd (false≢true (sym h ∙ rw t refl))
+  | inr f ↦ rw (other_way name e.0 f) (not-found name es (rw f at h))
+]

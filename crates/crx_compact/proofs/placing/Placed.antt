@@ -1,11 +1,12 @@
 -- What is answered of a satellite that comes.
-use Rattle.std.proofs.Common.{◌≡◌, ℕ, ◌+◌, ◌<◌, ◌≤◌, Bool, true, false, not, List, length, slice_get, Some, None}
-use Rattle.std.proofs.Common.{IsTrue, ◌↔◌, ap, arith, refl, sym, true≢false, ◌∙◌}
+use Rattle.std.proofs.Common.{◌≡◌, ℕ, ◌+◌, ◌<◌, ◌≤◌, Bool, true, false, not, List, length, slice_get, Some}
+use Rattle.std.proofs.Common.{None, IsTrue, ◌↔◌, ap, arith, refl, sym, true≢false, ◌∙◌, rules}
 use Rattle.std.specs.Str.{bytes_eq}
 use Rattle.indexmap.specs.IndexMap.{IndexMap, IsUnique}
 use Rattle.crx_header.specs.meaning.Satellites.{is_among}
 use Rattle.crx_compact.specs.Entries.{Entry, IsFound, IsPutNext, IsRevived, key_of, placed_rows, rooms_of}
-use Rattle.crx_compact.specs.Placing.{AnswersPlacing, HasAskedRoom, HasSameRooms, IsPlaced, PlacedRows, SatelliteTail}
+use Rattle.crx_compact.specs.Placing.{AnswersPlacing, HasAskedRoom, HasSameRooms, IsPlaced, PlacedRows}
+use Rattle.crx_compact.specs.Placing.{SatelliteTail}
 use Rattle.crx_compact.specs.Tails.{RowTail}
 use Rattle.crx_compact.proofs.ComeRows.{come-asked}
 use Rattle.crx_compact.proofs.placing.Coming.{come-anew, come-awaited, is-new, repeated, unknown-no_row}
@@ -16,18 +17,17 @@ same-rooms : (rooms : List (List ℕ × ℕ)) → HasSameRooms rooms rooms
 same-rooms rooms = record { forth = λ name count has. has; back = λ name count has. has }
 
 -- it isn't known
-pub placed-unknown : {name : List ℕ} {count : ℕ} (placed live : ℕ) (es : List Entry) → is_among key_of name es ≡ false
-    → AnswersPlacing name count (placed_rows placed live es) (placed_rows placed live es) None
-placed-unknown {name} {count} placed live es none =
-    record {
-      placed = tt;
-      unplaced = λ out. record {
-        absent = unknown-no_row name placed es none;
-        unchanged = refl;
-        known = unknown name count es none;
-      };
-      rooms = same-rooms (rooms_of es);
-    }
+pub placed-unknown : {name : List ℕ} {count : ℕ} (placed live : ℕ) (es : List Entry) → is_among key_of name es
+    ≡ false → AnswersPlacing name count (placed_rows placed live es) (placed_rows placed live es) None
+placed-unknown {name} {count} placed live es none = record {
+  placed = tt;
+  unplaced = λ out. record {
+    absent = unknown-no_row name placed es none;
+    unchanged = refl;
+    known = unknown name count es none;
+  };
+  rooms = same-rooms _;
+}
 
 module _ {S : Type 0} (m : IndexMap (List ℕ) SatelliteTail S) {name : List ℕ} {placed live found : ℕ}
     (is : IsFound name found m.entries m.entries) (unique : IsUnique bytes_eq m)
@@ -36,84 +36,77 @@ module _ {S : Type 0} (m : IndexMap (List ℕ) SatelliteTail S) {name : List ℕ
   within = let few = order.0 in let all = order.1 in omega (arith, few, all)
 
   -- it has come already
-  pub placed-again : {count : ℕ} → found < placed
-      → AnswersPlacing name count (placed_rows placed live m.entries) (placed_rows placed live m.entries) (Some false)
-  placed-again before =
-      record {
-        placed = record {
-          answer = sym (ap not (repeated name placed live found m.entries m.entries is before within));
-          come = λ new. absurd (true≢false (sym new));
-          repeated = λ old. refl;
-          room = λ new. absurd (true≢false (sym new));
-        };
-        unplaced = λ none. absurd (cc none);
-        rooms = same-rooms (rooms_of m.entries);
-      }
+  pub placed-again : {count : ℕ} → found < placed → AnswersPlacing name count
+      (placed_rows placed live m.entries) (placed_rows placed live m.entries) (Some false)
+  placed-again before = record {
+    placed = record {
+      answer = cc (repeated name placed live found m.entries m.entries is before within);
+      come = λ new. absurd (true≢false (sym new));
+      repeated = λ old. refl;
+      room = λ new. absurd (true≢false (sym new));
+    };
+    unplaced = λ none. absurd (cc none);
+    rooms = same-rooms _;
+  }
 
   module _ (behind : placed ≤ found) {count : ℕ} {has : Bool}
-      (answer : (entry : Entry) → slice_get m.entries found ≡ Some entry → IsTrue has ↔ (count ≤ entry.1.room)) where
+      (answer : (entry : Entry) → slice_get m.entries found ≡ Some entry
+      → IsTrue has ↔ (count ≤ entry.1.room)) where
     new-here : is_among (λ (row : RowTail). row.name) name (placed_rows placed live m.entries).rows ≡ false
     new-here = is-new name placed live found m.entries m.entries is unique behind within
 
     -- it has too little room
-    pub placed-not : has ≡ false
-        → AnswersPlacing name count (placed_rows placed live m.entries) (placed_rows placed live m.entries) None
-    placed-not full =
-        record {
-          placed = tt;
-          unplaced = λ out. record {
-            absent = new-here;
-            unchanged = refl;
-            known = little-room m found name is unique count has answer full;
-          };
-          rooms = same-rooms (rooms_of m.entries);
-        }
+    pub placed-not : has ≡ false → AnswersPlacing name count
+        (placed_rows placed live m.entries) (placed_rows placed live m.entries) None
+    placed-not full = record {
+      placed = tt;
+      unplaced = λ out. record {
+        absent = new-here;
+        unchanged = refl;
+        known = little-room m found name is unique count has answer full;
+      };
+      rooms = same-rooms _;
+    }
 
     -- one of the epoch before comes
-    pub placed-next : has ≡ true → found < live → {new : List Entry} → IsPutNext placed found m.entries new
-        → AnswersPlacing name count (placed_rows placed live m.entries) (placed_rows (placed + 1) live new) (Some true)
-    placed-next roomy before {new} put =
-        record {
-          placed = record {
-            answer = sym (ap not new-here);
-            come = λ t. come-awaited name placed live found m.entries m.entries is new unique behind before order.1 put;
-            repeated = λ old. absurd (true≢false old);
-            room = λ t. put.rooms name count (enough-room m found name is unique count has answer roomy);
-          };
-          unplaced = λ none. absurd (cc none);
-          rooms = record { forth = put.rooms; back = put.back };
-        }
+    pub placed-next : has ≡ true
+        → found < live → {new : List Entry} → IsPutNext placed found m.entries new → AnswersPlacing name count
+        (placed_rows placed live m.entries) (placed_rows (placed + 1) live new) (Some true)
+    placed-next roomy before {new} put = record {
+      placed = record {
+        answer = sym (ap not new-here);
+        come = λ t. come-awaited name placed live found _ _ is new unique behind before order.1 put;
+        repeated = λ old. absurd (true≢false old);
+        room = λ t. put.rooms name count (enough-room m found name is unique count has answer roomy);
+      };
+      unplaced = λ none. absurd (cc none);
+      rooms = record { forth = put.rooms; back = put.back };
+    }
 
     -- any other one comes
     pub placed-anew : has ≡ true → live ≤ found → {revived new : List Entry}
-        → IsRevived live found m.entries revived → IsPutNext placed live revived new
-        → AnswersPlacing name count (placed_rows placed live m.entries) (placed_rows (placed + 1) (live + 1) new) (Some true)
-    placed-anew roomy beyond {revived} {new} anew put =
-        record {
-          placed = record {
-            answer = sym (ap not new-here);
-            come = λ t. come-anew name placed live found m.entries m.entries is revived new unique order.0 beyond order.1 anew put;
-            repeated = λ old. absurd (true≢false old);
-            room = λ t. put.rooms name count
-                (anew.rooms name count (enough-room m found name is unique count has answer roomy));
-          };
-          unplaced = λ none. absurd (cc none);
-          rooms = record {
-            forth = λ other n has. put.rooms other n (anew.rooms other n has);
-            back = λ other n has. anew.back other n (put.back other n has);
-          };
-        }
+        → IsRevived live found m.entries revived → IsPutNext placed live revived new → AnswersPlacing
+        name count (placed_rows placed live m.entries) (placed_rows (placed + 1) (live + 1) new) (Some true)
+    placed-anew roomy beyond {revived} {new} anew put = record {
+      placed = record {
+        answer = sym (ap not new-here);
+        come = λ t. come-anew name placed live found _ _ is _ new unique order.0 beyond order.1 anew put;
+        repeated = λ old. absurd (true≢false old);
+        room = λ t. put.rooms name count
+            (anew.rooms name count (enough-room m found name is unique count has answer roomy));
+      };
+      unplaced = λ none. absurd (cc none);
+      rooms = record {
+        forth = λ other n has. put.rooms other n (anew.rooms other n has);
+        back = λ other n has. anew.back other n (put.back other n has);
+      };
+    }
 
 -- one that had no room comes after room was asked for
 pub placed-asked : {name : List ℕ} {count : ℕ} {old asked new : PlacedRows} {is_new : Bool}
     → is_among (λ (row : RowTail). row.name) name old.rows ≡ false → HasAskedRoom old asked
     → IsPlaced name count asked new is_new → IsPlaced name count old new is_new
 placed-asked {name} {count} {old} {asked} {new} {is_new} absent same placed =
-    let answer : is_new ≡ not (is_among (λ (row : RowTail). row.name) name old.rows) =
-    placed.answer ∙ ap (λ (rows : List RowTail). not (is_among (λ (row : RowTail). row.name) name rows)) same.rows in
-    record {
-      answer = answer;
-      come = λ t. come-asked name old asked new same (placed.come t);
-      repeated = λ f. absurd (true≢false (sym (answer ∙ ap not absent) ∙ f));
-      room = placed.room;
-    }
+    let answer = placed.answer
+    ∙ ap (λ (rows : List RowTail). not (is_among (λ (row : RowTail). row.name) name rows)) same.rows in
+    search rules

@@ -21,21 +21,18 @@ pub rows-same : (es : List Entry) (i : ℕ) (name : List ℕ) (before after : Sa
     → slice_get es i ≡ Some (name, before) → after.flags ≡ before.flags → after.cells ≡ before.cells
     → map row_of_entry (set_value_at es i after) ≡ map row_of_entry es
 rows-same es i name before after there flags cells =
-    let there-is = get_or_from_slice_get es i (name, before) (name, before) there in
-    ap (map row_of_entry) (changed-is es i name before after there)
-    ∙ map-set_same row_of_entry es i (name, after) (name, before)
-    ((λ j. record { name = name; flags = flags j; cells = cells j }) ∙ ap row_of_entry (sym there-is))
+    ap (map row_of_entry) (changed-is es i name before after there) ∙ map-set_same row_of_entry es i
+    (name, after) (name, before) ((λ j. record { name = name; flags = flags j; cells = cells j })
+    ∙ ap row_of_entry (sym (get_or_from_slice_get es i (name, before) (name, before) there)))
 
 module _ (name : List ℕ) (found : ℕ) (old known new : List Entry) (is : IsFound name found old known)
     (same : map row_of_entry new ≡ map row_of_entry known) where
   pub front-same : (count : ℕ) → count ≤ length old
       → map row_of_entry (take count new) ≡ map row_of_entry (take count old)
   front-same count within =
-      sym (take-map row_of_entry count new) ∙ ap (take count) same ∙ take-map row_of_entry count known
-      ∙ ap (map row_of_entry) (is.front count within)
+      cc (take-map row_of_entry count new, same, take-map row_of_entry count known, is.front count within)
 
   pub range-same : (placed live : ℕ) → live ≤ length old
       → map row_of_entry (drop placed (take live new)) ≡ map row_of_entry (drop placed (take live old))
-  range-same placed live within =
-      sym (drop-map row_of_entry placed (take live new)) ∙ ap (drop placed) (front-same live within)
-      ∙ drop-map row_of_entry placed (take live old)
+  range-same placed live within = sym (drop-map _ placed _)
+      ∙ ap (drop placed) (front-same live within) ∙ drop-map _ placed _

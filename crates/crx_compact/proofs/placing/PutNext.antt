@@ -12,6 +12,7 @@ use Rattle.crx_compact.specs.Entries.{Entry, IsPutNext, key_of}
 use Rattle.crx_compact.specs.meaning.Sequences.{named}
 use Rattle.crx_compact.proofs.placing.Ranges.{rest-brought, rest-next, swap-is}
 use Rattle.crx_compact.proofs.placing.Rooms.{rooms-kept}
+use Rattle.std.proofs.lemmas.Grind.{common_steps}
 
 -- at each index there is one
 pub there-is : {X : Type 0} (xs : List X) (i : ℕ) → i < length xs → (x : X) × (slice_get xs i ≡ Some x)
@@ -30,38 +31,25 @@ take-there (y ∷ xs) (suc i) x there = ap (λ (zs : List _). y ∷ zs) (take-th
 pub put-same : (placed : ℕ) (es : List Entry) → IsPutNext placed placed es es
 put-same placed es =
     let next : placed + 1 ≡ suc placed = omega arith in
-    record {
-      come = λ entry there. ap (λ n. take n es) next ∙ take-there es placed entry there;
-      others = λ live entry other before there differs.
-          ap (λ n. named key_of other (drop n (take live es))) next
-          ∙ rest-next placed live es entry other before there differs;
-      counted = refl;
-      rooms = λ name count has. has;
-      back = λ name count has. has;
-    }
+    grind (arith, common_steps, take-there, key_of, rest-next)
 
 -- where it is brought from further behind
-pub put-brought : (placed found : ℕ) (old new : List Entry) → placed < found → found < length old
-    → new ≡ swap old found placed → IsDistinct bytes_eq (keys_of old)
-    → ((name : List ℕ) → lookup (bytes_eq name) new ≡ lookup (bytes_eq name) old)
-    → IsPutNext placed found old new
+pub put-brought : (placed found : ℕ) (old new : List Entry) → placed < found
+    → found < length old → new ≡ swap old found placed → IsDistinct bytes_eq (keys_of old) → ((name : List ℕ)
+    → lookup (bytes_eq name) new ≡ lookup (bytes_eq name) old) → IsPutNext placed found old new
 put-brought placed found old new before within is apart looked =
     let first = there-is old placed (omega arith) in
     let a = first.0 in
     let next : placed + 1 ≡ suc placed = omega arith in
     record {
-      come = λ entry there.
-          ap (take (placed + 1)) (is ∙ swap-is old found placed entry a there first.1)
+      come = λ entry there. ap (take (placed + 1)) (is ∙ swap-is old found placed entry a there first.1)
           ∙ take_more_set (set old found a) placed entry (omega (arith, length-set old found a))
           ∙ ap (λ es. es ++ entry ∷ []) (take-set-le placed old found a (omega arith));
-      others = λ live entry other near there differs.
-          ap (λ es. named key_of other (drop (placed + 1) (take live es)))
-          (is ∙ swap-is old found placed entry a there first.1)
-          ∙ ap (λ es. named key_of other (drop (placed + 1) es))
-          (take-set-lt live (set old found a) placed entry (omega arith))
-          ∙ ap (named key_of other)
-          (drop-set-lt (placed + 1) (take live (set old found a)) placed entry (omega arith))
-          ∙ ap (λ n. named key_of other (drop n (take live (set old found a)))) next
+      others = λ live entry other near there differs. ap (λ es. named key_of other (drop (placed + 1)
+          (take live es))) (is ∙ swap-is old found placed entry a there first.1) ∙ ap (λ es. named
+          key_of other (drop (placed + 1) es)) (take-set-lt live (set old found a) placed entry (omega arith))
+          ∙ ap (named key_of other) (drop-set-lt (placed + 1) (take live (set old found a)) placed entry
+          (omega arith)) ∙ ap (λ n. named key_of other (drop n (take live (set old found a)))) next
           ∙ rest-brought placed live found old a entry other before near first.1 there apart differs;
       counted = ap length is ∙ length-swap old found placed;
       rooms = rooms-kept old new (λ name satellite known. (satellite, looked name ∙ known, omega arith));

@@ -1,8 +1,7 @@
 -- Entries of a map in ranges, one after the other: where an identifier is, and what a swap leaves of them.
-use Rattle.std.proofs.Common.{◌≡◌, ℕ, zero, suc, ◌<◌, ◌≤◌, true, false, List, [], ◌∷◌}
-use Rattle.std.proofs.Common.{take, drop, set, map, swap, slice_get, Option, Some, None, option_map, refl, ap}
-use Rattle.std.proofs.Common.{sym}
-use Rattle.std.proofs.Common.{◌∙◌, inl, inr, arith, if◌then◌else◌, subst}
+use Rattle.std.proofs.Common.{◌≡◌, ℕ, zero, suc, ◌<◌, ◌≤◌, true, false, List, [], ◌∷◌, take, drop, set, map}
+use Rattle.std.proofs.Common.{swap, slice_get, Option, Some, None, option_map, refl, ap, sym, ◌∙◌, inl, inr}
+use Rattle.std.proofs.Common.{arith, if◌then◌else◌, subst, rules}
 use Rattle.std.specs.Str.{bytes_eq}
 use Rattle.std.specs.List.{AllByRecursion, IsDistinct}
 use Rattle.std.specs.Map.{keys_of}
@@ -19,7 +18,7 @@ pub swap-is : {X : Type 0} (xs : List X) (i j : ℕ) (a b : X)
     → slice_get xs i ≡ Some a → slice_get xs j ≡ Some b → swap xs i j ≡ set (set xs i b) j a
 swap-is [] i j a b here there = absurd (none-some a here)
 swap-is (x ∷ xs) i j a b here there =
-    rw (get_or_from_slice_get (x ∷ xs) i a x here, get_or_from_slice_get (x ∷ xs) j b x there) refl
+    rw (get_or_from_slice_get _ i a x here, get_or_from_slice_get _ j b x there) refl
 
 -- in a list of what is made of things, the first of an identifier is made of the first of it
 pub named-map : {X Y : Type 0} (f : Y → List ℕ) (g : X → Y) (name : List ℕ) (xs : List X)
@@ -46,18 +45,15 @@ module _ {V : Type 0} where
   name_of e = e.0
 
   -- an identifier that differs from all differs from the one at an index
-  apart-at : (name : List ℕ) (es : List (List ℕ × V)) (i : ℕ) (e : List ℕ × V)
-      → AllByRecursion (λ other. bytes_eq name other ≡ false) (keys_of es) → slice_get es i ≡ Some e
-      → bytes_eq name e.0 ≡ false
+  apart-at : (name : List ℕ) (es : List (List ℕ × V)) (i : ℕ) (e : List ℕ × V) → AllByRecursion (λ other.
+      bytes_eq name other ≡ false) (keys_of es) → slice_get es i ≡ Some e → bytes_eq name e.0 ≡ false
   apart-at name [] i e h there = absurd (none-some e there)
-  apart-at name (x ∷ es) zero e h there =
-      ap (λ (y : List ℕ × V). bytes_eq name y.0) (sym (same_Some x e there)) ∙ h.0
+  apart-at name (x ∷ es) zero e h there = cc (same_Some x e there, h.0)
   apart-at name (x ∷ es) (suc i) e h there = apart-at name es i e h.1 there
 
   -- one that is at an index isn't among those before it
-  pub not-before : (n : ℕ) (es : List (List ℕ × V)) (i : ℕ) (e : List ℕ × V)
-      → IsDistinct bytes_eq (keys_of es) → slice_get es i ≡ Some e → n ≤ i
-      → is_among name_of e.0 (take n es) ≡ false
+  pub not-before : (n : ℕ) (es : List (List ℕ × V)) (i : ℕ) (e : List ℕ × V) → IsDistinct bytes_eq
+      (keys_of es) → slice_get es i ≡ Some e → n ≤ i → is_among name_of e.0 (take n es) ≡ false
   not-before zero es i e h there before = refl
   not-before (suc n) [] i e h there before = refl
   not-before (suc n) (x ∷ es) zero e h there before = absurd (omega (arith, before))
@@ -72,11 +68,10 @@ module _ {V : Type 0} where
   among-up_to (suc n) [] i e there within = absurd (none-some e there)
   among-up_to (suc n) (x ∷ es) zero e there within =
       rw (ap (λ (y : List ℕ × V). bytes_eq y.0 e.0) (same_Some x e there) ∙ bytes_eq-same e.0) refl
-  among-up_to (suc n) (x ∷ es) (suc i) e there within =
-      elim (cases_Bool (bytes_eq x.0 e.0)) [
-        | inl t ↦ rw t refl
-        | inr f ↦ rw f (among-up_to n es i e there (omega (arith, within)))
-      ]
+  among-up_to (suc n) (x ∷ es) (suc i) e there within = elim (cases_Bool (bytes_eq x.0 e.0)) [
+    | inl t ↦ rw t refl
+    | inr f ↦ rw f (among-up_to n es i e there (omega (arith, within)))
+  ]
 
   -- one in a range is found there
   pub found-in_range : (start end : ℕ) (es : List (List ℕ × V)) (i : ℕ) (e : List ℕ × V)
@@ -87,14 +82,11 @@ module _ {V : Type 0} where
   found-in_range zero (suc end) (x ∷ es) zero e h there after before =
       rw (ap (λ (y : List ℕ × V). bytes_eq y.0 e.0) (same_Some x e there) ∙ bytes_eq-same e.0) there
   found-in_range zero (suc end) (x ∷ es) (suc i) e h there after before =
-      rw (apart-at x.0 es i e (IsDistinct-head bytes_eq x.0 (keys_of es) h) there)
-      (found-in_range zero end es i e (IsDistinct-tail bytes_eq x.0 (keys_of es) h) there (omega arith)
-      (omega (arith, before)))
+      rw (apart-at x.0 es i e (IsDistinct-head bytes_eq x.0 (keys_of es) h) there) (found-in_range zero
+      end es i e (IsDistinct-tail bytes_eq x.0 (keys_of es) h) there (omega arith) (omega (arith, before)))
   found-in_range (suc start) (suc end) (x ∷ es) zero e h there after before = absurd (omega (arith, after))
-  found-in_range (suc start) (suc end) (x ∷ es) (suc i) e h there after before =
-      found-in_range start end es i e (IsDistinct-tail bytes_eq x.0 (keys_of es) h) there
-      (omega (arith, after))
-      (omega (arith, before))
+  found-in_range (suc start) (suc end) (x ∷ es) (suc i) e h there after before = found-in_range start end es
+      i e (IsDistinct-tail bytes_eq x.0 (keys_of es) h) there (omega (arith, after)) (omega (arith, before))
 
   -- in a range that is longer by one, all others are found as before
   pub rest-one_more : (start end : ℕ) (es : List (List ℕ × V)) (e : List ℕ × V) (other : List ℕ)
@@ -105,8 +97,7 @@ module _ {V : Type 0} where
       rw (ap (λ (y : List ℕ × V). bytes_eq y.0 other) (same_Some x e there) ∙ differs) refl
   rest-one_more (suc start) zero (x ∷ es) e other within there differs = absurd (omega (arith, within))
   rest-one_more zero (suc end) (x ∷ es) e other within there differs =
-      ap (λ (r : Option (List ℕ × V)). if bytes_eq x.0 other then Some x else r)
-      (rest-one_more zero end es e other (omega arith) there differs)
+      cc (rest-one_more zero end es e other (omega arith) there differs)
   rest-one_more (suc start) (suc end) (x ∷ es) e other within there differs =
       rest-one_more start end es e other (omega (arith, within)) there differs
 
@@ -122,42 +113,33 @@ module _ {V : Type 0} where
       rest-next start end es e other (omega (arith, within)) there differs
 
   -- one in the place of another is found as if it were the first one, by an identifier that isn't the other's
-  in_place : (end i : ℕ) (es : List (List ℕ × V)) (a b : List ℕ × V) (other : List ℕ)
-      → i < end → slice_get es i ≡ Some b → AllByRecursion (λ name. bytes_eq a.0 name ≡ false) (keys_of es)
-      → bytes_eq b.0 other ≡ false
-      → named name_of other (take end (set es i a)) ≡ named name_of other (a ∷ take end es)
+  in_place : (end i : ℕ) (es : List (List ℕ × V)) (a b : List ℕ × V) (other : List ℕ) → i < end
+      → slice_get es i ≡ Some b → AllByRecursion (λ name. bytes_eq a.0 name ≡ false) (keys_of es) → bytes_eq
+      b.0 other ≡ false → named name_of other (take end (set es i a)) ≡ named name_of other (a ∷ take end es)
   in_place end i [] a b other within there new differs = absurd (none-some b there)
   in_place zero i (x ∷ es) a b other within there new differs = absurd (omega (arith, within))
   in_place (suc end) zero (x ∷ es) a b other within there new differs =
       rw (ap (λ (y : List ℕ × V). bytes_eq y.0 other) (same_Some x b there) ∙ differs) refl
   in_place (suc end) (suc i) (x ∷ es) a b other within there new differs =
       elim (cases_Bool (bytes_eq x.0 other)) [
-        | inl t ↦
-            let same : x.0 ≡ other = (bytes_eq-Decides x.0 other).0 t in
-            let apart : bytes_eq a.0 other ≡ false = ap (λ (n : List ℕ). bytes_eq a.0 n) (sym same) ∙ new.0 in
-            rw (t, apart) refl
+        | inl t ↦ search rules
         | inr f ↦ rw f (in_place end i es a b other (omega (arith, within)) there new.1 differs)
       ]
 
   -- the same in a range that loses its first one, which is put in the place of the other
   pub rest-brought : (start end i : ℕ) (es : List (List ℕ × V)) (a b : List ℕ × V) (other : List ℕ)
       → start < i → i < end → slice_get es start ≡ Some a → slice_get es i ≡ Some b
-      → IsDistinct bytes_eq (keys_of es)
-      → bytes_eq b.0 other ≡ false
-      → named name_of other (drop (suc start) (take end (set es i a)))
-      ≡ named name_of other (drop start (take end es))
+      → IsDistinct bytes_eq (keys_of es) → bytes_eq b.0 other ≡ false → named name_of other
+      (drop (suc start) (take end (set es i a))) ≡ named name_of other (drop start (take end es))
   rest-brought start end i [] a b other after before here there h differs = absurd (none-some b there)
   rest-brought start zero i (x ∷ es) a b other after before here there h differs =
       absurd (omega (arith, before))
   rest-brought start (suc end) zero (x ∷ es) a b other after before here there h differs =
       absurd (omega (arith, after))
   rest-brought zero (suc end) (suc i) (x ∷ es) a b other after before here there h differs =
-      let same : x ≡ a = same_Some x a here in
-      let new = IsDistinct-head bytes_eq x.0 (keys_of es) h in
-      in_place end i es a b other (omega (arith, before)) there
-      (subst (λ (y : List ℕ × V). AllByRecursion (λ name. bytes_eq y.0 name ≡ false) (keys_of es)) same new)
-      differs
-      ∙ ap (λ (y : List ℕ × V). named name_of other (y ∷ take end es)) (sym same)
+      let same = same_Some x a here in
+      in_place end i es a b other (omega (arith, before)) there (rw (← same) (IsDistinct-head bytes_eq x.0
+      (keys_of es) h)) differs ∙ ap (λ (y : List ℕ × V). named name_of other (y ∷ take end es)) (sym same)
   rest-brought (suc start) (suc end) (suc i) (x ∷ es) a b other after before here there h differs =
       rest-brought start end i es a b other (omega (arith, after)) (omega (arith, before)) here there
       (IsDistinct-tail bytes_eq x.0 (keys_of es) h) differs

@@ -1,7 +1,6 @@
 -- A satellite that comes back is the first one behind those that mean something, with nothing stored.
 use Rattle.std.proofs.Common.{◌≡◌, ℕ, ◌<◌, ◌≤◌, List, [], length, take, set, slice_get, swap, Option, Some}
-use Rattle.std.proofs.Common.{ap, sym, ◌∙◌, arith}
-use Rattle.std.proofs.Common.{length-set, refl}
+use Rattle.std.proofs.Common.{ap, sym, ◌∙◌, arith, length-set, refl, rules}
 use Rattle.std.specs.Str.{bytes_eq}
 use Rattle.std.specs.Map.{lookup}
 use Rattle.std.proofs.lemmas.List.{take-set-le}
@@ -15,6 +14,7 @@ use Rattle.crx_compact.proofs.placing.EntryChanges.{changed-is, rooms-changed, r
 use Rattle.crx_compact.proofs.placing.PutNext.{there-is}
 use Rattle.crx_compact.proofs.placing.Ranges.{swap-is}
 use Rattle.crx_compact.proofs.placing.Rooms.{rooms-kept}
+use Rattle.std.proofs.lemmas.Grind.{common_steps}
 
 abbrev pub emptied : SatelliteTail → SatelliteTail
 emptied satellite = record satellite { flags = []; cells = [] }
@@ -26,12 +26,9 @@ module _ {S : Type 0} (m : IndexMap (List ℕ) SatelliteTail S) (found : ℕ) (n
     (before after : SatelliteTail) (unique : IsUnique bytes_eq m)
     (there : slice_get m.entries found ≡ Some (name, before)) (is : after ≡ emptied before) where
   -- the one that is found is the one that is emptied
-  emptied-is : (other : List ℕ) (satellite : SatelliteTail)
-      → slice_get m.entries found ≡ Some (other, satellite)
-      → entry_of name after ≡ entry_of other (emptied satellite)
-  emptied-is other satellite also =
-      let same = same_Some (name, before) (other, satellite) (sym there ∙ also) in
-      ap (entry_of name) is ∙ ap (λ (e : Entry). entry_of e.0 (emptied e.1)) same
+  emptied-is : (other : List ℕ) (satellite : SatelliteTail) → slice_get m.entries found
+      ≡ Some (other, satellite) → entry_of name after ≡ entry_of other (emptied satellite)
+  emptied-is other satellite also = search rules
 
   set-is : set_value_at m.entries found after ≡ set m.entries found (name, after)
   set-is = changed-is m.entries found name before after there
@@ -47,23 +44,19 @@ module _ {S : Type 0} (m : IndexMap (List ℕ) SatelliteTail S) (found : ℕ) (n
 
   -- it is there already
   pub revived-there : IsRevived found found m.entries (set_value_at m.entries found after)
-  revived-there =
-      record {
-        there = λ other satellite also.
-            ap (λ es. slice_get es found) set-is ∙ set-there m.entries found (name, after) within
-            ∙ emptied-is other satellite also;
-        front = ap (take found) set-is ∙ take-set-le found m.entries found (name, after) (omega arith);
-        counted = length-set_value_at m.entries found after;
-        rooms = rooms-changed m found name before after unique there (rooms after.room refl);
-        back = rooms-changed-back m found name before after unique there fewer;
-      }
+  revived-there = record {
+    there = λ other satellite also. ap (λ es. slice_get es found) set-is
+        ∙ set-there _ found _ within ∙ emptied-is other _ also;
+    front = ap (take found) set-is ∙ take-set-le found _ found _ (omega arith);
+    counted = length-set_value_at _ found after;
+    rooms = rooms-changed m found name before after unique there (rooms after.room refl);
+    back = rooms-changed-back m found name before after unique there fewer;
+  }
 
   -- it is brought from further behind
-  pub revived-brought : (live : ℕ) (new : List Entry) → live < found
-      → new ≡ swap (set_value_at m.entries found after) found live
-      → ((other : List ℕ)
-      → lookup (bytes_eq other) new ≡ lookup (bytes_eq other) (set_value_at m.entries found after))
-      → IsRevived live found m.entries new
+  pub revived-brought : (live : ℕ) (new : List Entry) → live < found → new
+      ≡ swap (set_value_at m.entries found after) found live → ((other : List ℕ) → lookup (bytes_eq other) new
+      ≡ lookup (bytes_eq other) (set_value_at m.entries found after)) → IsRevived live found m.entries new
   revived-brought live new behind swapped looked =
       let es = set_value_at m.entries found after in
       let counted : length es ≡ length m.entries = length-set_value_at m.entries found after in
@@ -75,15 +68,8 @@ module _ {S : Type 0} (m : IndexMap (List ℕ) SatelliteTail S) (found : ℕ) (n
       let made : new ≡ set (set es found a) live (name, after) =
       swapped ∙ swap-is es found live (name, after) a here first.1 in
       record {
-        there = λ other satellite also.
-            ap (λ es. slice_get es live) made
-            ∙ set-there (set es found a) live (name, after)
-            (omega (arith, length-set es found a, near, counted, behind))
-            ∙ emptied-is other satellite also;
-        front =
-            ap (take live) made ∙ take-set-le live (set es found a) live (name, after) (omega arith)
-            ∙ take-set-le live es found a (omega (arith, behind))
-            ∙ ap (take live) set-is ∙ take-set-le live m.entries found (name, after) (omega (arith, behind));
+        there = grind (arith, common_steps, slice_get, set-there, length-set, emptied-is);
+        front = grind (arith, common_steps, take-set-le, set-is);
         counted = ap length swapped ∙ length-swap es found live ∙ counted;
         rooms = λ other count has.
             rooms-kept es new (λ n satellite known. (satellite, looked n ∙ known, omega arith)) other count
@@ -91,8 +77,7 @@ module _ {S : Type 0} (m : IndexMap (List ℕ) SatelliteTail S) (found : ℕ) (n
         back = λ other count has. rooms-changed-back m found name before after unique there fewer other count
             (rooms-kept new es (λ n satellite known. (
               satellite,
-              sym (looked n)
-                  ∙ known,
+              sym (looked n) ∙ known,
               omega arith,
             )) other count has);
       }

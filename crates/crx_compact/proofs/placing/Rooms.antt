@@ -1,7 +1,6 @@
 -- The room of the satellites that are known, by look-ups in their map.
-use Rattle.std.proofs.Common.{◌≡◌, ℕ, ◌≤◌, true, false, List, [], ◌∷◌}
-use Rattle.std.proofs.Common.{Option, Some, None, option_map, refl}
-use Rattle.std.proofs.Common.{ap, sym, ◌∙◌, inl, inr, arith, subst}
+use Rattle.std.proofs.Common.{◌≡◌, ℕ, ◌≤◌, true, false, List, [], ◌∷◌, Option, Some, None, option_map, refl}
+use Rattle.std.proofs.Common.{ap, sym, ◌∙◌, inl, inr, arith, subst, rules}
 use Rattle.std.specs.Str.{bytes_eq}
 use Rattle.std.specs.Map.{lookup}
 use Rattle.std.proofs.lemmas.Bool.{cases_Bool, false≢true}
@@ -18,57 +17,41 @@ abbrev pub room_as : List ℕ → SatelliteTail → List ℕ × ℕ
 room_as name satellite = (name, satellite.room)
 
 -- the room of a satellite is that of the one that a look-up finds
-pub room-by_look_up : (name : List ℕ) (es : List Entry)
-    → named (λ (r : List ℕ × ℕ). r.0) name (rooms_of es)
+pub room-by_look_up : (name : List ℕ) (es : List Entry) → named (λ (r : List ℕ × ℕ). r.0) name (rooms_of es)
     ≡ option_map (room_as name) (lookup (bytes_eq name) es)
 room-by_look_up name [] = refl
 room-by_look_up name (e ∷ es) = elim (cases_Bool (bytes_eq e.0 name)) [
-  | inl t ↦
-      let same : e.0 ≡ name = (bytes_eq-Decides e.0 name).0 t in
-      let also : bytes_eq name e.0 ≡ true = ap (λ (n : List ℕ). bytes_eq name n) same ∙ bytes_eq-same name in
-      rw (t, also) (ap (λ (n : List ℕ). Some (n, e.1.room)) same)
+  | inl t ↦ search rules
   | inr f ↦ rw (f, other_way e.0 name f) (room-by_look_up name es)
 ]
 
 -- what has room is known, and so is how much
 pub known-room : (name : List ℕ) (count : ℕ) (es : List Entry) → HasRoom name count (rooms_of es)
     → (satellite : SatelliteTail) × (lookup (bytes_eq name) es ≡ Some satellite) × (count ≤ satellite.room)
-known-room name count es h =
-    by (lookup (bytes_eq name) es) refl (sym (room-by_look_up name es) ∙ h.there)
+known-room name count es h = by (lookup (bytes_eq name) es) refl (sym (room-by_look_up name es) ∙ h.there)
   where
-    by : (r : Option SatelliteTail) → lookup (bytes_eq name) es ≡ r
-        → option_map (room_as name) (lookup (bytes_eq name) es) ≡ Some (name, h.room)
-        → (satellite : SatelliteTail)
+    by : (r : Option SatelliteTail) → lookup (bytes_eq name) es ≡ r → option_map
+        (room_as name) (lookup (bytes_eq name) es) ≡ Some (name, h.room) → (satellite : SatelliteTail)
         × (lookup (bytes_eq name) es ≡ Some satellite) × (count ≤ satellite.room)
     by None is e = absurd (none-some (name, h.room) (ap (option_map (room_as name)) (sym is) ∙ e))
-    by (Some satellite) is e =
-        let same : (name, satellite.room) ≡ (name, h.room) =
-        same_Some (name, satellite.room) (name, h.room)
-        (ap (option_map (room_as name)) (sym is) ∙ e) in
-        let rooms : satellite.room ≡ h.room = ap {B = ℕ} (λ (p : List ℕ × ℕ). p.1) same in
-        let within = h.within in
-        (satellite, is, subst (λ room. count ≤ room) (sym rooms) within)
+    by (Some satellite) is e = search rules
 
 pub room-from_look_up : (name : List ℕ) (count : ℕ) (es : List Entry) (satellite : SatelliteTail)
     → lookup (bytes_eq name) es ≡ Some satellite → count ≤ satellite.room → HasRoom name count (rooms_of es)
-room-from_look_up name count es satellite is within =
-    record {
-      room = satellite.room;
-      there = room-by_look_up name es ∙ ap (option_map (room_as name)) is;
-      within = within;
-    }
+room-from_look_up name count es satellite is within = record {
+  room = satellite.room;
+  there = cc (room-by_look_up name es, is);
+  within = within;
+}
 
 -- each satellite that is known stays known, and has no less room
-pub rooms-kept : (old new : List Entry)
-    → ((name : List ℕ) (satellite : SatelliteTail) → lookup (bytes_eq name) old ≡ Some satellite
-    → (after : SatelliteTail) × (lookup (bytes_eq name) new ≡ Some after) × (satellite.room ≤ after.room))
-    → KeepsRooms (rooms_of old) (rooms_of new)
+pub rooms-kept : (old new : List Entry) → ((name : List ℕ) (satellite : SatelliteTail) → lookup
+    (bytes_eq name) old ≡ Some satellite → (after : SatelliteTail) × (lookup (bytes_eq name) new ≡ Some after)
+    × (satellite.room ≤ after.room)) → KeepsRooms (rooms_of old) (rooms_of new)
 rooms-kept old new h name count has =
     let known = known-room name count old has in
     let after = h name known.0 known.1 in
-    let few = known.2 in
-    let kept = after.2 in
-    room-from_look_up name count new after.0 after.1 (omega (arith, few, kept))
+    room-from_look_up name count new after.0 after.1 (omega (arith, known.2, after.2))
 
 pub same-rooms : (old new : List Entry) → new ≡ old → KeepsRooms (rooms_of new) (rooms_of old)
 same-rooms old new is = λ name count has. subst (λ (es : List Entry). HasRoom name count (rooms_of es)) is has

@@ -1,8 +1,7 @@
 -- What is stored of one satellite among those that have come changes: its row, and no other one.
 use Rattle.std.proofs.Common.{◌≡◌, ℕ, zero, suc, ◌-◌, ◌<◌, ◌≤◌, List, [], ◌∷◌, ◌++◌, length, map, take}
-use Rattle.std.proofs.Common.{slice_get, drop}
-use Rattle.std.proofs.Common.{Option, Some, None, option_map, refl, ap, sym, ◌∙◌}
-use Rattle.std.proofs.Common.{arith, slice_set, slice_index_or}
+use Rattle.std.proofs.Common.{slice_get, drop, Option, Some, None, option_map, refl, ap, sym, ◌∙◌, arith}
+use Rattle.std.proofs.Common.{slice_set, slice_index_or}
 use Rattle.std.specs.Prelude.{flat_map}
 use Rattle.std.specs.Str.{bytes_eq}
 use Rattle.std.proofs.Math.Seq.{take-set-lt}
@@ -52,43 +51,35 @@ pub row-at : (placed : ℕ) {i : ℕ} {es : List Entry} {e : Entry} → i < leng
     → slice_get es i ≡ Some e → IsRowAt placed i es e
 row-at placed {i} {es} {e} within entry =
     let below = among-placed placed i es within in
-    let there : slice_get (rows_of placed es) i ≡ Some (row_of_entry e) =
-    slice_get-map row_of_entry (take placed es) i ∙ ap (option_map row_of_entry) (get-take placed i es below ∙ entry) in
-    record {
-      below = below;
-      there = there;
-      is = λ row also. same_Some (row_of_entry e) row (sym there ∙ also);
-    }
+    let there =
+    slice_get-map _ (take placed es) i ∙ ap (option_map row_of_entry) (get-take placed i es below ∙ entry) in
+    record { below = below; there = there; is = λ row also. same_Some _ row (sym there ∙ also) }
 
 -- ---- what is stored of the satellite at an index changes
 
 pub order-kept : {placed live : ℕ} (i : ℕ) (es : List Entry) (after : SatelliteTail)
     → (placed ≤ live) × (live ≤ length es) → (placed ≤ live) × (live ≤ length (set_value_at es i after))
-order-kept i es after order =
-    let all = order.1 in (order.0, omega (arith, all, length-set_value_at es i after))
+order-kept i es after order = (order.0, omega (arith, order.1, length-set_value_at es i after))
 
 module _ {S : Type 0} (m : IndexMap (List ℕ) SatelliteTail S) (placed live : ℕ) {i : ℕ} {name : List ℕ}
     {before : SatelliteTail} (within : i < length (rows_of placed m.entries))
     (there : slice_get m.entries i ≡ Some (name, before)) (after : SatelliteTail) where
   pub rows-changed : rows_of placed (set_value_at m.entries i after)
       ≡ slice_set (rows_of placed m.entries) i (row_tail_of name after)
-  rows-changed =
-      ap (rows_of placed) (changed-is m.entries i name before after there)
-      ∙ ap (map row_of_entry)
+  rows-changed = ap (rows_of placed) (changed-is m.entries i name before after there) ∙ ap (map row_of_entry)
       (take-set-lt placed m.entries i (name, after) (among-placed placed i m.entries within))
-      ∙ map-set row_of_entry (take placed m.entries) i (name, after)
+      ∙ map-set _ _ i (name, after)
 
   -- and the rest stays
-  pub rest-kept : (placed ≤ live) × (live ≤ length m.entries) → IsUnique bytes_eq m → before.room ≤ after.room
-      → KeepsRest (placed_rows placed live m.entries) (placed_rows placed live (set_value_at m.entries i after))
+  pub rest-kept : (placed ≤ live) × (live ≤ length m.entries)
+      → IsUnique bytes_eq m → before.room ≤ after.room → KeepsRest
+      (placed_rows placed live m.entries) (placed_rows placed live (set_value_at m.entries i after))
   rest-kept order unique more =
-      let below = among-placed placed i m.entries within in
+      let below = among-placed placed i _ within in
       let few = order.0 in
       record {
-        rest =
-            ap (λ es. map row_of_entry (drop placed (take live es)))
-            (changed-is m.entries i name before after there)
-            ∙ ap (λ es. map row_of_entry (drop placed es))
+        rest = ap (λ es. map row_of_entry (drop placed (take live es)))
+            (changed-is m.entries i name before after there) ∙ ap (λ es. map row_of_entry (drop placed es))
             (take-set-lt live m.entries i (name, after) (omega (arith, below, few)))
             ∙ ap (map row_of_entry) (drop-set-lt placed (take live m.entries) i (name, after) below);
         rooms = rooms-changed m i name before after unique there more;
@@ -99,36 +90,28 @@ module _ {S : Type 0} (m : IndexMap (List ℕ) SatelliteTail S) (placed live : �
 pub last-is : {X : Type 0} (xs ys : List X) (x y : X) (i : ℕ) → xs ≡ ys ++ y ∷ [] → i ≡ length xs - 1
     → (slice_get xs i ≡ Some y) × (slice_set xs i x ≡ ys ++ x ∷ [])
 last-is xs [] x y i e is =
-    let one : length xs ≡ 1 = ap length e in
-    let at : i ≡ 0 = omega (arith, one, is) in
+    let at : i ≡ 0 = omega (arith, ap length e, is) in
     (rw (at, e) refl, rw (at, e) refl)
 last-is [] (z ∷ ys) x y i e is = absurd (none-some z (ap (λ (zs : List _). slice_get zs 0) e))
-last-is (w ∷ xs) (z ∷ ys) x y zero e is =
-    let long = ap length e in
-    absurd (many ys y (omega (arith, long, is)))
+last-is (w ∷ xs) (z ∷ ys) x y zero e is = absurd (many ys y (omega (arith, ap length e, is)))
   where
     many : {X : Type 0} (ys : List X) (y : X) → length (ys ++ y ∷ []) ≡ 0 → ⊥
     many [] y h = absurd (omega (arith, h))
     many (z ∷ ys) y h = absurd (omega (arith, h))
 last-is (w ∷ xs) (z ∷ ys) x y (suc i) e is =
-    let first : w ≡ z = same_Some w z (ap (λ (zs : List _). slice_get zs 0) e) in
-    let rest : xs ≡ ys ++ y ∷ [] = ap (λ (zs : List _). drop_one zs) e in
-    let next = last-is xs ys x y i rest (omega (arith, is)) in
-    (next.0, rw (first, next.1) refl)
+    let next = last-is xs ys x y i (ap (λ (zs : List _). drop_one zs) e) (omega (arith, is)) in
+    (next.0, rw (same_Some w z (ap (λ (zs : List _). slice_get zs 0) e), next.1) refl)
   where
     drop_one : {X : Type 0} → List X → List X
     drop_one [] = []
     drop_one (x ∷ xs) = xs
 
 -- a satellite by another count of types
-pub padded-is : (name : List ℕ) (count : ℕ) (satellite after : SatelliteTail)
-    → after ≡ record satellite {
-      flags = flags_held count satellite.flags;
-      cells = cells_for count
-          satellite.cells;
-    }
-    → row_tail_of name after ≡ padded (record { name = name; count = count })
-    (Some (row_tail_of name satellite))
+pub padded-is : (name : List ℕ) (count : ℕ) (satellite after : SatelliteTail) → after ≡ record satellite {
+  flags = flags_held count satellite.flags;
+  cells = cells_for count satellite.cells;
+} → row_tail_of name after
+    ≡ padded (record { name = name; count = count }) (Some (row_tail_of name satellite))
 padded-is name count satellite after is = ap (row_tail_of name) is
 
 pub ends-same : {X : Type 0} (xs ys : List X) (x y : X) → xs ++ x ∷ [] ≡ ys ++ y ∷ [] → x ≡ y
@@ -149,32 +132,25 @@ has-last (x ∷ (y ∷ ys)) some =
 each_place-below : {X : Type 0} (n : ℕ) (f g : ℕ → X) → ((k : ℕ) → k < n → f k ≡ g k)
     → each_place n f ≡ each_place n g
 each_place-below zero f g h = refl
-each_place-below (suc n) f g h =
-    ap (λ x. x ∷ each_place n (λ i. f (suc i))) (h 0 (omega arith))
+each_place-below (suc n) f g h = ap (λ x. x ∷ each_place n (λ i. f (suc i))) (h 0 (omega arith))
     ∙ ap (λ r. g 0 ∷ r)
     (each_place-below n (λ i. f (suc i)) (λ i. g (suc i)) (λ k within. h (suc k) (omega (arith, within))))
 
 cell-there : (n k : ℕ) (cells : List (Option ArcTail)) → k < n
     → slice_index_or (cells_for n cells) k None ≡ slice_index_or cells k None
-cell-there n k cells within = index-each_place n k (λ place. slice_index_or cells place None) None
-    (λ past. absurd (omega (arith, within, past)))
+cell-there n k cells within = index-each_place n k _ None (λ past. absurd (omega (arith, within, past)))
 
 -- the satellite's row after a row of RINEX
-pub written-row : (row : Row) (satellite marked after : SatelliteTail)
-    → marked ≡ record satellite {
-      flags = without_end_blanks row.flags;
-      cells = cells_for (length row.values) satellite.cells;
-    }
-    → after ≡ record marked { cells = arcs_of_cells marked.cells row.values }
+pub written-row : (row : Row) (satellite marked after : SatelliteTail) → marked ≡ record satellite {
+  flags = without_end_blanks row.flags;
+  cells = cells_for (length row.values) satellite.cells;
+} → after ≡ record marked { cells = arcs_of_cells marked.cells row.values }
     → row_tail_of row.name after ≡ row_tail_after (Some (row_tail_of row.name satellite)) row
 written-row row satellite marked after marks arcs =
-    let n = length row.values in
+    let n = length _ in
     let cells : arcs_of_cells marked.cells row.values ≡ arcs_of_cells satellite.cells row.values =
-    ap (λ (s : SatelliteTail). arcs_of_cells s.cells row.values) marks
-    ∙ each_place-below n (arc_at_place (cells_for n satellite.cells) row.values)
-    (arc_at_place satellite.cells row.values)
-    (λ k within. ap (arc_of_value (slice_index_or row.values k None)) (cell-there n k satellite.cells within))
-    in
+    ap (λ (s : SatelliteTail). arcs_of_cells s.cells row.values) marks ∙ each_place-below n _ _ (λ k
+    within. ap (arc_of_value (slice_index_or row.values k None)) (cell-there n k satellite.cells within)) in
     ap (row_tail_of row.name) arcs
     ∙ (λ j. record { name = row.name; flags = (marks j).flags; cells = cells j })
 
@@ -183,16 +159,12 @@ pub written-line : (row : Row) (satellite marked : SatelliteTail) (part : List �
     → marked ≡ record satellite {
       flags = without_end_blanks row.flags;
       cells = cells_for (length row.values) satellite.cells;
-    }
-    → part ≡ text_difference satellite.flags row.flags
+    } → part ≡ text_difference satellite.flags row.flags
     → without_end_blanks (flat_map cell_text (codes_of_cells marked.cells row.values) ++ part)
     ≡ row_line_after (Some (row_tail_of row.name satellite)) row
 written-line row satellite marked part marks is =
-    let n = length row.values in
+    let n = length _ in
     let codes : codes_of_cells marked.cells row.values ≡ codes_of_cells satellite.cells row.values =
-    ap (λ (s : SatelliteTail). codes_of_cells s.cells row.values) marks
-    ∙ each_place-below n (code_at_place (cells_for n satellite.cells) row.values)
-    (code_at_place satellite.cells row.values)
-    (λ k within. ap (code_of_value (slice_index_or row.values k None))
-    (cell-there n k satellite.cells within)) in
+    ap (λ (s : SatelliteTail). codes_of_cells s.cells row.values) marks ∙ each_place-below n _ _ (λ k
+    within. ap (code_of_value (slice_index_or row.values k None)) (cell-there n k satellite.cells within)) in
     (λ j. without_end_blanks (flat_map cell_text (codes j) ++ is j))

@@ -6,6 +6,8 @@ use Rattle.crx_compact.proofs.Words.{SATELLITES_LIMIT, satellites_few, Satellite
 use Rattle.crx_compact.proofs.Words.{IsAnnounced, IsRowRead, OpenHistory, satellite_of, AreAnnounced, RowTail}
 use Rattle.std.proofs.lemmas.List.Elements.{All-cons}
 use Rattle.crx_compact.specs.Placing.{HasAllowedCount}
+use Rattle.std.proofs.lemmas.Grind.{common_steps}
+use Rattle.std.proofs.Common.{rules}
 
 -- ---- they stay
 
@@ -14,30 +16,19 @@ satellites-set : (rows : List RowTail) (place : ℕ) (row left : RowTail) → sl
     → left.name ≡ row.name → length left.cells ≡ length row.cells
     → map satellite_of (slice_set rows place left) ≡ map satellite_of rows
 satellites-set [] place row left there name sized = refl
-satellites-set (r ∷ rs) zero row left there name sized =
-    ap {B = List Satellite} (λ (s : Satellite). s ∷ map satellite_of rs)
-    (ap {B = Satellite} (λ (n : List ℕ). record { name = n; count = length left.cells }) name
-    ∙ ap {B = Satellite} (λ n. record { name = row.name; count = n }) sized
-    ∙ sym (ap satellite_of (same_Some r row there)))
+satellites-set (r ∷ rs) zero row left there name sized = cc (name, sized, same_Some r row there)
 satellites-set (r ∷ rs) (suc place) row left there name sized =
-    ap (λ ss. satellite_of r ∷ ss) (satellites-set rs place row left there name sized)
+    cc (satellites-set rs place row left there name sized)
 
-announced-same : (old new : OpenHistory) → new.text ≡ old.text
-    → map satellite_of new.satellites.rows ≡ map satellite_of old.satellites.rows → IsAnnounced old
-    → IsAnnounced new
-announced-same old new text satellites h = record {
-  announced =
-      let P : List ℕ → Type 0 = λ t. AreAnnounced t (map satellite_of new.satellites.rows) in
-      subst P (sym text) (subst (AreAnnounced old.text) (sym satellites) h.announced);
-  satellites = subst (All IsAwaitedSatellite) (sym satellites) h.satellites;
-}
+announced-same : (old new : OpenHistory) → new.text ≡ old.text → map satellite_of new.satellites.rows
+    ≡ map satellite_of old.satellites.rows → IsAnnounced old → IsAnnounced new
+announced-same old new text satellites h = search rules
 
 -- a row that was read
 pub row-announced : (old new : OpenHistory) (place : ℕ) (line : List ℕ)
     → IsRowRead place line old new → IsAnnounced old → IsAnnounced new
 row-announced old new place line read h =
-    announced-same old new read.text (ap (map satellite_of) read.rows
-    ∙ satellites-set old.satellites.rows place read.row read.left read.there read.name read.sized) h
+    grind (arith, common_steps, announced-same, satellite_of, satellites-set)
 
 -- ---- what they are
 
@@ -47,9 +38,7 @@ rows-allowed history h = each history.satellites.rows h.satellites
   where
     each : (rows : List RowTail) → All IsAwaitedSatellite (map satellite_of rows) → All HasAllowedCount rows
     each [] k = λ i d less. absurd (omega (arith, less))
-    each (row ∷ rows) k =
-        All-cons HasAllowedCount row rows
-        (IsAwaitedSatellite.counted
+    each (row ∷ rows) k = All-cons HasAllowedCount row rows (IsAwaitedSatellite.counted
         (All-head IsAwaitedSatellite (satellite_of row) (map satellite_of rows) k))
         (each rows (All-tail IsAwaitedSatellite (satellite_of row) (map satellite_of rows) k))
 
@@ -59,5 +48,4 @@ pub rows-few : (history : OpenHistory) → IsAnnounced history
 rows-few history h =
     let few = subst (λ (o : Option ℕ). unwrap_or o 0 ≤ SATELLITES_LIMIT) h.announced.counted
     (satellites_few (columns history.text 1 HEAD_WIDTH)) in
-    let same = length-map history.satellites.rows satellite_of in
-    omega (arith, few, same)
+    omega (arith, few, length-map history.satellites.rows satellite_of)

@@ -7,8 +7,7 @@ use Rattle.crx_compact.proofs.Words.{RawStep, epoch_after, first_step, held_afte
 use Rattle.crx_compact.proofs.Words.{placed_as, step_in}
 use Rattle.std.specs.Prelude.{IfErr}
 use Rattle.std.proofs.Common.{length-append}
-use Rattle.crx_compact.specs.OpenEpochs.{Idle, Faulty, Going}
-use Rattle.crx_compact.specs.OpenEpochs.{Whole}
+use Rattle.crx_compact.specs.OpenEpochs.{Idle, Faulty, Going, Whole}
 use Rattle.crx_compact.specs.ReadBlocks.{HasReadTo, IsReading}
 use Rattle.crx_compact.proofs.soundness.Soundness.{reads-soundly}
 use Rattle.crx_compact.proofs.reading.RawTailing.{place-by_tail, left-by_tail}
@@ -35,45 +34,33 @@ placed-here f Wanted thing count e = cc
 
 -- ---- the epoch line
 
-begun-reading : (types : List Count) (older : List RawEpoch) (tail : Option Tail) (line : List ℕ)
-    (after : ColumnsState)
-    → tail ≡ tail_left older
-    → HasMade (first_step types tail (Content line)) after None
-    → IsReading types older (Content line ∷ []) after
+begun-reading : (types : List Count) (older : List RawEpoch)
+    (tail : Option Tail) (line : List ℕ) (after : ColumnsState) → tail ≡ tail_left older → HasMade
+    (first_step types tail (Content line)) after None → IsReading types older (Content line ∷ []) after
 begun-reading types older tail line after e h = grind arith
 
 begun-wrong : (types : List Count) (older : List RawEpoch) (tail : Option Tail) (line : List ℕ)
-    (fault : Fault)
-    → tail ≡ tail_left older
-    → (first_step types tail (Content line) ≡ Faulty fault) ⊎ (fault ≡ OutOfMemory)
-    → (epoch_at types older (Content line ∷ []) ≡ Wrong 0 fault) ⊎ (fault ≡ OutOfMemory)
+    (fault : Fault) → tail ≡ tail_left older → (first_step types tail (Content line) ≡ Faulty fault) ⊎
+    (fault ≡ OutOfMemory) → (epoch_at types older (Content line ∷ []) ≡ Wrong 0 fault) ⊎ (fault ≡ OutOfMemory)
 begun-wrong types older tail line fault e (inr h) = inr h
 begun-wrong types older tail line fault e (inl h) =
     let held = tail_left older in
     let lines = Content line ∷ [] in
     let step = ap {B = RawStep} (λ (t : Option Tail). first_step types t (Content line)) (sym e) ∙ h in
-    inl (place-by_tail types older lines
-    ∙ placed-wrong (held_after held) (epoch_after types held lines) 0 fault (steps-agree types held lines
-    ∙ ap {B = Place HeldEpoch} (λ (s : RawStep). first_place s) step))
-  where
-    first_place : RawStep → Place HeldEpoch
-    first_place (Going begun) = Wanted
-    first_place (Whole held) = Here held 1
-    first_place (Faulty q) = Wrong 0 q
+    inl (place-by_tail types older lines ∙ placed-wrong
+    (held_after held) (epoch_after types held lines) 0 fault (cc (steps-agree types held lines, step)))
 
-pub begun-block : (result : Result (Unit {0}) Fault) (types : List Count)
-    (older : List RawEpoch) (tail : Option Tail) (line : List ℕ) (after : ColumnsState)
-    → tail ≡ tail_left older
-    → IfOk result (λ u. HasMade (first_step types tail (Content line)) after None)
+pub begun-block : (result : Result (Unit {0}) Fault)
+    (types : List Count) (older : List RawEpoch) (tail : Option Tail) (line : List ℕ) (after : ColumnsState)
+    → tail ≡ tail_left older → IfOk result (λ u. HasMade (first_step types tail (Content line)) after None)
     → IfOk result (λ u. IsReading types older (Content line ∷ []) after)
 begun-block (Ok u) types older tail line after e h = begun-reading types older tail line after e h
 begun-block (Err fault) types older tail line after e h = h
 
-pub begun-refused : (result : Result (Unit {0}) Fault)
-    (types : List Count) (older : List RawEpoch) (tail : Option Tail) (line : List ℕ) → tail ≡ tail_left older
-    → IfErr result (λ fault. (first_step types tail (Content line) ≡ Faulty fault) ⊎ (fault ≡ OutOfMemory))
-    → IfErr result (λ fault. (epoch_at types older (Content line ∷ []) ≡ Wrong 0 fault)
-    ⊎ (fault ≡ OutOfMemory))
+pub begun-refused : (result : Result (Unit {0}) Fault) (types : List Count)
+    (older : List RawEpoch) (tail : Option Tail) (line : List ℕ) → tail ≡ tail_left older → IfErr result
+    (λ fault. (first_step types tail (Content line) ≡ Faulty fault) ⊎ (fault ≡ OutOfMemory)) → IfErr result
+    (λ fault. (epoch_at types older (Content line ∷ []) ≡ Wrong 0 fault) ⊎ (fault ≡ OutOfMemory))
 begun-refused (Ok u) types older tail line e h = h
 begun-refused (Err fault) types older tail line e h = begun-wrong types older tail line fault e h
 
@@ -82,13 +69,11 @@ begun-refused (Err fault) types older tail line e h = begun-wrong types older ta
 step-by_lines : (types : List Count) (older : List RawEpoch)
     (lines : List ReadLine) (line : List ℕ) (state : ColumnsState) (r : IsReading types older lines state)
     → step_in state (Content line) ≡ next_step r.0 (Content line)
-step-by_lines types older lines line state r =
-    ap {B = RawStep} (λ (s : ColumnsState). step_in s (Content line)) r.2
+step-by_lines types older lines line state r = cc (r.2)
 
-more-lines : (types : List Count) (older : List RawEpoch) (lines : List ReadLine)
-    (line : List ℕ) (state after : ColumnsState) (given : Option Epoch) → IsReading types older lines state
-    → HasMade (step_in state (Content line)) after given
-    → HasReadTo types older (lines ++ Content line ∷ []) after given
+more-lines : (types : List Count) (older : List RawEpoch) (lines : List ReadLine) (line : List ℕ)
+    (state after : ColumnsState) (given : Option Epoch) → IsReading types older lines state → HasMade (step_in
+    state (Content line)) after given → HasReadTo types older (lines ++ Content line ∷ []) after given
 more-lines types older lines line state after None r h =
     grind (arith, steps-from_open types (tail_left older) lines (Content line) r.0 r.1)
 more-lines types older lines line state after (Some epoch) r h =
@@ -97,24 +82,20 @@ more-lines types older lines line state after (Some epoch) r h =
     let next = steps-from_open types held lines (Content line) r.0 r.1 in
     let many : suc (length lines) ≡ length all =
     let l : length all ≡ length lines + 1 = length-append lines (Content line ∷ []) in omega (arith, l) in
-    let whole = next.place ∙ ap {B = Place HeldEpoch} (λ (s : RawStep). place_of_step (length lines) s)
-    (sym (step-by_lines types older lines line state r) ∙ h.1)
-    ∙ ap {B = Place HeldEpoch} (λ n. Here h.0 n) many in
+    let whole = next.place ∙ ap {B = Place HeldEpoch} (λ (s : RawStep). place_of_step (length lines) s) (sym
+    (step-by_lines types older lines line state r) ∙ h.1) ∙ ap {B = Place HeldEpoch} (λ n. Here h.0 n) many in
     let placed = placed-here (held_after held) (epoch_after types held all) h.0 (length all) whole in
     let here = place-by_tail types older all ∙ placed.here in (
       placed.from,
       here,
       h.2 ∙ ap (λ (q : HeldEpoch). q.epoch) (sym placed.same),
-      h.3
-          ∙ ap {B = ColumnsState} (λ (q : HeldEpoch). Idle (Some q.tail)) (sym placed.same)
-          ∙ ap {B = ColumnsState} (λ (t : Option Tail). Idle t)
-          (sym (left-by_tail placed.from.raw older
+      h.3 ∙ ap {B = ColumnsState} (λ (q : HeldEpoch). Idle (Some q.tail)) (sym placed.same)
+          ∙ ap {B = ColumnsState} (λ (t : Option Tail). Idle t) (sym (left-by_tail placed.from.raw older
           (reads-soundly types older all placed.from (length all) here).single)),
     )
 
-more-wrong : (types : List Count) (older : List RawEpoch)
-    (lines : List ReadLine) (line : List ℕ) (state : ColumnsState) (fault : Fault)
-    → IsReading types older lines state
+more-wrong : (types : List Count) (older : List RawEpoch) (lines : List ReadLine)
+    (line : List ℕ) (state : ColumnsState) (fault : Fault) → IsReading types older lines state
     → (step_in state (Content line) ≡ Faulty fault) ⊎ (fault ≡ OutOfMemory)
     → (epoch_at types older (lines ++ Content line ∷ []) ≡ Wrong (length lines) fault) ⊎ (fault ≡ OutOfMemory)
 more-wrong types older lines line state fault r (inr h) = inr h
@@ -122,10 +103,8 @@ more-wrong types older lines line state fault r (inl h) =
     let held = tail_left older in
     let all = lines ++ Content line ∷ [] in
     let next = steps-from_open types held lines (Content line) r.0 r.1 in
-    inl (place-by_tail types older all
-    ∙ placed-wrong (held_after held) (epoch_after types held all) (length lines) fault (next.place
-    ∙ ap {B = Place HeldEpoch} (λ (s : RawStep). place_of_step (length lines) s)
-    (sym (step-by_lines types older lines line state r) ∙ h)))
+    inl (place-by_tail types older all ∙ placed-wrong (held_after held) (epoch_after types held all)
+    (length lines) fault (cc (next.place, step-by_lines types older lines line state r, h)))
 
 pub more-block : (result : Result (Option Epoch) Fault) (types : List Count) (older : List RawEpoch)
     (lines : List ReadLine) (line : List ℕ) (state after : ColumnsState) → IsReading types older lines state

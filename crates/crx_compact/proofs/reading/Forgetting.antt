@@ -7,19 +7,15 @@ use Rattle.crx_compact.proofs.Words.{satellites_of_line, BegunEpoch, epoch_begun
 use Rattle.crx_compact.proofs.Words.{rows_read, ReadEpoch, epoch_of_rows, epoch_after_line, epoch_at}
 use Rattle.crx_compact.specs.ReadingLaws.{Forgets}
 use Rattle.crx_compact.proofs.soundness.Soundness.{thing_here, Comes, then-comes}
-use Rattle.crx_compact.proofs.Results.{no-err, ok-same, Follows}
-use Rattle.crx_compact.proofs.Results.{and_then-ok}
+use Rattle.crx_compact.proofs.Results.{no-err, ok-same, Follows, and_then-ok}
+use Rattle.std.proofs.Common.{rules}
 
 begun-line : (types : List Count) (line : List ℕ) (past : Option Past) (begun : BegunEpoch)
     → epoch_begun types line past ≡ Ok begun → begun.line ≡ line
 begun-line types line None begun e = absurd (no-err NotAnEpoch begun e)
 begun-line types line (Some past) begun e =
-    let step : Follows (satellites_of_line types past line)
-    (λ ss. Ok (record { line = line; past = past; satellites = ss })) begun =
-    and_then-ok (satellites_of_line types past line)
-    (λ ss. Ok (record { line = line; past = past; satellites = ss })) begun e in
-    sym (ap (λ (b : BegunEpoch). b.line)
-    (ok-same (record { line = line; past = past; satellites = step.from }) begun step.next))
+    let step = and_then-ok _ (λ ss. Ok (record { line = line; past = past; satellites = ss })) begun e in
+    cc (ok-same (record { line = line; past = past; satellites = step.from }) begun step.next)
 
 one-ok : {X : Type 0} (r : Result X Fault) (x : X) (n : ℕ) → one_line r ≡ Here x n → r ≡ Ok x
 one-ok (Ok y) x n e = ap {B = Result _ Fault} Ok (ap (thing_here y) e)
@@ -28,25 +24,17 @@ one-ok (Err q) x n e = cc
 after-line : (begun : BegunEpoch) (lines : List ReadLine) (read : ReadEpoch) (count : ℕ)
     → epoch_after_line begun lines ≡ Here read count → read.raw.line ≡ begun.line
 after-line begun lines read count e =
-    let rows_next : ReadCell → List ReadLine → Place ReadEpoch =
-    λ clock others. then_place (rows_read begun.past begun.satellites others) others
-    (λ rows rest. Here (epoch_of_rows begun clock rows) 0) in
+    let rows_next : ReadCell → List ReadLine → Place ReadEpoch = λ clock others. then_place (rows_read
+    begun.past begun.satellites others) others (λ rows rest. Here (epoch_of_rows begun clock rows) 0) in
     let one = then-comes (first_line lines (clock_line_read begun.past)) lines rows_next read count e in
-    let others = drop one.count lines in
-    let two = then-comes (rows_read begun.past begun.satellites others) others
-    (λ rows rest. Here (epoch_of_rows begun one.from rows) 0) read one.more one.later in
-    sym (ap (λ (r : ReadEpoch). r.raw.line)
-    (ap (thing_here (epoch_of_rows begun one.from two.from)) two.later))
+    search rules
 
 read-line : (types : List Count)
     (older : List RawEpoch) (line : List ℕ) (lines : List ReadLine) (read : ReadEpoch) (count : ℕ)
     → epoch_at types older (Content line ∷ lines) ≡ Here read count → read.raw.line ≡ line
 read-line types older line lines read count e =
-    let r : Result BegunEpoch Fault = epoch_begun types line (past_of_line older line) in
-    let one : Comes (one_line r) (Content line ∷ lines) (λ begun others. epoch_after_line begun others) read
-    count =
-    then-comes (one_line r) (Content line ∷ lines) (λ begun others. epoch_after_line begun others) read count
-    e in
+    let r = epoch_begun types line _ in
+    let one = then-comes _ _ _ read count e in
     after-line one.from (drop one.count (Content line ∷ lines)) read one.more one.later
     ∙ begun-line types line (past_of_line older line) one.from (one-ok r one.from one.count one.first)
 
@@ -56,9 +44,7 @@ forgets types older line lines h = record {
   place =
       let new : (os : List RawEpoch) → past_of_line os line ≡ Some (past_of_block []) =
       λ os. ap {B = Option Past} (λ b. if b then Some (past_of_block []) else past_of_epochs os) h in
-      ap {B = Place ReadEpoch} (λ p. then_place (one_line (epoch_begun types line p))
-      (Content line ∷ lines) (λ begun others. epoch_after_line begun others)) (new older ∙ sym (new []));
-  block = λ read count e.
-      ap {B = List RawEpoch} (λ b. read.raw ∷ (if b then [] else block_of older))
+      search rules;
+  block = λ read count e. ap {B = List RawEpoch} (λ b. read.raw ∷ (if b then [] else block_of older))
       (ap begins_epoch (read-line types older line lines read count e) ∙ h);
 }

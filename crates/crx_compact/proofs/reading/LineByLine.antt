@@ -16,9 +16,8 @@ use Rattle.crx_compact.proofs.Words.{whole_or_awaiting, tail_opened, raw_step_wi
 use Rattle.crx_compact.proofs.Words.{step_with_rows, next_step, placed_as, held_after, place_of_step}
 use Rattle.std.specs.Option.{is_some}
 use Rattle.std.proofs.lemmas.List.{append_assoc, length-append}
-use Rattle.crx_compact.specs.OpenEpochs.{OpenRawEpoch}
-use Rattle.crx_compact.specs.OpenEpochs.{rows_before, raw_step_with_clock}
-use Rattle.crx_compact.specs.OpenEpochs.{place_of_steps, open_raw_after}
+use Rattle.crx_compact.specs.OpenEpochs.{OpenRawEpoch, rows_before, raw_step_with_clock, place_of_steps}
+use Rattle.crx_compact.specs.OpenEpochs.{open_raw_after}
 use Rattle.crx_compact.specs.OpenEpochs.RawStep.{Going, Whole, Faulty}
 use Rattle.crx_compact.specs.ReadingLaws.{is_wanted, StepsAgree, WantedWhereOpen, StepsFromOpen}
 use Rattle.crx_compact.proofs.CellsRead.{shown-code}
@@ -26,6 +25,7 @@ use Rattle.crx_compact.proofs.Results.{if-err}
 use Rattle.crx_compact.proofs.ShownRows.{set-next}
 use Rattle.crx_compact.proofs.reading.PaddedRows.{row-opened, row-shows}
 use Rattle.crx_compact.proofs.soundness.Soundness.{Paired, RowFacts, read-cell, rows-facts}
+use Rattle.std.proofs.lemmas.Grind.{common_steps}
 
 -- ---- the satellite lines
 
@@ -66,42 +66,30 @@ none-left [] = refl
 none-left (x ∷ xs) = none-left xs
 
 -- the awaited satellites' lines, one step each
-rows-steps : (before : Tail) (text : List ℕ) (arc : Option ArcTail)
-    (rows : List RowTail) (awaited : List Satellite) (count : ℕ) (lines : List ReadLine)
-    → place_of_steps count
-    (step_with_rows (tail_with text arc (rows ++ rows_before before awaited)) (length rows))
-    lines
-    ≡ after_lines (suc count)
-    (rows_placed before text arc rows (rows_read (past_of_tail before) awaited lines))
+rows-steps : (before : Tail) (text : List ℕ) (arc : Option ArcTail) (rows : List RowTail)
+    (awaited : List Satellite) (count : ℕ) (lines : List ReadLine) → place_of_steps count
+    (step_with_rows (tail_with text arc (rows ++ rows_before before awaited)) (length rows)) lines ≡
+    after_lines (suc count) (rows_placed before text arc rows (rows_read (past_of_tail before) awaited lines))
 rows-steps before text arc rows [] count lines =
-    ap {B = Place HeldEpoch} (λ (o : Option RowTail).
-    place_of_steps count (whole_or_awaiting (tail_with text arc (rows ++ [])) (length rows) o) lines)
-    (none-left rows)
-    ∙ ap {B = Place HeldEpoch} (λ k. Here (whole_epoch (tail_with text arc (rows ++ []))) k) (omega arith)
-rows-steps before text arc rows (s ∷ ss) count [] =
-    ap {B = Place HeldEpoch} (λ (o : Option RowTail).
-    place_of_steps count
-    (whole_or_awaiting (tail_with text arc (rows ++ rows_before before (s ∷ ss))) (length rows) o) [])
-    (get-next rows (rows_before before ss) (padded s (tail_named s.name before)))
-rows-steps before text arc rows (s ∷ ss) count (Overlong ∷ lines) =
-    ap {B = Place HeldEpoch} (λ (o : Option RowTail).
+    grind (arith, common_steps, place_of_steps, whole_or_awaiting, tail_with, none-left, whole_epoch)
+rows-steps before text arc rows (s ∷ ss) count [] = ap {B = Place HeldEpoch} (λ (o : Option RowTail).
     place_of_steps count (whole_or_awaiting (tail_with text arc (rows ++ rows_before before (s ∷ ss)))
-    (length rows) o)
-    (Overlong ∷ lines)) (get-next rows (rows_before before ss) (padded s (tail_named s.name before)))
-    ∙ grind arith
+    (length rows) o) []) (get-next rows (rows_before before ss) (padded s (tail_named s.name before)))
+rows-steps before text arc rows (s ∷ ss) count (Overlong ∷ lines) =
+    ap {B = Place HeldEpoch} (λ (o : Option RowTail). place_of_steps count (whole_or_awaiting
+    (tail_with text arc (rows ++ rows_before before (s ∷ ss))) (length rows) o) (Overlong ∷ lines))
+    (get-next rows (rows_before before ss) (padded s (tail_named s.name before))) ∙ grind arith
 rows-steps before text arc rows (s ∷ ss) count (Content line ∷ lines) =
     let row : RowTail = padded s (tail_named s.name before) in
     let tail : Tail = tail_with text arc (rows ++ rows_before before (s ∷ ss)) in
     let there : slice_get tail.rows (length rows) ≡ Some row = get-next rows (rows_before before ss) row in
-    ap {B = Place HeldEpoch} (λ (o : Option RowTail).
-    place_of_steps count (whole_or_awaiting tail (length rows) o) (Content line ∷ lines)) there
-    ∙ ap {B = Place HeldEpoch} (λ (o : Option RowTail).
-    place_of_steps (suc count) (row_step (with_rows tail (length rows)) o line) lines) there
-    ∙ ap {B = Place HeldEpoch} (λ (r : Result HeldRow Fault).
-    place_of_steps (suc count) (raw_step_with_row (with_rows tail (length rows)) r) lines)
-    (row-opened before s line)
-    ∙ step (satellite_line_read (past_of_tail before) s line) (λ read.
-    rows-steps before text arc (rows ++ (held_row before read).tail ∷ []) ss (suc count) lines)
+    ap {B = Place HeldEpoch} (λ (o : Option RowTail). place_of_steps count
+    (whole_or_awaiting tail (length rows) o) (Content line ∷ lines)) there ∙ ap {B = Place HeldEpoch}
+    (λ (o : Option RowTail). place_of_steps (suc count) (row_step (with_rows tail (length rows)) o line)
+    lines) there ∙ ap {B = Place HeldEpoch} (λ (r : Result HeldRow Fault). place_of_steps
+    (suc count) (raw_step_with_row (with_rows tail (length rows)) r) lines) (row-opened before s line)
+    ∙ step (satellite_line_read (past_of_tail before) s line)
+    (λ read. rows-steps before text arc (rows ++ (held_row before read).tail ∷ []) ss (suc count) lines)
   where
     opened : List RowTail
     opened = rows_before before ss
@@ -109,16 +97,12 @@ rows-steps before text arc rows (s ∷ ss) count (Content line ∷ lines) =
     so_far : OpenRawEpoch
     so_far = with_rows (tail_with text arc (rows ++ rows_before before (s ∷ ss))) (length rows)
 
-    step : (r : Result ReadRow Fault)
-        → ((read : ReadRow) → place_of_steps (suc count) (step_with_rows (tail_with text arc
-        ((rows ++ (held_row before read).tail ∷ []) ++ opened))
-        (length (rows ++ (held_row before read).tail ∷ [])))
-        lines
-        ≡ after_lines (suc (suc count))
-        (rows_placed before text arc (rows ++ (held_row before read).tail ∷ [])
-        (rows_read (past_of_tail before) ss lines)))
-        → place_of_steps (suc count) (raw_step_with_row so_far
-        (and_then r (λ (read : ReadRow). Ok (held_row before read)))) lines
+    step : (r : Result ReadRow Fault) → ((read : ReadRow) → place_of_steps (suc count)
+        (step_with_rows (tail_with text arc ((rows ++ (held_row before read).tail ∷ []) ++ opened)) (length
+        (rows ++ (held_row before read).tail ∷ []))) lines ≡ after_lines (suc (suc count)) (rows_placed before
+        text arc (rows ++ (held_row before read).tail ∷ []) (rows_read (past_of_tail before) ss lines)))
+        → place_of_steps (suc count)
+        (raw_step_with_row so_far (and_then r (λ (read : ReadRow). Ok (held_row before read)))) lines
         ≡ after_lines (suc count) (rows_placed before text arc rows (then_place (one_line r)
         (Content line ∷ lines) (λ row more. row_onto row more (rows_read (past_of_tail before) ss more))))
     step (Err q) next = ap {B = Place HeldEpoch} (λ k. Wrong k q) (omega arith)
@@ -126,13 +110,11 @@ rows-steps before text arc rows (s ∷ ss) count (Content line ∷ lines) =
         let left : RowTail = (held_row before read).tail in
         let more = length-append rows (left ∷ []) in
         let many : suc (length rows) ≡ length (rows ++ left ∷ []) = omega (arith, more) in
-        ap {B = Place HeldEpoch} (λ (all : List RowTail).
-        place_of_steps (suc count) (step_with_rows (tail_with text arc all) (suc (length rows))) lines)
-        (set-next rows opened (padded s (tail_named s.name before)) left)
-        ∙ ap {B = Place HeldEpoch} (λ n. place_of_steps (suc count)
-        (step_with_rows (tail_with text arc ((rows ++ left ∷ []) ++ opened)) n) lines) many
-        ∙ next read ∙ one-more before text arc rows read lines count
-        (rows_read (past_of_tail before) ss lines)
+        ap {B = Place HeldEpoch} (λ (all : List RowTail). place_of_steps
+        (suc count) (step_with_rows (tail_with text arc all) (suc (length rows))) lines) (set-next rows opened
+        (padded s (tail_named s.name before)) left) ∙ ap {B = Place HeldEpoch} (λ n. place_of_steps
+        (suc count) (step_with_rows (tail_with text arc ((rows ++ left ∷ []) ++ opened)) n) lines) many ∙ next
+        read ∙ one-more before text arc rows read lines count (rows_read (past_of_tail before) ss lines)
 
 -- ---- the clock line and the epoch line
 
@@ -151,69 +133,55 @@ rows-shown before (s ∷ ss) [] h = absurd h
 rows-shown before (s ∷ ss) (r ∷ rs) h = cc (row-shows before s r h.0, rows-shown before ss rs h.1)
 
 -- a clock is shown by what it leaves
-clock-shown : (before : Tail) (line : List ℕ) (cell : ReadCell)
-    → clock_line_read (past_of_tail before) line ≡ Ok cell
-    → shown_value (arc_of_code cell.code before.clock) ≡ cell.value
-clock-shown before line cell e =
-    let value = (past_of_tail before).clock in
-    let text = without_end_blanks line in
-    let read = if-err (begins_epoch line) Truncated (cell_read BadClock value (code_of text)) cell e in
-    shown-code CLOCK_WIDTH cell.code before.clock cell.value (read-cell BadClock value text cell read).meant
+clock-shown : (before : Tail) (line : List ℕ) (cell : ReadCell) → clock_line_read (past_of_tail before) line
+    ≡ Ok cell → shown_value (arc_of_code cell.code before.clock) ≡ cell.value
+clock-shown before line cell e = grind (arith, common_steps)
 
-held-same : (before : Tail) (line : List ℕ) (satellites : List Satellite)
-    (cell : ReadCell) (rows : List ReadRow) (tail : Option Tail) → tail_for_line tail line ≡ Some before
-    → shown_value (arc_of_code cell.code before.clock) ≡ cell.value
+held-same : (before : Tail)
+    (line : List ℕ) (satellites : List Satellite) (cell : ReadCell) (rows : List ReadRow) (tail : Option Tail)
+    → tail_for_line tail line ≡ Some before → shown_value (arc_of_code cell.code before.clock) ≡ cell.value
     → map (λ (r : ReadRow). r.row) rows ≡ map shown_row (rows_left before rows)
-    → held_after tail (epoch_of_rows (read_begun before line satellites) cell rows)
-    ≡ whole_epoch (tail_with (patched before.text line) (arc_of_code cell.code before.clock)
-    (rows_left before rows))
+    → held_after tail (epoch_of_rows (read_begun before line satellites) cell rows) ≡ whole_epoch
+    (tail_with (patched before.text line) (arc_of_code cell.code before.clock) (rows_left before rows))
 held-same before line satellites cell rows tail h clock shown =
     let raw : RawEpoch = (epoch_of_rows (read_begun before line satellites) cell rows).raw in
-    let text : List ℕ = patched before.text line in
-    let head : List ℕ = columns text 1 HEAD_WIDTH in
-    let arc : Option ArcTail = arc_of_code cell.code before.clock in
-    let read : List Row = map (λ (r : ReadRow). r.row) rows in
-    let left : List RowTail = rows_left before rows in
+    let text = patched before.text line in
+    let head = columns text 1 HEAD_WIDTH in
+    let arc = arc_of_code cell.code before.clock in
+    let read = map (λ (r : ReadRow). r.row) rows in
+    let left = rows_left before rows in
     ap {B = HeldEpoch} (λ (o : Option Tail). record {
       epoch = record { head = head; clock = cell.value; rows = read };
       tail = raw_tail_after (unwrap_or o no_tail) raw;
-    }) h
-    ∙ ap {B = HeldEpoch} (λ (rs : List RowTail). record {
+    }) h ∙ ap {B = HeldEpoch} (λ (rs : List RowTail). record {
       epoch = record { head = head; clock = cell.value; rows = read };
       tail = tail_with text arc rs;
     }) (map-map (λ (r : RawRow). raw_row_tail_after (tail_named r.name before) r)
-    (λ (r : ReadRow). r.raw) rows)
-    ∙ ap {B = HeldEpoch} (λ (value : Option ℤ). record {
+    (λ (r : ReadRow). r.raw) rows) ∙ ap {B = HeldEpoch} (λ (value : Option ℤ). record {
       epoch = record { head = head; clock = value; rows = read };
       tail = tail_with text arc left;
-    }) (sym clock)
-    ∙ ap {B = HeldEpoch} (λ (rs : List Row). record {
+    }) (sym clock) ∙ ap {B = HeldEpoch} (λ (rs : List Row). record {
       epoch = record { head = head; clock = shown_value arc; rows = rs };
       tail = tail_with text arc left;
     }) (shown ∙ ap (map shown_row) (sym (take_all (length left) left (omega arith))))
 
-read_rows-held : (before : Tail) (line : List ℕ) (satellites : List Satellite)
-    (cell : ReadCell) (tail : Option Tail) (lines : List ReadLine) (p : Place (List ReadRow))
-    → tail_for_line tail line ≡ Some before → shown_value (arc_of_code cell.code before.clock) ≡ cell.value
-    → rows_read (past_of_tail before) satellites lines ≡ p
-    → placed_as (held_after tail) (after_lines 1 (after_lines 1
+read_rows-held : (before : Tail) (line : List ℕ) (satellites : List Satellite) (cell : ReadCell)
+    (tail : Option Tail) (lines : List ReadLine) (p : Place (List ReadRow)) → tail_for_line tail line
+    ≡ Some before → shown_value (arc_of_code cell.code before.clock) ≡ cell.value → rows_read
+    (past_of_tail before) satellites lines ≡ p → placed_as (held_after tail) (after_lines 1 (after_lines 1
     (then_place p lines (λ rows rest. Here (epoch_of_rows (read_begun before line satellites) cell rows) 0))))
-    ≡ after_lines 2
-    (rows_placed before (patched before.text line) (arc_of_code cell.code before.clock) [] p)
-read_rows-held before line satellites cell tail lines (Here rows n) h clock e =
-    let facts = rows-facts (past_of_tail before) satellites lines rows n e in
-    grind (
-      arith,
-      held-same before line satellites cell rows tail h clock
-          (rows-shown before satellites rows facts.each),
-    )
+    ≡ after_lines 2 (rows_placed before (patched before.text line) (arc_of_code cell.code before.clock) [] p)
+read_rows-held before line satellites cell tail lines (Here rows n) h clock e = grind (
+  arith,
+  held-same before line satellites cell rows tail h clock (rows-shown before satellites rows
+      (rows-facts (past_of_tail before) satellites lines rows n e).each),
+)
 read_rows-held before line satellites cell tail lines (Wrong n q) h clock e =
     ap {B = Place HeldEpoch} (λ k. Wrong k q) (omega arith)
 read_rows-held before line satellites cell tail lines Wanted h clock e = refl
 
-clock-steps : (before : Tail) (line : List ℕ) (satellites : List Satellite) (tail : Option Tail)
-    (lines : List ReadLine)
-    → tail_for_line tail line ≡ Some before
+clock-steps : (before : Tail) (line : List ℕ) (satellites : List Satellite)
+    (tail : Option Tail) (lines : List ReadLine) → tail_for_line tail line ≡ Some before
     → placed_as (held_after tail) (after_lines 1 (epoch_after_line (read_begun before line satellites) lines))
     ≡ place_of_steps 0 (Going (before_clock (tail_opened before line satellites))) lines
 clock-steps before line satellites tail [] h = refl
@@ -227,34 +195,28 @@ clock-steps before line satellites tail (Content text ∷ lines) h =
         (λ rows rest. Here (epoch_of_rows (read_begun before line satellites) clock rows) 0))))
         ≡ place_of_steps 1 (raw_step_with_clock (before_clock (tail_opened before line satellites)) r) lines
     step (Err q) e = refl
-    step (Ok cell) e =
-        let past = past_of_tail before in
-        let arc : Option ArcTail = arc_of_code cell.code before.clock in
-        read_rows-held before line satellites cell tail lines (rows_read past satellites lines) h
-        (clock-shown before text cell e) refl
-        ∙ sym (rows-steps before (patched before.text line) arc [] satellites 1 lines)
+    step (Ok cell) e = read_rows-held before line satellites cell tail lines (rows_read
+        (past_of_tail before) satellites lines) h (clock-shown before text cell e) refl ∙ sym (rows-steps
+        before (patched before.text line) (arc_of_code cell.code before.clock) [] satellites 1 lines)
 
 pub steps-agree : (types : List Count) (tail : Option Tail) (lines : List ReadLine)
     → StepsAgree types tail lines
 steps-agree types tail [] = refl
 steps-agree types tail (Overlong ∷ lines) = refl
-steps-agree types tail (Content line ∷ lines) = by_tail (tail_for_line tail line) refl
+steps-agree types tail (Content line ∷ lines) = by_tail _ refl
   where
-    by_line : (before : Tail) (r : Result (List Satellite) Fault) → tail_for_line tail line ≡ Some before
-        → placed_as (held_after tail)
-        (then_place (one_line (and_then r (λ ss. Ok (read_begun before line ss))))
+    by_line : (before : Tail) (r : Result (List Satellite) Fault) → tail_for_line tail line ≡ Some before →
+        placed_as (held_after tail) (then_place (one_line (and_then r (λ ss. Ok (read_begun before line ss))))
         (Content line ∷ lines) (λ b others. epoch_after_line b others))
         ≡ place_of_steps 0 (opening (and_then r (λ ss. Ok (before_clock (tail_opened before line ss))))) lines
     by_line before (Err q) h = refl
-    by_line before (Ok satellites) h = clock-steps before line satellites tail lines h
+    by_line before (Ok satellites) h = clock-steps before line _ tail lines h
 
-    by_tail : (t : Option Tail) → tail_for_line tail line ≡ t
-        → placed_as (held_after tail)
-        (then_place (one_line (epoch_begun types line (option_map past_of_tail t)))
-        (Content line ∷ lines) (λ b others. epoch_after_line b others))
-        ≡ place_of_steps 0 (opening (opened_raw types line t)) lines
+    by_tail : (t : Option Tail) → tail_for_line tail line ≡ t → placed_as (held_after tail)
+        (then_place (one_line (epoch_begun types line (option_map past_of_tail t))) (Content line ∷ lines)
+        (λ b others. epoch_after_line b others)) ≡ place_of_steps 0 (opening (opened_raw types line t)) lines
     by_tail None h = refl
-    by_tail (Some before) h = by_line before (satellites_of_line types (past_of_tail before) line) h
+    by_tail (Some before) h = by_line before _ h
 
 -- ---- the open epoch
 
@@ -273,26 +235,21 @@ wanted-placed f Wanted = refl
 pub wanted-where_open : (types : List Count) (tail : Option Tail) (lines : List ReadLine)
     → WantedWhereOpen types tail lines
 wanted-where_open types tail [] = refl
-wanted-where_open types tail (line ∷ lines) =
-    sym (wanted-placed (held_after tail) (epoch_after types tail (line ∷ lines)))
-    ∙ ap is_wanted (steps-agree types tail (line ∷ lines))
-    ∙ wanted-steps 0 (first_step types tail line) lines
+wanted-where_open types tail (line ∷ lines) = sym (wanted-placed (held_after tail) _)
+    ∙ ap is_wanted (steps-agree types tail (line ∷ lines)) ∙ wanted-steps 0 _ lines
 
 -- a step more, where the lines so far make an open epoch
 step-more : (count : ℕ) (s : RawStep) (lines : List ReadLine) (line : ReadLine) (begun : OpenRawEpoch)
-    → open_raw_after s lines ≡ Some begun
-    → place_of_steps count s (lines ++ line ∷ []) ≡ place_of_step (suc (count + length lines))
-    (next_step begun line)
+    → open_raw_after s lines ≡ Some begun → place_of_steps count s (lines ++ line ∷ [])
+    ≡ place_of_step (suc (count + length lines)) (next_step begun line)
 step-more count (Going so_far) [] line begun h = grind arith
-step-more count (Going so_far) (l ∷ ls) line begun h =
-    step-more (suc count) (next_step so_far l) ls line begun h
-    ∙ ap (λ n. place_of_step n (next_step begun line)) (omega arith)
+step-more count (Going so_far) (l ∷ ls) line begun h = step-more (suc count)
+    (next_step so_far l) ls line begun h ∙ ap (λ n. place_of_step n (next_step begun line)) (omega arith)
 step-more count (Whole held) lines line begun h = absurd (true≢false (sym (ap is_some h)))
 step-more count (Faulty q) lines line begun h = absurd (true≢false (sym (ap is_some h)))
 
-open-more : (s : RawStep) (lines : List ReadLine) (line : ReadLine) (begun : OpenRawEpoch)
-    → open_raw_after s lines ≡ Some begun
-    → open_raw_after s (lines ++ line ∷ []) ≡ open_raw_after (next_step begun line) []
+open-more : (s : RawStep) (lines : List ReadLine) (line : ReadLine) (begun : OpenRawEpoch) → open_raw_after
+    s lines ≡ Some begun → open_raw_after s (lines ++ line ∷ []) ≡ open_raw_after (next_step begun line) []
 open-more (Going so_far) [] line begun h = cc
 open-more (Going so_far) (l ∷ ls) line begun h = open-more (next_step so_far l) ls line begun h
 open-more (Whole held) lines line begun h = absurd (true≢false (sym (ap is_some h)))
@@ -302,7 +259,6 @@ pub steps-from_open : StepsFromOpen
 steps-from_open types tail [] line begun h = absurd (true≢false (sym (ap is_some h)))
 steps-from_open types tail (l ∷ ls) line begun h = record {
   place = steps-agree types tail (l ∷ (ls ++ line ∷ []))
-      ∙ step-more 0 (first_step types tail l) ls line begun h
-      ∙ ap (λ n. place_of_step n (next_step begun line)) (omega arith);
-  open_epoch = open-more (first_step types tail l) ls line begun h;
+      ∙ step-more 0 _ ls line begun h ∙ ap (λ n. place_of_step n (next_step begun line)) (omega arith);
+  open_epoch = open-more _ ls line begun h;
 }

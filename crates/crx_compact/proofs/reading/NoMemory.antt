@@ -25,7 +25,7 @@ and-then-none (Ok x) f h k = k x
 and-then-none (Err fault) f h k = h
 
 range-none : (width : ℕ) (number : ℤ) → NoMemory (in_range width number)
-range-none width number = by_range (is_within width number)
+range-none width number = by_range _
   where
     by_range : (b : Bool) → NoMemory {X = Option ℤ} (if b then Ok (Some number) else Err OutOfRange)
     by_range true = λ e. cc
@@ -37,24 +37,19 @@ value-none width (Start order number) arc = range-none width number
 value-none width (Step number) None = λ e. cc
 value-none width (Step number) (Some arc) = range-none width _
 
-cell-none : (malformed : Fault) (value : Code → Result (Option ℤ) Fault) → (malformed ≡ OutOfMemory → ⊥)
-    → ((code : Code) → NoMemory (value code)) → (code : Option Code)
-    → NoMemory (cell_read malformed value code)
+cell-none : (malformed : Fault) (value : Code → Result (Option ℤ) Fault) → (malformed ≡ OutOfMemory → ⊥) →
+    ((code : Code) → NoMemory (value code)) → (code : Option Code) → NoMemory (cell_read malformed value code)
 cell-none malformed value m h None = m
-cell-none malformed value m h (Some code) =
-    and-then-none {Y = ReadCell} (value code) (λ v. Ok (record { code = code; value = v })) (h code)
-    (λ v e. cc)
+cell-none malformed value m h (Some code) = and-then-none {Y = ReadCell}
+    (value code) (λ v. Ok (record { code = code; value = v })) (h code) (λ v e. cc)
 
-cells-none : (value : ℕ → Code → Result (Option ℤ) Fault)
-    → ((place : ℕ) (code : Code) → NoMemory (value place code)) → (texts : List (List ℕ))
-    → NoMemory (cells_read value texts)
+cells-none : (value : ℕ → Code → Result (Option ℤ) Fault) → ((place : ℕ) (code : Code)
+    → NoMemory (value place code)) → (texts : List (List ℕ)) → NoMemory (cells_read value texts)
 cells-none value h [] = λ e. cc
-cells-none value h (text ∷ texts) =
-    and-then-none (cell_read BadField (value 0) (code_of text))
+cells-none value h (text ∷ texts) = and-then-none (cell_read BadField (value 0) (code_of text))
     (λ (cell : ReadCell). before_all cell (cells_read (λ place. value (suc place)) texts))
-    (cell-none BadField (value 0) (λ e. cc) (h 0) (code_of text))
-    (λ cell. before cell (cells_read (λ place. value (suc place)) texts)
-    (cells-none (λ place. value (suc place)) (λ place. h (suc place)) texts))
+    (cell-none BadField (value 0) (λ e. cc) (h 0) (code_of text)) (λ cell. before cell (cells_read (λ place.
+    value (suc place)) texts) (cells-none (λ place. value (suc place)) (λ place. h (suc place)) texts))
   where
     before : (cell : ReadCell) (r : Result (List ReadCell) Fault) → NoMemory r → NoMemory (before_all cell r)
     before cell (Ok cells) k = λ e. cc
@@ -62,10 +57,8 @@ cells-none value h (text ∷ texts) =
 
 pub no-memory-at-row : (kept : Option RowTail) (s : Satellite) (line : List ℕ) (fault : Fault)
     → row_held kept s line ≡ Err fault → fault ≡ OutOfMemory → ⊥
-no-memory-at-row kept s line fault e out =
-    and-then-none {Y = HeldRow} (satellite_line_read past s line)
-    (λ read. Ok (held_from arcs flags read)) (by_start (begins_epoch line)) (λ read h. cc)
-    (ap fault_in e ∙ out)
+no-memory-at-row kept s line fault e out = and-then-none {Y = HeldRow} (satellite_line_read past s line) (λ
+    read. Ok (held_from arcs flags read)) (by_start (begins_epoch line)) (λ read h. cc) (ap fault_in e ∙ out)
   where
     arcs : List (Option ArcTail)
     arcs = arcs_of_tail kept
@@ -76,17 +69,14 @@ no-memory-at-row kept s line fault e out =
     past : Past
     past = past_of_row arcs flags
 
-    by_marks : (cells : List ReadCell) (b : Bool) → NoMemory {X = ReadRow} (if not b
-        then Err BadFlags
-        else Ok (row_of_cells past s.name (after_cells s.count line) cells))
+    by_marks : (cells : List ReadCell) (b : Bool) → NoMemory {X = ReadRow}
+        (if not b then Err BadFlags else Ok (row_of_cells past s.name (after_cells s.count line) cells))
     by_marks cells true = λ h. cc
     by_marks cells false = λ h. cc
 
     by_start : (b : Bool) → NoMemory {X = ReadRow} (if b then Err Truncated else row_of_line past s line)
     by_start true = λ h. cc
-    by_start false =
-        and-then-none (cells_read (value_at_place arcs) (cells_of s.count line))
-        (λ cells. row_with_marks past s (after_cells s.count line) cells)
-        (cells-none (value_at_place arcs) (λ place code.
-        value-none OBSERVATION_WIDTH code (slice_index_or arcs place None)) (cells_of s.count line))
-        (λ cells. by_marks cells (are_marks s.count (after_cells s.count line)))
+    by_start false = and-then-none (cells_read (value_at_place arcs) (cells_of s.count line))
+        (λ cells. row_with_marks past s (after_cells s.count line) cells) (cells-none (value_at_place arcs)
+        (λ place code. value-none OBSERVATION_WIDTH code (slice_index_or arcs place None))
+        (cells_of s.count line)) (λ cells. by_marks cells (are_marks s.count (after_cells s.count line)))

@@ -21,58 +21,50 @@ use Rattle.crx_compact.proofs.Marks.{cell-by_kept, cells-count, columns-held, ro
 use Rattle.crx_compact.proofs.Marks.{texts-count}
 use Rattle.crx_compact.proofs.PlaceByPlace.{at-take}
 use Rattle.crx_compact.proofs.soundness.Soundness.{AreReadCells, RowFacts}
+use Rattle.std.proofs.lemmas.Grind.{common_steps}
 
 -- ---- the row that an epoch line leaves
 
 each_place-within : {X : Type 0} (n : ℕ) (f g : ℕ → X)
     → ((k : ℕ) → k < n → f k ≡ g k) → each_place n f ≡ each_place n g
 each_place-within zero f g h = refl
-each_place-within (suc n) f g h =
-    ap (λ x. x ∷ each_place n (λ i. f (suc i))) (h 0 (omega arith))
+each_place-within (suc n) f g h = ap (λ x. x ∷ each_place n (λ i. f (suc i))) (h 0 (omega arith))
     ∙ ap (λ r. g 0 ∷ r)
     (each_place-within n (λ i. f (suc i)) (λ i. g (suc i)) (λ k less. h (suc k) (omega (arith, less))))
 
 -- its cells are those that are kept
 padded-cell : (s : Satellite) (kept : Option RowTail) (place : ℕ) → place < s.count
     → slice_index_or (padded s kept).cells place None ≡ slice_index_or (arcs_of_tail kept) place None
-padded-cell s kept place h =
-    index-each_place s.count place (λ k. cell_of_tail k kept) None (λ le. absurd (omega (arith, h, le)))
+padded-cell s kept place h = index-each_place _ place _ None (λ le. absurd (omega (arith, h, le)))
     ∙ sym (cell-by_kept kept place)
 
 -- indicators past those of its types don't matter to those of its types
 flags-padded : (count : ℕ) (flags marks : List ℕ)
     → flags_held count (patched (flags_held count flags) marks) ≡ flags_held count (patched flags marks)
-flags-padded count flags marks =
-    same_characters (take (2 * count) (patched (flags_held count flags) marks))
+flags-padded count flags marks = same_characters (take (2 * count) (patched (flags_held count flags) marks))
     (take (2 * count) (patched flags marks)) (λ p. by_place p (within-or_past (2 * count) p))
   where
     marked : (old : List ℕ) (p : ℕ) → p < 2 * count → at (take (2 * count) (patched old marks)) p
         ≡ character_of (at old p) (at marks p)
-    marked old p h = at-take (2 * count) (patched old marks) p h
-        ∙ at-without_end_blanks (by_position character_of old marks) p
-        ∙ at-by_position character_of refl old marks p
+    marked old p h =
+        grind (arith, common_steps, at-take, at-without_end_blanks, by_position, character_of, at-by_position)
 
-    by_place : (p : ℕ) → (p < 2 * count) ⊎ (2 * count ≤ p)
-        → at (take (2 * count) (patched (flags_held count flags) marks)) p
-        ≡ at (take (2 * count) (patched flags marks)) p
+    by_place : (p : ℕ) → (p < 2 * count) ⊎ (2 * count ≤ p) → at (take (2 * count)
+        (patched (flags_held count flags) marks)) p ≡ at (take (2 * count) (patched flags marks)) p
     by_place p (inl h) = marked (flags_held count flags) p h
         ∙ ap (λ c. character_of c (at marks p)) (at-without_end_blanks (take (2 * count) flags) p
         ∙ at-take (2 * count) flags p h) ∙ sym (marked flags p h)
     by_place p (inr h) = at-take_past (2 * count) (patched (flags_held count flags) marks) p h
         ∙ sym (at-take_past (2 * count) (patched flags marks) p h)
 
-columns-padded : (count : ℕ) (flags marks : List ℕ)
-    → columns (patched (flags_held count flags) marks) 1 (2 * count) ≡ columns (patched flags marks) 1
-    (2 * count)
-columns-padded count flags marks =
-    sym (columns-held count (patched (flags_held count flags) marks))
-    ∙ ap (λ (t : List ℕ). columns t 1 (2 * count)) (flags-padded count flags marks)
-    ∙ columns-held count (patched flags marks)
+columns-padded : (count : ℕ) (flags marks : List ℕ) → columns
+    (patched (flags_held count flags) marks) 1 (2 * count) ≡ columns (patched flags marks) 1 (2 * count)
+columns-padded count flags marks = sym (columns-held count _)
+    ∙ ap (λ (t : List ℕ). columns t 1 (2 * count)) (flags-padded count flags marks) ∙ columns-held count _
 
 -- what the cells and marks of a line make after it
 cells-padded : (s : Satellite) (kept : Option RowTail) (marks : List ℕ) (cells : List ReadCell)
-    → length cells ≡ s.count
-    → held_from (padded s kept).cells (padded s kept).flags
+    → length cells ≡ s.count → held_from (padded s kept).cells (padded s kept).flags
     (row_of_cells (past_of_row (padded s kept).cells (padded s kept).flags) s.name marks cells)
     ≡ held_from (arcs_of_tail kept) (flags_of_tail kept)
     (row_of_cells (past_of_row (arcs_of_tail kept) (flags_of_tail kept)) s.name marks cells)
@@ -81,56 +73,45 @@ cells-padded s kept marks cells many =
     let coded : length codes ≡ s.count = length-map cells (λ (c : ReadCell). c.code) ∙ many in
     let old : List ℕ = flags_of_tail kept in
     let new : List ℕ = flags_held s.count old in
-    let shown : columns (patched new marks) 1 (2 * length cells) ≡ columns (patched old marks) 1
-    (2 * length cells) =
-    ap (λ n. columns (patched new marks) 1 (2 * n)) many
+    let shown : columns (patched new marks) 1 (2 * length cells)
+    ≡ columns (patched old marks) 1 (2 * length cells) = ap (λ n. columns (patched new marks) 1 (2 * n)) many
     ∙ columns-padded s.count old marks ∙ sym (ap (λ n. columns (patched old marks) 1 (2 * n)) many) in
     let held : flags_held (length codes) (patched new marks) ≡ flags_held (length codes) (patched old marks) =
     ap (λ n. flags_held n (patched new marks)) coded
     ∙ flags-padded s.count old marks ∙ sym (ap (λ n. flags_held n (patched old marks)) coded) in
     let left : arcs_of_codes (padded s kept).cells codes ≡ arcs_of_codes (arcs_of_tail kept) codes =
-    each_place-within (length codes) (λ k. arc_of_code (slice_index_or codes k Missing)
-    (slice_index_or (padded s kept).cells k None)) (λ k. arc_of_code (slice_index_or codes k Missing)
-    (slice_index_or (arcs_of_tail kept) k None)) (λ k less.
-    ap (arc_of_code (slice_index_or codes k Missing)) (padded-cell s kept k (omega (arith, less, coded)))) in
+    grind (arith, common_steps, each_place-within, arc_of_code, slice_index_or, arcs_of_tail, padded-cell) in
     cc (shown, held, left)
 
 pub row-padded : (s : Satellite) (kept : Option RowTail) (line : List ℕ)
     → row_held (Some (padded s kept)) s line ≡ row_held kept s line
 row-padded s kept line =
-    let marks : List ℕ = after_cells s.count line in
-    let texts : List (List ℕ) = cells_of s.count line in
-    let row : RowTail = padded s kept in
-    ap {B = Result HeldRow Fault} (λ (r : Result (List ReadCell) Fault).
-    and_then (if begins_epoch line then Err Truncated
-    else and_then r (λ cells. row_with_marks (past_of_row row.cells row.flags) s marks cells))
-    (λ read. Ok (held_from row.cells row.flags read)))
-    (cells-within (value_at_place row.cells) (value_at_place (arcs_of_tail kept)) texts (λ place code less.
-    ap (value_of_code OBSERVATION_WIDTH code)
-    (padded-cell s kept place (omega (arith, less, texts-count s.count line)))))
-    ∙ decided (begins_epoch line) (are_marks s.count marks)
-    (cells_read (value_at_place (arcs_of_tail kept)) texts)
-    (λ cells e. cells-count (value_at_place (arcs_of_tail kept)) texts cells e ∙ texts-count s.count line)
+    let marks = after_cells s.count line in
+    let texts = cells_of s.count line in
+    let row = padded s kept in
+    let first = cells-within (value_at_place row.cells)
+    (value_at_place (arcs_of_tail kept)) texts (λ place code less. ap (value_of_code OBSERVATION_WIDTH code)
+    (padded-cell s kept place (omega (arith, less, texts-count s.count line)))) in
+    let second = decided
+    (begins_epoch line) (are_marks s.count marks) (cells_read (value_at_place (arcs_of_tail kept)) texts)
+    (λ cells e. cells-count (value_at_place (arcs_of_tail kept)) texts cells e ∙ texts-count s.count line) in
+    cc
   where
     marked : List ℕ
     marked = after_cells s.count line
 
     decided : (begins good : Bool) (r : Result (List ReadCell) Fault)
-        → ((cells : List ReadCell) → r ≡ Ok cells → length cells ≡ s.count)
-        → ◌≡◌ {A = Result HeldRow Fault}
-        (and_then (if begins then Err Truncated else and_then r (λ cells.
-        good otherwise Err BadFlags next
-        Ok (row_of_cells (past_of_row (padded s kept).cells (padded s kept).flags) s.name marked cells)))
+        → ((cells : List ReadCell) → r ≡ Ok cells → length cells ≡ s.count) → ◌≡◌ {A = Result HeldRow Fault}
+        (and_then (if begins then Err Truncated else and_then r (λ cells. good otherwise Err BadFlags next Ok
+        (row_of_cells (past_of_row (padded s kept).cells (padded s kept).flags) s.name marked cells)))
         (λ read. Ok (held_from (padded s kept).cells (padded s kept).flags read)))
-        (and_then (if begins then Err Truncated else and_then r (λ cells.
-        good otherwise Err BadFlags next
-        Ok (row_of_cells (past_of_row (arcs_of_tail kept) (flags_of_tail kept)) s.name marked cells)))
+        (and_then (if begins then Err Truncated else and_then r (λ cells. good otherwise Err BadFlags next Ok
+        (row_of_cells (past_of_row (arcs_of_tail kept) (flags_of_tail kept)) s.name marked cells)))
         (λ read. Ok (held_from (arcs_of_tail kept) (flags_of_tail kept) read)))
     decided true good r many = refl
     decided false good (Err fault) many = refl
     decided false false (Ok cells) many = refl
-    decided false true (Ok cells) many =
-        ap {B = Result HeldRow Fault} Ok (cells-padded s kept marked cells (many cells refl))
+    decided false true (Ok cells) many = cc (cells-padded s kept marked cells (many cells refl))
 
 -- the satellite of the row
 pub satellite-padded : (s : Satellite) (kept : Option RowTail) → satellite_of (padded s kept) ≡ s
@@ -140,31 +121,26 @@ satellite-padded s kept = ap {B = Satellite} (λ n. record { name = s.name; coun
 -- a satellite's line after the row that the epoch line leaves is one after all of the history
 pub row-opened : (before : Tail) (s : Satellite) (line : List ℕ)
     → row_held (Some (padded s (tail_named s.name before)))
-    (satellite_of (padded s (tail_named s.name before))) line
-    ≡ row_after before s line
+    (satellite_of (padded s (tail_named s.name before))) line ≡ row_after before s line
 row-opened before s line =
-    let kept : Option RowTail = tail_named s.name before in
-    ap {B = Result HeldRow Fault} (λ (q : Satellite). row_held (Some (padded s kept)) q line)
-    (satellite-padded s kept)
-    ∙ row-padded s kept line ∙ row-by_tail before s line
+    grind (arith, common_steps, tail_named, row_held, satellite-padded, row-padded, row-by_tail)
 
 -- ---- the row that a line leaves
 
 -- the arcs that codes leave show their values
 cells-show : (arcs : ℕ → Option ArcTail) (cells : List ReadCell)
-    → AreReadCells (λ place code. value_of_code OBSERVATION_WIDTH code (arcs place)) cells
-    → map shown_value (each_place (length (map (λ (c : ReadCell). c.code) cells))
-    (λ j. arc_of_code (slice_index_or (map (λ (c : ReadCell). c.code) cells) j Missing) (arcs j)))
-    ≡ map (λ (c : ReadCell). c.value) cells
+    → AreReadCells (λ place code. value_of_code OBSERVATION_WIDTH code (arcs place)) cells → map shown_value
+    (each_place (length (map (λ (c : ReadCell). c.code) cells)) (λ j. arc_of_code (slice_index_or
+    (map (λ (c : ReadCell). c.code) cells) j Missing) (arcs j))) ≡ map (λ (c : ReadCell). c.value) cells
 cells-show arcs [] h = refl
 cells-show arcs (c ∷ cs) h =
-    cc (shown-code OBSERVATION_WIDTH c.code (arcs 0) c.value h.0.meant, cells-show (λ j. arcs (suc j)) cs h.1)
+    let first = shown-code OBSERVATION_WIDTH c.code (arcs 0) c.value h.0.meant in
+    cc (cells-show (λ j. arcs (suc j)) cs h.1)
 
 -- what a line leaves of its satellite shows the line's row
 pub row-shows : (before : Tail) (s : Satellite) (read : ReadRow)
     → RowFacts (past_of_tail before) s read → read.row ≡ shown_row (held_row before read).tail
-row-shows before s read h =
-    subst (λ (r : ReadRow). r.row ≡ shown_row (held_row before r).tail) h.is_read by_cells
+row-shows before s read h = rw (← h.is_read) by_cells
   where
     kept : Option RowTail
     kept = tail_named s.name before
@@ -179,15 +155,11 @@ row-shows before s read h =
     arcs = each_place (length codes) (λ k. arc_of_code (slice_index_or codes k Missing) (cell_of_tail k kept))
 
     many : length arcs ≡ length h.cells
-    many = length-each_place (length codes)
-        (λ k. arc_of_code (slice_index_or codes k Missing) (cell_of_tail k kept))
-        ∙ length-map h.cells (λ (c : ReadCell). c.code)
+    many = length-each_place (length codes) (λ k. arc_of_code (slice_index_or codes k Missing)
+        (cell_of_tail k kept)) ∙ length-map h.cells (λ (c : ReadCell). c.code)
 
     flags : columns text 1 (2 * length h.cells) ≡ columns (flags_held (length codes) text) 1 (2 * length arcs)
-    flags = sym (columns-held (length h.cells) text)
-        ∙ ap (λ n. columns (flags_held n text) 1 (2 * length h.cells))
-        (sym (length-map h.cells (λ (c : ReadCell). c.code)))
-        ∙ ap (λ n. columns (flags_held (length codes) text) 1 (2 * n)) (sym many)
+    flags = cc (columns-held (length h.cells) text, length-map h.cells (λ (c : ReadCell). c.code), many)
 
     by_cells : (row_of_cells (past_of_tail before) s.name read.raw.marks h.cells).row
         ≡ shown_row (held_row before (row_of_cells (past_of_tail before) s.name read.raw.marks h.cells)).tail

@@ -18,6 +18,8 @@ use Rattle.crx_compact.proofs.wayback.Overlays.{overlaid-patched}
 use Rattle.crx_compact.proofs.wayback.Cuts.{overlaid-take}
 use Rattle.crx_compact.proofs.wayback.Runs.{named-made}
 use Rattle.crx_compact.proofs.arcs.OneMore.{value-next, number-next}
+use Rattle.std.proofs.lemmas.Grind.{common_steps}
+use Rattle.std.proofs.Common.{arith, rules}
 
 -- ---- what a tail holds of a satellite
 
@@ -26,31 +28,23 @@ cell-found : (rest : List (Option RawRow)) (found : Option RawRow) (j : ℕ)
     ≡ started_tail (since_start (map (code_in j) (stretch (found ∷ rest))))
 cell-found rest None j = refl
 cell-found rest (Some r) j =
-    index-each_place (length r.codes) j
-    (λ i. started_tail (since_start (map (code_in i) (r ∷ stretch rest)))) None (λ le.
-    ap (λ c. started_tail (since_start (c ∷ map (code_in j) (stretch rest))))
-    (get_or_past r.codes j Missing le))
+    grind (arith, common_steps, index-each_place, started_tail, since_start, code_in, get_or_past)
 
-flags-found : (rest : List (Option RawRow)) (found : Option RawRow)
-    → flags_of_tail (option_map (raw_row_tail (stretch (found ∷ rest))) found)
-    ≡ overlaid (marks_of (stretch (found ∷ rest)))
+flags-found : (rest : List (Option RawRow)) (found : Option RawRow) → flags_of_tail
+    (option_map (raw_row_tail (stretch (found ∷ rest))) found) ≡ overlaid (marks_of (stretch (found ∷ rest)))
 flags-found rest None = refl
 flags-found rest (Some r) = refl
 
-cell-left : (name : List ℕ) (block : List RawEpoch) (j : ℕ)
-    → cell_of_tail j (tail_named name (tail_of_block block))
-    ≡ started_tail (since_start (map (code_in j) (raw_run_of name block)))
+cell-left : (name : List ℕ) (block : List RawEpoch) (j : ℕ) → cell_of_tail j (tail_named name
+    (tail_of_block block)) ≡ started_tail (since_start (map (code_in j) (raw_run_of name block)))
 cell-left name [] j = refl
-cell-left name (e ∷ es) j =
-    ap (cell_of_tail j) (named-made (λ (r : RawRow). r.name)
-    (λ (t : RowTail). t.name) (λ n r. raw_row_tail (raw_run_of n (e ∷ es)) r) (λ n r. refl) name e.rows)
-    ∙ cell-found (map (λ (q : RawEpoch). raw_row_named name q.rows) es) (raw_row_named name e.rows) j
+cell-left name (e ∷ es) j = ap (cell_of_tail j) (named-made (λ (r : RawRow). r.name) (λ (t : RowTail). t.name)
+    (λ n r. raw_row_tail (raw_run_of n (e ∷ es)) r) (λ n r. refl) name e.rows) ∙ cell-found _ _ j
 
 flags-left : (name : List ℕ) (block : List RawEpoch)
     → flags_of_tail (tail_named name (tail_of_block block)) ≡ overlaid (marks_of (raw_run_of name block))
 flags-left name [] = refl
-flags-left name (e ∷ es) =
-    ap flags_of_tail (named-made (λ (r : RawRow). r.name)
+flags-left name (e ∷ es) = ap flags_of_tail (named-made (λ (r : RawRow). r.name)
     (λ (t : RowTail). t.name) (λ n r. raw_row_tail (raw_run_of n (e ∷ es)) r) (λ n r. refl) name e.rows)
     ∙ flags-found (map (λ (q : RawEpoch). raw_row_named name q.rows) es) (raw_row_named name e.rows)
 
@@ -66,21 +60,11 @@ row-tail raw block r own =
     let run =
     ap (λ (o : Option RawRow). stretch (o ∷ map (λ (q : RawEpoch). raw_row_named r.name q.rows) block)) own in
     let cells = each_place-same n (λ j. started_tail (since_start (map (code_in j) (r ∷ rs))))
-    (λ j. arc_of_code (code_in j r) (cell_of_tail j found))
-    (λ j. number-next (code_in j r) (map (code_in j) rs)
-    ∙ ap (arc_of_code (code_in j r)) (sym (cell-left r.name block j))) in
-    let flags = overlaid-take (2 * n) (r.marks ∷ marks_of rs)
-    ∙ ap (flags_held n) (overlaid-patched r.marks (marks_of rs)
-    ∙ ap (λ t. patched t r.marks) (sym (flags-left r.name block))) in
-    ap (λ q. raw_row_tail q r) run ∙ ap {B = RowTail} (λ t. record {
-      name = r.name;
-      flags = t;
-      cells = each_place n (λ j. started_tail (since_start (map (code_in j) (r ∷ rs))));
-    }) flags ∙ ap {B = RowTail} (λ cs. record {
-      name = r.name;
-      flags = flags_held n (patched (flags_of_tail found) r.marks);
-      cells = cs;
-    }) cells
+    (λ j. arc_of_code (code_in j r) (cell_of_tail j found)) (λ j. number-next
+    (code_in j r) (map (code_in j) rs) ∙ ap (arc_of_code (code_in j r)) (sym (cell-left r.name block j))) in
+    let flags = overlaid-take (2 * n) (r.marks ∷ marks_of rs) ∙ ap (flags_held n)
+    (overlaid-patched r.marks (marks_of rs) ∙ ap (λ t. patched t r.marks) (sym (flags-left r.name block))) in
+    search rules
 
 -- ---- one epoch more
 
@@ -99,25 +83,18 @@ raw-by_tail raw block own =
 -- a block gives to the next lines what its tail does
 past-left : (block : List RawEpoch) → past_of_block block ≡ past_of_tail (tail_of_block block)
 past-left block =
-    let clocks : List Code = map (λ (q : RawEpoch). q.clock) block in
-    let lines : List (List ℕ) = map (λ (q : RawEpoch). q.line) block in
-    let tail : Tail = tail_of_block block in
-    let text : (λ line. overlaid (line ∷ lines)) ≡ (λ line. patched tail.text line) =
-    fun_ext (λ line. overlaid-patched line lines) in
-    let clock : (λ code. value_of CLOCK_WIDTH (code ∷ clocks))
-    ≡ (λ code. value_of_code CLOCK_WIDTH code tail.clock) =
-    fun_ext (λ code. value-next CLOCK_WIDTH code clocks) in
-    let value : (λ name place code. value_of OBSERVATION_WIDTH
-    (code ∷ map (code_in place) (raw_run_of name block)))
-    ≡ (λ name place code. value_of_code OBSERVATION_WIDTH code (cell_of_tail place (tail_named name tail))) =
-    fun_ext (λ name. fun_ext (λ place. fun_ext
-    (λ code. value-next OBSERVATION_WIDTH code (map (code_in place) (raw_run_of name block))
-    ∙ ap (value_of_code OBSERVATION_WIDTH code) (sym (cell-left name block place))))) in
-    let flags : (λ name marks. overlaid (marks ∷ marks_of (raw_run_of name block)))
-    ≡ (λ name marks. patched (flags_of_tail (tail_named name tail)) marks) =
-    fun_ext (λ name. fun_ext (λ marks. overlaid-patched marks (marks_of (raw_run_of name block))
-    ∙ ap (λ t. patched t marks) (sym (flags-left name block)))) in
-    rw (text, clock, value, flags)
+    let clocks = map (λ (q : RawEpoch). q.clock) block in
+    let lines = map (λ (q : RawEpoch). q.line) block in
+    let tail = tail_of_block block in
+    rw (
+      fun_ext (λ line. overlaid-patched line lines),
+      fun_ext (λ code. value-next CLOCK_WIDTH code clocks),
+      fun_ext (λ name. fun_ext (λ place. fun_ext
+          (λ code. value-next OBSERVATION_WIDTH code (map (code_in place) (raw_run_of name block))
+          ∙ ap (value_of_code OBSERVATION_WIDTH code) (sym (cell-left name block place))))),
+      fun_ext (λ name. fun_ext (λ marks. overlaid-patched marks (marks_of (raw_run_of name block))
+          ∙ ap (λ t. patched t marks) (sym (flags-left name block)))),
+    )
 
 epochs-left : (older : List RawEpoch) → past_of_epochs older ≡ option_map past_of_tail (tail_left older)
 epochs-left [] = refl
@@ -125,28 +102,25 @@ epochs-left (e ∷ older) = ap {B = Option Past} Some (past-left (block_of (e �
 
 line-left : (older : List RawEpoch) (line : List ℕ)
     → past_of_line older line ≡ option_map past_of_tail (tail_for_line (tail_left older) line)
-line-left older line = step (begins_epoch line)
+line-left older line = step _
   where
     step : (b : Bool) → (if b then Some (past_of_block []) else past_of_epochs older)
         ≡ option_map past_of_tail (if b then Some no_tail else tail_left older)
-    step true = ap {B = Option Past} Some (past-left [])
+    step true = cc (past-left [])
     step false = epochs-left older
 
 -- the tail decides what is at the next lines
 pub place-by_tail : (types : List Count) (older : List RawEpoch) (lines : List ReadLine)
     → epoch_at types older lines ≡ epoch_after types (tail_left older) lines
-place-by_tail types older lines =
-    ap (λ f. epoch_against types f lines) (fun_ext (λ line. line-left older line))
+place-by_tail types older lines = cc (fun_ext (λ line. line-left older line))
 
 -- what a raw epoch leaves
-pub left-by_tail : (raw : RawEpoch) (older : List RawEpoch) → HasSingleLines raw
-    → tail_left (raw ∷ older)
+pub left-by_tail : (raw : RawEpoch) (older : List RawEpoch) → HasSingleLines raw → tail_left (raw ∷ older)
     ≡ Some (raw_tail_after (unwrap_or (tail_for_line (tail_left older) raw.line) no_tail) raw)
-left-by_tail raw older own = step (begins_epoch raw.line) older
+left-by_tail raw older own = step _ older
   where
-    step : (b : Bool) (os : List RawEpoch)
-        → Some (tail_of_block (raw ∷ (if b then [] else block_of os)))
+    step : (b : Bool) (os : List RawEpoch) → Some (tail_of_block (raw ∷ (if b then [] else block_of os)))
         ≡ Some (raw_tail_after (unwrap_or (if b then Some no_tail else tail_left os) no_tail) raw)
-    step true os = ap {B = Option Tail} Some (raw-by_tail raw [] own)
-    step false [] = ap {B = Option Tail} Some (raw-by_tail raw [] own)
-    step false (e ∷ os) = ap {B = Option Tail} Some (raw-by_tail raw (block_of (e ∷ os)) own)
+    step true os = cc (raw-by_tail raw [] own)
+    step false [] = cc (raw-by_tail raw [] own)
+    step false (e ∷ os) = cc (raw-by_tail raw (block_of (e ∷ os)) own)

@@ -6,10 +6,10 @@ use Rattle.crx_compact.proofs.Words.{Satellite, and_then, ColumnsState, RawStep,
 use Rattle.crx_compact.proofs.Words.{first_step, is_idle, opened_raw, opening, step_in, step_with_rows}
 use Rattle.crx_compact.proofs.Words.{tail_for_line, tail_held, tail_opened, with_rows, columns_state, step_at}
 use Rattle.crx_compact.proofs.Words.{OpenHistory, tail_of_history, Tail, Stage, Rows}
-use Rattle.crx_compact.specs.OpenEpochs.{awaits_row}
-use Rattle.crx_compact.specs.OpenEpochs.{is_faulty, makes_epoch}
+use Rattle.crx_compact.specs.OpenEpochs.{awaits_row, is_faulty, makes_epoch}
 use Rattle.crx_compact.specs.declared.columns.Stage.TheVariants.{Clock, Unbegun}
 use Rattle.crx_compact.proofs.reading.StepsByCode.{rows-whole}
+use Rattle.std.proofs.Common.{rules}
 
 -- ---- between two epochs
 
@@ -22,21 +22,16 @@ stage-idle is_kept Rows count history state e idle = absurd (true≢false (sym (
 pub tail-idle : (is_kept : Bool) (stage : Stage) (count : ℕ) (history : OpenHistory) (state : ColumnsState)
     → columns_state is_kept stage count history ≡ state → is_idle state ≡ true
     → tail_held state ≡ (if is_kept then Some (tail_of_history history) else None)
-tail-idle is_kept stage count history state e idle =
-    sym (ap {B = Option Tail} tail_held e)
-    ∙ ap {B = Option Tail} (λ (s : Stage). tail_held (columns_state is_kept s count history))
-    (stage-idle is_kept stage count history state e idle)
+tail-idle is_kept stage count history state e idle = search rules
 
 -- ---- the epoch line
 
 -- a line whose satellites can be read has no fault
 pub line-good : (types : List Count) (line : List ℕ) (held : Option Tail) (before : Tail)
-    → tail_for_line held line ≡ Some before
-    → is_ok (satellites_of_line types (past_of_tail before) line) ≡ true
-    → is_faulty (first_step types held (Content line)) ≡ false
+    → tail_for_line held line ≡ Some before → is_ok (satellites_of_line types (past_of_tail before) line)
+    ≡ true → is_faulty (first_step types held (Content line)) ≡ false
 line-good types line held before e good =
-    ap (λ (o : Option Tail). is_faulty (opening (opened_raw types line o))) e
-    ∙ by_result (satellites_of_line types (past_of_tail before) line) good
+    cc (e, by_result (satellites_of_line types (past_of_tail before) line) good)
   where
     by_result : (r : Result (List Satellite) Fault) → is_ok r ≡ true
         → is_faulty (opening (and_then r (λ ss. Ok (before_clock (tail_opened before line ss))))) ≡ false
@@ -49,8 +44,7 @@ line-good types line held before e good =
 pub step-by-stage : (is_kept : Bool) (stage : Stage) (count : ℕ) (history : OpenHistory)
     (state : ColumnsState) (line : List ℕ) → columns_state is_kept stage count history ≡ state
     → step_in state (Content line) ≡ step_at stage count history (Content line)
-step-by-stage is_kept stage count history state line e =
-    sym (ap {B = RawStep} (λ (s : ColumnsState). step_in s (Content line)) e) ∙ kept stage
+step-by-stage is_kept stage count history state line e = cc (e, kept stage)
   where
     kept : (stage : Stage) → step_in (columns_state is_kept stage count history) (Content line)
         ≡ step_in (columns_state true stage count history) (Content line)
@@ -60,8 +54,7 @@ step-by-stage is_kept stage count history state line e =
 
 pub state-rows : (is_kept : Bool) (stage : Stage) (count : ℕ) (history : OpenHistory) → stage ≡ Rows
     → columns_state is_kept stage count history ≡ Reading (with_rows (tail_of_history history) count)
-state-rows is_kept stage count history at =
-    ap {B = ColumnsState} (λ (s : Stage). columns_state is_kept s count history) at
+state-rows is_kept stage count history at = cc (at)
 
 pub rows-left : (count all : ℕ) → (count == all) ≡ false → count ≤ all → count < all
 rows-left count all other within = grind (arith, other, within)
@@ -70,8 +63,7 @@ rows-left count all other within = grind (arith, other, within)
 pub row-was_awaited : (is_kept : Bool) (stage : Stage) (count : ℕ) (history : OpenHistory)
     (state : ColumnsState) → columns_state is_kept stage count history ≡ state → stage ≡ Rows
     → awaits_row state ≡ true
-row-was_awaited is_kept stage count history state e at =
-    sym (ap awaits_row e) ∙ ap (λ (s : Stage). awaits_row (columns_state is_kept s count history)) at
+row-was_awaited is_kept stage count history state e at = cc (e, at)
 
 pub step-whole : (step : RawStep) (tail : Tail) (count : ℕ)
     → step ≡ step_with_rows tail count → length tail.rows ≤ count → makes_epoch step ≡ true

@@ -8,9 +8,10 @@ use Rattle.crx_compact.proofs.Words.{raw_step_with_row, row_step, step_with_rows
 use Rattle.crx_compact.proofs.Words.{whole_or_awaiting, with_rows, IsRowRead, OpenHistory, satellite_of}
 use Rattle.crx_compact.proofs.Words.{tail_of_history, shown_epoch, shown_row, RowTail, Tail}
 use Rattle.std.proofs.lemmas.Option.{slice_get-get_or, slice_get_past}
-use Rattle.crx_compact.specs.OpenEpochs.{Idle, Whole, Going}
-use Rattle.crx_compact.specs.OpenEpochs.{Faulty}
+use Rattle.crx_compact.specs.OpenEpochs.{Idle, Whole, Going, Faulty}
 use Rattle.crx_compact.specs.Placing.{empty_row}
+use Rattle.std.proofs.lemmas.Grind.{common_steps}
+use Rattle.std.proofs.Common.{rules}
 
 -- ---- satellite lines
 
@@ -18,41 +19,20 @@ use Rattle.crx_compact.specs.Placing.{empty_row}
 row-here : (tail : Tail) (count : ℕ) (line : List ℕ) (row : RowTail) (read : Result HeldRow Fault)
     → slice_get tail.rows count ≡ Some row → row_held (Some row) (satellite_of row) line ≡ read
     → next_step (with_rows tail count) (Content line) ≡ raw_step_with_row (with_rows tail count) read
-row-here tail count line row read there e =
-    ap {B = RawStep} (λ (o : Option RowTail). row_step (with_rows tail count) o line) there
-    ∙ ap {B = RawStep} (λ (r : Result HeldRow Fault). raw_step_with_row (with_rows tail count) r) e
+row-here tail count line row read there e = search rules
 
 pub row-stepped : (old new : OpenHistory) (count : ℕ) (line : List ℕ) → IsRowRead count line old new
     → next_step (with_rows (tail_of_history old) count) (Content line)
     ≡ step_with_rows (tail_of_history new) (count + 1)
 row-stepped old new count line h =
-    row-here (tail_of_history old) count line h.row (Ok (record { row = shown_row h.left; tail = h.left }))
-    h.there h.read
-    ∙ ap {B = RawStep} (λ n. step_with_rows (record {
-      text = old.text;
-      clock = old.clock;
-      rows = slice_set old.satellites.rows count h.left;
-    }) n) (sym (add-one count))
-    ∙ ap {B = RawStep} (λ (rs : List RowTail). step_with_rows (record {
-      text = old.text;
-      clock = old.clock;
-      rows = rs;
-    }) (count + 1)) (sym h.rows)
-    ∙ ap {B = RawStep} (λ (t : List ℕ). step_with_rows (record {
-      text = t;
-      clock = old.clock;
-      rows = new.satellites.rows;
-    }) (count + 1)) (sym h.text)
-    ∙ ap {B = RawStep} (λ (arc : Option ArcTail). step_with_rows (record {
-      text = new.text;
-      clock = arc;
-      rows = new.satellites.rows;
-    }) (count + 1)) (sym h.clock)
+    let first = row-here (tail_of_history old) count line h.row
+    (Ok (record { row = shown_row h.left; tail = h.left })) h.there h.read in
+    cc (add-one count, h.rows, h.text, h.clock)
 
 -- the row that is awaited
 pub row-awaited : (rows : List RowTail) (count : ℕ)
     → count < length rows → (row : RowTail) × (slice_get rows count ≡ Some row)
-row-awaited rows count h = by_place (slice_get rows count) refl
+row-awaited rows count h = by_place _ refl
   where
     by_place : (o : Option RowTail) → slice_get rows count ≡ o
         → (row : RowTail) × (slice_get rows count ≡ Some row)
@@ -60,26 +40,21 @@ row-awaited rows count h = by_place (slice_get rows count) refl
     by_place (Some row) e = (row, e)
 
 pub row-faulty : (tail : Tail) (count : ℕ) (line : List ℕ) (fault : Fault) → count < length tail.rows
-    → ((row : RowTail) → slice_get tail.rows count ≡ Some row
-    → row_held (Some row) (satellite_of row) line ≡ Err fault)
-    → next_step (with_rows tail count) (Content line) ≡ Faulty fault
+    → ((row : RowTail) → slice_get tail.rows count ≡ Some row → row_held (Some row) (satellite_of row) line
+    ≡ Err fault) → next_step (with_rows tail count) (Content line) ≡ Faulty fault
 row-faulty tail count line fault h e =
-    let awaited = row-awaited tail.rows count h in
+    let awaited = row-awaited _ count h in
     row-here tail count line awaited.0 (Err fault) awaited.1 (e awaited.0 awaited.1)
 
 -- ---- more rows, or a whole epoch
 
 rows-awaited : (tail : Tail) (count : ℕ)
     → count < length tail.rows → step_with_rows tail count ≡ Going (with_rows tail count)
-rows-awaited tail count h =
-    ap {B = RawStep} (λ (o : Option RowTail). whole_or_awaiting tail count o)
-    (row-awaited tail.rows count h).1
+rows-awaited tail count h = cc ((row-awaited tail.rows count h).1)
 
 pub rows-whole : (tail : Tail) (count : ℕ)
     → length tail.rows ≤ count → step_with_rows tail count ≡ Whole (whole_epoch tail)
-rows-whole tail count h =
-    ap {B = RawStep} (λ (o : Option RowTail). whole_or_awaiting tail count o)
-    (slice_get_past tail.rows count h)
+rows-whole tail count h = cc (slice_get_past tail.rows count h)
 
 pub made-more : (step : RawStep) (tail : Tail) (count : ℕ) → step ≡ step_with_rows tail count
     → count < length tail.rows → HasMade step (Reading (with_rows tail count)) None
@@ -93,16 +68,12 @@ made-whole step tail count epoch e h shown = (whole_epoch tail, e ∙ rows-whole
 -- ---- printed lines
 
 -- the lines of the epoch that a tail shows
-pub printed-shown : (tail : Tail) → printed_epoch (shown_epoch tail (length tail.rows))
-    ≡ printed_head (columns tail.text 1 HEAD_WIDTH) (shown_value tail.clock) ∷ map printed_row
-    (map shown_row tail.rows)
-printed-shown tail =
-    ap (λ (rs : List RowTail). printed_head (columns tail.text 1 HEAD_WIDTH) (shown_value tail.clock)
-    ∷ map printed_row (map shown_row rs)) (take_all (length tail.rows) tail.rows (omega arith))
+pub printed-shown : (tail : Tail) → printed_epoch (shown_epoch tail (length tail.rows)) ≡ printed_head
+    (columns tail.text 1 HEAD_WIDTH) (shown_value tail.clock) ∷ map printed_row (map shown_row tail.rows)
+printed-shown tail = grind (arith, common_steps)
 
 pub printed-whole : (step : RawStep) (tail : Tail) (count : ℕ) (lines : List (List ℕ))
-    → step ≡ step_with_rows tail count → length tail.rows ≤ count
-    → lines ≡ printed_epoch (shown_epoch tail (length tail.rows))
-    → HasPrintedLines step (Idle (Some tail)) true lines
+    → step ≡ step_with_rows tail count → length tail.rows ≤ count → lines
+    ≡ printed_epoch (shown_epoch tail (length tail.rows)) → HasPrintedLines step (Idle (Some tail)) true lines
 printed-whole step tail count lines e h printed =
     (whole_epoch tail, e ∙ rows-whole tail count h, printed, refl)

@@ -24,9 +24,9 @@ use Rattle.crx_compact.proofs.Lists.{all-from}
 use Rattle.crx_compact.proofs.wayback.Overlays.{at-overlaid}
 use Rattle.crx_compact.proofs.Characters.{all-take, list_all-at, list_all-append}
 use Rattle.crx_compact.proofs.Results.{no-err, ok-same}
-use Rattle.crx_compact.proofs.soundness.Soundness.{AreReadCells, RowFacts, Paired}
+use Rattle.crx_compact.proofs.soundness.Soundness.{AreReadCells, RowFacts, Paired, block_for, epoch-facts}
 use Rattle.crx_compact.proofs.EpochLines.{names_of, differ}
-use Rattle.crx_compact.proofs.soundness.Soundness.{block_for, epoch-facts}
+use Rattle.std.proofs.lemmas.Grind.{common_steps}
 
 -- ---- columns
 
@@ -42,9 +42,7 @@ all-blanks p (suc n) e = and_from (p 32) (list_all p (replicate n 32)) e (all-bl
 all-columns : (p : ℕ → Bool) (text : List ℕ) (first width : ℕ)
     → p 32 ≡ true → list_all p text ≡ true → list_all p (columns text first width) ≡ true
 all-columns p text first width e h =
-    all-take p width (drop (first - 1) text ++ replicate width 32)
-    (list_all-append p (drop (first - 1) text)
-    (replicate width 32) (all-drop p (first - 1) text h) (all-blanks p width e))
+    grind (arith, common_steps, all-take, list_all-append, all-drop, all-blanks)
 
 -- ---- marks
 
@@ -54,15 +52,13 @@ ArePrintable marks = AllByRecursion (λ (w : List ℕ). list_all is_printable w 
 latest-printable : (marks : List (List ℕ)) (p : ℕ) → ArePrintable marks
     → is_printable (latest_mark marks p) ≡ true
 latest-printable [] p h = refl
-latest-printable (w ∷ ws) p h =
-    grind (arith, list_all-at is_printable refl w h.0 p, latest-printable ws p h.1)
+latest-printable (w ∷ ws) p h = grind (arith, list_all-at _ refl w h.0 p, latest-printable ws p h.1)
 
 shown-kept : (c : ℕ) → is_printable c ≡ true → is_kept (shown c) ≡ true
 shown-kept c h = grind (arith, h)
 
 overlaid-kept : (marks : List (List ℕ)) → ArePrintable marks → list_all is_kept (overlaid marks) ≡ true
-overlaid-kept marks h =
-    list_all-from_at is_kept (overlaid marks)
+overlaid-kept marks h = list_all-from_at is_kept (overlaid marks)
     (λ p. ap is_kept (at-overlaid marks p) ∙ shown-kept (latest_mark marks p) (latest-printable marks p h))
 
 -- ---- the marks of a run
@@ -74,7 +70,7 @@ block-printable (e ∷ older) h = grind (arith, block-printable older h.1)
 
 block_for-printable : (line : List ℕ) (older : List RawEpoch)
     → AllByRecursion HasPrintableMarks older → AllByRecursion HasPrintableMarks (block_for line older)
-block_for-printable line older h = choose (begins_epoch line)
+block_for-printable line older h = choose _
   where
     choose : (b : Bool) → AllByRecursion HasPrintableMarks (if b then [] else block_of older)
     choose true = tt
@@ -119,9 +115,8 @@ value_of-fits width (Step d ∷ cs) v e = since-fits width (since_start (Step d 
 
 -- every value of some cells fits
 cells-fit : (value : ℕ → Code → Result (Option ℤ) Fault)
-    → ((j : ℕ) (c : Code) (v : Option ℤ) → value j c ≡ Ok v → IsValue v)
-    → (cells : List ReadCell) → AreReadCells value cells
-    → AllByRecursion IsValue (map (λ (c : ReadCell). c.value) cells)
+    → ((j : ℕ) (c : Code) (v : Option ℤ) → value j c ≡ Ok v → IsValue v) → (cells : List ReadCell)
+    → AreReadCells value cells → AllByRecursion IsValue (map (λ (c : ReadCell). c.value) cells)
 cells-fit value h [] k = tt
 cells-fit value h (c ∷ cs) k = grind (arith, cells-fit (λ j. value (suc j)) (λ j. h (suc j)) cs k.1)
 
@@ -141,43 +136,35 @@ pub typed-parts : (types : List Count) (name : List ℕ) (count : ℕ)
 typed-parts types name count h = grind arith
 
 pub row-sound : (types : List Count) (block : List RawEpoch) (satellite : Satellite) (read : ReadRow)
-    → AreCounts types → AllByRecursion HasPrintableMarks block
-    → IsKnown types satellite → RowFacts (past_of_block block) satellite read → IsSoundRow read.row
-    × HasItsTypes types read.row
+    → AreCounts types → AllByRecursion HasPrintableMarks block → IsKnown types satellite
+    → RowFacts (past_of_block block) satellite read → IsSoundRow read.row × HasItsTypes types read.row
 row-sound types block satellite read counts printable known h =
     let name = satellite.name in
-    let values = map (λ (c : ReadCell). c.value) h.cells in
     let flags = columns ((past_of_block block).flags name read.raw.marks) 1 (2 * length h.cells) in
     let many = length-map h.cells (λ (c : ReadCell). c.value) in
     let count = many ∙ h.counted in
     let typed = typed-parts types name satellite.count known.typed in
     let P : Option ℕ → Type 0 = λ o. IfSome o IsAllowedCount in
-    let allowed : IsAllowedCount satellite.count =
-    subst P typed.found (allowed_of types (character_at name 1) counts) in
     let Q : Option ℕ → Type 0 = λ o. OnSome o (is_system (character_at name 1) ≡ true) in
-    let system : is_system (character_at name 1) ≡ true =
-    subst Q typed.found (system_of types (character_at name 1) counts) in
-    let three = ap (λ n. nat_eq n 3) known.short in
-    let marks : list_all is_printable read.raw.marks ≡ true =
-    (and_parts (list_all is_printable read.raw.marks)
-    (list_all is_blank (drop (2 * satellite.count) read.raw.marks)) h.marks_ok).0 in
-    let wide = length-columns ((past_of_block block).flags name read.raw.marks) 1 (2 * length h.cells) in
+    let marks : list_all is_printable read.raw.marks ≡ true = (and_parts (list_all is_printable
+    read.raw.marks) (list_all is_blank (drop (2 * satellite.count) read.raw.marks)) h.marks_ok).0 in
     let R : ℕ → Type 0 = λ n. IsAllowedCount n in
     let S : ReadRow → Type 0 = λ r. IsSoundRow r.row × HasItsTypes types r.row in
-    subst S h.is_read (
+    rw (← h.is_read) (
       record {
-        named = and_from (nat_eq (length name) 3) (is_system (character_at name 1) && has_number name) three
-            (and_from (is_system (character_at name 1)) (has_number name) system typed.number);
-        counted = subst R (sym count) allowed;
-        ranged = All-from_recursion IsValue values
-            (cells-fit ((past_of_block block).value name)
-            (λ j c v e. value_of-fits OBSERVATION_WIDTH (c ∷ map (code_in j) (raw_run_of name block)) v e)
-            h.cells
-            h.are_read);
-        paired = omega (arith, wide, many);
+        named = and_from (nat_eq (length name) 3) (is_system (character_at name 1) && has_number name)
+            (ap (λ n. nat_eq n 3) known.short) (and_from (is_system (character_at name 1)) (has_number name)
+            (subst Q typed.found (system_of types (character_at name 1) counts)) typed.number);
+        counted = rw count (subst P typed.found (allowed_of types (character_at name 1) counts));
+        ranged = All-from_recursion IsValue (map (λ (c : ReadCell). c.value) h.cells)
+            (cells-fit ((past_of_block block).value name) (λ j c v e. value_of-fits OBSERVATION_WIDTH
+            (c ∷ map (code_in j) (raw_run_of name block)) v e) h.cells h.are_read);
+        paired =
+            let first =
+            length-columns ((past_of_block block).flags name read.raw.marks) 1 (2 * length h.cells) in
+            omega (arith, many);
         kept = all-columns is_kept ((past_of_block block).flags name read.raw.marks) 1
-            (2 * length h.cells) refl
-            (overlaid-kept (read.raw.marks ∷ marks_of (raw_run_of name block))
+            (2 * length h.cells) refl (overlaid-kept (read.raw.marks ∷ marks_of (raw_run_of name block))
             (marks, raw_run-printable name block printable));
       },
       known.typed ∙ ap (λ n. Some n) (sym count),
@@ -205,21 +192,18 @@ rows-sound types block (s ∷ ss) (r ∷ rs) counts printable known h = (
 )
 
 rows-marks : (past : Past) (satellites : List Satellite) (rows : List ReadRow)
-    → Paired (RowFacts past) satellites rows
-    → AllByRecursion (λ (r : RawRow). list_all is_printable r.marks ≡ true)
-    (map (λ (r : ReadRow). r.raw) rows)
+    → Paired (RowFacts past) satellites rows → AllByRecursion
+    (λ (r : RawRow). list_all is_printable r.marks ≡ true) (map (λ (r : ReadRow). r.raw) rows)
 rows-marks past [] [] h = tt
 rows-marks past [] (r ∷ rs) h = absurd h
 rows-marks past (s ∷ ss) [] h = absurd h
 rows-marks past (s ∷ ss) (r ∷ rs) h = (
-  (and_parts (list_all is_printable r.raw.marks) (list_all is_blank (drop (2 * s.count) r.raw.marks))
-      h.0.marks_ok).0,
+  (and_parts _ (list_all is_blank (drop (2 * s.count) r.raw.marks)) h.0.marks_ok).0,
   rows-marks past ss rs h.1,
 )
 
-row-names : (past : Past) (satellites : List Satellite) (rows : List ReadRow)
-    → Paired (RowFacts past) satellites rows
-    → map (λ (r : Row). r.name) (map (λ (r : ReadRow). r.row) rows) ≡ names_of satellites
+row-names : (past : Past) (satellites : List Satellite) (rows : List ReadRow) → Paired (RowFacts past)
+    satellites rows → map (λ (r : Row). r.name) (map (λ (r : ReadRow). r.row) rows) ≡ names_of satellites
 row-names past [] [] h = refl
 row-names past [] (r ∷ rs) h = absurd h
 row-names past (s ∷ ss) [] h = absurd h

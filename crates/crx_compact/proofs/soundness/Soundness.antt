@@ -20,6 +20,8 @@ use Rattle.crx_compact.proofs.Identifiers.{each-own}
 use Rattle.crx_compact.proofs.Results.{no-err, ok-same, Follows, and_then-ok, if-err, if-true, before-ok}
 use Rattle.crx_compact.proofs.Marks.{row_with_marks, row_of_line, cells-count, texts-count}
 use Rattle.crx_compact.proofs.EpochLines.{differ, names_of, LineFacts, line-facts_of}
+use Rattle.std.proofs.lemmas.Grind.{common_steps}
+use Rattle.std.proofs.Common.{rules}
 
 -- ---- good answers come from good answers
 
@@ -50,9 +52,8 @@ after-comes x k lines next (Here z m) y n h e = grind arith
 after-comes x k lines next (Wrong m f) y n h e = cc
 after-comes x k lines next Wanted y n h e = cc
 
-pub then-comes : {X Y : Type 0} (p : Place X) (lines : List ReadLine) (next : X
-    → List ReadLine → Place Y) (y : Y) (n : ℕ)
-    → then_place p lines next ≡ Here y n → Comes p lines next y n
+pub then-comes : {X Y : Type 0} (p : Place X) (lines : List ReadLine) (next : X → List ReadLine → Place Y)
+    (y : Y) (n : ℕ) → then_place p lines next ≡ Here y n → Comes p lines next y n
 then-comes (Here x k) lines next y n e = after-comes x k lines next (next x (drop k lines)) y n refl e
 then-comes (Wrong k f) lines next y n e = cc
 then-comes Wanted lines next y n e = cc
@@ -64,9 +65,8 @@ pub record Reads {X : Type 0} (lines : List ReadLine) (read : List ℕ → Resul
   pub ok : read line ≡ Ok x
   pub one : n ≡ 1
 
-result-reads : {X : Type 0} (lines : List ReadLine) (read : List ℕ
-    → Result X Fault) (line : List ℕ) (r : Result X Fault) (x : X) (n : ℕ)
-    → read line ≡ r → one_line r ≡ Here x n → Reads lines read x n
+result-reads : {X : Type 0} (lines : List ReadLine) (read : List ℕ → Result X Fault) (line : List ℕ)
+    (r : Result X Fault) (x : X) (n : ℕ) → read line ≡ r → one_line r ≡ Here x n → Reads lines read x n
 result-reads lines read line (Ok z) x n h e = grind arith
 result-reads lines read line (Err f) x n h e = cc
 
@@ -74,8 +74,7 @@ pub line-reads : {X : Type 0} (lines : List ReadLine) (read : List ℕ → Resul
     → first_line lines read ≡ Here x n → Reads lines read x n
 line-reads [] read x n e = cc
 line-reads (Overlong ∷ lines) read x n e = cc
-line-reads (Content line ∷ lines) read x n e =
-    result-reads (Content line ∷ lines) read line (read line) x n refl e
+line-reads (Content line ∷ lines) read x n e = result-reads _ read line _ x n refl e
 
 -- ---- cells
 
@@ -100,19 +99,17 @@ read-cells value (text ∷ texts) cells e =
     let rest = cells_read (λ j. value (suc j)) texts in
     let one = and_then-ok (cell_read BadField (value 0) (code_of text)) (λ c. before_all c rest) cells e in
     let two = before-ok one.from rest cells one.next in
-    subst (AreReadCells value) (ok-same (one.from ∷ two.from) cells two.next) (
+    rw (← ok-same (one.from ∷ two.from) cells two.next) (
       read-cell BadField (value 0) text one.from one.first,
       read-cells (λ j. value (suc j)) texts two.from two.first,
     )
 
 -- the values that the codes of some cells stand for
 cells-meant : (value : ℕ → Code → Result (Option ℤ) Fault) (cells : List ReadCell) → AreReadCells value cells
-    → all_ok (each_place (length (map (λ (c : ReadCell). c.code) cells))
-    (λ j. value j (slice_index_or (map (λ (c : ReadCell). c.code) cells) j Missing)))
-    ≡ Ok (map (λ (c : ReadCell). c.value) cells)
+    → all_ok (each_place (length (map (λ (c : ReadCell). c.code) cells)) (λ j. value j (slice_index_or
+    (map (λ (c : ReadCell). c.code) cells) j Missing))) ≡ Ok (map (λ (c : ReadCell). c.value) cells)
 cells-meant value [] h = refl
-cells-meant value (c ∷ cs) h =
-    rw h.0.meant (ap (before_all c.value) (cells-meant (λ j. value (suc j)) cs h.1))
+cells-meant value (c ∷ cs) h = rw h.0.meant (cc (cells-meant (λ j. value (suc j)) cs h.1))
 
 -- ---- a satellite's line
 
@@ -129,13 +126,11 @@ pub line-facts : (past : Past) (satellite : Satellite) (line : List ℕ) (read :
 line-facts past satellite line read e =
     let texts = cells_of satellite.count line in
     let marks = after_cells satellite.count line in
-    let step =
-    and_then-ok (cells_read (past.value satellite.name) texts) (λ cs. row_with_marks past satellite marks cs)
-    read (if-err (begins_epoch line) Truncated (row_of_line past satellite line) read e) in
+    let step = and_then-ok (cells_read (past.value satellite.name) texts) (λ cs. row_with_marks past satellite
+    marks cs) read (if-err (begins_epoch line) Truncated (row_of_line past satellite line) read e) in
     let row = row_of_cells past satellite.name marks step.from in
-    subst (RowFacts past satellite)
-    (ok-same row read
-    (if-err (not (are_marks satellite.count marks)) BadFlags (Ok row) read step.next)) (record {
+    rw (← ok-same row read (if-err (not (are_marks satellite.count marks)) BadFlags (Ok row) read step.next))
+    (record {
       cells = step.from;
       are_read = read-cells (past.value satellite.name) texts step.from step.first;
       counted = cells-count (past.value satellite.name) texts step.from step.first
@@ -149,16 +144,14 @@ raw-name : (past : Past) (satellite : Satellite) (read : ReadRow)
 raw-name past satellite read h = sym (ap (λ (r : ReadRow). r.raw.name) h.is_read)
 
 -- the row is what the line stands for after those before it
-row-meant : (block : List RawEpoch) (satellite : Satellite) (read : ReadRow)
-    → RowFacts (past_of_block block) satellite read
-    → row_from (read.raw ∷ raw_run_of satellite.name block) read.raw ≡ Ok read.row
+row-meant : (block : List RawEpoch) (satellite : Satellite) (read : ReadRow) → RowFacts (past_of_block block)
+    satellite read → row_from (read.raw ∷ raw_run_of satellite.name block) read.raw ≡ Ok read.row
 row-meant block satellite read h =
     let P : ReadRow → Type 0 = λ r. row_from (r.raw ∷ raw_run_of satellite.name block) r.raw ≡ Ok r.row in
-    let marks = read.raw.marks in
-    let codes = map (λ (c : ReadCell). c.code) h.cells in
     subst P h.is_read (rw (
       cells-meant ((past_of_block block).value satellite.name) h.cells h.are_read,
-      columns-cut (2 * length codes) (marks ∷ marks_of (raw_run_of satellite.name block)),
+      columns-cut (2 * length (map (λ (c : ReadCell). c.code) h.cells))
+          (read.raw.marks ∷ marks_of (raw_run_of satellite.name block)),
       length-map h.cells (λ (c : ReadCell). c.code),
     ))
 
@@ -176,32 +169,24 @@ pub record RowsFacts (past : Past)
   pub each : Paired (RowFacts past) satellites rows
   pub counted : count ≡ length rows
 
-pub rows-facts : (past : Past)
-    (satellites : List Satellite) (lines : List ReadLine) (rows : List ReadRow) (count : ℕ)
-    → rows_read past satellites lines ≡ Here rows count → RowsFacts past satellites rows count
+pub rows-facts : (past : Past) (satellites : List Satellite) (lines : List ReadLine) (rows : List ReadRow)
+    (count : ℕ) → rows_read past satellites lines ≡ Here rows count → RowsFacts past satellites rows count
 rows-facts past [] lines rows count e = grind arith
 rows-facts past (s ∷ ss) lines rows count e =
-    let one = then-comes (first_line lines (satellite_line_read past s)) lines
-    (λ row others. then_place (rows_read past ss others) others (λ more rest. Here (row ∷ more) 0)) rows count
-    e in
+    let one = then-comes (first_line lines (satellite_line_read past s)) lines (λ row others. then_place
+    (rows_read past ss others) others (λ more rest. Here (row ∷ more) 0)) rows count e in
     let line = line-reads lines (satellite_line_read past s) one.from one.count one.first in
     let others = drop one.count lines in
     let two = then-comes (rows_read past ss others) others (λ more rest. Here (one.from ∷ more) 0) rows
     one.more one.later in
     let rest = rows-facts past ss others two.from two.count two.first in
     let same = ap (thing_here (one.from ∷ two.from)) two.later in
-    let none = ap count_here two.later in
-    let P : List ReadRow → Type 0 = λ rs. RowsFacts past (s ∷ ss) rs count in
-    subst P same (record {
-      each = (line-facts past s line.line one.from line.ok, rest.each);
-      counted = omega (arith, one.counted, line.one, two.counted, rest.counted, none);
-    })
+    grind (arith, common_steps, count_here, line-facts)
 
 -- ---- identifiers
 
-pub raw-names : (past : Past) (satellites : List Satellite) (rows : List ReadRow)
-    → Paired (RowFacts past) satellites rows
-    → map (λ (r : RawRow). r.name) (map (λ (r : ReadRow). r.raw) rows) ≡ names_of satellites
+pub raw-names : (past : Past) (satellites : List Satellite) (rows : List ReadRow) → Paired (RowFacts past)
+    satellites rows → map (λ (r : RawRow). r.name) (map (λ (r : ReadRow). r.raw) rows) ≡ names_of satellites
 raw-names past [] [] h = refl
 raw-names past [] (r ∷ rs) h = absurd h
 raw-names past (s ∷ ss) [] h = absurd h
@@ -246,8 +231,7 @@ past-found_if false [] = tt
 past-found_if false (o ∷ os) = refl
 
 begun-facts : (types : List Count) (older : List RawEpoch) (line : List ℕ) (begun : BegunEpoch)
-    → epoch_begun types line (past_of_line older line) ≡ Ok begun
-    → Begun types older begun
+    → epoch_begun types line (past_of_line older line) ≡ Ok begun → Begun types older begun
 begun-facts types older line begun e =
     by_past (past_of_line older line) (past-found_if (begins_epoch line) older) e
   where
@@ -255,25 +239,18 @@ begun-facts types older line begun e =
         → epoch_begun types line o ≡ Ok begun → Begun types older begun
     by_past None h e = absurd (no-err NotAnEpoch begun e)
     by_past (Some past) h e =
-        let step : Follows (satellites_of_line types past line)
-        (λ ss. Ok (record { line = line; past = past; satellites = ss })) begun =
-        and_then-ok (satellites_of_line types past line)
-        (λ ss. Ok (record { line = line; past = past; satellites = ss })) begun e in
-        let P : BegunEpoch → Type 0 = λ b. Begun types older b in
-        subst P (ok-same (record { line = line; past = past; satellites = step.from }) begun step.next)
-        (record {
-          satellites_ok = ap (λ p. satellites_of_line types p line) (sym h) ∙ step.first;
-          past_is = sym h;
-        })
+        let step : Follows (satellites_of_line types past line) (λ ss. Ok
+        (record { line = line; past = past; satellites = ss })) begun = and_then-ok (satellites_of_line
+        types past line) (λ ss. Ok (record { line = line; past = past; satellites = ss })) begun e in
+        search rules
 
 -- what an epoch's clock line and satellite lines make
 epoch-made : (types : List Count) (older : List RawEpoch)
     (begun : BegunEpoch) (lines : List ReadLine) (read : ReadEpoch) (count : ℕ) → Begun types older begun
     → epoch_after_line begun lines ≡ Here read count → EpochFacts types older read (suc count)
 epoch-made types older begun lines read count h e =
-    let rows_next : ReadCell → List ReadLine → Place ReadEpoch =
-    λ clock others. then_place (rows_read begun.past begun.satellites others) others
-    (λ rows rest. Here (epoch_of_rows begun clock rows) 0) in
+    let rows_next : ReadCell → List ReadLine → Place ReadEpoch = λ clock others. then_place (rows_read
+    begun.past begun.satellites others) others (λ rows rest. Here (epoch_of_rows begun clock rows) 0) in
     let one = then-comes (first_line lines (clock_line_read begun.past)) lines rows_next read count e in
     let line = line-reads lines (clock_line_read begun.past) one.from one.count one.first in
     let others = drop one.count lines in
@@ -290,11 +267,7 @@ epoch-made types older begun lines read count h e =
       clock = one.from;
       rows = two.from;
       line_ok = line-facts_of types (past_of_block block) begun.line begun.satellites h.satellites_ok;
-      clock_ok = ap (λ p. p.clock one.from.code) past
-          ∙ (read-cell BadClock begun.past.clock (without_end_blanks line.line) one.from
-          (if-err (begins_epoch line.line) Truncated
-          (cell_read BadClock begun.past.clock (code_of (without_end_blanks line.line))) one.from
-          line.ok)).meant;
+      clock_ok = search rules;
       rows_ok = subst (λ p. Paired (RowFacts p) begun.satellites two.from) (sym past) rows.each;
       counted = omega (arith, one.counted, line.one, two.counted, rows.counted, none);
       is_read = ap {B = ReadEpoch} (λ p. epoch_of_rows (record {
@@ -305,9 +278,7 @@ epoch-made types older begun lines read count h e =
     })
 
 pub epoch-facts : (types : List Count) (older : List RawEpoch) (lines : List ReadLine) (read : ReadEpoch)
-    (count : ℕ)
-    → epoch_at types older lines ≡ Here read count
-    → EpochFacts types older read count
+    (count : ℕ) → epoch_at types older lines ≡ Here read count → EpochFacts types older read count
 epoch-facts types older lines read count e =
     let begin : List ℕ → Result BegunEpoch Fault = λ line. epoch_begun types line (past_of_line older line) in
     let one =
@@ -315,9 +286,7 @@ epoch-facts types older lines read count e =
     let line = line-reads lines begin one.from one.count one.first in
     let facts = epoch-made types older one.from (drop one.count lines) read one.more
     (begun-facts types older line.line one.from line.ok) one.later in
-    let same : suc one.more ≡ count = omega (arith, one.counted, line.one) in
-    let P : ℕ → Type 0 = λ n. EpochFacts types older read n in
-    subst P same facts
+    search rules
 
 -- ---- the law
 
@@ -325,29 +294,25 @@ rows-single : (types : List Count) (older : List RawEpoch) (read : ReadEpoch) (c
     → EpochFacts types older read count → HasSingleLines read.raw
 rows-single types older read count h =
     let P : ReadEpoch → Type 0 = λ r. HasSingleLines r.raw in
-    let raws = map (λ (r : ReadRow). r.raw) h.rows in
-    let names = raw-names (past_of_block (block_for read.raw.line older)) h.satellites h.rows h.rows_ok
-    ∙ h.line_ok.named.same in
-    let apart = sym (apart-map (λ (n : List ℕ). n) (λ (r : RawRow). r.name) raws) ∙ ap differ names
-    ∙ h.line_ok.named.apart in
-    subst P h.is_read (each-own (λ (r : RawRow). r.name) raws apart)
+    let raws = map _ h.rows in
+    let apart = sym (apart-map (λ (n : List ℕ). n) _ raws) ∙ ap differ (raw-names (past_of_block (block_for
+    read.raw.line older)) h.satellites h.rows h.rows_ok ∙ h.line_ok.named.same) ∙ h.line_ok.named.apart in
+    rw (← h.is_read) (each-own (λ (r : RawRow). r.name) raws apart)
 
 rows-meant : (block : List RawEpoch) (raw : RawEpoch) (satellites : List Satellite) (rows : List ReadRow)
-    → Paired (RowFacts (past_of_block block)) satellites rows
-    → AllByRecursion (λ (r : RawRow). raw_row_named r.name raw.rows ≡ Some r)
-    (map (λ (r : ReadRow). r.raw) rows)
+    → Paired (RowFacts (past_of_block block)) satellites rows → AllByRecursion
+    (λ (r : RawRow). raw_row_named r.name raw.rows ≡ Some r) (map (λ (r : ReadRow). r.raw) rows)
     → rows_from (raw ∷ block) (map (λ (r : ReadRow). r.raw) rows) ≡ Ok (map (λ (r : ReadRow). r.row) rows)
 rows-meant block raw [] [] h own = refl
 rows-meant block raw [] (r ∷ rs) h own = absurd h
 rows-meant block raw (s ∷ ss) [] h own = absurd h
-rows-meant block raw (s ∷ ss) (r ∷ rs) h own =
-    grind (
-      arith,
-      own.0,
-      raw-name (past_of_block block) s r h.0,
-      row-meant block s r h.0,
-      rows-meant block raw ss rs h.1 own.1,
-    )
+rows-meant block raw (s ∷ ss) (r ∷ rs) h own = grind (
+  arith,
+  own.0,
+  raw-name _ s r h.0,
+  row-meant block s r h.0,
+  rows-meant block raw ss rs h.1 own.1,
+)
 
 epoch-meant : (types : List Count) (older : List RawEpoch) (read : ReadEpoch) (count : ℕ)
     → EpochFacts types older read count → epoch_from read.raw older ≡ Ok read.epoch
@@ -370,17 +335,16 @@ epoch-meant types older read count h =
       clock = h.clock.value;
       rows = rs;
     }))) (rows-meant block raw h.satellites h.rows h.rows_ok own) in
-    ap {B = Result Epoch Fault} (λ x. epoch_of_block (x ∷ block) x) (sym same) ∙ meant
-    ∙ ap {B = Result Epoch Fault} (λ (r : ReadEpoch). Ok r.epoch) h.is_read
+    search rules
 
 pub reads-soundly : ReadsSoundly
 reads-soundly types older lines read count e =
-    let facts : EpochFacts types older read count = epoch-facts types older lines read count e in
-    let rows : length read.epoch.rows ≡ length facts.rows = sym
-    (ap (λ (r : ReadEpoch). length r.epoch.rows) facts.is_read)
-    ∙ length-map facts.rows (λ (r : ReadRow). r.row) in
+    let facts = epoch-facts types older lines read count e in
     record {
       single = rows-single types older read count facts;
       meant = epoch-meant types older read count facts;
-      counted = omega (arith, facts.counted, rows);
+      counted =
+          let first = sym (ap (λ (r : ReadEpoch). length r.epoch.rows) facts.is_read)
+          ∙ length-map facts.rows (λ (r : ReadRow). r.row) in
+          omega (arith, facts.counted);
     }

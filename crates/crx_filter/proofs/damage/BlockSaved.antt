@@ -161,9 +161,8 @@ tail-saved every after block before number lines (Content line ∷ tail) b h e a
 -- ---- a damaged text, and what is known of it
 
 -- the items of a standard file, with the epochs of one block among them
-pub record IsPlaced (choices : Choices)
-    (before : List (Item Epoch)) (first : Epoch) (others : List Epoch)
-    (after : List (Item Epoch)) : Type 0 where
+pub record IsPlaced (choices : Choices) (before : List (Item Epoch))
+    (first : Epoch) (others : List Epoch) (after : List (Item Epoch)) : Type 0 where
   pub settled : IsSettled (after ++ with_epochs before (first ∷ others))
   pub no_returns : HaveNoReturns (after ++ with_epochs before (first ∷ others))
 

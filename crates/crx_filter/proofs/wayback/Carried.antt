@@ -110,9 +110,8 @@ at-line items m n e = ap (λ k. record { items = items; stop = AtLines k [] }) e
 -- each unit that is in place is at its lines, after those before it
 abbrev pub StandsAgain : {E : Type 0} → (List (Item E) → List ReadLine → Place (FileUnit E))
     → (List (Item Epoch) → Epoch → E) → (List (Item Epoch) → FileUnit Epoch → List (List ℕ)) → Type 0
-StandsAgain place known lines_of_unit = (before : List (Item Epoch)) (unit : FileUnit Epoch)
-    → AreInPlace (Accepted unit ∷ before)
-    → place (carried known before) (map Content (lines_of_unit before unit))
+StandsAgain place known lines_of_unit = (before : List (Item Epoch)) (unit : FileUnit Epoch) → AreInPlace
+    (Accepted unit ∷ before) → place (carried known before) (map Content (lines_of_unit before unit))
     ≡ Here (carried_unit known before unit) (length (lines_of_unit before unit))
 
 pub reads-again : {E : Type 0}
