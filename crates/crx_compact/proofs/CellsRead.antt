@@ -1,16 +1,14 @@
 -- The cells of a line, read from left to right.
 use Rattle.std.specs.Prelude.{◌≡◌, ◌≤◌, ◌<◌, refl, ℕ, suc, ◌+◌, ◌-◌, ℤ, List, [], ◌∷◌, ◌++◌, length, map}
-use Rattle.std.specs.Prelude.{take}
-use Rattle.std.specs.Prelude.{drop, slice_index_or, slice_set, Bool, true, false, Option, Some, None, Result}
-use Rattle.std.specs.Prelude.{Ok}
-use Rattle.std.specs.Prelude.{Err, if◌then◌else◌}
-use Rattle.std.proofs.Common.{sym, ◌∙◌, ap, arith, length-append, subst, true≢false}
+use Rattle.std.specs.Prelude.{take, drop, slice_index_or, slice_set, Bool, true, false, Option, Some, None}
+use Rattle.std.specs.Prelude.{Result, Ok, Err}
+use Rattle.std.proofs.Common.{sym, ◌∙◌, ap, arith, length-append, true≢false}
 use Rattle.std.proofs.lemmas.List.{drop-drop, length-drop, length-map, length-set, map-append, take_all}
 use Rattle.std.proofs.lemmas.List.{take_more_set}
 use Rattle.crx_text.specs.meaning.Codes.{code_of, first_cell, after_cell}
 use Rattle.crx_text.specs.declared.code.Code.{Code}
 use Rattle.crx_base.specs.declared.fault.Fault.{Fault}
-use Rattle.crx_base.specs.declared.fault.Fault.TheVariants.{BadField, OutOfRange}
+use Rattle.crx_base.specs.declared.fault.Fault.TheVariants.{BadField}
 use Rattle.crx_compact.specs.meaning.Sequences.{and_then, before_all}
 use Rattle.crx_compact.specs.meaning.Cells.{ReadCell, cell_read, cells_read, cells_of, after_cells}
 use Rattle.crx_compact.specs.ArcTails.{ArcTail}
@@ -48,22 +46,17 @@ Values = ℕ → Code → Result (Option ℤ) Fault
 cell-same : (f g : Code → Result (Option ℤ) Fault)
     → ((c : Code) → f c ≡ g c) → (code : Option Code) → cell_read BadField f code ≡ cell_read BadField g code
 cell-same f g h None = refl
-cell-same f g h (Some code) = ap {B = Result ReadCell Fault}
-    (λ r. and_then r (λ value. Ok (record { code = code; value = value }))) (h code)
+cell-same f g h (Some code) = cc (h code)
 
 -- the same values at each place of some texts
-pub cells-within : (f g : Values) (texts : List (List ℕ))
-    → ((place : ℕ) (c : Code) → place < length texts → f place c ≡ g place c)
-    → cells_read f texts ≡ cells_read g texts
+pub cells-within : (f g : Values) (texts : List (List ℕ)) → ((place : ℕ) (c : Code)
+    → place < length texts → f place c ≡ g place c) → cells_read f texts ≡ cells_read g texts
 cells-within f g [] h = refl
-cells-within f g (text ∷ texts) h =
-    ap {B = Result (List ReadCell) Fault}
-    (λ r. and_then r (λ cell. before_all cell (cells_read (λ place. f (suc place)) texts)))
-    (cell-same (f 0) (g 0) (λ c. h 0 c (omega arith)) (code_of text))
-    ∙ ap {B = Result (List ReadCell) Fault}
-    (λ r. and_then (cell_read BadField (g 0) (code_of text)) (λ cell. before_all cell r))
-    (cells-within (λ place. f (suc place)) (λ place. g (suc place)) texts
-    (λ place c less. h (suc place) c (omega (arith, less))))
+cells-within f g (text ∷ texts) h = ap {B = Result (List ReadCell) Fault} (λ r. and_then r (λ cell. before_all
+    cell (cells_read (λ place. f (suc place)) texts))) (cell-same (f 0) (g 0) (λ c. h 0 c (omega arith))
+    (code_of text)) ∙ ap {B = Result (List ReadCell) Fault} (λ r. and_then (cell_read BadField
+    (g 0) (code_of text)) (λ cell. before_all cell r)) (cells-within (λ place. f (suc place))
+    (λ place. g (suc place)) texts (λ place c less. h (suc place) c (omega (arith, less))))
 
 pub cells-same : (f g : Values) → ((place : ℕ) (c : Code) → f place c ≡ g place c)
     → (texts : List (List ℕ)) → cells_read f texts ≡ cells_read g texts
@@ -75,10 +68,8 @@ arcs-more : (before : List (Option ArcTail)) (codes : List Code) (code : Code)
     → arcs_of_codes before (codes ++ code ∷ [])
     ≡ arcs_of_codes before codes ++ arc_of_code code (slice_index_or before (length codes) None) ∷ []
 arcs-more before [] code = refl
-arcs-more [] (c ∷ cs) code = ap {B = List (Option ArcTail)} (λ r. arc_of_code c None ∷ r)
-    (arcs-more [] cs code)
-arcs-more (b ∷ bs) (c ∷ cs) code = ap {B = List (Option ArcTail)} (λ r. arc_of_code c b ∷ r)
-    (arcs-more bs cs code)
+arcs-more [] (c ∷ cs) code = cc (arcs-more [] cs code)
+arcs-more (b ∷ bs) (c ∷ cs) code = cc (arcs-more bs cs code)
 
 -- the value that a code gives is the one that the arc after it shows
 abbrev ok-value : Result (Option ℤ) Fault → Option ℤ
@@ -94,10 +85,8 @@ in-columns : (width : ℕ) (number : ℤ) (value : Option ℤ) → in_range widt
 in-columns width number value e = by_range (is_within width number) refl
   where
     by_range : (b : Bool) → is_within width number ≡ b → Some number ≡ value
-    by_range true is = ap ok-value (sym (ap {B = Result (Option ℤ) Fault}
-        (λ c. if c then Ok (Some number) else Err OutOfRange) is) ∙ e)
-    by_range false is = absurd (true≢false (sym (ap is-ok-value (sym (ap {B = Result (Option ℤ) Fault}
-        (λ c. if c then Ok (Some number) else Err OutOfRange) is) ∙ e))))
+    by_range true is = cc (is, e)
+    by_range false is = absurd (true≢false (cc (is, e)))
 
 pub shown-code : (width : ℕ) (code : Code) (arc : Option ArcTail) (value : Option ℤ)
     → value_of_code width code arc ≡ Ok value → shown_value (arc_of_code code arc) ≡ value
@@ -126,84 +115,64 @@ pub record ReadSoFar (before : List (Option ArcTail))
   pub shown : map shown_value arcs ≡ map (λ (c : ReadCell). c.value) cells
 
 -- what is at a place: the text of its cell, and the rest
-at-next : (before : List (Option ArcTail)) (count : ℕ) (line : List ℕ)
-    (k at : ℕ) (arcs : List (Option ArcTail)) (s : ReadSoFar before count line k at arcs)
-    → k < count → (code : Option Code) → code_of (first_cell (drop at line)) ≡ code
-    → cells_read (value_at_place before) (cells_of count line)
-    ≡ onto s.cells (and_then (cell_read BadField (value_at_place before k) code) (λ cell.
-    before_all cell (cells_read (λ p. value_at_place before (k + 1 + p))
-    (cells_of (count - (k + 1)) (after_cell (drop at line))))))
+at-next : (before : List (Option ArcTail)) (count : ℕ) (line : List ℕ) (k at : ℕ) (arcs : List
+    (Option ArcTail)) (s : ReadSoFar before count line k at arcs) → k < count → (code : Option Code) → code_of
+    (first_cell (drop at line)) ≡ code → cells_read (value_at_place before) (cells_of count line) ≡ onto
+    s.cells (and_then (cell_read BadField (value_at_place before k) code) (λ cell. before_all cell (cells_read
+    (λ p. value_at_place before (k + 1 + p)) (cells_of (count - (k + 1)) (after_cell (drop at line))))))
 at-next before count line k at arcs s h code e =
     let n : ℕ = count - (k + 1) in
     let more : count - k ≡ suc n = omega arith in
     let here : k + 0 ≡ k = omega arith in
     let rest : List (List ℕ) = cells_of n (after_cell (drop at line)) in
-    s.so_far
-    ∙ ap (λ m. onto s.cells (cells_read (λ p. value_at_place before (k + p)) (cells_of m (drop at line))))
-    more
-    ∙ ap (λ m. onto s.cells (and_then (cell_read BadField (value_at_place before m) (code_of (first_cell
-    (drop at line)))) (λ cell. before_all cell (cells_read (λ p. value_at_place before (k + suc p)) rest))))
-    here
-    ∙ ap (λ (r : Result (List ReadCell) Fault). onto s.cells (and_then (cell_read BadField
-    (value_at_place before k) (code_of (first_cell (drop at line)))) (λ cell. before_all cell r)))
-    (cells-same (λ p. value_at_place before (k + suc p))
+    s.so_far ∙ ap (λ m. onto s.cells (cells_read (λ p. value_at_place before (k + p))
+    (cells_of m (drop at line)))) more ∙ ap (λ m. onto s.cells (and_then (cell_read BadField
+    (value_at_place before m) (code_of (first_cell (drop at line)))) (λ cell. before_all cell (cells_read
+    (λ p. value_at_place before (k + suc p)) rest)))) here ∙ ap (λ (r : Result (List ReadCell) Fault). onto
+    s.cells (and_then (cell_read BadField (value_at_place before k) (code_of (first_cell (drop at line))))
+    (λ cell. before_all cell r))) (cells-same (λ p. value_at_place before (k + suc p))
     (λ p. value_at_place before (k + 1 + p)) (λ p c. ap (λ m. value_at_place before m c) (omega arith)) rest)
     ∙ ap (λ (o : Option Code). onto s.cells (and_then (cell_read BadField (value_at_place before k) o)
     (λ cell. before_all cell (cells_read (λ p. value_at_place before (k + 1 + p)) rest)))) e
 
-read-refused : (before : List (Option ArcTail))
-    (count : ℕ) (line : List ℕ) (k at : ℕ) (arcs : List (Option ArcTail)) (fault : Fault)
-    → ReadSoFar before count line k at arcs
-    → k < count → cell_read BadField (value_at_place before k) (code_of (first_cell (drop at line)))
-    ≡ Err fault
+read-refused : (before : List (Option ArcTail)) (count : ℕ) (line : List ℕ) (k at : ℕ)
+    (arcs : List (Option ArcTail)) (fault : Fault) → ReadSoFar before count line k at arcs → k < count
+    → cell_read BadField (value_at_place before k) (code_of (first_cell (drop at line))) ≡ Err fault
     → cells_read (value_at_place before) (cells_of count line) ≡ Err fault
 read-refused before count line k at arcs fault s h e =
-    let rest : Result (List ReadCell) Fault =
-    cells_read (λ p. value_at_place before (k + 1 + p))
-    (cells_of (count - (k + 1)) (after_cell (drop at line))) in
-    at-next before count line k at arcs s h (code_of (first_cell (drop at line))) refl
-    ∙ ap (λ (r : Result ReadCell Fault). onto s.cells (and_then r (λ cell. before_all cell rest))) e
-    ∙ onto-err s.cells fault
+    let rest = cells_read
+    (λ p. value_at_place before (k + 1 + p)) (cells_of (count - (k + 1)) (after_cell (drop at line))) in
+    at-next before count line k at arcs s h (code_of (first_cell (drop at line))) refl ∙ ap (λ (r : Result
+    ReadCell Fault). onto s.cells (and_then r (λ cell. before_all cell rest))) e ∙ onto-err s.cells fault
 
-read-more : (before : List (Option ArcTail)) (count : ℕ) (line : List ℕ) (k at at' : ℕ)
-    (arcs arcs' : List (Option ArcTail)) (code : Code) (value : Option ℤ) (arc : Option ArcTail)
-    → ReadSoFar before count line k at arcs
-    → k < count → code_of (first_cell (drop at line)) ≡ Some code → value_at_place before k code ≡ Ok value
-    → after_cell (drop at line) ≡ drop at' line → at' ≤ length line
-    → arc ≡ arc_of_code code (slice_index_or before k None)
-    → arcs' ≡ arcs ++ arc ∷ [] → ReadSoFar before count line (k + 1) at' arcs'
+read-more : (before : List (Option ArcTail)) (count : ℕ) (line : List ℕ) (k at at' : ℕ) (arcs arcs' : List
+    (Option ArcTail)) (code : Code) (value : Option ℤ) (arc : Option ArcTail) → ReadSoFar before count line
+    k at arcs → k < count → code_of (first_cell (drop at line)) ≡ Some code → value_at_place before k code
+    ≡ Ok value → after_cell (drop at line) ≡ drop at' line → at' ≤ length line → arc ≡ arc_of_code code
+    (slice_index_or before k None) → arcs' ≡ arcs ++ arc ∷ [] → ReadSoFar before count line (k + 1) at' arcs'
 read-more before count line k at at' arcs arcs' code value arc s h e v t w a l =
-    let n : ℕ = count - (k + 1) in
+    let n = count - (k + 1) in
     let c : ReadCell = record { code = code; value = value } in
     let more : count - k ≡ suc n = omega arith in
-    let rest : Result (List ReadCell) Fault =
-    cells_read (λ p. value_at_place before (k + 1 + p)) (cells_of n (after_cell (drop at line))) in
+    let rest = cells_read (λ p. value_at_place before (k + 1 + p)) (cells_of n (after_cell (drop at line))) in
     record {
       cells = s.cells ++ c ∷ [];
       counted = let count' : length s.cells ≡ k = s.counted
           in omega (arith, length-append s.cells (c ∷ []), count');
-      so_far =
-          at-next before count line k at arcs s h (Some code) e
-          ∙ ap (λ (q : Result (Option ℤ) Fault). onto s.cells
-          (and_then (and_then q (λ x. Ok (record { code = code; value = x })))
-          (λ cell. before_all cell rest))) v
-          ∙ sym (onto-more s.cells c rest)
-          ∙ ap (λ text. onto (s.cells ++ c ∷ [])
-          (cells_read (λ p. value_at_place before (k + 1 + p)) (cells_of n text))) t;
+      so_far = at-next before count line k at arcs s h (Some code) e ∙ ap (λ (q : Result (Option ℤ) Fault).
+          onto s.cells (and_then (and_then q (λ x. Ok (record { code = code; value = x })))
+          (λ cell. before_all cell rest))) v ∙ sym (onto-more s.cells c rest) ∙ ap (λ text. onto
+          (s.cells ++ c ∷ []) (cells_read (λ p. value_at_place before (k + 1 + p)) (cells_of n text))) t;
       marks = s.marks ∙ ap (λ m. after_cells m (drop at line)) more ∙ ap (after_cells n) t;
       within = w;
-      left =
-          l ∙ ap (λ xs. xs ++ arc ∷ []) s.left
-          ∙ ap {B = List (Option ArcTail)} (λ x. arcs_of_codes before (codes_in s.cells) ++ x ∷ []) (a
-          ∙ ap (λ m. arc_of_code code (slice_index_or before m None)) (sym s.counted
-          ∙ sym (length-map s.cells (λ (q : ReadCell). q.code))))
+      left = l ∙ ap (λ xs. xs ++ arc ∷ []) s.left ∙ ap {B = List (Option ArcTail)} (λ x. arcs_of_codes before
+          (codes_in s.cells) ++ x ∷ []) (a ∙ ap (λ m. arc_of_code code (slice_index_or before m None))
+          (sym s.counted ∙ sym (length-map s.cells (λ (q : ReadCell). q.code))))
           ∙ sym (arcs-more before (codes_in s.cells) code)
           ∙ ap (arcs_of_codes before) (sym (map-append (λ (q : ReadCell). q.code) s.cells (c ∷ [])));
-      shown =
-          ap (map shown_value) l ∙ map-append shown_value arcs (arc ∷ [])
-          ∙ ap (λ vs. vs ++ shown_value arc ∷ []) s.shown
-          ∙ ap {B = List (Option ℤ)} (λ x. values_in s.cells ++ x ∷ []) (ap shown_value a
-          ∙ shown-code OBSERVATION_WIDTH code (slice_index_or before k None) value v)
+      shown = ap (map shown_value) l ∙ map-append shown_value arcs (arc ∷ []) ∙ ap (λ vs.
+          vs ++ shown_value arc ∷ []) s.shown ∙ ap {B = List (Option ℤ)} (λ x. values_in s.cells ++ x ∷ [])
+          (ap shown_value a ∙ shown-code OBSERVATION_WIDTH code (slice_index_or before k None) value v)
           ∙ sym (map-append (λ (q : ReadCell). q.value) s.cells (c ∷ []));
     }
 
@@ -222,14 +191,12 @@ arc-there : (first : List (Option ArcTail)) (line rest : List ℕ) (k : ℕ) (ar
     → ReadUpTo first line rest k arcs → k < length first
     → slice_index_or arcs k None ≡ slice_index_or first k None
 arc-there first line rest k arcs s h =
-    let counted : length arcs ≡ length first = s.counted in
-    alike-there arcs first k None None s.later (omega (arith, h, counted))
+    alike-there arcs first k None None s.later (omega (arith, h, s.counted))
 
 -- the next cell, and the arcs with its own in its place
-pub read-next : (first : List (Option ArcTail)) (line rest rest' : List ℕ) (k : ℕ)
-    (arcs arcs' made : List (Option ArcTail)) (taken : ℕ)
-    → ReadUpTo first line rest k arcs → k < length first → IsCellRead arcs k rest arcs made taken
-    → arcs' ≡ made → rest' ≡ drop taken rest → ReadUpTo first line rest' (k + 1) arcs'
+pub read-next : (first : List (Option ArcTail)) (line rest rest' : List ℕ) (k : ℕ) (arcs arcs' made : List
+    (Option ArcTail)) (taken : ℕ) → ReadUpTo first line rest k arcs → k < length first → IsCellRead arcs
+    k rest arcs made taken → arcs' ≡ made → rest' ≡ drop taken rest → ReadUpTo first line rest' (k + 1) arcs'
 read-next first line rest rest' k arcs arcs' made taken s h read made_is rest_is =
     let there : slice_index_or arcs k None ≡ slice_index_or first k None =
     arc-there first line rest k arcs s h in
@@ -243,13 +210,11 @@ read-next first line rest rest' k arcs arcs' made taken s h read made_is rest_is
     ap (drop taken) s.left ∙ drop-drop taken s.at line in
     record {
       at = s.at + taken;
-      read = read-more first (length first) line k s.at (s.at + taken)
-          (take k arcs) (take (k + 1) arcs') read.code read.value arc s.read h
-          (ap (λ text. code_of (first_cell text)) (sym s.left) ∙ read.formed)
-          (ap (value_of_code OBSERVATION_WIDTH read.code) (sym there) ∙ read.given)
-          (ap after_cell (sym s.left) ∙ sym read.after ∙ after)
-          (omega (arith, taken_within, at_within, long, length-drop s.at line))
-          (ap (arc_of_code read.code) there)
+      read = read-more first (length first) line k s.at (s.at + taken) (take k arcs) (take (k + 1) arcs')
+          read.code read.value arc s.read h (ap (λ text. code_of (first_cell text)) (sym s.left)
+          ∙ read.formed) (ap (value_of_code OBSERVATION_WIDTH read.code) (sym there) ∙ read.given)
+          (ap after_cell (sym s.left) ∙ sym read.after ∙ after) (omega
+          (arith, taken_within, at_within, long, length-drop s.at line)) (ap (arc_of_code read.code) there)
           (ap (take (k + 1)) set ∙ take_more_set arcs k arc (omega (arith, h, counted)));
       counted = ap length set ∙ length-set arcs k arc ∙ counted;
       left = rest_is ∙ after;
@@ -271,15 +236,14 @@ next-refused first line rest k arcs fault s h refused =
 
 pub read-none : (first : List (Option ArcTail)) (line : List ℕ) → ReadUpTo first line line 0 first
 read-none first line =
-    let count : ℕ = length first in
+    let count = length first in
     let all : count - 0 ≡ count = omega arith in
     record {
       at = 0;
       read = record {
         cells = [];
         counted = refl;
-        so_far =
-            cells-same (value_at_place first) (λ p. value_at_place first (0 + p))
+        so_far = cells-same (value_at_place first) (λ p. value_at_place first (0 + p))
             (λ p c. ap (λ m. value_at_place first m c) (omega arith)) (cells_of count line)
             ∙ ap (λ m. cells_read (λ p. value_at_place first (0 + p)) (cells_of m line)) (sym all);
         marks = ap (λ m. after_cells m line) (sym all);
@@ -296,20 +260,17 @@ pub read-all : (first : List (Option ArcTail)) (line rest : List ℕ) (k : ℕ) 
     → ReadUpTo first line rest k arcs → k ≡ length first
     → CellsAreRead first (length first) line arcs (length line - length rest)
 read-all first line rest k arcs s end =
-    let count : ℕ = length first in
-    let counted : length arcs ≡ count = s.counted in
+    let count = length first in
     let none : count - k ≡ 0 = omega arith in
-    let whole : take k arcs ≡ arcs = take_all k arcs (omega (arith, end, counted)) in
-    let long : length rest ≡ length (drop s.at line) = ap length s.left in
-    let within : s.at ≤ length line = s.read.within in
-    let at_is : s.at ≡ length line - length rest = omega (arith, long, within, length-drop s.at line) in
-    subst (CellsAreRead first count line arcs) at_is (record {
+    let whole = take_all k arcs (omega (arith, end, s.counted)) in
+    let within = s.read.within in
+    let at_is : s.at
+    ≡ length line - length rest = omega (arith, ap length s.left, within, length-drop s.at line) in
+    rw (← at_is) (record {
       cells = s.read.cells;
-      good = s.read.so_far ∙ ap (λ m. onto s.read.cells
-          (cells_read (λ p. value_at_place first (k + p)) (cells_of m (drop s.at line)))) none
-          ∙ onto-ok s.read.cells;
-      marks = s.read.marks ∙ ap (λ m. after_cells m (drop s.at line)) none;
+      good = cc (s.read.so_far, none, onto-ok s.read.cells);
+      marks = cc (s.read.marks, none);
       within = within;
       left = sym whole ∙ s.read.left;
-      shown = ap (map shown_value) (sym whole) ∙ s.read.shown;
+      shown = cc (whole, s.read.shown);
     })

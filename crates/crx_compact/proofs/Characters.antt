@@ -30,8 +30,7 @@ list_all-at p e (c ∷ cs) h (suc k) = list_all-at p e cs (and_parts (p c) (list
 pub list_all-append : (p : ℕ → Bool) (xs ys : List ℕ)
     → list_all p xs ≡ true → list_all p ys ≡ true → list_all p (xs ++ ys) ≡ true
 list_all-append p [] ys h k = k
-list_all-append p (x ∷ xs) ys h k =
-    and_from (p x) (list_all p (xs ++ ys))
+list_all-append p (x ∷ xs) ys h k = and_from (p x) (list_all p (xs ++ ys))
     (and_parts (p x) (list_all p xs) h).0 (list_all-append p xs ys (and_parts (p x) (list_all p xs) h).1 k)
 
 pub all-take : (p : ℕ → Bool) (n : ℕ) (xs : List ℕ) → list_all p xs ≡ true → list_all p (take n xs) ≡ true
@@ -45,8 +44,7 @@ if_some true x n h = refl
 if_some false x n h = grind (arith, h)
 
 before-blank : (c : ℕ) (rest : List ℕ) → c ≡ 32 → rest ≡ [] → before_end_blanks c rest ≡ []
-before-blank c rest ec er =
-    ap (before_end_blanks c) er ∙ ap (λ n. before_end_blanks n []) ec
+before-blank c rest ec er = ap (before_end_blanks c) er ∙ ap (λ n. before_end_blanks n []) ec
 
 all_blank : (text : List ℕ) → ((p : ℕ) → at text p ≡ 32) → without_end_blanks text ≡ []
 all_blank [] h = refl
@@ -57,9 +55,7 @@ pub same_characters : (xs ys : List ℕ) → ((p : ℕ) → at xs p ≡ at ys p)
     → without_end_blanks xs ≡ without_end_blanks ys
 same_characters [] ys h = sym (all_blank ys (λ p. sym (h p)))
 same_characters (x ∷ xs) [] h = all_blank (x ∷ xs) h
-same_characters (x ∷ xs) (y ∷ ys) h =
-    ap (λ c. before_end_blanks c (without_end_blanks xs)) (h 0)
-    ∙ ap (before_end_blanks y) (same_characters xs ys (λ p. h (suc p)))
+same_characters (x ∷ xs) (y ∷ ys) h = cc (h 0, same_characters xs ys (λ p. h (suc p)))
 
 pub at-by_position : (f : ℕ → ℕ → ℕ)
     → f 32 32 ≡ 32 → (as' bs : List ℕ) (p : ℕ) → at (by_position f as' bs) p ≡ f (at as' p) (at bs p)
@@ -75,7 +71,7 @@ pub bytes_eq-same : (a : List ℕ) → bytes_eq a a ≡ true
 bytes_eq-same [] = refl
 bytes_eq-same (c ∷ cs) =
     let first : nat_eq c c ≡ true = grind arith in
-    ap (λ b. b && bytes_eq cs cs) first ∙ bytes_eq-same cs
+    cc (first, bytes_eq-same cs)
 
 pub bytes_eq-is : (a b : List ℕ) → bytes_eq a b ≡ true → a ≡ b
 bytes_eq-is [] [] h = refl
@@ -84,7 +80,7 @@ bytes_eq-is (c ∷ cs) [] h = grind (arith, h)
 bytes_eq-is (c ∷ cs) (d ∷ ds) h =
     let first : c ≡ d = grind (arith, h) in
     let rest : bytes_eq cs ds ≡ true = grind (arith, h) in
-    ap (λ n. n ∷ cs) first ∙ ap (λ r. d ∷ r) (bytes_eq-is cs ds rest)
+    cc (first, bytes_eq-is cs ds rest)
 
 pub length-is : (name : List ℕ) → is_identifier name ≡ true → length name ≡ 3
 length-is name h =
@@ -106,12 +102,11 @@ name-kept (a ∷ []) e h = absurd (omega (arith, e))
 name-kept (a ∷ b ∷ []) e h = absurd (omega (arith, e))
 name-kept (a ∷ b ∷ c ∷ d ∷ ds) e h = absurd (omega (arith, e))
 name-kept (a ∷ b ∷ c ∷ []) e h =
-    let parts : (is_system a && ((is_ascii_digit b || nat_eq b 32) && is_ascii_digit c)) ≡ true = h in
+    let parts = h in
     let number : ((is_ascii_digit b || nat_eq b 32) && is_ascii_digit c) ≡ true =
     (and_parts (is_system a) ((is_ascii_digit b || nat_eq b 32) && is_ascii_digit c) parts).1 in
     and_from (is_kept a) (is_kept b && (is_kept c && true))
     (system-kept a (and_parts (is_system a) ((is_ascii_digit b || nat_eq b 32) && is_ascii_digit c) parts).0)
-    (and_from (is_kept b) (is_kept c && true)
-    (second-kept b (and_parts (is_ascii_digit b || nat_eq b 32) (is_ascii_digit c) number).0)
-    (and_from (is_kept c) true (digit-kept c
-    (and_parts (is_ascii_digit b || nat_eq b 32) (is_ascii_digit c) number).1) refl))
+    (and_from (is_kept b) (is_kept c && true) (second-kept b
+    (and_parts (is_ascii_digit b || nat_eq b 32) (is_ascii_digit c) number).0) (and_from (is_kept c) true
+    (digit-kept c (and_parts (is_ascii_digit b || nat_eq b 32) (is_ascii_digit c) number).1) refl))

@@ -24,8 +24,7 @@ each-own f [] h = tt
 each-own f (x ∷ xs) h =
     let parts = and_parts (not (is_among f (f x) xs)) (are_apart f xs) h in (
       rw (bytes_eq-same (f x)) refl,
-      found-later f x xs xs
-          (not-true (is_among f (f x) xs) parts.0) (each-own f xs parts.1),
+      found-later f x xs xs (not-true (is_among f (f x) xs) parts.0) (each-own f xs parts.1),
     )
 
 -- ---- earlier identifiers
@@ -58,7 +57,5 @@ new-before f name earlier (x ∷ xs) h = (
 pub not-among : {X : Type 0} (f : X → List ℕ) (name : List ℕ) (earlier : List (List ℕ)) (xs : List X)
     → AreNew f (name ∷ earlier) xs → is_among f name xs ≡ false
 not-among f name earlier [] h = refl
-not-among f name earlier (x ∷ xs) h =
-    ap (λ b. b || is_among f name xs)
-    (or_parts (bytes_eq (f x) name) (list_any (bytes_eq (f x)) earlier) h.0).0
-    ∙ not-among f name earlier xs h.1
+not-among f name earlier (x ∷ xs) h = ap (λ b. b || is_among f name xs) (or_parts
+    (bytes_eq (f x) name) (list_any (bytes_eq (f x)) earlier) h.0).0 ∙ not-among f name earlier xs h.1

@@ -1,9 +1,7 @@
 -- The marks of a satellite line, and the row that its cells and marks make.
 use Rattle.std.specs.Prelude.{◌≡◌, refl, ℕ, suc, ◌+◌, ◌-◌, ◌*◌, Bool, true, false, List, [], ◌∷◌, ◌++◌, ℤ}
-use Rattle.std.specs.Prelude.{length, map}
-use Rattle.std.specs.Prelude.{take, drop, replicate, slice_index_or, Option, None, Some, Result, Ok, Err}
-use Rattle.std.specs.Prelude.{IfErr}
-use Rattle.std.specs.Prelude.{OnOk, if◌then◌else◌, ◌==◌, zero}
+use Rattle.std.specs.Prelude.{length, map, take, drop, replicate, slice_index_or, Option, None, Some, Result}
+use Rattle.std.specs.Prelude.{Ok, Err, IfErr, OnOk, if◌then◌else◌, ◌==◌, zero}
 use Rattle.std.specs.List.{list_all}
 use Rattle.std.proofs.Common.{sym, ◌∙◌, ap, arith}
 use Rattle.std.proofs.lemmas.List.{length-map}
@@ -32,8 +30,7 @@ use Rattle.crx_compact.specs.Steps.{cell_of_tail, flags_held, flags_of_tail, tai
 use Rattle.crx_compact.proofs.CellsRead.{cells-same}
 use Rattle.crx_compact.specs.ShownRows.{shown_row}
 use Rattle.crx_compact.specs.HeldRows.{HeldRow, held_row, past_of_tail, arcs_of_tail, held_from, past_of_row}
-use Rattle.crx_compact.specs.HeldRows.{row_after}
-use Rattle.crx_compact.specs.HeldRows.{row_held, row_held_from}
+use Rattle.crx_compact.specs.HeldRows.{row_after, row_held, row_held_from}
 use Rattle.crx_compact.specs.Cells.{value_at_place, CellsAreRead, arcs_of_codes}
 use Rattle.crx_compact.proofs.SoundTexts.{held-columns, patched-trimmed}
 use Rattle.crx_compact.proofs.Characters.{list_all-at, at-by_position}
@@ -41,22 +38,19 @@ use Rattle.crx_text.proofs.Characters.{at, at-without_end_blanks, columns-are, l
 use Rattle.crx_text.proofs.Characters.{length-columns}
 use Rattle.crx_compact.proofs.PlaceByPlace.{at-padded, at-take}
 use Rattle.crx_text.specs.meaning.Codes.{code_of, after_cell}
-use Rattle.crx_compact.proofs.Results.{ok-same, Follows, and_then-ok, before-ok}
+use Rattle.crx_compact.proofs.Results.{ok-same, and_then-ok, before-ok}
 
 -- ---- the characters of patched indicators
 
 patched-character : (a b : ℕ) → is_kept a ≡ true → is_printable b ≡ true → is_kept (character_of a b) ≡ true
 patched-character a b h k = grind (arith, h, k)
 
-pub patched-kept : (old marks : List ℕ)
-    → list_all is_kept old ≡ true → list_all is_printable marks ≡ true
-    → list_all is_kept (patched old marks) ≡ true
-patched-kept old marks h k =
-    list_all-from_at is_kept (patched old marks) (λ p.
-    ap is_kept (at-without_end_blanks (by_position character_of old marks) p
-    ∙ at-by_position character_of refl old marks p)
-    ∙ patched-character (at old p)
-    (at marks p) (list_all-at is_kept refl old h p) (list_all-at is_printable refl marks k p))
+pub patched-kept : (old marks : List ℕ) → list_all is_kept old ≡ true
+    → list_all is_printable marks ≡ true → list_all is_kept (patched old marks) ≡ true
+patched-kept old marks h k = list_all-from_at is_kept
+    (patched old marks) (λ p. ap is_kept (at-without_end_blanks (by_position character_of old marks) p
+    ∙ at-by_position character_of refl old marks p) ∙ patched-character
+    (at old p) (at marks p) (list_all-at is_kept refl old h p) (list_all-at is_printable refl marks k p))
 
 -- ---- no marks
 
@@ -71,82 +65,58 @@ none-there (m ∷ marks) e = absurd (grind (arith, e))
 -- the columns of indicators that no marks change
 pub columns-left : (count : ℕ) (flags : List ℕ)
     → columns flags 1 (2 * count) ≡ columns (patched flags []) 1 (2 * count)
-columns-left count flags =
-    columns-are flags 1 (2 * count)
+columns-left count flags = columns-are flags 1 (2 * count)
     (columns (patched flags []) 1 (2 * count)) (length-columns (patched flags []) 1 (2 * count)) (λ p less.
     let place : 1 - 1 + p ≡ p = omega arith in
-    ap (at flags) place
-    ∙ sym (at-take (2 * count) (patched flags [] ++ replicate (2 * count) 32) p less
+    ap (at flags) place ∙ sym (at-take (2 * count) (patched flags [] ++ replicate (2 * count) 32) p less
     ∙ at-padded (2 * count) (patched flags []) p ∙ at-unmarked flags p))
 
 -- the columns of indicators show what is held of them
 pub columns-held : (count : ℕ) (flags : List ℕ) → columns (flags_held count flags) 1 (2 * count)
     ≡ columns flags 1 (2 * count)
-columns-held count flags =
-    columns-are (flags_held count flags) 1 (2 * count)
-    (columns flags 1 (2 * count)) (length-columns flags 1 (2 * count)) (λ p less.
+columns-held count flags = columns-are (flags_held count flags) 1
+    (2 * count) (columns flags 1 (2 * count)) (length-columns flags 1 (2 * count)) (λ p less.
     let place : 1 - 1 + p ≡ p = omega arith in
     ap (at (flags_held count flags)) place
-    ∙ at-without_end_blanks (take (2 * count) flags) p
-    ∙ at-take (2 * count) flags p less
+    ∙ at-without_end_blanks (take (2 * count) flags) p ∙ at-take (2 * count) flags p less
     ∙ sym (at-take (2 * count) (flags ++ replicate (2 * count) 32) p less ∙ at-padded (2 * count) flags p))
 
 -- ---- a satellite's line
 
 abbrev pub row_with_marks : Past → Satellite → List ℕ → List ReadCell → Result ReadRow Fault
-row_with_marks past satellite marks cells =
-    are_marks satellite.count marks otherwise Err BadFlags next
-    Ok (row_of_cells past satellite.name marks cells)
+row_with_marks past satellite marks cells = are_marks satellite.count marks otherwise Err BadFlags next Ok
+    (row_of_cells past satellite.name marks cells)
 
 -- a line for so many types: the first cell with a fault decides, then the marks
 abbrev pub row_of_line : Past → Satellite → List ℕ → Result ReadRow Fault
-row_of_line past satellite line =
-    and_then (cells_read (past.value satellite.name) (cells_of satellite.count line)) (λ cells.
-    row_with_marks past satellite (after_cells satellite.count line) cells)
+row_of_line past satellite line = and_then (cells_read (past.value satellite.name) (cells_of
+    satellite.count line)) (λ cells. row_with_marks past satellite (after_cells satellite.count line) cells)
 
 -- a line that begins no epoch is read by its cells
 line-cells : (arcs : List (Option ArcTail)) (flags : List ℕ) (satellite : Satellite) (line : List ℕ)
-    → begins_epoch line ≡ false
-    → (r : Result (List ReadCell) Fault) → cells_read (value_at_place arcs) (cells_of satellite.count line)
-    ≡ r
-    → row_held_from arcs flags satellite line
-    ≡ and_then (and_then r (λ cells. row_with_marks (past_of_row arcs flags) satellite
-    (after_cells satellite.count line) cells)) (λ read. Ok (held_from arcs flags read))
-line-cells arcs flags satellite line h r e =
-    ap {B = Result HeldRow Fault} (λ b. and_then (if b then Err Truncated
-    else row_of_line (past_of_row arcs flags) satellite line) (λ read. Ok (held_from arcs flags read))) h
-    ∙ ap {B = Result HeldRow Fault} (λ (q : Result (List ReadCell) Fault). and_then (and_then q
+    → begins_epoch line ≡ false → (r : Result (List ReadCell) Fault) → cells_read (value_at_place arcs)
+    (cells_of satellite.count line) ≡ r → row_held_from arcs flags satellite line ≡ and_then (and_then r
     (λ cells. row_with_marks (past_of_row arcs flags) satellite (after_cells satellite.count line) cells))
-    (λ read. Ok (held_from arcs flags read))) e
+    (λ read. Ok (held_from arcs flags read))
+line-cells arcs flags satellite line h r e = cc (h, e)
 
-pub line-fault : (arcs : List (Option ArcTail)) (flags : List ℕ) (satellite : Satellite) (line : List ℕ)
-    (fault : Fault)
-    → begins_epoch line ≡ false
-    → cells_read (value_at_place arcs) (cells_of satellite.count line) ≡ Err fault
-    → row_held_from arcs flags satellite line ≡ Err fault
+pub line-fault : (arcs : List (Option ArcTail)) (flags : List ℕ) (satellite : Satellite)
+    (line : List ℕ) (fault : Fault) → begins_epoch line ≡ false → cells_read (value_at_place arcs)
+    (cells_of satellite.count line) ≡ Err fault → row_held_from arcs flags satellite line ≡ Err fault
 line-fault arcs flags satellite line fault h e = line-cells arcs flags satellite line h (Err fault) e
 
 -- the marks decide after the cells
-line-marks : (arcs : List (Option ArcTail)) (flags : List ℕ)
-    (satellite : Satellite) (line : List ℕ) (at : ℕ) (cells : List ReadCell) (b : Bool)
-    → begins_epoch line ≡ false
-    → cells_read (value_at_place arcs) (cells_of satellite.count line) ≡ Ok cells
+line-marks : (arcs : List (Option ArcTail))
+    (flags : List ℕ) (satellite : Satellite) (line : List ℕ) (at : ℕ) (cells : List ReadCell) (b : Bool)
+    → begins_epoch line ≡ false → cells_read (value_at_place arcs) (cells_of satellite.count line) ≡ Ok cells
     → after_cells satellite.count line ≡ drop at line → are_marks satellite.count (drop at line) ≡ b
-    → row_held_from arcs flags satellite line
-    ≡ and_then (b otherwise Err BadFlags next
-    Ok (row_of_cells (past_of_row arcs flags) satellite.name (drop at line) cells))
-    (λ read. Ok (held_from arcs flags read))
+    → row_held_from arcs flags satellite line ≡ and_then (b otherwise Err BadFlags next Ok (row_of_cells
+    (past_of_row arcs flags) satellite.name (drop at line) cells)) (λ read. Ok (held_from arcs flags read))
 line-marks arcs flags satellite line at cells b h good marks e =
-    line-cells arcs flags satellite line h (Ok cells) good
-    ∙ ap {B = Result HeldRow Fault} (λ text. and_then
-    (row_with_marks (past_of_row arcs flags) satellite text cells) (λ read. Ok (held_from arcs flags read)))
-    marks
-    ∙ ap {B = Result HeldRow Fault} (λ q. and_then (q otherwise Err BadFlags next Ok (row_of_cells
-    (past_of_row arcs flags) satellite.name (drop at line) cells)) (λ read. Ok (held_from arcs flags read))) e
+    cc (line-cells arcs flags satellite line h (Ok cells) good, marks, e)
 
-pub line-bad_marks : (arcs : List (Option ArcTail))
-    (flags : List ℕ) (satellite : Satellite) (line : List ℕ) (left : List (Option ArcTail)) (at : ℕ)
-    → begins_epoch line ≡ false
+pub line-bad_marks : (arcs : List (Option ArcTail)) (flags : List ℕ) (satellite : Satellite)
+    (line : List ℕ) (left : List (Option ArcTail)) (at : ℕ) → begins_epoch line ≡ false
     → CellsAreRead arcs satellite.count line left at → are_marks satellite.count (drop at line) ≡ false
     → row_held_from arcs flags satellite line ≡ Err BadFlags
 line-bad_marks arcs flags satellite line left at h read e =
@@ -158,10 +128,9 @@ pub cells-count : (value : ℕ → Code → Result (Option ℤ) Fault) (texts : 
     → cells_read value texts ≡ Ok cells → length cells ≡ length texts
 cells-count value [] cells e = sym (ap length (ok-same [] cells e))
 cells-count value (text ∷ texts) cells e =
-    let rest : Result (List ReadCell) Fault = cells_read (λ j. value (suc j)) texts in
-    let one : Follows (cell_read BadField (value 0) (code_of text)) (λ c. before_all c rest) cells =
-    and_then-ok (cell_read BadField (value 0) (code_of text)) (λ c. before_all c rest) cells e in
-    let two : Follows rest (λ cs. Ok (one.from ∷ cs)) cells = before-ok one.from rest cells one.next in
+    let rest = cells_read (λ j. value (suc j)) texts in
+    let one = and_then-ok (cell_read BadField (value 0) (code_of text)) (λ c. before_all c rest) cells e in
+    let two = before-ok one.from rest cells one.next in
     sym (ap length (ok-same (one.from ∷ two.from) cells two.next))
     ∙ ap suc (cells-count (λ j. value (suc j)) texts two.from two.first)
 
@@ -172,15 +141,13 @@ texts-count (suc count) line = ap suc (texts-count count (after_cell line))
 -- ---- a satellite's line
 
 cells-many : (arcs : List (Option ArcTail)) (count : ℕ) (line : List ℕ) (left : List (Option ArcTail))
-    (at : ℕ)
-    → (read : CellsAreRead arcs count line left at) → length read.cells ≡ count
+    (at : ℕ) → (read : CellsAreRead arcs count line left at) → length read.cells ≡ count
 cells-many arcs count line left at read =
     cells-count (value_at_place arcs) (cells_of count line) read.cells read.good ∙ texts-count count line
 
 -- a line that was read leaves arcs and indicators that show its row
 pub line-held : (arcs : List (Option ArcTail)) (flags : List ℕ) (satellite : Satellite)
-    (line : List ℕ) (left : List (Option ArcTail)) (at : ℕ) (name held : List ℕ)
-    → begins_epoch line ≡ false
+    (line : List ℕ) (left : List (Option ArcTail)) (at : ℕ) (name held : List ℕ) → begins_epoch line ≡ false
     → CellsAreRead arcs satellite.count line left at → are_marks satellite.count (drop at line) ≡ true
     → name ≡ satellite.name → held ≡ columns (patched flags (drop at line)) 1 (2 * satellite.count)
     → row_held_from arcs flags satellite line ≡ Ok (record {
@@ -194,37 +161,31 @@ line-held arcs flags satellite line left at name held h read e same columned =
     let marked : List ℕ = patched flags (drop at line) in
     let codes : List Code = map (λ (c : ReadCell). c.code) read.cells in
     let count : length read.cells ≡ satellite.count = cells-many arcs satellite.count line left at read in
-    let many : length left ≡ satellite.count =
-    sym (length-map left shown_value) ∙ ap length read.shown
-    ∙ length-map read.cells (λ (c : ReadCell). c.value) ∙ count in
+    let many : length left ≡ satellite.count = sym (length-map left shown_value)
+    ∙ ap length read.shown ∙ length-map read.cells (λ (c : ReadCell). c.value) ∙ count in
     let kept : text ≡ flags_held (length codes) marked =
     t ∙ ap (λ n. flags_held n marked) (sym (length-map read.cells (λ (c : ReadCell). c.code) ∙ count)) in
     let shown : columns text 1 (2 * length left) ≡ columns marked 1 (2 * length read.cells) =
     ap (λ n. columns text 1 (2 * n)) many ∙ ap (λ (q : List ℕ). columns q 1 (2 * satellite.count)) t
     ∙ columns-held satellite.count marked ∙ ap (λ n. columns marked 1 (2 * n)) (sym count) in
-    line-marks arcs flags satellite line at read.cells true h read.good read.marks e
-    ∙ sym (
+    line-marks arcs flags satellite line at read.cells true h read.good read.marks e ∙ sym (
     ap {B = Result HeldRow Fault} (λ (n : List ℕ). Ok (record {
       row = record { name = n; values = map shown_value left; flags = columns text 1 (2 * length left) };
       tail = record { name = n; flags = text; cells = left };
-    })) same
-    ∙ ap {B = Result HeldRow Fault} (λ (fs : List ℕ). Ok (record {
+    })) same ∙ ap {B = Result HeldRow Fault} (λ (fs : List ℕ). Ok (record {
       row = record { name = satellite.name; values = map shown_value left; flags = fs };
       tail = record { name = satellite.name; flags = text; cells = left };
-    })) shown
-    ∙ ap {B = Result HeldRow Fault} (λ (vs : List (Option ℤ)). Ok (record {
+    })) shown ∙ ap {B = Result HeldRow Fault} (λ (vs : List (Option ℤ)). Ok (record {
       row = record { name = satellite.name; values = vs; flags = columns marked 1 (2 * length read.cells) };
       tail = record { name = satellite.name; flags = text; cells = left };
-    })) read.shown
-    ∙ ap {B = Result HeldRow Fault} (λ (q : List ℕ). Ok (record {
+    })) read.shown ∙ ap {B = Result HeldRow Fault} (λ (q : List ℕ). Ok (record {
       row = record {
         name = satellite.name;
         values = map (λ (c : ReadCell). c.value) read.cells;
         flags = columns marked 1 (2 * length read.cells);
       };
       tail = record { name = satellite.name; flags = q; cells = left };
-    })) kept
-    ∙ ap {B = Result HeldRow Fault} (λ (cs : List (Option ArcTail)). Ok (record {
+    })) kept ∙ ap {B = Result HeldRow Fault} (λ (cs : List (Option ArcTail)). Ok (record {
       row = record {
         name = satellite.name;
         values = map (λ (c : ReadCell). c.value) read.cells;
@@ -236,13 +197,12 @@ line-held arcs flags satellite line left at name held h read e same columned =
 
 -- ---- faults as they are reported
 
-pub marks-refused : (arcs : List (Option ArcTail)) (flags : List ℕ)
-    (satellite : Satellite) (line : List ℕ) (left : List (Option ArcTail)) (at : ℕ) (fault : Fault)
-    → begins_epoch line ≡ false → CellsAreRead arcs satellite.count line left at
-    → (are_marks satellite.count (drop at line) ≡ false) × (fault ≡ BadFlags)
-    → row_held_from arcs flags satellite line ≡ Err fault
+pub marks-refused : (arcs : List (Option ArcTail)) (flags : List ℕ) (satellite : Satellite)
+    (line : List ℕ) (left : List (Option ArcTail)) (at : ℕ) (fault : Fault) → begins_epoch line ≡ false
+    → CellsAreRead arcs satellite.count line left at → (are_marks satellite.count (drop at line) ≡ false)
+    × (fault ≡ BadFlags) → row_held_from arcs flags satellite line ≡ Err fault
 marks-refused arcs flags satellite line left at fault h read e =
-    line-bad_marks arcs flags satellite line left at h read e.0 ∙ ap Err (sym e.1)
+    cc (line-bad_marks arcs flags satellite line left at h read e.0, e.1)
 
 -- ---- by what was kept of the whole epoch before
 
@@ -251,19 +211,14 @@ pub cell-by_kept : (kept : Option RowTail) (place : ℕ)
 cell-by_kept None place = refl
 cell-by_kept (Some row) place = refl
 
-row-decided : (tail : Tail) (satellite : Satellite)
-    (marks : List ℕ) (begins good : Bool) (r : Result (List ReadCell) Fault)
-    → ◌≡◌ {A = Result HeldRow Fault}
-    (and_then (if begins then Err Truncated else and_then r (λ cells.
-    good otherwise Err BadFlags next
-    Ok (row_of_cells (past_of_row (arcs_of_tail (tail_named satellite.name tail))
-    (flags_of_tail (tail_named satellite.name tail))) satellite.name marks cells)))
-    (λ read. Ok (held_from (arcs_of_tail (tail_named satellite.name tail))
-    (flags_of_tail (tail_named satellite.name tail)) read)))
-    (and_then (if begins then Err Truncated else and_then r
-    (λ cells. good otherwise Err BadFlags next
-    Ok (row_of_cells (past_of_tail tail) satellite.name marks cells)))
-    (λ read. Ok (held_row tail read)))
+row-decided : (tail : Tail)
+    (satellite : Satellite) (marks : List ℕ) (begins good : Bool) (r : Result (List ReadCell) Fault)
+    → ◌≡◌ {A = Result HeldRow Fault} (and_then (if begins then Err Truncated else and_then r (λ cells. good
+    otherwise Err BadFlags next Ok (row_of_cells (past_of_row (arcs_of_tail (tail_named satellite.name tail))
+    (flags_of_tail (tail_named satellite.name tail))) satellite.name marks cells))) (λ read. Ok (held_from
+    (arcs_of_tail (tail_named satellite.name tail)) (flags_of_tail (tail_named satellite.name tail)) read)))
+    (and_then (if begins then Err Truncated else and_then r (λ cells. good otherwise Err BadFlags next Ok
+    (row_of_cells (past_of_tail tail) satellite.name marks cells))) (λ read. Ok (held_row tail read)))
 row-decided tail satellite marks true good r = refl
 row-decided tail satellite marks false good (Err fault) = refl
 row-decided tail satellite marks false false (Ok cells) = refl
@@ -283,17 +238,15 @@ row-decided tail satellite marks false true (Ok cells) =
 pub row-by_tail : (tail : Tail) (satellite : Satellite) (line : List ℕ)
     → row_held (tail_named satellite.name tail) satellite line ≡ row_after tail satellite line
 row-by_tail tail satellite line =
-    let kept : Option RowTail = tail_named satellite.name tail in
-    let past : Past = past_of_row (arcs_of_tail kept) (flags_of_tail kept) in
-    let marks : List ℕ = after_cells satellite.count line in
-    ap {B = Result HeldRow Fault} (λ (r : Result (List ReadCell) Fault).
-    and_then (if begins_epoch line then Err Truncated
-    else and_then r (λ cells. row_with_marks past satellite marks cells))
-    (λ read. Ok (held_from (arcs_of_tail kept) (flags_of_tail kept) read)))
-    (cells-same (value_at_place (arcs_of_tail kept)) ((past_of_tail tail).value satellite.name) (λ place code.
-    ap (value_of_code OBSERVATION_WIDTH code) (cell-by_kept kept place)) (cells_of satellite.count line))
-    ∙ row-decided tail satellite marks (begins_epoch line) (are_marks satellite.count marks)
-    (cells_read ((past_of_tail tail).value satellite.name) (cells_of satellite.count line))
+    let kept = tail_named satellite.name tail in
+    let past = past_of_row (arcs_of_tail kept) (flags_of_tail kept) in
+    let marks = after_cells satellite.count line in
+    let first = cells-same (value_at_place (arcs_of_tail kept)) ((past_of_tail tail).value satellite.name)
+    (λ place code. ap (value_of_code OBSERVATION_WIDTH code) (cell-by_kept kept place))
+    (cells_of satellite.count line) in
+    let second = row-decided tail satellite marks (begins_epoch line) (are_marks satellite.count marks)
+    (cells_read ((past_of_tail tail).value satellite.name) (cells_of satellite.count line)) in
+    cc
 
 -- ---- what is reported, by a result
 
@@ -314,8 +267,7 @@ on-both (Err e) f p q = tt
 pub row-trimmed : (arcs : List (Option ArcTail)) (flags : List ℕ) (satellite : Satellite) (line : List ℕ)
     → row_held_from arcs (without_end_blanks flags) satellite line ≡ row_held_from arcs flags satellite line
 row-trimmed arcs flags satellite line =
-    ap {B = Result HeldRow Fault} (λ (patch : List ℕ → List ℕ).
-    and_then (satellite_line_read (record {
+    ap {B = Result HeldRow Fault} (λ (patch : List ℕ → List ℕ). and_then (satellite_line_read (record {
       text = λ line. line;
       clock = λ code. Ok None;
       value = λ name place code. value_at_place arcs place code;

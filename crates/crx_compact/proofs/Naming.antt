@@ -1,7 +1,6 @@
 -- The identifiers of an epoch text, read from left to right.
 use Rattle.std.specs.Prelude.{◌≡◌, ◌<◌, refl, ℕ, zero, suc, ◌+◌, ◌*◌, Bool, true, false, ◌||◌, List, [], ◌∷◌}
-use Rattle.std.specs.Prelude.{◌++◌, drop, Option, Some, None}
-use Rattle.std.specs.Prelude.{Result, Ok, Err, if◌then◌else◌, All, slice_get}
+use Rattle.std.specs.Prelude.{◌++◌, drop, Option, Some, None, Result, Ok, Err, if◌then◌else◌, All, slice_get}
 use Rattle.std.specs.List.{list_any}
 use Rattle.std.specs.Str.{bytes_eq}
 use Rattle.std.proofs.Common.{sym, ◌∙◌, ap, arith, subst, inl, inr}
@@ -53,10 +52,10 @@ names-more (q ∷ qs) s earlier = names-more qs s (q.name ∷ earlier)
 same-way : (b c : Bool) (xs ys : List ℕ) → bytes_eq xs ys ≡ b → bytes_eq ys xs ≡ c → b ≡ c
 same-way true true xs ys e f = refl
 same-way false false xs ys e f = refl
-same-way true false xs ys e f = let same : xs ≡ ys = bytes_eq-is xs ys e in
-    sym (ap (λ z. bytes_eq z xs) (sym same) ∙ bytes_eq-same xs) ∙ f
-same-way false true xs ys e f = let same : ys ≡ xs = bytes_eq-is ys xs f in
-    sym e ∙ (ap (λ z. bytes_eq z ys) (sym same) ∙ bytes_eq-same ys)
+same-way true false xs ys e f = let same = bytes_eq-is xs ys e in
+    cc (same, bytes_eq-same xs, f)
+same-way false true xs ys e f = let same = bytes_eq-is ys xs f in
+    cc (e, same, bytes_eq-same ys)
 
 either-way : (xs ys : List ℕ) → bytes_eq xs ys ≡ bytes_eq ys xs
 either-way xs ys = same-way (bytes_eq xs ys) (bytes_eq ys xs) xs ys refl refl
@@ -75,13 +74,10 @@ any-after name [] earlier = or-false (list_any (bytes_eq name) earlier)
     or-false : (b : Bool) → b ≡ (b || false)
     or-false true = refl
     or-false false = refl
-any-after name (s ∷ ss) earlier =
-    any-after name ss (s.name ∷ earlier)
-    ∙ regroup (bytes_eq name s.name)
-    (list_any (bytes_eq name) earlier) (list_any (λ (q : Satellite). bytes_eq q.name name) ss)
-    ∙ ap (λ b. list_any (bytes_eq name) earlier ||
-    (b || list_any (λ (q : Satellite). bytes_eq q.name name) ss))
-    (either-way name s.name)
+any-after name (s ∷ ss) earlier = any-after name ss (s.name ∷ earlier)
+    ∙ regroup (bytes_eq name s.name) (list_any (bytes_eq name) earlier)
+    (list_any (λ (q : Satellite). bytes_eq q.name name) ss) ∙ ap (λ b. list_any (bytes_eq name) earlier ||
+    (b || list_any (λ (q : Satellite). bytes_eq q.name name) ss)) (either-way name s.name)
 
 -- ---- one identifier more
 
@@ -92,74 +88,54 @@ pub record NamedSoFar (types : List Count) (all : List (List ℕ)) (place : ℕ)
       ≡ onto found (satellites_named types (names_after found []) (drop place all))
 
 at-next : (types : List Count) (all : List (List ℕ)) (place : ℕ) (found : List Satellite) (name : List ℕ)
-    → NamedSoFar types all place found → drop place all ≡ name ∷ drop (place + 1) all
-    → satellites_named types [] all ≡ onto found (satellite_before (names_after found []) name
-    (types_of_satellite types name)
+    → NamedSoFar types all place found → drop place all ≡ name ∷ drop (place + 1) all → satellites_named
+    types [] all ≡ onto found (satellite_before (names_after found []) name (types_of_satellite types name)
     (satellites_named types (name ∷ names_after found []) (drop (place + 1) all)))
-at-next types all place found name n e = n.so_far
-    ∙ ap (λ names. onto found (satellites_named types (names_after found []) names)) e
+at-next types all place found name n e = cc (n.so_far, e)
 
 pub named-bad : (types : List Count) (all : List (List ℕ)) (place : ℕ) (found : List Satellite)
-    (name : List ℕ)
-    → NamedSoFar types all place found
-    → drop place all ≡ name ∷ drop (place + 1) all → types_of_satellite types name ≡ None
-    → satellites_named types [] all ≡ Err BadSatellite
+    (name : List ℕ) → NamedSoFar types all place found → drop place all ≡ name ∷ drop (place + 1) all
+    → types_of_satellite types name ≡ None → satellites_named types [] all ≡ Err BadSatellite
 named-bad types all place found name n e none =
-    at-next types all place found name n e
-    ∙ ap (λ (count : Option ℕ). onto found (satellite_before (names_after found []) name count
-    (satellites_named types (name ∷ names_after found []) (drop (place + 1) all)))) none
-    ∙ onto-err found BadSatellite
+    cc (at-next types all place found name n e, none, onto-err found BadSatellite)
 
-stands : (name : List ℕ) (found : List Satellite) (b : Bool)
-    → b ≡ list_any (λ (s : Satellite). bytes_eq s.name name) found
-    → list_any (bytes_eq name) (names_after found []) ≡ b
+stands : (name : List ℕ) (found : List Satellite) (b : Bool) → b ≡ list_any
+    (λ (s : Satellite). bytes_eq s.name name) found → list_any (bytes_eq name) (names_after found []) ≡ b
 stands name found b e = any-after name found [] ∙ sym e
 
-pub named-twice : (types : List Count)
-    (all : List (List ℕ)) (place : ℕ) (found : List Satellite) (name : List ℕ) (count : ℕ)
-    → NamedSoFar types all place found
-    → drop place all ≡ name ∷ drop (place + 1) all → types_of_satellite types name ≡ Some count
-    → list_any (λ (s : Satellite). bytes_eq s.name name) found ≡ true
-    → satellites_named types [] all ≡ Err RepeatedSatellite
+pub named-twice : (types : List Count) (all : List (List ℕ)) (place : ℕ) (found : List Satellite)
+    (name : List ℕ) (count : ℕ) → NamedSoFar types all place found → drop place all ≡ name ∷ drop (place + 1)
+    all → types_of_satellite types name ≡ Some count → list_any (λ (s : Satellite). bytes_eq s.name name)
+    found ≡ true → satellites_named types [] all ≡ Err RepeatedSatellite
 named-twice types all place found name count n e some twice =
-    let others : Result (List Satellite) Fault =
-    satellites_named types (name ∷ names_after found []) (drop (place + 1) all) in
-    at-next types all place found name n e
-    ∙ ap (λ (c : Option ℕ). onto found (satellite_before (names_after found []) name c others)) some
-    ∙ ap (λ b. onto found (if b then Err RepeatedSatellite
-    else before_all (record { name = name; count = count }) others)) (stands name found true (sym twice))
-    ∙ onto-err found RepeatedSatellite
+    let others = satellites_named types (name ∷ names_after found []) (drop (place + 1) all) in
+    at-next types all place found name n e ∙ ap (λ (c : Option ℕ). onto found
+    (satellite_before (names_after found []) name c others)) some ∙ ap (λ b. onto found
+    (if b then Err RepeatedSatellite else before_all (record { name = name; count = count }) others))
+    (stands name found true (sym twice)) ∙ onto-err found RepeatedSatellite
 
-pub named-more : (types : List Count)
-    (all : List (List ℕ)) (place : ℕ) (found more : List Satellite) (name : List ℕ) (count : ℕ)
-    → NamedSoFar types all place found
+pub named-more : (types : List Count) (all : List (List ℕ))
+    (place : ℕ) (found more : List Satellite) (name : List ℕ) (count : ℕ) → NamedSoFar types all place found
     → drop place all ≡ name ∷ drop (place + 1) all → types_of_satellite types name ≡ Some count
     → list_any (λ (s : Satellite). bytes_eq s.name name) found ≡ false
-    → more ≡ found ++ record { name = name; count = count } ∷ []
-    → NamedSoFar types all (place + 1) more
+    → more ≡ found ++ record { name = name; count = count } ∷ [] → NamedSoFar types all (place + 1) more
 named-more types all place found more name count n e some once m =
     let s : Satellite = record { name = name; count = count } in
     let others : Result (List Satellite) Fault =
     satellites_named types (name ∷ names_after found []) (drop (place + 1) all) in
-    let here : satellites_named types [] all ≡ onto found (before_all s others) =
-    at-next types all place found name n e
-    ∙ ap (λ (c : Option ℕ). onto found (satellite_before (names_after found []) name c others)) some
-    ∙ ap (λ b. onto found (if b then Err RepeatedSatellite else before_all s others))
+    let here : satellites_named types [] all ≡ onto found (before_all s others) = at-next types all place
+    found name n e ∙ ap (λ (c : Option ℕ). onto found (satellite_before (names_after found []) name c others))
+    some ∙ ap (λ b. onto found (if b then Err RepeatedSatellite else before_all s others))
     (stands name found false (sym once)) in
     record {
-      so_far =
-          here
-          ∙ sym (onto-more found s others)
-          ∙ ap (λ names. onto (found ++ s ∷ []) (satellites_named types names (drop (place + 1) all)))
-          (sym (names-more found s []))
+      so_far = here ∙ sym (onto-more found s others) ∙ ap (λ names. onto (found ++ s ∷ [])
+          (satellites_named types names (drop (place + 1) all))) (sym (names-more found s []))
           ∙ ap (λ ss. onto ss (satellites_named types (names_after ss []) (drop (place + 1) all))) (sym m);
     }
 
 pub named-all : (types : List Count) (all : List (List ℕ)) (place : ℕ) (found : List Satellite)
-    → NamedSoFar types all place found → drop place all ≡ []
-    → satellites_named types [] all ≡ Ok found
-named-all types all place found n e = n.so_far
-    ∙ ap (λ names. onto found (satellites_named types (names_after found []) names)) e ∙ onto-ok found
+    → NamedSoFar types all place found → drop place all ≡ [] → satellites_named types [] all ≡ Ok found
+named-all types all place found n e = cc (n.so_far, e, onto-ok found)
 
 -- ---- an identifier among those of a text
 
@@ -188,12 +164,9 @@ pub any-more : (P : List ℕ → Bool) (n : ℕ) (f : ℕ → List ℕ)
 any-more P n f h e = ap (list_any P) (each_place-more n f) ∙ any-append P (each_place n f) (f n) h e
 
 -- the identifier at a place, which was read
-pub next-name : (text : List ℕ) (count place : ℕ) (name : List ℕ) → place < count → name
-    ≡ columns text (42 + 3 * place) 3
-    → drop place (names_in text count) ≡ name ∷ drop (place + 1) (names_in text count)
-next-name text count place name h e =
-    drop-each_place count place (λ k. columns text (42 + 3 * k) 3) h
-    ∙ ap (λ n. n ∷ drop (place + 1) (names_in text count)) (sym e)
+pub next-name : (text : List ℕ) (count place : ℕ) (name : List ℕ) → place < count → name ≡ columns text
+    (42 + 3 * place) 3 → drop place (names_in text count) ≡ name ∷ drop (place + 1) (names_in text count)
+next-name text count place name h e = cc (drop-each_place count place (λ k. columns text (42 + 3 * k) 3) h, e)
 
 -- what holds of all satellites of a text holds of the one at each place
 pub named-each : (P : Satellite → Type 0) (types : List Count) (earlier all : List (List ℕ)) (k : ℕ)
@@ -207,13 +180,11 @@ named-each P types earlier [] k name others count named is at some h = absurd (n
     none-there (suc k) e = cc
 named-each P types earlier (n ∷ ns) k name others count named is at some h =
     by (λ j there rest first all. named-each P types
-    (n ∷ earlier) ns j name others count rest first there some all)
-    (types_of_satellite types n) refl is
+    (n ∷ earlier) ns j name others count rest first there some all) (types_of_satellite types n) refl is
   where
     After : Type 0
-    After = (j : ℕ) → drop j ns ≡ name ∷ others → (rest : List Satellite)
-        → satellites_named types (n ∷ earlier) ns ≡ Ok rest → All P rest
-        → P (record { name = name; count = count })
+    After = (j : ℕ) → drop j ns ≡ name ∷ others → (rest : List Satellite) → satellites_named types
+        (n ∷ earlier) ns ≡ Ok rest → All P rest → P (record { name = name; count = count })
 
     step : After → (c : ℕ) (j : ℕ) → types_of_satellite types n ≡ Some c → drop j (n ∷ ns) ≡ name ∷ others
         → (rest : List Satellite) → satellites_named types (n ∷ earlier) ns ≡ Ok rest
@@ -221,15 +192,13 @@ named-each P types earlier (n ∷ ns) k name others count named is at some h =
     step after c zero e there rest first all =
         let same : n ≡ name = same_Some n name (ap (λ (xs : List (List ℕ)). slice_get xs 0) there) in
         let counted : c ≡ count = same_Some c count (sym e ∙ ap (types_of_satellite types) same ∙ some) in
-        subst (λ (x : List ℕ). P (record { name = x; count = count })) same
-        (subst (λ x. P (record { name = n; count = x })) counted
-        (All-head P (record { name = n; count = c }) rest all))
+        subst (λ (x : List ℕ). P (record { name = x; count = count })) same (subst (λ x. P
+        (record { name = n; count = x })) counted (All-head P (record { name = n; count = c }) rest all))
     step after c (suc j) e there rest first all =
         after j there rest first (All-tail P (record { name = n; count = c }) rest all)
 
-    by : After → (o : Option ℕ) → types_of_satellite types n ≡ o
-        → satellite_before earlier n o (satellites_named types (n ∷ earlier) ns) ≡ Ok named
-        → P (record { name = name; count = count })
+    by : After → (o : Option ℕ) → types_of_satellite types n ≡ o → satellite_before earlier n o
+        (satellites_named types (n ∷ earlier) ns) ≡ Ok named → P (record { name = name; count = count })
     by after None e g = absurd (no-err BadSatellite named g)
     by after (Some c) e g =
         let s : Satellite = record { name = n; count = c } in
@@ -244,7 +213,7 @@ pub names-room : (types : List Count) (text : List ℕ) (count : ℕ) (named : L
     (before now : List (List ℕ × ℕ)) → satellites_named types [] (names_in text count) ≡ Ok named
     → HaveTypesRoom named before → KeepsRooms before now → HaveNamesRoom types text count now
 names-room types text count named before now is has kept = λ place cells within some.
-    let name : List ℕ = columns text (42 + 3 * place) 3 in
+    let name = columns text (42 + 3 * place) 3 in
     kept name cells (named-each (λ (s : Satellite). HasRoom s.name s.count before) types []
     (names_in text count) place name (drop (place + 1) (names_in text count)) cells named is
     (next-name text count place name within refl) some has)
@@ -253,8 +222,7 @@ names-room types text count named before now is has kept = λ place cells within
 pub names-room-more : (types : List Count) (text : List ℕ) (place : ℕ) (before now : List (List ℕ × ℕ))
     → HaveNamesRoom types text place before → KeepsRooms before now
     → ((cells : ℕ) → types_of_satellite types (columns text (42 + 3 * place) 3) ≡ Some cells
-    → HasRoom (columns text (42 + 3 * place) 3) cells now)
-    → HaveNamesRoom types text (place + 1) now
+    → HasRoom (columns text (42 + 3 * place) 3) cells now) → HaveNamesRoom types text (place + 1) now
 names-room-more types text place before now have kept last = λ k cells within some.
     elim (within-or_past place k) [
       | inl less ↦ kept (columns text (42 + 3 * k) 3) cells (have k cells less some)

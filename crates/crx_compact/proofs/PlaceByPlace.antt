@@ -33,33 +33,21 @@ pub record CellsMade (before : List (Option ArcTail))
   pub line_made : line' ≡ line ++ flat_map cell_text (each_place place (code_at_place before values))
   pub within : place ≤ length values
 
-pub cells-more : (before : List (Option ArcTail))
-    (values : List (Option ℤ)) (place : ℕ) (line line' : List ℕ) (arcs : List (Option ArcTail))
-    (value : Option ℤ)
-    (code : Code) (arc : Option ArcTail) (newer : List ℕ) (more : List (Option ArcTail))
-    → CellsMade before values place line line' arcs → slice_get values place ≡ Some value
-    → code ≡ code_of_value value (slice_index_or before place None)
-    → arc ≡ arc_of_value value (slice_index_or before place None)
-    → newer ≡ line' ++ cell_text code → more ≡ arcs ++ arc ∷ []
-    → CellsMade before values (place + 1) line newer more
+pub cells-more : (before : List (Option ArcTail)) (values : List (Option ℤ)) (place : ℕ) (line line' : List ℕ)
+    (arcs : List (Option ArcTail)) (value : Option ℤ) (code : Code) (arc : Option ArcTail)
+    (newer : List ℕ) (more : List (Option ArcTail)) → CellsMade before values place line line' arcs
+    → slice_get values place ≡ Some value → code ≡ code_of_value value (slice_index_or before place None)
+    → arc ≡ arc_of_value value (slice_index_or before place None) → newer ≡ line' ++ cell_text code
+    → more ≡ arcs ++ arc ∷ [] → CellsMade before values (place + 1) line newer more
 cells-more before values place line line' arcs value code arc newer more m here c a n r =
-    let is : slice_index_or values place None ≡ value = value-there values place value None here in
-    let there : place < length values = some-there values place value here in
+    let is = value-there values place value None here in
+    let there = some-there values place value here in
     record {
-      arcs_made =
-          r ∙ ap (λ xs. xs ++ arc ∷ []) m.arcs_made
-          ∙ ap {B = List (Option ArcTail)} (λ x. each_place place (arc_at_place before values) ++ x ∷ []) (a
-          ∙ ap (λ (v : Option ℤ). arc_of_value v (slice_index_or before place None)) (sym is))
-          ∙ sym (each_place-more place (arc_at_place before values));
+      arcs_made = cc (r, m.arcs_made, a, is, each_place-more place (arc_at_place before values));
       line_made =
-          n ∙ ap (λ t. t ++ cell_text code) m.line_made
-          ∙ ap (λ (k : Code). (line ++ flat_map cell_text (each_place place (code_at_place before values)))
-          ++ cell_text k)
-          (c ∙ ap (λ (v : Option ℤ). code_of_value v (slice_index_or before place None)) (sym is))
-          ∙ flat_map_more cell_text line (each_place place (code_at_place before values))
-          (code_at_place before values place)
-          ∙ ap (λ ks. line ++ flat_map cell_text ks)
-          (sym (each_place-more place (code_at_place before values)));
+          let first = flat_map_more cell_text line
+          (each_place place (code_at_place before values)) (code_at_place before values place) in
+          cc (n, m.line_made, c, is, each_place-more place (code_at_place before values));
       within = omega arith;
     }
 
@@ -69,7 +57,7 @@ from-place d k [] h = absurd (omega (arith, h))
 from-place d zero (x ∷ xs) h = refl
 from-place d (suc k) (x ∷ xs) h =
     let next : suc k + 1 ≡ suc (k + 1) = omega arith in
-    from-place d k xs (omega (arith, h)) ∙ ap (λ n. slice_index_or xs k d ∷ drop n (x ∷ xs)) (sym next)
+    cc (from-place d k xs (omega (arith, h)), next)
 
 pub at-map : {X Y : Type 0} (f : X → Y) (d : X) (e : Y) (k : ℕ) (xs : List X)
     → k < length xs → slice_index_or (map f xs) k e ≡ f (slice_index_or xs k d)
@@ -98,39 +86,30 @@ pub print-next : (values : List (Option ℤ)) (flags : List ℕ) (n k : ℕ) →
     ≡ (observation_text (slice_index_or values k None) ++ at flags (2 * k) ∷ at flags (2 * k + 1) ∷ [])
     ++ printed_cells (drop (k + 1) values) (drop (2 * (k + 1)) (columns flags 1 (2 * n)))
 print-next values flags n k count h =
-    let all : List ℕ = columns flags 1 (2 * n) in
-    let long : length all ≡ 2 * n = length-columns flags 1 (2 * n) in
-    let value : Option ℤ = slice_index_or values k None in
-    let rest : List ℕ = drop (2 * (k + 1)) all in
+    let all = columns flags 1 (2 * n) in
+    let long = length-columns flags 1 (2 * n) in
+    let value = slice_index_or values k None in
+    let rest = drop (2 * (k + 1)) all in
     let third : 2 * k + 1 + 1 ≡ 2 * (k + 1) = omega arith in
-    let pair : drop (2 * k) all ≡ at flags (2 * k) ∷ at flags (2 * k + 1) ∷ rest =
-    from-place 32 (2 * k) all (omega (arith, long, h))
-    ∙ ap (λ t. at all (2 * k) ∷ t) (from-place 32 (2 * k + 1) all (omega (arith, long, h)))
-    ∙ ap (λ n. at all (2 * k) ∷ at all (2 * k + 1) ∷ drop n all) third
-    ∙ ap (λ a. a ∷ at all (2 * k + 1) ∷ rest) (at-columns flags (2 * n) (2 * k) (omega (arith, h)))
+    let pair = from-place 32 (2 * k) all (omega (arith, long, h)) ∙ ap (λ t. at all (2 * k) ∷ t) (from-place
+    32 (2 * k + 1) all (omega (arith, long, h))) ∙ ap (λ n. at all (2 * k) ∷ at all (2 * k + 1) ∷ drop n all)
+    third ∙ ap (λ a. a ∷ at all (2 * k + 1) ∷ rest) (at-columns flags (2 * n) (2 * k) (omega (arith, h)))
     ∙ ap (λ b. at flags (2 * k) ∷ b ∷ rest) (at-columns flags (2 * n) (2 * k + 1) (omega (arith, h))) in
     ap (λ vs. printed_cells vs (drop (2 * k) all)) (from-place None k values (omega (arith, count, h)))
     ∙ ap (printed_cells (value ∷ drop (k + 1) values)) pair
 
 -- the cells that are left complete a text, also after the next of them
-pub print-on : (arcs : List (Option ArcTail)) (flags before text whole : List ℕ) (k : ℕ)
-    (arc : Option ArcTail)
-    → k < length arcs → arc ≡ slice_index_or arcs k arc
+pub print-on : (arcs : List (Option ArcTail)) (flags before text whole : List ℕ)
+    (k : ℕ) (arc : Option ArcTail) → k < length arcs → arc ≡ slice_index_or arcs k arc
     → text ≡ before ++ (observation_text (shown_value arc) ++ at flags (2 * k) ∷ at flags (2 * k + 1) ∷ [])
     → before ++ printed_cells (drop k (map shown_value arcs))
-    (drop (2 * k) (columns flags 1 (2 * length arcs))) ≡ whole
-    → text ++ printed_cells (drop (k + 1) (map shown_value arcs))
-    (drop (2 * (k + 1)) (columns flags 1 (2 * length arcs)))
-    ≡ whole
+    (drop (2 * k) (columns flags 1 (2 * length arcs))) ≡ whole → text ++ printed_cells
+    (drop (k + 1) (map shown_value arcs)) (drop (2 * (k + 1)) (columns flags 1 (2 * length arcs))) ≡ whole
 print-on arcs flags before text whole k arc h is made left =
-    let values : List (Option ℤ) = map shown_value arcs in
-    let rest : List ℕ = printed_cells (drop (k + 1) values)
-    (drop (2 * (k + 1)) (columns flags 1 (2 * length arcs))) in
-    let cell : observation_text (shown_value arc) ≡ observation_text (slice_index_or values k None) =
-    ap (λ a. observation_text (shown_value a)) is
+    let values = map shown_value arcs in
+    let rest = printed_cells (drop (k + 1) values) (drop (2 * (k + 1)) (columns flags 1 (2 * length arcs))) in
+    let cell = ap (λ a. observation_text (shown_value a)) is
     ∙ sym (ap observation_text (at-map shown_value arc None k arcs h)) in
-    ap (λ t. t ++ rest) made
-    ∙ append_assoc before _ rest
-    ∙ ap (λ t. before ++ ((t ++ at flags (2 * k) ∷ at flags (2 * k + 1) ∷ []) ++ rest)) cell
-    ∙ ap (λ t. before ++ t) (sym (print-next values flags (length arcs) k (length-map arcs shown_value) h))
-    ∙ left
+    ap (λ t. t ++ rest) made ∙ append_assoc before _ rest
+    ∙ ap (λ t. before ++ ((t ++ at flags (2 * k) ∷ at flags (2 * k + 1) ∷ []) ++ rest)) cell ∙ ap
+    (λ t. before ++ t) (sym (print-next values flags (length arcs) k (length-map arcs shown_value) h)) ∙ left

@@ -1,7 +1,6 @@
 -- Texts are the same where their two ends are, which meet: compared as lanes.
 use Rattle.std.proofs.Common.{true, false, ℕ, ◌≡◌, ◌+◌, ◌-◌, ◌*◌, ◌%◌, ◌^◌, ◌≤◌, Bool, not, cond, nat_eq, eqb}
-use Rattle.std.proofs.Common.{List, [], ◌∷◌, ◌++◌, length, take, drop, map, w8, refl, ap, subst, sym, ◌∙◌}
-use Rattle.std.proofs.Common.{arith}
+use Rattle.std.proofs.Common.{List, [], ◌∷◌, length, take, drop, map, w8, refl, ap, sym, ◌∙◌, arith}
 use Rattle.std.specs.Prelude.{◌≢◌, MatchBool}
 use Rattle.std.proofs.Math.Seq.{take-take}
 use Rattle.std.proofs.lemmas.Bool.{true≢false}
@@ -30,15 +29,13 @@ none_differ [] (y ∷ ys) long none = absurd (omega arith)
 none_differ (x ∷ xs) [] long none = absurd (omega arith)
 none_differ (x ∷ xs) (y ∷ ys) long none =
     let parts = no_first (differs x y) (mask_l (zip2 differs xs ys)) none in
-    ap (λ z. z ∷ xs) (equal x y parts.0) ∙ ap (λ zs. y ∷ zs) (none_differ xs ys (omega arith) parts.1)
+    cc (equal x y parts.0, none_differ xs ys (omega arith) parts.1)
 
 same_rows : (xs ys : List ℕ) → length ys ≡ length xs → length xs ≤ 64 → others xs ys ≡ 0 → xs ≡ ys
 same_rows xs ys long few same =
-    let lanes : List Bool = zip2 differs xs ys in
-    let mask : others xs ys ≡ mask_l lanes =
-    ap (λ ms. mask_l ms % 2 ^ 64) (tops_compared w8 differs xs ys)
-    ∙ mask_l-mod lanes 64 (omega (arith, length-zip2 differs xs ys (sym long), few)) in
-    none_differ xs ys long (sym mask ∙ same)
+    let lanes = zip2 differs xs ys in
+    none_differ xs ys long (sym (ap (λ ms. mask_l ms % 2 ^ 64) (tops_compared w8 differs xs ys)
+    ∙ mask_l-mod lanes 64 (omega (arith, length-zip2 differs xs ys (sym long), few))) ∙ same)
 
 none_within : (xs : List ℕ) → mask_l (zip2 differs xs xs) ≡ 0
 none_within [] = refl
@@ -49,41 +46,33 @@ none_within (x ∷ xs) =
 
 -- a row differs nowhere from itself
 alike : (xs ys : List ℕ) → xs ≡ ys → others xs ys ≡ 0
-alike xs ys same = subst (λ zs. others xs zs ≡ 0) same
-    (ap (λ ms. mask_l ms % 2 ^ 64) (tops_compared w8 differs xs xs) ∙ ap (λ m. m % 2 ^ 64) (none_within xs))
+alike xs ys same = rw (← same) (cc (tops_compared w8 differs xs xs, none_within xs))
 
 same_ends : (n : ℕ) (xs ys : List ℕ) → n ≤ 64 → n ≤ length xs → length xs ≤ n + n → length ys ≡ length xs
     → others (take n xs) (take n ys) ≡ 0
     → nat_eq (others (chunk (length xs - n) n xs) (chunk (length xs - n) n ys)) 0 ≡ true → xs ≡ ys
 same_ends n xs ys narrow some few long first last =
-    let m : ℕ = length xs - n in
-    let front : take n xs ≡ take n ys = same_rows (take n xs) (take n ys)
-    (length-take-le n ys (omega (arith, some, long)) ∙ sym (length-take-le n xs some))
-    (omega (arith, length-take-le n xs some, narrow)) first in
-    let one : length (chunk m n xs) ≡ n = length-chunk m n xs (omega (arith, some)) in
-    let two : length (chunk m n ys) ≡ n = length-chunk m n ys (omega (arith, some, long)) in
-    let back : chunk m n xs ≡ chunk m n ys =
-    same_rows (chunk m n xs) (chunk m n ys) (two ∙ sym one) (omega (arith, one, narrow))
-    ((Decides-eqb _ 0).0 last) in
-    let rest : drop m xs ≡ drop m ys = sym (take_all n (drop m xs) (omega (arith, length-drop m xs)))
-    ∙ (back ∙ take_all n (drop m ys) (omega (arith, length-drop m ys, long))) in
-    let begin : take m xs ≡ take m ys = sym (take-take m n xs (omega (arith, few, some)))
-    ∙ (ap (take m) front ∙ take-take m n ys (omega (arith, few, some))) in
-    sym (take-append-drop m xs) ∙ (ap (λ (t : List ℕ). t ++ drop m xs) begin
-    ∙ (ap (λ (t : List ℕ). take m ys ++ t) rest ∙ take-append-drop m ys))
+    let m = length xs - n in
+    let one = length-chunk m n xs (omega (arith, some)) in
+    let two = length-chunk m n ys (omega (arith, some, long)) in
+    let rest = sym (take_all n (drop m xs) (omega (arith, length-drop m xs)))
+    ∙ ((same_rows (chunk m n xs) (chunk m n ys) (two ∙ sym one) (omega (arith, one, narrow))
+    ((Decides-eqb _ 0).0 last)) ∙ take_all n (drop m ys) (omega (arith, length-drop m ys, long))) in
+    let begin = sym (take-take m n xs (omega (arith, few, some))) ∙ (ap (take m) (same_rows
+    (take n xs) (take n ys) (length-take-le n ys (omega (arith, some, long)) ∙ sym (length-take-le n xs some))
+    (omega (arith, length-take-le n xs some, narrow)) first) ∙ take-take m n ys (omega (arith, few, some))) in
+    cc (take-append-drop m xs, begin, rest, take-append-drop m ys)
 
 matched : (b : Bool) (P : Type 0) → (b ≡ true → P) → (b ≡ false → P → ⊥) → MatchBool b P (P → ⊥)
 matched true P where_true where_false = where_true refl
 matched false P where_true where_false = where_false refl
 
 -- where the first ends are the same, the last ones decide
-pub last-ends_decide : (n : ℕ) (xs ys : List ℕ) → n ≤ 64 → n ≤ length xs → length xs ≤ n + n
-    → length ys ≡ length xs → others (take n xs) (take n ys) ≡ 0
-    → MatchBool (nat_eq (others (chunk (length xs - n) n xs) (chunk (length xs - n) n ys)) 0) (xs ≡ ys)
-    (xs ≢ ys)
-last-ends_decide n xs ys narrow some few long first = matched _ _
-    (λ last. same_ends n xs ys narrow some few long first last)
-    (λ last same. true≢false
+pub last-ends_decide : (n : ℕ) (xs ys : List ℕ) → n ≤ 64 → n ≤ length xs
+    → length xs ≤ n + n → length ys ≡ length xs → others (take n xs) (take n ys) ≡ 0 → MatchBool
+    (nat_eq (others (chunk (length xs - n) n xs) (chunk (length xs - n) n ys)) 0) (xs ≡ ys) (xs ≢ ys)
+last-ends_decide n xs ys narrow some few long first =
+    matched _ _ (λ last. same_ends n xs ys narrow some few long first last) (λ last same. true≢false
     (sym ((Decides-eqb _ 0).1 (alike _ _ (ap (chunk (length xs - n) n) same))) ∙ last))
 
 -- where they aren't, the texts are others

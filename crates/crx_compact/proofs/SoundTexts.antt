@@ -3,23 +3,21 @@ use Rattle.crx_compact.proofs.Words.{◌≡◌, ◌≤◌, refl, ℕ, zero, suc,
 use Rattle.crx_compact.proofs.Words.{length, take, ap, arith, inl, inr, ◌∙◌, sym, ◌<◌, ◌+◌, ◌-◌, ◌++◌, ◌⊎◌}
 use Rattle.crx_compact.proofs.Words.{replicate, character_of, patched, IsAllowedCount, length-columns, at}
 use Rattle.crx_compact.proofs.Words.{at-without_end_blanks, columns-are, list_all-from_at, columns, is_blank}
-use Rattle.crx_compact.proofs.Words.{without_end_blanks, before_end_blanks, flags_held, by_position, mark_of}
+use Rattle.crx_compact.proofs.Words.{without_end_blanks, flags_held, by_position, mark_of}
 use Rattle.crx_compact.proofs.Words.{text_difference, is_kept, few_kept}
 use Rattle.std.proofs.lemmas.Bool.Decides.{Decides-eqb}
 use Rattle.crx_compact.proofs.PlaceByPlace.{at-padded, at-take}
-use Rattle.crx_compact.proofs.Characters.{at-take_past, within-or_past}
+use Rattle.crx_compact.proofs.Characters.{at-take_past, within-or_past, list_all-at, at-by_position}
+use Rattle.crx_compact.proofs.Characters.{same_characters}
 use Rattle.crx_compact.specs.HeldRows.{AreHeldFlags}
-use Rattle.crx_compact.proofs.Characters.{list_all-at}
-use Rattle.crx_compact.proofs.Characters.{at-by_position, same_characters}
 
 -- ---- blanks at the end
 
 -- a difference doesn't see the blanks at the end of the new text
 pub difference-trimmed : (old new : List ℕ)
     → text_difference old (without_end_blanks new) ≡ text_difference old new
-difference-trimmed old new =
-    same_characters (by_position mark_of old (without_end_blanks new)) (by_position mark_of old new) (λ p.
-    at-by_position mark_of refl old (without_end_blanks new) p
+difference-trimmed old new = same_characters (by_position mark_of old (without_end_blanks new))
+    (by_position mark_of old new) (λ p. at-by_position mark_of refl old (without_end_blanks new) p
     ∙ ap (mark_of (at old p)) (at-without_end_blanks new p) ∙ sym (at-by_position mark_of refl old new p))
 
 -- ---- indicators
@@ -30,9 +28,7 @@ mark-same c = ap (λ b. if b then 32 else if is_blank c then 38 else c) ((Decide
 
 pub same-text : (text : List ℕ) → text_difference text text ≡ []
 same-text [] = refl
-same-text (c ∷ cs) =
-    ap (λ m. before_end_blanks m (text_difference cs cs)) (mark-same c)
-    ∙ ap (before_end_blanks 32) (same-text cs)
+same-text (c ∷ cs) = cc (mark-same c, same-text cs)
 
 -- ---- what is held of indicators by so many types
 
@@ -47,15 +43,13 @@ length-held count flags = omega (arith, few_kept (take (2 * count) flags), lengt
 -- so many columns of indicators, and what is held of them
 pub held-columns : (count : ℕ) (flags : List ℕ) → without_end_blanks (columns flags 1 (2 * count))
     ≡ flags_held count flags
-held-columns count flags =
-    same_characters (columns flags 1 (2 * count)) (take (2 * count) flags)
-    (λ p. by_place p (within-or_past (2 * count) p))
+held-columns count flags = same_characters
+    (columns flags 1 (2 * count)) (take (2 * count) flags) (λ p. by_place p (within-or_past (2 * count) p))
   where
     by_place : (p : ℕ) → (p < 2 * count) ⊎ (2 * count ≤ p) → at (columns flags 1 (2 * count)) p
         ≡ at (take (2 * count) flags) p
     by_place p (inl h) = at-take (2 * count) (flags ++ replicate (2 * count) 32) p h
-        ∙ at-padded (2 * count) flags p
-        ∙ sym (at-take (2 * count) flags p h)
+        ∙ at-padded (2 * count) flags p ∙ sym (at-take (2 * count) flags p h)
     by_place p (inr h) = at-take_past (2 * count) (flags ++ replicate (2 * count) 32) p h
         ∙ sym (at-take_past (2 * count) flags p h)
 
@@ -79,25 +73,20 @@ columns-held count flags few h =
 
 pub columns-trimmed : (width : ℕ) (flags : List ℕ)
     → columns (without_end_blanks flags) 1 width ≡ columns flags 1 width
-columns-trimmed width flags =
-    columns-are (without_end_blanks flags) 1 width
-    (columns flags 1 width) (length-columns flags 1 width) (λ p less.
+columns-trimmed width flags = columns-are
+    (without_end_blanks flags) 1 width (columns flags 1 width) (length-columns flags 1 width) (λ p less.
     let place : 1 - 1 + p ≡ p = omega arith in
     ap (at (without_end_blanks flags)) place ∙ at-without_end_blanks flags p
     ∙ sym (at-take width (flags ++ replicate width 32) p less ∙ at-padded width flags p))
 
 pub patched-trimmed : (flags marks : List ℕ) → patched (without_end_blanks flags) marks ≡ patched flags marks
-patched-trimmed flags marks =
-    same_characters (by_position character_of (without_end_blanks flags) marks)
-    (by_position character_of flags marks) (λ p.
-    at-by_position character_of refl (without_end_blanks flags) marks p
-    ∙ ap (λ c. character_of c (at marks p)) (at-without_end_blanks flags p)
+patched-trimmed flags marks = same_characters (by_position character_of (without_end_blanks flags) marks)
+    (by_position character_of flags marks) (λ p. at-by_position character_of refl
+    (without_end_blanks flags) marks p ∙ ap (λ c. character_of c (at marks p)) (at-without_end_blanks flags p)
     ∙ sym (at-by_position character_of refl flags marks p))
 
 pub before-trimmed : (old new : List ℕ)
     → text_difference (without_end_blanks old) new ≡ text_difference old new
-before-trimmed old new =
-    same_characters (by_position mark_of (without_end_blanks old) new) (by_position mark_of old new) (λ p.
-    at-by_position mark_of refl (without_end_blanks old) new p
-    ∙ ap (λ c. mark_of c (at new p)) (at-without_end_blanks old p)
-    ∙ sym (at-by_position mark_of refl old new p))
+before-trimmed old new = same_characters (by_position mark_of (without_end_blanks old) new)
+    (by_position mark_of old new) (λ p. at-by_position mark_of refl (without_end_blanks old) new p ∙ ap
+    (λ c. mark_of c (at new p)) (at-without_end_blanks old p) ∙ sym (at-by_position mark_of refl old new p))

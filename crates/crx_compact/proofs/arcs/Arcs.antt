@@ -5,9 +5,9 @@ use Rattle.std.proofs.Common.{sym, ◌∙◌, ap, arith}
 use Rattle.crx_text.specs.declared.code.Code.{Code}
 use Rattle.crx_base.specs.declared.limits.TheConstants.{WRITTEN_ORDER}
 use Rattle.crx_compact.specs.meaning.Sequences.{stretch}
-use Rattle.crx_compact.specs.meaning.ArcValues.{since_start, value_of}
+use Rattle.crx_compact.specs.meaning.ArcValues.{since_start}
 use Rattle.crx_compact.specs.ArcTails.{ArcTail, arc_tail, started_tail}
-use Rattle.crx_compact.specs.ArcSteps.{code_of_value, arc_of_value, value_of_code, arc_of_code}
+use Rattle.crx_compact.specs.ArcSteps.{arc_of_value, value_of_code, arc_of_code}
 use Rattle.crx_compact.specs.ArcLaws.{arc_of_values, CodesOfValues, accepted, arc_of_codes, ValuesOfCodes}
 use Rattle.crx_compact.proofs.arcs.OneMore.{code-next, arc-next, value-next, number-next}
 use Rattle.std.proofs.lemmas.Grind.{common_steps}

@@ -1,13 +1,12 @@
 -- From the codes of an arc come its values: an induction on the order and on the arc, by one recurrence of
 -- the sums.
 use Rattle.std.specs.Prelude.{◌≡◌, refl, ℕ, zero, suc, ◌+◌, ◌-◌, ◌<◌, ◌≤◌, min, ℤ, pos, ◌+ℤ◌, ◌-ℤ◌, ◌*ℤ◌}
-use Rattle.std.specs.Prelude.{List, [], ◌∷◌, ◌++◌, length, take, reverse, Option, Some}
-use Rattle.std.specs.Option.{option_map}
+use Rattle.std.specs.Prelude.{List, [], ◌∷◌, ◌++◌, length, take, reverse, Some}
 use Rattle.std.proofs.Common.{sym, ◌∙◌, ap, subst, arith, le_of_suc-le-suc, not-suc-le-zero, rules}
 use Rattle.std.proofs.lemmas.Int.{ints}
 use Rattle.std.proofs.lemmas.List.{reverse-append, take-append-le, length-append, length-reverse}
 use Rattle.crx_compact.specs.meaning.Differences.{binomial, weighted, difference, value_at}
-use Rattle.crx_compact.specs.meaning.ArcValues.{Started, since_start, onto_started}
+use Rattle.crx_compact.specs.meaning.ArcValues.{since_start}
 use Rattle.crx_compact.specs.ArcLaws.{codes_of_arc, Inverts}
 use Rattle.crx_compact.proofs.arcs.Weights.{weighted-same, weighted-add, difference-suc, difference-zero}
 use Rattle.std.proofs.lemmas.Grind.{common_steps}

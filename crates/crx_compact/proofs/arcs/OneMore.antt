@@ -1,7 +1,7 @@
 -- One value or one code more, after an arc.
 use Rattle.std.specs.Prelude.{◌≡◌, refl, ℕ, zero, suc, ◌<◌, ℤ, List, [], ◌∷◌, length, Option, Some, None, ⊤}
 use Rattle.std.specs.Option.{option_map}
-use Rattle.std.proofs.Common.{◌∙◌, ap, arith, not-suc-le-zero}
+use Rattle.std.proofs.Common.{ap, arith, not-suc-le-zero}
 use Rattle.crx_text.specs.declared.code.Code.{Code}
 use Rattle.crx_text.specs.declared.code.Code.TheVariants.{Missing, Start, Step}
 use Rattle.crx_compact.specs.meaning.Differences.{value_at, code_at}

@@ -1,12 +1,11 @@
 -- Running differences: their step, and their size.
 use Rattle.std.specs.Prelude.{◌≡◌, ◌≤◌, ◌<◌, refl, ℕ, zero, suc, ◌+◌, ◌-◌, ◌^◌, ℤ, pos, negsuc, ◌+ℤ◌, ◌-ℤ◌}
 use Rattle.std.specs.Prelude.{List, [], ◌∷◌, ◌++◌, length, take, drop, min, slice_index_or, slice_set, Bool}
-use Rattle.std.specs.Prelude.{true, false, Option, Some, Result, Ok, Err, if◌then◌else◌}
-use Rattle.std.proofs.Common.{sym, ◌∙◌, ap, arith, subst, FitsSigned, w64, to_z, of_z, append_assoc, lit<}
-use Rattle.std.proofs.Common.{lit≤, rules}
+use Rattle.std.specs.Prelude.{true, false, Option, Some, Ok, Err, if◌then◌else◌}
+use Rattle.std.proofs.Common.{sym, ◌∙◌, ap, arith, subst, FitsSigned, w64, to_z, of_z, lit<, lit≤, rules}
 use Rattle.std.proofs.Math.Nat.{pow-le-pow_right}
 use Rattle.std.proofs.lemmas.Int.{ints, to_z-of_z}
-use Rattle.std.proofs.lemmas.List.{take_more_set, drop-set-lt, length-take}
+use Rattle.std.proofs.lemmas.List.{drop-set-lt, length-take}
 use Rattle.std.proofs.lemmas.Grind.{common_steps}
 use Rattle.crx_compact.specs.Arcs.{IsBelow, AreBelow, value_bound, kept_tail, IsArcInRange, IsNewestWithin}
 use Rattle.crx_text.specs.meaning.Numbers.{IsWithin}
@@ -17,7 +16,6 @@ use Rattle.crx_compact.specs.meaning.Differences.{newest}
 use Rattle.crx_compact.specs.ArcSteps.{differences_after, onto_sum, differences_by, highest, code_of_value}
 use Rattle.crx_compact.specs.ArcSteps.{arc_of_value, value_of_code, arc_of_code}
 use Rattle.crx_compact.specs.meaning.ArcValues.{in_range, is_within}
-use Rattle.crx_base.specs.declared.fault.Fault.{Fault}
 use Rattle.crx_base.specs.declared.fault.Fault.TheVariants.{OutOfRange}
 use Rattle.crx_base.specs.declared.limits.TheConstants.{WRITTEN_ORDER}
 

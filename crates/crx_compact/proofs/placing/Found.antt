@@ -1,6 +1,6 @@
 -- A satellite is found by its identifier, or added behind the others.
 use Rattle.std.proofs.Common.{◌≡◌, ℕ, ◌<◌, List, [], ◌∷◌, ◌++◌, length, take, slice_get, get_or, position}
-use Rattle.std.proofs.Common.{Option, Some, None, IfSome, is_some, option_map, refl, ap, sym, ◌∙◌, inl, inr}
+use Rattle.std.proofs.Common.{Option, Some, None, IfSome, is_some, refl, ap, sym, ◌∙◌, inl, inr}
 use Rattle.std.proofs.Common.{arith, Bool, false}
 use Rattle.std.specs.Str.{bytes_eq}
 use Rattle.std.specs.Map.{keys_of, lookup}

@@ -4,11 +4,10 @@ use Rattle.std.proofs.Common.{None, IsTrue, ◌↔◌, ap, arith, refl, sym, tru
 use Rattle.std.specs.Str.{bytes_eq}
 use Rattle.indexmap.specs.IndexMap.{IndexMap, IsUnique}
 use Rattle.crx_header.specs.meaning.Satellites.{is_among}
-use Rattle.crx_compact.specs.Entries.{Entry, IsFound, IsPutNext, IsRevived, key_of, placed_rows, rooms_of}
+use Rattle.crx_compact.specs.Entries.{Entry, IsFound, IsPutNext, IsRevived, key_of, placed_rows}
 use Rattle.crx_compact.specs.Placing.{AnswersPlacing, HasAskedRoom, HasSameRooms, IsPlaced, PlacedRows}
 use Rattle.crx_compact.specs.Placing.{SatelliteTail}
 use Rattle.crx_compact.specs.Tails.{RowTail}
-use Rattle.crx_compact.proofs.ComeRows.{come-asked}
 use Rattle.crx_compact.proofs.placing.Coming.{come-anew, come-awaited, is-new, repeated, unknown-no_row}
 use Rattle.crx_compact.proofs.placing.EntryChanges.{enough-room, little-room}
 use Rattle.crx_compact.proofs.placing.Rooms.{unknown}

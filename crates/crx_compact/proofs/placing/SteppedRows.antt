@@ -14,7 +14,7 @@ use Rattle.crx_text.specs.meaning.Texts.{text_difference}
 use Rattle.crx_rinex.specs.meaning.Observations.{Row}
 use Rattle.crx_compact.specs.ArcSteps.{arc_of_value, code_of_value}
 use Rattle.crx_compact.specs.ArcTails.{ArcTail}
-use Rattle.crx_compact.specs.Cells.{arc_at_place, arcs_of_cells, code_at_place, codes_of_cells}
+use Rattle.crx_compact.specs.Cells.{arcs_of_cells, codes_of_cells}
 use Rattle.indexmap.specs.IndexMap.{IndexMap, IsUnique, set_value_at}
 use Rattle.indexmap.specs.Layout.{length-set_value_at}
 use Rattle.crx_compact.proofs.placing.EntryChanges.{changed-is, rooms-changed}

@@ -1,9 +1,9 @@
 -- The satellites of an open epoch stay those that its text announces, each with its count of types.
 use Rattle.crx_compact.proofs.Words.{◌≡◌, ◌≤◌, refl, ℕ, zero, suc, List, [], ◌∷◌, length, map, Option, Some}
-use Rattle.crx_compact.proofs.Words.{All, slice_get, slice_set, unwrap_or, sym, ◌∙◌, ap, subst, arith}
+use Rattle.crx_compact.proofs.Words.{All, slice_get, slice_set, unwrap_or, subst, arith}
 use Rattle.crx_compact.proofs.Words.{length-map, All-head, All-tail, same_Some, columns, HEAD_WIDTH}
-use Rattle.crx_compact.proofs.Words.{SATELLITES_LIMIT, satellites_few, Satellite, IsAwaitedSatellite}
-use Rattle.crx_compact.proofs.Words.{IsAnnounced, IsRowRead, OpenHistory, satellite_of, AreAnnounced, RowTail}
+use Rattle.crx_compact.proofs.Words.{SATELLITES_LIMIT, satellites_few, IsAwaitedSatellite}
+use Rattle.crx_compact.proofs.Words.{IsAnnounced, IsRowRead, OpenHistory, satellite_of, RowTail}
 use Rattle.std.proofs.lemmas.List.Elements.{All-cons}
 use Rattle.crx_compact.specs.Placing.{HasAllowedCount}
 use Rattle.std.proofs.lemmas.Grind.{common_steps}

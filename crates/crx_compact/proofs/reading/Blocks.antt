@@ -7,7 +7,7 @@ use Rattle.crx_compact.proofs.Words.{RawStep, epoch_after, first_step, held_afte
 use Rattle.crx_compact.proofs.Words.{placed_as, step_in}
 use Rattle.std.specs.Prelude.{IfErr}
 use Rattle.std.proofs.Common.{length-append}
-use Rattle.crx_compact.specs.OpenEpochs.{Idle, Faulty, Going, Whole}
+use Rattle.crx_compact.specs.OpenEpochs.{Idle, Faulty}
 use Rattle.crx_compact.specs.ReadBlocks.{HasReadTo, IsReading}
 use Rattle.crx_compact.proofs.soundness.Soundness.{reads-soundly}
 use Rattle.crx_compact.proofs.reading.RawTailing.{place-by_tail, left-by_tail}

@@ -1,13 +1,13 @@
 -- A line that begins with > forgets what was read before it.
 use Rattle.crx_compact.proofs.Words.{◌≡◌, ℕ, true, List, [], ◌∷◌, drop, Option, Some, None, Result, Ok, Err}
-use Rattle.crx_compact.proofs.Words.{if◌then◌else◌, sym, ◌∙◌, ap, ReadLine, Content, Fault, NotAnEpoch, Count}
+use Rattle.crx_compact.proofs.Words.{if◌then◌else◌, ◌∙◌, ap, ReadLine, Content, Fault, NotAnEpoch, Count}
 use Rattle.crx_compact.proofs.Words.{Place, Here, then_place, one_line, first_line, begins_epoch, RawEpoch}
 use Rattle.crx_compact.proofs.Words.{block_of, Past, past_of_block, past_of_epochs, past_of_line}
-use Rattle.crx_compact.proofs.Words.{satellites_of_line, BegunEpoch, epoch_begun, ReadCell, clock_line_read}
+use Rattle.crx_compact.proofs.Words.{BegunEpoch, epoch_begun, ReadCell, clock_line_read}
 use Rattle.crx_compact.proofs.Words.{rows_read, ReadEpoch, epoch_of_rows, epoch_after_line, epoch_at}
 use Rattle.crx_compact.specs.ReadingLaws.{Forgets}
-use Rattle.crx_compact.proofs.soundness.Soundness.{thing_here, Comes, then-comes}
-use Rattle.crx_compact.proofs.Results.{no-err, ok-same, Follows, and_then-ok}
+use Rattle.crx_compact.proofs.soundness.Soundness.{thing_here, then-comes}
+use Rattle.crx_compact.proofs.Results.{no-err, ok-same, and_then-ok}
 use Rattle.std.proofs.Common.{rules}
 
 begun-line : (types : List Count) (line : List ℕ) (past : Option Past) (begun : BegunEpoch)

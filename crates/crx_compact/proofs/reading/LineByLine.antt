@@ -1,30 +1,26 @@
 -- The steps of a reader, line by line, agree with what is at all lines so far.
 use Rattle.crx_compact.proofs.Words.{◌≡◌, refl, ℕ, suc, ◌+◌, List, [], ◌∷◌, ◌++◌, map, length, Option, Some}
 use Rattle.crx_compact.proofs.Words.{None, Result, Ok, Err, slice_get, unwrap_or, ℤ, option_map, sym, ◌∙◌, ap}
-use Rattle.crx_compact.proofs.Words.{arith, true≢false, take_all, map-map, patched, columns}
-use Rattle.crx_compact.proofs.Words.{without_end_blanks, ReadLine, Content, Overlong, Fault, BadClock}
-use Rattle.crx_compact.proofs.Words.{Truncated, CLOCK_WIDTH, HEAD_WIDTH, begins_epoch, Count, Row, Place}
-use Rattle.crx_compact.proofs.Words.{Here, Wrong, Wanted, then_place, after_lines, one_line, code_of}
-use Rattle.crx_compact.proofs.Words.{and_then, Satellite, RawEpoch, RawRow, BegunEpoch, epoch_begun}
-use Rattle.crx_compact.proofs.Words.{satellites_of_line, ReadCell, cell_read, clock_line_read, ReadRow}
+use Rattle.crx_compact.proofs.Words.{arith, true≢false, take_all, map-map, patched, columns, ReadLine}
+use Rattle.crx_compact.proofs.Words.{Content, Overlong, Fault, HEAD_WIDTH, Count, Row, Place, Here, Wrong}
+use Rattle.crx_compact.proofs.Words.{Wanted, then_place, after_lines, one_line, and_then, Satellite, RawEpoch}
+use Rattle.crx_compact.proofs.Words.{RawRow, BegunEpoch, epoch_begun, ReadCell, clock_line_read, ReadRow}
 use Rattle.crx_compact.proofs.Words.{satellite_line_read, rows_read, epoch_of_rows, epoch_after_line, ArcTail}
 use Rattle.crx_compact.proofs.Words.{arc_of_code, shown_value, RowTail, Tail, no_tail, raw_row_tail_after}
 use Rattle.crx_compact.proofs.Words.{raw_tail_after, tail_named, held_row, HeldRow, past_of_tail, padded}
-use Rattle.crx_compact.proofs.Words.{shown_row, tail_for_line, epoch_after, HeldEpoch, RawStep, before_clock}
-use Rattle.crx_compact.proofs.Words.{with_rows, opened_raw, opening, first_step, whole_epoch}
-use Rattle.crx_compact.proofs.Words.{whole_or_awaiting, tail_opened, raw_step_with_row, row_step}
-use Rattle.crx_compact.proofs.Words.{step_with_rows, next_step, placed_as, held_after, place_of_step}
+use Rattle.crx_compact.proofs.Words.{shown_row, tail_for_line, HeldEpoch, RawStep, before_clock, with_rows}
+use Rattle.crx_compact.proofs.Words.{opened_raw, opening, whole_epoch, whole_or_awaiting, tail_opened}
+use Rattle.crx_compact.proofs.Words.{raw_step_with_row, row_step, step_with_rows, next_step, placed_as}
+use Rattle.crx_compact.proofs.Words.{held_after, place_of_step}
 use Rattle.std.specs.Option.{is_some}
 use Rattle.std.proofs.lemmas.List.{append_assoc, length-append}
 use Rattle.crx_compact.specs.OpenEpochs.{OpenRawEpoch, rows_before, raw_step_with_clock, place_of_steps}
 use Rattle.crx_compact.specs.OpenEpochs.{open_raw_after}
 use Rattle.crx_compact.specs.OpenEpochs.RawStep.{Going, Whole, Faulty}
 use Rattle.crx_compact.specs.ReadingLaws.{is_wanted, StepsAgree, WantedWhereOpen, StepsFromOpen}
-use Rattle.crx_compact.proofs.CellsRead.{shown-code}
-use Rattle.crx_compact.proofs.Results.{if-err}
 use Rattle.crx_compact.proofs.ShownRows.{set-next}
 use Rattle.crx_compact.proofs.reading.PaddedRows.{row-opened, row-shows}
-use Rattle.crx_compact.proofs.soundness.Soundness.{Paired, RowFacts, read-cell, rows-facts}
+use Rattle.crx_compact.proofs.soundness.Soundness.{Paired, RowFacts, rows-facts}
 use Rattle.std.proofs.lemmas.Grind.{common_steps}
 
 -- ---- the satellite lines

@@ -8,7 +8,7 @@ use Rattle.crx_compact.proofs.Words.{after_cells, row_of_cells, satellite_line_r
 use Rattle.crx_compact.proofs.Words.{arcs_of_tail, held_from, past_of_row, row_held, value_at_place}
 use Rattle.crx_compact.proofs.Words.{flags_of_tail, value_of_code, ArcTail, RowTail}
 use Rattle.crx_base.specs.declared.fault.Fault.TheVariants.{OutOfRange}
-use Rattle.crx_compact.specs.meaning.ArcValues.{in_range, is_within}
+use Rattle.crx_compact.specs.meaning.ArcValues.{in_range}
 use Rattle.crx_compact.proofs.Marks.{row_of_line, row_with_marks}
 
 abbrev fault_in : {X : Type 0} → Result X Fault → Fault

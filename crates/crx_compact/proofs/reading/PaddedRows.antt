@@ -3,7 +3,7 @@
 -- kept of the satellite, and what it leaves shows its row.
 use Rattle.crx_compact.proofs.Words.{◌≡◌, refl, ℕ, zero, suc, ◌<◌, ◌≤◌, ◌*◌, ◌⊎◌, Bool, true, false, List, []}
 use Rattle.crx_compact.proofs.Words.{◌∷◌, length, map, take, slice_index_or, Option, None, Some, Result, Ok}
-use Rattle.crx_compact.proofs.Words.{Err, if◌then◌else◌, sym, ◌∙◌, ap, subst, arith, inl, inr, length-map}
+use Rattle.crx_compact.proofs.Words.{Err, if◌then◌else◌, sym, ◌∙◌, ap, arith, inl, inr, length-map}
 use Rattle.crx_compact.proofs.Words.{columns, each_place, by_position, character_of, patched, at}
 use Rattle.crx_compact.proofs.Words.{at-without_end_blanks, index-each_place, length-each_place, Fault}
 use Rattle.crx_compact.proofs.Words.{BadFlags, Truncated, OBSERVATION_WIDTH, begins_epoch, ◌otherwise◌next◌}
@@ -17,8 +17,7 @@ use Rattle.crx_compact.specs.Cells.{arcs_of_codes}
 use Rattle.crx_compact.specs.HeldRows.{row_after}
 use Rattle.crx_compact.proofs.CellsRead.{cells-within, shown-code}
 use Rattle.crx_compact.proofs.Characters.{at-by_position, at-take_past, same_characters, within-or_past}
-use Rattle.crx_compact.proofs.Marks.{cell-by_kept, cells-count, columns-held, row-by_tail, row_with_marks}
-use Rattle.crx_compact.proofs.Marks.{texts-count}
+use Rattle.crx_compact.proofs.Marks.{cell-by_kept, cells-count, columns-held, row-by_tail, texts-count}
 use Rattle.crx_compact.proofs.PlaceByPlace.{at-take}
 use Rattle.crx_compact.proofs.soundness.Soundness.{AreReadCells, RowFacts}
 use Rattle.std.proofs.lemmas.Grind.{common_steps}

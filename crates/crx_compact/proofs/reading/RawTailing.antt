@@ -1,11 +1,10 @@
 -- The tail of a block of raw epochs decides what the next one stands for, and the next tail.
 use Rattle.crx_compact.proofs.Words.{◌≡◌, refl, ℕ, Bool, true, false, List, [], ◌∷◌, ◌*◌, map, length, Option}
 use Rattle.crx_compact.proofs.Words.{Some, None, if◌then◌else◌, unwrap_or, option_map, sym, ◌∙◌, ap}
-use Rattle.crx_compact.proofs.Words.{get_or_past, patched, ReadLine, Code, Missing, OBSERVATION_WIDTH}
-use Rattle.crx_compact.proofs.Words.{CLOCK_WIDTH, Count, each_place, stretch, begins_epoch, RawRow, RawEpoch}
-use Rattle.crx_compact.proofs.Words.{block_of, overlaid, raw_row_named, raw_run_of, marks_of, code_in}
-use Rattle.crx_compact.proofs.Words.{since_start, value_of, Past, past_of_block, past_of_epochs, past_of_line}
-use Rattle.crx_compact.proofs.Words.{epoch_against, epoch_at, RowTail, Tail, tail_left, no_tail, tail_named}
+use Rattle.crx_compact.proofs.Words.{get_or_past, patched, ReadLine, OBSERVATION_WIDTH, CLOCK_WIDTH, Count}
+use Rattle.crx_compact.proofs.Words.{stretch, RawRow, RawEpoch, block_of, overlaid, raw_row_named, raw_run_of}
+use Rattle.crx_compact.proofs.Words.{marks_of, code_in, since_start, Past, past_of_block, past_of_epochs}
+use Rattle.crx_compact.proofs.Words.{past_of_line, epoch_at, RowTail, tail_left, no_tail, tail_named}
 use Rattle.crx_compact.proofs.Words.{cell_of_tail, flags_of_tail, flags_held, raw_row_tail_after}
 use Rattle.crx_compact.proofs.Words.{raw_tail_after, value_of_code, arc_of_code, past_of_tail, tail_for_line}
 use Rattle.crx_compact.proofs.Words.{epoch_after, HasSingleLines, each_place-same, index-each_place}

@@ -3,7 +3,7 @@ use Rattle.crx_compact.proofs.Words.{◌≡◌, ◌==◌, refl, ℕ, ◌≤◌, 
 use Rattle.crx_compact.proofs.Words.{Some, None, Result, Ok, Err, if◌then◌else◌, is_ok, sym, ◌∙◌, ap, arith}
 use Rattle.crx_compact.proofs.Words.{true≢false, Fault, Content, Count, past_of_tail, satellites_of_line}
 use Rattle.crx_compact.proofs.Words.{Satellite, and_then, ColumnsState, RawStep, Reading, before_clock}
-use Rattle.crx_compact.proofs.Words.{first_step, is_idle, opened_raw, opening, step_in, step_with_rows}
+use Rattle.crx_compact.proofs.Words.{first_step, is_idle, opening, step_in, step_with_rows}
 use Rattle.crx_compact.proofs.Words.{tail_for_line, tail_held, tail_opened, with_rows, columns_state, step_at}
 use Rattle.crx_compact.proofs.Words.{OpenHistory, tail_of_history, Tail, Stage, Rows}
 use Rattle.crx_compact.specs.OpenEpochs.{awaits_row, is_faulty, makes_epoch}

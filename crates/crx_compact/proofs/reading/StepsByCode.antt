@@ -1,11 +1,10 @@
 -- What a line makes of an open epoch, by what was read of it into a history.
 use Rattle.crx_compact.proofs.Words.{◌≡◌, refl, ◌≤◌, ◌<◌, ℕ, ◌+◌, true, List, [], ◌∷◌, length, map, Option}
-use Rattle.crx_compact.proofs.Words.{Some, None, Result, Ok, Err, slice_get, slice_set, sym, ◌∙◌, ap, arith}
-use Rattle.crx_compact.proofs.Words.{add-one, take_all, columns, Fault, HEAD_WIDTH, Content, Epoch}
-use Rattle.crx_compact.proofs.Words.{printed_epoch, printed_head, printed_row, shown_value, ArcTail, HeldRow}
-use Rattle.crx_compact.proofs.Words.{row_held, HasMade, HasPrintedLines, RawStep, Reading, next_step}
-use Rattle.crx_compact.proofs.Words.{raw_step_with_row, row_step, step_with_rows, whole_epoch}
-use Rattle.crx_compact.proofs.Words.{whole_or_awaiting, with_rows, IsRowRead, OpenHistory, satellite_of}
+use Rattle.crx_compact.proofs.Words.{Some, None, Result, Ok, Err, slice_get, ◌∙◌, arith, add-one, columns}
+use Rattle.crx_compact.proofs.Words.{Fault, HEAD_WIDTH, Content, Epoch, printed_epoch, printed_head}
+use Rattle.crx_compact.proofs.Words.{printed_row, shown_value, HeldRow, row_held, HasMade, HasPrintedLines}
+use Rattle.crx_compact.proofs.Words.{RawStep, Reading, next_step, raw_step_with_row, step_with_rows}
+use Rattle.crx_compact.proofs.Words.{whole_epoch, with_rows, IsRowRead, OpenHistory, satellite_of}
 use Rattle.crx_compact.proofs.Words.{tail_of_history, shown_epoch, shown_row, RowTail, Tail}
 use Rattle.std.proofs.lemmas.Option.{slice_get-get_or, slice_get_past}
 use Rattle.crx_compact.specs.OpenEpochs.{Idle, Whole, Going, Faulty}

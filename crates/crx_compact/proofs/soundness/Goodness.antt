@@ -1,10 +1,10 @@
 -- An epoch that was read is whole, and its marks can be before others.
-use Rattle.crx_compact.proofs.Words.{◌≡◌, refl, ℕ, zero, suc, ◌+◌, ◌-◌, ◌*◌, ℤ, Bool, true, false, ◌&&◌}
-use Rattle.crx_compact.proofs.Words.{nat_eq, List, [], ◌∷◌, ◌++◌, map, length, take, drop, replicate, Option}
+use Rattle.crx_compact.proofs.Words.{◌≡◌, refl, ℕ, zero, suc, ◌+◌, ◌*◌, ℤ, Bool, true, false, ◌&&◌}
+use Rattle.crx_compact.proofs.Words.{nat_eq, List, [], ◌∷◌, map, length, take, drop, replicate, Option}
 use Rattle.crx_compact.proofs.Words.{Some, None, Result, Ok, IfSome, if◌then◌else◌, unwrap_or, list_all}
 use Rattle.crx_compact.proofs.Words.{AllByRecursion, sym, ◌∙◌, ap, subst, arith, length-map, and_parts}
 use Rattle.crx_compact.proofs.Words.{and_from, columns, character_at, is_blank, IsMissingOrWithin, IsValue}
-use Rattle.crx_compact.proofs.Words.{Row, Count, is_system, IsAllowedCount, begins_epoch, types_of_satellite}
+use Rattle.crx_compact.proofs.Words.{Row, Count, is_system, IsAllowedCount, types_of_satellite}
 use Rattle.crx_compact.proofs.Words.{IsSoundRow, HasItsTypes, apart-map, satellites_few, Code, Missing, Start}
 use Rattle.crx_compact.proofs.Words.{Step, Fault, OBSERVATION_WIDTH, CLOCK_WIDTH, is_kept, is_printable}
 use Rattle.crx_compact.proofs.Words.{stretch, Satellite, RawRow, RawEpoch, block_of, latest_mark, shown}

@@ -2,10 +2,10 @@
 use Rattle.crx_compact.proofs.Words.{◌≡◌, refl, ℕ, suc, ◌+◌, ◌*◌, Bool, true, false, ℤ, List, [], ◌∷◌, map}
 use Rattle.crx_compact.proofs.Words.{length, slice_index_or, drop, Option, Some, None, Result, Ok, Err, not}
 use Rattle.crx_compact.proofs.Words.{if◌then◌else◌, AllByRecursion, sym, ◌∙◌, ap, subst, arith, length-map}
-use Rattle.crx_compact.proofs.Words.{columns, without_end_blanks, code_of, ReadLine, Content, Overlong, Row}
+use Rattle.crx_compact.proofs.Words.{columns, code_of, ReadLine, Content, Overlong, Row}
 use Rattle.crx_compact.proofs.Words.{Epoch, Count, apart-map, Place, Here, Wrong, Wanted, then_place}
 use Rattle.crx_compact.proofs.Words.{after_lines, first_line, one_line, Code, Missing, Fault, NotAnEpoch}
-use Rattle.crx_compact.proofs.Words.{BadClock, BadField, BadFlags, Truncated, each_place, and_then}
+use Rattle.crx_compact.proofs.Words.{BadField, BadFlags, Truncated, each_place, and_then}
 use Rattle.crx_compact.proofs.Words.{before_all, begins_epoch, Satellite, RawRow, RawEpoch, block_of}
 use Rattle.crx_compact.proofs.Words.{raw_row_named, raw_run_of, marks_of, Past, past_of_block, past_of_epochs}
 use Rattle.crx_compact.proofs.Words.{past_of_line, satellites_of_line, BegunEpoch, epoch_begun}

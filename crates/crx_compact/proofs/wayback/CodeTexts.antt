@@ -1,7 +1,7 @@
 -- The texts of codes hold no blank and no >.
 use Rattle.crx_compact.proofs.Words.{◌≡◌, refl, ℕ, suc, ◌+◌, ◌^◌, ◌<◌, ◌≤◌, Bool, true, not, ◌&&◌, ◌==◌, ℤ}
 use Rattle.crx_compact.proofs.Words.{pos, negsuc, List, [], ◌∷◌, decimal, signed_decimal, list_all}
-use Rattle.crx_compact.proofs.Words.{is_ascii_digit, ◌∙◌, ap, arith, is_blank, is_printable, code_text}
+use Rattle.crx_compact.proofs.Words.{is_ascii_digit, arith, is_blank, is_printable, code_text}
 use Rattle.crx_compact.proofs.Words.{IsPrintable, Code, Missing, Start, Step, DIGITS_LIMIT}
 use Rattle.std.specs.Str.{all_ascii_digits}
 use Rattle.std.proofs.lemmas.Fmt.{decimal_digit}

@@ -1,10 +1,10 @@
 -- What follows of an epoch and its rows from their being ones that can be written.
-use Rattle.crx_compact.proofs.Words.{◌≡◌, refl, ◌≢◌, ℕ, suc, ◌+◌, ◌-◌, ◌*◌, ◌<◌, true, false, not, ◌&&◌, ◌==◌}
-use Rattle.crx_compact.proofs.Words.{nat_eq, List, [], ◌∷◌, length, map, Result, Ok, list_all, AllByRecursion}
-use Rattle.crx_compact.proofs.Words.{sym, ◌∙◌, ap, arith, true≢false, and_parts, not-true, character_at}
-use Rattle.crx_compact.proofs.Words.{without_end_blanks, columns, text_difference, mark_of, by_position}
+use Rattle.crx_compact.proofs.Words.{◌≡◌, refl, ◌≢◌, ℕ, suc, ◌+◌, ◌-◌, ◌*◌, ◌<◌, true, not, ◌&&◌, ◌==◌}
+use Rattle.crx_compact.proofs.Words.{nat_eq, List, [], ◌∷◌, length, map, Ok, list_all, AllByRecursion}
+use Rattle.crx_compact.proofs.Words.{◌∙◌, ap, arith, and_parts, not-true, character_at}
+use Rattle.crx_compact.proofs.Words.{without_end_blanks, columns, text_difference, mark_of}
 use Rattle.crx_compact.proofs.Words.{is_kept, is_printable, Row, Epoch, has_satellite, are_different}
-use Rattle.crx_compact.proofs.Words.{IsWholeEpoch, Fault, each_place, begins_epoch, is_observation_flag}
+use Rattle.crx_compact.proofs.Words.{IsWholeEpoch, each_place, begins_epoch, is_observation_flag}
 use Rattle.crx_compact.proofs.Words.{Satellite, satellites_named, Count, epoch_text, each_place-same, at}
 use Rattle.crx_compact.proofs.Words.{at-without_end_blanks, columns-are, list_all-from_at, name-length}
 use Rattle.std.specs.Prelude.{nat_le, flat_map}

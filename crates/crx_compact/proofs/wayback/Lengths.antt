@@ -1,6 +1,6 @@
 -- No line that is written for an epoch is too long.
 use Rattle.crx_compact.proofs.Words.{◌≡◌, ℕ, zero, suc, ◌+◌, ◌-◌, ◌*◌, ◌^◌, ◌<◌, ◌≤◌, min, ℤ, pos, negsuc}
-use Rattle.crx_compact.proofs.Words.{Bool, true, false, List, [], ◌∷◌, ◌++◌, length, map, decimal}
+use Rattle.crx_compact.proofs.Words.{Bool, true, false, List, [], ◌∷◌, ◌++◌, length, map}
 use Rattle.crx_compact.proofs.Words.{if◌then◌else◌, signed_decimal, AllByRecursion, subst, arith, by_position}
 use Rattle.crx_compact.proofs.Words.{mark_of, text_difference, code_text, Row, Epoch, value_in, Code}
 use Rattle.crx_compact.proofs.Words.{WRITTEN_ORDER, DIGITS_LIMIT, SATELLITES_LIMIT, OBSERVATION_WIDTH}
@@ -9,7 +9,6 @@ use Rattle.crx_compact.proofs.Words.{newest_text, indicators_before, codes_of, s
 use Rattle.crx_compact.proofs.Words.{compact_epoch, Count, IsWithin, AreWhole, each_place-all}
 use Rattle.crx_compact.proofs.Words.{length-each_place, IsWholeEpoch, few_kept}
 use Rattle.std.specs.Prelude.{neg_ℤ, ◌<ℤ◌, flat_map}
-use Rattle.std.proofs.lemmas.Int.{ints}
 use Rattle.std.proofs.lemmas.Fmt.{length-decimal-le}
 use Rattle.std.proofs.lemmas.List.{length-append}
 use Rattle.std.proofs.Math.Nat.{pow-le-pow_right}

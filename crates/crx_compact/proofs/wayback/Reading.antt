@@ -3,8 +3,8 @@ use Rattle.crx_compact.proofs.Words.{◌≡◌, refl, ◌≢◌, ℕ, ◌+◌, �
 use Rattle.crx_compact.proofs.Words.{length, map, drop, Some, Result, Ok, Err, not, if◌then◌else◌, list_all}
 use Rattle.crx_compact.proofs.Words.{AllByRecursion, sym, ◌∙◌, ap, subst, arith, length-map, map-append}
 use Rattle.crx_compact.proofs.Words.{map-map, drop-append_seam, and_parts, is_blank, without_end_blanks}
-use Rattle.crx_compact.proofs.Words.{columns, code_text, IsPrintable, ReadLine, Content, Row, Epoch, Count}
-use Rattle.crx_compact.proofs.Words.{Here, Code, Fault, BadEpoch, WRITTEN_ORDER, CLOCK_WIDTH, back_to}
+use Rattle.crx_compact.proofs.Words.{columns, code_text, ReadLine, Content, Row, Epoch, Count}
+use Rattle.crx_compact.proofs.Words.{Here, Fault, BadEpoch, WRITTEN_ORDER, CLOCK_WIDTH, back_to}
 use Rattle.crx_compact.proofs.Words.{and_then, code_at, Marked, epoch_text, row_named, since_full, run_of}
 use Rattle.crx_compact.proofs.Words.{clock_arc, newest_text, satellite_line, epoch_line, compact_epoch}
 use Rattle.crx_compact.proofs.Words.{begins_epoch, epoch_count, names_in, Satellite, satellites_named}

@@ -1,20 +1,19 @@
 -- A satellite's line reads as its row.
 use Rattle.crx_compact.proofs.Words.{◌≡◌, refl, ℕ, zero, suc, ◌+◌, ◌-◌, ◌*◌, ◌^◌, ◌<◌, ◌≤◌, ℤ, Bool, true}
 use Rattle.crx_compact.proofs.Words.{false, cond, nat_eq, List, [], ◌∷◌, ◌++◌, length, map, slice_index_or}
-use Rattle.crx_compact.proofs.Words.{drop, All, Option, Some, None, if◌then◌else◌, Result, Ok, unwrap_or}
-use Rattle.crx_compact.proofs.Words.{list_all, AllByRecursion, bytes_eq, sym, ◌∙◌, ap, subst, arith}
-use Rattle.crx_compact.proofs.Words.{not-suc-le-zero, get_or_past, All-head, All-tail, IsWithin}
-use Rattle.crx_compact.proofs.Words.{IsMissingOrWithin, IsValue, begins_epoch, is_blank, without_end_blanks}
-use Rattle.crx_compact.proofs.Words.{text_difference, mark_of, by_position, code_text, IsPrintable, Row}
-use Rattle.crx_compact.proofs.Words.{Epoch, value_in, Code, Missing, Fault, WRITTEN_ORDER, OBSERVATION_WIDTH}
-use Rattle.crx_compact.proofs.Words.{CLOCK_WIDTH, each_place, back_to, stretch, code_at, Marked, run_of}
-use Rattle.crx_compact.proofs.Words.{since_full, row_named, arc_of, indicators_before, codes_of}
-use Rattle.crx_compact.proofs.Words.{satellite_line, cell_text, Satellite, RawEpoch, raw_run_of, code_in}
-use Rattle.crx_compact.proofs.Words.{value_of, Past, past_of_block, ReadCell, cells_read, cells_of}
-use Rattle.crx_compact.proofs.Words.{after_cells, are_marks, row_of_cells, satellite_line_read, AreWhole}
-use Rattle.crx_compact.proofs.Words.{each_place-all, index-each_place, length-each_place, raw_row, Count}
-use Rattle.crx_compact.proofs.Words.{code_of-code_text, at, at-without_end_blanks, columns-are}
-use Rattle.crx_compact.proofs.Words.{list_all-from_at}
+use Rattle.crx_compact.proofs.Words.{drop, All, Option, Some, None, Result, Ok, list_all, AllByRecursion}
+use Rattle.crx_compact.proofs.Words.{bytes_eq, sym, ◌∙◌, ap, subst, arith, not-suc-le-zero, get_or_past}
+use Rattle.crx_compact.proofs.Words.{All-head, All-tail, IsWithin, IsMissingOrWithin, IsValue, begins_epoch}
+use Rattle.crx_compact.proofs.Words.{is_blank, without_end_blanks, text_difference, mark_of, by_position}
+use Rattle.crx_compact.proofs.Words.{code_text, IsPrintable, Row, Epoch, value_in, Code, Missing, Fault}
+use Rattle.crx_compact.proofs.Words.{WRITTEN_ORDER, OBSERVATION_WIDTH, CLOCK_WIDTH, each_place, stretch}
+use Rattle.crx_compact.proofs.Words.{code_at, Marked, run_of, since_full, row_named, arc_of}
+use Rattle.crx_compact.proofs.Words.{indicators_before, codes_of, satellite_line, cell_text, Satellite}
+use Rattle.crx_compact.proofs.Words.{RawEpoch, raw_run_of, code_in, value_of, past_of_block, ReadCell}
+use Rattle.crx_compact.proofs.Words.{cells_read, cells_of, after_cells, are_marks, row_of_cells}
+use Rattle.crx_compact.proofs.Words.{satellite_line_read, AreWhole, each_place-all, index-each_place}
+use Rattle.crx_compact.proofs.Words.{length-each_place, raw_row, Count, code_of-code_text, at}
+use Rattle.crx_compact.proofs.Words.{at-without_end_blanks, columns-are, list_all-from_at}
 use Rattle.std.specs.Prelude.{flat_map}
 use Rattle.crx_rinex.specs.meaning.EpochLines.{IsClockOffset}
 use Rattle.crx_compact.specs.Laws.{CodesFit}
@@ -26,7 +25,6 @@ use Rattle.crx_compact.proofs.wayback.Cells.{AreWritten, cells-written, marks-wr
 use Rattle.crx_compact.proofs.wayback.Overlays.{at_past}
 use Rattle.crx_compact.proofs.wayback.Runs.{raw_run, codes-read, marked, rows_before, value-back, HasFlags}
 use Rattle.crx_compact.proofs.wayback.Runs.{marks-new}
-use Rattle.crx_compact.proofs.Characters.{bytes_eq-is}
 use Rattle.crx_compact.proofs.arcs.Bounds.{IsNear, near-within, code-printable}
 use Rattle.crx_compact.proofs.wayback.Facts.{unmarked, at-difference, difference-printable, trimmed-again}
 use Rattle.crx_text.proofs.Characters.{at-drop}

@@ -5,7 +5,7 @@ use Rattle.crx_compact.proofs.Words.{AllByRecursion, option_map, bytes_eq, â—Œâˆ
 use Rattle.crx_compact.proofs.Words.{without_end_blanks, text_difference, mark_of, by_position, patched}
 use Rattle.crx_compact.proofs.Words.{character_of, Row, Epoch, value_in, Code, Missing, WRITTEN_ORDER}
 use Rattle.crx_compact.proofs.Words.{back_to, stretch, code_at, Marked, epoch_text, row_named, since_full}
-use Rattle.crx_compact.proofs.Words.{run_of, arc_of, clock_arc, codes_of, indicators_before, newest_text}
+use Rattle.crx_compact.proofs.Words.{run_of, arc_of, codes_of, indicators_before, newest_text}
 use Rattle.crx_compact.proofs.Words.{RawRow, RawEpoch, block_of, raw_row_named, raw_run_of, marks_of, code_in}
 use Rattle.crx_compact.proofs.Words.{overlaid, since_start, value_since, value_of, index-each_place}
 use Rattle.crx_compact.proofs.Words.{length-each_place, IsMissingOrWithin, raw_row, raw_of, raws_of, at}

@@ -1,13 +1,12 @@
 -- The compact lines of an epoch can be in a file.
 use Rattle.crx_compact.proofs.Words.{◌≡◌, refl, ℕ, Bool, true, false, ◌&&◌, ◌||◌, List, [], ◌∷◌, ◌++◌, length}
 use Rattle.crx_compact.proofs.Words.{map, if◌then◌else◌, list_all, AllByRecursion, ◌∙◌, ap, arith, and_parts}
-use Rattle.crx_compact.proofs.Words.{character_at, without_end_blanks, text_difference, mark_of, is_kept}
-use Rattle.crx_compact.proofs.Words.{is_printable, code_text, Code, WRITTEN_ORDER, Row, Epoch, Count}
-use Rattle.crx_compact.proofs.Words.{begins_epoch, is_observation_flag, Marked, epoch_text, since_full}
-use Rattle.crx_compact.proofs.Words.{run_of, arc_of, clock_arc, newest_text, indicators_before, codes_of}
-use Rattle.crx_compact.proofs.Words.{satellite_line, epoch_line, cell_text, code_at, AreWhole}
-use Rattle.crx_compact.proofs.Words.{length-each_place, IsWholeEpoch, at, at-without_end_blanks}
-use Rattle.crx_compact.proofs.Words.{list_all-from_at}
+use Rattle.crx_compact.proofs.Words.{character_at, without_end_blanks, text_difference, mark_of, is_printable}
+use Rattle.crx_compact.proofs.Words.{code_text, Code, WRITTEN_ORDER, Row, Epoch, Count, begins_epoch}
+use Rattle.crx_compact.proofs.Words.{is_observation_flag, Marked, epoch_text, since_full, arc_of, newest_text}
+use Rattle.crx_compact.proofs.Words.{indicators_before, codes_of, satellite_line, epoch_line, cell_text}
+use Rattle.crx_compact.proofs.Words.{code_at, AreWhole, length-each_place, IsWholeEpoch, at}
+use Rattle.crx_compact.proofs.Words.{at-without_end_blanks, list_all-from_at}
 use Rattle.std.specs.Prelude.{flat_map}
 use Rattle.crx_header.specs.meaning.EpochColumns.{is_event_flag, is_event_line}
 use Rattle.crx_compact.specs.Laws.{has_no_epochs, LinesCanStand}
@@ -17,7 +16,7 @@ use Rattle.crx_compact.proofs.wayback.CodeTexts.{is_code_character, code-charact
 use Rattle.crx_compact.proofs.wayback.Cells.{AreWritten}
 use Rattle.crx_compact.proofs.wayback.Runs.{marked, begins_full, begins_later}
 use Rattle.crx_compact.proofs.Characters.{list_all-at, list_all-append}
-use Rattle.crx_compact.proofs.wayback.Facts.{head_tests, text-kept, text-head}
+use Rattle.crx_compact.proofs.wayback.Facts.{text-kept, text-head}
 use Rattle.crx_compact.proofs.wayback.Facts.{text-begins, at-difference, difference-printable}
 use Rattle.crx_compact.proofs.wayback.Rows.{IsRowOf, clock-printable, line-begins, lines-each, written-codes}
 use Rattle.crx_compact.proofs.wayback.Reading.{text-other}
