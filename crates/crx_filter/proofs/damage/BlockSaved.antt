@@ -1,7 +1,7 @@
 -- What is read after a damaged block is what the undamaged text has there.
 use Rattle.crx_filter.proofs.Words
 use Words.{ℕ, ◌≡◌, ◌+◌, ◌≤◌, true, false, cond, List, [], ◌∷◌, ◌++◌, map, length, Option, None, refl, ap, sym}
-use Words.{◌∙◌, subst, append_assoc, append-nil, and_parts, pieces_of, lines_of, ReadLine, Content, Overlong}
+use Words.{◌∙◌, append_assoc, append-nil, and_parts, pieces_of, lines_of, ReadLine, Content, Overlong}
 use Words.{seen, At, Epoch, begins_epoch, is_event_line, Observation, ReadEpoch, Choices, Item, Accepted}
 use Words.{Warned, header_has_ended, records_announced, records_left, types_in_force, Reading, WholeReading}
 use Words.{reading_from, ended_reading, continued_reading, AreInPlace, compact_unit, compact_lines}

@@ -8,7 +8,7 @@ use Words.{Epoch, IsWholeEpoch, printed_epoch, lines_text, Observation, epoch_li
 use Words.{Choices, is_date, Item, Accepted, header_has_ended, records_left, types_in_force, Reading}
 use Words.{WholeReading, reading_from, ended_reading, notices_text, warnings_in, result_of, marked_epochs}
 use Words.{compact_unit, compact_lines, version_line, program_line, compact_place, expanded_unit}
-use Words.{whole_compact, expanded, expanded_lines, printed_items, AreInPlace, ItemsAreRead, IsBetweenUnits}
+use Words.{whole_compact, expanded, expanded_lines, printed_items, AreInPlace, IsBetweenUnits}
 use Words.{lines_of_epochs, with_epochs, lines_after, IsDamaged}
 use Rattle.std.proofs.lemmas.List.{append_cancel_left, take-append-drop}
 use Rattle.crx_runs.specs.meaning.Results.{status_after}
@@ -33,8 +33,7 @@ use Rattle.crx_filter.proofs.damage.SavedText.{few-reversed, whole-block, epochs
 use Rattle.crx_filter.proofs.damage.SavedText.{epochs-back}
 use Rattle.crx_filter.proofs.damage.BlockSaved.{epochs-append, epochs-in_place, rest-in_place, epochs-header}
 use Rattle.crx_filter.proofs.damage.BlockSaved.{epochs-left, epochs-types, epochs-lines, back-between, up_to}
-use Rattle.crx_filter.proofs.damage.BlockSaved.{IsSaved, IsUndamaged, tail-saved, IsPlaced, placed}
-use Rattle.crx_filter.proofs.damage.BlockSaved.{text-parts}
+use Rattle.crx_filter.proofs.damage.BlockSaved.{IsUndamaged, tail-saved, IsPlaced, placed, text-parts}
 use Rattle.crx_filter.proofs.reading.Each.{all-append, all-parts, contents}
 
 -- ---- the parts of a damaged text

@@ -1,7 +1,7 @@
 -- Damaged compact text, cut into lines: those that the compaction wrote before the block and after it, and
 -- the lines in place of the block's.
 use Rattle.crx_filter.proofs.Words.{ℕ, ◌≡◌, ◌≢◌, ◌⊎◌, inl, inr, Bool, true, false, not, cond, List, [], ◌∷◌}
-use Rattle.crx_filter.proofs.Words.{◌++◌, map, refl, ap, sym, ◌∙◌, subst, append_assoc, append-nil, ◌==◌}
+use Rattle.crx_filter.proofs.Words.{◌++◌, map, refl, ap, sym, ◌∙◌, append_assoc, append-nil, ◌==◌}
 use Rattle.crx_filter.proofs.Words.{AllByRecursion, list_all, eqb_tells, map-append, flat_map-append}
 use Rattle.crx_filter.proofs.Words.{and_parts, Piece, InputLine, pieces_of, onto_first, line_of, lines_of}
 use Rattle.crx_filter.proofs.Words.{is_long, Content, seen, begins_epoch, lines_text, not-true}

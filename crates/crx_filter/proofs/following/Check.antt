@@ -1,6 +1,6 @@
 -- A check line by line reads as the whole reading does, and keeps its totals.
 use Rattle.crx_filter.proofs.Words.{ℕ, ◌+◌, false, List, [], length, refl, arith, ReadLine, Epoch, FileUnit}
-use Rattle.crx_filter.proofs.Words.{printed_unit, epoch_place, Item, types_in_force, warnings_in, Reading}
+use Rattle.crx_filter.proofs.Words.{printed_unit, epoch_place, Item, types_in_force, warnings_in}
 use Rattle.crx_filter.proofs.Words.{IsEndedBy, rinex_place, whole_rinex, rinex_reading, rinex_open, seen_of}
 use Rattle.crx_filter.proofs.Words.{seen_end, printed_items, checking, totals_of, no_choices}
 use Rattle.crx_filter.proofs.reading.Forward.{rinex-forward}

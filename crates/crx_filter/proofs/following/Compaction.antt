@@ -1,7 +1,7 @@
 -- Compaction line by line reads, keeps and writes as the compaction of all lines does.
 use Rattle.crx_filter.proofs.Words.{◌≡◌, ◌+◌, Bool, true, false, List, [], ◌∷◌, Some, None, refl, ap, sym}
 use Rattle.crx_filter.proofs.Words.{◌∙◌, Epoch, Observation, epoch_place, Marked, Tail, lines_after_tail}
-use Rattle.crx_filter.proofs.Words.{tail_after, Choices, Item, Accepted, Warned, types_in_force}
+use Rattle.crx_filter.proofs.Words.{Choices, Item, Accepted, Warned, types_in_force}
 use Rattle.crx_filter.proofs.Words.{epochs_accepted, is_at_every, is_in_full, marked_epochs, compact_unit}
 use Rattle.crx_filter.proofs.Words.{Written, compaction, written_of, rinex_open}
 use Rattle.crx_rinex.proofs.SoundEpochs.{sound-epoch_place}

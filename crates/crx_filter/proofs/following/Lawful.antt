@@ -1,9 +1,8 @@
 -- Both directions are lawful filters.
 use Rattle.crx_filter.proofs.Words
-use Words.{◌≡◌, List, ◌++◌, map, Option, Some, refl, sym, ap, subst, ◌∙◌, map-append, InputLine, ReadLine}
-use Words.{seen, At, Epoch, ReadEpoch, Choices, WholeReading, lines_text, Begins, whole_course, fault_of_stop}
-use Words.{rinex_place, compact_unit, compact_lines, whole_rinex, compacted_so_far, rinex_reading}
-use Words.{expanded_unit, whole_compact, expanded_lines, expanded_so_far, compact_reading, course_so_far}
+use Words.{◌≡◌, List, ◌++◌, map, Option, Some, refl, sym, ap, ◌∙◌, map-append, InputLine, ReadLine, seen, At}
+use Words.{Epoch, ReadEpoch, Choices, WholeReading, whole_course, fault_of_stop, rinex_place, compact_unit}
+use Words.{whole_rinex, rinex_reading, expanded_unit, whole_compact, compact_reading, course_so_far}
 use Words.{compaction_filter, expansion_filter, IsLawful}
 use Rattle.crx_filter.proofs.reading.Forward.{rinex-forward}
 use Rattle.crx_filter.proofs.reading.Prefixes.{text-more, whole-items}

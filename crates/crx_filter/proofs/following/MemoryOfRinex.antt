@@ -4,7 +4,7 @@ use Words.{ℕ, zero, suc, ◌≡◌, Bool, true, false, List, [], ◌∷◌, �
 use Words.{◌∙◌, ◌+◌, arith, At, none-some, ReadLine, Content, Fault, OpenEpoch, next_row, rows_wanted}
 use Words.{with_next_row, Epoch, Row, FileUnit, Observation, EpochStep, Going, Whole, Faulty, after_row}
 use Words.{epoch_step, when_wanted, Choices, Item, types_in_force, compaction_takes, memory_allowed}
-use Words.{place_takes, rinex_reading, Reading, takes_memory, checking, no_choices, totals_of, compaction}
+use Words.{place_takes, rinex_reading, takes_memory, checking, no_choices, totals_of, compaction}
 use Words.{made_of_epoch_step, rinex_begins, Written, compaction_seen, rinex_open, written_of, Completes}
 use Words.{Direction, Made, Notice, Seen, seen_next, seen_of, compact_unit, rinex_place}
 use Rattle.std.specs.Result.{is_ok}

@@ -1,7 +1,7 @@
 -- The end of the input, in both directions.
 use Rattle.crx_filter.proofs.Words.{ℕ, ◌≡◌, ◌+◌, Bool, List, [], length, drop, Some, refl, subst, arith}
-use Rattle.crx_filter.proofs.Words.{append-nil, length-drop, ReadLine, Epoch, Place, Here, Wrong, Wanted}
-use Rattle.crx_filter.proofs.Words.{Remains, ReadEpoch, Choices, Reading, WholeReading, reading_from}
+use Rattle.crx_filter.proofs.Words.{append-nil, length-drop, ReadLine, Place, Here, Wrong, Wanted}
+use Rattle.crx_filter.proofs.Words.{Remains, ReadEpoch, Choices, WholeReading, reading_from}
 use Rattle.crx_filter.proofs.Words.{ended_reading, is_skippable, warnings_in, seen_end, rinex_place}
 use Rattle.crx_filter.proofs.Words.{compact_unit, rinex_reading, compaction, rinex_open, written_of}
 use Rattle.crx_filter.proofs.Words.{compact_place, first_lines, fault_in_first_lines, expanded_unit}

@@ -1,7 +1,6 @@
 -- What a compaction has written.
-use Rattle.crx_filter.proofs.Words.{List, sym, subst, ReadLine, Choices, rinex_place, compact_unit}
-use Rattle.crx_filter.proofs.Words.{compact_lines, compacted, whole_rinex, compacted_so_far, lines_text}
-use Rattle.crx_filter.proofs.Words.{Begins, IsWrittenFirst}
+use Rattle.crx_filter.proofs.Words.{List, ReadLine, Choices, rinex_place, compact_unit, compacted}
+use Rattle.crx_filter.proofs.Words.{compacted_so_far, IsWrittenFirst}
 use Rattle.crx_filter.proofs.reading.Forward.{rinex-forward}
 use Rattle.crx_filter.proofs.reading.Prefixes.{text-more, reading-items, whole-items}
 

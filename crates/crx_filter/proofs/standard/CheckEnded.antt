@@ -5,7 +5,7 @@ use Words.{append-nil, length-map, none-some, InputLine, ReadLine, seen, Fault, 
 use Words.{OpenEpoch, Item, Accepted, Warned, is_at_start, Reading, WholeReading, Stop, AtFault, AtLines}
 use Words.{fault_at_end, ended_with, ended_reading, rinex_place, whole_rinex, rinex_reading, Phase, InEpoch}
 use Words.{Seen, kept_in, seen_end, AreInPlace, failed_by, fault_of_stop, printed_items, whole_reading_of}
-use Words.{Totals, checking, totals_of, printed_open, printed_so_far, no_choices, check_seen}
+use Words.{Totals, checking, totals_of, printed_open, no_choices, check_seen}
 use Rattle.crx_filter.specs.meaning.Standard.{first_header_line, version_in}
 use Rattle.crx_filter.specs.CheckByLine.{version_accepted}
 use Rattle.crx_filter.specs.CheckingLaws.{IsCheckEnded}

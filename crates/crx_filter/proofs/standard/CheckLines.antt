@@ -6,7 +6,7 @@ use Words.{Content, Overlong, Fault, is_end_of_header, Row, Epoch, Count, Header
 use Words.{printed_row, printed_epoch, OpenEpoch, Beginning, EventBegins, EpochBegins, beginning_of, opened}
 use Words.{rows_wanted, epoch_of, with_next_row, next_row, after_row, when_wanted, Item, Accepted}
 use Words.{header_has_ended, records_left, records_count_types, records_announced, counts_types, unless_wrong}
-use Words.{types_fault, header_line_fault, Reading, Stop, AtFault, AtLines, Looking, reading_within}
+use Words.{types_fault, header_line_fault, Stop, AtFault, AtLines, Looking, reading_within}
 use Words.{rinex_place, rinex_reading, made_of_epoch_step, made_of_beginning, rinex_open, Phase, InFirstLines}
 use Words.{InHeader, BetweenUnits, InEvent, InEpoch, LookingOn, Closed, Ended, Made, Completes, Step}
 use Words.{made_of_unit, made_in, with_records_left, step_of_made, phase_in_body, phase_of, failed_by}

@@ -1,5 +1,5 @@
 -- What passes a check comes back.
-use Rattle.crx_filter.proofs.Words.{ℕ, ◌≡◌, List, Option, Some, None, refl, ap, sym, ◌∙◌, subst, lines_of, At}
+use Rattle.crx_filter.proofs.Words.{ℕ, ◌≡◌, List, Option, Some, None, refl, ap, sym, ◌∙◌, lines_of, At}
 use Rattle.crx_filter.proofs.Words.{Choices, expanded, whole_of, findings_of, checked_by, checked}
 use Rattle.crx_filter.proofs.Words.{FilterResult, IsResult, Device}
 use Rattle.crx_filter.specs.meaning.Standard.{Findings}

@@ -1,7 +1,7 @@
 -- A text that is damaged in stretches, cut into lines: those that the compaction wrote, and those that come
 -- in the stretches.
 use Rattle.crx_filter.proofs.Words
-use Words.{ℕ, ◌≡◌, ◌⊎◌, inl, inr, true, List, [], ◌∷◌, ◌++◌, map, length, drop, refl, ap, sym, ◌∙◌, subst}
+use Words.{ℕ, ◌≡◌, ◌⊎◌, inl, inr, true, List, [], ◌∷◌, ◌++◌, map, length, drop, refl, ap, sym, ◌∙◌}
 use Words.{append_assoc, append-nil, AllByRecursion, list_all, drop-append_seam, and_parts, not-true, Piece}
 use Words.{InputLine, pieces_of, lines_of, is_long, lines_text, Content, seen, Epoch, Choices, Item, Accepted}
 use Words.{Warned, header_has_ended, compact_lines, lines_after, OfCopiedLines, HaveNoReturns, AreInPlace}

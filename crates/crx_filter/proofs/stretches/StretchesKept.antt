@@ -1,5 +1,5 @@
 -- What a run keeps of damaged text follows from what it is, by the laws.
-use Rattle.crx_filter.proofs.Words.{ℕ, List, Option, subst, At, Choices, expanded, IsResult, Device}
+use Rattle.crx_filter.proofs.Words.{ℕ, List, Option, At, Choices, expanded, IsResult, Device}
 use Rattle.crx_filter.specs.meaning.Stretches.{KeepsUndamaged, WritesWholeUnits}
 use Rattle.crx_filter.proofs.stretches.StretchesSaved.{rest-kept, whole-first}
 

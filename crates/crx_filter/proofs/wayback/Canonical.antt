@@ -1,8 +1,7 @@
 -- Compact text is canonical: a file's normal form is compacted as the file, and comes back from that text.
-use Rattle.crx_filter.proofs.Words.{ℕ, ◌≡◌, List, None, map, ap, sym, ◌∙◌, Option, subst, lines_of, seen, At}
-use Rattle.crx_filter.proofs.Words.{Epoch, Choices, compact_unit, compacted, expanded, WholeReading}
-use Rattle.crx_filter.proofs.Words.{normal_form, whole_of, HasNormalForm, written_well, result_of}
-use Rattle.crx_filter.proofs.Words.{FilterResult, IsResult, Device}
+use Rattle.crx_filter.proofs.Words.{ℕ, ◌≡◌, List, None, map, ap, sym, ◌∙◌, Option, lines_of, seen, At, Epoch}
+use Rattle.crx_filter.proofs.Words.{Choices, compact_unit, compacted, expanded, WholeReading, normal_form}
+use Rattle.crx_filter.proofs.Words.{whole_of, HasNormalForm, result_of, FilterResult, IsResult, Device}
 use Rattle.crx_filter.specs.meaning.Canonical.{CompactsAsNormal, IsCanonical, DependsOnNormalForm}
 use Rattle.crx_filter.proofs.wayback.NormalForm.{read-as_normal}
 use Rattle.crx_filter.proofs.wayback.Standard.{same-reading, normal-comes_back}

@@ -1,12 +1,12 @@
 -- What was accepted of a RINEX file, written again and read again: the units without the warnings between
 -- them, with the same header, events and types in force.
 use Rattle.crx_filter.proofs.Words
-use Words.{ℕ, zero, suc, ◌≡◌, ◌+◌, ◌-◌, ◌<◌, Bool, true, false, cond, List, [], ◌∷◌, ◌++◌, map, length, None}
+use Words.{ℕ, zero, suc, ◌≡◌, ◌+◌, ◌-◌, ◌<◌, Bool, true, false, cond, List, [], ◌∷◌, map, length, None}
 use Words.{refl, ap, sym, ◌∙◌, arith, length-append, map-append, length-map, ReadLine, Content, Epoch, Place}
 use Words.{Here, first_line, FileUnit, HeaderLine, EventLine, EventRecord, Observation, types_of, Item}
 use Words.{Accepted, Warned, is_at_start, header_has_ended, records_left, records_count_types}
 use Words.{declaring_lines, types_in_force, types_fault, header_line_fault, event_record, unit_place, Reading}
-use Words.{AtLines, reading_within, reading_from, ended_with, ended_reading, whole_reading, continued_reading}
+use Words.{AtLines, reading_within, reading_from, ended_reading, whole_reading, continued_reading}
 use Words.{IsReadForward, AreInPlace, written_lines}
 use Rattle.std.proofs.lemmas.List.{drop_all}
 use Rattle.crx_filter.proofs.reading.Resuming.{within-here, within-wanted, enough-units, resumed}

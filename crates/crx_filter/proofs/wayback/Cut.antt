@@ -1,8 +1,8 @@
 -- Lines that are written and cut again are these lines; and what is read of an input holds no LF and isn't
 -- too long.
 use Rattle.crx_filter.proofs.Words
-use Words.{ℕ, ◌≡◌, ◌≢◌, ◌≤◌, true, false, cond, ◌⊎◌, inl, inr, List, [], ◌∷◌, map, length, refl, ap, sym, ◌∙◌}
-use Words.{subst, append_assoc, ⊤, ◌==◌, AllByRecursion, All-head, All-tail, All-cons, All-nil, ltb-false}
+use Words.{ℕ, ◌≡◌, ◌≢◌, ◌≤◌, true, false, cond, ◌⊎◌, inl, inr, List, [], ◌∷◌, map, length, refl, ap, ◌∙◌}
+use Words.{append_assoc, ⊤, ◌==◌, AllByRecursion, All-head, All-tail, All-cons, All-nil, ltb-false}
 use Words.{eqb_tells, Piece, InputLine, pieces_of, onto_first, ends_with_return, without_return, line_of}
 use Words.{lines_of, is_long, HasNoFeed, ReadLine, Content, Overlong, seen, LINE_LIMIT, lines_text}
 use Rattle.std.proofs.lemmas.Bool.{le-ltb}

@@ -3,15 +3,15 @@
 use Rattle.crx_filter.proofs.Words
 use Words.{ℕ, zero, suc, ◌≡◌, ◌+◌, Bool, true, false, cond, List, [], ◌∷◌, ◌++◌, map, length, drop, Option}
 use Words.{Some, None, refl, ap, sym, ◌∙◌, subst, arith, ◌||◌, ◌-◌, ⊤, AllByRecursion, list_all, is_some}
-use Words.{and_parts, not-true, HasNoFeed, Piece, InputLine, pieces_of, ends_with_return, line_of, lines_of}
+use Words.{and_parts, not-true, HasNoFeed, Piece, InputLine, line_of, lines_of}
 use Words.{lines_text, ReadLine, Content, Overlong, seen, At, Fault, BadEpoch, is_event_line, records_in}
 use Words.{is_end_of_header, Count, types_of, IsWholeEpoch, Epoch, Place, Here, Wrong, Wanted, first_line}
 use Words.{one_line, printed_epoch, FileUnit, HeaderLine, EventLine, EventRecord, Observation, printed_unit}
 use Words.{ReadEpoch, epoch_at, RawEpoch, IsGood, Choices, compact_place, compact_epoch_place, event_line}
 use Words.{as_observation, raws_kept, first_lines, whole_compact, expanded_unit, expanded, Item, Accepted}
 use Words.{Warned, is_at_start, header_has_ended, records_left, records_count_types, declaring_lines}
-use Words.{types_in_force, Reading, WholeReading, Stop, AtFault, AtLines, Looking, is_skipped, reading_from}
-use Words.{fault_at_end, ended_with, ended_reading, printed_items, IsStandard, types_fault, header_line_fault}
+use Words.{types_in_force, WholeReading, Stop, AtFault, AtLines, Looking, is_skipped, reading_from}
+use Words.{fault_at_end, ended_with, ended_reading, printed_items, types_fault, header_line_fault}
 use Words.{header_line, event_record, OfCopiedLine, OfCopiedLines, HaveNoReturns, written_lines, FilterResult}
 use Words.{IsResult, Device, ItemsAreRead, IsInPlace, AreInPlace, compact_reading}
 use Rattle.crx_filter.specs.meaning.Expanded.{rinex_unit}

@@ -1,5 +1,5 @@
 -- The two lines that compact text begins with are read, and can be cut off again.
-use Rattle.crx_filter.proofs.Words.{ℕ, zero, suc, ◌≡◌, ◌≢◌, ◌+◌, true, false, List, [], ◌∷◌, ◌++◌, take, drop}
+use Rattle.crx_filter.proofs.Words.{ℕ, zero, suc, ◌≡◌, ◌≢◌, true, false, List, [], ◌∷◌, ◌++◌, take, drop}
 use Rattle.crx_filter.proofs.Words.{replicate, length, refl, ap, arith, subst, length-append, Ok, list_all}
 use Rattle.crx_filter.proofs.Words.{bytes_eq, drop-append_seam, All-cons, All-nil, ne_eqb, and_parts}
 use Rattle.crx_filter.proofs.Words.{and_from, HasNoFeed, ends_with_return, without_end_blanks, ReadLine}

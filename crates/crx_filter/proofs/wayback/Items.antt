@@ -1,13 +1,12 @@
 -- What was accepted by a compaction, and how its compact text is read: the same header, events and types in
 -- force.
 use Rattle.crx_filter.proofs.Words
-use Words.{ℕ, ◌≡◌, ◌+◌, Bool, true, false, cond, List, [], ◌∷◌, ◌++◌, map, length, Option, Some, None, Ok}
-use Words.{refl, ap, sym, ◌∙◌, arith, append-nil, ◌||◌, drop, is_some, length-map, ReadLine, Content, Row}
-use Words.{Epoch, Here, FileUnit, HeaderLine, EventLine, EventRecord, Observation, is_event_line, records_in}
-use Words.{Count, Marked, compact_epoch, epoch_line, RawEpoch, block_of, ReadEpoch, epoch_at, LinesCanStand}
-use Words.{Item, Accepted, records_left, types_in_force, types_fault, header_line_fault, is_interrupted}
-use Words.{is_in_full, marked_epochs, raws_kept, event_line, as_observation, compact_epoch_place}
-use Words.{compact_place, AreInPlace}
+use Words.{ℕ, ◌≡◌, ◌+◌, Bool, true, false, List, [], ◌∷◌, map, length, Option, Some, None, Ok, refl, ap, sym}
+use Words.{◌∙◌, arith, append-nil, ◌||◌, drop, is_some, length-map, ReadLine, Content, Row, Epoch, Here}
+use Words.{FileUnit, HeaderLine, EventLine, EventRecord, Observation, is_event_line, records_in, Count}
+use Words.{Marked, compact_epoch, epoch_line, RawEpoch, block_of, ReadEpoch, epoch_at, LinesCanStand, Item}
+use Words.{Accepted, records_left, types_in_force, is_interrupted, is_in_full, marked_epochs, raws_kept}
+use Words.{event_line, as_observation, compact_epoch_place, compact_place, AreInPlace}
 use Rattle.crx_compact.specs.meaning.Compaction.{since_full, run_of, satellite_line}
 use Rattle.crx_compact.specs.Laws.{AreWhole}
 use Rattle.crx_compact.specs.ReadingLaws.{raws_of, read_of, lines_of_epoch, EpochReadsBack}

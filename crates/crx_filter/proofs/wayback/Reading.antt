@@ -1,7 +1,7 @@
 -- The lines that a compaction wrote, read one unit after another; and what an input's lines give to the lines
 -- that are copied.
 use Rattle.crx_filter.proofs.Words
-use Words.{ℕ, ◌+◌, Bool, cond, List, [], ◌∷◌, length, drop, Option, None, Result, Ok, Err, subst}
+use Words.{ℕ, Bool, cond, List, [], ◌∷◌, drop, Option, None, Result, Ok, Err, subst}
 use Words.{AllByRecursion, ReadLine, Content, Overlong, Fault, Epoch, Place, Here, Wrong, Wanted, after_lines}
 use Words.{then_place, one_line, first_line, FileUnit, HeaderLine, EventRecord, Observation, HeadLine}
 use Words.{EventHead, EpochHead, head_of, Count, begun_by, unit_begun, epoch_place, Item, is_at_start}

@@ -1,15 +1,14 @@
 -- A file comes back byte for byte only where no copied line ends in CR: else it comes back with fewer bytes
 -- 13. So it is standard.
 use Rattle.crx_filter.proofs.Words
-use Words.{ℕ, ◌≡◌, ◌+◌, ◌<◌, ◌≤◌, Bool, true, false, List, [], ◌∷◌, ◌++◌, map, length, drop, Option, Some}
-use Words.{None, refl, ap, sym, ◌∙◌, arith, ◌⊎◌, inl, inr, AllByRecursion, list_all, HasNoFeed}
-use Words.{ends_with_return, without_return, lines_of, ReadLine, seen, is_printable, Fault, Epoch}
-use Words.{printed_epoch, lines_text, HeaderLine, EventLine, EventRecord, Observation, ReadEpoch}
-use Words.{compact_epoch, LinesCanStand, IsGood, Choices, is_date, Item, Accepted, Warned, types_in_force}
-use Words.{WholeReading, Stop, AtLines, is_skipped, reading_from, fault_at_end, ended_with, ended_reading}
-use Words.{FilterResult, marked_epochs, compact_lines, version_line, program_line, compact_place, first_lines}
-use Words.{whole_compact, expanded, expanded_unit, expanded_lines, whole_of, AreInPlace, OfCopiedLines}
-use Words.{HaveNoReturns}
+use Words.{ℕ, ◌≡◌, ◌+◌, ◌<◌, ◌≤◌, Bool, true, false, List, [], ◌∷◌, ◌++◌, map, drop, Option, Some, None, refl}
+use Words.{ap, sym, ◌∙◌, arith, ◌⊎◌, inl, inr, AllByRecursion, list_all, HasNoFeed, ends_with_return}
+use Words.{without_return, lines_of, ReadLine, seen, is_printable, Fault, Epoch, printed_epoch, lines_text}
+use Words.{HeaderLine, EventLine, EventRecord, Observation, ReadEpoch, compact_epoch, LinesCanStand, IsGood}
+use Words.{Choices, is_date, Item, Accepted, Warned, types_in_force, WholeReading, Stop, AtLines, is_skipped}
+use Words.{reading_from, ended_with, ended_reading, FilterResult, marked_epochs, compact_lines, version_line}
+use Words.{program_line, compact_place, first_lines, whole_compact, expanded, expanded_unit, expanded_lines}
+use Words.{whole_of, AreInPlace, OfCopiedLines, HaveNoReturns}
 use Rattle.crx_filter.specs.WayBack.{IsStandardWhereSame}
 use Rattle.crx_filter.proofs.Choosing.{by_bool}
 use Rattle.crx_filter.proofs.reading.WhatWasRead.{items-read}

@@ -6,9 +6,8 @@ use Words.{EpochHead, head_of, begun_by, unit_begun, epoch_place, Place, Here, a
 use Words.{one_line, first_line, FileUnit, HeaderLine, EventLine, EventRecord, Observation, RawEpoch}
 use Words.{ReadEpoch, epoch_at, Item, Accepted, Warned, is_at_start, records_count_types, types_in_force}
 use Words.{unless_wrong, types_fault, header_line_fault, header_line, event_record, unit_place, WholeReading}
-use Words.{Stop, AtLines, is_skipped, reading_from, fault_at_end, ended_with, ended_reading, rinex_place}
-use Words.{whole_rinex, raws_kept, as_observation, compact_epoch_place, compact_place, first_lines}
-use Words.{whole_compact}
+use Words.{Stop, AtLines, is_skipped, reading_from, ended_with, ended_reading, rinex_place, whole_rinex}
+use Words.{raws_kept, as_observation, compact_epoch_place, compact_place, first_lines, whole_compact}
 use Rattle.crx_filter.proofs.Choosing.{by_bool}
 use Rattle.crx_filter.proofs.reading.WhatStands.{of-unit, of-compact}
 use Rattle.crx_filter.proofs.reading.KeptThroughout.{within-kept}

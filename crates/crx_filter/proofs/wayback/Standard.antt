@@ -4,7 +4,7 @@ use Rattle.crx_filter.proofs.Words
 use Words.{ℕ, zero, suc, ◌≡◌, ◌≢◌, ◌+◌, Bool, true, false, cond, ◌⊎◌, inl, inr, List, [], ◌∷◌, map, length}
 use Words.{drop, Option, Some, None, refl, ap, sym, ◌∙◌, subst, ◌==◌, AllByRecursion, list_all, eqb_tells}
 use Words.{and_parts, Piece, InputLine, pieces_of, onto_first, ends_with_return, line_of, lines_of, is_long}
-use Words.{ReadLine, seen, Fault, At, Epoch, Place, FileUnit, Choices, Item, Accepted, Reading, WholeReading}
+use Words.{ReadLine, seen, Fault, At, Epoch, Place, FileUnit, Choices, Item, Accepted, WholeReading}
 use Words.{Stop, AtLines, is_skipped, after_fault, reading_within, fault_at_end, ended_with, ended_reading}
 use Words.{lines_text, rinex_place, whole_rinex, rinex_reading, printed_items, OfCopiedLines, HaveNoReturns}
 use Words.{written_well, not-true}

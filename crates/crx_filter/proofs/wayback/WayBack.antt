@@ -4,12 +4,11 @@ use Words.{ℕ, ◌≡◌, ◌+◌, ◌*◌, ◌≤◌, Bool, true, false, cond,
 use Words.{refl, ap, ◌∙◌, arith, nat_lt, not, AllByRecursion, list_all, ltb-false, lines_of, ends_with_return}
 use Words.{ReadLine, Content, seen, is_printable, Fault, At, TYPES_LIMIT, Epoch, lines_text, FileUnit}
 use Words.{HeaderLine, EventLine, EventRecord, Observation, compact_epoch, ReadEpoch, Choices, is_date, Item}
-use Words.{Accepted, Warned, is_at_start, header_has_ended, records_left, types_in_force, Reading}
-use Words.{WholeReading, Stop, AtFault, AtLines, Looking, is_skipped, reading_from, fault_at_end, ended_with}
-use Words.{ended_reading, warnings_in, written_lines, result_of, rinex_place, marked_epochs, whole_rinex}
-use Words.{version_line, program_line, compact_lines, rinex_reading, compact_place, whole_compact}
-use Words.{expanded_unit, expanded, printed_items, AreInPlace, OfCopiedLine, OfCopiedLines, HaveNoReturns}
-use Words.{written_well}
+use Words.{Accepted, Warned, is_at_start, header_has_ended, records_left, types_in_force, WholeReading, Stop}
+use Words.{AtFault, AtLines, Looking, is_skipped, reading_from, fault_at_end, ended_with, ended_reading}
+use Words.{warnings_in, written_lines, result_of, rinex_place, marked_epochs, whole_rinex, version_line}
+use Words.{program_line, compact_lines, rinex_reading, compact_place, whole_compact, expanded_unit, expanded}
+use Words.{printed_items, AreInPlace, OfCopiedLine, OfCopiedLines, HaveNoReturns, written_well}
 use Rattle.crx_compact.proofs.wayback.Lengths.{lines-short}
 use Rattle.crx_filter.specs.meaning.Expanded.{expansion_result}
 use Rattle.crx_filter.specs.WayBack.{ComesBack}
