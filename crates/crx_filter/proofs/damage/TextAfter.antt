@@ -23,37 +23,33 @@ lines_on every (Accepted unit ∷ later) before = lines_on every later before ++
     (later ++ before) unit
 lines_on every (Warned at ∷ later) before = lines_on every later before
 
-pub written-on : (every : Option ℕ) (later before : List (Item Epoch)) → written_lines (body_unit every)
-    (later ++ before) ≡ written_lines (body_unit every) before ++ lines_on every later before
-written-on every [] before = sym (append-nil (written_lines (body_unit every) before))
-written-on every (Accepted unit ∷ later) before = ap (λ ls. ls ++ body_unit every (later ++ before) unit)
-    (written-on every later before) ∙ append_assoc (written_lines (body_unit every) before)
-    (lines_on every later before) (body_unit every (later ++ before) unit)
-written-on every (Warned at ∷ later) before = written-on every later before
+module _ (every : Option ℕ) where
+  pub written-on : (later before : List (Item Epoch)) → written_lines (body_unit every) (later ++ before)
+      ≡ written_lines (body_unit every) before ++ lines_on every later before
+  written-on [] before = sym (append-nil (written_lines (body_unit every) before))
+  written-on (Accepted unit ∷ later) before = ap (λ ls. ls ++ body_unit every (later ++ before) unit)
+      (written-on later before) ∙ append_assoc (written_lines (body_unit every) before)
+      (lines_on every later before) (body_unit every (later ++ before) unit)
+  written-on (Warned at ∷ later) before = written-on later before
 
--- ---- they are read as their units
+  -- ---- they are read as their units
 
-pub reads-on : (every : Option ℕ) (skip : Bool) (number : ℕ) (later before : List (Item Epoch))
-    → AreInPlace (later ++ before) → reading_from compact_place skip
-    (read_back every before) number (map Content (lines_on every later before)) ≡ record {
-      items = read_back every (later ++ before);
-      stop = AtLines (number + length (lines_on every later before)) [];
-    }
-reads-on every skip number [] before h = within-wanted compact_place skip 0 _ number []
-    (compact-forward.wants (read_back every before)) ∙ at-line _ number _ (omega arith)
-reads-on every skip number (Warned at ∷ later) before h = reads-on every skip number later before h.1
-reads-on every skip number (Accepted unit ∷ later) before h =
-    let first = lines_on every later before in
-    let more = body_unit every (later ++ before) unit in
-    let same = length-map more Content in
-    let all = length-append first more in
-    let here = unit-here every _ unit h ∙ ap (λ n. Here (unit_back every (later ++ before)
-    unit) n) (sym same) in
-    ap (λ ls. reading_from compact_place skip (read_back every before) number ls) (map-append Content first
-    more) ∙ resumed compact_place compact-forward skip (read_back every before) number (map Content first)
-    (map Content more) ∙ ap (λ r. continued_reading compact_place skip r (map Content more))
-    (reads-on every skip number later before h.1) ∙ one-unit compact_place compact-forward skip
-    _ (number + length first) (map Content more) _ here ∙ at-line _ _ _ (omega (arith, same, all))
+  pub reads-on : (skip : Bool) (number : ℕ) (later before : List (Item Epoch)) → AreInPlace (later ++ before) → reading_from compact_place skip (read_back every before) number (map Content (lines_on every later before)) ≡ record { items = read_back every (later ++ before); stop = AtLines (number + length (lines_on every later before)) [] }
+  reads-on skip number [] before h = within-wanted compact_place skip 0 _ number []
+      (compact-forward.wants (read_back every before)) ∙ at-line _ number _ (omega arith)
+  reads-on skip number (Warned at ∷ later) before h = reads-on skip number later before h.1
+  reads-on skip number (Accepted unit ∷ later) before h =
+      let first = lines_on every later before in
+      let more = body_unit every (later ++ before) unit in
+      let same = length-map more Content in
+      let all = length-append first more in
+      let here = unit-here every _ unit h ∙ ap (λ n. Here (unit_back every (later ++ before)
+      unit) n) (sym same) in
+      ap (λ ls. reading_from compact_place skip (read_back every before) number ls) (map-append Content first
+      more) ∙ resumed compact_place compact-forward skip (read_back every before) number (map Content first)
+      (map Content more) ∙ ap (λ r. continued_reading compact_place skip r (map Content more))
+      (reads-on skip number later before h.1) ∙ one-unit compact_place compact-forward skip
+      _ (number + length first) (map Content more) _ here ∙ at-line _ _ _ (omega (arith, same, all))
 
 -- ---- all starts anew
 

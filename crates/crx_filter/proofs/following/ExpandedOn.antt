@@ -53,58 +53,51 @@ abbrev FollowsOnce : Choices → List ReadLine → ReadLine → Type 0
 FollowsOnce choices lines line = FollowsAs choices lines line Wanted (first_lines (lines ++ line ∷ []))
     (fed_once (seen_next expansion (seen_by choices lines Wanted) line))
 
-by-once : (choices : Choices) (lines : List ReadLine) (line : ReadLine) → FollowsOnce choices lines line
-    → FollowsBy choices lines line Wanted (first_lines (lines ++ line ∷ []))
-by-once choices lines line once =
-    let seen = seen_by choices lines Wanted in
-    rw (fed-once expansion seen line (quiet-elsewhere expansion seen line
-    (made_in expansion seen.phase seen.types seen.kept line) refl)) once
+module _ (choices : Choices) where
+  by-once : (lines : List ReadLine) (line : ReadLine) → FollowsOnce choices lines line
+      → FollowsBy choices lines line Wanted (first_lines (lines ++ line ∷ []))
+  by-once lines line once =
+      let seen = seen_by choices lines Wanted in
+      rw (fed-once expansion seen line (quiet-elsewhere expansion seen line
+      (made_in expansion seen.phase seen.types seen.kept line) refl)) once
 
--- a fault in the first two lines is never skipped
-ends : (choices : Choices) (count : ℕ) (line : ReadLine) (fault : Fault) → fed_once (step_of_made expansion
-    (seen_in choices count (InFirstLines count) [] None) line (Fails fault)) ≡ record {
-      warned = [];
-      failed = Some (record { line = count + 1; fault = fault });
-      handed_out = [];
-      next = seen_in choices (count + 1) (Ended (record { line = count + 1; fault = fault })) [] None;
-    }
-ends choices count line fault = cc (failed-ends expansion (seen_in choices count (InFirstLines count) [] None)
-    line fault (never-before choices.skip (is_skippable fault)))
+  -- a fault in the first two lines is never skipped
+  ends : (count : ℕ) (line : ReadLine) (fault : Fault) → fed_once (step_of_made expansion (seen_in choices count (InFirstLines count) [] None) line (Fails fault)) ≡ record { warned = []; failed = Some (record { line = count + 1; fault = fault }); handed_out = []; next = seen_in choices (count + 1) (Ended (record { line = count + 1; fault = fault })) [] None }
+  ends count line fault = cc (failed-ends expansion (seen_in choices count (InFirstLines count) [] None)
+      line fault (never-before choices.skip (is_skippable fault)))
 
--- the first line
-first-line : (choices : Choices) (line : ReadLine)
-    → FollowsBy choices [] line (first_lines []) (first_lines (line ∷ []))
-first-line choices line = by-once choices [] line (by_line line)
-  where
-    by_result : (content : List ℕ) (r : Result (List ℕ) Fault)
-        → crinex_version content ≡ r → FollowsOnce choices [] (Content content)
-    by_result content (Ok version) e =
-        rw e (record { next = refl; handed_out = refl; warned = refl; failed = refl })
-    by_result content (Err fault) e = rw (e, ends choices 0 (Content content) fault)
-        (record { next = refl; handed_out = refl; warned = refl; failed = refl })
+  -- the first line
+  first-line : (line : ReadLine) → FollowsBy choices [] line (first_lines []) (first_lines (line ∷ []))
+  first-line line = by-once [] line (by_line line)
+    where
+      by_result : (content : List ℕ) (r : Result (List ℕ) Fault)
+          → crinex_version content ≡ r → FollowsOnce choices [] (Content content)
+      by_result content (Ok version) e =
+          rw e (record { next = refl; handed_out = refl; warned = refl; failed = refl })
+      by_result content (Err fault) e = rw (e, ends 0 (Content content) fault)
+          (record { next = refl; handed_out = refl; warned = refl; failed = refl })
 
-    by_line : (l : ReadLine) → FollowsOnce choices [] l
-    by_line Overlong = rw (ends choices 0 Overlong LineTooLong)
-        (record { next = refl; handed_out = refl; warned = refl; failed = refl })
-    by_line (Content content) = by_result content (crinex_version content) refl
+      by_line : (l : ReadLine) → FollowsOnce choices [] l
+      by_line Overlong = rw (ends 0 Overlong LineTooLong)
+          (record { next = refl; handed_out = refl; warned = refl; failed = refl })
+      by_line (Content content) = by_result content (crinex_version content) refl
 
--- the second line, the first being good
-second-line : (choices : Choices) (first : List ℕ) (line : ReadLine) (version : List ℕ)
-    → crinex_version first ≡ Ok version
-    → FollowsBy choices (Content first ∷ []) line Wanted (first_lines (Content first ∷ line ∷ []))
-second-line choices first line version good = by-once choices (Content first ∷ []) line (by_line line)
-  where
-    by_result : (content : List ℕ) (r : Result (List ℕ) Fault)
-        → crinex_program content ≡ r → FollowsOnce choices (Content first ∷ []) (Content content)
-    by_result content (Ok program) e =
-        rw good (rw e (record { next = refl; handed_out = refl; warned = refl; failed = refl }))
-    by_result content (Err fault) e = rw good (rw (e, ends choices 1 (Content content) fault)
-        (record { next = refl; handed_out = refl; warned = refl; failed = refl }))
+  -- the second line, the first being good
+  second-line : (first : List ℕ) (line : ReadLine) (version : List ℕ) → crinex_version first ≡ Ok version
+      → FollowsBy choices (Content first ∷ []) line Wanted (first_lines (Content first ∷ line ∷ []))
+  second-line first line version good = by-once (Content first ∷ []) line (by_line line)
+    where
+      by_result : (content : List ℕ) (r : Result (List ℕ) Fault)
+          → crinex_program content ≡ r → FollowsOnce choices (Content first ∷ []) (Content content)
+      by_result content (Ok program) e =
+          rw good (rw e (record { next = refl; handed_out = refl; warned = refl; failed = refl }))
+      by_result content (Err fault) e = rw good (rw (e, ends 1 (Content content) fault)
+          (record { next = refl; handed_out = refl; warned = refl; failed = refl }))
 
-    by_line : (l : ReadLine) → FollowsOnce choices (Content first ∷ []) l
-    by_line Overlong = rw good (rw (ends choices 1 Overlong LineTooLong)
-        (record { next = refl; handed_out = refl; warned = refl; failed = refl }))
-    by_line (Content content) = by_result content (crinex_program content) refl
+      by_line : (l : ReadLine) → FollowsOnce choices (Content first ∷ []) l
+      by_line Overlong = rw good (rw (ends 1 Overlong LineTooLong)
+          (record { next = refl; handed_out = refl; warned = refl; failed = refl }))
+      by_line (Content content) = by_result content (crinex_program content) refl
 
 -- where one of the two lines is wanted, there is none, or a good first line alone
 pub data IsBeforeHeader (lines : List ReadLine) : Type 0 where

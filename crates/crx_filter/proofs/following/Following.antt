@@ -108,53 +108,41 @@ records-phase zero counted = refl
 records-phase (suc left) counted = refl
 
 -- a phase after a unit is no open epoch, and no fault
-kept-with_records : {U O K : Type 0} (direction : Direction U O K) (left : ℕ) (counted : Bool) (kept : K)
-    → kept_in direction (with_records_left left counted) kept ≡ kept
-kept-with_records direction zero counted kept = refl
-kept-with_records direction (suc left) counted kept = refl
+module _ {U O K : Type 0} (direction : Direction U O K) where
+  kept-with_records : (left : ℕ) (counted : Bool) (kept : K)
+      → kept_in direction (with_records_left left counted) kept ≡ kept
+  kept-with_records zero counted kept = refl
+  kept-with_records (suc left) counted kept = refl
 
-kept-after_record : {U O K : Type 0} (direction : Direction U O K) (phase : Phase O) (kept : K)
-    → kept_in direction (after_record phase) kept ≡ kept
-kept-after_record direction (InEvent left counted) kept = kept-with_records direction (left - 1) counted kept
-kept-after_record direction phase kept = refl
+  kept-after_record : (phase : Phase O) (kept : K) → kept_in direction (after_record phase) kept ≡ kept
+  kept-after_record (InEvent left counted) kept = kept-with_records (left - 1) counted kept
+  kept-after_record phase kept = refl
 
-kept-after_unit : {U O K : Type 0} (direction : Direction U O K) (phase : Phase O) (unit : FileUnit U)
-    (kept : K) → kept_in direction (phase_after phase unit) kept ≡ kept
-kept-after_unit direction phase (HeaderLine line) kept = elim (is_end_of_header line) as
-    (λ b. kept_in direction (cond b BetweenUnits (InHeader false)) kept ≡ kept) [ true ↦ refl | false ↦ refl ]
-kept-after_unit direction phase (EventLine line) kept =
-    kept-with_records direction (records_announced line) (counts_types line) kept
-kept-after_unit direction phase (EventRecord line) kept = kept-after_record direction phase kept
-kept-after_unit direction phase (Observation epoch) kept = refl
+  kept-after_unit : (phase : Phase O) (unit : FileUnit U) (kept : K)
+      → kept_in direction (phase_after phase unit) kept ≡ kept
+  kept-after_unit phase (HeaderLine line) kept = elim (is_end_of_header line) as (λ b. kept_in direction
+      (cond b BetweenUnits (InHeader false)) kept ≡ kept) [ true ↦ refl | false ↦ refl ]
+  kept-after_unit phase (EventLine line) kept =
+      kept-with_records (records_announced line) (counts_types line) kept
+  kept-after_unit phase (EventRecord line) kept = kept-after_record phase kept
+  kept-after_unit phase (Observation epoch) kept = refl
 
--- ---- how a line is fed
+  -- ---- how a line is fed
 
-pub fed-once : {U O K : Type 0} (direction : Direction U O K) (seen : Seen O K) (line : ReadLine) → is_again
-    (seen_next direction seen line).answer ≡ false → fed direction seen line
-    ≡ fed_once (seen_next direction seen line)
-fed-once direction seen line e = rw (e, fed) refl
+  pub fed-once : (seen : Seen O K) (line : ReadLine) → is_again (seen_next direction seen line).answer ≡ false
+      → fed direction seen line ≡ fed_once (seen_next direction seen line)
+  fed-once seen line e = rw (e, fed) refl
 
-pub fed-twice : {U O K : Type 0} (direction : Direction U O K) (seen : Seen O K) (line : ReadLine)
-    → is_again (seen_next direction seen line).answer ≡ true → fed direction seen line ≡ fed_twice
-    (seen_next direction seen line) (seen_next direction (seen_next direction seen line).next line)
-fed-twice direction seen line e = rw (e, fed) refl
+  pub fed-twice : (seen : Seen O K) (line : ReadLine)
+      → is_again (seen_next direction seen line).answer ≡ true → fed direction seen line ≡ fed_twice
+      (seen_next direction seen line) (seen_next direction (seen_next direction seen line).next line)
+  fed-twice seen line e = rw (e, fed) refl
 
-pub failed-ends : {U O K : Type 0} (direction : Direction U O K) (seen : Seen O K) (line : ReadLine)
-    (fault : Fault) → is_skipped_in seen fault ≡ false → failed_step direction seen line fault ≡ record {
-      answer = Failed (record { line = seen.number + 1; fault = fault });
-      handed_out = [];
-      next = with_phase direction seen (Ended (record { line = seen.number + 1; fault = fault }));
-    }
-failed-ends direction seen line fault e = rw e refl
+  pub failed-ends : (seen : Seen O K) (line : ReadLine) (fault : Fault) → is_skipped_in seen fault ≡ false → failed_step direction seen line fault ≡ record { answer = Failed (record { line = seen.number + 1; fault = fault }); handed_out = []; next = with_phase direction seen (Ended (record { line = seen.number + 1; fault = fault })) }
+  failed-ends seen line fault e = rw e refl
 
-pub failed-skipped : {U O K : Type 0} (direction : Direction U O K) (seen : Seen O K) (line : ReadLine)
-    (fault : Fault) → is_skipped_in seen fault ≡ true → failed_step direction seen line fault ≡ record {
-      answer = Notice (record { line = seen.number + 1; fault = fault }) (is_in_epoch seen.phase
-          && can_go_on line);
-      handed_out = [];
-      next = after_warning direction seen (is_in_epoch seen.phase && can_go_on line);
-    }
-failed-skipped direction seen line fault e = rw e refl
+  pub failed-skipped : (seen : Seen O K) (line : ReadLine) (fault : Fault) → is_skipped_in seen fault ≡ true → failed_step direction seen line fault ≡ record { answer = Notice (record { line = seen.number + 1; fault = fault }) (is_in_epoch seen.phase && can_go_on line); handed_out = []; next = after_warning direction seen (is_in_epoch seen.phase && can_go_on line) }
+  failed-skipped seen line fault e = rw e refl
 
 -- ---- one line of a reading
 

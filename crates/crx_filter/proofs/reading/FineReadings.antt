@@ -93,27 +93,23 @@ of-end (Some fault) at h e =
     let same : fault ≡ at = cc in
     rw (← same) h
 
-pub rinex-found : (skip : Bool) (lines : List ReadLine) (at : At)
-    → fault_of_stop (rinex_reading skip lines).stop ≡ Some at → is_of_lines at.fault ≡ true
-rinex-found skip lines at e = of-stop
-    (rinex_reading skip lines).stop at (from-fine rinex_place rinex-fine skip 1 lines) e
+module _ (skip : Bool) (lines : List ReadLine) (at : At) where
+  pub rinex-found : fault_of_stop (rinex_reading skip lines).stop ≡ Some at → is_of_lines at.fault ≡ true
+  rinex-found e = of-stop (rinex_reading skip lines).stop at (from-fine rinex_place rinex-fine skip 1 lines) e
 
-pub rinex-found-at-end : (skip : Bool) (lines : List ReadLine) (at : At)
-    → (whole_rinex skip lines).fault ≡ Some at → is_of_lines at.fault ≡ true
-rinex-found-at-end skip lines at e =
-    of-end (whole_rinex skip lines).fault at (whole-fine rinex_place rinex-fine skip 1 lines) e
+  pub rinex-found-at-end : (whole_rinex skip lines).fault ≡ Some at → is_of_lines at.fault ≡ true
+  rinex-found-at-end e =
+      of-end (whole_rinex skip lines).fault at (whole-fine rinex_place rinex-fine skip 1 lines) e
 
-pub compact-found : (skip : Bool) (lines : List ReadLine) (at : At)
-    → fault_of_stop (compact_reading skip lines).stop ≡ Some at → is_of_lines at.fault ≡ true
-compact-found skip lines at e = of-stop (compact_reading skip lines).stop at (by_place (first_lines lines)
-    (λ two count e. rw (e, compact_reading) (from-fine compact_place compact-fine skip (count + 1)
-    (drop count lines))) (λ offset fault e. rw (e, compact_reading) (subst (λ (p : Place (List (List ℕ))).
-    IsFineAt p) e (first_lines-fine lines))) (λ e. rw (e, compact_reading) tt)) e
+  pub compact-found : fault_of_stop (compact_reading skip lines).stop ≡ Some at → is_of_lines at.fault ≡ true
+  compact-found e = of-stop (compact_reading skip lines).stop at (by_place (first_lines lines)
+      (λ two count e. rw (e, compact_reading) (from-fine compact_place compact-fine skip (count + 1)
+      (drop count lines))) (λ offset fault e. rw (e, compact_reading) (subst (λ (p : Place (List (List ℕ))).
+      IsFineAt p) e (first_lines-fine lines))) (λ e. rw (e, compact_reading) tt)) e
 
-pub compact-found-at-end : (skip : Bool) (lines : List ReadLine) (at : At)
-    → (whole_compact skip lines).fault ≡ Some at → is_of_lines at.fault ≡ true
-compact-found-at-end skip lines at e = of-end (whole_compact skip lines).fault at (by_place
-    (first_lines lines) (λ two count e. rw (e, whole_compact) (whole-fine compact_place compact-fine skip
-    (count + 1) (drop count lines))) (λ offset fault e. rw (e, whole_compact) (subst (λ (p : Place
-    (List (List ℕ))). IsFineAt p) e (first_lines-fine lines))) (λ e. rw (e, whole_compact)
-    (by_bool ((length lines) == 0) (λ on. rw on refl) (λ off. rw off refl)))) e
+  pub compact-found-at-end : (whole_compact skip lines).fault ≡ Some at → is_of_lines at.fault ≡ true
+  compact-found-at-end e = of-end (whole_compact skip lines).fault at (by_place
+      (first_lines lines) (λ two count e. rw (e, whole_compact) (whole-fine compact_place compact-fine skip
+      (count + 1) (drop count lines))) (λ offset fault e. rw (e, whole_compact) (subst (λ (p : Place
+      (List (List ℕ))). IsFineAt p) e (first_lines-fine lines))) (λ e. rw (e, whole_compact)
+      (by_bool ((length lines) == 0) (λ on. rw on refl) (λ off. rw off refl)))) e

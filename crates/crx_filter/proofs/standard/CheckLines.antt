@@ -93,33 +93,28 @@ record-grows : (number left : ℕ) (counted : Bool) (types : List Count)
 record-grows number left counted types kept content None f = cc (none-open (left - 1) counted)
 record-grows number left counted types kept content (Some fault) f = absurd (none-some _ (sym f))
 
-opened-grows : (number : ℕ) (types : List Count) (kept : Totals) (content : List ℕ) (head : _) (wanted : ℕ)
-    → Grows number BetweenUnits types kept
-    (Content content) (made_of_epoch_step (when_wanted wanted (opened types head)))
-opened-grows number types kept content head zero f = refl
-opened-grows number types kept content head (suc wanted) f = refl
+module _ (number : ℕ) (types : List Count) (kept : Totals) (content : List ℕ) where
+  opened-grows : (head : _) (wanted : ℕ) → Grows number BetweenUnits types kept
+      (Content content) (made_of_epoch_step (when_wanted wanted (opened types head)))
+  opened-grows head zero f = refl
+  opened-grows head (suc wanted) f = refl
 
-beginning-grows : (number : ℕ) (types : List Count) (kept : Totals) (content : List ℕ) (b : Result
-    Beginning Fault) → Grows number BetweenUnits types kept (Content content) (made_of_beginning types b)
-beginning-grows number types kept content (Err fault) f = absurd (none-some _ (sym f))
-beginning-grows number types kept content (Ok (EventBegins line)) f =
-    cc (none-open (records_announced line) (counts_types line))
-beginning-grows number types kept content (Ok (EpochBegins head)) f =
-    opened-grows number types kept content head (rows_wanted (opened types head)) f
+  beginning-grows : (b : Result Beginning Fault)
+      → Grows number BetweenUnits types kept (Content content) (made_of_beginning types b)
+  beginning-grows (Err fault) f = absurd (none-some _ (sym f))
+  beginning-grows (Ok (EventBegins line)) f = cc (none-open (records_announced line) (counts_types line))
+  beginning-grows (Ok (EpochBegins head)) f = opened-grows head (rows_wanted (opened types head)) f
 
-wanted-grows : (number : ℕ) (types : List Count) (kept : Totals) (content : List ℕ)
-    (so_far : OpenEpoch) (row : Row) (wanted : ℕ) → Grows number (InEpoch so_far) types kept
-    (Content content) (made_of_epoch_step (when_wanted wanted (with_next_row so_far row)))
-wanted-grows number types kept content so_far row zero f =
-    append-nil (printed_epoch (epoch_of (with_next_row so_far row))) ∙ row-printed so_far row
-wanted-grows number types kept content so_far row (suc wanted) f = row-printed so_far row
+  wanted-grows : (so_far : OpenEpoch) (row : Row) (wanted : ℕ) → Grows number (InEpoch so_far) types kept
+      (Content content) (made_of_epoch_step (when_wanted wanted (with_next_row so_far row)))
+  wanted-grows so_far row zero f =
+      append-nil (printed_epoch (epoch_of (with_next_row so_far row))) ∙ row-printed so_far row
+  wanted-grows so_far row (suc wanted) f = row-printed so_far row
 
-row-grows : (number : ℕ) (types : List Count)
-    (kept : Totals) (content : List ℕ) (so_far : OpenEpoch) (row : Result Row Fault)
-    → Grows number (InEpoch so_far) types kept (Content content) (made_of_epoch_step (after_row so_far row))
-row-grows number types kept content so_far (Err fault) f = absurd (none-some _ (sym f))
-row-grows number types kept content so_far (Ok row) f =
-    wanted-grows number types kept content so_far row (rows_wanted (with_next_row so_far row)) f
+  row-grows : (so_far : OpenEpoch) (row : Result Row Fault)
+      → Grows number (InEpoch so_far) types kept (Content content) (made_of_epoch_step (after_row so_far row))
+  row-grows so_far (Err fault) f = absurd (none-some _ (sym f))
+  row-grows so_far (Ok row) f = wanted-grows so_far row (rows_wanted (with_next_row so_far row)) f
 
 pub line-grows : (number : ℕ) (phase : Phase OpenEpoch) (types : List Count) (kept : Totals) (line : ReadLine)
     → IsReached phase → Grows number phase types kept line (made_in checking phase types kept line)

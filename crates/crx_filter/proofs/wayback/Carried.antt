@@ -114,37 +114,33 @@ StandsAgain place known lines_of_unit = (before : List (Item Epoch)) (unit : Fil
     (Accepted unit ∷ before) → place (carried known before) (map Content (lines_of_unit before unit))
     ≡ Here (carried_unit known before unit) (length (lines_of_unit before unit))
 
-pub reads-again : {E : Type 0}
-    (place : List (Item E) → List ReadLine → Place (FileUnit E)) (known : List (Item Epoch) → Epoch → E)
-    (lines_of_unit : List (Item Epoch) → FileUnit Epoch → List (List ℕ)) → IsReadForward place → StandsAgain
-    place known lines_of_unit → (skip : Bool) (number : ℕ) (items : List (Item Epoch)) → AreInPlace items
-    → reading_from place skip [] number (map Content (written_lines lines_of_unit items)) ≡ record {
-      items = carried known items;
-      stop = AtLines (number + length (written_lines lines_of_unit items)) [];
-    }
-reads-again place known lines_of_unit forward stands skip number [] h =
-    within-wanted place skip 0 [] number [] (forward.wants []) ∙ at-line [] number _ (omega arith)
-reads-again place known lines_of_unit forward stands skip number (Warned at ∷ before) h =
-    reads-again place known _ forward stands skip number before h.1
-reads-again place known lines_of_unit forward stands skip number (Accepted unit ∷ before) h =
-    let first = written_lines lines_of_unit before in
-    let more = lines_of_unit before unit in
-    let same = length-map more _ in
-    ap (λ ls. reading_from place skip [] number ls) (map-append Content first more) ∙ resumed place forward
-    skip [] number (map Content first) (map Content more) ∙ ap (λ r. continued_reading place skip r (map
-    Content more)) (reads-again place known lines_of_unit forward stands skip number before h.1) ∙ one-unit
-    place forward skip _ (number + length first) _ _ (stands before unit h ∙ ap (λ n. Here (carried_unit
-    known before unit) n) (sym same)) ∙ at-line _ _ _ (omega (arith, same, length-append first more))
+module _ {E : Type 0} (place : List (Item E) → List ReadLine → Place (FileUnit E)) (known : List (Item Epoch)
+    → Epoch → E) (lines_of_unit : List (Item Epoch) → FileUnit Epoch → List (List ℕ)) where
+  pub reads-again : IsReadForward place → StandsAgain place known lines_of_unit
+      → (skip : Bool) (number : ℕ) (items : List (Item Epoch)) → AreInPlace items
+      → reading_from place skip [] number (map Content (written_lines lines_of_unit items)) ≡ record
+      { items = carried known items; stop = AtLines (number + length (written_lines lines_of_unit items)) [] }
+  reads-again forward stands skip number [] h =
+      within-wanted place skip 0 [] number [] (forward.wants []) ∙ at-line [] number _ (omega arith)
+  reads-again forward stands skip number (Warned at ∷ before) h =
+      reads-again forward stands skip number before h.1
+  reads-again forward stands skip number (Accepted unit ∷ before) h =
+      let first = written_lines lines_of_unit before in
+      let more = lines_of_unit before unit in
+      let same = length-map more _ in
+      ap (λ ls. reading_from place skip [] number ls) (map-append Content first more) ∙ resumed place forward
+      skip [] number (map Content first) (map Content more) ∙ ap (λ r. continued_reading place skip r (map
+      Content more)) (reads-again forward stands skip number before h.1) ∙ one-unit
+      place forward skip _ (number + length first) _ _ (stands before unit h ∙ ap (λ n. Here (carried_unit
+      known before unit) n) (sym same)) ∙ at-line _ _ _ (omega (arith, same, length-append first more))
 
--- ---- the end
+  -- ---- the end
 
-pub whole-again : {E : Type 0}
-    (place : List (Item E) → List ReadLine → Place (FileUnit E)) (known : List (Item Epoch) → Epoch → E)
-    (lines_of_unit : List (Item Epoch) → FileUnit Epoch → List (List ℕ)) → IsReadForward place → StandsAgain
-    place known lines_of_unit → (skip : Bool) (number : ℕ) (items : List (Item Epoch)) → AreInPlace items
-    → header_has_ended items ≡ true → records_left items ≡ 0 → whole_reading place skip number
-    (map Content (written_lines lines_of_unit items)) ≡ record { items = carried known items; fault = None }
-whole-again place known lines_of_unit forward stands skip number items h header none =
-    let first =
-    closes-well (carried known items) (header-same known items ∙ header) (left-same known items h ∙ none) in
-    cc (reads-again place known lines_of_unit forward stands skip number items h)
+  pub whole-again : IsReadForward place → StandsAgain place known lines_of_unit
+      → (skip : Bool) (number : ℕ) (items : List (Item Epoch)) → AreInPlace items
+      → header_has_ended items ≡ true → records_left items ≡ 0 → whole_reading place skip number
+      (map Content (written_lines lines_of_unit items)) ≡ record { items = carried known items; fault = None }
+  whole-again forward stands skip number items h header none =
+      let first =
+      closes-well (carried known items) (header-same known items ∙ header) (left-same known items h ∙ none) in
+      cc (reads-again forward stands skip number items h)
