@@ -1,19 +1,17 @@
 -- A device over two stretches of a run, and over both.
-use Rattle.std.proofs.Common.{◌≡◌, ℕ, ◌+◌, ◌≤◌, List, [], ◌∷◌, ◌++◌, length, take, refl, sym, ap}
-use Rattle.std.proofs.Common.{subst, ◌∙◌, arith, append_assoc, append-nil, length-append}
-use Rattle.std.proofs.Math.Seq.{take-append-add}
+use Rattle.std.proofs.Common.{◌≡◌, ℕ, ◌+◌, ◌≤◌, List, [], ◌∷◌, ◌++◌, length, take, refl, sym, ap, subst, ◌∙◌}
+use Rattle.std.proofs.{Common.{arith, append_assoc, append-nil, length-append}, Math.Seq.take-append-add}
 use Rattle.std.proofs.lemmas.List.{take-append-le}
-use Rattle.crx_lines.specs.declared.device.Sink.{Ghosts}
+use Rattle.crx_lines.{proofs.DeviceLemmas.failures-of, specs.declared.device.Sink.Ghosts}
 use Rattle.crx_lines.specs.meaning.Devices.{with_failed_write}
 use Rattle.crx_base.specs.declared.fault.At.{At}
-use Rattle.crx_runs.specs.meaning.Messages.{warning_text, notices_text}
-use Rattle.crx_runs.specs.meaning.Spans.{Device, TookAll, TookPart, IsPart, span}
-use Rattle.crx_runs.specs.Endings.{resumed}
+use Rattle.crx_runs.specs.{Endings.resumed, meaning.{Messages.{warning_text, notices_text}, Spans.Device}}
+use Rattle.crx_runs.specs.meaning.Spans.{TookAll, TookPart, IsPart, span}
 
 -- the messages of some warnings and of others
 pub notices-append : (xs ys : List At) → notices_text (xs ++ ys) ≡ notices_text xs ++ notices_text ys
 notices-append [] ys = refl
-notices-append (x ∷ xs) ys = ap (λ (t : List ℕ). warning_text x ++ t) (notices-append xs ys)
+notices-append (x ∷ xs) ys = ap (λ t. warning_text x ++ t) (notices-append xs ys)
     ∙ sym (append_assoc (warning_text x) (notices_text xs) (notices_text ys))
 
 -- the first stretch, the second, and both
@@ -24,11 +22,17 @@ pub record Joins (first second both : Device) : Type 0 where
   pub joined : (xs ys : List ℕ) → first.took xs → second.took ys → both.took (xs ++ ys)
   pub flushed : second.flushed → both.flushed
 
-pub span-joins : {S : Type 0} (sink : Ghosts S) (a b c : S)
-    → ((xs ys : List ℕ) → sink.took a xs b → sink.took b ys c → sink.took a (xs ++ ys) c)
-    → Joins (span sink a b) (span sink b c) (span sink a c)
-span-joins sink a b c took_both =
-    record { same = refl; start = refl; end = refl; joined = took_both; flushed = λ f. f }
+pub span-joins : {S : Type 0} (sink : Ghosts S)
+    → ((a b c : S) (xs ys : List ℕ) → sink.took a xs b → sink.took b ys c → sink.took a (xs ++ ys) c)
+    → {a b c : S} → Joins (span sink a b) (span sink b c) (span sink a c)
+span-joins sink took_both {a} {b} {c} =
+    record { same = refl; start = refl; end = refl; joined = took_both a b c; flushed = λ f. f }
+
+-- how often both stretches failed
+pub joined-failures : {first second both : Device} → Joins first second both
+    → (second.before.failures ≡ first.after.failures) × (both.before.failures ≡ first.before.failures)
+    × (both.after.failures ≡ second.after.failures)
+joined-failures j = (failures-of j.same, failures-of j.start, failures-of j.end)
 
 pub all-all : {first second both : Device} → Joins first second both → (xs ys : List ℕ)
     → TookAll first xs → TookAll second ys → TookAll both (xs ++ ys)
@@ -60,7 +64,8 @@ part-more {device = device} xs all more whole is p = record {
   count = p.count;
   some = p.some;
   less = omega (arith, p.less, ap length is, length-append all more);
-  took = subst device.took (sym (ap (take p.count) is ∙ take-append-le p.count all more (omega (arith, p.less))))
+  took = subst device.took (sym (ap (take p.count) is ∙ take-append-le p.count all more (omega
+      (arith, p.less))))
       p.took;
   failed = p.failed;
 }
@@ -80,9 +85,9 @@ pub part-resumed : {device : Device} (start xs ys more all : List ℕ) → lengt
     → all ≡ (xs ++ ys) ++ more → IsPart device [] ys → IsPart (resumed device xs) start all
 part-resumed start xs ys more all within is p =
     let n = p.count in
-    let front : take (length xs + n) all ≡ xs ++ take n ys =
-    ap (take (length xs + n)) is ∙ take-append-le
-    (length xs + n) (xs ++ ys) more (omega (arith, p.less, length-append xs ys)) ∙ take-append-add xs ys n in
+    let front =
+    ap (take _) is ∙ take-append-le
+    _ _ more (omega (arith, p.less, length-append xs ys)) ∙ take-append-add xs ys n in
     record {
       count = length xs + n;
       some = omega arith;
@@ -122,8 +127,8 @@ carry {both = both} j xs a = record {
 -- a text, and a part of the next
 pub part-then : {first second both : Device} → Joins first second both → (xs ys : List ℕ)
     → TookAll first xs → TookPart second ys → IsPart both xs (xs ++ ys)
-part-then j xs ys a b = carried-part (carry j xs a) xs (xs ++ ys) (part-resumed xs xs ys [] (xs ++ ys)
-    (omega arith) (sym (append-nil (xs ++ ys)))
+part-then j xs ys a b = carried-part (carry j xs a) xs _ (part-resumed xs xs ys [] _
+    (omega arith) (sym (append-nil _))
     (record { count = b.0.0; some = omega arith; less = b.0.1; took = b.0.2; failed = b.1 }))
 
 -- and what came after two texts, over both stretches after the first text

@@ -1,19 +1,14 @@
 -- How a run goes on or ends at a line, from one stretch of it to the next.
-use Rattle.std.proofs.Common.{◌≡◌, ◌⊎◌, inl, inr, ℕ, ◌<◌, List, [], ◌++◌, length, Option, Some, None}
-use Rattle.std.proofs.Common.{Bool, Result, Ok, Err, IfOk, IfErr}
-use Rattle.std.proofs.Common.{refl, sym, ap, ◌∙◌, subst, arith, append_assoc, append-nil, length-append}
-use Rattle.crx_base.specs.declared.fault.At.{At}
-use Rattle.crx_base.specs.declared.fault.Fault.TheVariants.{OutOfMemory}
-use Rattle.crx_runs.specs.declared.taking.Halt.{Halt}
-use Rattle.crx_runs.specs.declared.taking.Halt.TheVariants.{Fault, Unwritten, Unreported}
-use Rattle.crx_runs.specs.Engines.{EndsWith}
-use Rattle.crx_runs.specs.meaning.Messages.{notices_text}
-use Rattle.crx_runs.specs.meaning.Results.{Course}
-use Rattle.crx_runs.specs.meaning.Spans.{Device, TookAll, AreNext}
-use Rattle.crx_runs.specs.Endings.{Adds, IsAllOut, EndsAt, EndsFrom, resumed}
-use Rattle.crx_runs.specs.Taking.{IsDone, IsSettled}
+use Rattle.std.proofs.Common.{◌≡◌, ◌⊎◌, inl, inr, ℕ, ◌<◌, List, [], ◌++◌, length, Option, Some, None, Bool}
+use Rattle.std.proofs.Common.{Result, Ok, Err, IfOk, IfErr, refl, sym, ap, ◌∙◌, subst, arith, append_assoc}
+use Rattle.std.proofs.Common.{append-nil, length-append}
+use Rattle.crx_base.specs.declared.fault.{At.At, Fault.TheVariants.OutOfMemory}
 use Rattle.crx_runs.proofs.DeviceSpans.{Joins, Carries, all-all, all-resumed, none-resumed, part-resumed}
 use Rattle.crx_runs.proofs.DeviceSpans.{carried-all, carried-part, carry, notices-append}
+use Rattle.crx_runs.specs.{Endings.{Adds, IsAllOut, EndsAt, EndsFrom, resumed}, Engines.EndsWith}
+use Rattle.crx_runs.specs.{Taking.{IsDone, IsSettled}, declared.taking.Halt.{Halt, TheVariants.Fault}}
+use Rattle.crx_runs.specs.declared.taking.Halt.TheVariants.{Unwritten, Unreported}
+use Rattle.crx_runs.specs.meaning.{Messages.notices_text, Results.Course, Spans.{Device, TookAll, AreNext}}
 
 none-some : {A : Type 0} (x : A) → ◌≡◌ {A = Option A} None (Some x) → ⊥
 none-some x e = cc
@@ -50,7 +45,8 @@ carried-ends w m memory number before after Unreported e = record {
   notices = e.notices;
   next = e.next;
   wrote = carried-all w before.output e.wrote;
-  reported = carried-part m (notices_text before.warnings) (notices_text (before.warnings ++ e.notices)) e.reported;
+  reported = carried-part m (notices_text before.warnings) (notices_text (before.warnings ++ e.notices))
+      e.reported;
 }
 
 module _ {writer1 writer2 writer messages1 messages2 messages : Device}
@@ -72,8 +68,7 @@ module _ {writer1 writer2 writer messages1 messages2 messages : Device}
       → EndsFrom memory number writer2 messages2 before after halt
       → EndsAt memory number writer messages before after halt
   ends-after memory number halt e =
-      carried-ends (carry w before.output out.wrote) (carry m (notices_text before.warnings) out.reported)
-      memory number before after halt e
+      carried-ends (carry w _ out.wrote) (carry m _ out.reported) memory number before after halt e
 
 -- a step at a line, or at the end, by devices that took before what the lines before make, and earlier warnings
 module _ (writer messages : Device) (before after : Course) (earlier told : List At)
@@ -83,14 +78,12 @@ module _ (writer messages : Device) (before after : Course) (earlier told : List
       before after halt
 
   more-told : (notices : List At) → before.warnings ++ (earlier ++ notices) ≡ told ++ notices
-  more-told notices = sym (append_assoc before.warnings earlier notices)
-      ∙ ap (λ (l : List At). l ++ notices) (sym told_is)
+  more-told notices = sym (append_assoc _ earlier notices) ∙ ap (λ l. l ++ notices) (sym told_is)
 
   -- a fault was answered
   pub answer-ends : (at : At) → (earlier ≡ []) ⊎ AreNext before after earlier
-      → ((at.fault ≡ OutOfMemory) × (at.line ≡ number) × (memory ≡ Some earlier))
-      ⊎ EndsWith before after earlier at
-      → TookAll writer [] → TookAll messages [] → Ends (Fault at)
+      → ((at.fault ≡ OutOfMemory) × (at.line ≡ number) × (memory ≡ Some earlier)) ⊎ EndsWith before after
+      earlier at → TookAll writer [] → TookAll messages [] → Ends (Fault at)
   answer-ends at next (inl out) wrote reported = inl (record {
     notices = earlier;
     allowed = out.2;
@@ -125,7 +118,8 @@ module _ (writer messages : Device) (before after : Course) (earlier told : List
         adds = a;
         wrote = part-resumed before.output before.output text [] after.output (omega arith)
             (a.output ∙ sym (append-nil (before.output ++ text))) e.wrote;
-        reported = all-resumed messages (notices_text told) (notices_text after.warnings) (notices_text notices)
+        reported = all-resumed messages (notices_text told) (notices_text after.warnings) (notices_text
+            notices)
             (ap notices_text (a.warnings ∙ more-told notices) ∙ notices-append told notices) e.reported;
       }
   step-ends text notices adds next Unreported e = record {
@@ -133,17 +127,14 @@ module _ (writer messages : Device) (before after : Course) (earlier told : List
     next = next;
     wrote = none-resumed writer before.output before.output refl e.wrote;
     reported = part-resumed (notices_text before.warnings) (notices_text told) (notices_text e.notices)
-        (notices_text e.next.0) (notices_text (before.warnings ++ (earlier ++ notices)))
-        (omega (
+        (notices_text e.next.0) (notices_text (before.warnings ++ (earlier ++ notices))) (omega (
           arith,
           ap length (ap notices_text told_is ∙ notices-append before.warnings earlier),
           length-append (notices_text before.warnings) (notices_text earlier),
-        ))
-        (ap notices_text (more-told notices) ∙ ap (λ (l : List At). notices_text (told ++ l)) e.next.1
-        ∙ notices-append told (e.notices ++ e.next.0)
-        ∙ ap (λ (t : List ℕ). notices_text told ++ t) (notices-append e.notices e.next.0)
-        ∙ sym (append_assoc (notices_text told) (notices_text e.notices) (notices_text e.next.0)))
-        e.reported;
+        )) (ap notices_text (more-told notices) ∙ ap (λ (l : List At). notices_text (told ++ l)) e.next.1
+        ∙ notices-append told (e.notices ++ e.next.0) ∙ ap (λ (t : List ℕ). notices_text told ++ t)
+        (notices-append e.notices e.next.0) ∙ sym
+        (append_assoc (notices_text told) (notices_text e.notices) (notices_text e.next.0))) e.reported;
   }
 
   -- or it could
@@ -157,8 +148,7 @@ module _ (writer messages : Device) (before after : Course) (earlier told : List
 
 -- what a step made was written and reported
 pub step-done : (before after : Course) (shown : Type 0) (writer messages : Device) (text : List ℕ)
-    (notices : List At)
-    → shown → Adds before after text notices → (result : Result Bool Halt)
+    (notices : List At) → shown → Adds before after text notices → (result : Result Bool Halt)
     → IsSettled writer messages (record { output = text; warnings = notices; fault = None }) result
     → IfOk result (IsDone before after shown writer messages)
 step-done before after shown writer messages text notices is adds (Ok warned) s = record {
@@ -172,6 +162,6 @@ step-done before after shown writer messages text notices is adds (Ok warned) s 
 }
 step-done before after shown writer messages text notices is adds (Err halt) s = tt
 
-pub all-next : (before after : Course) (notices : List At) → after.warnings ≡ before.warnings ++ notices
+pub all-next : {before after : Course} {text : List ℕ} {notices : List At} → Adds before after text notices
     → AreNext before after notices
-all-next before after notices is = ([], is ∙ sym (append-nil (before.warnings ++ notices)))
+all-next adds = ([], adds.warnings ∙ sym (append-nil _))

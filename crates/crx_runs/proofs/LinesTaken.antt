@@ -1,27 +1,19 @@
 -- A line that an engine takes, at once or a second time.
 use Rattle.std.proofs.Common.{◌≡◌, ◌⊎◌, inl, inr, ℕ, ◌+◌, Bool, true, false, List, [], ◌∷◌, ◌++◌, length}
-use Rattle.std.proofs.Common.{Some, None, Result, Ok, Err, IfOk, IfErr, OnOk, refl, sym, ap, subst, ◌∙◌, arith}
-use Rattle.std.proofs.Common.{append_assoc, append-nil}
-use Rattle.std.specs.Prelude.{⊤}
-use Rattle.crx_base.specs.meaning.Lines.{InputLine, lines_text}
-use Rattle.crx_base.specs.declared.fault.At.{At}
-use Rattle.crx_base.specs.declared.fault.Fault.TheVariants.{OutOfMemory}
-use Rattle.crx_runs.specs.declared.engine.Engine.{Ghosts}
-use Rattle.crx_runs.specs.declared.engine.Step.{Step}
-use Rattle.crx_runs.specs.declared.engine.Step.TheVariants.{Quiet, Ready, Warned}
-use Rattle.crx_runs.specs.declared.taking.Halt.{Halt}
-use Rattle.crx_runs.specs.declared.taking.Halt.TheVariants.{Fault, Unwritten}
-use Rattle.crx_runs.specs.Endings.{Adds, LineEndsRun, EndEndsRun}
-use Rattle.crx_runs.specs.Engines.{Awaited, awaited_notices, EngineAnswers, IsDrainedAfter, RunsOutAt, EndsWith}
-use Rattle.crx_runs.specs.Engines.{Concludes}
-use Rattle.crx_runs.specs.meaning.Filters.{Filter, with_next}
-use Rattle.crx_runs.specs.meaning.Messages.{notices_text}
-use Rattle.crx_runs.specs.meaning.Results.{Course}
-use Rattle.crx_runs.specs.meaning.Spans.{Device, TookAll, TookPart, AreNext}
-use Rattle.crx_runs.specs.Taking.{HasAnswered, IsDone, IsSettled, KeepsLines, LineIsTaken, made_by}
-use Rattle.crx_runs.specs.Taking.{step_notices}
-use Rattle.crx_runs.proofs.DeviceSpans.{Joins, all-all, carry-on, notices-append}
-use Rattle.crx_runs.proofs.LineEndings.{Ends, all-next, answer-ends, carried-ends, step-comes, step-done}
+use Rattle.std.proofs.Common.{Some, None, Result, Ok, Err, IfOk, IfErr, OnOk, refl, sym, ap, subst, ◌∙◌}
+use Rattle.std.{proofs.Common.{arith, append_assoc, append-nil}, specs.Prelude.⊤}
+use Rattle.crx_base.specs.{declared.fault.{At.At, Fault.TheVariants.OutOfMemory}, meaning.Lines.InputLine}
+use Rattle.crx_base.specs.meaning.Lines.{lines_text}
+use Rattle.crx_runs.proofs.{DeviceSpans.{Joins, all-all, carry-on, notices-append}, LineEndings.Ends}
+use Rattle.crx_runs.proofs.LineEndings.{all-next, answer-ends, carried-ends, step-comes, step-done}
+use Rattle.crx_runs.specs.{Endings.{Adds, LineEndsRun, EndEndsRun, WarnsAtEnd}, Engines.Awaited}
+use Rattle.crx_runs.specs.Engines.{awaited_notices, EngineAnswers, IsDrainedAfter, RunsOutAt, EndsWith}
+use Rattle.crx_runs.specs.{Engines.{Concludes, GoesOn}, Taking.{HasAnswered, IsDone, IsSettled, KeepsLines}}
+use Rattle.crx_runs.specs.{Taking.{LineIsTaken, made_by, step_notices}, declared.engine.Engine.Ghosts}
+use Rattle.crx_runs.specs.declared.{engine.Step.{Step, TheVariants.{Quiet, Ready, Warned}}, taking.Halt.Halt}
+use Rattle.crx_runs.specs.declared.taking.Halt.TheVariants.{Fault, Unwritten, Unreported}
+use Rattle.crx_runs.specs.meaning.{Filters.{Filter, with_next}, Messages.notices_text, Results.Course}
+use Rattle.crx_runs.specs.meaning.Spans.{Device, TookAll, TookPart, AreNext, IsPart}
 
 -- a line that was answered so doesn't come a second time
 abbrev pub Stays : Step → Type 0
@@ -30,39 +22,23 @@ Stays Ready = ⊤
 Stays (Warned notice true) = ⊥
 Stays (Warned notice false) = ⊤
 
+-- a course that goes on by some lines adds their text
+adds-of : {before after : Course} {texts : List (List ℕ)} {notices : List At} (text : List ℕ) (all : List At)
+    → GoesOn before after texts notices → lines_text texts ≡ text → notices ≡ all → Adds before after text all
+adds-of text all a t n = rw (← t, ← n) (record { output = a.output; warnings = a.warnings; good = a.good })
+
 -- what a line adds that doesn't come a second time
 answers-add : (filter : Filter) (shows : List InputLine → List Awaited → Type 0) (ready : List (List ℕ))
     (lines : List InputLine) (notices : List Awaited) (line : InputLine) (step : Step) → Stays step
     → IsDrainedAfter step ready → EngineAnswers filter shows ready lines notices line (Ok step)
     → shows (with_next lines line) [] × Adds (filter.so_far lines) (filter.so_far (with_next lines line))
     (lines_text ready) (awaited_notices notices ++ step_notices step)
-answers-add filter shows ready lines notices line Quiet stays drained a = (
-  a.0,
-  record {
-    output = a.1.output ∙ ap (λ (r : List (List ℕ)). (filter.so_far lines).output ++ lines_text r) (sym drained);
-    warnings = a.1.warnings
-        ∙ ap (λ (l : List At). (filter.so_far lines).warnings ++ l) (sym (append-nil (awaited_notices notices)));
-    good = a.1.good;
-  },
-)
-answers-add filter shows ready lines notices line Ready stays drained a = (
-  a.0,
-  record {
-    output = a.1.output;
-    warnings = a.1.warnings
-        ∙ ap (λ (l : List At). (filter.so_far lines).warnings ++ l) (sym (append-nil (awaited_notices notices)));
-    good = a.1.good;
-  },
-)
-answers-add filter shows ready lines notices line (Warned notice true) stays drained a = absurd stays
-answers-add filter shows ready lines notices line (Warned notice false) stays drained a = (
-  a.0,
-  record {
-    output = a.1.output ∙ ap (λ (r : List (List ℕ)). (filter.so_far lines).output ++ lines_text r) (sym drained);
-    warnings = a.1.warnings;
-    good = a.1.good;
-  },
-)
+answers-add _ _ _ _ _ _ Quiet stays drained a =
+    (a.0, adds-of _ _ a.1 (ap lines_text (sym drained)) (sym (append-nil _)))
+answers-add _ _ _ _ _ _ Ready stays drained a = (a.0, adds-of _ _ a.1 refl (sym (append-nil _)))
+answers-add _ _ _ _ _ _ (Warned notice true) stays drained a = absurd stays
+answers-add _ _ _ _ _ _ (Warned notice false) stays drained a =
+    (a.0, adds-of _ _ a.1 (ap lines_text (sym drained)) refl)
 
 -- a line comes a second time once at most
 stays-then : (filter : Filter) (shows : List InputLine → List Awaited → Type 0) (ready : List (List ℕ))
@@ -76,7 +52,8 @@ stays-then filter shows ready lines first line (Warned notice false) a = tt
 either-out : (filter : Filter) (lines : List InputLine) (line : InputLine) (notices : List At) (at : At)
     → RunsOutAt filter lines line notices at
     ⊎ EndsWith (filter.so_far lines) (filter.so_far (with_next lines line)) notices at
-    → ((at.fault ≡ OutOfMemory) × (at.line ≡ length lines + 1) × (filter.memory_after lines line ≡ Some notices))
+    → ((at.fault ≡ OutOfMemory) × (at.line ≡ length lines + 1) × (filter.memory_after lines line ≡ Some
+    notices))
     ⊎ EndsWith (filter.so_far lines) (filter.so_far (with_next lines line)) notices at
 either-out filter lines line notices at (inl r) = inl (r.fault, r.place, r.allowed)
 either-out filter lines line notices at (inr e) = inr e
@@ -112,7 +89,8 @@ then-ok : (X : Type 0) (warned : Bool) (result : Result Bool Halt) → OnOk resu
 then-ok X warned (Ok second) x = x
 then-ok X warned (Err halt) x = tt
 
-then-err : {P Q : Halt → Type 0} (warned : Bool) (result : Result Bool Halt) → ((halt : Halt) → P halt → Q halt)
+then-err : {P Q : Halt → Type 0} (warned : Bool) (result : Result Bool Halt) → ((halt : Halt) → P halt → Q
+    halt)
     → IfErr result P → IfErr (then_of warned result) Q
 then-err warned (Ok second) f p = tt
 then-err warned (Err halt) f p = f halt p
@@ -134,12 +112,12 @@ then-done {messages = messages} w m before after shown notice text notices is ad
       adds = adds;
       wrote = all-all w [] text wrote s.0.wrote;
       reported = subst (TookAll messages) (sym (notices-append (notice ∷ []) notices))
-          (all-all m (notices_text (notice ∷ [])) (notices_text notices) reported s.0.reported);
+          (all-all m (notices_text (notice ∷ [])) _ reported s.0.reported);
       flag = flag;
     }
 then-done w m before after shown notice text notices is adds warned wrote reported flag (Err halt) s = tt
 
-module _ {E : Type 0} (engine : Ghosts E) (before now : E) (can_be : InputLine → Type 0) where
+module _ {E : Type 0} (engine : Ghosts E) {before now : E} {can_be : InputLine → Type 0} where
   -- a line with a fault
   pub line-refused : (at : At) (writer messages : Device) → HasAnswered engine before now can_be (Err at)
       → TookAll writer [] → TookAll messages []
@@ -149,12 +127,8 @@ module _ {E : Type 0} (engine : Ghosts E) (before now : E) (can_be : InputLine �
     running = tt;
     drained = tt;
     done = λ lines line shown is. tt;
-    cut = λ (lines : List InputLine) (line : InputLine) shown is.
-        let filter = engine.filter before in
-        answer-ends writer messages (filter.so_far lines) (filter.so_far (with_next lines line)) []
-        (filter.so_far lines).warnings (sym (append-nil (filter.so_far lines).warnings))
-        (filter.memory_after lines line) (length lines + 1) at (inl refl)
-        (either-out filter lines line [] at (a.answers lines [] line shown tt is)) wrote reported;
+    cut = λ lines line shown is. answer-ends _ _ _ _ [] _ (sym (append-nil _)) _ _ at (inl refl)
+        (either-out _ _ _ _ _ (a.answers lines [] line shown tt is)) wrote reported;
   }
 
   -- a line that doesn't come a second time
@@ -164,28 +138,18 @@ module _ {E : Type 0} (engine : Ghosts E) (before now : E) (can_be : InputLine �
       → IsSettled writer messages (made_by (engine.ready now) step) result
       → LineIsTaken engine before new can_be writer messages result
   line-settled step new writer messages result a stays kept drained settled =
-      let filter = engine.filter before in
-      let ready = engine.ready now in
-      let adds = λ (lines : List InputLine) (line : InputLine)
-      (shown : engine.shows before lines []) (is : can_be line).
-      answers-add filter (engine.shows now) ready lines [] line step stays a.drained
-      (a.answers lines [] line shown tt is) in
+      let adds = λ (lines : List InputLine) (line : InputLine) (shown : engine.shows before lines [])
+      (is : can_be line). answers-add (engine.filter before) (engine.shows now) _ lines [] line step stays
+      a.drained (a.answers lines [] line shown tt is) in
       record {
         filter = kept.filter ∙ a.filter;
         running = on-ok result (kept.running a.running);
         drained = drained;
-        done = λ (lines : List InputLine) (line : InputLine) shown is.
-            let goes = adds lines line shown is in
-            step-done (filter.so_far lines) (filter.so_far (with_next lines line))
-            (engine.shows new (with_next lines line) []) writer messages (lines_text ready) (step_notices step)
-            (kept.shows (with_next lines line) [] goes.0) goes.1 result settled;
-        cut = λ (lines : List InputLine) (line : InputLine) shown is.
-            let goes = adds lines line shown is in
-            let old = filter.so_far lines in
-            let then = filter.so_far (with_next lines line) in
-            step-comes writer messages old then [] old.warnings (sym (append-nil old.warnings))
-            (filter.memory_after lines line) (length lines + 1) (lines_text ready) (step_notices step)
-            (λ some. goes.1) (all-next old then (step_notices step) goes.1.warnings) result settled;
+        done = λ lines line shown is. let goes = adds lines line shown is in
+            step-done _ _ _ _ _ _ _ (kept.shows _ [] goes.0) goes.1 result settled;
+        cut = λ lines line shown is. let goes = adds lines line shown is in
+            step-comes _ _ _ _ [] _ (sym (append-nil ((engine.filter before).so_far lines).warnings)) _ _ _ _
+            (λ some. goes.1) (all-next goes.1) result settled;
       }
 
   -- a line whose warning couldn't be reported, at which reading was to go on
@@ -198,19 +162,10 @@ module _ {E : Type 0} (engine : Ghosts E) (before now : E) (can_be : InputLine �
     running = tt;
     drained = tt;
     done = λ lines line shown is. tt;
-    cut = λ (lines : List InputLine) (line : InputLine) shown is.
-        let filter = engine.filter before in
-        let old = filter.so_far lines in
-        let then = filter.so_far (with_next lines line) in
-        let next = (a.answers lines [] line shown tt is).2 in
-        step-comes writer messages old then [] old.warnings (sym (append-nil old.warnings))
-        (filter.memory_after lines line) (length lines + 1) (lines_text (engine.ready now)) (notice ∷ [])
-        (λ some. absurd (omega (
-          arith,
-          some,
-          ap (λ (r : List (List ℕ)). length (lines_text r)) a.drained,
-        )))
-        (next.0, next.1 ∙ sym (append_assoc old.warnings (notice ∷ []) next.0)) (Err halt) settled;
+    cut = λ lines line shown is. let next = (a.answers lines [] line shown tt is).2 in
+        step-comes _ _ _ _ [] _ (sym (append-nil ((engine.filter before).so_far lines).warnings)) _ _ _ _
+        (λ some. absurd (omega (arith, some, ap (λ r. length (lines_text r)) a.drained)))
+        (next.0, next.1 ∙ sym (append_assoc _ (notice ∷ []) next.0)) (Err halt) settled;
   }
 
   -- either of both
@@ -218,20 +173,17 @@ module _ {E : Type 0} (engine : Ghosts E) (before now : E) (can_be : InputLine �
       → HasAnswered engine before now can_be (Ok step) → KeepsLines engine now new
       → IsSettled writer messages (made_by (engine.ready now) step) (Err halt)
       → LineIsTaken engine before new can_be writer messages (Err halt)
-  line-failed Quiet new writer messages halt a kept s =
-      line-settled Quiet new writer messages (Err halt) a tt kept tt s
-  line-failed Ready new writer messages halt a kept s =
-      line-settled Ready new writer messages (Err halt) a tt kept tt s
-  line-failed (Warned notice true) new writer messages halt a kept s =
-      again-unreported notice new writer messages halt a kept s
-  line-failed (Warned notice false) new writer messages halt a kept s =
-      line-settled (Warned notice false) new writer messages (Err halt) a tt kept tt s
+  line-failed Quiet _ _ _ _ a kept s = line-settled _ _ _ _ _ a tt kept tt s
+  line-failed Ready _ _ _ _ a kept s = line-settled _ _ _ _ _ a tt kept tt s
+  line-failed (Warned notice true) _ _ _ _ a kept s = again-unreported _ _ _ _ _ a kept s
+  line-failed (Warned notice false) _ _ _ _ a kept s = line-settled _ _ _ _ _ a tt kept tt s
 
   -- a line that comes a second time, after its warning
-  module _ (notice : At) (a : HasAnswered engine before now can_be (Ok (Warned notice true)))
-      (mid : E) (kept : KeepsLines engine now mid) {writer1 writer2 writer messages1 messages2 messages : Device}
+  module _ {step : Step} {notice : At} (is : step ≡ Warned notice true)
+      (answered : HasAnswered engine before now can_be (Ok step)) {mid : E} (kept : KeepsLines engine now mid)
+      {writer1 writer2 writer messages1 messages2 messages : Device}
       (w : Joins writer1 writer2 writer) (m : Joins messages1 messages2 messages) (warned : Bool)
-      (settled : IsSettled writer1 messages1 (made_by (engine.ready now) (Warned notice true)) (Ok warned))
+      (out : IsSettled writer1 messages1 (made_by (engine.ready now) step) (Ok warned))
       (then : E) where
     abbrev its : Filter
     its = engine.filter before
@@ -239,36 +191,35 @@ module _ {E : Type 0} (engine : Ghosts E) (before now : E) (can_be : InputLine �
     abbrev awaited : InputLine → List Awaited
     awaited line = record { notice = notice; line = line } ∷ []
 
+    a : HasAnswered engine before now can_be (Ok (Warned notice true))
+    a = rw (← is) answered
+
+    settled : IsSettled writer1 messages1 (made_by (engine.ready now) (Warned notice true)) (Ok warned)
+    settled = subst (λ s. IsSettled writer1 messages1 (made_by (engine.ready now) s) (Ok warned)) is out
+
     first-wrote : TookAll writer1 []
-    first-wrote = subst (λ (r : List (List ℕ)). TookAll writer1 (lines_text r)) a.drained settled.0.wrote
+    first-wrote = subst (λ r. TookAll writer1 (lines_text r)) a.drained settled.0.wrote
 
     first-next : (lines : List InputLine) (line : InputLine) → engine.shows before lines [] → can_be line
         → AreNext (its.so_far lines) (its.so_far (with_next lines line)) (notice ∷ [])
     first-next lines line shown is =
         let next = (a.answers lines [] line shown tt is).2 in
-        (next.0, next.1 ∙ sym (append_assoc (its.so_far lines).warnings (notice ∷ []) next.0))
+        (next.0, next.1 ∙ sym (append_assoc _ _ next.0))
 
     second-answers : (answer : Result Step At) → HasAnswered engine mid then can_be answer
         → (lines : List InputLine) (line : InputLine) → engine.shows before lines [] → can_be line
         → EngineAnswers its (engine.shows then) (engine.ready then) lines (awaited line) line answer
     second-answers answer b lines line shown is =
-        subst (λ (f : Filter). EngineAnswers f (engine.shows then) (engine.ready then) lines (awaited line) line
-        answer) (kept.filter ∙ a.filter)
-        (b.answers lines (awaited line) line
-        (kept.shows lines (awaited line) (a.answers lines [] line shown tt is).0) refl is)
+        rw (sym (kept.filter ∙ a.filter)) (b.answers lines _ line
+        (kept.shows lines _ (a.answers lines [] line shown tt is).0) refl is)
 
     second-ends : (lines : List InputLine) (line : InputLine) (halt : Halt)
         → Ends writer2 messages2 (its.so_far lines) (its.so_far (with_next lines line)) (notice ∷ [])
-        ((its.so_far lines).warnings ++ notice ∷ []) refl (its.memory_after lines line)
-        (length lines + 1) halt
-        → LineEndsRun its lines line writer messages halt
+        ((its.so_far lines).warnings ++ notice ∷ []) refl (its.memory_after lines line) (length lines + 1)
+        halt → LineEndsRun its lines line writer messages halt
     second-ends lines line halt e =
-        let old = its.so_far lines in
-        carried-ends (carry-on w old.output [] old.output (sym (append-nil old.output)) first-wrote)
-        (carry-on m (notices_text old.warnings) (notices_text (notice ∷ []))
-        (notices_text (old.warnings ++ notice ∷ [])) (notices-append old.warnings (notice ∷ []))
-        settled.0.reported)
-        (its.memory_after lines line) (length lines + 1) old (its.so_far (with_next lines line)) halt e
+        carried-ends (carry-on w _ [] _ (sym (append-nil _)) first-wrote)
+        (carry-on m _ _ _ (notices-append _ _) settled.0.reported) _ _ _ _ halt e
 
     pub again-refused : (at : At) → HasAnswered engine mid then can_be (Err at)
         → TookAll writer2 [] → TookAll messages2 []
@@ -278,74 +229,81 @@ module _ {E : Type 0} (engine : Ghosts E) (before now : E) (can_be : InputLine �
       running = tt;
       drained = tt;
       done = λ lines line shown is. tt;
-      cut = λ (lines : List InputLine) (line : InputLine) shown is.
-          second-ends lines line (Fault at)
-          (answer-ends writer2 messages2 (its.so_far lines) (its.so_far (with_next lines line))
-          (notice ∷ []) ((its.so_far lines).warnings ++ notice ∷ []) refl (its.memory_after lines line)
-          (length lines + 1) at (inr (first-next lines line shown is))
-          (either-out its lines line (notice ∷ []) at (second-answers (Err at) b lines line shown is))
-          wrote reported);
+      cut = λ lines line shown is. second-ends lines line (Fault at)
+          (answer-ends _ _ (its.so_far lines) (its.so_far (with_next lines line)) _ _ refl _ _ at (inr
+          (first-next lines line shown is))
+          (either-out _ _ _ _ _ (second-answers (Err at) b lines line shown is)) wrote reported);
     }
 
-    pub again-settled : (step : Step) (new : E) (result : Result Bool Halt)
-        → HasAnswered engine mid then can_be (Ok step) → KeepsLines engine then new
+    pub again-settled : (second : Step) (new : E) (result : Result Bool Halt)
+        → HasAnswered engine mid then can_be (Ok second) → KeepsLines engine then new
         → OnOk result (engine.ready new ≡ [])
-        → IsSettled writer2 messages2 (made_by (engine.ready then) step) result
+        → IsSettled writer2 messages2 (made_by (engine.ready then) second) result
         → LineIsTaken engine before new can_be writer messages (then_of warned result)
-    again-settled step new result b kept2 drained settled2 =
-        let ready = engine.ready then in
+    again-settled second new result b kept2 drained settled2 =
         let adds = λ (lines : List InputLine) (line : InputLine)
         (shown : engine.shows before lines []) (is : can_be line).
-        let answers = second-answers (Ok step) b lines line shown is in
-        answers-add its (engine.shows then) ready lines (awaited line) line step
-        (stays-then its (engine.shows then) ready lines (record { notice = notice; line = line }) line step
-        answers) b.drained answers in
+        let answers = second-answers (Ok second) b lines line shown is in
+        answers-add its (engine.shows then) _ lines (awaited line) line second
+        (stays-then its (engine.shows then) (engine.ready then) lines (record
+        { notice = notice; line = line }) line second answers) b.drained answers in
         record {
           filter = kept2.filter ∙ b.filter ∙ kept.filter ∙ a.filter;
           running = then-ok _ warned result (on-ok result (kept2.running b.running));
           drained = then-ok _ warned result drained;
-          done = λ (lines : List InputLine) (line : InputLine) shown is.
-              let goes = adds lines line shown is in
-              then-done w m (its.so_far lines) (its.so_far (with_next lines line))
-              (engine.shows new (with_next lines line) []) notice (lines_text ready) (step_notices step)
-              (kept2.shows (with_next lines line) [] goes.0) goes.1 warned first-wrote settled.0.reported
-              settled.1 result settled2;
-          cut = λ (lines : List InputLine) (line : InputLine) shown is.
-              let goes = adds lines line shown is in
-              let old = its.so_far lines in
-              let new_course = its.so_far (with_next lines line) in
+          done = λ lines line shown is. let goes = adds lines line shown is in
+              then-done w m _ _ _ notice _ _ (kept2.shows _ [] goes.0) goes.1 warned first-wrote
+              settled.0.reported settled.1 result settled2;
+          cut = λ lines line shown is. let goes = adds lines line shown is in
               then-err warned result (second-ends lines line)
-              (step-comes writer2 messages2 old new_course (notice ∷ []) (old.warnings ++ notice ∷ []) refl
-              (its.memory_after lines line) (length lines + 1) (lines_text ready) (step_notices step)
-              (λ some. goes.1) (all-next old new_course (notice ∷ step_notices step) goes.1.warnings) result
-              settled2);
+              (step-comes _ _ _ _ (notice ∷ []) _ refl _ _ _ _ (λ some. goes.1)
+              (all-next goes.1) result settled2);
         }
 
 -- the end of the input
 concludes-add : (filter : Filter) (ready : List (List ℕ)) (lines : List InputLine) (step : Step)
     → IsDrainedAfter step ready → Concludes filter ready lines (Ok step)
     → Adds (filter.so_far lines) (filter.whole lines) (lines_text ready) (step_notices step)
-concludes-add filter ready lines Quiet drained a = record {
-  output = a.1.output ∙ ap (λ (r : List (List ℕ)). (filter.so_far lines).output ++ lines_text r) (sym drained);
-  warnings = a.1.warnings;
-  good = a.1.good;
-}
-concludes-add filter ready lines Ready drained a =
-    record { output = a.output; warnings = a.warnings; good = a.good }
-concludes-add filter ready lines (Warned notice again) drained a = record {
-  output = a.1.output ∙ ap (λ (r : List (List ℕ)). (filter.so_far lines).output ++ lines_text r) (sym drained);
-  warnings = a.1.warnings;
-  good = a.1.good;
-}
+concludes-add _ _ _ Quiet drained a = adds-of _ _ a.1 (ap lines_text (sym drained)) refl
+concludes-add _ _ _ Ready drained a = adds-of _ _ a refl refl
+concludes-add _ _ _ (Warned notice again) drained a = adds-of _ _ a.1 (ap lines_text (sym drained)) refl
+
+-- a part of a text that isn't there
+no-part : {device : Device} (xs all : List ℕ) → all ≡ [] → IsPart device xs all → ⊥
+no-part xs all none part = omega (arith, part.less, ap length none)
+
+none-first : (xs ys : List At) → [] ≡ xs ++ ys → xs ≡ []
+none-first [] ys is = refl
+none-first (x ∷ xs) ys is = absurd (cc)
+
+end-warns : (filter : Filter) (ready : List (List ℕ)) (lines : List InputLine) (step : Step)
+    (writer messages : Device) (halt : Halt) → IsDrainedAfter step ready → Concludes filter ready lines (Ok
+    step)
+    → IsSettled writer messages (made_by ready step) (Err halt)
+    → WarnsAtEnd (filter.so_far lines) (filter.whole lines) halt
+end-warns _ _ _ Quiet _ _ (Fault at) drained a s = a.1.warnings ∙ append-nil _
+end-warns _ _ _ Quiet _ _ Unwritten drained a s = a.1.warnings ∙ append-nil _
+end-warns _ _ _ Quiet _ _ Unreported drained a s =
+    absurd (no-part _ _ (ap notices_text (none-first s.notices s.next.0 s.next.1)) s.reported)
+end-warns _ _ _ Ready _ _ (Fault at) drained a s = a.warnings ∙ append-nil _
+end-warns _ _ _ Ready _ _ Unwritten drained a s = a.warnings ∙ append-nil _
+end-warns _ _ _ Ready _ _ Unreported drained a s =
+    absurd (no-part _ _ (ap notices_text (none-first s.notices s.next.0 s.next.1)) s.reported)
+end-warns _ _ _ (Warned notice again) _ _ (Fault at) drained a (inl s) = absurd (cc)
+end-warns _ _ _ (Warned notice again) _ _ (Fault at) drained a (inr s) = absurd (cc)
+end-warns _ _ _ (Warned notice again) _ _ Unwritten drained a s =
+    absurd (no-part _ _ (ap lines_text drained) s.wrote)
+end-warns _ _ _ (Warned notice again) _ _ Unreported drained a s = (notice, a.1.warnings)
 
 pub end-comes : (filter : Filter) (ready : List (List ℕ)) (lines : List InputLine) (step : Step)
     (writer messages : Device) (result : Result Bool Halt)
     → IsDrainedAfter step ready → Concludes filter ready lines (Ok step)
     → IsSettled writer messages (made_by ready step) result
     → IfErr result (EndEndsRun filter lines writer messages)
-end-comes filter ready lines step writer messages result drained a settled =
-    let old = filter.so_far lines in
-    let adds = concludes-add filter ready lines step drained a in
-    step-comes writer messages old (filter.whole lines) [] old.warnings (sym (append-nil old.warnings)) None
-    (length lines) (lines_text ready) (step_notices step) (λ some. adds)
-    (all-next old (filter.whole lines) (step_notices step) adds.warnings) result settled
+end-comes filter ready lines step writer messages (Ok warned) drained a settled = tt
+end-comes filter ready lines step writer messages (Err halt) drained a settled =
+    let adds = concludes-add filter ready lines step drained a in (
+      step-comes _ _ _ _ [] _ (sym (append-nil (filter.so_far lines).warnings)) _ _ _ _ (λ some. adds)
+          (all-next adds) (Err halt) settled,
+      end-warns filter ready lines step writer messages halt drained a settled,
+    )

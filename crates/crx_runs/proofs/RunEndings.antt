@@ -1,32 +1,23 @@
 -- What is after a run, by how its work ended and how it was finished.
 use Rattle.std.proofs.Common.{◌≡◌, ◌⊎◌, inl, inr, ℕ, ◌+◌, Bool, true, List, [], ◌++◌, length, take, Option}
-use Rattle.std.proofs.Common.{Some, None}
-use Rattle.std.proofs.Common.{◌∷◌, refl, sym, ap, subst, ◌∙◌, append-nil, arith, length-append}
+use Rattle.std.proofs.Common.{Some, None, ◌∷◌, refl, sym, ap, subst, ◌∙◌, append-nil, arith, length-append}
+use Rattle.crx_lines.{proofs.ProgressLemmas.HasRead-stopped, specs.{Progress.IsStopped, Reading.ReaderState}}
 use Rattle.crx_lines.specs.meaning.Devices.{with_failed_flush, with_flush}
+use Rattle.crx_base.specs.declared.fault.{At.At, Fault.{Fault, TheVariants.{InputTooLong, ReadFailed}}}
+use Rattle.crx_base.specs.declared.fault.Fault.TheVariants.{WriteFailed, OutOfMemory}
 use Rattle.crx_base.specs.meaning.Lines.{InputLine, lines_of}
-use Rattle.crx_lines.specs.Reading.{ReaderState}
-use Rattle.crx_lines.specs.Progress.{IsStopped}
-use Rattle.crx_base.specs.declared.fault.At.{At}
-use Rattle.crx_base.specs.declared.fault.Fault.{Fault}
-use Rattle.crx_base.specs.declared.fault.Fault.TheVariants.{InputTooLong, ReadFailed, WriteFailed}
-use Rattle.crx_base.specs.declared.fault.Fault.TheVariants.{OutOfMemory}
-use Rattle.crx_lines.proofs.ProgressLemmas.{HasRead-stopped}
-use Rattle.crx_runs.specs.declared.taking.Halt.{Halt}
-use Rattle.crx_runs.specs.declared.taking.Halt.TheVariants as halt
-use Rattle.crx_runs.specs.meaning.Results.{Course}
-use Rattle.crx_runs.specs.meaning.Filters.{Filter, with_next}
-use Rattle.crx_runs.specs.meaning.Messages.{error_text, notices_text}
-use Rattle.crx_runs.specs.meaning.Spans.{Device, TookAll, AreNext, Input}
-use Rattle.crx_runs.specs.Endings.{EndsAt, EndsBy, ReaderStopped, StoppedAtStart, StoppedByEnd, WellDone}
-use Rattle.crx_runs.specs.Endings.{Finishes, IsReported, IsFlushed, FlushFailed, write_failed_at}
-use Rattle.crx_runs.specs.Lawful.{IsLawful, is_of_lines}
+use Rattle.crx_runs.proofs.DeviceSpans.{Joins, all-all, all-still, notices-append, part-more, part-still}
+use Rattle.crx_runs.proofs.{DeviceSpans.{part-then, took-still}, Salvaged.{complete-stopped, all-read}}
+use Rattle.crx_runs.proofs.Salvaged.{all-of, taken-read, begins-itself, begins-taken, first-after-turn}
+use Rattle.crx_runs.{proofs.Salvaged.{first-before-turn, first-complete}, specs.Endings.{EndsAt, EndsBy}}
+use Rattle.crx_runs.specs.Endings.{ReaderStopped, StoppedAtStart, StoppedByEnd, WellDone, Finishes}
+use Rattle.crx_runs.specs.{Endings.{IsReported, IsFlushed, FlushFailed, write_failed_at}, Lawful.IsLawful}
+use Rattle.crx_runs.specs.{Lawful.is_of_lines, declared.taking.Halt.Halt, meaning.Filters.{Filter, with_next}}
 use Rattle.crx_runs.specs.meaning.Interruptions.{complete_lines, IsTurn, IsWritten, AreReported}
-use Rattle.crx_runs.specs.meaning.Interruptions.{NoMemoryAtLine, FaultFound}
-use Rattle.crx_runs.specs.meaning.Interruptions.{Stands, IsFrontPart}
-use Rattle.crx_runs.proofs.DeviceSpans.{Joins, all-all, all-still, notices-append, part-more, part-still, part-then, took-still}
-use Rattle.crx_runs.proofs.Salvaged.{complete-stopped, all-read, all-of, taken-read, begins-itself}
-use Rattle.crx_runs.proofs.Salvaged.{begins-taken}
-use Rattle.crx_runs.proofs.Salvaged.{first-whole, first-after-turn, first-before-turn, first-complete}
+use Rattle.crx_runs.specs.meaning.Interruptions.{ReadingStopped, NoMemoryAtLine, FaultFound, Stands}
+use Rattle.crx_runs.specs.meaning.{Interruptions.IsFrontPart, Messages.{error_text, notices_text}}
+use Rattle.crx_runs.specs.meaning.{Results.Course, Spans.{Device, TookAll, AreNext, Input}}
+use Rattle.crx_runs.specs.declared.taking.Halt.TheVariants as halt
 
 -- the one fault of a run
 pub one-fault : (P : At → Type 0) (at other : At) (fault : Option At)
@@ -40,6 +31,15 @@ one-fault P at other None is p same = absurd (cc)
 abbrev pub StandsAfter : Filter → Input → Device → Device → List ℕ → ℕ → Option At → Type 0
 StandsAfter filter input writer messages given status fault = (at : At)
     → fault ≡ Some at → (status ≡ 1) × Stands filter input given writer messages at at.fault
+
+-- the reading stopped
+stopped-by : {filter : Filter} (input : Input) {writer messages : Device} (given : List ℕ) (lines : List
+    InputLine)
+    (f : Fault) (at : At) → IsStopped f input.start input.counted given lines
+    → ReadingStopped filter given writer messages at → Stands filter input given writer messages at f
+stopped-by input given lines InputTooLong at s r = record { past = s.0; counted = s.2; stopped = r }
+stopped-by input given lines ReadFailed at s r = record { counted = s.2; within = s.0; stopped = r }
+stopped-by input given lines _ at s r = absurd s
 
 module _ (filter : Filter) (lawful : IsLawful filter) (input : Input)
     {writer1 writer2 writer messages1 messages2 messages : Device}
@@ -59,6 +59,12 @@ module _ (filter : Filter) (lawful : IsLawful filter) (input : Input)
       → TookAll messages1 (notices_text warnings) → IsReported messages2 at → AreReported messages warnings at
   reported warnings at a (inl b) = inl (all-all m (notices_text warnings) (error_text (Some at)) a b)
   reported warnings at a (inr b) = inr (part-then m (notices_text warnings) (error_text (Some at)) a b)
+
+  stands-after : (given : List ℕ) {status : ℕ} {fault : Option At} (at : At) → status ≡ 1 → fault ≡ Some at
+      → Stands filter input given writer messages at at.fault
+      → StandsAfter filter input writer messages given status fault
+  stands-after given at one is stands other same =
+      (one, one-fault (λ a. Stands filter input given writer messages a a.fault) at other _ is stands same)
 
   -- ---- a line, or the end
 
@@ -80,62 +86,44 @@ module _ (filter : Filter) (lawful : IsLawful filter) (input : Input)
         → NoMemoryAtLine filter input given writer messages at)
         → ((at : At) → after.fault ≡ Some at → is_of_lines at.fault ≡ true)
         → EndsAt can number writer1 messages1 before after halt
-        → Finishes writer2 messages2 last warned (Some halt) status fault → StandsAfter filter input writer messages given status fault
-    turn-stands (halt.Fault at) warned status fault memory found (inl ran) finished other is = (
-      finished.3,
-      one-fault (λ (a : At). Stands filter input given writer messages a a.fault) at other fault finished.2
-          (subst (λ f. Stands filter input given writer messages at f) (sym ran.fault)
-          (inr (memory at ran.notices ran.allowed ran.place ran.next
-          (written before.output ran.wrote finished.0)
-          (reported (before.warnings ++ ran.notices) at ran.reported finished.1))))
-          is,
-    )
-    turn-stands (halt.Fault at) warned status fault memory found (inr r) finished other is = (
-      finished.3,
-      one-fault (λ (a : At). Stands filter input given writer messages a a.fault) at other fault finished.2
-          (found-stands at.fault at (found at r.ends.fault)
-          (record {
-            before = before;
-            after = after;
-            last = last;
-            turn = turn;
-            fault = r.ends.fault;
-            wrote = written after.output r.wrote finished.0;
-            reported = reported after.warnings at r.reported finished.1;
-          }))
-          is,
-    )
-    turn-stands halt.Unwritten warned status fault memory found r finished other is = (
-      finished.3,
-      one-fault (λ (a : At). Stands filter input given writer messages a a.fault)
-          (write_failed_at last) other fault finished.2
-          (inl (record {
-            before = before;
-            after = after;
-            turn = turn;
-            good = r.adds.good;
-            wrote = part-still w before.output after.output r.wrote finished.0;
-            reported = reported after.warnings (write_failed_at last) r.reported finished.1;
-          }))
-          is,
-    )
-    turn-stands halt.Unreported warned status fault memory found r finished other is = (
-      finished.3,
-      one-fault (λ (a : At). Stands filter input given writer messages a a.fault)
-          (write_failed_at last) other fault finished.2
-          (inr (inl (record {
-            before = before;
-            after = after;
-            turn = turn;
-            wrote = all-still w before.output r.wrote finished.0;
-            reported = part-still m (notices_text before.warnings) (notices_text after.warnings)
-                (part-more (notices_text before.warnings) (notices_text (before.warnings ++ r.notices))
-                (notices_text r.next.0) (notices_text after.warnings)
-                (ap notices_text r.next.1 ∙ notices-append (before.warnings ++ r.notices) r.next.0) r.reported)
-                finished.1;
-          })))
-          is,
-    )
+        → Finishes writer2 messages2 last warned (Some halt) status fault → StandsAfter filter input writer
+        messages given status fault
+    turn-stands (halt.Fault at) warned status fault memory found (inl ran) finished =
+        stands-after given at finished.3 finished.2 (subst (λ f. Stands filter input given writer messages at
+        f)
+        (sym ran.fault) (inr (memory at ran.notices ran.allowed ran.place ran.next
+        (written before.output ran.wrote finished.0) (reported _ at ran.reported finished.1))))
+    turn-stands (halt.Fault at) warned status fault memory found (inr r) finished =
+        stands-after given at finished.3 finished.2 (found-stands at.fault at (found at r.ends.fault)
+        (record {
+          before = before;
+          after = after;
+          last = last;
+          turn = turn;
+          fault = r.ends.fault;
+          wrote = written after.output r.wrote finished.0;
+          reported = reported after.warnings at r.reported finished.1;
+        }))
+    turn-stands halt.Unwritten warned status fault memory found r finished =
+        stands-after given _ finished.3 finished.2 (inl (record {
+          before = before;
+          after = after;
+          turn = turn;
+          good = r.adds.good;
+          wrote = part-still w before.output after.output r.wrote finished.0;
+          reported = reported after.warnings (write_failed_at last) r.reported finished.1;
+        }))
+    turn-stands halt.Unreported warned status fault memory found r finished =
+        stands-after given _ finished.3 finished.2 (inr (inl (record {
+          before = before;
+          after = after;
+          turn = turn;
+          wrote = all-still w before.output r.wrote finished.0;
+          reported = part-still m _ _ (part-more _ (notices_text (before.warnings ++ r.notices)) (notices_text
+              r.next.0) _
+              (ap notices_text r.next.1 ∙ notices-append (before.warnings ++ r.notices) r.next.0) r.reported)
+              finished.1;
+        })))
 
     pub turn-front : (halt : Halt) (warned : Bool) (status : ℕ) (fault : Option At)
         → EndsAt can number writer1 messages1 before after halt
@@ -144,30 +132,24 @@ module _ (filter : Filter) (lawful : IsLawful filter) (input : Input)
     turn-front (halt.Fault at) warned status fault (inl ran) finished = record {
       written = before.output;
       wrote = (written before.output ran.wrote finished.0).0;
-      first = first-before-turn filter lawful input given before after last before.output turn
-          (begins-itself before.output);
+      first = first-before-turn lawful input given _ turn (begins-itself before.output);
     }
     turn-front (halt.Fault at) warned status fault (inr r) finished = record {
       written = after.output;
       wrote = (written after.output r.wrote finished.0).0;
-      first = first-after-turn filter lawful input given before after last after.output turn
-          (begins-itself after.output);
+      first = first-after-turn lawful input given _ turn (begins-itself after.output);
     }
     turn-front halt.Unwritten warned status fault r finished =
-        let part =
-        part-still w before.output after.output r.wrote
-        finished.0 in
+        let part = part-still w before.output after.output r.wrote finished.0 in
         record {
           written = take part.count after.output;
           wrote = part.took;
-          first = first-after-turn filter lawful input given before after last
-              (take part.count after.output) turn (begins-taken part.count after.output);
+          first = first-after-turn lawful input given _ turn (begins-taken part.count after.output);
         }
     turn-front halt.Unreported warned status fault r finished = record {
       written = before.output;
       wrote = (all-still w before.output r.wrote finished.0).0;
-      first = first-before-turn filter lawful input given before after last before.output turn
-          (begins-itself before.output);
+      first = first-before-turn lawful input given _ turn (begins-itself before.output);
     }
 
   -- ---- the work of a run
@@ -176,16 +158,13 @@ module _ (filter : Filter) (lawful : IsLawful filter) (input : Input)
       (halt : Halt) (status : ℕ) (fault : Option At) (lines : List InputLine)
       (ends : EndsBy filter input writer1 messages1 now lines halt) → last ≡ now.number
       → Finishes writer2 messages2 last warned (Some halt) status fault
-      → StandsAfter filter input writer messages ends.read.given status fault × IsFrontPart filter input ends.read.given writer
+      → StandsAfter filter input writer messages ends.read.given status fault × IsFrontPart filter input
+      ends.read.given writer
   line-stands now last warned halt status fault lines ends last_is finished =
       let h = ends.read in
       let next = with_next lines ends.line in
-      let before = filter.so_far lines in
-      let after = filter.so_far next in
-      let can = filter.memory_after lines ends.line in
-      let number : ℕ = length lines + 1 in
-      let taken = taken-read input now next h ends.going in
-      let turn : IsTurn filter input h.given before after last = inl (record {
+      let taken = taken-read h ends.going in
+      let turn : IsTurn filter input h.given (filter.so_far lines) (filter.so_far next) last = inl (record {
         lines = lines;
         line = ends.line;
         taken = taken;
@@ -193,7 +172,7 @@ module _ (filter : Filter) (lawful : IsLawful filter) (input : Input)
         after_is = refl;
         last_is = omega (arith, last_is, ends.read.number, length-append lines (ends.line ∷ []));
       }) in (
-        turn-stands h.given before after last turn can number halt warned status fault
+        turn-stands h.given _ _ last turn _ _ halt warned status fault
             (λ at notices allowed place next-ones wrote reported. record {
               lines = lines;
               line = ends.line;
@@ -204,33 +183,28 @@ module _ (filter : Filter) (lawful : IsLawful filter) (input : Input)
               next = next-ones;
               wrote = wrote;
               reported = reported;
-            })
-            (λ at bad. lawful.found next at bad) ends.ends finished,
-        turn-front h.given before after last turn can number halt warned status fault ends.ends finished,
+            }) (λ at bad. lawful.found next at bad) ends.ends finished,
+        turn-front h.given _ _ last turn _ _ halt warned status fault ends.ends finished,
       )
 
-  pub end-stands : (now : ReaderState) (last : ℕ) (warned : Bool)
-      (halt : Halt) (status : ℕ) (fault : Option At)
-      (s : StoppedByEnd filter input writer1 messages1 now last halt)
+  pub end-stands : (now : ReaderState) (last : ℕ) (warned : Bool) (halt : Halt) (status : ℕ)
+      (fault : Option At) (s : StoppedByEnd filter input writer1 messages1 now last halt)
       → Finishes writer2 messages2 last warned (Some halt) status fault
-      → StandsAfter filter input writer messages s.read.given status fault × IsFrontPart filter input s.read.given writer
+      → StandsAfter filter input writer messages s.read.given status fault × IsFrontPart filter input
+      s.read.given writer
   end-stands now last warned halt status fault s finished =
-      let h = s.read in
-      let before = filter.so_far s.lines in
-      let after = filter.whole s.lines in
-      let all = all-read input now s.lines h s.ended in
-      let turn : IsTurn filter input h.given before after last =
-      inr (record {
-        all = all-of input h.given s.lines all;
+      let all = all-read s.read s.ended in
+      let turn : IsTurn filter input s.read.given (filter.so_far s.lines) (filter.whole s.lines) last = inr
+      (record {
+        all = all-of all;
         before_is = ap filter.so_far (sym all.same);
         after_is = ap filter.whole (sym all.same);
         last_is = s.last_is ∙ ap length (sym all.same);
       }) in (
-        turn-stands h.given before after last turn None (length s.lines) halt warned status fault
+        turn-stands _ _ _ last turn None (length s.lines) halt warned status fault
             (λ at notices allowed place next-ones wrote reported. absurd (cc))
             (λ at bad. lawful.found_at_end s.lines at bad) s.ends finished,
-        turn-front h.given before after last turn None
-            (length s.lines) halt warned status fault s.ends finished,
+        turn-front _ _ _ last turn None (length s.lines) halt warned status fault s.ends finished,
       )
 
   -- the reading stopped
@@ -239,34 +213,15 @@ module _ (filter : Filter) (lawful : IsLawful filter) (input : Input)
       → (filter.so_far lines).fault ≡ None → IsWritten writer (filter.so_far lines).output
       → AreReported messages (filter.so_far lines).warnings at
       → Stands filter input given writer messages at f
-  stopped-stands given lines InputTooLong at s line good wrote reported =
-      let same : lines ≡ complete_lines given = s.1 in
-      record {
-        past = s.0;
-        counted = s.2;
-        stopped = record {
-          line = line ∙ ap (λ (ls : List InputLine). length ls + 1) same;
-          good = subst (λ (ls : List InputLine). (filter.so_far ls).fault ≡ None) same good;
-          wrote = subst (λ (ls : List InputLine). IsWritten writer (filter.so_far ls).output) same wrote;
-          reported = subst (λ (ls : List InputLine). AreReported messages (filter.so_far ls).warnings at) same
-              reported;
-        };
-      }
-  stopped-stands given lines ReadFailed at s line good wrote reported =
-      let same : lines ≡ complete_lines given =
-      complete-stopped given lines ReadFailed input.start input.counted s in
-      record {
-        counted = s.2;
-        within = s.0;
-        stopped = record {
-          line = line ∙ ap (λ (ls : List InputLine). length ls + 1) same;
-          good = subst (λ (ls : List InputLine). (filter.so_far ls).fault ≡ None) same good;
-          wrote = subst (λ (ls : List InputLine). IsWritten writer (filter.so_far ls).output) same wrote;
-          reported = subst (λ (ls : List InputLine). AreReported messages (filter.so_far ls).warnings at) same
-              reported;
-        };
-      }
-  stopped-stands given lines _ at s line good wrote reported = absurd s
+  stopped-stands given lines f at s line good wrote reported =
+      let same = complete-stopped given lines f input.start input.counted s in
+      let stopped : ReadingStopped filter given writer messages at = record {
+        line = line ∙ ap (λ ls. length ls + 1) same;
+        good = rw (← same) good;
+        wrote = rw (← same) wrote;
+        reported = rw (← same) reported;
+      } in
+      stopped-by input given lines f at s stopped
 
   pub reader-stands : (now : ReaderState) (last : ℕ) (warned : Bool)
       (stop : Halt) (status : ℕ) (fault : Option At) (lines : List InputLine) (at : At) → stop ≡ halt.Fault at
@@ -276,25 +231,15 @@ module _ (filter : Filter) (lawful : IsLawful filter) (input : Input)
       × IsFrontPart filter input s.read.given writer
   reader-stands now last warned stop status fault lines at halt_is s finishes =
       let finished : Finishes writer2 messages2 last warned (Some (halt.Fault at)) status fault =
-      subst (λ (h : Halt). Finishes writer2 messages2 last warned (Some h) status fault) halt_is finishes in
+      subst (λ h. Finishes writer2 messages2 last warned (Some h) status fault) halt_is finishes in
       let h = s.read in
-      let course = filter.so_far lines in
-      let stopped = HasRead-stopped input.gave input.at_end input.start input.counted now lines h at s.stopped
-      in
-      let wrote = written course.output s.out.wrote finished.0 in
+      let stopped = HasRead-stopped _ _ _ _ _ _ h at s.stopped in
+      let wrote = written _ s.out.wrote finished.0 in
       let same = complete-stopped h.given lines at.fault input.start input.counted stopped.0 in (
-        (λ (other : At) is. (
-          finished.3,
-          one-fault (λ (a : At). Stands filter input h.given writer messages a a.fault) at other fault
-              finished.2
-              (stopped-stands h.given lines at.fault at stopped.0 stopped.1 s.out.good wrote
-              (reported course.warnings at s.out.reported finished.1)) is,
-        )),
-        record {
-          written = course.output;
-          wrote = wrote.0;
-          first = first-complete filter lawful input h.given lines same;
-        },
+        stands-after h.given at finished.3 finished.2 (stopped-stands h.given lines at.fault at stopped.0
+            stopped.1
+            s.out.good wrote (reported _ at s.out.reported finished.1)),
+        record { written = _; wrote = wrote.0; first = first-complete lawful input h.given lines same },
       )
 
   pub start-stands : (last : ℕ) (warned : Bool)
@@ -302,20 +247,17 @@ module _ (filter : Filter) (lawful : IsLawful filter) (input : Input)
       → Finishes writer2 messages2 last warned (Some stop) status fault
       → StandsAfter filter input writer messages [] status fault × IsFrontPart filter input [] writer
   start-stands last warned stop status fault s finishes =
-      let at : At = record { line = 0; fault = OutOfMemory } in
-      let finished : Finishes writer2 messages2 last warned (Some (halt.Fault at)) status fault =
-      subst (λ (h : Halt). Finishes writer2 messages2 last warned (Some h) status fault) s.halt_is finishes in
+      let finished : Finishes writer2 messages2 last warned (Some (halt.Fault (record
+      { line = 0; fault = OutOfMemory })))
+      status fault = subst (λ h. Finishes writer2 messages2 last warned (Some h) status fault) s.halt_is
+      finishes in
       let wrote = written [] s.wrote finished.0 in (
-        (λ (other : At) is. (
-          finished.3,
-          one-fault (λ (a : At). Stands filter input [] writer messages a a.fault) at other fault finished.2
-              (inl (record {
-                line = refl;
-                nothing = refl;
-                wrote = wrote;
-                reported = reported [] at s.reported finished.1;
-              })) is,
-        )),
+        stands-after [] _ finished.3 finished.2 (inl (record {
+          line = refl;
+          nothing = refl;
+          wrote = wrote;
+          reported = reported [] (record { line = 0; fault = OutOfMemory }) s.reported finished.1;
+        })),
         record {
           written = [];
           wrote = wrote.0;
@@ -324,48 +266,30 @@ module _ (filter : Filter) (lawful : IsLawful filter) (input : Input)
       )
 
   -- the flush alone failed
-  pub flush-stands : (has_ended : List InputLine → Type 0) (now : ReaderState) (last : ℕ)
-      (warned : Bool) (status : ℕ) (at : At)
-      (done : WellDone filter has_ended input writer1 messages1 now last warned)
+  pub flush-stands : (has_ended : List InputLine → Type 0) (now : ReaderState) (last : ℕ) (warned : Bool)
+      (status : ℕ) (at : At) (done : WellDone filter has_ended input writer1 messages1 now last warned)
       → Finishes writer2 messages2 last warned None status (Some at)
       → StandsAfter filter input writer messages done.read.given status (Some at)
-  flush-stands has_ended now last warned status at done finished other is =
-      let h = done.read in
-      let all = all-read input now done.lines h done.ended in
-      let course = filter.whole done.lines in
-      let same : done.lines ≡ lines_of h.given = sym all.same in
+  flush-stands has_ended now last warned status at done finished =
+      let all = all-read done.read done.ended in
       let flushed = finished.0 in
-      let reported = reported course.warnings
-      (write_failed_at last) done.out.reported (subst (IsReported messages2) finished.2 finished.1) in (
-        finished.3,
-        one-fault (λ (a : At). Stands filter input h.given writer messages a a.fault)
-            (write_failed_at last) other (Some at) (ap Some finished.2)
-            (inr (inr (record {
-              all = all-of input h.given done.lines all;
-              line = done.last_is ∙ ap length same;
-              good = ap (λ (ls : List InputLine). (filter.whole ls).fault) (sym same) ∙ done.out.good;
-              wrote = subst (λ (ls : List InputLine). writer.took (filter.whole ls).output) same
-                  (took-still w course.output done.out.wrote.0 flushed.0);
-              counted = w.end ∙ flushed.1 ∙ ap with_failed_flush (w.same ∙ done.out.wrote.1 ∙ sym w.start);
-              reported = subst (λ (ls : List InputLine).
-                  AreReported messages (filter.whole ls).warnings (write_failed_at last)) same reported;
-            }))) is,
-      )
+      stands-after done.read.given _ finished.3 (ap Some finished.2) (inr (inr (record {
+        all = all-of all;
+        line = done.last_is ∙ ap length (sym all.same);
+        good = ap (λ ls. (filter.whole ls).fault) all.same ∙ done.out.good;
+        wrote = rw all.same (took-still w _ done.out.wrote.0 flushed.0);
+        counted = w.end ∙ flushed.1 ∙ ap with_failed_flush (w.same ∙ done.out.wrote.1 ∙ sym w.start);
+        reported = rw all.same (reported _ (write_failed_at last) done.out.reported
+            (subst (IsReported messages2) finished.2 finished.1));
+      })))
 
   pub well-front : (has_ended : List InputLine → Type 0) (now : ReaderState)
       (last : ℕ) (warned : Bool) (done : WellDone filter has_ended input writer1 messages1 now last warned)
       → writer2.took [] → IsFrontPart filter input done.read.given writer
   well-front has_ended now last warned done flushed =
-      let h = done.read in
-      let all = all-read input now done.lines h done.ended in
-      let course = filter.whole done.lines in
+      let all = all-read done.read done.ended in
       record {
-        written = course.output;
-        wrote = took-still w course.output done.out.wrote.0 flushed;
-        first = first-whole filter lawful input h.given course.output (all-of input h.given done.lines all)
-            (record {
-              rest = [];
-              same = ap (λ (ls : List InputLine). (filter.whole ls).output) all.same
-                  ∙ sym (append-nil course.output);
-            });
+        written = (filter.whole done.lines).output;
+        wrote = took-still w _ done.out.wrote.0 flushed;
+        first = inr (all.reported, rw all.same (begins-itself _));
       }

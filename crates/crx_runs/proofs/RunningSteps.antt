@@ -1,19 +1,12 @@
 -- A run goes on by a line, or ends at it; and its end.
 use Rattle.std.proofs.Common.{◌≡◌, ℕ, ◌+◌, Bool, ◌||◌, List, [], ◌∷◌, ◌++◌, length, None, refl, sym, ap, ◌∙◌}
-use Rattle.crx_base.specs.meaning.Lines.{InputLine}
-use Rattle.crx_base.specs.declared.fault.At.{At}
+use Rattle.crx_base.specs.{declared.fault.At.At, meaning.Lines.InputLine}
 use Rattle.crx_lines.specs.Reading.{ReaderState}
-use Rattle.crx_runs.specs.declared.taking.Halt.{Halt}
-use Rattle.crx_runs.specs.Endings.{EndEndsRun, EndsBy, LineEndsRun, StoppedByEnd, WellDone}
-use Rattle.crx_runs.specs.Engines.{Awaited}
-use Rattle.crx_runs.specs.meaning.Filters.{Filter, with_next}
-use Rattle.crx_runs.specs.meaning.Results.{are_some}
+use Rattle.crx_runs.proofs.{DeviceSpans.Joins, LineEndings.{ends-after, out-more}, StepReading.ReadsLine}
+use Rattle.crx_runs.specs.{Endings.{EndEndsRun, EndsBy, LineEndsRun, StoppedByEnd, WellDone}, Engines.Awaited}
+use Rattle.crx_runs.specs.{Running.{ComesToEnd, GoesOnBy, IsRunning}, Taking.IsDone}
+use Rattle.crx_runs.specs.{declared.taking.Halt.Halt, meaning.{Filters.{Filter, with_next}, Results.are_some}}
 use Rattle.crx_runs.specs.meaning.Spans.{Device, Input}
-use Rattle.crx_runs.specs.Running.{ComesToEnd, GoesOnBy, IsRunning}
-use Rattle.crx_runs.specs.Taking.{IsDone}
-use Rattle.crx_runs.proofs.DeviceSpans.{Joins}
-use Rattle.crx_runs.proofs.LineEndings.{ends-after, out-more}
-use Rattle.crx_runs.proofs.StepReading.{ReadsLine}
 
 are-some-append : (xs ys : List At) → are_some (xs ++ ys) ≡ (are_some xs || are_some ys)
 are-some-append [] ys = refl
@@ -25,41 +18,32 @@ flag-after before notices after warned warning w n is =
     rw w (rw n (sym (ap are_some is ∙ are-some-append before notices)))
 
 -- the run goes on
-pub go-on : (filter : Filter) (shows : List InputLine → List Awaited → Type 0)
-    (input : Input) (writer messages : Device) (now : ReaderState) (lines : List InputLine)
-    (warned warning both : Bool)
+pub go-on : {filter : Filter} {shows : List InputLine → List Awaited → Type 0} {input : Input}
+    {writer messages : Device} {now : ReaderState} {lines : List InputLine} {warned warning both : Bool}
     → warned ≡ are_some (filter.so_far lines).warnings
     → GoesOnBy filter shows input writer messages now lines warning → both ≡ (warned || warning)
-    → (ls : List InputLine) × shows ls []
-    × IsRunning input writer messages now ls (filter.so_far ls)
+    → (ls : List InputLine) × shows ls [] × IsRunning input writer messages now ls (filter.so_far ls)
     × (both ≡ are_some (filter.so_far ls).warnings)
-go-on filter shows input writer messages now lines warned warning both flag by is = (
-  lines ++ by.line ∷ [],
-  by.shown,
-  by.running,
-  is ∙ flag-after (filter.so_far lines).warnings by.notices
-      (filter.so_far (lines ++ by.line ∷ [])).warnings warned warning flag by.flag by.added,
-)
+go-on flag by is =
+    (_, by.shown, by.running, is ∙ flag-after _ _ _ _ _ flag by.flag by.added)
 
-module _ (filter : Filter) {input then : Input} {old new : ReaderState} (lines : List InputLine)
+module _ {filter : Filter} {input then : Input} {old new : ReaderState} {lines : List InputLine}
     {writer1 writer2 writer messages1 messages2 messages : Device}
-    (w : Joins writer1 writer2 writer) (m : Joins messages1 messages2 messages) where
+    (w : Joins writer1 writer2 writer) (m : Joins messages1 messages2 messages)
+    (running : IsRunning input writer1 messages1 old lines (filter.so_far lines)) {line : InputLine} {number :
+    ℕ}
+    (read : ReadsLine then.gave then.at_end then.start then.counted new lines line number) where
   -- a line was taken
-  pub goes-by : IsRunning input writer1 messages1 old lines (filter.so_far lines)
-      → (line : InputLine) (number : ℕ)
-      → ReadsLine then.gave then.at_end then.start then.counted new lines line number
-      → (shows : List InputLine → List Awaited → Type 0) (warned : Bool)
+  pub goes-by : {shows : List InputLine → List Awaited → Type 0} {warned : Bool}
       → IsDone (filter.so_far lines) (filter.so_far (with_next lines line)) (shows (with_next lines line) [])
-      writer2 messages2 warned
-      → GoesOnBy filter shows then writer messages new lines warned
-  goes-by running line number read shows warned done = record {
+      writer2 messages2 warned → GoesOnBy filter shows then writer messages new lines warned
+  goes-by done = record {
     line = line;
     shown = done.is_shown;
     running = record {
       read = read.read;
       going = read.going;
-      out = out-more w m (filter.so_far lines) (filter.so_far (with_next lines line)) running.out done.text
-          done.notices done.adds done.wrote done.reported;
+      out = out-more w m _ _ running.out _ _ done.adds done.wrote done.reported;
     };
     notices = done.notices;
     added = done.adds.warnings;
@@ -67,38 +51,32 @@ module _ (filter : Filter) {input then : Input} {old new : ReaderState} (lines :
   }
 
   -- a line ended the run
-  pub ends-by : IsRunning input writer1 messages1 old lines (filter.so_far lines)
-      → (line : InputLine) (number : ℕ)
-      → ReadsLine then.gave then.at_end then.start then.counted new lines line number
-      → (halt : Halt) → LineEndsRun filter lines line writer2 messages2 halt
+  pub ends-by : (halt : Halt) → LineEndsRun filter lines line writer2 messages2 halt
       → EndsBy filter then writer messages new lines halt
-  ends-by running line number read halt e = record {
+  ends-by halt e = record {
     line = line;
     read = read.read;
     going = read.going;
-    ends = ends-after w m (filter.so_far lines) (filter.so_far (with_next lines line)) running.out
-        (filter.memory_after lines line) (length lines + 1) halt e;
+    ends = ends-after w m _ _ running.out _ _ halt e;
   }
 
-module _ (filter : Filter) {input : Input} {now : ReaderState} (lines : List InputLine)
+module _ {filter : Filter} {input : Input} {now : ReaderState} {lines : List InputLine}
     {writer1 writer2 writer messages1 messages2 messages : Device}
     (w : Joins writer1 writer2 writer) (m : Joins messages1 messages2 messages)
-    (shows : List InputLine → List Awaited → Type 0)
+    {shows : List InputLine → List Awaited → Type 0}
     (comes : ComesToEnd filter shows input writer1 messages1 now lines)
-    (last : ℕ) (last_is : last ≡ now.number) where
+    {last : ℕ} (last_is : last ≡ now.number) where
   -- the end was taken
-  pub well-done : (has_ended : List InputLine → Type 0) (warned warning both : Bool)
+  pub well-done : {has_ended : List InputLine → Type 0} {warned warning both : Bool}
       → warned ≡ are_some (filter.so_far lines).warnings → both ≡ (warned || warning)
       → IsDone (filter.so_far lines) (filter.whole lines) (has_ended lines) writer2 messages2 warning
       → WellDone filter has_ended input writer messages now last both
-  well-done has_ended warned warning both flag is done = record {
+  well-done flag is done = record {
     lines = lines;
     read = comes.running.read;
     ended = comes.ended;
-    out = out-more w m (filter.so_far lines) (filter.whole lines) comes.running.out done.text done.notices
-        done.adds done.wrote done.reported;
-    flag = is ∙ flag-after (filter.so_far lines).warnings done.notices (filter.whole lines).warnings warned
-        warning flag done.flag done.adds.warnings;
+    out = out-more w m _ _ comes.running.out _ _ done.adds done.wrote done.reported;
+    flag = is ∙ flag-after _ done.notices _ _ _ flag done.flag done.adds.warnings;
     engine_ended = done.is_shown;
     last_is = last_is ∙ comes.running.read.number;
   }
@@ -110,7 +88,6 @@ module _ (filter : Filter) {input : Input} {now : ReaderState} (lines : List Inp
     lines = lines;
     read = comes.running.read;
     ended = comes.ended;
-    ends = ends-after w m (filter.so_far lines) (filter.whole lines) comes.running.out None (length lines) halt
-        e;
+    ends = ends-after w m _ _ comes.running.out None _ halt e.0;
     last_is = last_is ∙ comes.running.read.number;
   }

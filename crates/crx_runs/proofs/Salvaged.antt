@@ -1,88 +1,63 @@
 -- What is after a run, by how it ended.
 use Rattle.std.proofs.Common.{◌≡◌, ◌⊎◌, inl, inr, ℕ, ◌≤◌, List, [], ◌∷◌, ◌++◌, length, take, drop, refl, sym}
-use Rattle.std.proofs.Common.{ap, subst}
-use Rattle.std.proofs.Common.{◌∙◌, append-nil, append_assoc}
-use Rattle.std.proofs.lemmas.List.{take_all, take-append-drop}
-use Rattle.crx_lines.specs.meaning.Devices.{Tally, one_more}
-use Rattle.crx_base.specs.meaning.Lines.{InputLine, lines_of}
+use Rattle.std.proofs.{Common.{ap, subst, ◌∙◌, append-nil, append_assoc}, lemmas.List.take_all}
+use Rattle.std.proofs.lemmas.List.{take-append-drop}
+use Rattle.crx_lines.{proofs.ProgressLemmas.HasRead-ended, specs.Progress.{HasRead, StandsAt, IsOpen}}
+use Rattle.crx_lines.specs.{Progress.IsStopped, Reading.ReaderState, declared.phase.Phase.Phase}
+use Rattle.crx_lines.specs.{declared.phase.Phase.TheVariants.{Open, Ended}, meaning.Devices.{Tally, one_more}}
+use Rattle.crx_base.specs.declared.fault.Fault.{Fault, TheVariants.{InputTooLong, ReadFailed}}
+use Rattle.crx_base.specs.{declared.limits.TheConstants.INPUT_LIMIT, meaning.Lines.{InputLine, lines_of}}
 use Rattle.crx_base.specs.meaning.Seen.{ended_lines_of}
-use Rattle.crx_lines.specs.Reading.{ReaderState}
-use Rattle.crx_lines.specs.Progress.{HasRead, StandsAt, IsOpen, IsStopped}
-use Rattle.crx_base.specs.declared.limits.TheConstants.{INPUT_LIMIT}
-use Rattle.crx_base.specs.declared.fault.Fault.{Fault}
-use Rattle.crx_base.specs.declared.fault.Fault.TheVariants.{InputTooLong, ReadFailed}
-use Rattle.crx_lines.specs.declared.phase.Phase.{Phase}
-use Rattle.crx_lines.specs.declared.phase.Phase.TheVariants.{Open, Ended}
-use Rattle.crx_lines.proofs.ProgressLemmas.{HasRead-ended}
-use Rattle.crx_runs.specs.meaning.Results.{Course, Begins}
-use Rattle.crx_runs.specs.meaning.Filters.{Filter, with_next}
-use Rattle.crx_runs.specs.meaning.Spans.{Input}
-use Rattle.crx_runs.specs.Lawful.{IsLawful}
-use Rattle.crx_runs.specs.meaning.Interruptions.{complete_lines, AreAll, AreTaken, IsTurn}
+use Rattle.crx_runs.specs.{Lawful.IsLawful, meaning.Filters.{Filter, with_next}}
+use Rattle.crx_runs.specs.meaning.{Interruptions.{complete_lines, AreAll, AreTaken, IsTurn}, Results.Course}
+use Rattle.crx_runs.specs.meaning.{Results.Begins, Spans.Input}
 
 -- ---- what was read
 
 -- up to the limit of an input all its bytes count
 complete-within : (given : List ℕ) → length given ≤ INPUT_LIMIT → complete_lines given ≡ ended_lines_of given
-complete-within given within = ap ended_lines_of (take_all INPUT_LIMIT given within)
-
-pub all-read : (input : Input) (now : ReaderState) (lines : List InputLine)
-    (h : HasRead input.gave input.at_end input.start input.counted now lines) → now.phase ≡ Ended
-    → AreAll input h.given lines
-all-read input now lines h e =
-    let over = HasRead-ended input.gave input.at_end input.start input.counted now lines h e in
-    record { reported = over.reported; within = over.within; same = sym over.all }
-
-pub taken-read : (input : Input) (now : ReaderState) (lines : List InputLine)
-    (h : HasRead input.gave input.at_end input.start input.counted now lines)
-    → (now.phase ≡ Open) ⊎ (now.phase ≡ Ended)
-    → AreTaken input h.given lines
-taken-read input now lines h (inl e) =
-    let o : IsOpen input.start input.counted h.given now lines =
-    subst (λ (f : Phase). StandsAt f input.at_end input.start input.counted h.given now lines) e h.stands in
-    inl (
-      ended_lines_of (now.rest ++ []),
-      complete-within h.given o.within
-          ∙ ap ended_lines_of (sym (append-nil h.given)) ∙ o.ended [],
-    )
-taken-read input now lines h (inr e) = inr (all-read input now lines h e)
-
-pub none-failed : (input : Input) (now : ReaderState) (lines : List InputLine)
-    (h : HasRead input.gave input.at_end input.start input.counted now lines)
-    → (now.phase ≡ Open) ⊎ (now.phase ≡ Ended)
-    → input.counted.failures ≡ input.start.failures
-none-failed input now lines h (inl e) =
-    let o : IsOpen input.start input.counted h.given now lines =
-    subst (λ (f : Phase). StandsAt f input.at_end input.start input.counted h.given now lines) e h.stands in
-    ap (λ (t : Tally). t.failures) o.counts
-none-failed input now lines h (inr e) =
-    let o = HasRead-ended input.gave input.at_end input.start input.counted now lines h e in
-    ap (λ (t : Tally). t.failures) o.counts
+complete-within given within = ap ended_lines_of (take_all _ given within)
 
 -- the end was reported at most once
 abbrev pub AskedOnce : Input → Type 0
 AskedOnce input = (input.counted.ends ≡ input.start.ends) ⊎ (input.counted.ends ≡ one_more input.start.ends)
 
-pub asked-once : (input : Input) (now : ReaderState)
-    (lines : List InputLine) (h : HasRead input.gave input.at_end input.start input.counted now lines)
-    → (now.phase ≡ Open) ⊎ (now.phase ≡ Ended) → AskedOnce input
-asked-once input now lines h (inl e) =
-    let o : IsOpen input.start input.counted h.given now lines =
-    subst (λ (f : Phase). StandsAt f input.at_end input.start input.counted h.given now lines) e h.stands in
-    inl (ap (λ (t : Tally). t.ends) o.counts)
-asked-once input now lines h (inr e) =
-    let o = HasRead-ended input.gave input.at_end input.start input.counted now lines h e in
-    inr (ap (λ (t : Tally). t.ends) o.counts)
+module _ {input : Input} {now : ReaderState} {lines : List InputLine}
+    (h : HasRead input.gave input.at_end input.start input.counted now lines) where
+  pub is-open : now.phase ≡ Open → IsOpen input.start input.counted h.given now lines
+  is-open e = subst (λ f. StandsAt f input.at_end input.start input.counted h.given now lines) e h.stands
+
+  pub all-read : now.phase ≡ Ended → AreAll input h.given lines
+  all-read e =
+      let over = HasRead-ended _ _ _ _ _ _ h e in
+      record { reported = over.reported; within = over.within; same = sym over.all }
+
+  pub taken-read : (now.phase ≡ Open) ⊎ (now.phase ≡ Ended) → AreTaken input h.given lines
+  taken-read (inl e) =
+      let o = is-open e in
+      inl (
+        ended_lines_of (now.rest ++ []),
+        complete-within h.given o.within ∙ ap ended_lines_of (sym (append-nil h.given)) ∙ o.ended [],
+      )
+  taken-read (inr e) = inr (all-read e)
+
+  pub none-failed : (now.phase ≡ Open) ⊎ (now.phase ≡ Ended) → input.counted.failures ≡ input.start.failures
+  none-failed (inl e) = ap (λ t. t.failures) (is-open e).counts
+  none-failed (inr e) = ap (λ t. t.failures) (HasRead-ended _ _ _ _ _ _ h e).counts
+
+  pub asked-once : (now.phase ≡ Open) ⊎ (now.phase ≡ Ended) → AskedOnce input
+  asked-once (inl e) = inl (ap (λ t. t.ends) (is-open e).counts)
+  asked-once (inr e) = inr (ap (λ t. t.ends) (HasRead-ended _ _ _ _ _ _ h e).counts)
 
 pub asked-stopped : (input : Input) (f : Fault) (given : List ℕ) (lines : List InputLine)
     → IsStopped f input.start input.counted given lines → AskedOnce input
-asked-stopped input InputTooLong given lines s = inl (ap (λ (t : Tally). t.ends) s.2)
-asked-stopped input ReadFailed given lines s = inl (ap (λ (t : Tally). t.ends) s.2)
+asked-stopped input InputTooLong given lines s = inl (ap (λ t. t.ends) s.2)
+asked-stopped input ReadFailed given lines s = inl (ap (λ t. t.ends) s.2)
 asked-stopped input _ given lines s = absurd s
 
-pub all-of : (input : Input) (given : List ℕ) (lines : List InputLine)
+pub all-of : {input : Input} {given : List ℕ} {lines : List InputLine}
     → AreAll input given lines → AreAll input given (lines_of given)
-all-of input given lines a = record { reported = a.reported; within = a.within; same = refl }
+all-of a = record { reported = a.reported; within = a.within; same = refl }
 
 -- the lines before the reading stopped are those that were complete
 pub complete-stopped : (given : List ℕ) (lines : List InputLine) (f : Fault) (start counted : Tally)
@@ -93,10 +68,10 @@ complete-stopped given lines _ start counted s = absurd s
 
 -- ---- prefixes
 
-begins-more : (text middle first : List ℕ) → Begins text middle → Begins middle first → Begins text first
-begins-more text middle first a b = record {
+begins-more : {text middle first : List ℕ} → Begins text middle → Begins middle first → Begins text first
+begins-more {first = first} a b = record {
   rest = b.rest ++ a.rest;
-  same = a.same ∙ ap (λ (t : List ℕ). t ++ a.rest) b.same ∙ append_assoc first b.rest a.rest;
+  same = a.same ∙ ap (λ t. t ++ a.rest) b.same ∙ append_assoc first b.rest a.rest;
 }
 
 pub begins-itself : (text : List ℕ) → Begins text text
@@ -106,57 +81,36 @@ pub begins-taken : (n : ℕ) (text : List ℕ) → Begins text (take n text)
 begins-taken n text = record { rest = drop n text; same = sym (take-append-drop n text) }
 
 -- the output of lines that were taken is first
-module _ (filter : Filter) (lawful : IsLawful filter) (input : Input) (given : List ℕ) where
-  abbrev IsFirst : List ℕ → Type 0
+module _ {filter : Filter} (lawful : IsLawful filter) (input : Input) (given : List ℕ) where
+  abbrev pub IsFirst : List ℕ → Type 0
   IsFirst written = Begins (filter.so_far (complete_lines given)).output written
       ⊎ (input.at_end × Begins (filter.whole (lines_of given)).output written)
 
-  pub first-taken : (lines : List InputLine) (written : List ℕ)
+  first-taken : (lines : List InputLine) (written : List ℕ)
       → AreTaken input given lines → Begins (filter.so_far lines).output written → IsFirst written
-  first-taken lines written (inl t) begins =
-      inl (begins-more _ (filter.so_far lines).output written (subst (λ (ls : List InputLine).
+  first-taken lines written (inl t) begins = inl (begins-more (subst (λ ls.
       Begins (filter.so_far ls).output (filter.so_far lines).output) (sym t.1) (lawful.grows lines t.0))
       begins)
-  first-taken lines written (inr t) begins =
-      inr (
-        t.reported,
-        begins-more _ (filter.so_far lines).output written
-            (subst (λ (ls : List InputLine). Begins (filter.whole ls).output (filter.so_far lines).output)
-            (append-nil lines ∙ sym t.same) (lawful.goes_on lines [])) begins,
-      )
-
-  pub first-whole : (written : List ℕ)
-      → AreAll input given (lines_of given) → Begins (filter.whole (lines_of given)).output written
-      → IsFirst written
-  first-whole written t begins = inr (t.reported, begins)
-
-  pub first-before : (lines : List InputLine) (line : InputLine) (written : List ℕ)
-      → AreTaken input given (with_next lines line) → Begins (filter.so_far lines).output written
-      → IsFirst written
-  first-before lines line written t begins =
-      first-taken (with_next lines line) written t
-      (begins-more _ (filter.so_far lines).output written (lawful.grows lines (line ∷ [])) begins)
+  first-taken lines written (inr t) begins = inr (
+    t.reported,
+    begins-more (subst (λ ls. Begins (filter.whole ls).output (filter.so_far lines).output) (append-nil lines
+        ∙ sym t.same) (lawful.goes_on lines [])) begins,
+  )
 
   -- the output after a turn is first, and so is that before it
-  pub first-after-turn : (before after : Course) (last : ℕ) (written : List ℕ)
+  pub first-after-turn : {before after : Course} {last : ℕ} (written : List ℕ)
       → IsTurn filter input given before after last → Begins after.output written → IsFirst written
-  first-after-turn before after last written (inl t) begins =
-      first-taken (with_next t.lines t.line) written t.taken
-      (subst (λ (c : Course). Begins c.output written) t.after_is begins)
-  first-after-turn before after last written (inr t) begins =
-      first-whole written t.all (subst (λ (c : Course). Begins c.output written) t.after_is begins)
+  first-after-turn written (inl t) begins =
+      first-taken _ written t.taken (rw (← t.after_is) begins)
+  first-after-turn written (inr t) begins = inr (t.all.reported, rw (← t.after_is) begins)
 
-  pub first-before-turn : (before after : Course) (last : ℕ) (written : List ℕ)
+  pub first-before-turn : {before after : Course} {last : ℕ} (written : List ℕ)
       → IsTurn filter input given before after last → Begins before.output written → IsFirst written
-  first-before-turn before after last written (inl t) begins =
-      first-before t.lines t.line written t.taken
-      (subst (λ (c : Course). Begins c.output written) t.before_is begins)
-  first-before-turn before after last written (inr t) begins =
-      first-taken (lines_of given) written
-      (inr t.all) (subst (λ (c : Course). Begins c.output written) t.before_is begins)
+  first-before-turn written (inl t) begins = first-taken _ written t.taken
+      (begins-more (lawful.grows t.lines _) (rw (← t.before_is) begins))
+  first-before-turn written (inr t) begins =
+      first-taken _ written (inr t.all) (rw (← t.before_is) begins)
 
   pub first-complete : (lines : List InputLine) → lines ≡ complete_lines given
       → IsFirst (filter.so_far lines).output
-  first-complete lines same = inl (subst (λ (ls : List InputLine).
-      Begins (filter.so_far ls).output (filter.so_far lines).output) same
-      (begins-itself (filter.so_far lines).output))
+  first-complete lines same = inl (rw (← same) (begins-itself (filter.so_far lines).output))

@@ -1,5 +1,5 @@
 -- How a run can end: by a line or the end of the input, by its reader, or at its start; and how it is finished then.
-use Rattle.std.specs.Prelude.{◌≡◌, ◌⊎◌, ℕ, ◌+◌, Bool, List, [], ◌++◌, length, Option, Some, None}
+use Rattle.std.specs.Prelude.{◌≡◌, ◌⊎◌, ℕ, ◌+◌, Bool, List, [], ◌∷◌, ◌++◌, length, Option, Some, None}
 use Rattle.crx_base.specs.meaning.Lines.{InputLine}
 use Rattle.crx_base.specs.declared.fault.At.{At}
 use Rattle.crx_base.specs.declared.fault.Fault.TheVariants.{OutOfMemory, WriteFailed}
@@ -90,10 +90,16 @@ abbrev pub LineEndsRun : Filter → List InputLine → InputLine → Device → 
 LineEndsRun filter lines line writer messages halt = EndsFrom (filter.memory_after lines line) (length lines + 1)
     writer messages (filter.so_far lines) (filter.so_far (with_next lines line)) halt
 
+-- the end of the input has no warning where a fault, or its lines, ended the run, and else one
+abbrev pub WarnsAtEnd : Course → Course → Halt → Type 0
+WarnsAtEnd before after Unreported = (notice : At) × (after.warnings ≡ before.warnings ++ notice ∷ [])
+WarnsAtEnd before after halt = after.warnings ≡ before.warnings
+
 -- the end of the input ended it, after these lines
 abbrev pub EndEndsRun : Filter → List InputLine → Device → Device → Halt → Type 0
 EndEndsRun filter lines writer messages halt =
     EndsFrom None (length lines) writer messages (filter.so_far lines) (filter.whole lines) halt
+    × WarnsAtEnd (filter.so_far lines) (filter.whole lines) halt
 
 -- ---- in a run over an input
 

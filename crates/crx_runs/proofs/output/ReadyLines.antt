@@ -1,48 +1,37 @@
 -- Lines that are written one after another, each with LF.
-use Rattle.std.proofs.Common.{◌≡◌, ℕ, ◌+◌, List, [], ◌∷◌, ◌++◌, length, take, drop, Some, sym, ap, ◌∙◌}
-use Rattle.std.proofs.Common.{subst}
-use Rattle.std.proofs.Common.{arith, append_assoc, length-append}
-use Rattle.std.specs.Prelude.{slice_get}
-use Rattle.std.proofs.Math.Seq.{take-append-add}
-use Rattle.std.proofs.lemmas.List.{take-append-le}
+use Rattle.std.proofs.Common.{◌≡◌, ℕ, ◌+◌, List, [], ◌∷◌, ◌++◌, length, take, drop, Some, sym, ap, ◌∙◌, subst}
+use Rattle.std.proofs.{Common.{arith, append_assoc, length-append}, Math.Seq.take-append-add}
+use Rattle.std.{proofs.lemmas.List.take-append-le, specs.Prelude.slice_get}
 use Rattle.crx_base.specs.meaning.Lines.{lines_text}
 use Rattle.crx_lines.specs.meaning.Devices.{with_failed_write}
-use Rattle.crx_runs.specs.meaning.Spans.{Device, TookAll, TookPart}
-use Rattle.crx_runs.proofs.DeviceSpans.{Joins}
+use Rattle.crx_runs.{proofs.DeviceSpans.Joins, specs.meaning.Spans.{Device, TookAll, TookPart}}
 
 -- the first of some lines, and the rest
 pub first-and-rest : (lines : List (List ℕ)) (line : List ℕ)
     → Some line ≡ slice_get lines 0 → lines ≡ line ∷ drop 1 lines
 first-and-rest [] line is = cc
-first-and-rest (l ∷ ls) line is = let same : line ≡ l = cc in ap (λ (x : List ℕ). x ∷ ls) (sym same)
+first-and-rest (l ∷ ls) line is = let same : line ≡ l = cc in ap (λ x. x ∷ ls) (sym same)
 
 -- what is still to be written after a line and its LF
 pub one-written : (all written line : List ℕ) (lines : List (List ℕ))
     → all ≡ written ++ lines_text lines → lines ≡ line ∷ drop 1 lines
     → all ≡ (written ++ line ++ 10 ∷ []) ++ lines_text (drop 1 lines)
 one-written all written line lines whole is =
-    whole ∙ ap (λ (ls : List (List ℕ)). written ++ lines_text ls) is
-    ∙ sym (append_assoc written (line ++ 10 ∷ []) (lines_text (drop 1 lines)))
-    ∙ ap (λ (t : List ℕ). t ++ lines_text (drop 1 lines)) (sym (append_assoc written line (10 ∷ [])))
+    whole ∙ ap (λ ls. written ++ lines_text ls) is ∙ sym (append_assoc written _ _) ∙ ap
+    (λ t. t ++ lines_text (drop 1 lines)) (sym (append_assoc written line _))
 
 -- a part of a text, after what was written of it before
 pub part-after : {first second both : Device} → Joins first second both → (written text rest all : List ℕ)
     → all ≡ written ++ (text ++ rest) → TookAll first written → TookPart second text → TookPart both all
 part-after {both = both} j written text rest all whole a b =
     let n = b.0.0 in
-    let front : take (length written + n) all ≡ written ++ take n text =
-    ap (take (length written + n)) whole ∙ take-append-add written (text ++ rest) n
+    let front =
+    ap (take _) whole ∙ take-append-add written _ n
     ∙ ap (λ (t : List ℕ). written ++ t) (take-append-le n text rest (omega (arith, b.0.1))) in (
       (
         length written + n,
-        omega (
-          arith,
-          b.0.1,
-          ap length whole,
-          length-append written (text ++ rest),
-          length-append text rest,
-        ),
-        subst both.took (sym front) (j.joined written (take n text) a.0 b.0.2),
+        omega (arith, ap length whole, length-append written (text ++ rest), length-append text rest),
+        subst both.took (sym front) (j.joined written _ a.0 b.0.2),
       ),
       j.end ∙ b.1 ∙ ap with_failed_write (j.same ∙ a.1 ∙ sym j.start),
     )

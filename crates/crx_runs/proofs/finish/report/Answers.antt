@@ -9,10 +9,9 @@ returns-in-Err-clause-reported g c =
     inr (
       (
         n,
-        subst (λ (t : List ℕ). n < length t) same c.in-Err.ensures.short,
-        subst (λ (t : List ℕ).
-            g.M.Sink.took c.args.messages.now (take n t) c.write_all_counted.new.writer) same
-            c.in-Err.ensures.part,
+        subst (λ t. n < length t) same c.in-Err.ensures.short,
+        subst (λ t. g.M.Sink.took c.args.messages.now (take n t)
+            c.write_all_counted.new.writer) same c.in-Err.ensures.part,
       ),
       ap₂ sink_tally_of c.in-Err.ensures.counted c.in-Err.ensures.unasked,
     )

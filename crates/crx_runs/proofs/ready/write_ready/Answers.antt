@@ -1,11 +1,9 @@
 use Rattle.std.proofs.Common.{◌≡◌, ℕ, List, [], ◌∷◌, ◌++◌, drop, sym, ap, ap₂, ◌∙◌, append_assoc}
 use Rattle.crx_base.specs.meaning.Lines.{InputLine, lines_text}
 use Rattle.crx_lines.specs.Devices.{sink_tally_of}
-use Rattle.crx_runs.specs.Engines.{Awaited}
-use Rattle.crx_runs.proofs.DeviceSpans.{all-all, span-joins}
-use Rattle.crx_runs.proofs.output.ReadyLines.{first-and-rest, one-written, part-after}
-use Rattle.crx_runs.proofs.ready.write_ready.Given.{Over}
-use Rattle.crx_runs.proofs.ready.write_ready.Goals.{In-Some-next_line}
+use Rattle.crx_runs.proofs.{DeviceSpans.{all-all, span-joins}, output.ReadyLines.first-and-rest}
+use Rattle.crx_runs.proofs.{output.ReadyLines.{one-written, part-after}, ready.write_ready.Given.Over}
+use Rattle.crx_runs.{proofs.ready.write_ready.Goals.In-Some-next_line, specs.Engines.Awaited}
 use Rattle.crx_runs.proofs.ready.write_ready.Goals as goal
 
 -- What was ready at first is what was written, the next line, its LF and the others.
@@ -14,19 +12,16 @@ next-line : (g : Over) (c : In-Some-next_line g) → lines_text (g.E.Engine.read
     ++ (10 ∷ [] ++ lines_text (drop 1 (g.E.Engine.ready c.loop-line.engine))))
 next-line g c =
     let line = c.in-Some-next_line.line.now in
-    let lines = g.E.Engine.ready c.loop-line.engine in
+    let lines = g.E.Engine.ready _ in
     let so_far = c.loop-line.invariant.0 in
-    so_far.2 ∙ ap (λ (ls : List (List ℕ)). so_far.0 ++ lines_text ls)
+    so_far.2 ∙ ap (λ ls. so_far.0 ++ lines_text ls)
     (first-and-rest lines line c.in-Some-next_line.ensures.value)
-    ∙ ap (λ (t : List ℕ). so_far.0 ++ t) (append_assoc line (10 ∷ []) (lines_text (drop 1 lines)))
+    ∙ ap (λ t. so_far.0 ++ t) (append_assoc line _ _)
 
 pub returns-in-Err-write_all_counted-clause-part : goal.returns-in-Err-write_all_counted-clause-part
 returns-in-Err-write_all_counted-clause-part g c =
     let e = c.in-Err-write_all_counted.ensures in
-    part-after (span-joins g.W.Sink c.args.writer.now c.loop-line.writer
-    c.write_all_counted-in-Some-next_line.new.writer
-    (g.met.W.Sink.took_both c.args.writer.now c.loop-line.writer
-    c.write_all_counted-in-Some-next_line.new.writer))
+    part-after (span-joins g.W.Sink g.met.W.Sink.took_both)
     c.loop-line.invariant.0.0 c.in-Some-next_line.line.now _ _
     (next-line g (goal.at.returns-in-Err-write_all_counted-clause-part g c).In-Some-next_line)
     c.loop-line.invariant.0.1
@@ -42,12 +37,9 @@ returns-in-Err-write_all_counted-2-clause-part g c =
     let so_far = c.loop-line.invariant.0 in
     let d = c.in_default-write_all_counted.ensures in
     let e = c.in-Err-write_all_counted-2.ensures in
-    part-after (span-joins g.W.Sink old mid then (g.met.W.Sink.took_both old mid then)) (so_far.0 ++ line)
-    (10 ∷ []) _ _
-    (next-line g (goal.at.returns-in-Err-write_all_counted-2-clause-part g c).In-Some-next_line
-    ∙ sym (append_assoc so_far.0 line
-    (10 ∷ [] ++ lines_text (drop 1 (g.E.Engine.ready c.loop-line.engine)))))
-    (all-all (span-joins g.W.Sink old now mid (g.met.W.Sink.took_both old now mid)) so_far.0 line so_far.1
+    part-after (span-joins g.W.Sink g.met.W.Sink.took_both) (so_far.0 ++ line) (10 ∷ []) _ _
+    (next-line g (goal.at.returns-in-Err-write_all_counted-2-clause-part g c).In-Some-next_line ∙ sym
+    (append_assoc _ line _)) (all-all (span-joins g.W.Sink g.met.W.Sink.took_both) _ line so_far.1
     (d.all, ap₂ sink_tally_of d.good d.unasked))
     ((c.in-Err-write_all_counted-2.field-0-0, e.short, e.part), ap₂ sink_tally_of e.counted e.unasked)
 
@@ -58,7 +50,7 @@ loop-line-preserved g c =
     let mid = c.write_all_counted-in-Some-next_line.new.writer in
     let then = c.write_all_counted-in-Some-next_line-2.new.writer in
     let line = c.in-Some-next_line.line.now in
-    let lines = g.E.Engine.ready c.loop-line.engine in
+    let lines = g.E.Engine.ready _ in
     let kept = c.next_line.follows.holds-at-none in
     let i = c.loop-line.invariant in
     let so_far = i.0 in
@@ -66,19 +58,16 @@ loop-line-preserved g c =
     let e = c.in_default-write_all_counted-2.ensures in (
       (
         so_far.0 ++ line ++ 10 ∷ [],
-        all-all (span-joins g.W.Sink old mid then (g.met.W.Sink.took_both old mid then)) (so_far.0 ++ line)
-            (10 ∷ [])
-            (all-all (span-joins g.W.Sink old now mid (g.met.W.Sink.took_both old now mid)) so_far.0 line
-            so_far.1 (d.all, ap₂ sink_tally_of d.good d.unasked))
-            (e.all, ap₂ sink_tally_of e.good e.unasked),
-        one-written _ so_far.0 line lines so_far.2
-            (first-and-rest lines line c.in-Some-next_line.ensures.value)
-            ∙ ap (λ (ls : List (List ℕ)). (so_far.0 ++ line ++ 10 ∷ []) ++ lines_text ls) (sym kept.0),
+        all-all (span-joins g.W.Sink g.met.W.Sink.took_both) _ _
+            (all-all (span-joins g.W.Sink g.met.W.Sink.took_both) _ line so_far.1
+            (d.all, ap₂ sink_tally_of d.good d.unasked)) (e.all, ap₂ sink_tally_of e.good e.unasked),
+        one-written _ _ line lines so_far.2 (first-and-rest lines line c.in-Some-next_line.ensures.value) ∙ ap
+            (λ ls. (so_far.0 ++ line ++ 10 ∷ []) ++ lines_text ls) (sym kept.0),
       ),
       record {
         filter = kept.1 ∙ i.1.filter;
-        shows = λ (ls : List InputLine) (notices : List Awaited) h. kept.2 ls notices (i.1.shows ls notices h);
+        shows = λ ls notices h. kept.2 ls notices (i.1.shows ls notices h);
         running = λ h. kept.3 (i.1.running h);
-        ended = λ (ls : List InputLine) h. kept.4 ls (i.1.ended ls h);
+        ended = λ ls h. kept.4 ls (i.1.ended ls h);
       },
     )

@@ -1,8 +1,7 @@
 use Rattle.std.proofs.Common.{refl}
 use Rattle.crx_lines.specs.Readers.{reading}
+use Rattle.crx_runs.proofs.{Conclusions.{runs-as, runs-nothing}, DeviceSpans.span-joins}
 use Rattle.crx_runs.specs.meaning.Spans.{reader_span}
-use Rattle.crx_runs.proofs.Conclusions.{runs-as, runs-nothing}
-use Rattle.crx_runs.proofs.DeviceSpans.{span-joins}
 use Rattle.crx_runs.proofs.run.run.Goals as goal
 
 pub returns-in-Err : goal.returns-in-Err
@@ -13,12 +12,10 @@ returns-in-Err g c =
     let m = c.args.messages.now in
     record {
       runs = runs-nothing (g.E.Engine.filter c.args.engine.now) c.requires.lawful (reader_span g.R.Source r r)
-          (span-joins g.W.Sink w w c.finish.new.writer (g.met.W.Sink.took_both w w c.finish.new.writer))
-          (span-joins g.M.Sink m m c.finish.new.messages (g.met.M.Sink.took_both m m c.finish.new.messages))
-          (g.E.Engine.has_ended c.args.engine.now)
-          work.last work.warned work.halt c.finish.result.status c.finish.result.fault
-          c.no_memory.ensures.halt c.no_memory.ensures.last (g.met.R.Source.gave_none r) refl
-          (g.met.W.Sink.took_none w, refl) (g.met.M.Sink.took_none m, refl) c.finish.ensures;
+          (span-joins g.W.Sink g.met.W.Sink.took_both) (span-joins g.M.Sink g.met.M.Sink.took_both)
+          (g.E.Engine.has_ended c.args.engine.now) work.last work.warned work.halt c.finish.result.status
+          c.finish.result.fault c.no_memory.ensures.halt c.no_memory.ensures.last (g.met.R.Source.gave_none r)
+          refl (g.met.W.Sink.took_none w, refl) (g.met.M.Sink.took_none m, refl) c.finish.ensures;
     }
 
 pub returns-in-Ok : goal.returns-in-Ok
@@ -30,10 +27,7 @@ returns-in-Ok g c =
     record {
       runs = runs-as (g.E.Engine.filter c.args.engine.now) c.requires.lawful
           (reader_span g.R.Source c.args.reader.now work.new.reader)
-          (span-joins g.W.Sink w work.new.writer then.writer
-          (g.met.W.Sink.took_both w work.new.writer then.writer))
-          (span-joins g.M.Sink m work.new.messages then.messages
-          (g.met.M.Sink.took_both m work.new.messages then.messages))
+          (span-joins g.W.Sink g.met.W.Sink.took_both) (span-joins g.M.Sink g.met.M.Sink.took_both)
           (g.E.Engine.has_ended work.new.engine) (reading work.new.input) work.result.last work.result.warned
           work.result.halt c.finish-in-Ok.result.status c.finish-in-Ok.result.fault work.ensures
           c.finish-in-Ok.ensures;

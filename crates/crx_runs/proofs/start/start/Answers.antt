@@ -1,11 +1,6 @@
-use Rattle.std.proofs.Common.{◌≡◌, IfOk, refl, subst}
-use Rattle.std.specs.Prelude.{⊤}
-use Rattle.crx_runs.specs.meaning.Filters.{Filter}
-use Rattle.crx_runs.specs.meaning.Spans.{Input, reader_span, Device, span}
-use Rattle.crx_runs.specs.Runs.{result_by}
-use Rattle.crx_runs.specs.meaning.Runs.{RunsAs}
-use Rattle.crx_runs.proofs.Conclusions.{runs-nothing}
-use Rattle.crx_runs.proofs.DeviceSpans.{span-joins}
+use Rattle.std.{proofs.Common.{◌≡◌, IfOk, refl, subst}, specs.Prelude.⊤}
+use Rattle.crx_runs.{proofs.{Conclusions.runs-nothing, DeviceSpans.span-joins}, specs.Runs.result_by}
+use Rattle.crx_runs.specs.meaning.{Filters.Filter, Runs.RunsAs, Spans.{Input, reader_span, Device, span}}
 use Rattle.crx_runs.proofs.start.start.Goals as goal
 
 pub returns-in-Ok : goal.returns-in-Ok
@@ -23,9 +18,8 @@ returns-in-Ok g c = record {
       subst (λ x. IfOk x (λ e. g.E.Engine.filter e ≡ filter)) c.in-Ok.is same in (
         ran.0,
         ran.1,
-        subst (λ (f : Filter).
-            RunsAs (result_by f) f input ran.0 writer messages c.run.result.status c.run.result.fault) is
-            ran.2,
+        subst (λ (f : Filter). RunsAs (result_by f) f input ran.0 writer messages c.run.result.status
+            c.run.result.fault) is ran.2,
       );
 }
 
@@ -37,10 +31,9 @@ returns-in-Err g c = record {
       let w = c.args.writer.now in
       let m = c.args.messages.now in
       let ran = runs-nothing filter lawful (reader_span g.R.Source r r)
-      (span-joins g.W.Sink w w c.finish.new.writer (g.met.W.Sink.took_both w w c.finish.new.writer))
-      (span-joins g.M.Sink m m c.finish.new.messages (g.met.M.Sink.took_both m m c.finish.new.messages))
-      (λ lines. ⊤) work.last work.warned work.halt c.finish.result.status c.finish.result.fault
-      c.no_memory.ensures.halt c.no_memory.ensures.last (g.met.R.Source.gave_none r) refl
-      (g.met.W.Sink.took_none w, refl) (g.met.M.Sink.took_none m, refl) c.finish.ensures in
+      (span-joins g.W.Sink g.met.W.Sink.took_both) (span-joins g.M.Sink g.met.M.Sink.took_both) (λ lines. ⊤)
+      work.last work.warned work.halt c.finish.result.status c.finish.result.fault c.no_memory.ensures.halt
+      c.no_memory.ensures.last (g.met.R.Source.gave_none r) refl (g.met.W.Sink.took_none w, refl)
+      (g.met.M.Sink.took_none m, refl) c.finish.ensures in
       (ran.0, ran.1, ran.2);
 }

@@ -1,36 +1,31 @@
-use Rattle.std.proofs.Common.{◌≡◌, ℕ, ◌<◌, true, List, [], ◌∷◌, length, take, Ok, Err, refl, sym, ap₂, subst, ◌∙◌, arith}
-use Rattle.std.proofs.Common.{append-nil}
+use Rattle.std.proofs.Common.{◌≡◌, ℕ, ◌<◌, true, List, [], ◌∷◌, length, take, Ok, Err, refl, sym, ap₂, subst}
+use Rattle.std.proofs.Common.{◌∙◌, arith, append-nil}
 use Rattle.crx_base.specs.meaning.Lines.{lines_text}
 use Rattle.crx_lines.specs.Devices.{sink_tally_of}
-use Rattle.crx_runs.specs.declared.engine.Step.{Step}
-use Rattle.crx_runs.specs.declared.taking.Halt.TheVariants.{Unreported, Unwritten}
-use Rattle.crx_runs.specs.Engines.{IsDrainedAfter}
-use Rattle.crx_runs.specs.meaning.Messages.{warning_text}
-use Rattle.crx_runs.specs.meaning.Spans.{span}
-use Rattle.crx_runs.specs.Taking.{IsSettled, made_by}
-use Rattle.crx_runs.proofs.LinesTaken.{ready-cut}
+use Rattle.crx_runs.{proofs.LinesTaken.ready-cut, specs.{Engines.IsDrainedAfter, Taking.{IsSettled, made_by}}}
+use Rattle.crx_runs.specs.declared.{engine.Step.Step, taking.Halt.TheVariants.{Unreported, Unwritten}}
+use Rattle.crx_runs.specs.meaning.{Messages.warning_text, Spans.span}
 use Rattle.crx_runs.proofs.taking.settle.Goals as goal
 
 pub returns-in-Ok-write_all_counted-clause-settled : goal.returns-in-Ok-write_all_counted-clause-settled
 unfolding warning_text
 returns-in-Ok-write_all_counted-clause-settled g c =
-    let ready = g.E.Engine.ready c.args.engine.now in
+    let ready = g.E.Engine.ready _ in
     let w = c.args.writer.now in
     let then = c.write_all_counted.new.writer in
-    let drained : ready ≡ [] = subst (λ (s : Step). IsDrainedAfter s ready) c.in-Warned.is c.requires in
+    let drained = subst (λ s. IsDrainedAfter s ready) c.in-Warned.is c.requires in
     let same = c.bytes.ensures.value ∙ c.message.ensures.value ∙ sym (append-nil _) in
     let e = c.in-Ok-write_all_counted.ensures in
-    subst (λ (s : Step). IsSettled (span g.W.Sink w w) (span g.M.Sink c.args.messages.now then)
-    (made_by ready s) (Ok true)) (sym c.in-Warned.is) (
+    subst (λ s. IsSettled (span g.W.Sink w w) (span g.M.Sink c.args.messages.now then) (made_by ready s)
+    (Ok true)) (sym c.in-Warned.is) (
       record {
         good = refl;
         wrote = (
-          subst (λ (r : List (List ℕ)). g.W.Sink.took w (lines_text r) w) (sym drained)
-              (g.met.W.Sink.took_none w),
+          subst (λ r. g.W.Sink.took w (lines_text r) w) (sym drained) (g.met.W.Sink.took_none w),
           refl,
         );
         reported = (
-          subst (λ (t : List ℕ). g.M.Sink.took c.args.messages.now t then) same e.all,
+          subst (λ t. g.M.Sink.took c.args.messages.now t then) same e.all,
           ap₂ sink_tally_of e.good e.unasked,
         );
       },
@@ -40,13 +35,13 @@ returns-in-Ok-write_all_counted-clause-settled g c =
 pub returns-in-Err-write_all_counted-clause-settled : goal.returns-in-Err-write_all_counted-clause-settled
 unfolding warning_text
 returns-in-Err-write_all_counted-clause-settled g c =
-    let ready = g.E.Engine.ready c.args.engine.now in
+    let ready = g.E.Engine.ready _ in
     let w = c.args.writer.now in
     let then = c.write_all_counted.new.writer in
     let same = c.bytes.ensures.value ∙ c.message.ensures.value ∙ sym (append-nil _) in
     let n = c.in-Err-write_all_counted.field-0.0 in
     let e = c.in-Err-write_all_counted.ensures in
-    subst (λ (s : Step). IsSettled (span g.W.Sink w w) (span g.M.Sink c.args.messages.now then)
+    subst (λ s. IsSettled (span g.W.Sink w w) (span g.M.Sink c.args.messages.now then)
     (made_by ready s) (Err Unreported)) (sym c.in-Warned.is) (record {
       notices = c.in-Warned.notice ∷ [];
       next = ([], refl);
@@ -54,8 +49,8 @@ returns-in-Err-write_all_counted-clause-settled g c =
       reported = record {
         count = n;
         some = omega arith;
-        less = subst (λ (t : List ℕ). n < length t) same e.short;
-        took = subst (λ (t : List ℕ). g.M.Sink.took c.args.messages.now (take n t) then) same e.part;
+        less = subst (λ t. n < length t) same e.short;
+        took = subst (λ t. g.M.Sink.took c.args.messages.now (take n t) then) same e.part;
         failed = ap₂ sink_tally_of e.counted e.unasked;
       };
     })
@@ -63,7 +58,7 @@ returns-in-Err-write_all_counted-clause-settled g c =
 pub returns-in-Err-clause-settled : goal.returns-in-Err-clause-settled
 returns-in-Err-clause-settled g c =
     let m = c.args.messages.now in
-    let ready = g.E.Engine.ready c.args.engine.now in
-    subst (λ (s : Step). IsSettled (span g.W.Sink c.args.writer.now c.write_ready.new.writer)
+    let ready = g.E.Engine.ready _ in
+    subst (λ s. IsSettled (span g.W.Sink c.args.writer.now c.write_ready.new.writer)
     (span g.M.Sink m m) (made_by ready s) (Err Unwritten)) (sym c.in-Ready.is)
     (ready-cut _ _ ready c.in-Err.ensures.part (g.met.M.Sink.took_none m, refl))

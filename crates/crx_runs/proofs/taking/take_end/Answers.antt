@@ -4,7 +4,5 @@ use Rattle.crx_runs.proofs.LinesTaken.{end-comes}
 use Rattle.crx_runs.proofs.taking.take_end.Goals as goal
 
 pub returns-clause-cut : goal.returns-clause-cut
-returns-clause-cut g c = λ (lines : List InputLine) shown.
-    end-comes (g.E.Engine.filter c.args.engine.now) (g.E.Engine.ready c.end.new.self) lines c.in_ok-step.step
-    _ _ c.settle.result c.in_ok-step.ensures.drained (c.in_ok-step.ensures.concludes lines shown)
-    c.settle.ensures.settled
+returns-clause-cut g c = λ lines shown. end-comes (g.E.Engine.filter _) _ lines _ _ _ _
+    c.in_ok-step.ensures.drained (c.in_ok-step.ensures.concludes lines shown) c.settle.ensures.settled

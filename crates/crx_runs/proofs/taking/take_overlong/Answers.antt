@@ -1,13 +1,13 @@
 use Rattle.std.proofs.Common.{true, ◌≡◌}
 use Rattle.crx_base.specs.meaning.Lines.{InputLine, is_long}
+use Rattle.crx_runs.proofs.taking.take_overlong.{Given.Over, Goals.After-overlong-answer}
 use Rattle.crx_runs.specs.Taking.{HasAnswered}
-use Rattle.crx_runs.proofs.taking.take_overlong.Given.{Over}
-use Rattle.crx_runs.proofs.taking.take_overlong.Goals.{After-overlong-answer}
 use Rattle.crx_runs.proofs.taking.take_overlong.Goals as goal
 
 -- What the engine answered to the line.
 answered : (g : Over) (c : After-overlong-answer g)
-    → HasAnswered g.E.Engine c.args.engine.now c.overlong-answer.new.self (λ (l : InputLine). is_long l ≡ true)
+    → HasAnswered g.E.Engine c.args.engine.now c.overlong-answer.new.self (λ (l : InputLine). is_long l ≡
+    true)
     c.overlong-answer.result
 answered g c =
     let e = c.overlong-answer.ensures in
@@ -22,6 +22,5 @@ take_answered-requires g c = (
 
 pub returns : goal.returns
 returns g c = record {
-  taken = c.take_answered.ensures c.args.engine.now
-      (answered g (goal.at.returns g c).After-overlong-answer);
+  taken = c.take_answered.ensures c.args.engine.now (answered g (goal.at.returns g c).After-overlong-answer);
 }

@@ -1,16 +1,12 @@
-use Rattle.rnxcmp_c.proofs.Words.{List, [], None, refl, IfErr-weaker, IfOk-weaker, on_ok_weaker, InputLine}
-use Rattle.rnxcmp_c.proofs.Words.{Held}
-use Rattle.rnxcmp_c.proofs.Cut.{halted-stops, kept-where_done}
-use Rattle.rnxcmp_c.proofs.WithinLemmas.{Ended, Kept, marks-within, step-stays, step-stops}
-use Rattle.rnxcmp_c.proofs.lines.end_within.Given.{Over}
+use Rattle.rnxcmp_c.proofs.{Cut.{halted-stops, kept-where_done}, WithinLemmas.{Ended, Kept, marks-within}}
+use Rattle.rnxcmp_c.proofs.{WithinLemmas.{step-stays, step-stops}, Words.{List, [], None, refl, IfErr-weaker}}
+use Rattle.rnxcmp_c.proofs.{Words.{IfOk-weaker, on_ok_weaker, InputLine, Held}, lines.end_within.Given.Over}
 use Rattle.rnxcmp_c.proofs.lines.end_within.Goals.{After-take_end-taken}
 use Rattle.rnxcmp_c.proofs.lines.end_within.Goals as goal
 
 abbrev mid : (g : Over) → After-take_end-taken g → Held
-mid g c = record c.args.held.now {
-  output = c.take_end-taken.new.writer;
-  messages = c.take_end-taken.new.messages;
-}
+mid g c =
+    record c.args.held.now { output = c.take_end-taken.new.writer; messages = c.take_end-taken.new.messages }
 
 -- the engine took the end, or that ended the run
 came : (g : Over) (c : After-take_end-taken g) (lines : List InputLine)
@@ -29,26 +25,21 @@ came g c lines shown =
           warned done) (taken.ensures.done lines shown),
       IfErr-weaker taken.result _ _
           (λ halt cut. halted-stops _ _ held.output taken.new.writer held.messages taken.new.messages
-          held.number _ halt cut) (taken.ensures.cut lines shown),
+          held.number _ halt cut.0) (taken.ensures.cut lines shown),
     )
 
 pub counted-requires : goal.counted-requires
 counted-requires g c =
     let at = (goal.at.counted-requires g c).After-take_end-taken in
     let step = came g at c.requires.shown.0 c.requires.shown.1 in
-    marks-within _ _ _ _ _ c.args.held.now (mid g at) c.mark-mark.result c.mark-mark.ensures
-    c.take_end-taken.result step.0 step.1
+    marks-within _ _ _ _ _ _ _ _ c.mark-mark.ensures _ step.0 step.1
 
 pub returns-clause-step : goal.returns-clause-step
-returns-clause-step g c = λ (lines : List InputLine) shown.
+returns-clause-step g c = λ (lines : List _) shown.
     let at = (goal.at.returns-clause-step g c).After-take_end-taken in
     let step = came g at lines shown in (
-      on_ok_weaker c.counted.result
-          (λ counted. step-stays 0 None _ _ _ c.args.held.now (mid g at) c.counted.new.held c.mark-mark.result
-          c.mark-mark.ensures refl refl refl c.take_end-taken.result step.0
-          counted) c.counted.ensures.good,
-      IfErr-weaker c.counted.result _ _
-          (λ stop s. step-stops _ _ _ _ _ c.args.held.now (mid g at) c.counted.new.held c.mark-mark.result
-          c.mark-mark.ensures refl refl c.take_end-taken.result step.0
+      on_ok_weaker c.counted.result (λ counted. step-stays 0 None _ _ _ _ _ _ _ c.mark-mark.ensures refl refl
+          refl _ step.0 counted) c.counted.ensures.good,
+      IfErr-weaker _ _ _ (λ stop s. step-stops _ _ _ _ _ _ _ _ _ c.mark-mark.ensures refl refl _ step.0
           step.1 stop s) c.counted.ensures.stops,
     )
