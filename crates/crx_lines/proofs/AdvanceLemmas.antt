@@ -2,31 +2,24 @@
 use Rattle.std.proofs.Common.{◌≡◌, ◌≢◌, ℕ, ◌+◌, ◌-◌, ◌<◌, ◌≤◌, Bool, true, false, not, ◌&&◌, cond, List, []}
 use Rattle.std.proofs.Common.{◌∷◌, ◌++◌, ◌⊎◌, length, take, drop, slice_index, IsTrue, MatchBool, sym, ap}
 use Rattle.std.proofs.Common.{◌∙◌, subst, arith, ⊎_elim, append-nil, append_assoc, length-append, length-take}
-use Rattle.std.proofs.Common.{length-drop, take-append-drop, Option, Some, Ok}
-use Rattle.std.proofs.lemmas.List.{drop_more, get_or-take, take_all, drop_all, take_at, nil_from_length}
-use Rattle.std.proofs.lemmas.List.Elements.{All-append, All-from_get_or}
-use Rattle.std.proofs.lemmas.Bool.{true≢false, lt-ltb}
-use Rattle.crx_lines.specs.meaning.Devices.{Tally, with_failure}
-use Rattle.crx_base.specs.meaning.Lines.{Piece, InputLine, line_of, is_long, without_return, ends_with_return}
-use Rattle.crx_lines.specs.Readers.{part_shown}
-use Rattle.crx_lines.specs.Reading.{HasNoFeed, ReaderState, BeginsWith, TakesPiece, Stops, AnswersFault}
-use Rattle.crx_lines.specs.Reading.{AnswersAs, ReaderAnswers, line_shown, line_number}
-use Rattle.crx_base.specs.declared.fault.At.{At}
-use Rattle.crx_base.specs.declared.fault.Fault.{Fault}
-use Rattle.crx_base.specs.declared.fault.Fault.TheVariants.{InputTooLong, ReadFailed}
-use Rattle.crx_lines.specs.Seeking.{Seeking}
-use Rattle.crx_base.specs.declared.limits.TheConstants.{LINE_LIMIT, INPUT_LIMIT}
-use Rattle.crx_lines.specs.declared.line.Line.{Line}
-use Rattle.crx_lines.specs.declared.line.Part.{Part}
-use Rattle.crx_lines.specs.declared.phase.Phase.TheVariants.{Open, Ended}
-use Rattle.crx_lines.proofs.ReturnLemmas.{length-without_return}
-use Rattle.crx_lines.proofs.SeekLemmas.{Seeking-sum, Seeking-none}
+use Rattle.std.proofs.{Common.{length-drop, take-append-drop, Option, Some, Ok}, lemmas.Bool.true≢false}
+use Rattle.std.proofs.lemmas.{Bool.lt-ltb, List.{drop_more, get_or-take, take_all, drop_all, take_at}}
+use Rattle.std.proofs.lemmas.List.{nil_from_length, Elements.{All-append, All-from_get_or}}
+use Rattle.crx_lines.proofs.{ReturnLemmas.length-without_return, SeekLemmas.{Seeking-sum, Seeking-none}}
+use Rattle.crx_lines.specs.{Readers.part_shown, Reading.{HasNoFeed, ReaderState, BeginsWith, TakesPiece}}
+use Rattle.crx_lines.specs.Reading.{Stops, AnswersFault, AnswersAs, ReaderAnswers, line_shown, line_number}
+use Rattle.crx_lines.specs.{Seeking.Seeking, declared.line.{Line.Line, Part.Part}}
+use Rattle.crx_lines.specs.{declared.phase.Phase.TheVariants.{Open, Ended}, meaning.Devices.Tally}
+use Rattle.crx_lines.specs.meaning.Devices.{with_failure}
+use Rattle.crx_base.specs.declared.fault.{At.At, Fault.{Fault, TheVariants.{InputTooLong, ReadFailed}}}
+use Rattle.crx_base.specs.{declared.limits.TheConstants.{LINE_LIMIT, INPUT_LIMIT}, meaning.Lines.Piece}
+use Rattle.crx_base.specs.meaning.Lines.{InputLine, line_of, is_long, without_return, ends_with_return}
 
 -- the first bytes that were searched have no LF
 searched-no_feed : (held : List ℕ) (n : ℕ)
     → n ≤ length held → ((k : ℕ) → k < n → slice_index held k ≢ 10) → HasNoFeed (take n held)
 searched-no_feed held n within none =
-    All-from_get_or (λ b. b ≢ 10) (take n held) 0
+    All-from_get_or (λ b. b ≢ 10) _ 0
     (λ k h. let inside : k < n = omega (arith, h, length-take n held) in rw (get_or-take n held k 0)
     (none k inside))
 
@@ -72,7 +65,7 @@ module _ (gave : List ℕ → Type 0) (old held : List ℕ)
 
   pub held-within : (is_ended : Bool) (n : ℕ)
       → EndIs held len is_ended at_end → n ≡ len + cond is_ended 1 0 → n ≤ length held
-  held-within is_ended n end e = omega (arith, ends-within is_ended end, e)
+  held-within is_ended n end e = omega (arith, ends-within _ end, e)
 
   -- what was passed with the line, and what is held after it, is within the limit
   pub passed-within : (is_ended : Bool) (n : ℕ) → EndIs held len is_ended at_end → n ≡ len + cond is_ended 1 0
@@ -80,15 +73,13 @@ module _ (gave : List ℕ → Type 0) (old held : List ℕ)
       → (before + (passed + n)) + (length held - n) ≤ INPUT_LIMIT
   passed-within is_ended n end e before limit =
       let sum = Seeking-sum gave old held room taken passed len s in
-      omega (arith, sum, held-within is_ended n end e, s.within, limit)
+      omega (arith, sum, held-within _ n end e, s.within, limit)
 
   -- a line has a byte
   pub some-byte : (is_ended : Bool) (n : ℕ)
       → (0 < passed + len) ⊎ (is_ended ≡ true) → n ≡ len + cond is_ended 1 0 → 0 < passed + n
   some-byte true n some e = omega (arith, e)
-  some-byte false n some e = let long : 0 < passed + len =
-      ⊎_elim (λ h. h) (λ e. absurd (true≢false (sym e))) some in
-      omega (arith, e, long)
+  some-byte false n some e = grind arith
 
   pub takes : (is_ended : Bool) → EndIs held len is_ended at_end → (0 < passed + len) ⊎ (is_ended ≡ true)
       → (before after : ReaderState) (n : ℕ)
@@ -102,10 +93,7 @@ module _ (gave : List ℕ → Type 0) (old held : List ℕ)
       let sum : after.passed + length after.rest ≡ before.passed + (length old + taken) =
       omega (arith, passes, ap length left, length-drop n held, whole, within) in
       record {
-        first = subst (λ l. BeginsWith (l ++ s.given) at_end (piece_at s.front held len is_ended) after.rest)
-            (sym rest)
-            (subst (λ l. BeginsWith (old ++ s.given) at_end (piece_at s.front held len is_ended) l)
-            (sym (left ∙ ap (λ k. drop k held) count)) (begins is_ended end some));
+        first = rw rest (rw (left ∙ ap (λ k. drop k held) count) (begins is_ended end some));
         passed = omega (arith, sum, ap length rest, length-append before.rest s.given, s.taken_is);
         within = omega (arith, sum, limit, s.within);
         number = number;
@@ -122,14 +110,11 @@ module _ (gave : List ℕ → Type 0) (old held : List ℕ)
   content-long is_ended content same over =
       let all = s.front ++ take len held in
       let size = length-append s.front (take len held) in
-      lt-ltb LINE_LIMIT (length (without_return all)) (
-      ⊎_elim
-      (λ some. ⊎_elim (λ none. absurd (omega (arith, some, none)))
-      (λ far. omega (arith, far, s.passed_is, size, (length-without_return all).1)) s.far)
-      (λ long. ⊎_elim
+      lt-ltb _ _ (
+      ⊎_elim (λ some. ⊎_elim (λ none. absurd (omega (arith, some, none)))
+      (λ far. omega (arith, far, s.passed_is, size, (length-without_return all).1)) s.far) (λ long. ⊎_elim
       (λ none. omega (arith, long, ap length same, ap (λ l. length (without_return l)) (whole-piece none)))
-      (λ far. omega (arith, far, s.passed_is, size, (length-without_return all).1)) s.far)
-      over
+      (λ far. omega (arith, far, s.passed_is, size, (length-without_return all).1)) s.far) over
       )
 
   pub nothing : passed ≡ 0 → len ≡ 0 → len ≡ length held → (held ≡ []) × (old ++ s.given ≡ [])
@@ -149,19 +134,18 @@ over-limit gave old held room passed b so_far s limit =
     let front = old ++ s.given in
     let whole : length front
     ≡ INPUT_LIMIT - so_far = omega (arith, length-append old s.given, s.taken_is, limit) in
-    let cut : take (INPUT_LIMIT - so_far) (old ++ (s.given ++ b ∷ [])) ≡ s.front ++ held =
+    let cut =
     ap (take (INPUT_LIMIT - so_far)) (sym (append_assoc old s.given (b ∷ [])))
     ∙ take_at front (b ∷ []) (INPUT_LIMIT - so_far) whole ∙ s.input in (
       omega (arith, length-append old (s.given ++ b ∷ []), length-append s.given (b ∷ []), s.taken_is, limit),
-      subst HasNoFeed (sym cut) (Seeking-none gave old held room room passed s),
+      rw cut (Seeking-none gave old held room room passed s),
     )
 
 -- the faults that end the reading, out of what the search found
 pub over-fault : (gave : List ℕ → Type 0) (old held : List ℕ) (room passed b : ℕ) (at_end : Type 0)
     (tally then : Tally)
     → (s : Seeking gave old held room room passed (length held)) (before after : ReaderState) (at : At)
-    (fault : Fault)
-    → fault ≡ InputTooLong → before.rest ≡ old
+    (fault : Fault) → fault ≡ InputTooLong → before.rest ≡ old
     → before.passed + (length old + room) ≡ INPUT_LIMIT → Stops before at after → then ≡ tally
     → AnswersFault before (s.given ++ b ∷ []) at_end tally then at fault after
 over-fault gave old held room passed b at_end tally then s before after at fault is rest limit stops well =
@@ -169,45 +153,33 @@ over-fault gave old held room passed b at_end tally then s before after at fault
     let P : List ℕ → Type 0 = λ l. (INPUT_LIMIT < before.passed + length (l ++ (s.given ++ b ∷ [])))
     × HasNoFeed (take (INPUT_LIMIT - before.passed) (l ++ (s.given ++ b ∷ []))) in
     let there = subst P (sym rest) facts in
-    subst (λ f. AnswersFault before (s.given ++ b ∷ []) at_end tally then at f after)
-    (sym is) (there.0, there.1, stops, well)
+    rw is (there.0, there.1, stops, well)
 
 pub read-fault : (gave : List ℕ
     → Type 0) (old held : List ℕ) (room taken passed : ℕ) (at_end : Type 0) (tally then : Tally)
     → (s : Seeking gave old held room taken passed (length held)) (before after : ReaderState) (at : At)
-    (fault : Fault)
-    → fault ≡ ReadFailed → before.rest ≡ old
+    (fault : Fault) → fault ≡ ReadFailed → before.rest ≡ old
     → before.passed + (length old + room) ≡ INPUT_LIMIT → Stops before at after → then ≡ with_failure tally
     → AnswersFault before s.given at_end tally then at fault after
 read-fault gave old held room taken passed at_end tally then s before after at fault is rest limit stops bad =
-    let none : HasNoFeed (before.rest ++ s.given) = subst HasNoFeed
+    let none = subst HasNoFeed
     (sym (ap (λ l. l ++ s.given) rest ∙ s.input)) (Seeking-none gave old held room taken passed s) in
     let within : before.passed + length (before.rest ++ s.given) ≤ INPUT_LIMIT =
     omega (arith, length-append before.rest s.given, ap length rest, s.taken_is, s.within, limit) in
-    subst (λ f. AnswersFault before s.given at_end tally then at f after) (sym is) (within, none, stops, bad)
+    rw is (within, none, stops, bad)
 
 -- the first line is the one whose content is in a part of the window
 pub shown-line : (front part content : List ℕ) (is_ended has_return is_plain : Bool) → front ++ part ≡ part
-    → content ≡ without_return part → has_return ≡ ends_with_return part → is_plain
-    ≡ (is_ended && not has_return)
-    → ◌≡◌ {A = InputLine} (record { content = content; is_plain = is_plain })
+    → content ≡ without_return part → has_return ≡ ends_with_return part → is_plain ≡
+    (is_ended && not has_return) → ◌≡◌ {A = InputLine} (record { content = content; is_plain = is_plain })
     (line_of (record { bytes = front ++ part; is_ended = is_ended }))
-shown-line front part content is_ended has_return is_plain same is returns plain =
-    let line : List ℕ → Bool → InputLine = λ c p. record { content = c; is_plain = p } in
-    ap (λ c. line c is_plain) (is ∙ ap without_return (sym same))
-    ∙ ap (line (without_return (front ++ part))) (plain
-    ∙ ap (λ r. is_ended && not r) (returns ∙ ap ends_with_return (sym same)))
+shown-line front part content is_ended has_return is_plain same is returns plain = cc
 
 -- a line that is borrowed is answered as its place in the window was
 pub answers-line : (gave : List ℕ → Type 0) (at_end : Type 0) (bytes : List ℕ) (o : Option Part) (p : Part)
-    (l : Line)
-    (old new : ReaderState) (before after : Tally)
+    (l : Line) (old new : ReaderState) (before after : Tally)
     → o ≡ Some p → line_shown l ≡ part_shown bytes p → line_number l ≡ new.number
-    → (given : List ℕ) × gave given
-    × AnswersAs (part_shown bytes) (λ _. new.number) old given at_end before after (Ok o) new
+    → (given : List ℕ) × gave given × AnswersAs (part_shown bytes) (λ _. new.number) old given at_end before
+    after (Ok o) new
     → (given : List ℕ) × gave given × ReaderAnswers old given at_end before after (Ok (Some l)) new
-answers-line gave at_end bytes o p l old new before after is shown number found =
-    let there = subst (λ (o : Option Part). (given : List ℕ) × gave given
-    × AnswersAs (part_shown bytes) (λ _. new.number) old given at_end before after (Ok o) new) is found in
-    let line = there.2 in
-    (there.0, there.1, (line.0, line.1, shown ∙ line.2, number, line.4))
+answers-line gave at_end bytes o p l old new before after is shown number found = grind arith

@@ -1,8 +1,7 @@
 -- What a step of a reader adds to the counts of its source, and what the tallies of a sink have in common.
-use Rattle.std.proofs.Common.{◌≡◌, ◌≢◌, ℕ, Bool, true, false, cond, ap, ap₂, ◌∙◌}
-use Rattle.std.proofs.lemmas.Bool.{ne_eqb}
-use Rattle.crx_lines.specs.meaning.Devices.{SinkTally, ends_after, one_more, tally_of}
-use Rattle.crx_lines.specs.Devices.{tally_after_line}
+use Rattle.std.proofs.{Common.{◌≡◌, ◌≢◌, ℕ, Bool, true, false, cond, ap, ap₂, ◌∙◌}, lemmas.Bool.ne_eqb}
+use Rattle.crx_lines.specs.{Devices.tally_after_line, meaning.Devices.{SinkTally, ends_after, one_more}}
+use Rattle.crx_lines.specs.meaning.Devices.{tally_of}
 
 -- a read that gave a byte didn't report the end
 pub ends-some : (given before after : ℕ) → given ≢ 0 → after ≡ ends_after given before → after ≡ before
@@ -20,4 +19,4 @@ tally-line false failures ends failures' ends' f e = ap₂ tally_of f e
 
 -- the failures of equal tallies
 pub failures-of : {a b : SinkTally} → a ≡ b → a.failures ≡ b.failures
-failures-of same = ap (λ (t : SinkTally). t.failures) same
+failures-of same = ap (λ t. t.failures) same

@@ -14,7 +14,7 @@ first_within : {X : Type 0} (p : X → Bool) (xs : List X) → 0 < mask_l (map p
     → prefix_len (λ x. not (p x)) xs < length xs
 first_within p [] some = absurd (omega (arith, some))
 first_within p (x ∷ xs) some =
-    stops (p x) (mask_l (map p xs)) (prefix_len (λ y. not (p y)) xs) (length xs) some (first_within p xs)
+    stops (p x) _ _ _ some (first_within p xs)
 
 -- the mask of 32 bytes from an index on
 abbrev pub feeds_at : ℕ → List ℕ → ℕ
@@ -26,14 +26,13 @@ module _ (bytes : List ℕ) (at : ℕ) (room : at + 32 ≤ length bytes) where
   long = length-chunk at 32 bytes room
 
   hits : feeds_at at bytes ≡ mask_l (map (λ b. eqb b 10) (chunk at 32 bytes))
-  hits = bitmask_splat w8 eqb (chunk at 32 bytes) 32 10 long (omega arith)
+  hits = bitmask_splat w8 eqb _ 32 10 long (omega arith)
 
   pub none_of_all : feeds_at at bytes ≡ 0 → 32 ≡ prefix_len (λ b. not (eqb b 10)) (chunk at 32 bytes)
-  none_of_all none = sym (leading_from_mask_l (λ b. eqb b 10) (chunk at 32 bytes) (sym hits ∙ none) ∙ long)
+  none_of_all none = sym (leading_from_mask_l (λ b. eqb b 10) _ (sym hits ∙ none) ∙ long)
 
-  pub before_first : 0 < feeds_at at bytes
-      → (count_trailing_zeros 64 (feeds_at at bytes) < 32)
-      × (count_trailing_zeros 64 (feeds_at at bytes) ≡ prefix_len (λ b. not (eqb b 10)) (chunk at 32 bytes))
+  pub before_first : 0 < feeds_at at bytes → (count_trailing_zeros 64 (feeds_at at bytes) < 32) ×
+      (count_trailing_zeros 64 (feeds_at at bytes) ≡ prefix_len (λ b. not (eqb b 10)) (chunk at 32 bytes))
   before_first some =
       let v = chunk at 32 bytes in
       let is = ap (count_trailing_zeros 64) hits

@@ -1,13 +1,9 @@
 -- The pieces of an input, from its front.
 use Rattle.std.proofs.Common.{◌≡◌, ◌≢◌, ℕ, ◌<◌, Bool, true, false, cond, eqb, ◌⊎◌, inl, inr, List, [], ◌∷◌}
-use Rattle.std.proofs.Common.{◌++◌}
-use Rattle.std.proofs.Common.{length, refl, sym, ap, subst, arith}
-use Rattle.std.proofs.lemmas.List.Elements.{All-head, All-tail, All-cons}
-use Rattle.std.proofs.lemmas.Bool.{ne_eqb}
-use Rattle.std.proofs.lemmas.Bool.Decides.{eqb_tells}
-use Rattle.crx_base.specs.meaning.Lines.{Piece, pieces_of, onto_first}
+use Rattle.std.proofs.{Common.{◌++◌, length, refl, sym, ap, subst, arith}, lemmas.Bool.ne_eqb}
+use Rattle.std.proofs.lemmas.{Bool.Decides.eqb_tells, List.Elements.{All-head, All-tail, All-cons}}
+use Rattle.crx_base.specs.meaning.{Lines.{Piece, pieces_of, onto_first}, Seen.ended_pieces}
 use Rattle.crx_lines.specs.Reading.{HasNoFeed}
-use Rattle.crx_base.specs.meaning.Seen.{ended_pieces}
 
 abbrev pub NoFeed : ℕ → Type 0
 NoFeed b = b ≢ 10
@@ -28,7 +24,7 @@ pieces-last (b ∷ []) none some =
     let test = ne_eqb b 10 (All-head NoFeed b [] none) in rw test refl
 pieces-last (b ∷ c ∷ cs) none some =
     let test = ne_eqb b 10 (All-head NoFeed b (c ∷ cs) none) in
-    rw test (ap (onto_first b) (pieces-last (c ∷ cs) (All-tail NoFeed b (c ∷ cs) none) (omega arith)))
+    rw test (ap (onto_first b) (pieces-last _ (All-tail NoFeed b (c ∷ cs) none) (omega arith)))
 
 -- without an LF no piece is ended
 pub ended-none : (bytes : List ℕ) → HasNoFeed bytes → ended_pieces (pieces_of bytes) ≡ []
@@ -68,17 +64,12 @@ splits-other b other F [] s =
       All-cons NoFeed b s.0 other s.1,
       λ more. rw test (ap (onto_first b) (s.2 more)),
     )
-splits-other b other F (p ∷ ps) s = splits-onto b other F p.bytes p.is_ended ps s
+splits-other b other F (p ∷ ps) s = splits-onto b other F p.bytes _ ps s
 
 by-byte : (b : ℕ) (bs : List ℕ) → Splits (λ more. pieces_of (bs ++ more)) (ended_pieces (pieces_of bs))
     → ((eqb b 10 ≡ true) × (b ≡ 10)) ⊎ ((eqb b 10 ≡ false) × (b ≢ 10))
     → Splits (λ more. pieces_of ((b ∷ bs) ++ more)) (ended_pieces (pieces_of (b ∷ bs)))
-by-byte b bs s (inl is) =
-    let P : Bool → Type 0 = λ t. Splits (λ more. cond t
-    (record { bytes = []; is_ended = true } ∷ pieces_of (bs ++ more)) (onto_first b (pieces_of (bs ++ more))))
-    (ended_pieces (cond t (record { bytes = []; is_ended = true } ∷ pieces_of bs)
-    (onto_first b (pieces_of bs)))) in
-    subst P (sym is.0) (s.0, s.1, λ more. ap (λ l. record { bytes = []; is_ended = true } ∷ l) (s.2 more))
+by-byte b bs s (inl is) = grind arith
 by-byte b bs s (inr is) =
     let P : Bool → Type 0 = λ t. Splits (λ more. cond t
     (record { bytes = []; is_ended = true } ∷ pieces_of (bs ++ more)) (onto_first b (pieces_of (bs ++ more))))
@@ -88,5 +79,5 @@ by-byte b bs s (inr is) =
 
 pub pieces-split : (given : List ℕ)
     → Splits (λ more. pieces_of (given ++ more)) (ended_pieces (pieces_of given))
-pieces-split [] = ([], λ k d h. absurd (omega (arith, h)), λ more. refl)
+pieces-split [] = grind arith
 pieces-split (b ∷ bs) = by-byte b bs (pieces-split bs) (eqb_tells b 10)

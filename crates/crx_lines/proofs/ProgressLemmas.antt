@@ -1,28 +1,19 @@
 -- From one answer of a reader of lines to the next: the lines so far, and the bytes that were given.
 use Rattle.std.proofs.Common.{◌≡◌, ◌≢◌, ◌⊎◌, ⊎_elim, inl, inr, ℕ, ◌+◌, ◌-◌, ◌<◌, ◌≤◌, Bool, true, false}
-use Rattle.std.proofs.Common.{Option, Some}
-use Rattle.std.proofs.Common.{None, Result, Ok, Err, List, [], ◌∷◌, ◌++◌, length, take, map, refl, sym, ap}
-use Rattle.std.proofs.Common.{◌∙◌, subst}
-use Rattle.std.proofs.Common.{arith, append-nil, append_assoc, length-append}
-use Rattle.std.proofs.lemmas.List.{length_push, map-append, take_all}
-use Rattle.std.proofs.Math.Seq.{take-append-add}
-use Rattle.crx_lines.specs.meaning.Devices.{one_more, Tally, with_failure}
-use Rattle.crx_lines.specs.Devices.{with_end, tally_after_line}
-use Rattle.crx_base.specs.meaning.Lines.{InputLine, Piece, pieces_of, lines_of, line_of}
-use Rattle.crx_lines.specs.Reading.{HasNoFeed, ReaderState, TakesPiece, ReaderAnswers, AnswersFault}
-use Rattle.crx_lines.specs.Reading.{line_shown}
-use Rattle.crx_lines.specs.Reading.{line_number}
-use Rattle.crx_base.specs.meaning.Seen.{ended_pieces, ended_lines_of}
-use Rattle.crx_lines.specs.Progress.{IsOpen, IsOver, IsStopped, StandsAt, HasRead, IsOneMore, AtFault}
-use Rattle.crx_lines.specs.Progress.{AtAnswer}
-use Rattle.crx_base.specs.declared.limits.TheConstants.{INPUT_LIMIT}
-use Rattle.crx_base.specs.declared.fault.At.{At}
-use Rattle.crx_base.specs.declared.fault.Fault.{Fault}
-use Rattle.crx_base.specs.declared.fault.Fault.TheVariants.{LineTooLong, InputTooLong, ReadFailed}
-use Rattle.crx_lines.specs.declared.line.Line.{Line}
-use Rattle.crx_lines.specs.declared.phase.Phase.{Phase}
-use Rattle.crx_lines.specs.declared.phase.Phase.TheVariants.{Open, Ended, Stopped}
+use Rattle.std.proofs.Common.{Option, Some, None, Result, Ok, Err, List, [], ◌∷◌, ◌++◌, length, take, map}
+use Rattle.std.proofs.Common.{refl, sym, ap, ◌∙◌, subst, arith, append-nil, append_assoc, length-append}
+use Rattle.std.proofs.{Math.Seq.take-append-add, lemmas.List.{length_push, map-append, take_all}}
 use Rattle.crx_lines.proofs.PieceLemmas.{pieces-first, pieces-last, pieces-split, ended-none}
+use Rattle.crx_lines.specs.{Devices.{with_end, tally_after_line}, Progress.{IsOpen, IsOver, IsStopped}}
+use Rattle.crx_lines.specs.{Progress.{StandsAt, HasRead, IsOneMore, AtFault, AtAnswer}, Reading.HasNoFeed}
+use Rattle.crx_lines.specs.Reading.{ReaderState, TakesPiece, ReaderAnswers, AnswersFault, line_shown}
+use Rattle.crx_lines.specs.{Reading.line_number, declared.{line.Line.Line, phase.Phase.Phase}}
+use Rattle.crx_lines.specs.{declared.phase.Phase.TheVariants.{Open, Ended, Stopped}, meaning.Devices.one_more}
+use Rattle.crx_lines.specs.meaning.Devices.{Tally, with_failure}
+use Rattle.crx_base.specs.declared.fault.{At.At, Fault.{Fault, TheVariants.{LineTooLong, InputTooLong}}}
+use Rattle.crx_base.specs.declared.{fault.Fault.TheVariants.ReadFailed, limits.TheConstants.INPUT_LIMIT}
+use Rattle.crx_base.specs.meaning.{Lines.{InputLine, Piece, pieces_of, lines_of, line_of}, Seen.ended_pieces}
+use Rattle.crx_base.specs.meaning.Seen.{ended_lines_of}
 
 abbrev ended_piece : List ℕ → Piece
 ended_piece bytes = record { bytes = bytes; is_ended = true }
@@ -35,8 +26,7 @@ pub lines-first : (piece rest : List ℕ)
     → HasNoFeed piece → lines_of (piece ++ 10 ∷ rest) ≡ line_of (ended_piece piece) ∷ lines_of rest
 lines-first piece rest none = ap (map line_of) (pieces-first piece rest none)
 
-pub ended_lines-first : (piece rest : List ℕ)
-    → HasNoFeed piece → ended_lines_of (piece ++ 10 ∷ rest)
+pub ended_lines-first : (piece rest : List ℕ) → HasNoFeed piece → ended_lines_of (piece ++ 10 ∷ rest)
     ≡ line_of (ended_piece piece) ∷ ended_lines_of rest
 ended_lines-first piece rest none = ap (λ ps. map line_of (ended_pieces ps)) (pieces-first piece rest none)
 
@@ -73,10 +63,9 @@ over-piece : (F : List ℕ → List InputLine)
     → F (bytes ++ 10 ∷ (rest ++ x)) ≡ line ∷ F (rest ++ x)
     → F ((given ++ more) ++ x) ≡ (lines ++ line ∷ []) ++ F (rest ++ x)
 over-piece F line given more old_rest bytes rest x lines so-far cut first =
-    ap F (append_assoc given more x) ∙ so-far (more ++ x)
-    ∙ ap (λ l. lines ++ F l) (sym (append_assoc old_rest more x)
-    ∙ ap (λ l. l ++ x) cut ∙ append_assoc bytes (10 ∷ rest) x)
-    ∙ ap (λ l. lines ++ l) first ∙ sym (append_assoc lines (line ∷ []) (F (rest ++ x)))
+    ap F (append_assoc given more x) ∙ so-far _ ∙ ap (λ l. lines ++ F l) (sym (append_assoc old_rest more x)
+    ∙ ap (λ l. l ++ x) cut ∙ append_assoc bytes (10 ∷ rest) x) ∙ ap (λ l. lines ++ l) first ∙ sym
+    (append_assoc lines (line ∷ []) _)
 
 module _ (at_end : Type 0) (start counted counted' : Tally) (given more : List ℕ)
     (old new : ReaderState) (lines : List InputLine) (o : IsOpen start counted given old lines) where
@@ -93,12 +82,10 @@ module _ (at_end : Type 0) (start counted counted' : Tally) (given more : List �
       o.bytes,
       t.within,
     );
-    first = λ x. over-piece lines_of (line_of (ended_piece bytes)) given
-        more old.rest bytes new.rest x lines o.first t.first.cut
-        (lines-first bytes (new.rest ++ x) t.first.no_feed);
-    ended = λ x. over-piece ended_lines_of (line_of (ended_piece bytes)) given more
-        old.rest bytes new.rest x lines o.ended t.first.cut
-        (ended_lines-first bytes (new.rest ++ x) t.first.no_feed);
+    first = λ x. over-piece lines_of (line_of (ended_piece bytes)) given more old.rest bytes new.rest x lines
+        o.first t.first.cut (lines-first bytes (new.rest ++ x) t.first.no_feed);
+    ended = λ x. over-piece ended_lines_of (line_of (ended_piece bytes)) given more old.rest bytes new.rest x
+        lines o.ended t.first.cut (ended_lines-first bytes (new.rest ++ x) t.first.no_feed);
     counts = same ∙ o.counts;
   }
 
@@ -122,17 +109,13 @@ module _ (at_end : Type 0) (start counted counted' : Tally) (given more : List �
 
   line-stands : (bytes : List ℕ) (is_ended : Bool)
       → TakesPiece old more at_end (record { bytes = bytes; is_ended = is_ended }) new
-      → counted' ≡ tally_after_line is_ended counted
-      → StandsAt new.phase at_end start counted'
+      → counted' ≡ tally_after_line is_ended counted → StandsAt new.phase at_end start counted'
       (given ++ more) new (lines ++ line_of (record { bytes = bytes; is_ended = is_ended }) ∷ [])
   line-stands bytes true t same =
       subst (λ f. StandsAt f at_end start counted' (given ++ more) new
-      (lines ++ line_of (ended_piece bytes) ∷ []))
-      (sym t.phase) (line-ended bytes t same)
+      (lines ++ line_of (ended_piece bytes) ∷ [])) (sym t.phase) (line-ended bytes t same)
   line-stands bytes false t same =
-      subst (λ f. StandsAt f at_end start counted' (given ++ more) new
-      (lines ++ line_of (last_piece bytes) ∷ []))
-      (sym t.phase) (line-last bytes t same)
+      rw t.phase (line-last bytes t same)
 
   none-over : old.rest ++ more ≡ []
       → at_end → counted' ≡ with_end counted → IsOver at_end start counted' (given ++ more) lines
@@ -146,8 +129,7 @@ module _ (at_end : Type 0) (start counted counted' : Tally) (given more : List �
   -- the bytes so far, of which the last have no LF
   ended-so-far : (front : List ℕ) → HasNoFeed (old.rest ++ front) → lines ≡ ended_lines_of (given ++ front)
   ended-so-far front none =
-      sym (o.ended front ∙ ap (λ l. lines ++ l) (ended_lines-none (old.rest ++ front) none)
-      ∙ append-nil lines)
+      sym (o.ended front ∙ ap (λ l. lines ++ l) (ended_lines-none _ none) ∙ append-nil lines)
 
   failed-stops : old.passed + length (old.rest ++ more) ≤ INPUT_LIMIT
       → HasNoFeed (old.rest ++ more) → counted' ≡ with_failure counted
@@ -178,8 +160,7 @@ passed-more : (old new : ReaderState) (given : List ℕ) (at_end : Type 0) (byte
     → old.passed < new.passed
 passed-more old new given at_end bytes true t =
     omega (arith, t.passed, ap length t.first.cut, length-append bytes (10 ∷ new.rest))
-passed-more old new given at_end bytes false t =
-    omega (arith, t.passed, ap length t.first.cut.0, ap length t.first.cut.1, t.first.cut.2)
+passed-more old new given at_end bytes false t = grind arith
 
 module _ (gave gives step : List ℕ → Type 0)
     (at_end at_end' : Type 0) (start counted counted' : Tally) (old new : ReaderState)
@@ -187,7 +168,7 @@ module _ (gave gives step : List ℕ → Type 0)
     (h : HasRead gave at_end start counted old lines) (goes : (given more : List ℕ)
     → gave given → step more → gives (given ++ more)) where
   is-open : old.phase ≡ Open → IsOpen start counted h.given old lines
-  is-open e = subst (λ f. StandsAt f at_end start counted h.given old lines) e h.stands
+  is-open e = grind arith
 
   one-more : (more : List ℕ) (p : Piece) (line : InputLine) (number : ℕ)
       → TakesPiece old more at_end' p new → line ≡ line_of p → number ≡ new.number
@@ -199,8 +180,7 @@ module _ (gave gives step : List ℕ → Type 0)
     within = omega (arith, t.within);
   }
 
-  read-line : old.phase ≡ Open → (more : List ℕ)
-      → step more → (p : Piece) → TakesPiece old more at_end' p new
+  read-line : old.phase ≡ Open → (more : List ℕ) → step more → (p : Piece) → TakesPiece old more at_end' p new
       → counted' ≡ tally_after_line p.is_ended counted
       → HasRead gives at_end' start counted' new (lines ++ line_of p ∷ [])
   read-line e more lead p t same = record {
@@ -223,11 +203,10 @@ module _ (gave gives step : List ℕ → Type 0)
         (sym phase) (stopped, omega (arith, line, h.number));
   }
 
-  at-fault : (f : Fault) (at : At) → at.fault ≡ f
-      → old.phase ≡ Open → (more : List ℕ) → step more
+  at-fault : (f : Fault) (at : At) → at.fault ≡ f → old.phase ≡ Open → (more : List ℕ) → step more
       → AnswersFault old more at_end' counted counted' at f new
-      → (then : List InputLine) × AtFault f at old new lines then
-      × HasRead gives at_end' start counted' new then
+      → (then : List InputLine) × AtFault f at old new lines then × HasRead gives at_end' start counted' new
+      then
   at-fault LineTooLong at is e more lead a = (
     lines ++ line_of a.0 ∷ [],
     (line_of a.0, a.2, one-more more a.0 (line_of a.0) at.line a.1 refl a.3),
@@ -269,9 +248,8 @@ module _ (gave gives step : List ℕ → Type 0)
           given = h.given ++ more;
           lead = goes h.given more h.lead lead;
           number = ap (λ (r : ReaderState). r.number) a.2 ∙ h.number;
-          stands = subst (λ f. StandsAt f at_end' start counted' (h.given ++ more) new lines)
-              (sym phase) (none-over at_end' start counted counted' h.given more old new lines
-              (is-open e) a.0 a.1 a.3);
+          stands = subst (λ f. StandsAt f at_end' start counted' (h.given ++ more) new lines) (sym phase)
+              (none-over at_end' start counted counted' h.given more old new lines (is-open e) a.0 a.1 a.3);
         },
       )
   HasRead-next e more lead (Err at) a = at-fault at.fault at refl e more lead a
@@ -291,11 +269,11 @@ ended_lines-come_first given =
 module _ (gave : List ℕ → Type 0) (at_end : Type 0) (start counted : Tally)
     (now : ReaderState) (lines : List InputLine) (h : HasRead gave at_end start counted now lines) where
   pub HasRead-ended : now.phase ≡ Ended → IsOver at_end start counted h.given lines
-  HasRead-ended e = subst (λ f. StandsAt f at_end start counted h.given now lines) e h.stands
+  HasRead-ended e = grind arith
 
   pub HasRead-stopped : (at : At)
       → now.phase ≡ Stopped at → IsStopped at.fault start counted h.given lines × (at.line ≡ length lines + 1)
-  HasRead-stopped at e = subst (λ f. StandsAt f at_end start counted h.given now lines) e h.stands
+  HasRead-stopped at e = grind arith
 
 -- either way the lines are those whose LF is within the limit
 pub stopped-cases : (f : Fault) (start counted : Tally) (given : List ℕ) (lines : List InputLine)
@@ -303,12 +281,10 @@ pub stopped-cases : (f : Fault) (start counted : Tally) (given : List ℕ) (line
     → (counted.ends ≡ start.ends) × (lines ≡ ended_lines_of (take INPUT_LIMIT given))
     × (((f ≡ InputTooLong) × (INPUT_LIMIT < length given) × (counted.failures ≡ start.failures))
     ⊎ ((f ≡ ReadFailed) × (length given ≤ INPUT_LIMIT) × (counted.failures ≡ one_more start.failures)))
-stopped-cases InputTooLong start counted given lines s =
-    (ap (λ (t : Tally). t.ends) s.2, s.1, inl (refl, s.0, ap (λ (t : Tally). t.failures) s.2))
+stopped-cases InputTooLong start counted given lines s = grind arith
 stopped-cases ReadFailed start counted given lines s = (
   ap (λ (t : Tally). t.ends) s.2,
-  s.1
-      ∙ ap ended_lines_of (sym (take_all INPUT_LIMIT given s.0)),
+  s.1 ∙ ap ended_lines_of (sym (take_all INPUT_LIMIT given s.0)),
   inr (refl, s.0, ap (λ (t : Tally). t.failures) s.2),
 )
 stopped-cases _ start counted given lines s = absurd s
@@ -341,47 +317,13 @@ module _ (gave gives step : List ℕ → Type 0)
     (r : Result (Option Line) At) (still : old.phase ≢ Open
     → (new ≡ old) × ((given : List ℕ) → gave given → gives given) × (at_end → at_end') × (counted' ≡ counted))
   where
-    still-ended : old.phase ≡ Ended → r ≡ Ok None
-        → (then : List InputLine) × AtAnswer r old new lines then
+    still-ended : old.phase ≡ Ended → r ≡ Ok None → (then : List InputLine) × AtAnswer r old new lines then
         × HasRead gives at_end' start counted' new then
-    still-ended e is =
-        let same = still (ended-not-open old.phase e) in
-        let over = HasRead-ended gave at_end start counted old lines h e in
-        let phase : new.phase ≡ Ended = ap (λ (x : ReaderState). x.phase) same.0 ∙ e in
-        let now : IsOver at_end' start counted' h.given lines = record {
-          reported = same.2 over.reported;
-          within = over.within;
-          all = over.all;
-          counts = same.3 ∙ over.counts;
-        } in (
-          lines,
-          subst (λ a. AtAnswer a old new lines lines) (sym is) (refl, phase),
-          record {
-            given = h.given;
-            lead = same.1 h.given h.lead;
-            number = ap (λ (x : ReaderState). x.number) same.0 ∙ h.number;
-            stands = subst (λ f. StandsAt f at_end' start counted' h.given new lines) (sym phase) now;
-          },
-        )
+    still-ended e is = grind arith
 
     still-stopped : (at : At) → old.phase ≡ Stopped at → r ≡ Err at → (then : List InputLine)
         × AtAnswer r old new lines then × HasRead gives at_end' start counted' new then
-    still-stopped at e is =
-        let same = still (stopped-not-open old.phase at e) in
-        let stopped = HasRead-stopped gave at_end start counted old lines h at e in
-        let phase : new.phase ≡ Stopped at = ap (λ (x : ReaderState). x.phase) same.0 ∙ e in
-        let now = subst (λ t. IsStopped at.fault start t h.given lines) (sym same.3) stopped.0 in (
-          lines,
-          subst (λ a. AtAnswer a old new lines lines)
-              (sym is) (stopped-again at.fault at start counted h.given old new lines stopped.0 phase),
-          record {
-            given = h.given;
-            lead = same.1 h.given h.lead;
-            number = ap (λ (x : ReaderState). x.number) same.0 ∙ h.number;
-            stands = subst (λ f. StandsAt f at_end' start counted' h.given new lines) (sym phase)
-                (now, stopped.1);
-          },
-        )
+    still-stopped at e is = grind arith
 
     pub HasRead-call : (old.phase ≡ Open
         → (more : List ℕ) × step more × ReaderAnswers old more at_end' counted counted' r new)
@@ -389,9 +331,8 @@ module _ (gave gives step : List ℕ → Type 0)
         → (then : List InputLine) × AtAnswer r old new lines then
         × HasRead gives at_end' start counted' new then
     HasRead-call at-open at-ended at-stopped =
-        ⊎_elim
-        (λ e. let a = at-open e in
-        HasRead-next gave gives step at_end at_end' start counted counted' old new lines h goes e a.0 a.1 r a.2)
+        ⊎_elim (λ e. let a = at-open e in
+        HasRead-next gave gives step at_end at_end' start counted counted' old new lines h goes e a.0 a.1 r
+        a.2)
         (λ other. ⊎_elim (λ e. still-ended e (at-ended e)) (λ s. still-stopped s.0 s.1 (at-stopped s.0 s.1))
-        other)
-        (phase-cases old.phase)
+        other) (phase-cases old.phase)

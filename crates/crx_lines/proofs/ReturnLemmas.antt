@@ -1,17 +1,14 @@
 -- A CR at the end of a text.
-use Rattle.std.proofs.Common.{◌≡◌, ◌≢◌, ◌==◌, ℕ, ◌+◌, ◌-◌, ◌≤◌, ◌<◌, Bool, true, false, cond, List, [], ◌∷◌}
-use Rattle.std.proofs.Common.{◌++◌}
-use Rattle.std.proofs.Common.{length, take, drop, get_or, slice_range, refl, sym, ap, ◌∙◌, arith, eq-eqb}
-use Rattle.std.proofs.Common.{length-take}
-use Rattle.std.proofs.Common.{length-drop}
-use Rattle.std.proofs.lemmas.List.{take-take, take_more, get_or-take, get_or-drop}
-use Rattle.std.proofs.lemmas.Bool.{ne_eqb}
+use Rattle.std.proofs.Common.{◌≡◌, ◌≢◌, ◌==◌, ℕ, ◌+◌, ◌-◌, ◌≤◌, ◌<◌, true, false, List, [], ◌∷◌, ◌++◌, length}
+use Rattle.std.proofs.Common.{take, drop, get_or, slice_range, refl, sym, ap, ◌∙◌, arith, eq-eqb, length-take}
+use Rattle.std.proofs.{Common.length-drop, lemmas.{Bool.ne_eqb, List.{take-take, take_more, get_or-take}}}
+use Rattle.std.proofs.lemmas.List.{get_or-drop}
 use Rattle.crx_base.specs.meaning.Lines.{without_return, ends_with_return}
 
 pub without_return-cr : (xs : List ℕ) (x : ℕ) → (x == 13) ≡ true → without_return (xs ++ x ∷ []) ≡ xs
 without_return-cr [] x e = rw e refl
 without_return-cr (y ∷ []) x e = rw e refl
-without_return-cr (y ∷ z ∷ zs) x e = ap (λ l. y ∷ l) (without_return-cr (z ∷ zs) x e)
+without_return-cr (y ∷ z ∷ zs) x e = ap (λ l. y ∷ l) (without_return-cr _ x e)
 
 pub without_return-other : (xs : List ℕ) (x : ℕ) → (x == 13) ≡ false
     → without_return (xs ++ x ∷ []) ≡ xs ++ x ∷ []
@@ -28,9 +25,7 @@ ends_with_return-push (y ∷ z ∷ zs) x = ends_with_return-push (z ∷ zs) x
 pub length-without_return : (xs : List ℕ)
     → (length (without_return xs) ≤ length xs) × (length xs ≤ length (without_return xs) + 1)
 length-without_return [] = (omega arith, omega arith)
-length-without_return (x ∷ []) =
-    let P : Bool → Type 0 = λ b. (length (cond b [] (x ∷ [])) ≤ 1) × (1 ≤ length (cond b [] (x ∷ [])) + 1) in
-    elim (x == 13) as P [ true ↦ (omega arith, omega arith) | false ↦ (omega arith, omega arith) ]
+length-without_return (x ∷ []) = grind arith
 length-without_return (x ∷ y ∷ ys) =
     let rest = length-without_return (y ∷ ys) in (omega (arith, rest.0), omega (arith, rest.1))
 
@@ -39,12 +34,12 @@ pub part-front : (xs : List ℕ) (start end n : ℕ)
     → start + n ≤ end → slice_range xs start (start + n) ≡ take n (slice_range xs start end)
 part-front xs start end n inside =
     let same : start + n - start ≡ n = omega arith in
-    ap (λ k. take k (drop start xs)) same ∙ sym (take-take n (end - start) (drop start xs) (omega arith))
+    ap (λ k. take k (drop start xs)) same ∙ sym (take-take n _ _ (omega arith))
 
 pub part-get_or : (xs : List ℕ) (start end n d : ℕ)
     → start + n < end → get_or (slice_range xs start end) n d ≡ get_or xs (start + n) d
 part-get_or xs start end n d inside =
-    get_or-take (end - start) (drop start xs) n d (omega arith) ∙ get_or-drop start xs n d
+    get_or-take _ _ n d (omega arith) ∙ get_or-drop start xs n d
 
 -- the first bytes of a part are those before the last of them, and that one
 pub part-last : (xs : List ℕ) (start end n : ℕ) → 0 < n → start + n ≤ end → end ≤ length xs
@@ -56,11 +51,9 @@ part-last xs start end n some inside within =
     let at : start + (n - 1) ≡ start + n - 1 = omega arith in
     let len : n - 1 < length held =
     omega (arith, length-take (end - start) (drop start xs), length-drop start xs) in
-    ap (λ k. take k held) one ∙ take_more held (n - 1) 0 len
-    ∙ ap (λ l. l ++ get_or held (n - 1) 0 ∷ []) (sym (part-front xs start end (n - 1) (omega arith))
-    ∙ ap (λ k. slice_range xs start k) at)
-    ∙ ap (λ b. slice_range xs start (start + n - 1) ++ b ∷ [])
-    (part-get_or xs start end (n - 1) 0 (omega arith)
+    ap (λ k. take k held) one ∙ take_more held (n - 1) 0 len ∙ ap (λ l. l ++ get_or held (n - 1) 0 ∷ [])
+    (sym (part-front xs start end (n - 1) (omega arith)) ∙ ap (λ k. slice_range xs start k) at) ∙ ap
+    (λ b. slice_range xs start (start + n - 1) ++ b ∷ []) (part-get_or xs start end (n - 1) 0 (omega arith)
     ∙ ap (λ k. get_or xs k 0) at)
 
 -- the first bytes of a part without the CR that ends them
@@ -69,8 +62,8 @@ pub content-cr : (xs : List ℕ) (start end n : ℕ)
     → (slice_range xs start (start + n - 1) ≡ without_return (take n (slice_range xs start end)))
     × (true ≡ ends_with_return (take n (slice_range xs start end)))
 content-cr xs start end n some inside within cr =
-    let front = slice_range xs start (start + n - 1) in
-    let test = eq-eqb (get_or xs (start + n - 1) 0) 13 cr in
+    let front = slice_range xs start _ in
+    let test = eq-eqb _ 13 cr in
     rw (part-last xs start end n some inside within) (
       sym (without_return-cr front _ test),
       sym (ends_with_return-push front _ ∙ test),
@@ -82,8 +75,8 @@ pub content-other : (xs : List ℕ) (start end n : ℕ)
     → (slice_range xs start (start + n) ≡ without_return (take n (slice_range xs start end)))
     × (false ≡ ends_with_return (take n (slice_range xs start end)))
 content-other xs start end n some inside within other =
-    let front = slice_range xs start (start + n - 1) in
-    let test = ne_eqb (get_or xs (start + n - 1) 0) 13 other in
+    let front = slice_range xs start _ in
+    let test = ne_eqb _ 13 other in
     let whole = part-front xs start end n inside ∙ part-last xs start end n some inside within in
     rw (part-last xs start end n some inside within) (
       whole ∙ sym (without_return-other front _ test),
@@ -94,6 +87,4 @@ content-other xs start end n some inside within other =
 pub content-none : (xs : List ℕ) (start end n : ℕ) → n ≡ 0
     → (slice_range xs start (start + n) ≡ without_return (take n (slice_range xs start end)))
     × (false ≡ ends_with_return (take n (slice_range xs start end)))
-content-none xs start end n none =
-    let same : start + 0 - start ≡ 0 = omega arith in
-    rw none (ap (λ k. take k (drop start xs)) same, refl)
+content-none xs start end n none = grind arith

@@ -1,15 +1,11 @@
 -- The search for the end of a line, step by step.
 use Rattle.std.proofs.Common.{◌≡◌, ◌≢◌, ℕ, ◌+◌, ◌<◌, ◌≤◌, List, [], ◌++◌, ◌⊎◌, length, slice_index, refl, sym}
-use Rattle.std.proofs.Common.{ap, ◌∙◌}
-use Rattle.std.proofs.Common.{subst, arith, inl, inr, ⊎_elim, append-nil, append_assoc, length-append}
-use Rattle.std.specs.List.{Contains}
-use Rattle.std.proofs.lemmas.List.{get_or_append_left}
+use Rattle.std.proofs.Common.{ap, ◌∙◌, subst, arith, inl, inr, ⊎_elim, append-nil, append_assoc}
+use Rattle.std.proofs.{Common.length-append, lemmas.{Bool.cases_lt, List.get_or_append_left}}
 use Rattle.std.proofs.lemmas.List.Elements.{All-append, All-from_get_or, All-contains, Contains-append_left}
-use Rattle.std.proofs.lemmas.Bool.{cases_lt}
-use Rattle.crx_lines.specs.Reading.{HasNoFeed}
-use Rattle.crx_lines.specs.Seeking.{Seeking}
+use Rattle.std.specs.List.{Contains}
+use Rattle.crx_lines.{proofs.PieceLemmas.NoFeed, specs.{Reading.HasNoFeed, Seeking.Seeking}}
 use Rattle.crx_base.specs.declared.limits.TheConstants.{LINE_LIMIT}
-use Rattle.crx_lines.proofs.PieceLemmas.{NoFeed}
 
 pub Seeking-start : (gave : List ℕ → Type 0) (old : List ℕ) (room : ℕ) → gave []
     → Seeking gave old old room 0 0 0
@@ -50,9 +46,7 @@ Seeking-searched gave old held room taken passed searched n s within none = reco
 pub Seeking-found : (gave : List ℕ → Type 0) (old held shown : List ℕ) (room taken passed searched n : ℕ)
     → Seeking gave old held room taken passed searched → shown ≡ held → n < length shown
     → ((k : ℕ) → searched ≤ k → k < n → slice_index shown k ≢ 10) → Seeking gave old held room taken passed n
-Seeking-found gave old held shown room taken passed searched n s same within none =
-    Seeking-searched gave old held room taken passed searched n s (omega (arith, within, ap length same))
-    (subst (λ l. (k : ℕ) → searched ≤ k → k < n → slice_index l k ≢ 10) same none)
+Seeking-found gave old held shown room taken passed searched n s same within none = grind arith
 
 -- where all that is held was searched, no LF is in what was discarded and held
 pub Seeking-none : (gave : List ℕ → Type 0) (old held : List ℕ) (room taken passed : ℕ)
@@ -63,8 +57,8 @@ Seeking-none gave old held room taken passed s =
 pub Seeking-not_old : (gave : List ℕ → Type 0) (old held : List ℕ) (room taken passed : ℕ)
     → Seeking gave old held room taken passed (length held) → Contains old 10 → ⊥
 Seeking-not_old gave old held room taken passed s has =
-    All-contains NoFeed (s.front ++ held) 10 (Seeking-none gave old held room taken passed s)
-    (subst (λ l. Contains l 10) s.input (Contains-append_left old s.given 10 has)) refl
+    All-contains NoFeed _ 10 (Seeking-none gave old held room taken passed s)
+    (rw (← s.input) (Contains-append_left old s.given 10 has)) refl
 
 -- all that is held is discarded
 Seeking-passed : (gave : List ℕ → Type 0) (old held : List ℕ) (room taken passed : ℕ)
@@ -91,7 +85,7 @@ pub Seeking-step : (gave : List ℕ → Type 0) (old held shown after : List ℕ
     → ((n ≡ 0) × (after ≡ held)) ⊎ ((n ≡ length held) × (LINE_LIMIT + 1 < n) × (after ≡ []))
     → Seeking gave old after room taken (passed + n) (length after)
 Seeking-step gave old held shown after room taken passed searched n s same none discarded =
-    let rest : (k : ℕ) → searched ≤ k → k < length held → slice_index held k ≢ 10 =
+    let rest =
     subst (λ l. (k : ℕ) → searched ≤ k → k < length l → slice_index l k ≢ 10) same none in
     let all = Seeking-searched gave old held room taken passed searched (length held) s (omega arith) rest in
     let keeps = λ (e : (n ≡ 0) × (after ≡ held)).
@@ -134,10 +128,9 @@ pub Seeking-same : (gave then : List ℕ → Type 0) (old held after : List ℕ)
     → Seeking then old after room taken passed m
 Seeking-same gave then old held after room taken passed m s goes same searched =
     let sum : taken + 0 ≡ taken = omega arith in
-    subst (λ k. Seeking then old after room k passed m) sum
+    rw (← sum)
     (Seeking-filled gave then old held after [] room taken passed 0 m s goes refl (omega (arith, s.within))
-    (same
-    ∙ sym (append-nil held)) searched)
+    (same ∙ sym (append-nil held)) searched)
 
 -- every byte was discarded or is held
 pub Seeking-sum : (gave : List ℕ → Type 0) (old held : List ℕ) (room taken passed searched : ℕ)

@@ -1,11 +1,8 @@
 -- The bytes of a window, after a read past its end or a step of its start.
 use Rattle.std.proofs.Common.{◌≡◌, ℕ, ◌+◌, ◌-◌, ◌≤◌, List, ◌++◌, length, take, drop, slice_range, refl, sym}
-use Rattle.std.proofs.Common.{ap, ◌∙◌}
-use Rattle.std.proofs.Common.{Result, Ok, Err, OnErr}
-use Rattle.std.proofs.Common.{arith, append-nil}
+use Rattle.std.proofs.{Common.{ap, ◌∙◌, Result, Ok, Err, OnErr, arith, append-nil}, Math.Seq.take-add}
 use Rattle.std.proofs.lemmas.List.{take_at, drop_at, take-append-le, drop-append-le, drop-take, drop-drop}
 use Rattle.std.proofs.lemmas.List.{length-take-le, length-take, length-drop}
-use Rattle.std.proofs.Math.Seq.{take-add}
 use borrow.Rule.Slice.PartMut.{put_mid, post_of}
 
 -- n of the bytes that were read past the end are held too
@@ -17,15 +14,13 @@ grown xs ys start end k n ordered within fits =
     let len : length held ≡ end - start = omega (arith, length-drop start (take end xs)) in
     let sum : end + n - start ≡ (end - start) + n = omega arith in
     let parts : end ≡ start + (end - start) = omega arith in
-    let same : held ≡ take (end - start) (drop start xs) = ap (λ j. drop start (take j xs)) parts
-    ∙ drop-take start (end - start) xs in
+    let same = ap (λ j. drop start (take j xs)) parts ∙ drop-take start (end - start) xs in
     let after = ys ++ post_of end k xs in
-    ap (take (end + n - start)) (drop-append-le start (take end xs) after (omega arith))
-    ∙ ap (λ j. take j (held ++ after)) sum ∙ take-add (end - start) n (held ++ after)
-    ∙ (rw (
+    ap (take (end + n - start)) (drop-append-le start (take end xs) after (omega arith)) ∙ ap
+    (λ j. take j (held ++ after)) sum ∙ take-add (end - start) n (held ++ after) ∙ (rw (
       take_at held after _ len,
       drop_at held after _ len,
-      take-append-le n ys (post_of end k xs) fits,
+      take-append-le n ys _ fits,
       same,
     ) refl)
 
@@ -34,8 +29,8 @@ pub passed : (xs : List ℕ) (start end count : ℕ) → start + count ≤ end
     → slice_range xs (start + count) end ≡ drop count (slice_range xs start end)
 passed xs start end count inside =
     let parts : end - start ≡ count + (end - (start + count)) = omega arith in
-    sym (ap (λ j. drop count (take j (drop start xs))) parts ∙ drop-take count _ (drop start xs)
-    ∙ ap (take (end - (start + count))) (drop-drop count start xs))
+    sym (ap (λ j. drop count (take j (drop start xs))) parts ∙ drop-take count _ _
+    ∙ ap (take _) (drop-drop count start xs))
 
 -- a window holds no more than it spans
 pub length-kept : (xs : List ℕ) (start end : ℕ) → length (slice_range xs start end) ≤ end
@@ -46,8 +41,8 @@ pub unread : (xs ys : List ℕ) (start end k : ℕ) → start ≤ end → end �
     → slice_range (put_mid end k xs ys) start end ≡ slice_range xs start end
 unread xs ys start end k ordered within =
     let same : end + 0 ≡ end = omega arith in
-    ap (slice_range (put_mid end k xs ys) start) (sym same)
-    ∙ grown xs ys start end k 0 ordered within (omega arith) ∙ append-nil (slice_range xs start end)
+    ap (slice_range _ start) (sym same)
+    ∙ grown xs ys start end k 0 ordered within (omega arith) ∙ append-nil _
 
 -- what is so is so of any read that failed
 pub on_err : {X E P : Type 0} (r : Result X E) → P → OnErr r P

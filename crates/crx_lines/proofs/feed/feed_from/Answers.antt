@@ -1,6 +1,5 @@
-use Rattle.std.proofs.Common.{◌<◌, ◌≤◌, eqb, arith, ⊎_elim}
+use Rattle.std.proofs.{Common.{eqb, arith, ⊎_elim}, lemmas.Bool.{eqb-true, eqb-false, cases_lt}}
 use Rattle.std.proofs.lemmas.Simd.{run_in_chunk_fails, run_in_chunk_stops}
-use Rattle.std.proofs.lemmas.Bool.{eqb-true, eqb-false, cases_lt}
 use Rattle.crx_lines.proofs.FeedLemmas.{before_first, none_of_all}
 use Rattle.crx_lines.proofs.feed.feed_from.Goals as goal
 
@@ -11,28 +10,21 @@ returns-then-feeds-ne0-clause-within c =
 
 pub returns-then-feeds-ne0-clause-found : goal.returns-then-feeds-ne0-clause-found
 returns-then-feeds-ne0-clause-found c =
-    let found = before_first c.args.bytes.now c.loop-at.at (omega arith) (omega arith) in
-    eqb-true _ _ (run_in_chunk_stops
-    (λ b. eqb b 10) c.args.bytes.now c.loop-at.at 32 _ 0 (omega arith) found.1 found.0)
+    let found = before_first _ c.loop-at.at (omega arith) (omega arith) in
+    eqb-true _ _ (run_in_chunk_stops (λ b. eqb b 10) _ _ 32 _ 0 (omega arith) found.1 found.0)
 
 pub returns-then-feeds-ne0-clause-first : goal.returns-then-feeds-ne0-clause-first
 returns-then-feeds-ne0-clause-first c k low high =
-    let found = before_first c.args.bytes.now c.loop-at.at (omega arith) (omega arith) in
-    ⊎_elim
-    (λ (below : k < c.loop-at.at). c.loop-at.invariant.2 k low below)
-    (λ (above : c.loop-at.at ≤ k). eqb-false _ _ (run_in_chunk_fails
-    (λ b. eqb b 10) c.args.bytes.now c.loop-at.at 32 _ 0 (omega arith) found.1 k above high))
-    (cases_lt k c.loop-at.at)
+    let found = before_first _ c.loop-at.at (omega arith) (omega arith) in
+    ⊎_elim (λ below. c.loop-at.invariant.2 k low below) (λ above. eqb-false _ _ (run_in_chunk_fails
+    (λ b. eqb b 10) _ _ 32 _ 0 (omega arith) found.1 k above high)) (cases_lt k _)
 
 pub loop-at-preserved : goal.loop-at-preserved
 loop-at-preserved c =
-    let none = none_of_all c.args.bytes.now c.loop-at.at (omega arith) (omega arith) in (
+    let none = none_of_all _ c.loop-at.at (omega arith) (omega arith) in (
       omega arith,
       omega arith,
-      λ k low high.
-          ⊎_elim
-          (λ (below : k < c.loop-at.at). c.loop-at.invariant.2 k low below)
-          (λ (above : c.loop-at.at ≤ k). eqb-false _ _ (run_in_chunk_fails
-          (λ b. eqb b 10) c.args.bytes.now c.loop-at.at 32 32 0 (omega arith) none k above high))
-          (cases_lt k c.loop-at.at),
+      λ k low high. ⊎_elim (λ below. c.loop-at.invariant.2 k low below)
+          (λ above. eqb-false _ _ (run_in_chunk_fails (λ b. eqb b 10) _ _ 32 32 0 (omega arith) none k above
+          high)) (cases_lt k _),
     )

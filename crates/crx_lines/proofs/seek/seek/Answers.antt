@@ -1,11 +1,8 @@
-use Rattle.std.proofs.Common.{ℕ, ◌+◌, ◌≤◌, List, [], ◌∷◌, ◌++◌, ⊎_elim, Ok, length, subst, sym, ap, ◌∙◌}
-use Rattle.std.proofs.Common.{refl, arith, append-nil}
-use Rattle.crx_lines.specs.Window.{kept}
-use Rattle.crx_lines.specs.Seeking.{Seeking}
-use Rattle.crx_lines.proofs.DeviceLemmas.{ends-some}
-use Rattle.crx_lines.proofs.WindowLemmas.{length-kept}
-use Rattle.crx_lines.proofs.SeekLemmas.{Seeking-start, Seeking-found, Seeking-step, Seeking-filled}
-use Rattle.crx_lines.proofs.SeekLemmas.{Seeking-same, Seeking-sum, Seeking-not_old}
+use Rattle.std.proofs.Common.{ℕ, ◌+◌, ◌≤◌, List, [], ◌∷◌, ◌++◌, ⊎_elim, Ok, length, subst, sym, ap, ◌∙◌, refl}
+use Rattle.std.proofs.Common.{arith, append-nil}
+use Rattle.crx_lines.proofs.{DeviceLemmas.ends-some, SeekLemmas.{Seeking-start, Seeking-found, Seeking-step}}
+use Rattle.crx_lines.proofs.SeekLemmas.{Seeking-filled, Seeking-same, Seeking-sum, Seeking-not_old}
+use Rattle.crx_lines.{proofs.WindowLemmas.length-kept, specs.{Seeking.Seeking, Window.kept}}
 use Rattle.crx_lines.proofs.seek.seek.Goals as goal
 
 pub seeking-init : goal.seeking-init
@@ -29,9 +26,8 @@ returns-in-Some-clause-ok g c = (
 pub overflow_add-passed : goal.overflow_add-passed
 overflow_add-passed g c =
     let old = c.args.window.now in
-    let sum = Seeking-sum (λ given. g.R.Source.gave c.args.reader.now given c.seeking.reader) (kept old)
-    (kept c.seeking.window) c.args.room c.seeking.taken c.seeking.passed c.seeking.searched
-    c.seeking.invariant.0 in
+    let sum = Seeking-sum (λ given. g.R.Source.gave _ given _) (kept old) _ c.args.room c.seeking.taken _
+    c.seeking.searched c.seeking.invariant.0 in
     let most : c.discarded.result ≤ length (kept c.seeking.window) =
     ⊎_elim (λ e. omega (arith, e.0)) (λ e. omega (arith, e.0)) c.discarded.ensures.count in
     omega (arith, sum, most, length-kept old.bytes.items old.start old.end, c.seeking.invariant.0.within)
@@ -46,9 +42,8 @@ returns-in-Ok-true-clause-over g c =
     let more = c.in-Ok-true.ensures.some (ap Ok c.in-Ok-true.field-0-test) in
     let then = λ (given : List ℕ). g.R.Source.gave old (given ++ more.0 ∷ []) new in
     let goes = λ (given : List ℕ) (lead : g.R.Source.gave old given now). subst
-    (λ l. g.R.Source.gave old (l ++ more.0
-    ∷ []) new) (sym (append-nil given)) (g.met.R.Source.gave_both old now new given (more.0 ∷ []) lead more.1)
-    in
+    (λ l. g.R.Source.gave old (l ++ more.0 ∷ []) new) (sym (append-nil
+    given)) (g.met.R.Source.gave_both old now new given (more.0 ∷ []) lead more.1) in
     λ _. (
       more.0,
       _,
@@ -73,7 +68,7 @@ returns-in-Ok-false-clause-ok g c =
 
 pub returns-in-Ok-false-clause-unasked : goal.returns-in-Ok-false-clause-unasked
 returns-in-Ok-false-clause-unasked g c =
-    let s = Seeking-step (λ given. g.R.Source.gave c.args.reader.now given c.seeking.reader) _ _ _ _ _ _ _ _ _
+    let s = Seeking-step (λ given. g.R.Source.gave _ given _) _ _ _ _ _ _ _ _ _
     c.seeking.invariant.0 c.as_slice.ensures.value c.in_default.ensures.none c.discarded.ensures.count in
     λ has. absurd (Seeking-not_old _ _ _ _ _ _ s has)
 
@@ -109,7 +104,7 @@ returns-in-Ok-eq0-clause-ok g c =
 
 pub returns-in-Ok-eq0-clause-unasked : goal.returns-in-Ok-eq0-clause-unasked
 returns-in-Ok-eq0-clause-unasked g c =
-    let s = Seeking-step (λ given. g.R.Source.gave c.args.reader.now given c.seeking.reader) _ _ _ _ _ _ _ _ _
+    let s = Seeking-step (λ given. g.R.Source.gave _ given _) _ _ _ _ _ _ _ _ _
     c.seeking.invariant.0 c.as_slice.ensures.value c.in_default.ensures.none c.discarded.ensures.count in
     λ has. absurd (Seeking-not_old _ _ _ _ _ _ s has)
 
@@ -121,14 +116,12 @@ seeking-preserved g c =
     let s = Seeking-step (λ given. g.R.Source.gave old given now) _ _ _ _ _ _ _ _ _ c.seeking.invariant.0
     c.as_slice.ensures.value c.in_default.ensures.none c.discarded.ensures.count in
     let more = c.in-Ok.ensures.ok in (
-      Seeking-filled _ (λ given. g.R.Source.gave old given new) _ _ _ more.0 _ _ _ c.in-Ok.count _ s
+      Seeking-filled _ (λ given. g.R.Source.gave old given new) _ _ _ more.0 _ _ _ _ _ s
           (λ given lead. g.met.R.Source.gave_both old now new given more.0 lead more.3) more.1
           (omega (arith, s.within, c.in-Ok.ensures.bound, c.min-most.ensures)) more.2
           (ap length c.as_slice-searched.ensures.value),
-      c.in-Ok.ensures.good
-          ∙ c.seeking.invariant.1,
-      ends-some _ _ _ c.in-Ok.count-test.1 c.in-Ok.ensures.ends
-          ∙ c.seeking.invariant.2,
+      c.in-Ok.ensures.good ∙ c.seeking.invariant.1,
+      ends-some _ _ _ c.in-Ok.count-test.1 c.in-Ok.ensures.ends ∙ c.seeking.invariant.2,
       λ has. absurd (Seeking-not_old _ _ _ _ _ _ s has),
     )
 
@@ -149,18 +142,18 @@ returns-in-Err-fill-clause-failed g c =
 
 pub returns-in-Ok-true-clause-unasked : goal.returns-in-Ok-true-clause-unasked
 returns-in-Ok-true-clause-unasked g c =
-    let s = Seeking-step (λ given. g.R.Source.gave c.args.reader.now given c.seeking.reader) _ _ _ _ _ _ _ _ _
+    let s = Seeking-step (λ given. g.R.Source.gave _ given _) _ _ _ _ _ _ _ _ _
     c.seeking.invariant.0 c.as_slice.ensures.value c.in_default.ensures.none c.discarded.ensures.count in
     λ has. absurd (Seeking-not_old _ _ _ _ _ _ s has)
 
 pub returns-in-Err-clause-unasked : goal.returns-in-Err-clause-unasked
 returns-in-Err-clause-unasked g c =
-    let s = Seeking-step (λ given. g.R.Source.gave c.args.reader.now given c.seeking.reader) _ _ _ _ _ _ _ _ _
+    let s = Seeking-step (λ given. g.R.Source.gave _ given _) _ _ _ _ _ _ _ _ _
     c.seeking.invariant.0 c.as_slice.ensures.value c.in_default.ensures.none c.discarded.ensures.count in
     λ has. absurd (Seeking-not_old _ _ _ _ _ _ s has)
 
 pub returns-in-Err-fill-clause-unasked : goal.returns-in-Err-fill-clause-unasked
 returns-in-Err-fill-clause-unasked g c =
-    let s = Seeking-step (λ given. g.R.Source.gave c.args.reader.now given c.seeking.reader) _ _ _ _ _ _ _ _ _
+    let s = Seeking-step (λ given. g.R.Source.gave _ given _) _ _ _ _ _ _ _ _ _
     c.seeking.invariant.0 c.as_slice.ensures.value c.in_default.ensures.none c.discarded.ensures.count in
     λ has. absurd (Seeking-not_old _ _ _ _ _ _ s has)

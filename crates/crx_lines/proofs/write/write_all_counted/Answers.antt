@@ -1,14 +1,12 @@
-use Rattle.std.proofs.Common.{◌≡◌, ◌≤◌, ℕ, ◌+◌, ◌-◌, List, ◌++◌, length-take, length-drop, take, drop}
-use Rattle.std.proofs.Common.{sym, ap, ◌∙◌, subst, arith, append-nil}
-use Rattle.std.proofs.Math.Seq.{take-add}
-use Rattle.std.proofs.lemmas.List.{take-take}
+use Rattle.std.proofs.Common.{◌≡◌, ◌≤◌, ℕ, ◌+◌, ◌-◌, List, ◌++◌, length-take, length-drop, take, drop, sym}
+use Rattle.std.proofs.{Common.{ap, ◌∙◌, subst, arith, append-nil}, Math.Seq.take-add, lemmas.List.take-take}
 use Rattle.crx_lines.proofs.write.write_all_counted.Goals as goal
 
 -- what went out so far, and the next bytes after it
 take-rest : (bytes : List ℕ) (n k m : ℕ) → m ≤ k
     → take n bytes ++ take m (take k (drop n bytes)) ≡ take (n + m) bytes
 take-rest bytes n k m few =
-    ap (λ l. take n bytes ++ l) (take-take m k (drop n bytes) few) ∙ sym (take-add n m bytes)
+    ap (λ l. take n bytes ++ l) (take-take m k _ few) ∙ sym (take-add n m bytes)
 
 pub loop-written-preserved : goal.loop-written-preserved
 loop-written-preserved g c =
@@ -23,7 +21,7 @@ loop-written-preserved g c =
     let few : c.in-Ok.count ≤ room = omega (arith, bound, cut) in
     let before = c.loop-written.invariant in (
       omega (arith, bound, cut, length-drop at bytes),
-      subst (λ l. g.W.Sink.took old l new) (take-rest bytes at room c.in-Ok.count few)
+      rw (← (take-rest bytes at room c.in-Ok.count few))
           (g.met.W.Sink.took_both old now new _ _ before.1 c.in-Ok.ensures.bytes),
       c.in-Ok.ensures.good ∙ before.2,
       c.in-Ok.ensures.unasked ∙ before.3,
@@ -35,5 +33,5 @@ returns-in-Err-clause-part g c =
     let old = c.args.writer.now in
     let now = c.loop-written.writer in
     let new = c.write.new.self in
-    subst (λ l. g.W.Sink.took old l new) (append-nil (take c.loop-written.written bytes))
+    subst (λ l. g.W.Sink.took old l new) (append-nil _)
     (g.met.W.Sink.took_both old now new _ _ c.loop-written.invariant.1 c.in-Err.ensures.none_taken)

@@ -1,13 +1,10 @@
-use Rattle.std.proofs.Common.{◌≡◌, ℕ, true, not, ◌+◌, ◌<◌, List, inr, length, take, drop, slice_range}
-use Rattle.std.proofs.Common.{sym, ap, ◌∙◌, refl, arith}
-use Rattle.crx_base.specs.meaning.Lines.{without_return, ends_with_return}
-use Rattle.crx_lines.specs.Reading.{ReaderState}
-use Rattle.crx_lines.specs.Readers.{reading}
-use Rattle.crx_lines.specs.Window.{kept}
-use Rattle.crx_base.specs.declared.limits.TheConstants.{LINE_LIMIT}
-use Rattle.crx_lines.proofs.DeviceLemmas.{tally-line}
-use Rattle.crx_lines.proofs.SeekLemmas.{Seeking-start, Seeking-searched}
+use Rattle.std.proofs.Common.{ℕ, true, not, ◌+◌, ◌<◌, List, inr, length, take, drop, slice_range, sym, ap}
+use Rattle.std.proofs.Common.{◌∙◌, refl, arith}
+use Rattle.crx_base.specs.{declared.limits.TheConstants.LINE_LIMIT, meaning.Lines.without_return}
+use Rattle.crx_base.specs.meaning.Lines.{ends_with_return}
 use Rattle.crx_lines.proofs.AdvanceLemmas.{piece_at, takes, whole-piece, content-long, shown-line}
+use Rattle.crx_lines.proofs.{DeviceLemmas.tally-line, SeekLemmas.{Seeking-start, Seeking-searched}}
+use Rattle.crx_lines.specs.{Readers.reading, Reading.ReaderState, Window.kept}
 use Rattle.crx_lines.proofs.line.LineReader.advance.Goals as goal
 
 pub returns-then-place-gt-LINE_LIMIT-clause-answers : goal.returns-then-place-gt-LINE_LIMIT-clause-answers
@@ -15,7 +12,7 @@ returns-then-place-gt-LINE_LIMIT-clause-answers g c =
     let old = c.args.self.now in
     let held = kept old.window.value in
     let len = c.in-Some.len in
-    let shown : c.as_slice.result.now ≡ held = c.as_slice.ensures.value ∙ ap kept c.deref.ensures in
+    let shown = c.as_slice.ensures.value ∙ ap kept c.deref.ensures in
     let gave = λ (given : List ℕ). g.R.Source.gave c.args.reader.now given c.args.reader.now in
     let at_end = g.R.Source.at_end c.args.reader.now in
     let feed = rw shown at c.in-Some.ensures in
@@ -37,9 +34,8 @@ returns-then-place-gt-LINE_LIMIT-clause-answers g c =
       s.lead,
       (
         piece_at s.front held len true,
-        takes gave held held 0 0 0 len at_end s true
-            (feed.within.1, feed.found) (inr refl) (reading old) after (len + 1) refl refl now (omega arith)
-            (let limit = old.limit in
+        takes gave held held 0 0 0 len at_end s true (feed.within.1, feed.found) (inr refl) (reading old)
+            after (len + 1) refl refl now (omega arith) (let limit = old.limit in
             omega (arith, limit)) refl c.requires,
         content-long gave held held 0 0 0 len at_end s true content
             (c.content-place.ensures.value ∙ ap (λ w. without_return (take len (kept w))) c.deref-2.ensures)
@@ -55,7 +51,7 @@ returns-clause-answers g c =
     let held = kept old.window.value in
     let len = c.in-Some.len in
     let place = c.content-place.result in
-    let shown : c.as_slice.result.now ≡ held = c.as_slice.ensures.value ∙ ap kept c.deref.ensures in
+    let shown = c.as_slice.ensures.value ∙ ap kept c.deref.ensures in
     let gave = λ (given : List ℕ). g.R.Source.gave c.args.reader.now given c.args.reader.now in
     let at_end = g.R.Source.at_end c.args.reader.now in
     let feed = rw shown at c.in-Some.ensures in
@@ -69,25 +65,22 @@ returns-clause-answers g c =
       phase = old.phase;
     } in
     let now = c.pass.ensures.kept ∙ ap (λ w. drop (len + 1) (kept w)) c.deref_mut.ensures.value in
-    let bytes = c.pass.ensures.bytes
-    ∙ ap (λ w. w.bytes.items) (c.deref_mut.ensures.value ∙ sym c.deref-2.ensures) in
-    let content = ap (λ l. slice_range l place.from place.to) bytes
-    ∙ c.content-place.ensures.value ∙ ap (λ w. without_return (take len (kept w))) c.deref-2.ensures in
-    let returns = c.content-place.ensures.has_return
-    ∙ ap (λ w. ends_with_return (take len (kept w))) c.deref-2.ensures in
+    let bytes = c.pass.ensures.bytes ∙ ap (λ w. w.bytes.items)
+    (c.deref_mut.ensures.value ∙ sym c.deref-2.ensures) in
+    let content = ap (λ l. slice_range l place.from place.to) bytes ∙ c.content-place.ensures.value ∙ ap
+    (λ w. without_return (take len (kept w))) c.deref-2.ensures in
+    let returns = c.content-place.ensures.has_return ∙ ap (λ w. ends_with_return (take len (kept w)))
+    c.deref-2.ensures in
     let whole = whole-piece gave held held 0 0 0 len at_end s refl in (
       s.given,
       s.lead,
       (
         piece_at s.front held len true,
-        takes gave held held 0 0 0 len at_end s true
-            (feed.within.1, feed.found) (inr refl) (reading old) after (len + 1) refl refl now (omega arith)
-            (let limit = old.limit in
+        takes gave held held 0 0 0 len at_end s true (feed.within.1, feed.found) (inr refl) (reading old)
+            after (len + 1) refl refl now (omega arith) (let limit = old.limit in
             omega (arith, limit)) refl c.requires,
-        shown-line s.front
-            (take len held) (slice_range c.pass.new.self.bytes.items place.from place.to) true
-            place.has_return
-            (not place.has_return) whole content returns refl,
+        shown-line s.front (take len held) _ true place.has_return (not place.has_return) whole content
+            returns refl,
         refl,
         tally-line true _ _ _ _ refl refl,
       ),

@@ -1,20 +1,14 @@
-use Rattle.std.proofs.Common.{◌≡◌, ℕ, false, cond, ◌+◌, ◌-◌, ◌<◌, ◌≤◌, ◌⊎◌, ⊎_elim, inl, inr, List, [], ◌∷◌}
-use Rattle.std.proofs.Common.{◌++◌, Err, length, take, drop, slice_range, subst, sym, ap, ◌∙◌, refl, arith}
-use Rattle.std.proofs.Common.{rules}
+use Rattle.std.proofs.Common.{◌≡◌, ℕ, false, cond, ◌+◌, ◌-◌, ◌≤◌, ⊎_elim, inl, inr, List, [], ◌∷◌, ◌++◌, Err}
+use Rattle.std.proofs.Common.{length, take, drop, slice_range, subst, sym, ap, ◌∙◌, refl, arith, rules}
 use Rattle.std.proofs.lemmas.List.{length-drop}
-use Rattle.crx_lines.specs.meaning.Devices.{one_more}
-use Rattle.crx_base.specs.meaning.Lines.{without_return, ends_with_return}
-use Rattle.crx_lines.specs.declared.phase.Phase.TheVariants.{Ended}
-use Rattle.crx_lines.specs.Reading.{ReaderState}
-use Rattle.crx_lines.specs.Readers.{reading}
-use Rattle.crx_lines.specs.Window.{kept}
-use Rattle.crx_base.specs.declared.limits.TheConstants.{INPUT_LIMIT, LINE_LIMIT}
+use Rattle.crx_lines.proofs.AdvanceLemmas.{EndIs, piece_at, passed-within, takes, some-byte, whole-piece}
+use Rattle.crx_lines.proofs.AdvanceLemmas.{content-long, nothing, over-fault, read-fault, shown-line}
+use Rattle.crx_lines.proofs.{DeviceLemmas.{tally-same, tally-line}, SeekLemmas.Seeking-sum}
+use Rattle.crx_lines.specs.{Readers.reading, Reading.ReaderState, Window.kept}
+use Rattle.crx_lines.specs.{declared.phase.Phase.TheVariants.Ended, meaning.Devices.one_more}
 use Rattle.crx_base.specs.declared.fault.Fault.TheVariants.{InputTooLong, ReadFailed}
-use Rattle.crx_lines.proofs.DeviceLemmas.{tally-same, tally-line}
-use Rattle.crx_lines.proofs.SeekLemmas.{Seeking-sum}
-use Rattle.crx_lines.proofs.AdvanceLemmas.{EndIs, piece_at, passed-within, takes, some-byte}
-use Rattle.crx_lines.proofs.AdvanceLemmas.{whole-piece, content-long, nothing, over-fault, read-fault}
-use Rattle.crx_lines.proofs.AdvanceLemmas.{shown-line}
+use Rattle.crx_base.specs.{declared.limits.TheConstants.INPUT_LIMIT, meaning.Lines.without_return}
+use Rattle.crx_base.specs.meaning.Lines.{ends_with_return}
 use Rattle.crx_lines.proofs.line.LineReader.advance_by_reading.Goals as goal
 
 pub invariant_of-self : goal.invariant_of-self
@@ -25,7 +19,7 @@ invariant_of-self g c =
     let held = kept c.seek.new.window in
     let over = λ (e : c.in-Err.fault ≡ InputTooLong).
     let found = c.in-Err.ensures.over (ap Err e) in
-    let sum = Seeking-sum _ (kept c.deref_mut.result.now) held _ _ found.1 (length held) found.2 in
+    let sum = Seeking-sum _ _ held _ _ found.1 (length held) found.2 in
     let bound : old.passed + length held ≤ INPUT_LIMIT =
     omega (arith, sum, ap length same, ap length shown, old.limit) in
     bound in
@@ -42,27 +36,23 @@ returns-in-Err-clause-answers g c =
     let old = c.args.self.now in
     let same = ap kept c.deref_mut.ensures.value in
     let shown = c.as_slice.ensures.value ∙ ap kept c.deref.ensures in
-    let limit : old.passed + (length (kept c.deref_mut.result.now) + (INPUT_LIMIT - old.passed
-    - length c.as_slice.result.now))
+    let limit : old.passed + (length _ + (INPUT_LIMIT - old.passed - length c.as_slice.result.now))
     ≡ INPUT_LIMIT = omega (arith, ap length same, ap length shown, old.limit) in
-    ⊎_elim
-    (λ (e : c.in-Err.fault ≡ InputTooLong).
+    ⊎_elim (λ e.
     let found = c.in-Err.ensures.over (ap Err e) in (
       found.2.given ++ found.0 ∷ [],
       found.2.lead,
-      over-fault _ _ _ _ found.1 found.0 _ _ _ found.2
-          (reading old) _ _ _ e (sym same) limit (record { line = refl; number = refl; phase = refl })
+      over-fault _ _ _ _ found.1 found.0 _ _ _ found.2 (reading old) _ _ _ e (sym same) limit
+          (record { line = refl; number = refl; phase = refl })
           (tally-same _ _ _ _ (c.in-Err.ensures.good (inr (ap Err e))) c.in-Err.ensures.no_end),
-    ))
-    (λ (e : c.in-Err.fault ≡ ReadFailed).
+    )) (λ e.
     let found = c.in-Err.ensures.failed (ap Err e) in (
       found.2.given,
       found.2.lead,
-      read-fault _ _ _ _ found.0 found.1 _ _ _ found.2
-          (reading old) _ _ _ e (sym same) limit (record { line = refl; number = refl; phase = refl })
+      read-fault _ _ _ _ found.0 found.1 _ _ _ found.2 (reading old) _ _ _ e (sym same) limit
+          (record { line = refl; number = refl; phase = refl })
           (tally-same _ _ _ _ (c.in-Err.ensures.counted (ap Err e)) c.in-Err.ensures.no_end),
-    ))
-    c.in-Err.ensures.faults
+    )) c.in-Err.ensures.faults
 
 pub returns-then-is_nothing-clause-answers : goal.returns-then-is_nothing-clause-answers
 returns-then-is_nothing-clause-answers g c =
@@ -75,8 +65,7 @@ returns-then-is_nothing-clause-answers g c =
     let at_end = g.R.Source.at_end c.seek.new.reader in
     let found = c.in-Ok.found in
     let s = c.in-Ok.ensures.ok.1 in
-    let end : (found.len ≡ length held)
-    × at_end = subst (λ b. EndIs held found.len b at_end) none.2 c.in-Ok.ensures.end in
+    let end = subst (λ b. EndIs held found.len b at_end) none.2 c.in-Ok.ensures.end in
     let facts = nothing gave start held _ _ _ _ at_end s none.0 none.1 end.0 in
     let asked = g.R.Source.ends c.args.reader.now in
     let now : List ℕ → ReaderState = λ l. record
@@ -84,8 +73,7 @@ returns-then-is_nothing-clause-answers g c =
       s.given,
       s.lead,
       (
-        ap (λ l. l ++ s.given) (sym same)
-            ∙ facts.1,
+        ap (λ l. l ++ s.given) (sym same) ∙ facts.1,
         end.1,
         ap now facts.0,
         tally-line false _ _ _ _ (c.in-Ok.ensures.good (inl (search rules)))
@@ -99,11 +87,8 @@ overflow_add-self g c =
     let same = ap kept c.deref_mut.ensures.value in
     let shown = c.as_slice.ensures.value ∙ ap kept c.deref.ensures in
     let found = c.in-Ok.found in
-    let bound = passed-within (λ (given : List ℕ). g.R.Source.gave c.args.reader.now given c.seek.new.reader)
-    (kept c.deref_mut.result.now) (kept c.seek.new.window) _ c.in-Ok.ensures.ok.0 found.passed found.len
-    (g.R.Source.at_end c.seek.new.reader) c.in-Ok.ensures.ok.1 found.is_ended c.held-held.result
-    c.in-Ok.ensures.end c.held-held.ensures old.passed
-    (omega (arith, ap length same, ap length shown, old.limit)) in
+    let bound = passed-within _ _ _ _ c.in-Ok.ensures.ok.0 _ _ _ c.in-Ok.ensures.ok.1 _ _ c.in-Ok.ensures.end
+    c.held-held.ensures old.passed (omega (arith, ap length same, ap length shown, old.limit)) in
     omega (arith, bound)
 
 pub overflow_add-self-2 : goal.overflow_add-self-2
@@ -112,11 +97,8 @@ overflow_add-self-2 g c =
     let same = ap kept c.deref_mut.ensures.value in
     let shown = c.as_slice.ensures.value ∙ ap kept c.deref.ensures in
     let found = c.in-Ok.found in
-    let bound = passed-within (λ (given : List ℕ). g.R.Source.gave c.args.reader.now given c.seek.new.reader)
-    (kept c.deref_mut.result.now) (kept c.seek.new.window) _ c.in-Ok.ensures.ok.0 found.passed found.len
-    (g.R.Source.at_end c.seek.new.reader) c.in-Ok.ensures.ok.1 found.is_ended c.held-held.result
-    c.in-Ok.ensures.end c.held-held.ensures old.passed
-    (omega (arith, ap length same, ap length shown, old.limit)) in
+    let bound = passed-within _ _ _ _ c.in-Ok.ensures.ok.0 _ _ _ c.in-Ok.ensures.ok.1 _ _ c.in-Ok.ensures.end
+    c.held-held.ensures old.passed (omega (arith, ap length same, ap length shown, old.limit)) in
     omega (arith, bound)
 
 pub invariant_of-self-2 : goal.invariant_of-self-2
@@ -124,18 +106,17 @@ invariant_of-self-2 g c =
     let old = c.args.self.now in
     let same = ap kept c.deref_mut.ensures.value in
     let shown = c.as_slice.ensures.value ∙ ap kept c.deref.ensures in
-    let gave = λ (given : List ℕ). g.R.Source.gave c.args.reader.now given c.seek.new.reader in
+    let gave = λ (given : List ℕ). g.R.Source.gave _ given c.seek.new.reader in
     let start = kept c.deref_mut.result.now in
     let held = kept c.seek.new.window in
     let at_end = g.R.Source.at_end c.seek.new.reader in
     let found = c.in-Ok.found in
     let taken = c.in-Ok.ensures.ok.0 in
     let s = c.in-Ok.ensures.ok.1 in
-    let byte = some-byte gave start held _ taken found.passed found.len at_end s found.is_ended
-    c.held-held.result
+    let byte = some-byte gave start held _ taken found.passed found.len at_end s found.is_ended _
     (c.if-is_nothing.ensures.something refl) c.held-held.ensures in
     let bound = passed-within gave start held _ taken found.passed found.len at_end s found.is_ended
-    c.held-held.result c.in-Ok.ensures.end c.held-held.ensures old.passed
+    _ c.in-Ok.ensures.end c.held-held.ensures old.passed
     (omega (arith, ap length same, ap length shown, old.limit)) in
     let now = c.pass.ensures.kept ∙ ap (λ w. drop c.held-held.result (kept w)) c.deref_mut-2.ensures.value in
     record {
@@ -148,9 +129,8 @@ returns-then-is_over-clause-answers g c =
     let old = c.args.self.now in
     let same = ap kept c.deref_mut.ensures.value in
     let shown = c.as_slice.ensures.value ∙ ap kept c.deref.ensures in
-    let limit : old.passed + (length (kept c.deref_mut.result.now) + (INPUT_LIMIT - old.passed
-    - length c.as_slice.result.now))
-    ≡ INPUT_LIMIT = omega (arith, ap length same, ap length shown, old.limit) in
+    let limit : old.passed + (length (kept c.deref_mut.result.now) + (INPUT_LIMIT - old.passed - length
+    c.as_slice.result.now)) ≡ INPUT_LIMIT = omega (arith, ap length same, ap length shown, old.limit) in
     let gave = λ (given : List ℕ). g.R.Source.gave c.args.reader.now given c.seek.new.reader in
     let start = kept c.deref_mut.result.now in
     let held = kept c.seek.new.window in
@@ -162,23 +142,19 @@ returns-then-is_over-clause-answers g c =
     let now = c.pass.ensures.kept ∙ ap (λ w. drop c.held-held.result (kept w)) c.deref_mut-2.ensures.value in
     let place = c.content-place.result in
     let content = slice_range c.deref-2.result.now.bytes.items place.from place.to in
-    let over : (0 < found.passed) ⊎ (LINE_LIMIT < length content) = ⊎_elim
-    (λ h. inl h) (λ h. inr (omega (arith, h, c.content-place.ensures.len)))
+    let over = ⊎_elim (λ h. inl h) (λ h. inr (omega (arith, h, c.content-place.ensures.len)))
     (c.if-is_over.ensures.over refl) in
     let piece = piece_at s.front held found.len found.is_ended in (
       s.given,
       s.lead,
       (
         piece,
-        takes gave start held _ taken
-            found.passed found.len at_end s found.is_ended c.in-Ok.ensures.end some
-            (reading old) _ c.held-held.result
-            (sym same) c.held-held.ensures now refl (omega (arith, limit)) refl c.phase_after-self.ensures,
-        content-long
-            gave start held _ taken found.passed found.len at_end s found.is_ended content
-            (c.content-place.ensures.value
-            ∙ ap (λ w. without_return (take found.len (kept w))) c.deref-2.ensures)
-            over,
+        takes gave start held _ taken found.passed found.len at_end s found.is_ended c.in-Ok.ensures.end some
+            (reading old) _ c.held-held.result (sym same) c.held-held.ensures now refl (omega (arith, limit))
+            refl c.phase_after-self.ensures,
+        content-long gave start held _ taken found.passed found.len at_end s found.is_ended content
+            (c.content-place.ensures.value ∙ ap (λ w. without_return (take found.len (kept w)))
+            c.deref-2.ensures) over,
         refl,
         tally-line found.is_ended _ _ _ _ (c.in-Ok.ensures.good (inl (search rules))) c.in-Ok.ensures.ends,
       ),
@@ -189,9 +165,8 @@ returns-clause-answers g c =
     let old = c.args.self.now in
     let same = ap kept c.deref_mut.ensures.value in
     let shown = c.as_slice.ensures.value ∙ ap kept c.deref.ensures in
-    let limit : old.passed + (length (kept c.deref_mut.result.now) + (INPUT_LIMIT - old.passed
-    - length c.as_slice.result.now))
-    ≡ INPUT_LIMIT = omega (arith, ap length same, ap length shown, old.limit) in
+    let limit : old.passed + (length (kept c.deref_mut.result.now) + (INPUT_LIMIT - old.passed - length
+    c.as_slice.result.now)) ≡ INPUT_LIMIT = omega (arith, ap length same, ap length shown, old.limit) in
     let gave = λ (given : List ℕ). g.R.Source.gave c.args.reader.now given c.seek.new.reader in
     let start = kept c.deref_mut.result.now in
     let held = kept c.seek.new.window in
@@ -204,26 +179,23 @@ returns-clause-answers g c =
     let place = c.content-place.result in
     let none = (c.if-is_over.ensures.within refl).0 in
     let whole = whole-piece gave start held _ taken found.passed found.len at_end s none in
-    let bytes = c.pass.ensures.bytes
-    ∙ ap (λ w. w.bytes.items) (c.deref_mut-2.ensures.value ∙ sym c.deref-2.ensures) in
-    let content = ap (λ l. slice_range l place.from place.to) bytes
-    ∙ c.content-place.ensures.value ∙ ap (λ w. without_return (take found.len (kept w))) c.deref-2.ensures in
-    let returns = c.content-place.ensures.has_return
-    ∙ ap (λ w. ends_with_return (take found.len (kept w))) c.deref-2.ensures in
+    let bytes = c.pass.ensures.bytes ∙ ap (λ w. w.bytes.items)
+    (c.deref_mut-2.ensures.value ∙ sym c.deref-2.ensures) in
+    let content = ap (λ l. slice_range l place.from place.to) bytes ∙ c.content-place.ensures.value ∙ ap
+    (λ w. without_return (take found.len (kept w))) c.deref-2.ensures in
+    let returns = c.content-place.ensures.has_return ∙ ap (λ w. ends_with_return (take found.len (kept w)))
+    c.deref-2.ensures in
     let piece = piece_at s.front held found.len found.is_ended in (
       s.given,
       s.lead,
       (
         piece,
-        takes gave start held _ taken found.passed found.len at_end s found.is_ended
-            c.in-Ok.ensures.end some (reading old) _ c.held-held.result
-            (sym same) c.held-held.ensures now refl
-            (omega (arith, limit)) refl c.phase_after-self.ensures,
-        shown-line s.front
-            (take found.len held) (slice_range c.pass.new.self.bytes.items place.from place.to)
-            found.is_ended place.has_return c.is_plain.result whole content returns c.is_plain.ensures,
+        takes gave start held _ taken found.passed found.len at_end s found.is_ended c.in-Ok.ensures.end some
+            (reading old) _ c.held-held.result (sym same) c.held-held.ensures now refl (omega (arith, limit))
+            refl c.phase_after-self.ensures,
+        shown-line s.front (take found.len held) _ found.is_ended place.has_return c.is_plain.result whole
+            content returns c.is_plain.ensures,
         refl,
-        tally-line
-            found.is_ended _ _ _ _ (c.in-Ok.ensures.good (inl (search rules))) c.in-Ok.ensures.ends,
+        tally-line found.is_ended _ _ _ _ (c.in-Ok.ensures.good (inl (search rules))) c.in-Ok.ensures.ends,
       ),
     )

@@ -1,5 +1,4 @@
-use Rattle.std.proofs.Common.{refl, rules}
-use Rattle.std.proofs.lemmas.Result.{err_from_is_err_and}
+use Rattle.std.proofs.{Common.{refl, rules}, lemmas.Result.err_from_is_err_and}
 use Rattle.crx_lines.specs.Readers.{reading}
 use Rattle.crx_lines.proofs.line.LineReader.next_line.Goals as goal
 

@@ -1,6 +1,5 @@
 -- The calls so far were interrupted: none gave a byte, and the buffer has its length.
-use Rattle.std.proofs.Common.{◌≡◌, length}
-use Rattle.std.specs.Io.KnownBytes.{Keeps}
+use Rattle.std.{proofs.Common.{◌≡◌, length}, specs.Io.KnownBytes.Keeps}
 use Rattle.crx_lines.proofs.uninterrupted.UninterruptedRead.read.Given as goal
 
 abbrev pub invariant-loop : goal.invariant-loop

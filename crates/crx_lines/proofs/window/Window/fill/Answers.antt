@@ -1,7 +1,6 @@
-use Rattle.std.proofs.Common.{◌≡◌, ◌≤◌, ◌+◌, ◌-◌, ◌++◌, ℕ, length, take, drop, ap, ◌∙◌, arith}
-use Rattle.std.proofs.Common.{length-take-le}
+use Rattle.std.proofs.Common.{◌≤◌, ◌+◌, ◌-◌, ◌++◌, ℕ, length, take, ap, ◌∙◌, arith, length-take-le}
 use Rattle.std.proofs.lemmas.List.{take_at}
-use borrow.Rule.Slice.PartMut.{put_mid, same_len_mid}
+use borrow.Rule.Slice.PartMut.{same_len_mid}
 use Rattle.crx_lines.proofs.WindowLemmas.{grown}
 use Rattle.crx_lines.proofs.window.Window.fill.Goals as goal
 
@@ -12,16 +11,15 @@ returns-clause-ok g c =
     let bytes = c.deref_mut.result.now in
     let room : ℕ = w.end + c.min-room.result - w.end in
     let within : w.end ≤ length w.bytes.items = omega (arith, w.within, w.whole) in
-    let long : length (put_mid w.end room bytes c.read.new.buffer) ≡ w.bytes.len =
-    same_len_mid w.end room bytes c.read.new.buffer c.read.auto.buffer ∙ c.deref_mut.ensures.len in
-    let more = take n c.read.new.buffer in
+    let long =
+    same_len_mid w.end room bytes _ c.read.auto.buffer ∙ c.deref_mut.ensures.len in
+    let more = take n _ in
     rw (
-      take_at (put_mid w.end room bytes c.read.new.buffer) (drop (length
-          (put_mid w.end room bytes c.read.new.buffer)) w.bytes.items) w.bytes.len long,
+      take_at _ _ w.bytes.len long,
       c.deref_mut.ensures.value,
     ) (
       more,
-      length-take-le n c.read.new.buffer c.in_ok-count.ensures.bound,
+      length-take-le n _ c.in_ok-count.ensures.bound,
       grown w.bytes.items c.read.new.buffer w.start w.end _ n w.ordered within c.in_ok-count.ensures.bound
           ∙ ap (λ l. l ++ more) c.make_room.ensures.kept,
       c.in_ok-count.ensures.bytes,
