@@ -1,7 +1,6 @@
 -- Blanks at the ends of texts, and the columns of a line that ends before them.
 use Rattle.std.proofs.Common.{◌≡◌, ℕ, ◌-◌, ◌≤◌, true, false, List, [], ◌∷◌, ◌++◌, length, take, drop}
-use Rattle.std.proofs.Common.{replicate, refl, ap, arith, suc, zero, cond}
-use Rattle.std.proofs.lemmas.List.{take-replicate}
+use Rattle.std.proofs.{Common.{replicate, refl, ap, arith, suc, zero, cond}, lemmas.List.take-replicate}
 use Rattle.crx_text.specs.meaning.Columns.{is_blank, columns, before_end_blanks, without_end_blanks}
 use Rattle.crx_text.specs.meaning.Columns.{without_first_blanks, without_blanks}
 
@@ -33,20 +32,18 @@ padded_more (suc w) n [] h = let e : suc w - 0 ≡ suc w = omega arith in rw e
     (take-replicate {X = ℕ} (suc w) n 32 h)
 padded_more (suc w) n (x ∷ s) h =
     let e : suc w - suc (length (take w s)) ≡ w - length (take w s) = omega arith in
-    rw e (ap (λ (t : List ℕ). x ∷ t) (padded_more w n s (omega arith)))
+    rw e (ap (λ t. x ∷ t) (padded_more w n s (omega arith)))
 
 -- columns are the part inside the line, and blanks after it
-pub columns_are : (line : List ℕ) (first width : ℕ) →
-    columns line first width ≡ take width (drop (first - 1) line)
-    ++ replicate (width - length (take width (drop (first - 1) line))) 32
-columns_are line first width = padded_more width width (drop (first - 1) line) (omega arith)
+pub columns_are : (line : List ℕ) (first width : ℕ) → columns line first width ≡ take width
+    (drop (first - 1) line) ++ replicate (width - length (take width (drop (first - 1) line))) 32
+columns_are line first width = padded_more width width _ (omega arith)
 
 -- so what doesn't read blanks at the ends reads the part alone
 pub end_blanks_columns : (line : List ℕ) (first width : ℕ)
     → without_end_blanks (columns line first width) ≡ without_end_blanks (take width (drop (first - 1) line))
 end_blanks_columns line first width =
-    rw (columns_are line first width) (end_blanks-more (take width (drop (first - 1) line))
-    (width - length (take width (drop (first - 1) line))))
+    rw (columns_are line first width) (end_blanks-more (take width _) (width - length _))
 
 pub blanks_columns : (line : List ℕ) (first width : ℕ)
     → without_blanks (columns line first width) ≡ without_blanks (take width (drop (first - 1) line))

@@ -1,42 +1,19 @@
 -- Reading the number in a cell, up to the first blank of a line.
 use Rattle.std.proofs.Common.{true, false, ℕ, ℤ, ◌≡◌, ◌==◌, ◌<◌, Bool, List, [], ◌∷◌, length, Option, Some}
 use Rattle.std.proofs.Common.{None, if◌then◌else◌, ◌&&◌, ◌||◌, ◌-◌, inl, inr, arith, refl, ap, get_or, eqb}
-use Rattle.std.proofs.lemmas.Bool.{cases_eq, ne_eqb}
-use Rattle.std.proofs.lemmas.Bool.Decides.{nat_tests}
-use Rattle.std.specs.Char.{is_ascii_digit}
-use Rattle.std.specs.List.{list_any}
-use Rattle.std.specs.Option.{option_map}
-use Rattle.std.specs.Str.{all_ascii_digits}
-use Rattle.std.specs.Str.Parse.{digits_value, starts_with_minus}
-use Rattle.crx_text.specs.meaning.Columns.{is_blank}
-use Rattle.crx_text.specs.meaning.Codes.{code_of, coded_number, first_cell, is_count_of_digits, is_order}
-use Rattle.crx_text.specs.meaning.Codes.{start_of}
-use Rattle.crx_text.specs.Codes.{counted_digits}
-use Rattle.crx_text.specs.declared.code.Code.TheVariants.{Start, Step}
+use Rattle.std.{proofs.lemmas.Bool.{cases_eq, ne_eqb, Decides.nat_tests}, specs.Char.is_ascii_digit}
+use Rattle.std.specs.{List.list_any, Option.option_map, Str.{all_ascii_digits, Parse.starts_with_minus}}
+use Rattle.crx_text.specs.{Codes.counted_digits, declared.code.Code.TheVariants.{Start, Step}}
+use Rattle.crx_text.specs.meaning.Codes.{code_of, coded_number, first_cell, is_order, start_of}
 use Rattle.crx_text.specs.meaning.Numbers.{signed_number, without_minus}
 
 pub without_minus-cell : (text : List ℕ) → without_minus (first_cell text) ≡ first_cell (without_minus text)
 without_minus-cell [] = refl
-without_minus-cell (c ∷ cs) =
-    elim (cases_eq c 32) [
-      | inl blank ↦ let e : c ≡ 32 = blank in rw e refl
-      | inr other ↦
-          let keeps : (c == 32) ≡ false = grind (arith, nat_tests) in
-          elim (cases_eq c 45) [
-            | inl minus ↦ let e : c ≡ 45 = minus in rw e refl
-            | inr digit ↦
-                let test : (c == 45) ≡ false = grind (arith, nat_tests) in
-                rw (keeps, test) (rw keeps refl)
-          ]
-    ]
+without_minus-cell (c ∷ cs) = grind arith
 
 pub starts_with_minus-cell : (text : List ℕ) → starts_with_minus (first_cell text) ≡ starts_with_minus text
 starts_with_minus-cell [] = refl
-starts_with_minus-cell (c ∷ cs) =
-    elim (cases_eq c 32) [
-      | inl blank ↦ let e : c ≡ 32 = blank in rw e refl
-      | inr other ↦ let keeps : (c == 32) ≡ false = grind (arith, nat_tests) in rw keeps refl
-    ]
+starts_with_minus-cell (c ∷ cs) = grind arith
 
 chosen : (a : Bool) (n : ℕ) (f : ℕ → ℤ)
     → (if a then Some (f n) else None) ≡ option_map f (if a then Some n else None)
@@ -47,10 +24,7 @@ chosen false n f = refl
 pub coded_number-cell : (text digits : List ℕ) → digits ≡ without_minus text → coded_number (first_cell text)
     ≡ option_map (signed_number (starts_with_minus text)) (counted_digits (first_cell digits))
 unfolding coded_number
-coded_number-cell text digits is =
-    rw (without_minus-cell text, starts_with_minus-cell text, ← is)
-    (chosen (is_count_of_digits (length (first_cell digits)) && all_ascii_digits (first_cell digits))
-    (digits_value 10 (first_cell digits)) (signed_number (starts_with_minus text)))
+coded_number-cell text digits is = grind arith
 
 pub no_cell : {A : Type 0} (r : Option (ℕ × A)) (counted : Option ℕ) (f : ℕ → ℤ)
     → r ≡ None → option_map (λ cell. cell.0) r ≡ counted → option_map f counted ≡ None
@@ -69,24 +43,14 @@ none_of false b n e = refl
 pub no_first_digit : (text : List ℕ)
     → (0 < length text → is_ascii_digit (get_or text 0 0) ≡ false) → counted_digits (first_cell text) ≡ None
 no_first_digit [] stops = refl
-no_first_digit (c ∷ cs) stops =
-    let other : is_ascii_digit c ≡ false = stops (omega arith) in
-    let digits : all_ascii_digits (c ∷ first_cell cs) ≡ false =
-    ap (λ t. t && all_ascii_digits (first_cell cs)) other in
-    elim (is_blank c) as (λ b. counted_digits (if b then [] else c ∷ first_cell cs) ≡ None) [
-      | true ↦ refl
-      | false ↦ none_of (is_count_of_digits (length (c ∷ first_cell cs)))
-          (all_ascii_digits (c ∷ first_cell cs)) (digits_value 10 (c ∷ first_cell cs)) digits
-    ]
+no_first_digit (c ∷ cs) stops = grind arith
 
 -- ---- a number is the code of a difference
 
 no_digits : (text digits : List ℕ)
     → digits ≡ without_minus text → all_ascii_digits digits ≡ false → coded_number text ≡ None
 unfolding coded_number
-no_digits text digits is other =
-    rw (← is) (none_of (is_count_of_digits (length digits))
-    (all_ascii_digits digits) (signed_number (starts_with_minus text) (digits_value 10 digits)) other)
+no_digits text digits is other = grind arith
 
 no_text : coded_number [] ≡ None
 unfolding coded_number
@@ -99,10 +63,10 @@ stopped false = refl
 after_order : (c : ℕ) (cs : List ℕ) → coded_number (c ∷ 38 ∷ cs) ≡ None
 after_order c cs =
     elim (cases_eq c 45) [
-      | inl minus ↦ let e : c ≡ 45 = minus in rw e (no_digits (45 ∷ 38 ∷ cs) (38 ∷ cs) refl refl)
+      | inl minus ↦ let e = minus in rw e (no_digits _ _ refl refl)
       | inr other ↦
           let test : (c == 45) ≡ false = grind (arith, nat_tests) in
-          no_digits (c ∷ 38 ∷ cs) (c ∷ 38 ∷ cs) (rw test refl) (stopped (is_ascii_digit c))
+          no_digits _ (c ∷ 38 ∷ cs) (rw test refl) (stopped _)
     ]
 
 pub code_of-number : (text : List ℕ) (number : ℤ) → coded_number text ≡ Some number
@@ -112,7 +76,7 @@ code_of-number (c ∷ []) number e = ap (option_map Step) e
 code_of-number (c ∷ d ∷ cs) number e =
     elim (cases_eq d 38) [
       | inl and ↦
-          let is : d ≡ 38 = and in
+          let is = and in
           let none : coded_number (c ∷ d ∷ cs) ≡ None = rw is (after_order c cs) in
           absurd (cc)
       | inr other ↦
@@ -127,21 +91,21 @@ one_cell [] none = refl
 one_cell (c ∷ cs) none =
     elim (cases_eq c 32) [
       | inl blank ↦
-          let e : c ≡ 32 = blank in
-          let some : true ≡ false = rw e at none in absurd (cc)
+          let e = blank in
+          let some = rw e at none in absurd (cc)
       | inr other ↦
-          let test : eqb c 32 ≡ false = ne_eqb c 32 other in
-          rw test (ap (λ (t : List ℕ). c ∷ t) (one_cell cs (rw test at none)))
+          let test = ne_eqb c 32 other in
+          rw test (ap (λ t. c ∷ t) (one_cell cs (rw test at none)))
     ]
 
 blank_is_no_digit : (ds : List ℕ) → list_any (λ c. eqb c 32) ds ≡ true → all_ascii_digits ds ≡ false
 blank_is_no_digit [] some = absurd (cc)
 blank_is_no_digit (c ∷ cs) some =
     elim (cases_eq c 32) [
-      | inl blank ↦ let e : c ≡ 32 = blank in rw e refl
+      | inl blank ↦ let e = blank in rw e refl
       | inr other ↦
-          let test : eqb c 32 ≡ false = ne_eqb c 32 other in
-          rw (blank_is_no_digit cs (rw test at some)) (stopped (is_ascii_digit c))
+          let test = ne_eqb c 32 other in
+          rw (blank_is_no_digit cs (rw test at some)) (stopped _)
     ]
 
 no_number_with_blank : (text : List ℕ) → list_any (λ c. eqb c 32) text ≡ true → coded_number text ≡ None
@@ -149,11 +113,11 @@ no_number_with_blank [] some = absurd (cc)
 no_number_with_blank (c ∷ cs) some =
     elim (cases_eq c 45) [
       | inl minus ↦
-          let e : c ≡ 45 = minus in
-          rw e (no_digits (45 ∷ cs) cs refl (blank_is_no_digit cs (rw e at some)))
+          let e = minus in
+          rw e (no_digits _ cs refl (blank_is_no_digit cs (rw e at some)))
       | inr other ↦
           let test : (c == 45) ≡ false = grind (arith, nat_tests) in
-          no_digits (c ∷ cs) (c ∷ cs) (rw test refl) (blank_is_no_digit (c ∷ cs) some)
+          no_digits _ (c ∷ cs) (rw test refl) (blank_is_no_digit (c ∷ cs) some)
     ]
 
 -- a blank is in no code
@@ -177,6 +141,5 @@ no_code_with_blank (c ∷ d ∷ cs) some =
               let test : eqb c 32 ≡ false = ne_eqb c 32 other in
               let none = no_number_with_blank cs (rw test at some) in
               elim (is_order c) as (λ b. (if b then option_map (Start (c - 48)) (coded_number cs) else None)
-              ≡ None)
-              [ true ↦ rw none refl | false ↦ refl ]
+              ≡ None) [ true ↦ rw none refl | false ↦ refl ]
         ]

@@ -1,10 +1,9 @@
 -- Texts by their characters, blanks being after them: what is read by columns doesn't ask for the blanks at a
 -- text's end.
-use Rattle.std.specs.Prelude.{◌≡◌, refl, ℕ, zero, suc, ◌+◌, ◌-◌, ◌<◌, ◌≤◌, Bool, true, ◌&&◌, List, [], ◌∷◌}
-use Rattle.std.specs.Prelude.{◌++◌, length, take, drop, replicate, slice_index_or}
-use Rattle.std.specs.List.{list_all}
-use Rattle.std.proofs.Common.{sym, ◌∙◌, ap, arith, not-suc-le-zero}
-use Rattle.std.proofs.lemmas.List.{length-append, length-take, length-replicate}
+use Rattle.std.proofs.{Common.{sym, ◌∙◌, ap, arith, not-suc-le-zero}, lemmas.List.length-append}
+use Rattle.std.{proofs.lemmas.List.{length-take, length-replicate}, specs.{List.list_all, Prelude.◌≡◌}}
+use Rattle.std.specs.Prelude.{refl, ℕ, zero, suc, ◌+◌, ◌-◌, ◌<◌, ◌≤◌, Bool, true, ◌&&◌, List, [], ◌∷◌, ◌++◌}
+use Rattle.std.specs.Prelude.{length, take, drop, replicate, slice_index_or}
 use Rattle.crx_text.specs.meaning.Columns.{before_end_blanks, without_end_blanks, columns}
 
 -- the character at a position, from 0
@@ -18,9 +17,8 @@ at-before_end_blanks c [] (suc p) = grind arith
 
 pub at-without_end_blanks : (text : List ℕ) (p : ℕ) → at (without_end_blanks text) p ≡ at text p
 at-without_end_blanks [] p = refl
-at-without_end_blanks (c ∷ cs) zero = at-before_end_blanks c (without_end_blanks cs) zero
-at-without_end_blanks (c ∷ cs) (suc p) = at-before_end_blanks c (without_end_blanks cs) (suc p)
-    ∙ at-without_end_blanks cs p
+at-without_end_blanks (c ∷ cs) zero = grind arith
+at-without_end_blanks (c ∷ cs) (suc p) = at-before_end_blanks c _ (suc p) ∙ at-without_end_blanks cs p
 
 pub at-drop : (k : ℕ) (text : List ℕ) (p : ℕ) → at (drop k text) p ≡ at text (k + p)
 at-drop zero text p = ap (at text) (omega arith)
@@ -38,7 +36,7 @@ pub at-append_past : (xs ys : List ℕ) (n p : ℕ) → length xs ≡ n → at (
 at-append_past [] ys n p e = ap (at ys) (omega (arith, e))
 at-append_past (x ∷ xs) ys n p e =
     let next : n + p ≡ suc (length xs + p) = omega (arith, e) in
-    ap (at (x ∷ (xs ++ ys))) next ∙ at-append_past xs ys (length xs) p refl
+    ap (at (x ∷ (xs ++ ys))) next ∙ at-append_past xs ys _ p refl
 
 -- a text that blanks follow, cut at a width
 take-padded : (n k : ℕ) (text want : List ℕ)
@@ -49,15 +47,13 @@ take-padded zero k text (w ∷ ws) le e h = absurd (omega (arith, e))
 take-padded (suc n) k text [] le e h = absurd (omega (arith, e))
 take-padded (suc n) zero text (w ∷ ws) le e h = absurd (not-suc-le-zero le)
 take-padded (suc n) (suc k) [] (w ∷ ws) le e h =
-    let same : 32 ≡ w = h 0 (omega arith) in
-    ap (λ c. c ∷ take n (replicate k 32)) same
-    ∙ ap (λ r. w ∷ r) (take-padded n k
-    [] ws (omega (arith, le)) (omega (arith, e)) (λ p less. h (suc p) (omega (arith, less))))
+    let same = h 0 (omega arith) in
+    ap (λ c. c ∷ take n (replicate k 32)) same ∙ ap (λ r. w ∷ r) (take-padded n k [] ws (omega (arith, le))
+    (omega (arith, e)) (λ p less. h (suc p) (omega (arith, less))))
 take-padded (suc n) (suc k) (c ∷ cs) (w ∷ ws) le e h =
     let same : c ≡ w = h 0 (omega arith) in
-    ap (λ d. d ∷ take n (cs ++ replicate (suc k) 32)) same
-    ∙ ap (λ r. w ∷ r) (take-padded n
-    (suc k) cs ws (omega (arith, le)) (omega (arith, e)) (λ p less. h (suc p) (omega (arith, less))))
+    ap (λ d. d ∷ take n (cs ++ replicate (suc k) 32)) same ∙ ap (λ r. w ∷ r) (take-padded n (suc k) cs ws
+    (omega (arith, le)) (omega (arith, e)) (λ p less. h (suc p) (omega (arith, less))))
 
 -- ---- columns
 
@@ -66,8 +62,7 @@ length-columns line first width =
     omega (
       arith,
       length-take width (drop (first - 1) line ++ replicate width 32),
-      length-append
-          (drop (first - 1) line) (replicate width 32),
+      length-append (drop (first - 1) line) (replicate width 32),
       length-replicate {A = ℕ} width 32,
     )
 
@@ -75,8 +70,7 @@ length-columns line first width =
 pub columns-are : (text : List ℕ) (first width : ℕ) (want : List ℕ) → length want ≡ width
     → ((p : ℕ) → p < width → at text (first - 1 + p) ≡ at want p) → columns text first width ≡ want
 columns-are text first width want e h =
-    take-padded width width (drop (first - 1) text) want
-    (omega arith) e (λ p less. at-drop (first - 1) text p ∙ h p less)
+    take-padded width width _ want (omega arith) e (λ p less. at-drop _ text p ∙ h p less)
 
 pub list_all-from_at : (p : ℕ → Bool) (text : List ℕ) → ((k : ℕ) → p (at text k) ≡ true) → list_all p text
     ≡ true

@@ -1,26 +1,15 @@
 -- The columns of a receiver clock offset in lanes.
-use Rattle.std.proofs.Common.{◌≡◌, ℕ, ◌+◌, ◌-◌, ◌*◌, ◌%◌, ◌^◌, ◌<◌, Bool, true, false, cond, nat_eq, ltb, eqb}
-use Rattle.std.proofs.Common.{Some, List, [], ◌∷◌, ◌++◌, map, length, replicate, take, drop, get_or, subst}
-use Rattle.std.proofs.Common.{refl, sym, ap, ◌∙◌, arith}
-use Rattle.std.proofs.lemmas.Bool.{agree_below_at, and_from}
-use Rattle.std.proofs.lemmas.List.{length-drop}
-use Rattle.std.proofs.lemmas.Simd.{mask_l-mod, pick_l_whole}
-use Rattle.std.specs.Char.{is_ascii_digit}
-use Rattle.std.specs.List.{list_all, list_any, range_with_len}
-use Rattle.std.specs.Str.{all_ascii_digits}
-use Rattle.std.specs.Str.Parse.{digits_value}
+use Rattle.std.proofs.Common.{◌≡◌, ℕ, ◌+◌, ◌-◌, ◌*◌, ◌%◌, ◌^◌, ◌<◌, Bool, true, false, cond, ltb, eqb, Some}
+use Rattle.std.proofs.Common.{List, [], ◌∷◌, ◌++◌, map, length, replicate, take, drop, get_or, subst, refl}
+use Rattle.std.proofs.{Common.{sym, ap, ◌∙◌, arith}, lemmas.{Bool.and_from, List.length-drop}}
+use Rattle.std.{proofs.lemmas.Simd.pick_l_whole, specs.{Char.is_ascii_digit, List.{list_all, list_any}}}
+use Rattle.std.specs.{List.range_with_len, Str.{all_ascii_digits, Parse.digits_value}}
 use lib.Lanes.{pick_l, mask_l, top, zip2, dots}
-use Rattle.crx_text.specs.meaning.Columns.{without_first_blanks}
-use Rattle.crx_text.specs.Fields.{is_plain_after, weighed}
+use Rattle.crx_text.proofs.{PlainLanes.all_at, PlainSizes.{joined_of, twelve}, PlainSpellings.decimal_whole}
+use Rattle.crx_text.proofs.{PlainSpellings.weighed_digits, PowersOfTen.value_small, ReadBack.digits_behind}
+use Rattle.crx_text.{proofs.Sizes.{neg_is_within, number_of_width, pos_is_within}, specs.Digits.above_zero}
+use Rattle.crx_text.specs.{Fields.{is_plain_after, weighed}, meaning.Columns.without_first_blanks}
 use Rattle.crx_text.specs.meaning.Numbers.{IsWithin, number_of, missing_or_number, signed_number}
-use Rattle.crx_text.specs.Digits.{above_zero}
-use Rattle.crx_text.proofs.LaneBits.{all_bits}
-use Rattle.crx_text.proofs.PlainLanes.{all_at}
-use Rattle.crx_text.proofs.PlainSizes.{joined_of, twelve}
-use Rattle.crx_text.proofs.PlainSpellings.{decimal_whole, weighed_digits}
-use Rattle.crx_text.proofs.PowersOfTen.{digit_range, value_small}
-use Rattle.crx_text.proofs.ReadBack.{digits_behind}
-use Rattle.crx_text.proofs.Sizes.{neg_is_within, number_of_width, pos_is_within}
 
 pub fifteen : (xs : List ℕ) → length xs ≡ 15 → xs ≡ pick_l 0 xs (range_with_len 0 15)
 fifteen xs long = sym (pick_l_whole 0 xs 15 long)
@@ -45,14 +34,14 @@ abbrev bit : ℕ → Bool
 bit x = top 7 (cond (ltb (above_zero x) 10) 255 0)
 
 bit_is : (x : ℕ) → x < 256 → bit x ≡ is_ascii_digit x
-bit_is x small = agree_below_at bit is_ascii_digit 256 x refl small
+bit_is x small = grind arith
 
 abbrev bits_of : (ℕ → ℕ) → List Bool
 bits_of c = bit (c 3) ∷ bit (c 4) ∷ bit (c 5) ∷ bit (c 3) ∷ bit (c 6) ∷ bit (c 7) ∷ bit (c 8) ∷ bit (c 3)
     ∷ bit (c 9) ∷ bit (c 10) ∷ bit (c 11) ∷ bit (c 3) ∷ bit (c 12) ∷ bit (c 13) ∷ bit (c 14) ∷ bit (c 3) ∷ []
 
 lane_digit : (x : ℕ) → is_ascii_digit x ≡ true → above_zero x ≡ x - 48
-lane_digit x is_digit = let range = digit_range x is_digit in omega (arith, range)
+lane_digit x is_digit = grind arith
 
 lane_fits : (x : ℕ) → above_zero x < 256
 lane_fits x = omega arith
@@ -60,8 +49,7 @@ lane_fits x = omega arith
 module _ (c : ℕ → ℕ) (small : (i : ℕ)
     → c i < 256) (set : digit_bits (map c (range_with_len 0 15)) % 2 ^ 64 ≡ 65535) where
   all : list_all (λ b. b) (bits_of c) ≡ true
-  all = sym (all_bits (λ b. b) (bits_of c))
-      ∙ ap (λ m. nat_eq m 65535) (sym (mask_l-mod (bits_of c) 64 (omega arith)) ∙ set)
+  all = grind arith
 
   digit_at : (i k : ℕ) → get_or (bits_of c) k true ≡ bit (c i) → is_ascii_digit (c i) ≡ true
   digit_at i k is = sym (bit_is (c i) (small i)) ∙ sym is ∙ all_at (bits_of c) k all
@@ -82,8 +70,7 @@ module _ (c : ℕ → ℕ) (small : (i : ℕ)
   value_explicit =
       let d = λ (i : ℕ). above_zero (c i) in
       let whole = weighed_digits 0 (drop 3 (map c (range_with_len 0 15))) digits_explicit in
-      twelve (d 3) (d 4) (d 5) (d 6) (d 7) (d 8) (d 9) (d 10) (d 11) (d 12) (d 13) (d 14) (d 3)
-      ∙ ((rw (
+      twelve (d 3) (d 4) (d 5) (d 6) (d 7) (d 8) (d 9) (d 10) (d 11) (d 12) (d 13) (d 14) (d 3) ∙ ((rw (
         same_at 3 0 refl,
         same_at 4 1 refl,
         same_at 5 2 refl,
@@ -108,9 +95,8 @@ fraction_digits field long small =
 pub fraction_value : (field : List ℕ) → length field ≡ 15 → ((i : ℕ) → get_or field i 0 < 256)
     → digit_bits field % 2 ^ 64 ≡ 65535 → joined_of (groups_of field) ≡ digits_value 10 (drop 3 field)
 fraction_value field long small =
-    subst (λ (f : List ℕ). digit_bits f % 2 ^ 64 ≡ 65535 → joined_of (groups_of f)
-    ≡ digits_value 10 (drop 3 f))
-    (sym (fifteen field long)) (value_explicit (λ (i : ℕ). get_or field i 0) small)
+    subst (λ f. digit_bits f % 2 ^ 64 ≡ 65535 → joined_of (groups_of f) ≡ digits_value 10 (drop 3 f))
+    (sym (fifteen field long)) (value_explicit (λ i. get_or field i 0) small)
 
 -- ---- what the columns spell
 
@@ -118,9 +104,8 @@ decimal_explicit : (c : ℕ → ℕ) (digit fraction : ℕ) (is_below : Bool) �
     ≡ true
     → is_below ≡ list_any (λ x. eqb x 45) (c 0 ∷ c 1 ∷ []) → digit ≡ weighed 0 (c 0 ∷ c 1 ∷ []) → c 2 ≡ 46 →
     all_ascii_digits (drop 3 (map c (range_with_len 0 15))) ≡ true
-    → fraction ≡ digits_value 10 (drop 3 (map c (range_with_len 0 15))) →
-    number_of 15 12 (map c (range_with_len 0 15))
-    ≡ Some (Some (signed_number is_below (digit * 10 ^ 12 + fraction)))
+    → fraction ≡ digits_value 10 (drop 3 (map c (range_with_len 0 15))) → number_of 15 12
+    (map c (range_with_len 0 15)) ≡ Some (Some (signed_number is_below (digit * 10 ^ 12 + fraction)))
 decimal_explicit c digit fraction is_below plain sign digit_is point digits fraction_is =
     let rest = drop 3 (map c (range_with_len 0 15)) in
     let reads = decimal_whole 12 rest (c 0 ∷ c 1 ∷ []) digits refl plain in

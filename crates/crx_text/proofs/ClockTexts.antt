@@ -1,26 +1,22 @@
 -- The text of a receiver clock offset with one digit before the point.
-use Rattle.std.proofs.Common.{◌≡◌, ℕ, suc, ◌+◌, ◌-◌, ◌*◌, ◌/◌, ◌%◌, ◌^◌, ◌<◌, List, [], ◌∷◌, ◌++◌, length}
+use Rattle.std.proofs.Common.{◌≡◌, ℕ, ◌+◌, ◌-◌, ◌*◌, ◌/◌, ◌%◌, ◌^◌, ◌<◌, List, [], ◌∷◌, ◌++◌, length}
 use Rattle.std.proofs.Common.{replicate, take, set, subst, refl, sym, ap, ◌∙◌, arith}
-use Rattle.std.proofs.lemmas.Fmt.{decimal_digit}
-use Rattle.std.specs.List.{range_with_len}
+use Rattle.std.{proofs.lemmas.Fmt.decimal_digit, specs.List.range_with_len}
 use lib.Lanes.{pick_l, put_chunk}
-use Rattle.crx_text.specs.meaning.Numbers.{size_text, zero_padded}
-use Rattle.crx_text.proofs.ClockColumns.{fifteen}
-use Rattle.crx_text.proofs.LaneBits.{sixteen}
-use Rattle.crx_text.proofs.PrintedTexts.{plus, nine_in, three_in, twelve_padded}
+use Rattle.crx_text.proofs.{ClockColumns.fifteen, LaneBits.sixteen, PrintedTexts.{plus, nine_in, three_in}}
+use Rattle.crx_text.{proofs.PrintedTexts.twelve_padded, specs.meaning.Numbers.{size_text, zero_padded}}
 
 -- two stores of eight lanes, of which the second begins in the first
 abbrev pub stored : List ℕ → List ℕ → List ℕ
-stored text field = put_chunk 7
-    (put_chunk 3 field (pick_l 0 (text ++ text) (range_with_len 0 8)))
+stored text field = put_chunk 7 (put_chunk 3 field (pick_l 0 (text ++ text) (range_with_len 0 8)))
     (pick_l 0 (text ++ text) (range_with_len 4 8))
 
 pub stored_fraction : (text field : List ℕ)
     → length text ≡ 16 → length field ≡ 15 → stored text field ≡ take 3 field ++ take 12 text
 stored_fraction text field long wide =
-    let lanes : List ℕ = pick_l 0 text (range_with_len 0 16) in
-    subst (λ (t : List ℕ). stored t field ≡ take 3 field ++ take 12 t) (sym (sixteen text long))
-    (subst (λ (f : List ℕ). stored lanes f ≡ take 3 f ++ take 12 lanes) (sym (fifteen field wide)) refl)
+    let lanes = pick_l 0 text (range_with_len 0 16) in
+    subst (λ t. stored t field ≡ take 3 field ++ take 12 t) (sym (sixteen text long))
+    (subst (λ f. stored lanes f ≡ take 3 f ++ take 12 lanes) (sym (fifteen field wide)) refl)
 
 first_three : (field text : List ℕ) (digit : ℕ)
     → length field ≡ 15 → set (set (set (take 3 field ++ text) 0 32) 1 digit) 2 46 ≡ 32 ∷ digit ∷ 46 ∷ text
@@ -42,13 +38,11 @@ module _ (size : ℕ) (small : size < 10 ^ 13) where
   clock_written field wide =
       let rest : fraction ≡ size % 10 ^ 12 = omega arith in
       let below : fraction < 10 ^ 12 = omega arith in
-      let digits : take 12 fraction_lanes ≡ zero_padded 12 (size % 10 ^ 12) =
-      twelve_padded fraction below ∙ ap (zero_padded 12) rest in
+      let digits =
+      twelve_padded _ below ∙ ap (zero_padded 12) rest in
       let whole = decimal_digit (size / 10 ^ 12) (omega arith) in
       rw (first_three field (take 12 fraction_lanes) (48 + size / 10 ^ 12) wide, digits, whole) refl
 
 pub text_long : (field : List ℕ) (size : ℕ)
     → field ≡ 32 ∷ size_text 12 size → length field ≡ 15 → 1 + length (size_text 12 size) ≡ 15
-text_long field size is wide =
-    let one : (n : ℕ) → 1 + n ≡ suc n = λ n. omega arith in
-    one (length (size_text 12 size)) ∙ (ap length (sym is) ∙ wide)
+text_long field size is wide = grind arith

@@ -1,10 +1,7 @@
 -- Reading the numbers of codes.
-use Rattle.std.proofs.Common.{true, ℕ, ◌≡◌, ◌<◌, ◌≤◌, List, length, Some, None, if◌then◌else◌, arith, refl}
-use Rattle.std.proofs.lemmas.Bool.Decides.{nat_tests}
-use Rattle.std.specs.Str.{all_ascii_digits}
-use Rattle.std.specs.Str.Parse.{digits_value_after, starts_with_minus}
-use Rattle.crx_text.specs.meaning.Codes.{coded_number, is_count_of_digits}
-use Rattle.crx_text.specs.meaning.Numbers.{signed_number, without_minus}
+use Rattle.std.proofs.Common.{ℕ, ◌≡◌, ◌<◌, ◌≤◌, List, length, Some, None, if◌then◌else◌, arith}
+use Rattle.std.specs.Str.{all_ascii_digits, Parse.{digits_value_after, starts_with_minus}}
+use Rattle.crx_text.specs.meaning.{Codes.coded_number, Numbers.{signed_number, without_minus}}
 use Rattle.crx_base.specs.declared.limits.TheConstants.{DIGITS_LIMIT}
 
 -- where the count fits, the digits decide
@@ -13,6 +10,4 @@ pub coded_number_fitting : (text digits : List ℕ)
     coded_number text ≡ (if all_ascii_digits digits
     then Some (signed_number (starts_with_minus text) (digits_value_after 10 0 digits)) else None)
 unfolding coded_number
-coded_number_fitting text digits is some few =
-    let test : is_count_of_digits (length digits) ≡ true = grind (arith, nat_tests) in
-    rw (← is, test) refl
+coded_number_fitting text digits is some few = grind arith

@@ -1,31 +1,21 @@
 -- Printed codes.
-use Rattle.std.proofs.Common.{true, false, ◌≡◌, ◌≢◌, ◌==◌, ℕ, ℤ, pos, negsuc, neg_ℤ, suc, ◌+◌, ◌-◌, ◌≤◌, ◌<◌}
-use Rattle.std.proofs.Common.{◌^◌, List, [], ◌∷◌, ◌++◌, length, get_or, take, slice_set, decimal, Some, inl}
-use Rattle.std.proofs.Common.{inr, arith, ap, sym, ◌∙◌, refl}
-use Rattle.std.proofs.lemmas.Bool.{cases_lt}
-use Rattle.std.proofs.lemmas.Bool.Decides.{nat_tests}
-use Rattle.std.proofs.lemmas.Fmt.{decimal_digit, decimal_nonempty, length-decimal-le}
-use Rattle.std.proofs.lemmas.List.{append_assoc, get_or_past}
-use Rattle.std.proofs.lemmas.Str.Parse.{not_in_digits}
-use Rattle.std.specs.Fmt.{signed_decimal}
-use Rattle.std.specs.Option.{option_map}
-use Rattle.std.specs.Str.{all_ascii_digits}
-use Rattle.std.specs.Str.Parse.{starts_with_minus}
-use Rattle.crx_text.specs.declared.code.Code.{Code}
-use Rattle.crx_text.specs.declared.code.Code.TheVariants.{Missing, Start, Step}
-use Rattle.crx_base.specs.declared.limits.TheConstants.{DIGITS_LIMIT, ORDER_LIMIT}
+use Rattle.std.proofs.Common.{true, false, ◌≡◌, ◌≢◌, ℕ, ℤ, pos, negsuc, neg_ℤ, suc, ◌+◌, ◌-◌, ◌≤◌, ◌<◌, ◌^◌}
+use Rattle.std.proofs.Common.{List, [], ◌∷◌, ◌++◌, length, get_or, take, slice_set, decimal, Some, inl, inr}
+use Rattle.std.proofs.{Common.{arith, ap, sym, ◌∙◌, refl}, lemmas.Bool.{cases_lt, Decides.nat_tests}}
+use Rattle.std.proofs.lemmas.{Fmt.{decimal_digit, decimal_nonempty, length-decimal-le}, List.append_assoc}
+use Rattle.std.{proofs.lemmas.{List.get_or_past, Str.Parse.not_in_digits}, specs.Fmt.signed_decimal}
+use Rattle.std.specs.{Option.option_map, Str.{all_ascii_digits, Parse.starts_with_minus}}
+use Rattle.crx_text.proofs.{CodeReads.coded_number_fitting, DigitPairs.two_written, ReadBack.decimal_first}
+use Rattle.crx_text.{proofs.ReadBack.{decimal_is_digits, decimal_weighs, digits_own}, specs.Codes.IsPrintable}
+use Rattle.crx_text.specs.{Codes.IsShort, declared.code.Code.{Code, TheVariants.{Missing, Start, Step}}}
 use Rattle.crx_text.specs.meaning.Codes.{code_of, code_text, coded_number, is_order, step_of}
-use Rattle.crx_text.specs.Codes.{IsPrintable, IsShort}
 use Rattle.crx_text.specs.meaning.Numbers.{without_minus}
-use Rattle.crx_text.proofs.DigitPairs.{two_written}
-use Rattle.crx_text.proofs.CodeReads.{coded_number_fitting}
-use Rattle.crx_text.proofs.ReadBack.{decimal_first, decimal_is_digits, decimal_weighs, digits_own}
+use Rattle.crx_base.specs.declared.limits.TheConstants.{DIGITS_LIMIT, ORDER_LIMIT}
 
 -- an order is one digit
 pub code_text_start : (order : ℕ) (value : ℤ)
     → order < 10 → code_text (Start order value) ≡ (48 + order) ∷ 38 ∷ signed_decimal value
-code_text_start order value small = ap (λ (ds : List ℕ). ds ++ 38 ∷ signed_decimal value)
-    (decimal_digit order small)
+code_text_start order value small = ap (λ ds. ds ++ 38 ∷ signed_decimal value) (decimal_digit order small)
 
 signed_decimal_length : (z : ℤ) → IsShort z → length (signed_decimal z) ≤ DIGITS_LIMIT + 1
 signed_decimal_length (pos n) short = let few = length-decimal-le DIGITS_LIMIT n (omega arith) short
@@ -49,8 +39,8 @@ pub start_written : (bytes number : List ℕ) (at order : ℕ) → at + 2 ≤ le
     (slice_set (slice_set bytes at (48 + order)) (at + 1) 38) ++ number
     ≡ take at bytes ++ (48 + order) ∷ 38 ∷ number
 start_written bytes number at order room =
-    ap (λ (t : List ℕ). t ++ number) (two_written bytes at (48 + order) 38 room)
-    ∙ append_assoc (take at bytes) ((48 + order) ∷ 38 ∷ []) number
+    ap (λ t. t ++ number) (two_written bytes at (48 + order) 38 room)
+    ∙ append_assoc _ ((48 + order) ∷ 38 ∷ []) number
 
 -- ---- reading back
 
@@ -63,9 +53,7 @@ no_mark_in_digits ds i digits =
 
 pub without_minus-digits : (text : List ℕ) → get_or text 0 0 ≢ 45 → without_minus text ≡ text
 without_minus-digits [] other = refl
-without_minus-digits (c ∷ cs) other =
-    let test : (c == 45) ≡ false = grind (arith, nat_tests) in
-    rw test refl
+without_minus-digits (c ∷ cs) other = grind arith
 
 pub starts_with_minus-digits : (text : List ℕ) → get_or text 0 0 ≢ 45 → starts_with_minus text ≡ false
 starts_with_minus-digits text other = grind (arith, nat_tests)
@@ -83,8 +71,7 @@ pub coded_number-minus : (n : ℕ) → n < 10 ^ DIGITS_LIMIT → coded_number (4
     ≡ Some (neg_ℤ (pos n))
 coded_number-minus n small =
     let tiny : n < 2 ^ 64 = omega arith in
-    coded_number_fitting (45 ∷ decimal n)
-    (decimal n) refl (decimal_nonempty n tiny) (length-decimal-le DIGITS_LIMIT n (omega arith) small tiny)
+    coded_number_fitting _ _ refl (decimal_nonempty n tiny) (length-decimal-le _ n (omega arith) small tiny)
     ∙ (rw (decimal_is_digits n tiny, decimal_weighs n tiny) refl)
 
 pub coded_number-signed_decimal : (z : ℤ) → IsShort z → coded_number (signed_decimal z) ≡ Some z
@@ -94,19 +81,15 @@ coded_number-signed_decimal (negsuc n) short = coded_number-minus (suc n) short
 pub code_of_step : (text : List ℕ) → 0 < length text → get_or text 1 0 ≢ 38 → code_of text ≡ step_of text
 code_of_step [] some other = absurd (omega arith)
 code_of_step (c ∷ []) some other = refl
-code_of_step (c ∷ d ∷ cs) some other =
-    let test : (d == 38) ≡ false = grind (arith, nat_tests) in
-    rw test refl
+code_of_step (c ∷ d ∷ cs) some other = grind arith
 
 pub code_of-signed_decimal : (z : ℤ) → IsShort z → code_of (signed_decimal z) ≡ step_of (signed_decimal z)
 code_of-signed_decimal (pos n) short =
     let tiny : n < 2 ^ 64 = omega arith in
-    code_of_step (decimal n) (decimal_nonempty n tiny)
-    (no_mark_in_digits (decimal n) 1 (decimal_is_digits n tiny))
+    code_of_step _ (decimal_nonempty n tiny) (no_mark_in_digits (decimal n) 1 (decimal_is_digits n tiny))
 code_of-signed_decimal (negsuc n) short =
     let tiny : suc n < 2 ^ 64 = omega arith in
-    code_of_step (45 ∷ decimal (suc n))
-    (omega arith) (no_mark_in_digits (decimal (suc n)) 0 (decimal_is_digits (suc n) tiny))
+    code_of_step _ (omega arith) (no_mark_in_digits (decimal (suc n)) 0 (decimal_is_digits (suc n) tiny))
 
 pub code_of_start : (order : ℕ) (value : ℤ) → order ≤ ORDER_LIMIT
     → IsShort value → code_of ((48 + order) ∷ 38 ∷ signed_decimal value) ≡ Some (Start order value)

@@ -1,10 +1,8 @@
 -- A text copied by its two ends, which may overlap.
 use Rattle.std.proofs.Common.{ℕ, ◌≡◌, ◌+◌, ◌-◌, ◌≤◌, List, [], ◌++◌, length, drop, take, arith, ap, ◌∙◌}
-use Rattle.std.proofs.Math.Seq.{take-take}
-use Rattle.std.proofs.lemmas.List.{append-nil, drop_all, length-drop, length-take-le, take_all}
-use Rattle.std.proofs.lemmas.List.{take-append-drop, take-append-le}
-use Rattle.std.proofs.lemmas.Simd.{length-put_chunk, put_chunk_is}
-use Rattle.std.specs.Simd.Lanes.{chunk, put_chunk}
+use Rattle.std.proofs.{Math.Seq.take-take, lemmas.List.{append-nil, drop_all, length-drop, length-take-le}}
+use Rattle.std.proofs.lemmas.{List.{take_all, take-append-drop, take-append-le}, Simd.length-put_chunk}
+use Rattle.std.{proofs.lemmas.Simd.put_chunk_is, specs.Simd.Lanes.{chunk, put_chunk}}
 
 pub copied_ends : (n : ℕ) (from out : List ℕ) → n ≤ length from → length from ≤ n + n
     → length out ≡ length from

@@ -2,18 +2,14 @@
 use Rattle.std.proofs.Common.{bit_or, ◌≡◌, ℕ, ℤ, pos, negsuc, w64, zero, suc, ◌+◌, ◌-◌, ◌*◌, ◌/◌, ◌%◌, ◌<◌}
 use Rattle.std.proofs.Common.{◌≤◌, Bool, true, false, ◌&&◌, T, eqb, List, [], ◌∷◌, ◌++◌, length, take, drop}
 use Rattle.std.proofs.Common.{get_or, slice_set, inl, inr, arith, eqb→eq, eqb-true, append_assoc, decimal}
-use Rattle.std.proofs.Common.{◌^◌, ap, sym, ◌∙◌, refl, subst}
-use Rattle.std.proofs.lemmas.List.{take_more_set, length-set, length-take-le, length-drop, take-take}
-use Rattle.std.proofs.Math.Dec.{ltb}
-use Rattle.std.proofs.Math.Seq.{take-append-add}
+use Rattle.std.proofs.{Common.{◌^◌, ap, sym, ◌∙◌, refl, subst}, Math.{Dec.ltb, Seq.take-append-add}}
 use Rattle.std.proofs.lemmas.Bool.{agree_below, agree_below_at, and_parts, cases_lt, le-ltb, lt-ltb}
-use Rattle.std.proofs.lemmas.Fmt.{decimal_digit, decimal_nonempty}
+use Rattle.std.proofs.lemmas.{Fmt.{decimal_digit, decimal_nonempty}, List.{take_more_set, length-set}}
+use Rattle.std.proofs.lemmas.{List.{length-take-le, length-drop, take-take}, Nat.from_le_bytes-to_le_bytes_4}
+use Rattle.std.specs.{Fmt.signed_decimal, Int.{from_le_bytes, to_le_bytes, w32}}
 use lib.Count.{count_trailing_zeros}
 use mir.Val.{SFits, bool_byte}
 use Rattle.itoa.proofs.Decimal.{decimal_four, decimal_pair, decimal_two, pair}
-use Rattle.std.specs.Int.{from_le_bytes, to_le_bytes, w32}
-use Rattle.std.proofs.lemmas.Nat.{from_le_bytes-to_le_bytes_4}
-use Rattle.std.specs.Fmt.{signed_decimal}
 use Rattle.crx_text.specs.declared.code_digits.TheConstants.{PAIRS}
 
 abbrev is_pair : ℕ → Bool
@@ -22,26 +18,23 @@ is_pair p = eqb (get_or PAIRS (p * 2) 0) (48 + p / 10) && eqb (get_or PAIRS (p *
 pub PAIRS_at : (p : ℕ) → p < 100
     → (get_or PAIRS (p * 2) 0 ≡ 48 + p / 10) × (get_or PAIRS (p * 2 + 1) 0 ≡ 48 + p % 10)
 PAIRS_at p small =
-    let parts = and_parts (eqb (get_or PAIRS (p * 2) 0) (48 + p / 10)) _
-    (agree_below_at is_pair (λ p. true) 100 p refl small) in
+    let parts = and_parts _ _ (agree_below_at is_pair (λ p. true) 100 p refl small) in
     (eqb-true _ _ parts.0, eqb-true _ _ parts.1)
 
 -- two bytes, one after the other
-pub two_written : (bytes : List ℕ) (at a b : ℕ)
-    → at + 2 ≤ length bytes
+pub two_written : (bytes : List ℕ) (at a b : ℕ) → at + 2 ≤ length bytes
     → take (at + 2) (slice_set (slice_set bytes at a) (at + 1) b) ≡ take at bytes ++ a ∷ b ∷ []
 two_written bytes at a b room =
     let sum : at + 2 ≡ at + 1 + 1 = omega arith in
-    rw sum (take_more_set (slice_set bytes at a) (at + 1) b (omega (arith, length-set bytes at a))
-    ∙ ap (λ (t : List ℕ). t ++ b ∷ []) (take_more_set bytes at a (omega arith))
-    ∙ append_assoc (take at bytes) (a ∷ []) (b ∷ []))
+    rw sum (take_more_set _ (at + 1) b (omega (arith, length-set bytes at a)) ∙ ap (λ t. t ++ b ∷ [])
+    (take_more_set bytes at a (omega arith)) ∙ append_assoc (take at bytes) (a ∷ []) (b ∷ []))
 
 -- what is written after what was written
 pub joined : (first second third front back : List ℕ) (at middle end : ℕ)
     → take middle second ≡ take at first ++ front
     → take end third ≡ take middle second ++ back → take end third ≡ take at first ++ (front ++ back)
 joined first second third front back at middle end one two = two
-    ∙ ap (λ (t : List ℕ). t ++ back) one ∙ append_assoc (take at first) front back
+    ∙ ap (λ t. t ++ back) one ∙ append_assoc _ front back
 
 pub signed_decimal_some : (z : ℤ) → SFits w64 z → 0 < length (signed_decimal z)
 signed_decimal_some (pos n) fits = let small = fits.sfits in decimal_nonempty n (omega (arith, small))
@@ -79,8 +72,7 @@ own_digits n small =
           rw (
             lt-ltb n 10 one,
             lt-ltb n 100 (omega arith),
-            lt-ltb n 1000
-                (omega arith),
+            lt-ltb n 1000 (omega arith),
             decimal_digit n one,
             own,
           ) refl
@@ -96,9 +88,8 @@ own_digits n small =
               ∙ ap (λ (t : List ℕ). t ++ pair (n % 100)) (decimal_digit (n / 100) (omega arith)) in
               rw (le-ltb n 10 tens, le-ltb n 100 hundreds, lt-ltb n 1000 three, whole, own) refl
           | inr thousands ↦
-              let whole : decimal n ≡ four n = decimal_pair n hundreds (omega arith)
-              ∙ ap (λ (t : List ℕ). t ++ pair (n % 100))
-              (decimal_two (n / 100) (omega arith) (omega arith)) in
+              let whole : decimal n ≡ four n = decimal_pair n hundreds (omega arith) ∙ ap
+              (λ (t : List ℕ). t ++ pair (n % 100)) (decimal_two (n / 100) (omega arith) (omega arith)) in
               rw (le-ltb n 10 tens, le-ltb n 100 hundreds, le-ltb n 1000 thousands, whole) refl
         ]
       ]
@@ -111,22 +102,14 @@ zeros_counted n small =
 pub digits_last : (n z : ℕ) → n < 10000 → z + length (decimal n) ≡ 4 → drop z (four n) ≡ decimal n
 digits_last n z small count =
     let same : z ≡ zeros_of n = omega (arith, count, zeros_counted n small) in
-    ap (λ (k : ℕ). drop k (four n)) same ∙ own_digits n small
+    ap (λ k. drop k (four n)) same ∙ own_digits n small
 
 -- the bytes of a word that is shifted by whole bytes
-pub bytes_shifted : (word z : ℕ)
-    → z ≤ 3 → word < 2 ^ 32
+pub bytes_shifted : (word z : ℕ) → z ≤ 3 → word < 2 ^ 32
     → take (4 - z) (to_le_bytes w32 (word / 2 ^ (8 * z))) ≡ drop z (to_le_bytes w32 word)
-bytes_shifted word zero few fits =
-    let own : word / 1 ≡ word = omega arith in
-    rw own refl
-bytes_shifted word (suc zero) few fits =
-    let second : word / 256 / 256 % 256 ≡ word / 65536 % 256 = omega arith in
-    let third : word / 256 / 65536 % 256 ≡ word / 16777216 % 256 = omega arith in
-    rw (second, third) refl
-bytes_shifted word (suc (suc zero)) few fits =
-    let second : word / 65536 / 256 % 256 ≡ word / 16777216 % 256 = omega arith in
-    rw second refl
+bytes_shifted word zero few fits = grind arith
+bytes_shifted word (suc zero) few fits = grind arith
+bytes_shifted word (suc (suc zero)) few fits = grind arith
 bytes_shifted word (suc (suc (suc zero))) few fits = refl
 bytes_shifted word (suc (suc (suc (suc z)))) few fits = absurd (omega arith)
 
@@ -134,9 +117,9 @@ bytes_shifted word (suc (suc (suc (suc z)))) few fits = absurd (omega arith)
 pub first_written : (old new bytes : List ℕ) (at n k : ℕ) → at ≤ length old
     → k ≤ n → take (at + n) new ≡ take at old ++ bytes → take (at + k) new ≡ take at old ++ take k bytes
 first_written old new bytes at n k within few whole =
-    sym (take-take (at + k) (at + n) new (omega arith)) ∙ ap (take (at + k)) whole
-    ∙ ap (λ (i : ℕ). take (i + k) (take at old ++ bytes)) (sym (length-take-le at old within))
-    ∙ take-append-add (take at old) bytes k
+    sym (take-take _ (at + n) new (omega arith)) ∙ ap (take _) whole
+    ∙ ap (λ i. take (i + k) (take at old ++ bytes)) (sym (length-take-le at old within))
+    ∙ take-append-add _ bytes k
 
 -- a number's last four digits, after those before them
 pub four_written : (first second third : List ℕ) (size at middle : ℕ)
@@ -145,10 +128,9 @@ pub four_written : (first second third : List ℕ) (size at middle : ℕ)
     → take (middle + 4) third ≡ take at first ++ decimal size
 four_written first second third size at middle many fits one two =
     let low : size - size / 10000 * 10000 ≡ size % 10000 = omega arith in
-    joined first second third (decimal (size / 10000))
-    (four (size - size / 10000 * 10000)) at middle (middle + 4) one two
-    ∙ ap (λ (n : ℕ). take at first ++ (decimal (size / 10000) ++ four n)) low
-    ∙ ap (λ (t : List ℕ). take at first ++ t) (sym (decimal_four size many fits))
+    joined first second third _ _ at middle _ one two ∙ ap
+    (λ n. take at first ++ (decimal (size / 10000) ++ four n)) low ∙ ap (λ t. take at first ++ t)
+    (sym (decimal_four size many fits))
 
 -- ---- the zeros before a number, by the lowest bit of its digits
 
@@ -165,9 +147,9 @@ all_agree = refl
 
 lowest_is : (n : ℕ) → n < 10000 → lowest_of n ≡ zeros_of n
 lowest_is n small =
-    let same : eqb (lowest_of n) (zeros_of n) ≡ true =
+    let same =
     agree_below_at (λ n. eqb (lowest_of n) (zeros_of n)) (λ n. true) 10000 n all_agree small in
-    eqb→eq (lowest_of n) (zeros_of n) (subst T (sym same) tt)
+    eqb→eq _ _ (subst T (sym same) tt)
 
 -- a word whose bytes are a number's columns, and its digits
 pub zeros_found : (n word : ℕ) → n < 10000 → word < 2 ^ 32 → to_le_bytes w32 word ≡ four n
@@ -176,4 +158,4 @@ zeros_found n word small fits bytes =
     let whole : word ≡ 808464432 + digits_beside n =
     sym (from_le_bytes-to_le_bytes_4 word fits) ∙ ap (from_le_bytes w32) bytes ∙ omega arith in
     let digits : word - 808464432 ≡ digits_beside n = omega (arith, whole) in
-    ap (λ (d : ℕ). count_trailing_zeros 32 (bit_or d 268435456) / 8) digits ∙ lowest_is n small
+    ap (λ d. count_trailing_zeros 32 (bit_or d 268435456) / 8) digits ∙ lowest_is n small

@@ -2,28 +2,20 @@
 use Rattle.std.proofs.Common.{◌≡◌, ℕ, zero, suc, ◌+◌, ◌-◌, ◌*◌, ◌/◌, ◌%◌, ◌^◌, ◌<◌, ◌≤◌, Bool, true, false}
 use Rattle.std.proofs.Common.{not, cond, ◌&&◌, T, ltb, leb, eqb, List, [], ◌∷◌, ◌++◌, map, length, replicate}
 use Rattle.std.proofs.Common.{take, drop, get_or, subst, Fits, w8, refl, sym, ap, ◌∙◌, arith}
-use Rattle.std.proofs.Math.Nat.{mul-le-mul_right}
-use Rattle.std.proofs.lemmas.Bool.{agree_below_at, and_parts, lt-ltb, ltb-true, ne_eqb, le-leb}
-use Rattle.std.proofs.lemmas.List.Sums.{prefix_len-le-length, prefix_len_stops}
-use Rattle.std.proofs.lemmas.List.{length-append, length-take-le, take-append-drop, take-take, get_or-take}
-use Rattle.std.proofs.lemmas.List.{take-append-le, take-map}
-use Rattle.std.proofs.lemmas.Bool.Decides.{nat_tests}
-use Rattle.std.proofs.lemmas.Simd.{mask_l-mod, pick_l_whole, zip2_splat, trailing_mask_l}
-use Rattle.std.specs.Char.{is_ascii_digit}
-use Rattle.std.specs.List.{range_with_len, prefix_len}
-use Rattle.std.specs.Str.{all_ascii_digits}
-use Rattle.std.specs.Str.Parse.{digits_value, digits_value_after}
+use Rattle.std.proofs.{Math.Nat.mul-le-mul_right, lemmas.Bool.{agree_below_at, and_parts, lt-ltb, ltb-true}}
+use Rattle.std.proofs.lemmas.{Bool.{le-leb, Decides.nat_tests}, List.{length-append, length-take-le}}
+use Rattle.std.proofs.lemmas.List.{take-append-drop, take-take, get_or-take, take-append-le, take-map}
+use Rattle.std.proofs.lemmas.{List.Sums.{prefix_len-le-length, prefix_len_stops}, Simd.mask_l-mod}
+use Rattle.std.{proofs.lemmas.Simd.trailing_mask_l, specs.{Char.is_ascii_digit, List.range_with_len}}
+use Rattle.std.specs.{List.prefix_len, Str.{all_ascii_digits, Parse.{digits_value, digits_value_after}}}
 use lib.Count.{count_trailing_zeros}
 use lib.Lanes.{Each1, chunk, pick_l, mask_l, top, zip2, dots, all_below, pair_sums, products}
-use Rattle.crx_text.proofs.GroupHalves.{wide_of, wide_are_four}
-use Rattle.crx_text.specs.meaning.Codes.{after_cell, first_cell}
-use Rattle.crx_text.specs.Digits.{above_zero, written}
-use Rattle.crx_text.specs.FirstDigits.{HasFirstDigits, is_below_ten}
-use Rattle.crx_text.specs.declared.code_digits.TheConstants.{WEIGHTS, SCALES}
+use Rattle.crx_text.proofs.{GroupHalves.wide_of, LaneBits.{sixteen, no_bit, top_lane}, PlainLanes.lane_fits}
 use Rattle.crx_text.proofs.PowersOfTen.{digit_range, digits_before, digit_value_is, digits_value_after-append}
-use Rattle.crx_text.proofs.PowersOfTen.{value_small}
-use Rattle.crx_text.proofs.LaneBits.{sixteen, no_bit, top_lane}
-use Rattle.crx_text.proofs.PlainLanes.{lane_fits}
+use Rattle.crx_text.{proofs.PowersOfTen.value_small, specs.Digits.{above_zero, written}}
+use Rattle.crx_text.specs.FirstDigits.{HasFirstDigits, is_below_ten}
+use Rattle.crx_text.specs.{declared.code_digits.TheConstants.{WEIGHTS, SCALES}, meaning.Codes.after_cell}
+use Rattle.crx_text.specs.meaning.Codes.{first_cell}
 
 -- ---- the lanes of a row
 
@@ -33,13 +25,7 @@ row_lanes text = zip2 (λ a b. (a + (256 - b)) % 256)
     (pick_l 0 (take 8 text ++ replicate 8 0) (range_with_len 0 16)) (replicate 16 48)
 
 lanes_are : (text : List ℕ) → 8 ≤ length text → row_lanes text ≡ map above_zero (take 8 text ++ replicate 8 0)
-lanes_are text long =
-    let row : List ℕ = take 8 text ++ replicate 8 0 in
-    let sixteen : length row ≡ 16 =
-    omega (arith, length-append (take 8 text) (replicate 8 0), length-take-le 8 text long) in
-    ap (λ (v : List ℕ). zip2 (λ a b. (a + (256 - b)) % 256) v (replicate 16 48))
-    (pick_l_whole 0 row 16 sixteen)
-    ∙ zip2_splat (λ a b. (a + (256 - b)) % 256) row 16 48 sixteen
+lanes_are text long = grind arith
 
 -- each of a row's characters is a byte
 abbrev pub AreBytes : List ℕ → Type 0
@@ -49,18 +35,18 @@ pub front_bytes : (n : ℕ) (text : List ℕ) → AreBytes text → AreBytes (ta
 front_bytes zero text small i = omega arith
 front_bytes (suc n) [] small i = omega arith
 front_bytes (suc n) (c ∷ cs) small zero = small 0
-front_bytes (suc n) (c ∷ cs) small (suc i) = front_bytes n cs (λ (j : ℕ). small (suc j)) i
+front_bytes (suc n) (c ∷ cs) small (suc i) = front_bytes n cs (λ j. small (suc j)) i
 
 -- ---- how many digits a row begins with
 
 below_ten : (c : ℕ) → c < 256 → is_below_ten (above_zero c) ≡ is_ascii_digit c
-below_ten c small = agree_below_at (λ x. is_below_ten (above_zero x)) is_ascii_digit 256 c refl small
+below_ten c small = grind arith
 
 digits_agree : (row : List ℕ) → AreBytes row
     → prefix_len is_below_ten (map above_zero row) ≡ prefix_len is_ascii_digit row
 digits_agree [] small = refl
 digits_agree (c ∷ cs) small = rw (below_ten c (small 0))
-    (ap (λ (n : ℕ). cond (is_ascii_digit c) (1 + n) 0) (digits_agree cs (λ (i : ℕ). small (suc i))))
+    (ap (λ n. cond (is_ascii_digit c) (1 + n) 0) (digits_agree cs (λ i. small (suc i))))
 
 -- where fewer of the first ones pass than they are, no more pass in all
 prefix_in_front : (p : ℕ → Bool) (n : ℕ) (xs : List ℕ)
@@ -81,7 +67,7 @@ ends : (ds : List ℕ) (bits : List Bool)
 ends [] bits = refl
 ends (d ∷ ds) bits =
     let here : not (leb 10 d) ≡ is_below_ten d = grind (arith, nat_tests) in
-    rw here (ap (λ (n : ℕ). cond (is_below_ten d) (1 + n) 0) (ends ds bits))
+    rw here (ap (λ n. cond (is_below_ten d) (1 + n) 0) (ends ds bits))
 
 abbrev pub end_lanes : List ℕ → List Bool
 end_lanes v = map (top 7) (zip2 (λ a b. cond (leb a b) 255 0)
@@ -106,8 +92,8 @@ end_explicit c =
 end_is : (v : List ℕ) → length v ≡ 16
     → count_trailing_zeros 64 (mask_l (end_lanes v) % 2 ^ 64) ≡ prefix_len is_below_ten (take 7 v)
 end_is v long =
-    subst (λ (w : List ℕ). count_trailing_zeros 64 (mask_l (end_lanes w) % 2 ^ 64)
-    ≡ prefix_len is_below_ten (take 7 w)) (sym (sixteen v long)) (end_explicit (λ (i : ℕ). get_or v i 0))
+    subst (λ w. count_trailing_zeros 64 (mask_l (end_lanes w) % 2 ^ 64)
+    ≡ prefix_len is_below_ten (take 7 w)) (sym (sixteen v long)) (end_explicit (λ i. get_or v i 0))
 
 -- ---- the number that the first digits of a row write
 
@@ -166,10 +152,7 @@ module _ (e : ℕ → ℕ) (zeroth : e 0 < 256) (first : e 1 < 256) (second : e 
       → dots (grouped (map e (range_with_len 0 16))) (weights_of count) ≡ a ∷ b ∷ 0 ∷ 0 ∷ []
       → a < 2 ^ 32 → b < 2 ^ 32
       → total_of (map e (range_with_len 0 16)) count ≡ (a + 2 ^ 32 * b) * scale_of count % 2 ^ 64 / 2 ^ 32
-  of_groups count a b groups as_small bs_small =
-      let pairs : pairs_of (map e (range_with_len 0 16)) count ≡ (a + 2 ^ 32 * b) ∷ (0 + 2 ^ 32 * 0) ∷ [] =
-      ap wide_of groups ∙ wide_are_four a b 0 0 as_small bs_small (omega arith) (omega arith) in
-      ap (λ (v : List ℕ). get_or v 0 0 * scale_of count % 2 ^ 64 / 2 ^ 32) pairs
+  of_groups count a b groups as_small bs_small = grind arith
 
   total_explicit : (count : ℕ) → count ≤ 6
       → total_of (map e (range_with_len 0 16)) count ≡ written 0 (take count (map e (range_with_len 0 16)))
@@ -177,19 +160,16 @@ module _ (e : ℕ → ℕ) (zeroth : e 0 < 256) (first : e 1 < 256) (second : e 
   total_explicit (suc zero) few = of_groups 1 _ _ refl (omega arith) (omega arith) ∙ omega arith
   total_explicit (suc (suc zero)) few = of_groups 2 _ _ refl (omega arith) (omega arith) ∙ omega arith
   total_explicit (suc (suc (suc zero))) few = of_groups 3 _ _ refl (omega arith) (omega arith) ∙ omega arith
-  total_explicit (suc (suc (suc (suc zero)))) few = of_groups 4 _ _ refl (omega arith) (omega arith)
-      ∙ omega arith
-  total_explicit (suc (suc (suc (suc (suc zero))))) few = of_groups 5 _ _ refl (omega arith) (omega arith)
-      ∙ omega arith
-  total_explicit (suc (suc (suc (suc (suc (suc zero)))))) few = of_groups 6 _ _ refl (omega arith)
-      (omega arith) ∙ omega arith
+  total_explicit (suc (suc (suc (suc zero)))) few = grind arith
+  total_explicit (suc (suc (suc (suc (suc zero))))) few = grind arith
+  total_explicit (suc (suc (suc (suc (suc (suc zero)))))) few = grind arith
   total_explicit (suc (suc (suc (suc (suc (suc (suc count))))))) few = absurd (omega arith)
 
 pub total_is : (v : List ℕ) (count : ℕ) → length v ≡ 16 → Each1 (Fits w8) v → count ≤ 6
     → total_of v count ≡ written 0 (take count v)
 total_is v count long fits few =
-    subst (λ (w : List ℕ). total_of w count ≡ written 0 (take count w)) (sym (sixteen v long))
-    (total_explicit (λ (i : ℕ). get_or v i 0) (lane_fits v 0 fits) (lane_fits v 1 fits) (lane_fits v 2 fits)
+    subst (λ w. total_of w count ≡ written 0 (take count w)) (sym (sixteen v long))
+    (total_explicit (λ i. get_or v i 0) (lane_fits v 0 fits) (lane_fits v 1 fits) (lane_fits v 2 fits)
     (lane_fits v 3 fits) (lane_fits v 4 fits) (lane_fits v 5 fits) count few)
 
 -- the digits less 48 write what the digits write
@@ -198,12 +178,12 @@ written_digits : (size count : ℕ) (row : List ℕ) → all_ascii_digits (take 
 written_digits size zero row digits = refl
 written_digits size (suc count) [] digits = refl
 written_digits size (suc count) (c ∷ cs) digits =
-    let parts = and_parts (is_ascii_digit c) (all_ascii_digits (take count cs)) digits in
+    let parts = and_parts _ _ digits in
     let range = digit_range c parts.0 in
     let value : above_zero c ≡ c - 48 = omega (arith, range) in
     ap (λ (d : ℕ). written (size * 10 + d) (take count (map above_zero cs))) value
     ∙ (written_digits (size * 10 + (c - 48)) count cs parts.1
-    ∙ ap (λ (d : ℕ). digits_value_after 10 (size * 10 + d) (take count cs)) (sym (digit_value_is c parts.0)))
+    ∙ ap (λ d. digits_value_after 10 (size * 10 + d) (take count cs)) (sym (digit_value_is c parts.0)))
 
 -- ---- a cell that begins with digits
 
@@ -226,11 +206,10 @@ pub read_row : (text : List ℕ) (size count : ℕ) → 8 ≤ length text → Ar
 read_row text size count some small counted few sized =
     let row : List ℕ = take 8 text in
     let front : (n : ℕ) → n ≤ 8 → take n (row_lanes text) ≡ take n (map above_zero row) =
-    λ (n : ℕ) (within : n ≤ 8). ap (take n) (lanes_are text some)
-    ∙ take-map above_zero n (row ++ replicate 8 0)
-    ∙ ap (map above_zero)
-    (take-append-le n row (replicate 8 0) (omega (arith, length-take-le 8 text some, within)))
-    ∙ sym (take-map above_zero n row) in
+    λ (n : ℕ) (within : n ≤ 8). ap (take n) (lanes_are text some) ∙ take-map above_zero n
+    (row ++ replicate 8 0) ∙ ap (map above_zero)
+    (take-append-le n row (replicate 8 0) (omega (arith, length-take-le 8 text some, within))) ∙ sym
+    (take-map above_zero n row) in
     let seven : count ≡ prefix_len is_below_ten (take 7 (map above_zero row)) =
     counted ∙ end_is (row_lanes text) refl ∙ ap (prefix_len is_below_ten) (front 7 (omega arith)) in
     let whole = prefix_in_front is_below_ten 7 (map above_zero row) (omega (arith, seven, few)) in
@@ -241,21 +220,21 @@ read_row text size count some small counted few sized =
     )
 
 no_blank : (c : ℕ) → is_ascii_digit c ≡ true → eqb c 32 ≡ false
-no_blank c digit = let range = digit_range c digit in ne_eqb c 32 (λ e. omega (arith, range))
+no_blank c digit = grind arith
 
 first_cell-digits : (ds rest : List ℕ) → all_ascii_digits ds ≡ true
     → first_cell (ds ++ rest) ≡ ds ++ first_cell rest
 first_cell-digits [] rest digits = refl
 first_cell-digits (c ∷ cs) rest digits =
-    let parts = and_parts (is_ascii_digit c) (all_ascii_digits cs) digits in
+    let parts = and_parts _ _ digits in
     let other = no_blank c parts.0 in
-    rw other (ap (λ (t : List ℕ). c ∷ t) (first_cell-digits cs rest parts.1))
+    rw other (ap (λ t. c ∷ t) (first_cell-digits cs rest parts.1))
 
 after_cell-digits : (ds rest : List ℕ) → all_ascii_digits ds ≡ true
     → after_cell (ds ++ rest) ≡ after_cell rest
 after_cell-digits [] rest digits = refl
 after_cell-digits (c ∷ cs) rest digits =
-    let parts = and_parts (is_ascii_digit c) (all_ascii_digits cs) digits in
+    let parts = and_parts _ _ digits in
     let other = no_blank c parts.0 in
     rw other (after_cell-digits cs rest parts.1)
 
@@ -266,20 +245,18 @@ digits_found : (text : List ℕ) (size count : ℕ) → count < 8 → count ≤ 
 digits_found text size count few long digits value stop =
     let whole : text ≡ take count text ++ drop count text = sym (take-append-drop count text) in
     let rest = drop count text in
-    let cell : first_cell text ≡ take count text ++ first_cell rest = ap first_cell whole
-    ∙ first_cell-digits (take count text) rest digits in
-    let within : length (take count text) ≡ count = length-take-le count text long in
+    let cell = ap first_cell whole ∙ first_cell-digits _ rest digits in
+    let within = length-take-le count text long in
     record {
       few = omega arith;
       within = long;
-      small = let less = value_small 0 (take count text) digits in let power : 10 ^ length (take count text)
-          ≡ 10 ^ count = ap (λ (n : ℕ). 10 ^ n) within in omega (arith, value, less, power);
-      digits = sym (ap all_ascii_digits cell ∙ digits_before (take count text) (first_cell rest) digits);
-      value = ap (λ (n : ℕ). digits_value_after 10 n (first_cell rest)) value
-          ∙ sym (ap (digits_value_after 10 0) cell
-          ∙ digits_value_after-append 0 (take count text) (first_cell rest));
-      long = ap length cell ∙ (length-append (take count text) (first_cell rest)
-          ∙ ap (λ (n : ℕ). n + length (first_cell rest)) within);
+      small = let less = value_small 0 (take count text) digits in let power : 10 ^ length _ ≡ 10 ^ count = ap
+          (λ (n : ℕ). 10 ^ n) within in omega (arith, value, less, power);
+      digits = sym (ap all_ascii_digits cell ∙ digits_before (take count text) _ digits);
+      value = ap (λ n. digits_value_after 10 n (first_cell rest)) value ∙ sym
+          (ap (digits_value_after 10 0) cell ∙ digits_value_after-append 0 (take count text)
+          (first_cell rest));
+      long = ap length cell ∙ (length-append _ _ ∙ ap (λ n. n + length (first_cell rest)) within);
       after = sym (ap after_cell whole ∙ after_cell-digits (take count text) rest digits);
       stops = λ most more. stop more;
     }
@@ -289,15 +266,15 @@ pub first_digits_of : (text : List ℕ) (size count : ℕ) → count < 8 → 8 �
     → count ≡ prefix_len is_ascii_digit
     (take 8 text) → size ≡ digits_value 10 (take count (take 8 text)) → HasFirstDigits text size count
 first_digits_of text size count few long count_is size_is =
-    let row : List ℕ = take 8 text in
-    let eight : length row ≡ 8 = length-take-le 8 text long in
+    let row = take 8 text in
+    let eight = length-take-le 8 text long in
     let front : take count row ≡ take count text = take-take count 8 text (omega arith) in
     let digits : all_ascii_digits (take count text) ≡ true = rw (← front, count_is) (prefix_digits row) in
     digits_found text size count few (omega arith) digits (size_is ∙ ap (digits_value_after 10 0) front)
     (λ more.
     let stop = prefix_len_stops is_ascii_digit row 0 (omega (arith, eight, count_is)) in
     sym (ap is_ascii_digit (get_or-take 8 text count 0 (omega arith)))
-    ∙ (ap (λ (n : ℕ). is_ascii_digit (get_or row n 0)) count_is ∙ stop))
+    ∙ (ap (λ n. is_ascii_digit (get_or row n 0)) count_is ∙ stop))
 
 -- ---- the same of fewer characters than a row has, with zeros after them
 
@@ -305,7 +282,7 @@ pub padded_prefix : (text : List ℕ) (more : ℕ)
     → prefix_len is_ascii_digit (text ++ replicate more 0) ≡ prefix_len is_ascii_digit text
 padded_prefix [] zero = refl
 padded_prefix [] (suc more) = refl
-padded_prefix (c ∷ cs) more = ap (λ (n : ℕ). cond (is_ascii_digit c) (1 + n) 0) (padded_prefix cs more)
+padded_prefix (c ∷ cs) more = ap (λ n. cond (is_ascii_digit c) (1 + n) 0) (padded_prefix cs more)
 
 module _ (text : List ℕ) (more size count : ℕ)
     (count_is : count ≡ prefix_len is_ascii_digit (text ++ replicate more 0)) where
@@ -318,10 +295,10 @@ module _ (text : List ℕ) (more size count : ℕ)
   pub few_digits_of : length text < 8
       → size ≡ digits_value 10 (take count (text ++ replicate more 0)) → HasFirstDigits text size count
   few_digits_of short size_is =
-      let front : take count (text ++ replicate more 0) ≡ take count text =
-      take-append-le count text (replicate more 0) few_within in
-      let same : count ≡ prefix_len is_ascii_digit text = count_is ∙ padded_prefix text more in
+      let front =
+      take-append-le count text _ few_within in
+      let same = count_is ∙ padded_prefix text more in
       digits_found text size count (omega (arith, few_within, short)) few_within
       (ap all_ascii_digits (sym front) ∙ few_digits) (size_is ∙ ap (digits_value_after 10 0) front) (λ less.
-      ap (λ (n : ℕ). is_ascii_digit (get_or text n 0)) same
+      ap (λ n. is_ascii_digit (get_or text n 0)) same
       ∙ prefix_len_stops is_ascii_digit text 0 (omega (arith, same, less)))

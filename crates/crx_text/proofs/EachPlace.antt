@@ -1,8 +1,7 @@
 -- Lists of what a function gives at one place after another.
-use Rattle.std.specs.Prelude.{◌≡◌, refl, ℕ, zero, suc, ◌+◌, ◌<◌, ◌≤◌, min, [], ◌∷◌, ◌++◌, length, map, take}
-use Rattle.std.specs.Prelude.{drop, slice_index_or}
-use Rattle.std.specs.List.{AllByRecursion}
-use Rattle.std.proofs.Common.{sym, ◌∙◌, ap, arith, add-one}
+use Rattle.std.{proofs.Common.{sym, ◌∙◌, ap, arith, add-one}, specs.{List.AllByRecursion, Prelude.◌≡◌}}
+use Rattle.std.specs.Prelude.{refl, ℕ, zero, suc, ◌+◌, ◌<◌, ◌≤◌, min, [], ◌∷◌, ◌++◌, length, map, take, drop}
+use Rattle.std.specs.Prelude.{slice_index_or}
 use Rattle.crx_text.specs.meaning.EachPlace.{each_place}
 
 pub length-each_place : {X : Type 0} (n : ℕ) (f : ℕ → X) → length (each_place n f) ≡ n
@@ -19,8 +18,7 @@ index-each_place (suc n) (suc j) f d h = index-each_place n j (λ i. f (suc i)) 
 pub each_place-same : {X : Type 0} (n : ℕ) (f g : ℕ → X) → ((k : ℕ) → f k ≡ g k) → each_place n f
     ≡ each_place n g
 each_place-same zero f g h = refl
-each_place-same (suc n) f g h = ap (λ x. x ∷ each_place n (λ i. f (suc i))) (h 0)
-    ∙ ap (λ r. g 0 ∷ r) (each_place-same n (λ i. f (suc i)) (λ i. g (suc i)) (λ k. h (suc k)))
+each_place-same (suc n) f g h = grind arith
 
 pub each_place-all : {X : Type 0} (P : X → Type 0) (n : ℕ) (f : ℕ → X)
     → ((i : ℕ) → P (f i)) → AllByRecursion P (each_place n f)
@@ -40,14 +38,10 @@ each_place-more (suc n) f =
     ap (λ k. each_place k f) more ∙ ap (λ r. f zero ∷ r) (each_place-more n (λ i. f (suc i)))
 
 pub take-each_place : {X : Type 0} (k m : ℕ) (f : ℕ → X) → take k (each_place m f) ≡ each_place (min k m) f
-take-each_place zero m f =
-    let none : min 0 m ≡ 0 = omega arith in
-    sym (ap (λ n. each_place n f) none)
-take-each_place (suc k) zero f =
-    let none : min (suc k) 0 ≡ 0 = omega arith in
-    sym (ap (λ n. each_place n f) none)
+take-each_place zero m f = grind arith
+take-each_place (suc k) zero f = grind arith
 take-each_place (suc k) (suc m) f =
-    let more : min (suc k) (suc m) ≡ suc (min k m) = omega arith in
+    let more : min (suc k) (suc m) ≡ suc _ = omega arith in
     ap (λ r. f zero ∷ r) (take-each_place k m (λ i. f (suc i))) ∙ sym (ap (λ n. each_place n f) more)
 
 -- what is from a place on

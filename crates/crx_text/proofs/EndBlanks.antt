@@ -1,14 +1,11 @@
 -- The blanks at the end of a text, 16 characters at a time.
 use Rattle.std.proofs.Common.{Bool, true, false, not, cond, if◌then◌else◌, eqb, ℕ, suc, ◌≡◌, ◌+◌, ◌-◌, ◌*◌}
-use Rattle.std.proofs.Common.{◌%◌, ◌^◌, ◌<◌, ◌≤◌, List, [], ◌∷◌, ◌++◌, length, drop, take, map}
-use Rattle.std.proofs.Common.{replicate, w8, arith, refl, ap, sym, ◌∙◌, ◌≢◌, get_or}
-use Rattle.std.proofs.Math.Nat.{pow-suc}
-use Rattle.std.proofs.Math.Seq.{take-add}
-use Rattle.std.proofs.lemmas.Bool.{ne_eqb}
-use Rattle.std.proofs.lemmas.List.{drop_all, drop_more, length-append, length-take-le}
-use Rattle.std.proofs.lemmas.List.{nil_from_length, take-append-drop, take_more}
-use Rattle.std.proofs.lemmas.Simd.{bitmask_splat, chunk-drop, length-chunk}
-use Rattle.std.specs.Int.Count.{count_leading_zeros, leading_unique}
+use Rattle.std.proofs.Common.{◌%◌, ◌^◌, ◌<◌, ◌≤◌, List, [], ◌∷◌, ◌++◌, length, drop, take, map, replicate, w8}
+use Rattle.std.proofs.{Common.{arith, refl, ap, sym, ◌∙◌, ◌≢◌, get_or}, Math.{Nat.pow-suc, Seq.take-add}}
+use Rattle.std.proofs.lemmas.{Bool.ne_eqb, List.{drop_all, drop_more, length-append, length-take-le}}
+use Rattle.std.proofs.lemmas.{List.{nil_from_length, take-append-drop, take_more}, Simd.bitmask_splat}
+use Rattle.std.{proofs.lemmas.Simd.{chunk-drop, length-chunk}, specs.Int.Count.count_leading_zeros}
+use Rattle.std.specs.Int.Count.{leading_unique}
 use lib.Lanes.{chunk, mask_l, top, zip2}
 use Rattle.crx_text.specs.meaning.Columns.{is_blank, before_end_blanks, without_end_blanks}
 
@@ -22,9 +19,9 @@ kept_append : (xs ys : List ℕ)
 kept_append [] ys some = refl
 kept_append (x ∷ xs) ys some =
     let rest = kept_append xs ys some in
-    let long : 0 < length (xs ++ without_end_blanks ys) =
+    let long : 0 < length _ =
     omega (arith, length-append xs (without_end_blanks ys), some) in
-    ap (before_end_blanks x) rest ∙ before_some x (xs ++ without_end_blanks ys) long
+    ap (before_end_blanks x) rest ∙ before_some x _ long
 
 none_append : (xs ys : List ℕ) → without_end_blanks ys ≡ []
     → without_end_blanks (xs ++ ys) ≡ without_end_blanks xs
@@ -60,8 +57,8 @@ pub blank_passed : (text : List ℕ) (last end : ℕ) → last + 1 ≡ end → e
     → get_or text last 0 ≡ 32
     → without_end_blanks (drop end text) ≡ [] → without_end_blanks (drop last text) ≡ []
 blank_passed text last end sum within blank none =
-    let rest : without_end_blanks (drop (last + 1) text) ≡ [] =
-    ap (λ (k : ℕ). without_end_blanks (drop k text)) sum ∙ none in
+    let rest =
+    ap (λ k. without_end_blanks (drop k text)) sum ∙ none in
     ap without_end_blanks (drop_more text last 0 (omega (arith, sum, within)))
     ∙ (λ i. before_end_blanks (blank i) (rest i))
 
@@ -110,10 +107,10 @@ highest_bit (x ∷ xs) = go (without_end_blanks xs) (eqb x 32) refl (highest_bit
 bits_kept : (k : ℕ) (xs : List ℕ)
     → length xs ≤ k → k - count_leading_zeros k (others xs) ≡ length (without_end_blanks xs)
 bits_kept k xs few =
-    let kept : ℕ = length (without_end_blanks xs) in
+    let kept : ℕ = length _ in
     let within : kept ≤ k = omega (arith, few_kept xs, few) in
     let bit = highest_bit xs in
-    let leading = leading_unique k (others xs) (k - kept) kept (omega (arith, within)) bit.0 bit.1 in
+    let leading = leading_unique k _ (k - kept) kept (omega (arith, within)) bit.0 bit.1 in
     omega (arith, leading, within)
 
 -- how many characters of so many are before the blanks at their end, as lanes find it
@@ -121,10 +118,11 @@ abbrev pub found : ℕ → List ℕ → ℕ
 found size v = 64 - count_leading_zeros 64 (mask_l (map
     (top 7) (zip2 (λ a b. cond (not (eqb a b)) 255 0) v (replicate size 32))) % 2 ^ 64)
 
-lanes_kept : (size : ℕ) (v : List ℕ) → size ≤ 64 → length v ≡ size → found size v ≡ length (without_end_blanks v)
+lanes_kept : (size : ℕ) (v : List ℕ) → size ≤ 64 → length v ≡ size → found size v ≡ length (without_end_blanks
+    v)
 lanes_kept size v few long =
     ap (λ m. 64 - count_leading_zeros 64 m) (bitmask_splat w8
-    (λ a b. not (eqb a b)) v size 32 long (omega (arith, few))) ∙ bits_kept 64 v (omega (arith, long))
+    (λ a b. not _) v size 32 long (omega (arith, few))) ∙ bits_kept 64 v (omega (arith, long))
 
 -- ---- a piece before blanks
 
@@ -155,10 +153,8 @@ module _ (text : List ℕ) (end : ℕ) (within : end ≤ length text)
   pub none_in_piece : (size start : ℕ) → start + size ≡ end
       → length (without_end_blanks (chunk start size text)) ≡ 0 → without_end_blanks (drop start text) ≡ []
   none_in_piece size start sum long =
-      ap without_end_blanks (chunk-drop start size text)
-      ∙ (none_append (chunk start size text)
-      (drop (start + size) text) (ap (λ (k : ℕ). without_end_blanks (drop k text)) sum ∙ none)
-      ∙ nil_from_length (without_end_blanks (chunk start size text)) long)
+      ap without_end_blanks (chunk-drop start size text) ∙ (none_append (chunk start size text) (drop _ text)
+      (ap (λ k. without_end_blanks (drop k text)) sum ∙ none) ∙ nil_from_length _ long)
 
   -- what lanes find in such a piece
   module _ (size start : ℕ) (few : size ≤ 64) (sum : start + size ≡ end) where
@@ -169,7 +165,7 @@ module _ (text : List ℕ) (end : ℕ) (within : end ≤ length text)
         ≡ length (take (start + found size (chunk start size text)) text)
     found_within =
         let long = length-chunk start size text (omega (arith, sum, within)) in
-        sym (length-take-le (start + found size (chunk start size text)) text
+        sym (length-take-le _ text
         (omega (arith, lanes, few_kept (chunk start size text), long, sum, within)))
 
     pub found_some : 0 < found size (chunk start size text)

@@ -1,7 +1,6 @@
 -- A size's groups of three digits, two halves at a time.
 use Rattle.std.proofs.Common.{◌≡◌, ℕ, zero, suc, ◌+◌, ◌*◌, ◌/◌, ◌%◌, ◌^◌, ◌<◌, List, [], ◌∷◌, length, map}
-use Rattle.std.proofs.Common.{arith, refl, ap, ◌∙◌}
-use Rattle.std.proofs.Math.Nat.{pow-suc}
+use Rattle.std.proofs.{Common.{arith, ap, ◌∙◌}, Math.Nat.pow-suc}
 use lib.Lanes.{Each1, zip2, digits_l, number_l}
 
 -- ---- the halves
@@ -10,10 +9,7 @@ abbrev half_word : ℕ → ℕ
 half_word x = (x + x * 274877907 % 2 ^ 64 / 2 ^ 38 * 4294966296 % 2 ^ 64) % 2 ^ 64
 
 half_is : (x : ℕ) → x < 10 ^ 6 → half_word x ≡ x % 1000 + x / 1000 * 2 ^ 32
-half_is x small =
-    let whole : x * 274877907 % 2 ^ 64 ≡ x * 274877907 = omega (arith, small) in
-    let thousands : x * 274877907 / 2 ^ 38 ≡ x / 1000 = omega (arith, small) in
-    rw (whole, thousands) (omega (arith, small))
+half_is x small = grind arith
 
 -- the halves as the code makes them
 abbrev pub halves_of : List ℕ → List ℕ
@@ -27,7 +23,7 @@ pub halves_are : (v : List ℕ) → length v ≡ 2 → Each1 (λ half. half < 10
     → halves_of v ≡ map (λ half. half % 1000 + half / 1000 * 2 ^ 32) v
 halves_are [] long small = absurd (omega arith)
 halves_are (x ∷ []) long small = absurd (omega arith)
-halves_are (x ∷ y ∷ []) long small = rw (half_is x small.0, half_is y small.1.0) refl
+halves_are (x ∷ y ∷ []) long small = grind arith
 halves_are (x ∷ y ∷ z ∷ v) long small = absurd (omega arith)
 
 -- ---- the groups in them
@@ -35,14 +31,10 @@ halves_are (x ∷ y ∷ z ∷ v) long small = absurd (omega arith)
 bytes_back : (n x : ℕ) → x < 256 ^ n → number_l 256 (digits_l 256 n x) ≡ x
 bytes_back zero x h = omega (arith, h)
 bytes_back (suc n) x h =
-    ap (λ (m : ℕ). x % 256 + 256 * m) (bytes_back n (x / 256) (omega (arith, h, pow-suc 256 n))) ∙ omega arith
+    ap (λ m. x % 256 + 256 * m) (bytes_back n (x / 256) (omega (arith, h, pow-suc 256 n))) ∙ omega arith
 
 next_lane : (n r y : ℕ) → r < 2 ^ 32 → digits_l (2 ^ 32) (suc n) (r + 2 ^ 32 * y) ≡ r ∷ digits_l (2 ^ 32) n y
-next_lane n r y small =
-    let rest : (r + 2 ^ 32 * y) % 2 ^ 32 ≡ r = omega (arith, small) in
-    let more : (r + 2 ^ 32 * y) / 2 ^ 32 ≡ y = omega (arith, small) in
-    ap (λ (k : ℕ). k ∷ digits_l (2 ^ 32) n ((r + 2 ^ 32 * y) / 2 ^ 32)) rest
-    ∙ ap (λ (k : ℕ). r ∷ digits_l (2 ^ 32) n k) more
+next_lane n r y small = grind arith
 
 -- the lanes of two halves
 abbrev pub lanes_of : List ℕ → List ℕ
@@ -55,26 +47,12 @@ module _ (a b c d : ℕ) (as_small : a < 1000) (bs_small : b < 1000) (cs_small :
   number_is = omega arith
 
   pub lanes_are : lanes_of ((a + b * 2 ^ 32) ∷ (c + d * 2 ^ 32) ∷ []) ≡ a ∷ b ∷ c ∷ d ∷ []
-  lanes_are =
-      let number : ℕ = number_l (2 ^ 64) ((a + b * 2 ^ 32) ∷ (c + d * 2 ^ 32) ∷ []) in
-      ap (digits_l (2 ^ 32) 4)
-      (bytes_back 16 number (omega (arith, as_small, bs_small, cs_small, ds_small)) ∙ number_is)
-      ∙ next_lane 3 a (b + 2 ^ 32 * (c + 2 ^ 32 * (d + 2 ^ 32 * 0))) (omega (arith, as_small))
-      ∙ ap (λ (t : List ℕ). a ∷ t) (next_lane 2 b (c + 2 ^ 32 * (d + 2 ^ 32 * 0)) (omega (arith, bs_small))
-      ∙ ap (λ (t : List ℕ). b ∷ t) (next_lane 1 c (d + 2 ^ 32 * 0) (omega (arith, cs_small))
-      ∙ ap (λ (t : List ℕ). c ∷ t) (next_lane 0 d 0 (omega (arith, ds_small)))))
+  lanes_are = grind arith
 
 pub groups_are : (size high low : ℕ) → size < 10 ^ 12 → high ≡ size / 10 ^ 6 → low ≡ size % 10 ^ 6
     → lanes_of ((high % 1000 + high / 1000 * 2 ^ 32) ∷ (low % 1000 + low / 1000 * 2 ^ 32) ∷ [])
     ≡ size / 10 ^ 6 % 1000 ∷ size / 10 ^ 9 ∷ size % 1000 ∷ size / 1000 % 1000 ∷ []
-groups_are size high low small is rest =
-    let a : high % 1000 ≡ size / 10 ^ 6 % 1000 = ap (λ (n : ℕ). n % 1000) is in
-    let b : high / 1000 ≡ size / 10 ^ 9 = omega (arith, is) in
-    let c : low % 1000 ≡ size % 1000 = omega (arith, rest) in
-    let d : low / 1000 ≡ size / 1000 % 1000 = omega (arith, rest) in
-    lanes_are (high % 1000) (high / 1000) (low % 1000)
-    (low / 1000) (omega arith) (omega (arith, small, b)) (omega arith) (omega (arith, d))
-    ∙ (rw (a, b, c, d) refl)
+groups_are size high low small is rest = grind arith
 
 -- ---- the halves beside each other
 
@@ -83,21 +61,8 @@ wide_of v = digits_l (2 ^ 64) 2 (number_l 256 (digits_l 256 16 (number_l (2 ^ 32
 
 pub wide_are_four : (a b c d : ℕ) → a < 2 ^ 32 → b < 2 ^ 32 → c < 2 ^ 32 → d < 2 ^ 32
     → wide_of (a ∷ b ∷ c ∷ d ∷ []) ≡ (a + 2 ^ 32 * b) ∷ (c + 2 ^ 32 * d) ∷ []
-wide_are_four a b c d as_small bs_small cs_small ds_small =
-    let number : ℕ = number_l (2 ^ 32) (a ∷ b ∷ c ∷ d ∷ []) in
-    let number_is : number ≡ (a + 2 ^ 32 * b) + 2 ^ 64 * (c + 2 ^ 32 * d) = omega arith in
-    let low : a + 2 ^ 32 * b < 2 ^ 64 = omega (arith, as_small, bs_small) in
-    let high : c + 2 ^ 32 * d < 2 ^ 64 = omega (arith, cs_small, ds_small) in
-    let one : ((a + 2 ^ 32 * b) + 2 ^ 64 * (c + 2 ^ 32 * d)) % 2 ^ 64 ≡ a + 2 ^ 32 * b = omega (arith, low) in
-    let two : ((a + 2 ^ 32 * b) + 2 ^ 64 * (c + 2 ^ 32 * d)) / 2 ^ 64 % 2 ^ 64 ≡ c + 2 ^ 32 * d =
-    omega (arith, low, high) in
-    ap (digits_l (2 ^ 64) 2)
-    (bytes_back 16 number (omega (arith, as_small, bs_small, cs_small, ds_small)) ∙ number_is)
-    ∙ (rw (one, two) refl)
+wide_are_four a b c d as_small bs_small cs_small ds_small = grind arith
 
 pub wide_are : (high low : ℕ) → high < 2 ^ 32 → low < 2 ^ 32 → wide_of (high ∷ 0 ∷ low ∷ 0 ∷ [])
     ≡ high ∷ low ∷ []
-wide_are high low first second =
-    let one : high + 2 ^ 32 * 0 ≡ high = omega arith in
-    let two : low + 2 ^ 32 * 0 ≡ low = omega arith in
-    wide_are_four high 0 low 0 first (omega arith) second (omega arith) ∙ (rw (one, two) refl)
+wide_are high low first second = grind arith

@@ -1,13 +1,9 @@
 -- Rows of lanes: from a list of known length to its elements, and from a mask to each lane.
-use Rattle.std.proofs.Common.{take, zero, ◌/◌, ◌<◌, ◌≡◌, ℕ, suc, ◌+◌, ◌-◌, ◌*◌, ◌%◌, ◌^◌, ◌≤◌, Bool, true}
-use Rattle.std.proofs.Common.{false, not, cond, ◌&&◌, ◌||◌, nat_eq, eqb, bit_and, bit_or, List, [], ◌∷◌, map}
-use Rattle.std.proofs.Common.{length, replicate, w8, refl, sym, ap, ◌∙◌, arith}
-use Rattle.std.proofs.Math.Nat.{pow-suc, one-le-pow, mod-one, zero-mod}
-use Rattle.std.proofs.lemmas.Nat.{and_mask}
-use Rattle.std.proofs.lemmas.List.{take-map, length-take-le}
-use lib.Arith.{mod-mul}
-use Rattle.std.proofs.lemmas.Bool.Decides.{nat_tests}
-use Rattle.std.proofs.lemmas.Simd.{pick_l_whole, bitmask_splat}
+use Rattle.std.proofs.Common.{take, zero, ◌<◌, ◌≡◌, ℕ, suc, ◌+◌, ◌-◌, ◌*◌, ◌%◌, ◌^◌, ◌≤◌, Bool, true, false}
+use Rattle.std.proofs.Common.{not, cond, ◌&&◌, ◌||◌, nat_eq, eqb, bit_and, bit_or, List, [], ◌∷◌, map, length}
+use Rattle.std.proofs.{Common.{replicate, w8, refl, sym, ap, ◌∙◌, arith}, Math.Nat.{pow-suc, one-le-pow}}
+use Rattle.std.proofs.{Math.Nat.{mod-one, zero-mod}, lemmas.{Bool.Decides.nat_tests, List.take-map}}
+use Rattle.std.proofs.lemmas.{List.length-take-le, Nat.and_mask, Simd.{pick_l_whole, bitmask_splat}}
 use Rattle.std.specs.List.{range_with_len, list_all, list_any}
 use lib.Lanes.{pick_l, mask_l, top, zip2}
 
@@ -43,9 +39,8 @@ pub all_bits : {X : Type 0} (p : X → Bool) (xs : List X)
 all_bits p [] = refl
 all_bits p (x ∷ xs) =
     let power : 2 ^ suc (length xs) ≡ 2 * 2 ^ length xs = omega (arith, pow-suc 2 (length xs)) in
-    let some : 1 ≤ 2 ^ length xs = one-le-pow (length xs) 2 (omega arith) in
-    rw power (all_bits_next (p x) (mask_l (map p xs)) (2 ^ length xs) some
-    ∙ ap (λ t. p x && t) (all_bits p xs))
+    let some = one-le-pow _ 2 (omega arith) in
+    rw power (all_bits_next (p x) _ _ some ∙ ap (λ t. p x && t) (all_bits p xs))
 
 -- a comparison of 16 lanes with one byte: each lane
 pub each_is_byte : (byte : ℕ) (xs : List ℕ) → length xs ≡ 16
@@ -53,47 +48,38 @@ pub each_is_byte : (byte : ℕ) (xs : List ℕ) → length xs ≡ 16
     ≡ list_all (λ c. eqb c byte) xs
 each_is_byte byte xs long =
     let mask = bitmask_splat w8 eqb xs 16 byte long (omega arith) in
-    let power : 65535 ≡ 2 ^ length xs - 1 = ap (λ n. 2 ^ n - 1) (sym long) in
+    let power = ap (λ n. 2 ^ n - 1) (sym long) in
     ap (λ m. nat_eq m 65535) mask ∙ ap (nat_eq (mask_l (map (λ c. eqb c byte) xs))) power
     ∙ all_bits (λ c. eqb c byte) xs
 
 -- ---- the first lanes of a mask alone
 
 mod_step : (b x p : ℕ) → b < 2 → 0 < p → (b + 2 * x) % (2 * p) ≡ b + 2 * (x % p)
-mod_step b x p bit some =
-    let split : (b + 2 * x) % (p * 2) ≡ ((b + 2 * x) / 2 % p) * 2 + (b + 2 * x) % 2 =
-    mod-mul (b + 2 * x) some (omega arith) in
-    let half : (b + 2 * x) / 2 ≡ x = omega (arith, bit) in
-    let low : (b + 2 * x) % 2 ≡ b = omega (arith, bit) in
-    let turned : 2 * p ≡ p * 2 = omega arith in
-    ap (λ (m : ℕ). (b + 2 * x) % m) turned ∙ split ∙ (λ i. (half i % p) * 2 + low i) ∙ omega arith
+mod_step b x p bit some = grind arith
 
 bit_below : (m : Bool) → cond m 1 0 < 2
 bit_below true = omega arith
 bit_below false = omega arith
 
 first_bits : (n : ℕ) (ms : List Bool) → mask_l ms % 2 ^ n ≡ mask_l (take n ms)
-first_bits zero ms = mod-one (mask_l ms)
-first_bits (suc n) [] = zero-mod (2 ^ suc n)
+first_bits zero ms = mod-one _
+first_bits (suc n) [] = zero-mod _
 first_bits (suc n) (m ∷ ms) =
     let power : 2 ^ suc n ≡ 2 * 2 ^ n = omega (arith, pow-suc 2 n) in
     let some : 1 ≤ 2 ^ n = one-le-pow n 2 (omega arith) in
-    ap (λ (k : ℕ). mask_l (m ∷ ms) % k) power
-    ∙ mod_step (cond m 1 0) (mask_l ms) (2 ^ n) (bit_below m) (omega (arith, some))
-    ∙ ap (λ (k : ℕ). cond m 1 0 + 2 * k) (first_bits n ms)
+    ap (λ (k : ℕ). mask_l (m ∷ ms) % k) power ∙ mod_step _ (mask_l ms) (2 ^ n) (bit_below m)
+    (omega (arith, some)) ∙ ap (λ k. cond m 1 0 + 2 * k) (first_bits n ms)
 
 -- a comparison of 16 lanes with one byte, of which the first 14 count
 fourteen_bits : (byte : ℕ) (xs : List ℕ) → length xs ≡ 16
     → bit_and (mask_l (map (top 7) (zip2 (λ a b. cond (eqb a b) 255 0) xs (replicate 16 byte))) % 2 ^ 64)
-    16383
-    ≡ mask_l (map (λ c. eqb c byte) (take 14 xs))
+    16383 ≡ mask_l (map (λ c. eqb c byte) (take 14 xs))
 fourteen_bits byte xs long =
-    let is : ℕ → Bool = λ (c : ℕ). eqb c byte in
-    ap (λ (m : ℕ). bit_and m 16383) (bitmask_splat w8 eqb xs 16 byte long (omega arith))
-    ∙ and_mask (mask_l (map is xs)) 14 ∙ first_bits 14 (map is xs) ∙ ap mask_l (take-map is 14 xs)
+    let is : ℕ → Bool = λ c. eqb c byte in
+    ap (λ m. bit_and m 16383) (bitmask_splat w8 eqb xs 16 byte long (omega arith))
+    ∙ and_mask _ 14 ∙ first_bits 14 _ ∙ ap mask_l (take-map is 14 xs)
 
-pub some_of_field : (byte : ℕ) (xs : List ℕ) → length xs ≡ 16
-    → not (nat_eq (bit_and
+pub some_of_field : (byte : ℕ) (xs : List ℕ) → length xs ≡ 16 → not (nat_eq (bit_and
     (mask_l (map (top 7) (zip2 (λ a b. cond (eqb a b) 255 0) xs (replicate 16 byte))) % 2 ^ 64)
     16383) 0) ≡ list_any (λ c. eqb c byte) (take 14 xs)
 some_of_field byte xs long =
@@ -106,14 +92,12 @@ some_of_field byte xs long =
 
 pub each_of_field : (byte : ℕ) (xs : List ℕ) → length xs ≡ 16
     → nat_eq (bit_and (mask_l (map (top 7) (zip2 (λ a b. cond (eqb a b) 255 0) xs (replicate 16 byte))) % 2 ^
-    64)
-    16383) 16383 ≡ list_all (λ c. eqb c byte) (take 14 xs)
+    64) 16383) 16383 ≡ list_all (λ c. eqb c byte) (take 14 xs)
 each_of_field byte xs long =
-    let fourteen : length (take 14 xs) ≡ 14 = length-take-le 14 xs (omega (arith, long)) in
-    let power : 16383 ≡ 2 ^ length (take 14 xs) - 1 = ap (λ (n : ℕ). 2 ^ n - 1) (sym fourteen) in
-    ap (λ (m : ℕ). nat_eq m 16383) (fourteen_bits byte xs long)
-    ∙ ap (nat_eq (mask_l (map (λ c. eqb c byte) (take 14 xs)))) power
-    ∙ all_bits (λ c. eqb c byte) (take 14 xs)
+    let fourteen = length-take-le 14 xs (omega (arith, long)) in
+    let power = ap (λ n. 2 ^ n - 1) (sym fourteen) in
+    ap (λ m. nat_eq m 16383) (fourteen_bits byte xs long) ∙ ap (nat_eq (mask_l (map (λ c. eqb c byte) _)))
+    power ∙ all_bits (λ c. eqb c byte) _
 
 -- ---- the lanes of masks, which are 255 or 0
 

@@ -1,10 +1,7 @@
 -- Texts in pieces of 16 characters and a rest.
 use Rattle.std.proofs.Common.{true, false, ℕ, zero, suc, ◌≡◌, ◌+◌, ◌-◌, ◌≤◌, ◌&&◌, Bool, List, [], ◌∷◌, ◌++◌}
-use Rattle.std.proofs.Common.{length, drop, take, arith, refl, ap, sym, ◌∙◌}
-use Rattle.std.proofs.Math.Seq.{take-add, take-take}
-use Rattle.std.proofs.lemmas.List.{length-drop, take_all}
-use Rattle.std.proofs.lemmas.List.Folds.{list_all-append}
-use Rattle.std.specs.List.{list_all}
+use Rattle.std.proofs.{Common.{length, drop, take, arith, refl, ap, sym, ◌∙◌}, Math.Seq.{take-add, take-take}}
+use Rattle.std.{proofs.lemmas.List.{length-drop, take_all, Folds.list_all-append}, specs.List.list_all}
 use Rattle.std.specs.Simd.Lanes.{zip2, chunk}
 
 -- ---- tests
@@ -12,8 +9,7 @@ use Rattle.std.specs.Simd.Lanes.{zip2, chunk}
 -- one more piece
 pub list_all-piece : (p : ℕ → Bool) (i n : ℕ) (xs : List ℕ)
     → (list_all p (take i xs) && list_all p (chunk i n xs)) ≡ list_all p (take (i + n) xs)
-list_all-piece p i n xs = sym
-    (ap (list_all p) (take-add i n xs) ∙ list_all-append p (take i xs) (chunk i n xs))
+list_all-piece p i n xs = sym (ap (list_all p) (take-add i n xs) ∙ list_all-append p _ _)
 
 -- a beginning and an end that overlap or meet
 list_all-overlap : (p : ℕ → Bool) (m i : ℕ) (xs : List ℕ)
@@ -37,16 +33,15 @@ list_all-overlap p (suc m) (suc i) (x ∷ xs) le = go (p x) (list_all-overlap p 
 
 pub list_all_ends : (p : ℕ → Bool) (n : ℕ) (xs : List ℕ) → length xs ≤ n + n
     → list_all p (take n xs ++ drop (length xs - n) xs) ≡ list_all p xs
-list_all_ends p n xs few = list_all-append p (take n xs) (drop (length xs - n) xs)
-    ∙ list_all-overlap p (length xs - n) n xs (omega (arith, few))
+list_all_ends p n xs few = list_all-append p _ _ ∙ list_all-overlap p _ n xs (omega (arith, few))
 
 -- the last piece, some of which was passed before
 pub list_all-last_piece : (p : ℕ → Bool) (n i : ℕ) (xs : List ℕ) → n ≤ length xs → length xs - n ≤ i
     → (list_all p (take i xs) && list_all p (chunk (length xs - n) n xs)) ≡ list_all p xs
 list_all-last_piece p n i xs some passed =
     let m : ℕ = length xs - n in
-    let last : chunk m n xs ≡ drop m xs = take_all n (drop m xs) (omega (arith, length-drop m xs)) in
-    ap (λ (t : List ℕ). list_all p (take i xs) && list_all p t) last ∙ list_all-overlap p m i xs passed
+    let last = take_all n (drop m xs) (omega (arith, length-drop m xs)) in
+    ap (λ t. list_all p (take i xs) && list_all p t) last ∙ list_all-overlap p m i xs passed
 
 -- ---- rules
 
@@ -77,21 +72,20 @@ zip2-drop f (suc n) (x ∷ xs) (y ∷ ys) = zip2-drop f n xs ys
 
 pub zip2-chunk : (f : ℕ → ℕ → ℕ) (i n : ℕ) (xs ys : List ℕ)
     → zip2 f (chunk i n xs) (chunk i n ys) ≡ chunk i n (zip2 f xs ys)
-zip2-chunk f i n xs ys = zip2-take f n (drop i xs) (drop i ys) ∙ ap (take n) (zip2-drop f i xs ys)
+zip2-chunk f i n xs ys = zip2-take f n _ _ ∙ ap (take n) (zip2-drop f i xs ys)
 
 -- one more piece of what is to be written
 pub piece_written : (i n : ℕ) (whole out made : List ℕ) → take i out ≡ take i whole
     → take (i + n) made ≡ take i out ++ chunk i n whole → take (i + n) made ≡ take (i + n) whole
 piece_written i n whole out made before written =
-    written ∙ ap (λ (t : List ℕ). t ++ chunk i n whole) before ∙ sym (take-add i n whole)
+    written ∙ ap (λ t. t ++ chunk i n whole) before ∙ sym (take-add i n whole)
 
 -- the last piece, written over some of those before
 pub last_written : (m n i : ℕ) (whole out made : List ℕ) → m + n ≡ length whole → m ≤ i
     → take i out ≡ take i whole
     → length made ≡ length whole → take (m + n) made ≡ take m out ++ chunk m n whole → made ≡ whole
 last_written m n i whole out made all passed before long written =
-    let front : take m out ≡ take m whole =
+    let front =
     sym (take-take m i out passed) ∙ ap (take m) before ∙ take-take m i whole passed in
-    sym (take_all (m + n) made (omega (arith, long, all)))
-    ∙ piece_written m n whole out made front written
+    sym (take_all (m + n) made (omega (arith, long, all))) ∙ piece_written m n whole out made front written
     ∙ take_all (m + n) whole (omega (arith, all))

@@ -1,22 +1,18 @@
 -- What operations on vectors of characters say of each character.
 use Rattle.std.proofs.Common.{true, false, ℕ, suc, zero, ◌≡◌, ◌+◌, ◌-◌, ◌%◌, ◌^◌, ◌&&◌, cond, eqb, ltb}
 use Rattle.std.proofs.Common.{bit_or, Bool, List, [], ◌∷◌, length, map, replicate, Fits, w8, arith, refl, ap}
-use Rattle.std.proofs.Common.{sym, ◌∙◌}
-use Rattle.std.proofs.lemmas.Bool.{agree_below, agree_below_at, ne_eqb}
-use Rattle.std.proofs.lemmas.Nat.{le_or_l, le_or_r}
+use Rattle.std.proofs.{Common.{sym, ◌∙◌}, lemmas.{Bool.{agree_below, agree_below_at, ne_eqb}, Nat.le_or_l}}
 use Rattle.std.proofs.lemmas.Simd.{map-map, splat_is_map, tops_compared, zip2_of_maps, zip2_splat}
-use mir.Val.{bits, hbits}
 use Rattle.std.specs.List.{list_all}
+use mir.Val.{bits, hbits}
 use lib.Lanes.{fold_l, zip2, sel_l, top, Each1}
-use Rattle.crx_text.specs.meaning.Texts.{mark_of, is_kept}
+use Rattle.crx_text.specs.{Texts.character_of, meaning.Texts.{mark_of, is_kept}}
 use Rattle.crx_base.specs.meaning.Lines.{is_printable}
-use Rattle.crx_text.specs.Texts.{character_of}
 
 -- ---- marks and what they leave
 
-lanes-mark_of : (n : ℕ) (olds news : List ℕ) → length olds ≡ n → length news ≡ n →
-    sel_l (zip2 eqb olds news) (replicate n 32) (sel_l (zip2 eqb news (replicate n 32)) (replicate n 38) news)
-    ≡ zip2 mark_of olds news
+lanes-mark_of : (n : ℕ) (olds news : List ℕ) → length olds ≡ n → length news ≡ n → sel_l (zip2 eqb olds news)
+    (replicate n 32) (sel_l (zip2 eqb news (replicate n 32)) (replicate n 38) news) ≡ zip2 mark_of olds news
 lanes-mark_of zero [] [] first second = refl
 lanes-mark_of zero (a ∷ as') bs first second = absurd (omega arith)
 lanes-mark_of zero [] (b ∷ bs) first second = absurd (omega arith)
@@ -25,9 +21,8 @@ lanes-mark_of (suc n) (a ∷ as') [] first second = absurd (omega arith)
 lanes-mark_of (suc n) (a ∷ as') (b ∷ bs) first second =
     ap (λ t. mark_of a b ∷ t) (lanes-mark_of n as' bs (omega arith) (omega arith))
 
-lanes-character_of : (n : ℕ) (olds marks : List ℕ) → length olds ≡ n → length marks ≡ n →
-    sel_l (zip2 eqb marks (replicate n 32)) olds
-    (sel_l (zip2 eqb marks (replicate n 38)) (replicate n 32) marks)
+lanes-character_of : (n : ℕ) (olds marks : List ℕ) → length olds ≡ n → length marks ≡ n → sel_l
+    (zip2 eqb marks (replicate n 32)) olds (sel_l (zip2 eqb marks (replicate n 38)) (replicate n 32) marks)
     ≡ zip2 character_of olds marks
 lanes-character_of zero [] [] first second = refl
 lanes-character_of zero (a ∷ as') bs first second = absurd (omega arith)
@@ -41,36 +36,30 @@ lanes-character_of (suc n) (a ∷ as') (b ∷ bs) first second =
 abbrev equals : List ℕ → List ℕ → List Bool
 equals xs ys = map (top (hbits w8)) (zip2 (λ a b. cond (eqb a b) (2 ^ bits w8 - 1) 0) xs ys)
 
-pub mark_lanes : (olds news : List ℕ) → length olds ≡ 16 → length news ≡ 16 →
-    sel_l (equals olds news) (replicate 16 32) (sel_l (equals news (replicate 16 32)) (replicate 16 38) news)
-    ≡ zip2 mark_of olds news
+pub mark_lanes : (olds news : List ℕ) → length olds ≡ 16 → length news ≡ 16 → sel_l (equals olds news)
+    (replicate 16 32) (sel_l (equals news (replicate 16 32)) (replicate 16 38) news) ≡ zip2 mark_of olds news
 mark_lanes olds news first second =
     ap (λ ms. sel_l ms (replicate 16 32) (sel_l (equals news (replicate 16 32)) (replicate 16 38) news))
-    (tops_compared w8 eqb olds news)
-    ∙ ap (λ ms. sel_l (zip2 eqb olds news) (replicate 16 32) (sel_l ms (replicate 16 38) news))
-    (tops_compared w8 eqb news (replicate 16 32))
-    ∙ lanes-mark_of 16 olds news first second
+    (tops_compared w8 eqb olds news) ∙ ap
+    (λ ms. sel_l (zip2 eqb olds news) (replicate 16 32) (sel_l ms (replicate 16 38) news))
+    (tops_compared w8 eqb news _) ∙ lanes-mark_of 16 olds news first second
 
-pub character_lanes : (olds marks : List ℕ) → length olds ≡ 16 → length marks ≡ 16 →
-    sel_l (equals marks (replicate 16 32)) olds
-    (sel_l (equals marks (replicate 16 38)) (replicate 16 32) marks)
+pub character_lanes : (olds marks : List ℕ) → length olds ≡ 16 → length marks ≡ 16 → sel_l
+    (equals marks (replicate 16 32)) olds (sel_l (equals marks (replicate 16 38)) (replicate 16 32) marks)
     ≡ zip2 character_of olds marks
 character_lanes olds marks first second =
     ap (λ ms. sel_l ms olds (sel_l (equals marks (replicate 16 38)) (replicate 16 32) marks))
-    (tops_compared w8 eqb marks (replicate 16 32))
-    ∙ ap (λ ms. sel_l (zip2 eqb marks (replicate 16 32)) olds (sel_l ms (replicate 16 32) marks))
-    (tops_compared w8 eqb marks (replicate 16 38))
-    ∙ lanes-character_of 16 olds marks first second
+    (tops_compared w8 eqb marks _) ∙ ap
+    (λ ms. sel_l (zip2 eqb marks (replicate 16 32)) olds (sel_l ms (replicate 16 32) marks))
+    (tops_compared w8 eqb marks (replicate 16 38)) ∙ lanes-character_of 16 olds marks first second
 
 -- ---- tests
 
 or_none : (a b : ℕ) → eqb (bit_or a b) 0 ≡ (eqb a 0 && eqb b 0)
 or_none zero zero = refl
-or_none (suc a) b = let more = le_or_l (suc a) b in ne_eqb (bit_or (suc a) b) 0 (λ e. omega (arith, e, more))
+or_none (suc a) b = let more = le_or_l (suc a) b in ne_eqb _ 0 (λ e. omega (arith, e, more))
     ∙ ap (λ t. t && eqb b 0) (sym (ne_eqb (suc a) 0 (λ e. omega (arith, e))))
-or_none zero (suc b) = let more = le_or_r zero (suc b) in
-    ne_eqb (bit_or zero (suc b)) 0 (λ e. omega (arith, e, more))
-    ∙ sym (ne_eqb (suc b) 0 (λ e. omega (arith, e)))
+or_none zero (suc b) = grind arith
 
 abbrev unset : ℕ → Bool
 unset lane = eqb lane 0
@@ -104,10 +93,9 @@ none_more q f agree [] [] same fits = refl
 none_more q f agree [] (x ∷ xs) same fits = absurd (omega (arith, same))
 none_more q f agree (o ∷ os) [] same fits = absurd (omega (arith, same))
 none_more q f agree (o ∷ os) (x ∷ xs) same fits =
-    let here : unset (f x) ≡ q x = agree_below_at (λ y. unset (f y)) q 256 x agree fits.0.fits in
-    let both : unset (bit_or o (f x)) ≡ (unset o && q x) = or_none o (f x) ∙ ap (λ b. unset o && b) here in
-    (λ i. both i && none_more q f agree os xs (omega (arith, same)) fits.1 i)
-    ∙ crossed (unset o) (q x) (list_all unset os) (list_all q xs)
+    let here = agree_below_at (λ y. unset (f y)) q 256 x agree fits.0.fits in
+    let both = or_none o (f x) ∙ ap (λ b. unset o && b) here in
+    (λ i. both i && none_more q f agree os xs (omega (arith, same)) fits.1 i) ∙ crossed _ (q x) _ _
 
 chosen : (p : ℕ → Bool) (f g : ℕ → ℕ) (v : List ℕ)
     → sel_l (map p v) (map f v) (map g v) ≡ map (λ x. cond (p x) (f x) (g x)) v
@@ -131,45 +119,38 @@ unprintable v =
 
 module _ (v : List ℕ) (long : length v ≡ 16) (others : List ℕ) (same : length others ≡ 16) where
   -- which lanes are below a splat
-  lanes_below : (f : ℕ → ℕ) (r : List ℕ) (k : ℕ) → r ≡ map f v → map
-      (top 7) (zip2 (λ a b. cond (ltb a b) 255 0) r (replicate 16 k))
-      ≡ map (λ x. top 7 (cond (ltb (f x) k) 255 0)) v
+  lanes_below : (f : ℕ → ℕ) (r : List ℕ) (k : ℕ) → r ≡ map f v → map (top 7)
+      (zip2 (λ a b. cond (ltb a b) 255 0) r (replicate 16 k)) ≡ map (λ x. top 7 (cond (ltb (f x) k) 255 0)) v
   lanes_below f r k is = ap (map (top 7)) (zip2_of_maps (λ a b. cond (ltb a b) 255 0) f
-      (λ _. k) v is (splat_is_map v 16 k long)) ∙ map-map (top 7) (λ x. cond (ltb (f x) k) 255 0) v
+      (λ _. k) v is (splat_is_map v 16 k long)) ∙ map-map (top 7) (λ x. cond _ 255 0) v
 
   unprintable_each : unprintable v ≡ map too_far v
   unprintable_each =
-      let r : List ℕ = zip2 (λ a b. (a + (256 - b)) % 256) v (replicate 16 32) in
-      let r_is : r ≡ map from_blank v = zip2_splat (λ a b. (a + (256 - b)) % 256) v 16 32 long in
-      let limit : replicate 16 94 ≡ map (λ _. 94) v = splat_is_map v 16 94 long in
-      let selected : sel_l (map (top 7) (zip2 (λ a b. cond (ltb a b) 255 0) r (replicate 16 94)))
-      (replicate 16 94) r
-      ≡ map (λ x. cond (top 7 (cond (ltb (from_blank x) 94) 255 0)) 94 (from_blank x)) v =
-      (λ i. sel_l (lanes_below from_blank r 94 r_is i) (limit i) (r_is i))
-      ∙ chosen (λ x. top 7 (cond (ltb (from_blank x) 94) 255 0)) (λ _. 94) from_blank v in
+      let r = zip2 (λ a b. (a + (256 - b)) % 256) v (replicate 16 32) in
+      let r_is = zip2_splat (λ a b. (a + (256 - b)) % 256) v 16 32 long in
+      let limit = splat_is_map v 16 94 long in
+      let selected =
+      (λ i. sel_l (lanes_below _ r 94 r_is i) (limit i) (r_is i))
+      ∙ chosen (λ x. top 7 (cond _ 255 0)) (λ _. 94) from_blank v in
       zip2_of_maps (λ a b. (a + (256 - b)) % 256)
-      (λ x. cond (top 7 (cond (ltb (from_blank x) 94) 255 0)) 94 (from_blank x)) (λ _. 94) v selected limit
+      (λ x. cond (top 7 _) 94 (from_blank x)) (λ _. 94) v selected limit
 
-  pub printable_lanes : Each1 (Fits w8) v
-      → list_all unset (zip2 bit_or others (unprintable v))
-      ≡ (list_all unset others && list_all is_printable v)
+  pub printable_lanes : Each1 (Fits w8) v → list_all unset (zip2 bit_or others (unprintable v)) ≡
+      (list_all unset others && list_all is_printable v)
   printable_lanes fits = ap (λ t. list_all unset (zip2 bit_or others t)) unprintable_each
-      ∙ none_more is_printable too_far refl others v (same ∙ sym long) fits
+      ∙ none_more _ too_far refl others v (same ∙ sym long) fits
 
   ampersands_each : sel_l {A = ℕ} (equals v (replicate 16 38)) (replicate 16 255) (replicate 16 0)
       ≡ map (λ x. cond (eqb x 38) 255 0) v
   ampersands_each =
-      let are : equals v (replicate 16 38) ≡ map (λ x. eqb x 38) v = tops_compared w8 eqb v (replicate 16 38)
-      ∙ zip2_splat eqb v 16 38 long in
-      (λ i. sel_l {A = ℕ} (are i) (splat_is_map v 16 255 long i) (splat_is_map v 16 0 long i))
-      ∙ chosen (λ x. eqb x 38) (λ _. 255) (λ _. 0) v
+      let are = tops_compared w8 eqb v _ ∙ zip2_splat eqb v 16 38 long in
+      (λ i. sel_l {A = ℕ} (are i) (splat_is_map v 16 255 long i) (splat_is_map v 16 0 long i)) ∙ chosen
+      (λ x. eqb x 38) (λ _. 255) (λ _. 0) v
 
-  pub kept_lanes : Each1 (Fits w8) v
-      → list_all unset (zip2 bit_or others
-      (zip2 bit_or (unprintable v) (sel_l {A = ℕ} (equals v (replicate 16 38))
-      (replicate 16 255) (replicate 16 0)))) ≡ (list_all unset others && list_all is_kept v)
+  pub kept_lanes : Each1 (Fits w8) v → list_all unset (zip2 bit_or others
+      (zip2 bit_or (unprintable v) (sel_l {A = ℕ} (equals v (replicate 16 38)) (replicate 16 255)
+      (replicate 16 0)))) ≡ (list_all unset others && list_all is_kept v)
   kept_lanes fits =
       ap (λ t. list_all unset (zip2 bit_or others t))
       (zip2_of_maps bit_or too_far (λ x. cond (eqb x 38) 255 0) v unprintable_each ampersands_each)
-      ∙ none_more is_kept (λ x. bit_or (too_far x) (cond (eqb x 38) 255 0)) refl others v
-      (same ∙ sym long) fits
+      ∙ none_more is_kept (λ x. bit_or (too_far x) (cond _ 255 0)) refl others v (same ∙ sym long) fits

@@ -1,14 +1,10 @@
 -- The test of a field's columns by lanes: what each lane's bit says, and all of them together.
 use Rattle.std.proofs.Common.{◌≡◌, ℕ, zero, suc, ◌+◌, ◌-◌, ◌%◌, ◌<◌, Bool, true, false, cond, ◌&&◌, ◌||◌, ltb}
 use Rattle.std.proofs.Common.{eqb, bit_and, bit_or, List, [], ◌∷◌, ◌++◌, map, length, replicate, get_or}
-use Rattle.std.proofs.Common.{subst, Fits, w8, refl, sym, ap, ◌∙◌, eqb-true, arith}
-use Rattle.std.proofs.lemmas.Bool.{agree_below_at, and_from, or_right}
-use Rattle.std.specs.Char.{is_ascii_digit}
-use Rattle.std.specs.List.{list_all, range_with_len}
+use Rattle.std.proofs.{Common.{subst, Fits, w8, refl, sym, ◌∙◌, eqb-true, arith}, lemmas.Bool.and_from}
+use Rattle.std.specs.{Char.is_ascii_digit, List.{list_all, range_with_len}}
 use lib.Lanes.{Each1, pick_l, fold_l, sel_l, top, zip2}
-use Rattle.crx_text.specs.Fields.{IsPlain}
-use Rattle.crx_text.proofs.LaneBits.{sixteen, or_lane, and_lane, top_lane}
-use Rattle.crx_text.proofs.LaneWords.{none_in_fold}
+use Rattle.crx_text.{proofs.{LaneBits.sixteen, LaneWords.none_in_fold}, specs.Fields.IsPlain}
 
 pub lane_fits : (v : List ℕ) (i : ℕ) → Each1 (Fits w8) v → get_or v i 0 < 256
 lane_fits [] i h = omega arith
@@ -43,35 +39,24 @@ chosen false f = sym (left (eqb f 0))
 
 lane_is : (start most before c : ℕ)
     → lane start most before c ≡ (eqb (far start most c) 0 || (eqb before 32 && (eqb c 32 || eqb c 45)))
-lane_is start most before c =
-    let after : Bool = eqb before 32 in
-    let either : Bool = eqb c 32 || eqb c 45 in
-    let above : ℕ = far start most c in
-    ap (λ (x : ℕ). eqb (cond (top 7 (bit_and (cond after 255 0) x)) 0 above) 0)
-    (or_lane (eqb c 32) (eqb c 45))
-    ∙ ap (λ (x : ℕ). eqb (cond (top 7 x) 0 above) 0) (and_lane after either)
-    ∙ ap (λ (t : Bool). eqb (cond t 0 above) 0) (top_lane (after && either))
-    ∙ chosen (after && either) above
+lane_is start most before c = grind arith
 
 -- the lane of a column before the point
 whole_lane : (before c : ℕ) → c < 256 → lane 48 9 before c ≡ allowed before c
-whole_lane before c small =
-    lane_is 48 9 before c
-    ∙ ap (λ d. d || (eqb before 32 && (eqb c 32 || eqb c 45)))
-    (agree_below_at (λ x. eqb (far 48 9 x) 0) is_ascii_digit 256 c refl small)
+whole_lane before c small = grind arith
 
 -- that of the first column, which holds no digit
 first_lane : (c : ℕ) → c < 256 → lane 45 0 c c ≡ (eqb c 32 || eqb c 45)
-first_lane c small = agree_below_at (λ x. lane 45 0 x x) (λ x. eqb x 32 || eqb x 45) 256 c refl small
+first_lane c small = grind arith
 
 first_allowed : (c : ℕ) → (eqb c 32 || eqb c 45) ≡ true → allowed 32 c ≡ true
-first_allowed c either = or_right (is_ascii_digit c) (eqb c 32 || eqb c 45) either
+first_allowed c either = grind arith
 
 point_lane : (c : ℕ) → c < 256 → lane 46 0 0 c ≡ eqb c 46
-point_lane c small = agree_below_at (lane 46 0 0) (λ x. eqb x 46) 256 c refl small
+point_lane c small = grind arith
 
 fraction_lane : (c : ℕ) → c < 256 → lane 48 9 0 c ≡ is_ascii_digit c
-fraction_lane c small = agree_below_at (lane 48 9 0) is_ascii_digit 256 c refl small
+fraction_lane c small = grind arith
 
 pub all_at : (bits : List Bool) (i : ℕ) → list_all (λ b. b) bits ≡ true → get_or bits i true ≡ true
 all_at [] i all = refl

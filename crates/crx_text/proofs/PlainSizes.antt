@@ -2,22 +2,14 @@
 use Rattle.std.proofs.Common.{◌≡◌, ℕ, suc, ◌+◌, ◌-◌, ◌*◌, ◌%◌, ◌^◌, ◌<◌, ◌≤◌, Bool, true, false, cond, ◌&&◌}
 use Rattle.std.proofs.Common.{◌||◌, ltb, bit_and, ◌/◌, ap, leb, eqb, List, [], ◌∷◌, ◌++◌, map, length}
 use Rattle.std.proofs.Common.{replicate, get_or, subst, Fits, w8, refl, sym, ◌∙◌, ltb-true, ltb-false}
-use Rattle.std.proofs.Common.{eqb-true, inl, inr, arith}
-use Rattle.std.proofs.Math.Nat.{pow-suc, mul-le-mul_right}
-use Rattle.std.proofs.lemmas.Nat.{and_mask}
-use Rattle.std.proofs.lemmas.Bool.{and_parts, or_cases, leb-true, le-leb}
-use Rattle.std.proofs.lemmas.List.Folds.{list_all-append}
-use Rattle.std.specs.Char.{is_ascii_digit}
-use Rattle.std.specs.List.{range_with_len, list_all}
-use Rattle.std.specs.Str.{all_ascii_digits}
+use Rattle.std.proofs.{Common.{eqb-true, inl, inr, arith}, Math.Nat.{pow-suc, mul-le-mul_right}}
+use Rattle.std.proofs.lemmas.{Bool.{and_parts, or_cases, leb-true, le-leb}, List.Folds.list_all-append}
+use Rattle.std.{proofs.lemmas.Nat.and_mask, specs.{List.{range_with_len, list_all}, Str.all_ascii_digits}}
 use lib.Lanes.{Each1, pick_l, top, zip2, sel_l, dots}
-use Rattle.crx_text.specs.Fields.{IsPlain, is_plain_after, weighed, plain_digits}
-use Rattle.crx_text.specs.meaning.Numbers.{IsWithin, signed_number}
-use Rattle.crx_text.proofs.GroupHalves.{wide_of, wide_are_four}
-use Rattle.crx_text.proofs.LaneBits.{sixteen}
-use Rattle.crx_text.proofs.PlainLanes.{lane_fits}
-use Rattle.crx_text.proofs.PowersOfTen.{digit_range}
-use Rattle.crx_text.proofs.Sizes.{pos_is_within, neg_is_within}
+use Rattle.crx_text.proofs.{GroupHalves.{wide_of, wide_are_four}, LaneBits.sixteen, PlainLanes.lane_fits}
+use Rattle.crx_text.proofs.{PowersOfTen.digit_range, Sizes.{pos_is_within, neg_is_within}}
+use Rattle.crx_text.specs.{Fields.{IsPlain, is_plain_after, weighed, plain_digits}, meaning.Numbers.IsWithin}
+use Rattle.crx_text.specs.meaning.Numbers.{signed_number}
 
 -- a lane's byte less 48, and 0 where it is below
 abbrev pub digit_lane : ℕ → ℕ
@@ -56,8 +48,7 @@ pair_is : (a b : ℕ) → a < 2 ^ 16 → b < 2 ^ 16
     → (bit_and (a + 2 ^ 32 * b) 4294967295 * 1000 % 2 ^ 64 + (a + 2 ^ 32 * b) / 2 ^ 32) % 2 ^ 64
     ≡ a * 1000 + b
 pair_is a b as_small bs_small =
-    let low : bit_and (a + 2 ^ 32 * b) 4294967295 ≡ a = and_mask (a + 2 ^ 32 * b) 32
-    ∙ omega (arith, as_small) in
+    let low : bit_and _ _ ≡ a = and_mask (a + 2 ^ 32 * b) 32 ∙ omega (arith, as_small) in
     rw low (omega (arith, as_small, bs_small))
 
 pub pairs_are : (groups : List ℕ) → length groups ≡ 4 → Each1 (λ group. group < 2 ^ 16) groups
@@ -86,8 +77,7 @@ pub twelve : (a b c d e f g h i j k l x : ℕ) →
     + i) * 10 + j) * 10 + k) * 10 + l
 twelve a b c d e f g h i j k l x = omega arith
 
-size_of_lanes : (c : ℕ → ℕ) → ((i : ℕ) → c i < 256)
-    → joined_of (size_parts (map c (range_with_len 0 16)))
+size_of_lanes : (c : ℕ → ℕ) → ((i : ℕ) → c i < 256) → joined_of (size_parts (map c (range_with_len 0 16)))
     ≡ weighed 0 (plain_digits (map c (range_with_len 0 16)))
 size_of_lanes c small =
     let same = λ (i : ℕ). digit_lane_is (c i) (small i) in
@@ -99,8 +89,8 @@ size_of_lanes c small =
 pub size_from_parts : (v : List ℕ)
     → length v ≡ 16 → Each1 (Fits w8) v → joined_of (size_parts v) ≡ weighed 0 (plain_digits v)
 size_from_parts v long fits =
-    subst (λ (w : List ℕ). joined_of (size_parts w) ≡ weighed 0 (plain_digits w))
-    (sym (sixteen v long)) (size_of_lanes (λ (i : ℕ). get_or v i 0) (λ (i : ℕ). lane_fits v i fits))
+    subst (λ w. joined_of (size_parts w) ≡ weighed 0 (plain_digits w))
+    (sym (sixteen v long)) (size_of_lanes (λ i. get_or v i 0) (λ i. lane_fits v i fits))
 
 -- ---- the range
 
@@ -108,10 +98,10 @@ weighed_is_small : (n : ℕ) (cs : List ℕ) → list_all (λ c. leb c 57) cs �
     → weighed n cs < (n + 1) * 10 ^ length cs
 weighed_is_small n [] small = omega arith
 weighed_is_small n (c ∷ cs) small =
-    let parts = and_parts (leb c 57) (list_all (λ c. leb c 57) cs) small in
+    let parts = and_parts _ (list_all (λ c. leb c 57) cs) small in
     let digit : n * 10 + (c - 48) + 1 ≤ (n + 1) * 10 = omega (arith, leb-true _ _ parts.0) in
     let less = weighed_is_small (n * 10 + (c - 48)) cs parts.1 in
-    let grows : (n * 10 + (c - 48) + 1) * 10 ^ length cs ≤ (n + 1) * 10 * 10 ^ length cs =
+    let grows =
     mul-le-mul_right (10 ^ length cs) digit in
     let power : 10 ^ suc (length cs) ≡ 10 ^ length cs * 10 = pow-suc 10 (length cs) in
     rw power (omega (arith, less, grows))
@@ -119,22 +109,22 @@ weighed_is_small n (c ∷ cs) small =
 digits_are_small : (cs : List ℕ) → all_ascii_digits cs ≡ true → list_all (λ c. leb c 57) cs ≡ true
 digits_are_small [] digits = refl
 digits_are_small (c ∷ cs) digits =
-    let parts = and_parts (is_ascii_digit c) (all_ascii_digits cs) digits in
+    let parts = and_parts _ _ digits in
     let range = digit_range c parts.0 in
-    let small : leb c 57 ≡ true = le-leb c 57 (omega (arith, range)) in
+    let small = le-leb c 57 (omega (arith, range)) in
     rw small (digits_are_small cs parts.1)
 
 plain_is_small : (before : ℕ) (cs : List ℕ) → is_plain_after before cs ≡ true → list_all (λ c. leb c 57) cs
     ≡ true
 plain_is_small before [] plain = refl
 plain_is_small before (c ∷ cs) plain =
-    let parts = and_parts (is_ascii_digit c || (eqb before 32 && (eqb c 32 || eqb c 45)))
-    (is_plain_after c cs) plain in
-    let small : leb c 57 ≡ true = le-leb c 57
-    (elim (or_cases (is_ascii_digit c) (eqb before 32 && (eqb c 32 || eqb c 45)) parts.0) [
+    let parts = and_parts _
+    _ plain in
+    let small = le-leb c 57
+    (elim (or_cases _ _ parts.0) [
       | inl digit ↦ let range = digit_range c digit in omega (arith, range)
       | inr sign ↦ elim (or_cases (eqb c 32) (eqb c 45)
-          (and_parts (eqb before 32) (eqb c 32 || eqb c 45) sign).1) [
+          (and_parts _ (eqb c 32 || eqb c 45) sign).1) [
             | inl blank ↦ omega (arith, eqb-true _ _ blank)
             | inr minus ↦ omega (arith, eqb-true _ _ minus)
           ]
@@ -144,11 +134,10 @@ plain_is_small before (c ∷ cs) plain =
 small_explicit : (c : ℕ → ℕ) → IsPlain (map c (range_with_len 0 16))
     → weighed 0 (plain_digits (map c (range_with_len 0 16))) < 10 ^ 12
 small_explicit c plain =
-    let whole : list_all (λ b. leb b 57) (map c (range_with_len 0 10)) ≡ true =
+    let whole =
     plain_is_small 32 (map c (range_with_len 0 10)) plain.whole in
-    let digits : list_all (λ b. leb b 57) (map c (range_with_len 1 9))
-    ≡ true = (and_parts (leb (c 0) 57) _ whole).1 in
-    let fraction : list_all (λ b. leb b 57) (map c (range_with_len 11 3)) ≡ true =
+    let digits = (and_parts (leb (c 0) 57) _ whole).1 in
+    let fraction =
     digits_are_small (map c (range_with_len 11 3)) plain.fraction in
     weighed_is_small 0 (plain_digits (map c (range_with_len 0 16)))
     (list_all-append (λ b. leb b 57) (map c (range_with_len 1 9)) (map c (range_with_len 11 3))

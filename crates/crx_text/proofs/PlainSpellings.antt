@@ -1,34 +1,31 @@
 -- What plain columns spell.
-use Rattle.std.proofs.Common.{◌≡◌, ◌≢◌, ℕ, ℤ, pos, ◌+◌, ◌-◌, ◌*◌, ◌^◌, Bool, true, false, ◌&&◌, ◌||◌, eqb}
-use Rattle.std.proofs.Common.{Option, Some, None, List, [], ◌∷◌, ◌++◌, map, take, length, get_or, subst, refl}
-use Rattle.std.proofs.Common.{sym, ap, ◌∙◌, inl, inr, eqb-true, arith}
-use Rattle.std.proofs.lemmas.Bool.{and_parts, or_cases, cases_eq, ne_eqb}
-use Rattle.std.specs.Char.{is_ascii_digit}
-use Rattle.std.specs.List.{list_all, list_any, range_with_len}
-use Rattle.std.specs.Option.{option_map}
-use Rattle.std.specs.Str.{all_ascii_digits}
+use Rattle.std.proofs.Common.{◌≡◌, ◌≢◌, ℕ, ℤ, pos, ◌+◌, ◌-◌, ◌*◌, ◌^◌, true, false, ◌||◌, eqb, Option, Some}
+use Rattle.std.proofs.Common.{None, List, [], ◌∷◌, ◌++◌, map, take, length, get_or, subst, refl, sym, ap, ◌∙◌}
+use Rattle.std.proofs.{Common.{inl, inr, eqb-true, arith}, lemmas.Bool.{and_parts, or_cases, cases_eq}}
+use Rattle.std.{proofs.lemmas.Bool.ne_eqb, specs.{Char.is_ascii_digit, List.{list_all, list_any}}}
+use Rattle.std.specs.{List.range_with_len, Option.option_map, Str.all_ascii_digits}
 use Rattle.std.specs.Str.Parse.{digits_value_after}
-use Rattle.crx_text.specs.meaning.Columns.{without_first_blanks}
-use Rattle.crx_text.specs.Fields.{IsPlain, is_plain_after, weighed, plain_digits}
-use Rattle.crx_text.specs.meaning.Numbers.{number_of, missing_or_number, signed_number, size_of}
-use Rattle.crx_text.proofs.LaneBits.{fourteen}
-use Rattle.crx_text.proofs.PowersOfTen.{digit_range, digit_value_is, digits_before, digits_value_after-append}
-use Rattle.crx_text.proofs.ReadBack.{digits_behind, size_of_pieces, without_first_blanks-text}
-use Rattle.crx_text.proofs.Sizes.{missing_or_number_text, number_of_width, decimal_number_plain}
+use Rattle.crx_text.proofs.{LaneBits.fourteen, PowersOfTen.{digit_range, digit_value_is, digits_before}}
+use Rattle.crx_text.proofs.{PowersOfTen.digits_value_after-append, ReadBack.{digits_behind, size_of_pieces}}
+use Rattle.crx_text.proofs.{ReadBack.without_first_blanks-text, Sizes.missing_or_number_text}
+use Rattle.crx_text.{proofs.Sizes.{number_of_width, decimal_number_plain}, specs.Fields.IsPlain}
+use Rattle.crx_text.specs.Fields.{is_plain_after, weighed, plain_digits}
+use Rattle.crx_text.specs.meaning.{Columns.without_first_blanks, Numbers.{number_of, missing_or_number}}
+use Rattle.crx_text.specs.meaning.Numbers.{signed_number, size_of}
 
 -- ---- blank columns
 
 all_blank : (xs ys : List ℕ) → list_all (λ c. eqb c 32) (xs ++ ys) ≡ true → without_first_blanks xs ≡ []
 all_blank [] ys all = refl
 all_blank (x ∷ xs) ys all =
-    let parts = and_parts (eqb x 32) (list_all (λ c. eqb c 32) (xs ++ ys)) all in
+    let parts = and_parts _ (list_all (λ c. eqb c 32) (xs ++ ys)) all in
     rw parts.0 (all_blank xs ys parts.1)
 
 pub blank_number : (width decimals : ℕ) (field ys : List ℕ)
     → length field ≡ width → list_all (λ c. eqb c 32) (field ++ ys) ≡ true
     → number_of width decimals field ≡ Some None
 blank_number width decimals field ys long all =
-    number_of_width width decimals field long ∙ ap (missing_or_number decimals) (all_blank field ys all)
+    number_of_width width _ field long ∙ ap (missing_or_number _) (all_blank field ys all)
 
 -- ---- digits
 
@@ -36,9 +33,8 @@ digits_after : (before : ℕ) (cs : List ℕ) → before ≢ 32 → is_plain_aft
     → all_ascii_digits cs ≡ true
 digits_after before [] other plain = refl
 digits_after before (c ∷ cs) other plain =
-    let test : eqb before 32 ≡ false = ne_eqb before 32 other in
-    let parts = and_parts (is_ascii_digit c || (eqb before 32 && (eqb c 32 || eqb c 45)))
-    (is_plain_after c cs) plain in
+    let test = ne_eqb before 32 other in
+    let parts = and_parts _ _ plain in
     let is_digit : is_ascii_digit c ≡ true =
     elim (or_cases _ _ parts.0) [ inl digit ↦ digit | inr other ↦ absurd (cc) ] in
     let range = digit_range c is_digit in
@@ -48,46 +44,44 @@ pub weighed_digits : (n : ℕ) (ds : List ℕ) → all_ascii_digits ds ≡ true
     → weighed n ds ≡ digits_value_after 10 n ds
 weighed_digits n [] digits = refl
 weighed_digits n (c ∷ cs) digits =
-    let parts = and_parts (is_ascii_digit c) (all_ascii_digits cs) digits in
+    let parts = and_parts _ _ digits in
     weighed_digits (n * 10 + (c - 48)) cs parts.1
-    ∙ ap (λ (d : ℕ). digits_value_after 10 (n * 10 + d) cs) (sym (digit_value_is c parts.0))
+    ∙ ap (λ d. digits_value_after 10 (n * 10 + d) cs) (sym (digit_value_is c parts.0))
 
 no_minus : (ds : List ℕ) → all_ascii_digits ds ≡ true → list_any (λ c. eqb c 45) ds ≡ false
 no_minus [] digits = refl
 no_minus (c ∷ cs) digits =
-    let parts = and_parts (is_ascii_digit c) (all_ascii_digits cs) digits in
+    let parts = and_parts _ _ digits in
     let range = digit_range c parts.0 in
-    let test : eqb c 45 ≡ false = ne_eqb c 45 (λ e. omega (arith, range)) in
+    let test = ne_eqb c 45 (λ e. omega (arith, range)) in
     rw test (no_minus cs parts.1)
 
 digits_decimal : (decimals : ℕ) (whole fraction : List ℕ)
-    → all_ascii_digits whole ≡ true → all_ascii_digits fraction ≡ true
-    → length fraction ≡ decimals
+    → all_ascii_digits whole ≡ true → all_ascii_digits fraction ≡ true → length fraction ≡ decimals
     → size_of decimals (whole ++ 46 ∷ fraction) ≡ Some (weighed 0 (whole ++ fraction))
 digits_decimal decimals whole fraction first then three =
     let w = digits_value_after 10 0 whole in
     let f = digits_value_after 10 0 fraction in
-    let joined : weighed 0 (whole ++ fraction) ≡ w * 10 ^ length fraction + f =
+    let joined =
     weighed_digits 0 (whole ++ fraction) (digits_before whole fraction first ∙ then)
-    ∙ (digits_value_after-append 0 whole fraction ∙ digits_behind w fraction) in
-    let power : w * 10 ^ length fraction + f ≡ w * 10 ^ decimals + f = ap (λ (n : ℕ). w * 10 ^ n + f) three in
-    size_of_pieces decimals w f whole fraction three first then refl refl ∙ ap Some (sym (joined ∙ power))
+    ∙ (digits_value_after-append 0 whole fraction ∙ digits_behind w _) in
+    let power = ap (λ n. w * 10 ^ n + f) three in
+    size_of_pieces _ w f whole _ three first then refl refl ∙ ap Some (sym (joined ∙ power))
 
 -- ---- a number after its blanks
 
 decimal_after : (decimals c : ℕ) (cs fraction : List ℕ) → c ≢ 32
     → c ≢ 45 → all_ascii_digits (c ∷ cs) ≡ true → all_ascii_digits fraction ≡ true
-    → length fraction ≡ decimals →
-    missing_or_number decimals (without_first_blanks (c ∷ cs ++ 46 ∷ fraction))
+    → length fraction ≡ decimals → missing_or_number decimals (without_first_blanks (c ∷ cs ++ 46 ∷ fraction))
     ≡ Some (Some (signed_number (list_any (λ c. eqb c 45) (c ∷ cs)) (weighed 0 (c ∷ cs ++ fraction))))
 decimal_after decimals c cs fraction no_blank no_sign digits then three =
     let text = c ∷ cs ++ 46 ∷ fraction in
-    let sign : list_any (λ c. eqb c 45) (c ∷ cs) ≡ false = no_minus (c ∷ cs) digits in
+    let sign = no_minus (c ∷ cs) digits in
     let reads = decimal_number_plain decimals text no_sign
-    ∙ ap (option_map pos) (digits_decimal decimals (c ∷ cs) fraction digits then three) in
-    ap (missing_or_number decimals) (without_first_blanks-text text no_blank)
+    ∙ ap (option_map pos) (digits_decimal _ (c ∷ cs) _ digits then three) in
+    ap (missing_or_number _) (without_first_blanks-text text no_blank)
     ∙ (missing_or_number_text decimals text (omega arith) ∙ ap (option_map Some) reads)
-    ∙ ap (λ (b : Bool). Some (Some (signed_number b (weighed 0 (c ∷ cs ++ fraction))))) (sym sign)
+    ∙ ap (λ b. Some (Some (signed_number b (weighed 0 (c ∷ cs ++ fraction))))) (sym sign)
 
 abbrev Spells : ℕ → List ℕ → List ℕ → Type 0
 Spells decimals fraction whole = missing_or_number decimals (without_first_blanks (whole ++ 46 ∷ fraction))
@@ -96,19 +90,19 @@ Spells decimals fraction whole = missing_or_number decimals (without_first_blank
 pub decimal_whole : (decimals : ℕ) (fraction whole : List ℕ) → all_ascii_digits fraction ≡ true
     → length fraction ≡ decimals → is_plain_after 32 whole ≡ true → Spells decimals fraction whole
 decimal_whole decimals fraction [] then three plain =
-    ap (λ (o : Option ℕ). option_map Some (option_map (signed_number false) o))
+    ap (λ o. option_map Some (option_map (signed_number false) o))
     (digits_decimal decimals [] fraction refl then three)
 decimal_whole decimals fraction (c ∷ cs) then three plain =
     elim (cases_eq c 32) [
-      | inl blank ↦ subst (λ (b : ℕ). is_plain_after 32 (b ∷ cs) ≡ true → Spells decimals fraction (b ∷ cs))
+      | inl blank ↦ subst (λ b. is_plain_after 32 (b ∷ cs) ≡ true → Spells decimals fraction (b ∷ cs))
           (sym blank) (λ p. decimal_whole decimals fraction cs then three p) plain
       | inr no_blank ↦ elim (cases_eq c 45) [
-        | inl minus ↦ subst (λ (b : ℕ). is_plain_after 32 (b ∷ cs) ≡ true
+        | inl minus ↦ subst (λ b. is_plain_after 32 (b ∷ cs) ≡ true
             → Spells decimals fraction (b ∷ cs)) (sym minus)
             (λ p. ap (λ (o : Option ℕ). option_map Some (option_map (signed_number true) o))
             (digits_decimal decimals cs fraction (digits_after 45 cs (omega arith) p) then three)) plain
         | inr no_sign ↦
-            let parts = and_parts (is_ascii_digit c || (eqb c 32 || eqb c 45)) (is_plain_after c cs) plain in
+            let parts = and_parts _ _ plain in
             let blank_test : eqb c 32 ≡ false = ne_eqb c 32 no_blank in
             let sign_test : eqb c 45 ≡ false = ne_eqb c 45 no_sign in
             let is_digit : is_ascii_digit c ≡ true =
@@ -120,7 +114,7 @@ decimal_whole decimals fraction (c ∷ cs) then three plain =
     ]
 
 not_minus : (c : ℕ) → is_ascii_digit c ≡ true → eqb c 45 ≡ false
-not_minus c is_digit = let range = digit_range c is_digit in ne_eqb c 45 (λ e. omega (arith, range))
+not_minus c is_digit = grind arith
 
 -- ---- a field whose columns are plain
 

@@ -1,15 +1,12 @@
 -- What two parts of a buffer hold: a rule on two texts as far as both go, and on the rest of the longer one.
 use Rattle.std.proofs.Common.{ℕ, ◌≡◌, ◌+◌, ◌-◌, ◌≤◌, List, [], ◌++◌, length, drop, take, replicate, arith}
-use Rattle.std.proofs.Common.{refl, ap, sym, ◌∙◌}
-use Rattle.std.proofs.lemmas.List.{append_assoc, append-nil, drop_all, length-append, length-drop}
-use Rattle.std.proofs.lemmas.List.{length-replicate, length-take-le, take_all, take_at, take-replicate}
-use Rattle.std.proofs.lemmas.List.{drop-replicate}
-use Rattle.std.proofs.lemmas.Simd.{length-zip2}
+use Rattle.std.proofs.{Common.{refl, ap, sym, ◌∙◌}, lemmas.List.{append_assoc, append-nil, drop_all}}
+use Rattle.std.proofs.lemmas.List.{length-append, length-drop, length-replicate, length-take-le, take_all}
+use Rattle.std.proofs.lemmas.{List.{take_at, take-replicate, drop-replicate}, Simd.length-zip2}
 use Rattle.std.specs.Simd.Lanes.{zip2}
-use Rattle.crx_text.specs.meaning.Texts.{by_position}
-use Rattle.crx_text.specs.declared.difference.TheConstants.{BLANKS}
-use Rattle.crx_base.specs.declared.limits.TheConstants.{LINE_LIMIT}
 use Rattle.crx_text.proofs.Positions.{by_position-split, by_position-old, by_position-other}
+use Rattle.crx_text.specs.{declared.difference.TheConstants.BLANKS, meaning.Texts.by_position}
+use Rattle.crx_base.specs.declared.limits.TheConstants.{LINE_LIMIT}
 
 blanks_are : BLANKS ≡ replicate LINE_LIMIT 32
 blanks_are = refl
@@ -17,8 +14,8 @@ blanks_are = refl
 pub some_blanks : (k end : ℕ) → k ≤ end → end ≤ LINE_LIMIT → take (end - k) (drop k BLANKS)
     ≡ replicate (end - k) 32
 some_blanks k end ordered within =
-    ap (λ t. take (end - k) (drop k t)) blanks_are ∙ ap (take (end - k)) (drop-replicate k LINE_LIMIT 32)
-    ∙ take-replicate (end - k) (LINE_LIMIT - k) 32 (omega arith)
+    ap (λ t. take (end - k) (drop k t)) blanks_are ∙ ap (take _) (drop-replicate k _ 32)
+    ∙ take-replicate _ (LINE_LIMIT - k) 32 (omega arith)
 
 module _ (f : ℕ → ℕ → ℕ) (old other front rest more others : List ℕ) (k : ℕ)
     (first : k ≤ length old) (second : k ≤ length other)
@@ -27,13 +24,13 @@ module _ (f : ℕ → ℕ → ℕ) (old other front rest more others : List ℕ)
   front_long =
       let olds = length-take-le k old first in
       let news = length-take-le k other second in
-      ap length front_is ∙ length-zip2 f (take k old) (take k other) (olds ∙ sym news) ∙ olds
+      ap length front_is ∙ length-zip2 f _ _ (olds ∙ sym news) ∙ olds
 
   two_parts : (end : ℕ) → k + length rest ≡ end → take end (take k (front ++ more) ++ (rest ++ others))
       ≡ front ++ rest
   two_parts end sum =
       let joined : length (front ++ rest) ≡ end = omega (arith, length-append front rest, front_long, sum) in
-      rw (take_at front more k front_long, ← append_assoc) (take_at (front ++ rest) others end joined)
+      rw (take_at front more k front_long, ← append_assoc) (take_at _ others end joined)
 
   by_parts : by_position f old other ≡ front ++ by_position f (drop k old) (drop k other)
   by_parts = by_position-split f k old other first second
@@ -42,26 +39,25 @@ module _ (f : ℕ → ℕ → ℕ) (old other front rest more others : List ℕ)
   pub both_end : length old ≡ k → length other ≡ k → take k (front ++ more) ≡ by_position f old other
   both_end one two =
       let olds : drop k old ≡ [] = drop_all k old (omega (arith, one)) in
-      let others : drop k other ≡ [] = drop_all k other (omega (arith, two)) in
+      let others = drop_all k other (omega (arith, two)) in
       let none : by_position f (drop k old) (drop k other) ≡ [] = rw (olds, others) refl in
       take_at front more k front_long
-      ∙ (sym (append-nil front) ∙ (ap (λ (t : List ℕ). front ++ t) (sym none) ∙ sym by_parts))
+      ∙ (sym (append-nil front) ∙ (ap (λ t. front ++ t) (sym none) ∙ sym by_parts))
 
   pub old_is_longer : length other ≡ k → length old ≤ LINE_LIMIT
       → rest ≡ zip2 f (take (length old - k) (drop k old)) (take (length old - k) (drop k BLANKS)) →
       take (length old) (take k (front ++ more) ++ (rest ++ others)) ≡ by_position f old other
   old_is_longer ends within rest_is =
-      let left : length (drop k old) ≡ length old - k = length-drop k old in
+      let left : length _ ≡ length old - k = length-drop k old in
       let text : take (length old - k) (drop k old) ≡ drop k old = take_all _ (drop k old) (omega arith) in
       let none : drop k other ≡ [] = drop_all k other (omega arith) in
       let whole : rest ≡ by_position f (drop k old) (drop k other) =
       rest_is ∙ (rw (text, some_blanks k (length old) first within, none, ← left)
-      (sym (by_position-old f (drop k old)))) in
-      let long : length rest ≡ length old - k =
-      ap length rest_is ∙ (rw (text, some_blanks k (length old) first within) (length-zip2 f
-      (drop k old) (replicate (length old - k) 32) (left ∙ sym (length-replicate (length old - k) 32))))
-      ∙ left in
-      two_parts (length old) (omega arith) ∙ ap (λ t. front ++ t) whole ∙ sym by_parts
+      (sym (by_position-old f _))) in
+      let long =
+      ap length rest_is ∙ (rw (text, some_blanks k _ first within) (length-zip2 f _ _
+      (left ∙ sym (length-replicate _ 32)))) ∙ left in
+      two_parts _ (omega arith) ∙ ap (λ t. front ++ t) whole ∙ sym by_parts
 
   pub other_is_longer : length old ≡ k → length other ≤ LINE_LIMIT
       → rest ≡ zip2 f (take (length other - k) (drop k BLANKS)) (take (length other - k) (drop k other)) →

@@ -1,7 +1,6 @@
 -- Two texts by position: as far as both go, and the rest of one.
 use Rattle.std.proofs.Common.{ℕ, suc, zero, ◌≡◌, ◌≤◌, List, [], ◌∷◌, ◌++◌, length, drop, take, replicate}
-use Rattle.std.proofs.Common.{arith, refl, ap}
-use Rattle.std.specs.Simd.Lanes.{zip2}
+use Rattle.std.{proofs.Common.{arith, refl, ap}, specs.Simd.Lanes.zip2}
 use Rattle.crx_text.specs.meaning.Texts.{by_position}
 
 pub by_position-split : (f : ℕ → ℕ → ℕ) (n : ℕ) (xs ys : List ℕ) → n ≤ length xs

@@ -1,15 +1,9 @@
 -- Numbers that grow digit by digit, and the powers of ten that bound them.
 use Rattle.std.proofs.Common.{pow-add, true, List, [], ◌∷◌, ◌++◌, length, drop, get_or, ◌≡◌, ℕ, suc, ◌+◌, ◌-◌}
-use Rattle.std.proofs.Common.{◌*◌, ◌<◌, ◌≤◌, ◌^◌, arith, refl, ap, sym, ◌∙◌}
-use Rattle.std.proofs.Math.Nat.{pow-suc, one-le-pow, mul-le-mul_left, mul-le-mul_right, pow-le-pow_right}
-use Rattle.std.proofs.lemmas.Bool.{and_parts}
-use Rattle.std.proofs.lemmas.List.{drop_more}
-use Rattle.std.proofs.lemmas.Str.{digit_value_digit}
-use Rattle.std.proofs.lemmas.Bool.Decides.{nat_tests}
-use Rattle.std.specs.Char.{digit_value, is_ascii_digit}
-use Rattle.std.specs.Int.{IsInRange}
-use Rattle.std.specs.Str.{all_ascii_digits}
-use Rattle.std.specs.Str.Parse.{digits_value_after}
+use Rattle.std.proofs.{Common.{◌*◌, ◌<◌, ◌≤◌, ◌^◌, arith, refl, ap, sym, ◌∙◌}, Math.Nat.{pow-suc, one-le-pow}}
+use Rattle.std.proofs.{Math.Nat.{mul-le-mul_right, pow-le-pow_right}, lemmas.Bool.and_parts}
+use Rattle.std.{proofs.lemmas.{Bool.Decides.nat_tests, List.drop_more}, specs.Char.digit_value}
+use Rattle.std.specs.{Char.is_ascii_digit, Int.IsInRange, Str.{all_ascii_digits, Parse.digits_value_after}}
 
 pub ten_pow_pos : (k : ℕ) → 1 ≤ 10 ^ k
 ten_pow_pos k = one-le-pow k 10 (omega arith)
@@ -17,27 +11,21 @@ ten_pow_pos k = one-le-pow k 10 (omega arith)
 -- a number with one more digit, beside a power with one less
 pub one_more_digit : (size digit power all : ℕ)
     → digit ≤ 9 → (size + 1) * (power * 10) ≤ all → (size * 10 + digit + 1) * power ≤ all
-one_more_digit size digit power all small bound =
-    let grows : (size * 10 + digit + 1) * power ≤ ((size + 1) * 10) * power = mul-le-mul_right power
-    (omega arith) in
-    omega (arith, grows, bound)
+one_more_digit size digit power all small bound = grind arith
 
 -- a bound on all digits bounds the next number
 pub next_is_small : (size power all : ℕ) → 1 ≤ power → (size + 1) * (power * 10) ≤ all → (size + 1) * 10 ≤ all
-next_is_small size power all one bound =
-    let grows : ((size + 1) * 10) * 1 ≤ ((size + 1) * 10) * power = mul-le-mul_left ((size + 1) * 10) one in
-    omega (arith, grows, bound)
+next_is_small size power all one bound = grind arith
 
 -- at an index, the power of the digits that are left
 pub pow_left : (n i : ℕ) → i < n → 10 ^ (n - i) ≡ 10 ^ (n - (i + 1)) * 10
-pow_left n i h = let e : n - i ≡ suc (n - (i + 1)) = omega arith in ap (λ (k : ℕ). 10 ^ k) e
-    ∙ pow-suc 10 (n - (i + 1))
+pow_left n i h = let e : n - i ≡ suc _ = omega arith in ap (λ k. 10 ^ k) e ∙ pow-suc 10 _
 
 pub digit_range : (c : ℕ) → is_ascii_digit c ≡ true → IsInRange 48 57 c
 digit_range c h = grind (arith, nat_tests)
 
 pub digit_value_is : (c : ℕ) → is_ascii_digit c ≡ true → digit_value c ≡ c - 48
-digit_value_is c h = let e : digit_value c + 48 ≡ c = digit_value_digit c (digit_range c h) in omega arith
+digit_value_is c h = grind arith
 
 -- the digit at an index is passed over
 pub all_digits_next : (ds : List ℕ) (i : ℕ) → i < length ds
@@ -45,13 +33,12 @@ pub all_digits_next : (ds : List ℕ) (i : ℕ) → i < length ds
     ≡ all_ascii_digits (drop i ds)
 all_digits_next ds i within is_digit = rw (drop_more ds i 0 within, is_digit) refl
 
-pub digits_value_next : (ds : List ℕ) (i size : ℕ) → i < length ds
-    → is_ascii_digit (get_or ds i 0) ≡ true
-    → digits_value_after 10 (size * 10 + (get_or ds i 0 - 48)) (drop (i + 1) ds)
-    ≡ digits_value_after 10 size (drop i ds)
+pub digits_value_next : (ds : List ℕ) (i size : ℕ) → i < length ds → is_ascii_digit (get_or ds i 0) ≡ true
+    → digits_value_after 10 (size * 10 + (get_or ds i 0 - 48)) (drop (i + 1) ds) ≡ digits_value_after 10 size
+    (drop i ds)
 digits_value_next ds i size within is_digit =
-    rw (drop_more ds i 0 within) (ap (λ (d : ℕ). digits_value_after 10 (size * 10 + d) (drop (i + 1) ds))
-    (sym (digit_value_is (get_or ds i 0) is_digit)))
+    rw (drop_more ds i 0 within) (ap (λ d. digits_value_after 10 (size * 10 + d) (drop (i + 1) ds))
+    (sym (digit_value_is _ is_digit)))
 
 -- the number that digits write is that of the first ones, continued from
 pub digits_value_after-append : (n : ℕ) (xs ys : List ℕ)
@@ -64,7 +51,7 @@ pub digits_before : (ds rest : List ℕ) → all_ascii_digits ds ≡ true
     → all_ascii_digits (ds ++ rest) ≡ all_ascii_digits rest
 digits_before [] rest digits = refl
 digits_before (c ∷ cs) rest digits =
-    let parts = and_parts (is_ascii_digit c) (all_ascii_digits cs) digits in
+    let parts = and_parts _ (all_ascii_digits cs) digits in
     rw parts.0 (digits_before cs rest parts.1)
 
 -- the number that digits write is less than the next one before them, with as many zeros
@@ -72,12 +59,12 @@ pub value_small : (size : ℕ) (ds : List ℕ)
     → all_ascii_digits ds ≡ true → digits_value_after 10 size ds < (size + 1) * 10 ^ length ds
 value_small size [] digits = omega arith
 value_small size (c ∷ cs) digits =
-    let parts = and_parts (is_ascii_digit c) (all_ascii_digits cs) digits in
+    let parts = and_parts _ _ digits in
     let range = digit_range c parts.0 in
     let value = digit_value_is c parts.0 in
     let next : size * 10 + digit_value c + 1 ≤ (size + 1) * 10 = omega (arith, value, range) in
     let less = value_small (size * 10 + digit_value c) cs parts.1 in
-    let grows : (size * 10 + digit_value c + 1) * 10 ^ length cs ≤ (size + 1) * 10 * 10 ^ length cs =
+    let grows =
     mul-le-mul_right (10 ^ length cs) next in
     let power : 10 ^ suc (length cs) ≡ 10 ^ length cs * 10 = pow-suc 10 (length cs) in
     rw power (omega (arith, less, grows))
@@ -86,12 +73,12 @@ value_small size (c ∷ cs) digits =
 pub more_digits_fit : (size a b n : ℕ) → size < 1 * 10 ^ a → a + b ≤ n → (size + 1) * 10 ^ b ≤ 10 ^ n
 more_digits_fit size a b n small few =
     let grows : (size + 1) * 10 ^ b ≤ 10 ^ a * 10 ^ b = mul-le-mul_right (10 ^ b) (omega (arith, small)) in
-    let joined : 10 ^ (a + b) ≡ 10 ^ a * 10 ^ b = pow-add 10 a b in
-    let power : 10 ^ (a + b) ≤ 10 ^ n = pow-le-pow_right {n = 10} (omega arith) few in
+    let joined = pow-add 10 a b in
+    let power = pow-le-pow_right {n = 10} (omega arith) few in
     omega (arith, grows, joined, power)
 
 -- a number of so many digits, where more may be
 pub small_number : (size count limit : ℕ) → count ≤ limit → size < 10 ^ count → size < 10 ^ limit
 small_number size count limit few small =
-    let power : 10 ^ count ≤ 10 ^ limit = pow-le-pow_right {n = 10} (omega arith) few in
+    let power = pow-le-pow_right {n = 10} (omega arith) few in
     omega (arith, small, power)

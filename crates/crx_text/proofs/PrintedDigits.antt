@@ -1,13 +1,11 @@
 -- Digits in a row, as the decimal text of the number that they write.
-use Rattle.std.proofs.Common.{◌≡◌, ℕ, zero, suc, ◌+◌, ◌-◌, ◌*◌, ◌/◌, ◌%◌, ◌^◌, ◌<◌, ◌≤◌, Bool, true, false}
-use Rattle.std.proofs.Common.{ltb, eqb, if◌then◌else◌, List, [], ◌∷◌, ◌++◌, map, length, replicate, drop}
-use Rattle.std.proofs.Common.{decimal, refl, sym, ap, ◌∙◌, append_assoc, ltb-true, arith}
-use Rattle.std.proofs.lemmas.Bool.{and_parts, ne_eqb}
-use Rattle.std.proofs.lemmas.Fmt.{decimal_digit, decimal_step}
-use Rattle.std.proofs.lemmas.List.{length-map, length-drop, append-nil}
+use Rattle.std.proofs.Common.{◌≡◌, ℕ, zero, suc, ◌+◌, ◌-◌, ◌*◌, ◌/◌, ◌%◌, ◌^◌, ◌<◌, ◌≤◌, Bool, true, ltb, eqb}
+use Rattle.std.proofs.Common.{if◌then◌else◌, List, [], ◌∷◌, ◌++◌, map, length, replicate, drop, decimal, refl}
+use Rattle.std.proofs.{Common.{sym, ap, ◌∙◌, append_assoc, ltb-true, arith}, lemmas.Bool.{and_parts, ne_eqb}}
+use Rattle.std.proofs.lemmas.{Fmt.{decimal_digit, decimal_step}, List.{length-map, length-drop, append-nil}}
 use Rattle.std.specs.List.{list_all}
-pub use Rattle.crx_text.specs.Digits.{written}
 use Rattle.crx_text.specs.meaning.Numbers.{zero_padded}
+pub use Rattle.crx_text.specs.Digits.{written}
 
 -- the zeros before a number's first digit, its last one apart
 abbrev pub leading_zeros : List ℕ → ℕ
@@ -45,36 +43,35 @@ pub decimal_of_digits : (d : ℕ) (ds : List ℕ) → are_digits (d ∷ ds) ≡ 
     → written 0 (d ∷ ds) < 2 ^ 64 → decimal (written 0 (d ∷ ds))
     ≡ glyphs (drop (leading_zeros (d ∷ ds)) (d ∷ ds))
 decimal_of_digits d [] digits fits =
-    let parts = and_parts (ltb d 10) true digits in
-    let small : d < 10 = ltb-true _ _ parts.0 in
+    let parts = and_parts _ true digits in
+    let small = ltb-true _ _ parts.0 in
     let same : 0 * 10 + d ≡ d = omega arith in
     rw same (decimal_digit d small)
 decimal_of_digits zero (e ∷ ds) digits fits = decimal_of_digits e ds digits fits
 decimal_of_digits (suc d) (e ∷ ds) digits fits =
-    let parts = and_parts (ltb (suc d) 10) (are_digits (e ∷ ds)) digits in
-    let small : suc d < 10 = ltb-true _ _ parts.0 in
-    let test : eqb (suc d) 0 ≡ false = ne_eqb (suc d) 0 (λ z. omega arith) in
+    let parts = and_parts _ _ digits in
+    let small = ltb-true _ _ parts.0 in
+    let test = ne_eqb (suc d) 0 (λ z. omega arith) in
     let same : 0 * 10 + suc d ≡ suc d = omega arith in
     let more = decimal_more (suc d) (e ∷ ds) (omega arith) parts.1 (rw same at fits) in
-    rw (same, test) (more ∙ ap (λ (t : List ℕ). t ++ glyphs (e ∷ ds)) (decimal_digit (suc d) small))
+    rw (same, test) (more ∙ ap (λ t. t ++ glyphs (e ∷ ds)) (decimal_digit (suc d) small))
 
 pub zeros_few : (ds : List ℕ) → leading_zeros ds ≤ length ds - 1
 zeros_few [] = omega arith
 zeros_few (d ∷ []) = omega arith
 zeros_few (zero ∷ e ∷ ds) = let few = zeros_few (e ∷ ds) in omega (arith, few)
-zeros_few (suc d ∷ e ∷ ds) = let test : eqb (suc d) 0 ≡ false = ne_eqb (suc d) 0 (λ z. omega arith) in
+zeros_few (suc d ∷ e ∷ ds) = let test = ne_eqb (suc d) 0 (λ z. omega arith) in
     rw test (omega arith)
 
 pub zeros_first : (ds : List ℕ) → ds ≡ replicate (leading_zeros ds) 0 ++ drop (leading_zeros ds) ds
 zeros_first [] = refl
 zeros_first (d ∷ []) = refl
-zeros_first (zero ∷ e ∷ ds) = ap (λ (r : List ℕ). 0 ∷ r) (zeros_first (e ∷ ds))
-zeros_first (suc d ∷ e ∷ ds) = let test : eqb (suc d) 0
-    ≡ false = ne_eqb (suc d) 0 (λ z. omega arith) in rw test refl
+zeros_first (zero ∷ e ∷ ds) = ap (λ r. 0 ∷ r) (zeros_first _)
+zeros_first (suc d ∷ e ∷ ds) = grind arith
 
 glyphs_of_zeros : (k : ℕ) (ds : List ℕ) → glyphs (replicate k 0 ++ ds) ≡ replicate k 48 ++ glyphs ds
 glyphs_of_zeros zero ds = refl
-glyphs_of_zeros (suc k) ds = ap (λ (r : List ℕ). 48 ∷ r) (glyphs_of_zeros k ds)
+glyphs_of_zeros (suc k) ds = ap (λ r. 48 ∷ r) (glyphs_of_zeros k ds)
 
 -- digits with the zeros before them
 pub padded_digits : (d : ℕ) (ds : List ℕ) → are_digits (d ∷ ds) ≡ true

@@ -2,16 +2,13 @@
 use Rattle.std.proofs.Common.{◌≡◌, ℕ, zero, suc, ◌+◌, ◌-◌, ◌*◌, ◌/◌, ◌%◌, ◌^◌, ◌<◌, ◌≤◌, Bool, true, false}
 use Rattle.std.proofs.Common.{not, cond, bit_and, leb, eqb, List, [], ◌∷◌, ◌++◌, map, length, replicate, take}
 use Rattle.std.proofs.Common.{drop, get_or, subst, refl, sym, ap, ◌∙◌, eqb-true, arith}
-use Rattle.std.proofs.lemmas.Nat.{and_mask}
-use Rattle.std.proofs.lemmas.Bool.{agree_below_at, le-leb, ne_eqb}
-use Rattle.std.proofs.lemmas.Bool.Decides.{nat_tests}
-use Rattle.std.proofs.lemmas.Simd.{trailing_mask_l, mask_l-mod, pick_l_whole}
-use Rattle.std.specs.List.{range_with_len, prefix_len}
+use Rattle.std.proofs.lemmas.{Bool.{agree_below_at, le-leb, ne_eqb, Decides.nat_tests}, Nat.and_mask}
+use Rattle.std.{proofs.lemmas.Simd.{trailing_mask_l, mask_l-mod, pick_l_whole}, specs.List.range_with_len}
+use Rattle.std.specs.List.{prefix_len}
 use lib.Count.{count_trailing_zeros}
 use lib.Lanes.{Each1, chunk, mask_l, pick_l, top, zip2, digits_l, number_l}
+use Rattle.crx_text.proofs.{LaneBits.{sixteen, no_bit, top_lane}, PrintedDigits.leading_zeros}
 use Rattle.crx_text.specs.FieldTexts.{group_digits}
-use Rattle.crx_text.proofs.LaneBits.{sixteen, no_bit, top_lane}
-use Rattle.crx_text.proofs.PrintedDigits.{leading_zeros}
 
 -- ---- a group's digits
 
@@ -51,8 +48,7 @@ digits_of_groups : (gs : List ℕ) → Each1 (λ g. g < 1000) gs
     → digits_l 256 (quadruple (length gs)) (number_l (2 ^ 32) (map group_word gs)) ≡ group_digits gs
 digits_of_groups [] small = refl
 digits_of_groups (g ∷ gs) small =
-    next_group (quadruple (length gs)) g (number_l (2 ^ 32) (map group_word gs)) small.0
-    ∙ ap (λ (t : List ℕ). g % 10 ∷ g / 10 % 10 ∷ g / 100 ∷ 0 ∷ t) (digits_of_groups gs small.1)
+    next_group _ g _ small.0 ∙ ap (λ t. g % 10 ∷ g / 10 % 10 ∷ g / 100 ∷ 0 ∷ t) (digits_of_groups gs small.1)
 
 -- the words as the code makes them of the groups
 abbrev pub words_of : List ℕ → List ℕ
@@ -70,7 +66,7 @@ pub digits_of_words : (groups : List ℕ) → length groups ≡ 4 → Each1 (λ 
     → digits_l 256 16 (number_l (2 ^ 32) (words_of groups)) ≡ group_digits groups
 digits_of_words groups long small =
     let whole = pick_l_whole 0 groups 4 long in
-    subst (λ (w : List ℕ). digits_l 256 16 (number_l (2 ^ 32) (words_of w)) ≡ group_digits w) whole
+    subst (λ w. digits_l 256 16 (number_l (2 ^ 32) (words_of w)) ≡ group_digits w) whole
     (digits_of_groups (pick_l 0 groups (range_with_len 0 4))
     (subst (Each1 (λ g. g < 1000)) (sym whole) small))
 
@@ -97,8 +93,7 @@ begins (x ∷ []) d bits = go x
 begins (x ∷ y ∷ ys) d bits = go x (begins (y ∷ ys) d bits)
   where
     go : (z : ℕ) → prefix_len (λ b. not b) (map (leb 1) (y ∷ ys) ++ true ∷ bits) ≡ leading_zeros
-        (y ∷ ys ++ d ∷ [])
-        → prefix_len (λ b. not b) (leb 1 z ∷ map (leb 1) (y ∷ ys) ++ true ∷ bits)
+        (y ∷ ys ++ d ∷ []) → prefix_len (λ b. not b) (leb 1 z ∷ map (leb 1) (y ∷ ys) ++ true ∷ bits)
         ≡ leading_zeros (z ∷ y ∷ ys ++ d ∷ [])
     go zero e = ap (λ (n : ℕ). 1 + n) e ∙ one_more (leading_zeros (y ∷ ys ++ d ∷ []))
     go (suc z) e = rw (begins_here z, begins_now z) refl
@@ -112,13 +107,12 @@ begin_explicit : (c : ℕ → ℕ) → c 0 ≡ 0 → count_trailing_zeros 64
     (map c (range_with_len 1 9))
 begin_explicit c none =
     let lane = λ (i : ℕ). top_lane (leb 1 (c i)) in
-    let bits : List Bool = map (leb 1) (map c (range_with_len 0 9))
-    ++ true ∷ map (leb 1) (map c (range_with_len 10 6)) in
+    let bits : List Bool = map (leb 1) (map c (range_with_len 0 9)) ++ true ∷ map (leb 1)
+    (map c (range_with_len 10 6)) in
     let nine = ap (λ b. top 7 (cond b 255 0)) (le-leb 0 (c 9) (omega arith)) in
     let are : begin_lanes (map c (range_with_len 0 16)) ≡ bits =
     λ k. lane 0 k ∷ lane 1 k ∷ lane 2 k ∷ lane 3 k ∷ lane 4 k ∷ lane 5 k ∷ lane 6 k ∷ lane 7 k ∷ lane 8 k
-    ∷ nine k
-    ∷ lane 10 k ∷ lane 11 k ∷ lane 12 k ∷ lane 13 k ∷ lane 14 k ∷ lane 15 k ∷ [] in
+    ∷ nine k ∷ lane 10 k ∷ lane 11 k ∷ lane 12 k ∷ lane 13 k ∷ lane 14 k ∷ lane 15 k ∷ [] in
     let some : 0 < mask_l bits = grind (arith, nat_tests, no_bit (λ (b : Bool). b) bits) in
     let found = trailing_mask_l (λ (b : Bool). b) 64 bits (omega arith) some in
     ap (λ m. count_trailing_zeros 64 (mask_l m % 2 ^ 64)) are
@@ -129,8 +123,8 @@ begin_explicit c none =
 pub begin_is : (v : List ℕ) → length v ≡ 16 → get_or v 0 0 ≡ 0
     → count_trailing_zeros 64 (mask_l (begin_lanes v) % 2 ^ 64) ≡ 1 + leading_zeros (take 9 (drop 1 v))
 begin_is v long =
-    subst (λ (w : List ℕ). get_or w 0 0 ≡ 0 → count_trailing_zeros 64 (mask_l (begin_lanes w) % 2 ^ 64)
-    ≡ 1 + leading_zeros (take 9 (drop 1 w))) (sym (sixteen v long)) (begin_explicit (λ (i : ℕ). get_or v i 0))
+    subst (λ w. get_or w 0 0 ≡ 0 → count_trailing_zeros 64 (mask_l (begin_lanes w) % 2 ^ 64)
+    ≡ 1 + leading_zeros (take 9 (drop 1 w))) (sym (sixteen v long)) (begin_explicit (λ i. get_or v i 0))
 
 -- blanks, and then what makes digits
 pub base_row : (start : ℕ) → start ≤ 9 → chunk {A = ℕ} 0 16 (take (32 - (16 - start))

@@ -1,15 +1,13 @@
 -- From the row of text to the text of a size.
 use Rattle.std.proofs.Common.{◌≡◌, ℕ, zero, suc, ◌+◌, ◌-◌, ◌*◌, ◌/◌, ◌%◌, ◌^◌, ◌<◌, ◌&&◌, true, false, ltb}
 use Rattle.std.proofs.Common.{eqb, List, [], ◌∷◌, ◌++◌, length, replicate, take, drop, refl, sym, ap, ◌∙◌}
-use Rattle.std.proofs.Common.{append_assoc, length-append, lt-ltb, ltb-true, arith}
-use Rattle.std.proofs.lemmas.Bool.{and_parts, ne_eqb}
+use Rattle.std.proofs.{Common.{append_assoc, length-append, ltb-true, arith}, lemmas.Bool.{and_parts, ne_eqb}}
 use Rattle.std.proofs.lemmas.List.{length-map, length-drop, length-replicate, take_at, drop_at}
-use Rattle.std.proofs.lemmas.List.{replicate-append-replicate}
-use Rattle.std.proofs.lemmas.List.Folds.{list_all-append}
+use Rattle.std.proofs.lemmas.List.{replicate-append-replicate, Folds.list_all-append}
 use lib.Lanes.{zip2}
-use Rattle.crx_text.specs.meaning.Numbers.{size_text, zero_padded}
 use Rattle.crx_text.proofs.PrintedDigits.{written, are_digits, glyphs, decimal_of_digits, padded_digits}
-use Rattle.crx_text.proofs.PrintedDigits.{leading_zeros, zeros_few}
+use Rattle.crx_text.{proofs.PrintedDigits.{leading_zeros, zeros_few}, specs.meaning.Numbers.size_text}
+use Rattle.crx_text.specs.meaning.Numbers.{zero_padded}
 
 -- ---- lanes added to their bases
 
@@ -20,7 +18,7 @@ plus_digits : (ds xs ys : List ℕ)
     → are_digits ds ≡ true → plus (ds ++ xs) (replicate (length ds) 48 ++ ys) ≡ glyphs ds ++ plus xs ys
 plus_digits [] xs ys digits = refl
 plus_digits (d ∷ ds) xs ys digits =
-    let parts = and_parts (ltb d 10) (are_digits ds) digits in
+    let parts = and_parts _ _ digits in
     let small : d < 10 = ltb-true _ _ parts.0 in
     let glyph : (d + 48) % 256 ≡ 48 + d = omega arith in
     rw glyph (ap (λ (r : List ℕ). (48 + d) ∷ r) (plus_digits ds xs ys parts.1))
@@ -43,14 +41,11 @@ module _ (three : List ℕ) (short : length three ≡ 3) (three_digits : are_dig
   full_row : (ds : List ℕ) → are_digits ds ≡ true
       → plus (ds ++ behind three) (replicate (length ds + 6) 48) ≡ glyphs ds ++ printed_behind three
   full_row ds digits =
-      let bases : replicate {A = ℕ} (length ds + 6) 48
-      ≡ replicate (length ds) 48 ++ (48 ∷ (replicate (length three) 48 ++ (48 ∷ 48 ∷ []))) =
-      sym (replicate-append-replicate (length ds) 6 48)
-      ∙ ap (λ (n : ℕ). replicate (length ds) 48 ++ (48 ∷ (replicate n 48 ++ (48 ∷ 48 ∷ [])))) (sym short) in
-      ap (plus (ds ++ behind three)) bases
-      ∙ plus_digits ds (behind three) (48 ∷ (replicate (length three) 48 ++ (48 ∷ 48 ∷ []))) digits
-      ∙ ap (λ (t : List ℕ). glyphs ds ++ (46 ∷ t))
-      (plus_digits three (0 ∷ 0 ∷ []) (48 ∷ 48 ∷ []) three_digits)
+      let bases =
+      sym (replicate-append-replicate (length ds) 6 48) ∙ ap
+      (λ n. replicate (length ds) 48 ++ (48 ∷ (replicate n 48 ++ (48 ∷ 48 ∷ [])))) (sym short) in
+      ap (plus _) bases ∙ plus_digits ds _ _ digits ∙ ap (λ t. glyphs ds ++ (46 ∷ t))
+      (plus_digits three _ _ three_digits)
 
   -- blanks in the columns of the zeros before the number
   spaced_row : (ds : List ℕ) → are_digits ds ≡ true → plus (ds ++ behind three)
@@ -78,20 +73,17 @@ module _ (nine three : List ℕ) (long : length nine ≡ 9)
       let one : 1 + zeros ≡ suc zeros = omega arith in
       let count : 16 - suc zeros ≡ length nine + 6 - zeros = omega (arith, long) in
       let left : List ℕ = glyphs (drop zeros nine) in
-      rw (one, count) (ap (λ (t : List ℕ). 32 ∷ t) (spaced_row three short three_digits nine nine_digits
-      ∙ ap (λ (t : List ℕ). replicate zeros 32 ++ t)
-      (sym (append_assoc left (46 ∷ glyphs three) (48 ∷ 48 ∷ [])))
-      ∙ sym (append_assoc (replicate zeros 32) (printed nine three) (48 ∷ 48 ∷ []))))
+      rw (one, count) (ap (λ t. 32 ∷ t) (spaced_row three short three_digits nine nine_digits ∙ ap
+      (λ t. replicate zeros 32 ++ t) (sym (append_assoc left (46 ∷ glyphs three) (48 ∷ 48 ∷ []))) ∙ sym
+      (append_assoc (replicate zeros 32) (printed nine three) (48 ∷ 48 ∷ []))))
 
   pub printed_length : length (printed nine three) ≡ 13 - leading_zeros nine
   printed_length =
       let few = zeros_few nine in
       omega (
         arith,
-        length-append (glyphs (drop (leading_zeros nine) nine))
-            (46 ∷ glyphs three),
-        length-map (drop (leading_zeros nine) nine)
-            (λ d. 48 + d),
+        length-append (glyphs (drop (leading_zeros nine) nine)) (46 ∷ glyphs three),
+        length-map (drop (leading_zeros nine) nine) (λ d. 48 + d),
         length-map three (λ d. 48 + d),
         length-drop (leading_zeros nine) nine,
         long,
@@ -103,11 +95,9 @@ module _ (nine three : List ℕ) (long : length nine ≡ 9)
       ≡ replicate (1 + leading_zeros nine) 32 ++ printed nine three
   row_cut =
       let few = zeros_few nine in
-      take_at (replicate (1 + leading_zeros nine) 32 ++ printed nine three) (48 ∷ 48 ∷ []) 14
-      (omega (
+      take_at _ _ 14 (omega (
         arith,
-        length-append (replicate (1 + leading_zeros nine) 32)
-            (printed nine three),
+        length-append (replicate (1 + leading_zeros nine) 32) (printed nine three),
         length-replicate {A = ℕ} (1 + leading_zeros nine) 32,
         printed_length,
         few,
@@ -125,11 +115,7 @@ three_of d = d / 100 ∷ d / 10 % 10 ∷ d % 10 ∷ []
 
 group_is_digits : (g : ℕ) (ds : List ℕ)
     → g < 1000 → are_digits ds ≡ true → are_digits (g / 100 ∷ g / 10 % 10 ∷ g % 10 ∷ ds) ≡ true
-group_is_digits g ds small digits =
-    let first : ltb (g / 100) 10 ≡ true = lt-ltb (g / 100) 10 (omega arith) in
-    let second : ltb (g / 10 % 10) 10 ≡ true = lt-ltb (g / 10 % 10) 10 (omega arith) in
-    let third : ltb (g % 10) 10 ≡ true = lt-ltb (g % 10) 10 (omega arith) in
-    rw (first, second, third) digits
+group_is_digits g ds small digits = grind arith
 
 group_weighs : (n g : ℕ) → g < 1000 → ((n * 10 + g / 100) * 10 + g / 10 % 10) * 10 + g % 10 ≡ n * 1000 + g
 group_weighs n g small = omega arith
@@ -145,30 +131,23 @@ module _ (size : ℕ) (small : size < 10 ^ 12) where
   nine_are_digits : are_digits (nine_in size) ≡ true
   nine_are_digits =
       group_is_digits (size / 10 ^ 9) (three_of (size / 10 ^ 6 % 1000) ++ three_of (size / 1000 % 1000))
-      (omega arith)
-      (group_is_digits (size / 10 ^ 6 % 1000) (three_of (size / 1000 % 1000)) (omega arith)
+      (omega arith) (group_is_digits (size / 10 ^ 6 % 1000) (three_of (size / 1000 % 1000)) (omega arith)
       (group_is_digits (size / 1000 % 1000) [] (omega arith) refl))
 
   three_are_digits : are_digits (three_in size) ≡ true
-  three_are_digits = group_is_digits (size % 1000) [] (omega arith) refl
+  three_are_digits = grind arith
 
   whole_weighs : written 0 (nine_in size) ≡ size / 1000
-  whole_weighs =
-      let first = group_weighs 0 (size / 10 ^ 9) (omega arith) in
-      let second = group_weighs (0 * 1000 + size / 10 ^ 9) (size / 10 ^ 6 % 1000) (omega arith) in
-      let third = group_weighs ((0 * 1000 + size / 10 ^ 9) * 1000 + size / 10 ^ 6 % 1000)
-      (size / 1000 % 1000) (omega arith) in
-      rw (first, second, third) (omega arith)
+  whole_weighs = grind arith
 
   fraction_weighs : written 0 (three_in size) ≡ size % 1000
-  fraction_weighs = group_weighs 0 (size % 1000) (omega arith) ∙ omega arith
+  fraction_weighs = grind arith
 
   abbrev pub twelve : List ℕ
   twelve = nine_in size ++ three_in size
 
   twelve_weigh : written 0 twelve ≡ size
-  twelve_weigh = group_weighs (written 0 (nine_in size)) (size % 1000) (omega arith)
-      ∙ (rw whole_weighs (omega arith))
+  twelve_weigh = grind arith
 
   twelve_are_digits : are_digits twelve ≡ true
   twelve_are_digits = list_all-append (λ d. ltb d 10) (nine_in size) (three_in size)
@@ -203,12 +182,11 @@ module _ (size start : ℕ) (cell : List ℕ) (small : size < 10 ^ 12)
       let three = three_in size in
       let nines = nine_are_digits size small in
       let threes = three_are_digits size small in
-      ap (take 14) (cell_is
-      ∙ ap (λ (n : ℕ). plus (row_of nine three) (replicate {A = ℕ} n 32 ++ replicate (16 - n) 48)) start_is
-      ∙ row_printed nine three refl refl nines threes) ∙ row_cut nine three refl refl nines threes
-      ∙ ap (λ (t : List ℕ). replicate {A = ℕ} (1 + leading_zeros nine) 32 ++ t)
-      (printed_is_size_text size small)
-      ∙ ap (λ (n : ℕ). replicate {A = ℕ} n 32 ++ size_text 3 size) (sym start_is)
+      ap (take 14) (cell_is ∙ ap
+      (λ n. plus (row_of nine three) (replicate {A = ℕ} n 32 ++ replicate (16 - n) 48)) start_is ∙ row_printed
+      nine three refl refl nines threes) ∙ row_cut nine three refl refl nines threes ∙ ap
+      (λ t. replicate {A = ℕ} (1 + leading_zeros nine) 32 ++ t) (printed_is_size_text size small) ∙ ap
+      (λ n. replicate {A = ℕ} n 32 ++ size_text 3 size) (sym start_is)
 
   pub text_length : start + length (size_text 3 size) ≡ 14
   text_length =
@@ -218,9 +196,7 @@ module _ (size start : ℕ) (cell : List ℕ) (small : size < 10 ^ 12)
       omega (arith, same, long, start_is, zeros_few (nine_in size))
 
   pub text_before : take start (take 14 cell) ≡ replicate start 32
-  text_before = ap (take start) field_text
-      ∙ take_at (replicate start 32) (size_text 3 size) start (length-replicate start 32)
+  text_before = ap (take start) field_text ∙ take_at _ (size_text 3 size) start (length-replicate start 32)
 
   pub text_written : drop start (take 14 cell) ≡ size_text 3 size
-  text_written = ap (drop start) field_text
-      ∙ drop_at (replicate start 32) (size_text 3 size) start (length-replicate start 32)
+  text_written = ap (drop start) field_text ∙ drop_at (replicate start 32) _ start (length-replicate start 32)

@@ -1,28 +1,21 @@
 -- What is printed is read back.
-use Rattle.std.proofs.Common.{true, false, ℕ, ℤ, pos, negsuc, neg_ℤ, suc, zero, ◌≡◌, ◌≢◌, ◌+◌, ◌-◌, ◌*◌, ◌/◌}
-use Rattle.std.proofs.Common.{◌%◌, ◌<◌, ◌≤◌, ◌^◌, List, [], ◌∷◌, ◌++◌, length, drop, take, get_or, replicate}
-use Rattle.std.proofs.Common.{decimal, Option, Some, None, ◌==◌, arith, refl, ap, sym, ◌∙◌}
-use Rattle.std.proofs.Math.Nat.{pow-suc, mod-lt, div-le_self}
-use Rattle.std.proofs.lemmas.Nat.{div-add-mod'}
-use Rattle.std.proofs.lemmas.Bool.Decides.{nat_tests}
-use Rattle.std.proofs.lemmas.Fmt.{decimal_is_IsNumeral, digits_decimal, first_decimal, decimal_nonempty}
-use Rattle.std.proofs.lemmas.Fmt.{decimal_digit}
+use Rattle.std.proofs.Common.{true, ℕ, ℤ, pos, negsuc, neg_ℤ, suc, zero, ◌≡◌, ◌≢◌, ◌+◌, ◌-◌, ◌*◌, ◌/◌, ◌%◌}
+use Rattle.std.proofs.Common.{◌<◌, ◌≤◌, ◌^◌, List, [], ◌∷◌, ◌++◌, length, drop, take, get_or, replicate}
+use Rattle.std.proofs.{Common.{decimal, Option, Some, None, arith, refl, ap, sym, ◌∙◌}, Math.Nat.pow-suc}
+use Rattle.std.proofs.{Math.Nat.{mod-lt, div-le_self}, lemmas.Fmt.{decimal_is_IsNumeral, digits_decimal}}
+use Rattle.std.proofs.lemmas.{Fmt.{first_decimal, decimal_nonempty, decimal_digit}, Int.ints}
 use Rattle.std.proofs.lemmas.List.{length-append, length-replicate, append_assoc, take_at, drop_at, get_or_at}
-use Rattle.std.proofs.lemmas.List.{get_or_append_left, append-nil}
+use Rattle.std.proofs.lemmas.{List.{get_or_append_left, append-nil}, Nat.div-add-mod'}
 use Rattle.std.proofs.lemmas.Str.Parse.{IsNumeralModel, numerals_by_value, tells_all_ascii_digits}
-use Rattle.std.specs.Char.{digit_value}
-use Rattle.std.specs.Option.{option_map, ForSome}
-use Rattle.std.proofs.lemmas.Int.{ints}
-use Rattle.std.specs.Str.{all_ascii_digits}
+use Rattle.std.specs.{Char.digit_value, Option.{option_map, ForSome}, Str.all_ascii_digits}
 use Rattle.std.specs.Str.Parse.{digits_value, digits_value_after}
-use Rattle.crx_text.specs.meaning.Columns.{without_first_blanks}
-use Rattle.crx_text.specs.meaning.Numbers.{IsWithin, number_of, number_text, size_of, size_text, zero_padded}
-use Rattle.crx_text.specs.meaning.Numbers.{right_justified, decimal_number, missing_or_number}
-use Rattle.crx_text.proofs.PowersOfTen.{ten_pow_pos}
-use Rattle.crx_text.proofs.Sizes.{size_of_parts, decimal_number_plain, decimal_number_minus}
-use Rattle.crx_text.proofs.Sizes.{missing_or_number_text, number_of_width}
+use Rattle.crx_text.proofs.{PowersOfTen.ten_pow_pos, Sizes.{size_of_parts, decimal_number_plain}}
+use Rattle.crx_text.proofs.Sizes.{decimal_number_minus, missing_or_number_text, number_of_width}
 use Rattle.crx_text.proofs.Spellings.{fraction_short, length-zero_padded, length-size_text, size_text_fits}
 use Rattle.crx_text.proofs.Spellings.{ten_pow_small, abs_within, abs_within_below}
+use Rattle.crx_text.specs.meaning.{Columns.without_first_blanks, Numbers.{IsWithin, number_of, number_text}}
+use Rattle.crx_text.specs.meaning.Numbers.{size_of, size_text, zero_padded, right_justified, decimal_number}
+use Rattle.crx_text.specs.meaning.Numbers.{missing_or_number}
 
 -- the digits that are after a number
 pub digits_behind : (n : ℕ) (ds : List ℕ) → digits_value_after 10 n ds
@@ -76,33 +69,26 @@ size_of_pieces decimals w f whole fraction count whole_digits fraction_digits wh
 pub size_of-size_text : (decimals size : ℕ)
     → 0 < decimals → decimals < 19 → size < 2 ^ 64 → size_of decimals (size_text decimals size) ≡ Some size
 size_of-size_text decimals size some few small =
-    let unit : ℕ = 10 ^ decimals in
-    let one : 1 ≤ unit = ten_pow_pos decimals in
-    let bound : unit < 2 ^ 64 = ten_pow_small decimals few in
+    let unit : ℕ = 10 ^ _ in
+    let one = ten_pow_pos _ in
+    let bound = ten_pow_small decimals few in
     let rest_small : size % unit < 2 ^ 64 = let below : size % unit < unit = mod-lt size one in
     omega (arith, below, bound) in
     let whole_small : size / unit < 2 ^ 64 = let less : size / unit ≤ size = div-le_self size unit in
     omega (arith, less, small) in
     let short = fraction_short decimals size some few in
     let sum : size / unit * unit + size % unit ≡ size = div-add-mod' size unit in
-    let pieces = size_of_pieces decimals
-    (size / unit) (size % unit) (decimal (size / unit)) (zero_padded decimals (size % unit))
-    (length-zero_padded decimals (size % unit) short)
-    (decimal_is_digits (size / unit) whole_small)
-    (zeros_are_digits (decimals - length (decimal (size % unit)))
-    (decimal (size % unit)) (decimal_is_digits (size % unit) rest_small))
-    (decimal_weighs (size / unit) whole_small)
-    (zeros_weigh_nothing (decimals - length (decimal (size % unit))) (decimal (size % unit))
-    ∙ decimal_weighs (size % unit) rest_small) in
+    let pieces = size_of_pieces decimals (size / unit) _ _ _ (length-zero_padded _ _ short)
+    (decimal_is_digits _ whole_small) (zeros_are_digits (decimals - length _) (decimal _)
+    (decimal_is_digits _ rest_small)) (decimal_weighs _ whole_small)
+    (zeros_weigh_nothing (decimals - length _) (decimal _) ∙ decimal_weighs _ rest_small) in
     pieces ∙ ap Some sum
 
 -- ---- the field
 
 pub without_first_blanks-text : (text : List ℕ) → get_or text 0 0 ≢ 32 → without_first_blanks text ≡ text
 without_first_blanks-text [] other = refl
-without_first_blanks-text (c ∷ cs) other =
-    let test : (c == 32) ≡ false = grind (arith, nat_tests) in
-    rw test refl
+without_first_blanks-text (c ∷ cs) other = grind arith
 
 pub without_first_blanks-blanks : (k : ℕ) (text : List ℕ)
     → get_or text 0 0 ≢ 32 → without_first_blanks (replicate k 32 ++ text) ≡ text
@@ -126,14 +112,12 @@ size_text_first decimals size small =
 
 -- a text after its blanks, in a field that it fills
 pub number_of-right_justified : (width decimals : ℕ) (text : List ℕ) (number : ℤ)
-    → length text ≤ width → 0 < length text → get_or text 0 0 ≢ 32 → decimal_number decimals text
-    ≡ Some number
-    → number_of width decimals (right_justified width text) ≡ Some (Some number)
+    → length text ≤ width → 0 < length text → get_or text 0 0 ≢ 32 → decimal_number decimals text ≡ Some
+    number → number_of width decimals (right_justified width text) ≡ Some (Some number)
 number_of-right_justified width decimals text number fits some other reads =
-    let filled : length (right_justified width text)
-    ≡ width = simp (length-append, length-replicate) (omega arith) in
-    number_of_width width decimals (right_justified width text) filled
-    ∙ (ap (missing_or_number decimals) (without_first_blanks-blanks (width - length text) text other)
+    let filled : length _ ≡ width = simp (length-append, length-replicate) (omega arith) in
+    number_of_width width _ _ filled
+    ∙ (ap (missing_or_number _) (without_first_blanks-blanks (width - length text) text other)
     ∙ (missing_or_number_text decimals text some ∙ ap (option_map Some) reads))
 
 pub number_of-number_text_plain : (width decimals size : ℕ)
@@ -161,11 +145,11 @@ number_of-number_text_minus width decimals less some room few small =
     let tiny : less + 1 < 2 ^ 64 = omega (arith, small, bound) in
     let fits = size_text_fits decimals (less + 1) (width - 1) some (omega (arith, room))
     (omega (arith, few)) small in
-    let text = 45 ∷ size_text decimals (less + 1) in
-    let negated : neg_ℤ (pos (less + 1)) ≡ negsuc less = omega (arith, ints) in
-    let reads : decimal_number decimals text ≡ Some (negsuc less) =
-    decimal_number_minus decimals text refl ∙ (ap (option_map (λ (n : ℕ). neg_ℤ (pos n)))
-    (size_of-size_text decimals (less + 1) some (omega arith) tiny) ∙ ap Some negated) in
+    let text = 45 ∷ size_text decimals _ in
+    let negated : neg_ℤ (pos _) ≡ negsuc less = omega (arith, ints) in
+    let reads =
+    decimal_number_minus _ text refl ∙ (ap (option_map (λ n. neg_ℤ (pos n)))
+    (size_of-size_text _ _ some (omega arith) tiny) ∙ ap Some negated) in
     number_of-right_justified width decimals text
     (negsuc less) (omega (arith, fits, room)) (omega arith) (omega arith) reads
 
@@ -175,8 +159,7 @@ unfolding number_text
 number_of-number_text_blank width decimals =
     let blank : without_first_blanks (replicate width 32) ≡ [] = ap without_first_blanks
     (sym (append-nil (replicate width 32))) ∙ without_first_blanks-blanks width [] (omega arith) in
-    number_of_width width decimals (replicate width 32) (length-replicate width 32)
-    ∙ ap (missing_or_number decimals) blank
+    number_of_width width _ _ (length-replicate width 32) ∙ ap (missing_or_number decimals) blank
 
 -- what is printed is read back, at any width
 pub number_of-number_text : (width decimals : ℕ) (value : Option ℤ) → 0 < decimals → decimals + 3 ≤ width

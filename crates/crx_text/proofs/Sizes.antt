@@ -1,31 +1,21 @@
 -- The spellings of a number without its sign: what reading them asks for.
 use Rattle.std.proofs.Common.{ℤ, pos, neg_ℤ, ◌≡◌, ℕ, ◌+◌, ◌-◌, ◌<◌, ◌≤◌, ◌^◌, Bool, true, false, ◌&&◌, ◌≢◌}
 use Rattle.std.proofs.Common.{if◌then◌else◌, nat_lt, ◌==◌, Option, Some, None, List, [], ◌∷◌, ◌++◌, length}
-use Rattle.std.proofs.Common.{drop, take, get_or, arith, refl, sym}
-use Rattle.std.proofs.lemmas.Bool.Decides.{nat_tests}
-use Rattle.std.proofs.lemmas.Int.{ints}
-use Rattle.std.proofs.Math.Nat.{pow-le-pow_right}
-use Rattle.std.specs.Option.{option_map}
-use Rattle.std.specs.Str.{all_ascii_digits}
-use Rattle.std.specs.Str.Parse.{digits_value, digits_value_after}
-use Rattle.crx_text.specs.meaning.Numbers.{size_of, decimal_number, missing_or_number, number_of}
-use Rattle.crx_text.specs.meaning.Numbers.{signed_number, IsWithin}
-use Rattle.crx_text.specs.meaning.Columns.{without_first_blanks}
+use Rattle.std.proofs.{Common.{drop, take, get_or, arith, refl, sym}, Math.Nat.pow-le-pow_right}
+use Rattle.std.{proofs.lemmas.{Bool.Decides.nat_tests, Int.ints}, specs.Option.option_map}
+use Rattle.std.specs.Str.{all_ascii_digits, Parse.{digits_value, digits_value_after}}
 use Rattle.crx_text.proofs.PowersOfTen.{ten_pow_pos, digits_value_after-append}
+use Rattle.crx_text.specs.meaning.{Columns.without_first_blanks, Numbers.{size_of, decimal_number}}
+use Rattle.crx_text.specs.meaning.Numbers.{missing_or_number, number_of, signed_number, IsWithin}
 
 pub size_of_short : (decimals : ℕ) (text : List ℕ) → length text ≤ decimals → size_of decimals text ≡ None
 unfolding size_of
-size_of_short decimals text short =
-    let test : nat_lt decimals (length text) ≡ false = grind (arith, nat_tests) in
-    rw test refl
+size_of_short decimals text short = grind arith
 
 pub size_of_pointless : (decimals point : ℕ) (text : List ℕ) → point ≡ length text - (decimals + 1)
     → decimals < length text → get_or text point 0 ≢ 46 → size_of decimals text ≡ None
 unfolding size_of
-size_of_pointless decimals point text at long other =
-    let test : nat_lt decimals (length text) ≡ true = grind (arith, nat_tests) in
-    let point_test : (get_or text point 0 == 46) ≡ false = grind (arith, nat_tests) in
-    rw (← at, test, point_test) refl
+size_of_pointless decimals point text at long other = grind arith
 
 pub size_of_parts : (decimals point : ℕ) (text : List ℕ)
     → point ≡ length text - (decimals + 1) → decimals < length text → get_or text point 0 ≡ 46 →
@@ -41,8 +31,7 @@ size_of_parts decimals point text at long dot =
     rw (← at, test, point_test, joined) refl
 
 -- a choice of two tests after the first one
-pub neither : (a b : Bool) (x y : ℕ)
-    → ◌≡◌ {A = Option ℕ} None (if a then Some x else None)
+pub neither : (a b : Bool) (x y : ℕ) → ◌≡◌ {A = Option ℕ} None (if a then Some x else None)
     → ◌≡◌ {A = Option ℕ} (if a && b then Some y else None) None
 neither true b x y e = absurd (cc)
 neither false b x y e = refl
@@ -58,23 +47,19 @@ first_passed false b x w f e = absurd (cc)
 pub decimal_number_plain : (decimals : ℕ) (text : List ℕ)
     → get_or text 0 0 ≢ 45 → decimal_number decimals text ≡ option_map pos (size_of decimals text)
 decimal_number_plain decimals [] other = refl
-decimal_number_plain decimals (c ∷ cs) other =
-    let test : (c == 45) ≡ false = grind (arith, nat_tests) in
-    rw test refl
+decimal_number_plain decimals (c ∷ cs) other = grind arith
 
 pub decimal_number_minus : (decimals : ℕ) (text : List ℕ) → get_or text 0 0 ≡ 45
     → decimal_number decimals text ≡ option_map (λ n. neg_ℤ (pos n)) (size_of decimals (drop 1 text))
 decimal_number_minus decimals [] minus = absurd (omega arith)
-decimal_number_minus decimals (c ∷ cs) minus =
-    let test : (c == 45) ≡ true = grind (arith, nat_tests) in
-    rw test refl
+decimal_number_minus decimals (c ∷ cs) minus = grind arith
 
 -- ---- the range
 
 -- digits of so many columns fit an i64
 pub size_fits : (size columns : ℕ) → columns ≤ 19 → size < 10 ^ (columns - 1) → size < 2 ^ 63
 size_fits size columns few small =
-    let power : 10 ^ (columns - 1) ≤ 10 ^ 18 = let few : columns - 1 ≤ 18 = omega arith in
+    let power = let few : columns - 1 ≤ 18 = omega arith in
     pow-le-pow_right {n = 10} (omega arith) few in
     omega (arith, small, power)
 
@@ -123,17 +108,13 @@ IsWithin_more columns width number fewer within =
 pub number_of_other_width : (width decimals : ℕ) (text : List ℕ)
     → length text ≢ width → number_of width decimals text ≡ None
 unfolding number_of
-number_of_other_width width decimals text other =
-    let test : (length text == width) ≡ false = grind (arith, nat_tests) in
-    rw test refl
+number_of_other_width width decimals text other = grind arith
 
 pub number_of_width : (width decimals : ℕ) (text : List ℕ)
     → length text ≡ width → number_of width decimals text
     ≡ missing_or_number decimals (without_first_blanks text)
 unfolding number_of
-number_of_width width decimals text same =
-    let test : (length text == width) ≡ true = grind (arith, nat_tests) in
-    rw test refl
+number_of_width width decimals text same = grind arith
 
 pub missing_or_number_blank : (decimals : ℕ) (text : List ℕ)
     → length text ≡ 0 → missing_or_number decimals text ≡ Some None

@@ -1,24 +1,19 @@
 -- The one printed spelling: its parts and how long they are.
 use Rattle.std.proofs.Common.{true, false, ℤ, pos, negsuc, Some, None, set, ◌≡◌, ℕ, suc, ◌+◌, ◌-◌, ◌*◌, ◌/◌}
 use Rattle.std.proofs.Common.{◌%◌, ◌<◌, ◌≤◌, ◌^◌, List, [], ◌∷◌, ◌++◌, length, drop, take, replicate, decimal}
-use Rattle.std.proofs.Common.{arith, refl, ap, sym, ◌∙◌}
-use Rattle.std.proofs.Math.Nat.{div-lt_iff_lt-mul, pow-le-pow_right}
-use Rattle.std.proofs.lemmas.Fmt.{length-decimal-le}
+use Rattle.std.proofs.{Common.{arith, refl, ap, sym, ◌∙◌}, Math.Nat.{div-lt_iff_lt-mul, pow-le-pow_right}}
+use Rattle.std.proofs.lemmas.{Bool.Decides.nat_tests, Fmt.length-decimal-le, Grind.replicate_next, Int.ints}
 use Rattle.std.proofs.lemmas.List.{length-append, length-replicate, take-append-drop, take-replicate}
-use Rattle.std.proofs.lemmas.List.{append_assoc, set_at}
-use Rattle.std.proofs.lemmas.Grind.{replicate_next}
-use Rattle.std.proofs.lemmas.Nat.{pow-add}
-use Rattle.std.proofs.lemmas.Int.{ints}
-use Rattle.std.proofs.lemmas.Bool.Decides.{nat_tests}
+use Rattle.std.proofs.lemmas.{List.{append_assoc, set_at}, Nat.pow-add}
 use lib.IntN.{nat_abs}
 use lib.Signed.{lt_z}
-use Rattle.crx_text.specs.meaning.Numbers.{zero_padded, size_text, number_text, IsWithin}
-use Rattle.crx_text.proofs.PowersOfTen.{ten_pow_pos}
+use Rattle.crx_text.{proofs.PowersOfTen.ten_pow_pos, specs.meaning.Numbers.{zero_padded, size_text}}
+use Rattle.crx_text.specs.meaning.Numbers.{number_text, IsWithin}
 
 pub ten_pow_small : (decimals : ℕ) → decimals < 19 → 10 ^ decimals < 2 ^ 64
 ten_pow_small decimals few =
     let within : decimals ≤ 18 = omega arith in
-    let power : 10 ^ decimals ≤ 10 ^ 18 = pow-le-pow_right {n = 10} (omega arith) within in
+    let power = pow-le-pow_right {n = 10} (omega arith) within in
     omega (arith, power)
 
 -- the digits after the point fit their places
@@ -35,16 +30,14 @@ pub length-zero_padded : (digits number : ℕ)
 length-zero_padded digits number fits =
     simp (length-append, length-replicate) (omega arith)
 
-pub length-size_text : (decimals size : ℕ) → 0 < decimals
-    → decimals < 19 → length (size_text decimals size)
+pub length-size_text : (decimals size : ℕ) → 0 < decimals → decimals < 19 → length (size_text decimals size)
     ≡ length (decimal (size / 10 ^ decimals)) + (decimals + 1)
 length-size_text decimals size some few =
-    let fraction = length-zero_padded decimals (size % 10 ^ decimals)
-    (fraction_short decimals size some few) in
+    let fraction = length-zero_padded decimals (size % 10 ^ decimals) (fraction_short decimals size some few)
+    in
     omega (
       arith,
-      length-append (decimal (size / 10 ^ decimals))
-          (46 ∷ zero_padded decimals (size % 10 ^ decimals)),
+      length-append (decimal (size / 10 ^ decimals)) (46 ∷ zero_padded decimals (size % 10 ^ decimals)),
       fraction,
     )
 
@@ -54,16 +47,15 @@ pub size_text_fits : (decimals size columns : ℕ) → 0 < decimals
     → length (size_text decimals size) ≤ columns
 size_text_fits decimals size columns some room few small =
     let digits : ℕ = columns - 1 - decimals in
-    let power : 10 ^ (columns - 1) ≡ 10 ^ digits * 10 ^ decimals =
+    let power =
     let sum : columns - 1 ≡ digits + decimals = omega arith in
-    ap (λ (n : ℕ). 10 ^ n) sum ∙ pow-add 10 digits decimals in
+    ap (λ n. 10 ^ n) sum ∙ pow-add 10 digits _ in
     let below : size < 10 ^ digits * 10 ^ decimals = rw (sym power) small in
-    let whole : size / 10 ^ decimals < 10 ^ digits =
-    (div-lt_iff_lt-mul {k = 10 ^ decimals} {x = size} {y = 10 ^ digits} (ten_pow_pos decimals)).1 below in
+    let whole : size / 10 ^ _ < 10 ^ digits =
+    (div-lt_iff_lt-mul {k = 10 ^ _} {x = size} {y = 10 ^ digits} (ten_pow_pos _)).1 below in
     let bound = ten_pow_small digits (omega arith) in
-    let short = length-decimal-le digits (size / 10 ^ decimals) (omega arith) whole
-    (omega (arith, whole, bound)) in
-    omega (arith, short, length-size_text decimals size some (omega arith))
+    let short = length-decimal-le digits (size / 10 ^ _) (omega arith) whole (omega (arith, whole, bound)) in
+    omega (arith, short, length-size_text _ size some (omega arith))
 
 -- ---- what the writes leave of a field of blanks
 
@@ -73,11 +65,11 @@ pub printed_plain : (width decimals size start : ℕ) (field : List ℕ)
     → field ≡ number_text width decimals (Some (pos size))
 unfolding number_text
 printed_plain width decimals size start field end written before =
-    let blanks : take start field ≡ replicate start 32 =
+    let blanks =
     before ∙ take-replicate start width 32 (omega arith) in
     let count : start ≡ width - length (size_text decimals size) = omega arith in
     sym (take-append-drop start field)
-    ∙ (rw (blanks, written) (ap (λ (n : ℕ). replicate n 32 ++ size_text decimals size) count))
+    ∙ (rw (blanks, written) (ap (λ n. replicate n 32 ++ size_text decimals size) count))
 
 pub printed_minus : (width decimals less start : ℕ) (field : List ℕ)
     → 1 ≤ start → start + length (size_text decimals (less + 1)) ≡ width
@@ -85,19 +77,17 @@ pub printed_minus : (width decimals less start : ℕ) (field : List ℕ)
     → set field (start - 1) 45 ≡ number_text width decimals (Some (negsuc less))
 unfolding number_text
 printed_minus width decimals less start field some end written before =
-    let blanks : take start field ≡ replicate start 32 =
+    let blanks =
     before ∙ take-replicate start width 32 (omega arith) in
-    let last : replicate {A = ℕ} start 32 ≡ replicate (start - 1) 32 ++ 32 ∷ [] =
+    let last =
     let sum : start ≡ start - 1 + 1 = omega arith in
-    ap (λ (n : ℕ). replicate {A = ℕ} n 32) sum ∙ replicate_next {X = ℕ} (start - 1) 32 in
+    ap (λ n. replicate {A = ℕ} n 32) sum ∙ replicate_next {X = ℕ} (start - 1) 32 in
     let parts : field ≡ replicate (start - 1) 32 ++ 32 ∷ size_text decimals (less + 1) =
     sym (take-append-drop start field) ∙ (rw (blanks, written, last)
-    (append_assoc (replicate (start - 1) 32) (32 ∷ []) (size_text decimals (less + 1)))) in
-    let count : start - 1 ≡ width - suc (length (size_text decimals (less + 1))) = omega arith in
-    ap (λ (f : List ℕ). set f (start - 1) 45) parts
-    ∙ (set_at (replicate (start - 1) 32) 32
-    (size_text decimals (less + 1)) 45 (start - 1) (length-replicate (start - 1) 32)
-    ∙ ap (λ (n : ℕ). replicate n 32 ++ 45 ∷ size_text decimals (less + 1)) count)
+    (append_assoc (replicate (start - 1) 32) (32 ∷ []) (size_text _ _))) in
+    let count : start - 1 ≡ width - suc (length _) = omega arith in
+    ap (λ f. set f (start - 1) 45) parts ∙ (set_at _ 32 _ 45 _ (length-replicate _ 32) ∙ ap
+    (λ n. replicate n 32 ++ 45 ∷ size_text decimals (less + 1)) count)
 
 -- ---- a number of either sign
 
@@ -105,16 +95,13 @@ pub abs_within : (width : ℕ) (number : ℤ) → IsWithin width number → nat_
 abs_within width (pos n) within = omega (arith, ints, within.high)
 abs_within width (negsuc n) within =
     let fewer : width - 2 ≤ width - 1 = omega arith in
-    let power : 10 ^ (width - 2) ≤ 10 ^ (width - 1) = pow-le-pow_right {n = 10} (omega arith) fewer in
+    let power = pow-le-pow_right {n = 10} (omega arith) fewer in
     omega (arith, ints, within.low, power)
 
 pub abs_within_below : (width : ℕ) (number : ℤ)
     → lt_z number (pos 0) ≡ true → IsWithin width number → nat_abs number < 10 ^ (width - 1 - 1)
 abs_within_below width (pos n) below within = absurd (grind (arith, nat_tests))
-abs_within_below width (negsuc n) below within =
-    let same : width - 2 ≡ width - 1 - 1 = omega arith in
-    let small : nat_abs (negsuc n) < 10 ^ (width - 2) = omega (arith, ints, within.low) in
-    rw (sym same) small
+abs_within_below width (negsuc n) below within = grind arith
 
 -- a number as it is held, and what was printed of its size
 pub printed_number : (width decimals start size : ℕ) (held number : ℤ) (field : List ℕ) → held ≡ number
@@ -122,11 +109,9 @@ pub printed_number : (width decimals start size : ℕ) (held number : ℤ) (fiel
     → drop start field ≡ size_text decimals size → take start field ≡ take start (replicate width 32)
     → field ≡ number_text width decimals (Some number)
 printed_number width decimals start size held (pos n) field same plain is end written before =
-    let size_is : size ≡ n = is ∙ ap nat_abs same in
-    printed_plain width decimals n start field (rw size_is at end) (rw size_is at written) before
-printed_number width decimals start size held (negsuc n) field same plain is end written before =
-    let not_below : lt_z (negsuc n) (pos 0) ≡ false =
-    ap (λ z. lt_z z (pos 0)) (sym same) ∙ plain in absurd (cc)
+    let size_is = is ∙ ap nat_abs same in
+    printed_plain width _ n start field (rw size_is at end) (rw size_is at written) before
+printed_number width decimals start size held (negsuc n) field same plain is end written before = grind arith
 
 pub printed_number_below : (width decimals start size : ℕ) (held number : ℤ) (field : List ℕ) → held ≡ number
     → lt_z held (pos 0) ≡ true → size ≡ nat_abs held → 1 ≤ start
@@ -134,11 +119,10 @@ pub printed_number_below : (width decimals start size : ℕ) (held number : ℤ)
     → drop start field ≡ size_text decimals size → take start field ≡ take start (replicate width 32)
     → set field (start - 1) 45 ≡ number_text width decimals (Some number)
 printed_number_below width decimals start size held (pos n) field same below is some end written before =
-    let is_below : lt_z (pos n) (pos 0) ≡ true = ap (λ z. lt_z z (pos 0)) (sym same) ∙ below in
-    absurd (grind (arith, nat_tests))
+    grind arith
 printed_number_below width decimals start size held (negsuc n) field same below is some end written before =
     let more : size ≡ n + 1 = omega (arith, is ∙ ap nat_abs same) in
-    printed_minus width decimals n start field some (rw more at end) (rw more at written) before
+    printed_minus width _ n start field some (rw more at end) (rw more at written) before
 
 pub printed_blank : (width decimals : ℕ) → replicate width 32 ≡ number_text width decimals None
 unfolding number_text

@@ -1,12 +1,10 @@
 -- The two ends of a text, which are the whole of it where they meet, and what a rule makes of them.
 use Rattle.std.proofs.Common.{ℕ, ◌≡◌, ◌+◌, ◌-◌, ◌≤◌, List, ◌++◌, length, drop, take, arith, ap, sym, ◌∙◌}
 use Rattle.std.proofs.lemmas.List.{append_assoc, drop_at, length-append, length-drop, length-take-le}
-use Rattle.std.proofs.lemmas.List.{take_all, take_at}
-use Rattle.std.proofs.lemmas.Simd.{length-chunk, length-zip2, pick_l_whole, pick_l-range_with_len}
-use Rattle.std.specs.List.{range_with_len}
-use Rattle.std.specs.Simd.Lanes.{zip2, chunk, pick_l, put_chunk}
-use Rattle.crx_text.proofs.CopiedTexts.{copied_ends}
-use Rattle.crx_text.proofs.LaneTexts.{zip2-append, zip2-take, zip2-drop}
+use Rattle.std.proofs.lemmas.{List.{take_all, take_at}, Simd.{length-chunk, length-zip2, pick_l_whole}}
+use Rattle.std.{proofs.lemmas.Simd.pick_l-range_with_len, specs.{List.range_with_len, Simd.Lanes.zip2}}
+use Rattle.std.specs.Simd.Lanes.{chunk, pick_l, put_chunk}
+use Rattle.crx_text.proofs.{CopiedTexts.copied_ends, LaneTexts.{zip2-append, zip2-take, zip2-drop}}
 
 abbrev pub ends : ℕ → List ℕ → List ℕ
 ends n text = take n text ++ drop (length text - n) text
@@ -15,14 +13,14 @@ pub eight_ends : (text : List ℕ) → 8 ≤ length text
     → pick_l 0 (take 8 text ++ chunk (length text - 8) 8 text) (range_with_len 0 16) ≡ ends 8 text
 eight_ends text long =
     let m : ℕ = length text - 8 in
-    let loaded : length (take 8 text ++ chunk m 8 text) ≡ 16 = omega (
+    let loaded : length _ ≡ 16 = omega (
       arith,
       length-append (take 8 text) (chunk m 8 text),
       length-take-le 8 text long,
       length-chunk m 8 text (omega (arith, long)),
     ) in
-    pick_l_whole 0 (take 8 text ++ chunk m 8 text) 16 loaded
-    ∙ ap (λ (t : List ℕ). take 8 text ++ t) (take_all 8 (drop m text) (omega (arith, length-drop m text)))
+    pick_l_whole 0 _ 16 loaded
+    ∙ ap (λ t. take 8 text ++ t) (take_all 8 (drop m text) (omega (arith, length-drop m text)))
 
 -- ---- a rule
 

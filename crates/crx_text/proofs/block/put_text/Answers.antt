@@ -7,10 +7,9 @@ rest : (bytes part text : List ℕ) (start : ℕ) → part ≡ text → start + 
     → drop (start + length text) (put_mid start (start + length text - start) bytes part)
     ≡ drop (start + length text) bytes
 rest bytes part text start is room =
-    drop-put_mid start (start + length text - start) bytes part (start + length text) (omega (arith))
-    (omega (arith, room)) (ap (λ (t : List ℕ). length t) is ∙ omega (arith))
+    drop-put_mid start _ bytes part _ (omega (arith))
+    (omega (arith, room)) (ap (λ t. length t) is ∙ omega (arith))
 
 pub returns-clause-rest : goal.returns-clause-rest
 returns-clause-rest c =
-    rest c.args.bytes.now c.copy_from_slice.new.self
-    c.args.text.now c.args.start c.copy_from_slice.ensures.after c.requires
+    rest _ _ _ _ c.copy_from_slice.ensures.after c.requires

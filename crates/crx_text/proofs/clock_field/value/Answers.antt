@@ -3,8 +3,7 @@ use Rattle.std.proofs.lemmas.Int.{to_z-of_z}
 use lib.Lanes.{Each1}
 use mir.Val.{SFits}
 use Rattle.crx_text.proofs.ClockColumns.{clock_range, digit_row, fraction_digits, fraction_small}
-use Rattle.crx_text.proofs.ClockColumns.{fraction_value, decimal_columns}
-use Rattle.crx_text.proofs.DigitRows.{pairs_small}
+use Rattle.crx_text.proofs.{ClockColumns.{fraction_value, decimal_columns}, DigitRows.pairs_small}
 use Rattle.crx_text.specs.declared.field.TheConstants.{WEIGHTS}
 use Rattle.crx_text.proofs.clock_field.value.Goals as goal
 

@@ -11,8 +11,7 @@ returns c =
     let before = λ (f : List ℕ). set (set (set f 0 32) 1 (48 + size / 10 ^ 12)) 2 46 in
     let text = λ (d : List ℕ). plus (pick_l 0 (d ++ d)
     (6 ∷ 5 ∷ 4 ∷ 2 ∷ 1 ∷ 0 ∷ 14 ∷ 13 ∷ 12 ∷ 10 ∷ 9 ∷ 8 ∷ 3 ∷ 3 ∷ 3 ∷ 3 ∷ [])) (replicate 16 48) in
-    let lanes : List ℕ = fraction_lanes size c.requires.small in
-    ap (λ (d : List ℕ). before (stored (text d) field))
-    c.digits-digits.ensures
-    ∙ ap before (stored_fraction lanes field refl c.requires.width)
-    ∙ clock_written size c.requires.small field c.requires.width
+    let lanes = fraction_lanes size c.requires.small in
+    ap (λ d. before (stored (text d) field)) c.digits-digits.ensures ∙ ap before
+    (stored_fraction lanes field refl c.requires.width) ∙ clock_written size c.requires.small field
+    c.requires.width

@@ -1,9 +1,6 @@
-use Rattle.std.proofs.Common.{ap, sym, ◌∙◌}
-use Rattle.std.proofs.lemmas.Result.{err_from_is_err_and}
-use Rattle.std.specs.Option.{option_map}
+use Rattle.std.{proofs.{Common.{ap, sym, ◌∙◌}, lemmas.Result.err_from_is_err_and}, specs.Option.option_map}
 use Rattle.std.specs.Result.{result_ok}
-use Rattle.crx_text.specs.meaning.Codes.{code_of}
-use Rattle.crx_text.proofs.CellNumbers.{no_code_with_blank, one_cell}
+use Rattle.crx_text.{proofs.CellNumbers.{no_code_with_blank, one_cell}, specs.meaning.Codes.code_of}
 use Rattle.crx_text.proofs.code.code_read.Goals as goal
 
 pub returns-then-contains-clause-value : goal.returns-then-contains-clause-value

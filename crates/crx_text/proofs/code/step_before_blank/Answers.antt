@@ -1,13 +1,9 @@
-use Rattle.std.proofs.Common.{◌≡◌, ℕ, List, Bool, Some, rules, w64, ap, ◌∙◌}
-use Rattle.std.proofs.lemmas.Int.{to_z-of_z}
-use Rattle.std.specs.Option.{option_map}
-use Rattle.std.specs.Str.Parse.{starts_with_minus}
+use Rattle.std.proofs.{Common.{◌≡◌, ℕ, List, Bool, Some, rules, w64, ap, ◌∙◌}, lemmas.Int.to_z-of_z}
+use Rattle.std.specs.{Option.option_map, Str.Parse.starts_with_minus}
 use mir.Val.{SFits}
-use Rattle.crx_text.specs.meaning.Codes.{code_of, coded_number, first_cell}
+use Rattle.crx_text.{proofs.CellNumbers.{coded_number-cell, code_of-number}, specs.Codes.counted_digits}
+use Rattle.crx_text.specs.{declared.code.Code.TheVariants.Step, meaning.Codes.{code_of, first_cell}}
 use Rattle.crx_text.specs.meaning.Numbers.{signed_number, without_minus}
-use Rattle.crx_text.specs.Codes.{counted_digits}
-use Rattle.crx_text.specs.declared.code.Code.TheVariants.{Step}
-use Rattle.crx_text.proofs.CellNumbers.{coded_number-cell, code_of-number}
 use Rattle.crx_text.proofs.code.step_before_blank.Goals as goal
 
 -- the code whose digits were read
@@ -15,14 +11,13 @@ step_is : (text digits : List ℕ) (is_below : Bool) (size : ℕ) → is_below �
     → digits ≡ without_minus text → counted_digits (first_cell digits) ≡ Some size
     → code_of (first_cell text) ≡ Some (Step (signed_number is_below size))
 step_is text digits is_below size sign rest counted =
-    let read : coded_number (first_cell text) ≡ Some (signed_number (starts_with_minus text) size) =
-    coded_number-cell text digits rest ∙ ap (option_map (signed_number (starts_with_minus text))) counted in
-    rw sign (code_of-number (first_cell text) (signed_number (starts_with_minus text) size) read)
+    let read =
+    coded_number-cell text digits rest ∙ ap (option_map _) counted in
+    rw sign (code_of-number _ _ read)
 
 pub returns-clause-value : goal.returns-clause-value
 returns-clause-value c =
     let fits : SFits w64 c.signed.result = search rules in
     let split = c.split_minus-is_below in
-    rw (to_z-of_z w64 c.signed.result fits, c.signed.ensures)
-    (step_is c.args.line.now split.result.1.now split.result.0 c.in_ok-size.size split.ensures.sign
+    rw (to_z-of_z w64 _ fits, c.signed.ensures) (step_is c.args.line.now _ _ _ split.ensures.sign
     split.ensures.rest c.in_ok-size.ensures.value)

@@ -1,5 +1,4 @@
-use Rattle.std.proofs.Common.{ℕ, get_or, ap, sym, ◌∙◌, arith}
-use Rattle.std.specs.Char.{is_ascii_digit}
+use Rattle.std.{proofs.Common.{get_or, ap, sym, ◌∙◌, arith}, specs.Char.is_ascii_digit}
 use Rattle.crx_text.proofs.CellNumbers.{no_first_digit}
 use Rattle.crx_text.proofs.code_digits.digits_before_blank.Goals as goal
 
@@ -8,6 +7,5 @@ returns-then-count-eq0-clause-value c =
     let text = c.args.text.now in
     let read = c.first_digits-size.ensures in
     let none = c.if-count-eq0.true in
-    sym (no_first_digit text (λ some.
-    ap (λ (i : ℕ). is_ascii_digit (get_or text i 0)) (sym none)
-    ∙ read.stops (omega (arith, none)) (omega (arith, none, some))))
+    sym (no_first_digit text (λ some. ap (λ i. is_ascii_digit (get_or text i 0)) (sym none) ∙ read.stops
+    (omega (arith, none)) (omega (arith, none, some))))

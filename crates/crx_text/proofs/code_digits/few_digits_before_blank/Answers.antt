@@ -1,8 +1,5 @@
-use Rattle.std.proofs.Common.{◌≡◌, ◌-◌, ◌++◌, ℕ, List, length, length-append, take, drop, replicate, ap, ◌∙◌}
-use Rattle.std.proofs.Common.{arith}
-use Rattle.std.proofs.lemmas.List.{drop-replicate, length-replicate, take_all}
-use Rattle.std.specs.Char.{is_ascii_digit}
-use Rattle.std.specs.List.{prefix_len}
+use Rattle.std.proofs.Common.{◌≡◌, ◌-◌, ◌++◌, ℕ, length, length-append, take, drop, replicate, ap, ◌∙◌, arith}
+use Rattle.std.{proofs.lemmas.List.{drop-replicate, length-replicate, take_all}, specs.List.prefix_len}
 use Rattle.std.specs.Str.Parse.{digits_value}
 use Rattle.crx_text.proofs.DigitRows.{few_digits_of, first_digits_of}
 use Rattle.crx_text.proofs.code_digits.few_digits_before_blank.Goals as goal
@@ -10,9 +7,8 @@ use Rattle.crx_text.proofs.code_digits.few_digits_before_blank.Goals as goal
 pub ended_digits-requires-clause-digits : goal.ended_digits-requires-clause-digits
 ended_digits-requires-clause-digits c =
     let read = c.in_ok-size in
-    first_digits_of c.args.text.now read.size read.count
-    (omega (arith, read.ensures.few)) c.if-text-ge-ROW.true
-    read.ensures.count read.ensures.size
+    first_digits_of _ _ _ (omega (arith, read.ensures.few)) c.if-text-ge-ROW.true read.ensures.count
+    read.ensures.size
 
 pub ended_digits-requires-2-clause-digits : goal.ended_digits-requires-2-clause-digits
 ended_digits-requires-2-clause-digits c =
@@ -26,8 +22,8 @@ ended_digits-requires-2-clause-digits c =
       c.if-text-ge-ROW.false,
     ) in
     let row : take 8 (c.copy_text.new.to ++ drop (length text) (replicate 8 0)) ≡ text ++ replicate more 0 =
-    ap (λ (t : List ℕ). take 8 (t ++ drop (length text) (replicate 8 0))) c.copy_text.ensures.copied
-    ∙ ap (λ (t : List ℕ). take 8 (text ++ t)) (drop-replicate (length text) 8 0)
+    ap (λ t. take 8 (t ++ drop (length text) (replicate 8 0))) c.copy_text.ensures.copied
+    ∙ ap (λ t. take 8 (text ++ t)) (drop-replicate (length text) 8 0)
     ∙ take_all 8 (text ++ replicate more 0) (omega (arith, long)) in
-    few_digits_of text more read.size read.count (read.ensures.count ∙ ap (prefix_len is_ascii_digit) row)
-    c.if-text-ge-ROW.false (read.ensures.size ∙ ap (λ (t : List ℕ). digits_value 10 (take read.count t)) row)
+    few_digits_of text more _ _ (read.ensures.count ∙ ap (prefix_len _) row)
+    c.if-text-ge-ROW.false (read.ensures.size ∙ ap (λ t. digits_value 10 (take read.count t)) row)

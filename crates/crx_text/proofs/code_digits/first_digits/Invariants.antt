@@ -1,5 +1,4 @@
-use Rattle.std.proofs.Common.{◌≡◌, ◌+◌, ◌-◌, ◌<◌, ◌≤◌, ◌^◌, length, drop}
-use Rattle.std.specs.Str.{all_ascii_digits}
+use Rattle.std.{proofs.Common.{◌≡◌, ◌+◌, ◌-◌, ◌<◌, ◌≤◌, ◌^◌, length, drop}, specs.Str.all_ascii_digits}
 use Rattle.std.specs.Str.Parse.{digits_value_after}
 use Rattle.crx_text.specs.meaning.Codes.{after_cell, first_cell}
 use Rattle.crx_base.specs.declared.limits.TheConstants.{DIGITS_LIMIT}

@@ -1,6 +1,5 @@
-use Rattle.std.proofs.Common.{◌-◌, ◌*◌, ◌/◌, ◌%◌, ◌^◌, ◌≡◌, refl, arith}
-use Rattle.std.proofs.lemmas.Nat.{le_bytes_4}
-use Rattle.crx_text.proofs.DigitPairs.{PAIRS_at, four, four_small}
+use Rattle.std.proofs.{Common.{◌-◌, ◌*◌, ◌/◌, ◌%◌, ◌^◌, ◌≡◌, refl, arith}, lemmas.Nat.le_bytes_4}
+use Rattle.crx_text.proofs.DigitPairs.{PAIRS_at, four_small}
 use Rattle.crx_text.proofs.code_digits.four_digits.Goals as goal
 
 pub returns : goal.returns
@@ -10,4 +9,4 @@ returns c =
     let first = PAIRS_at (c.args.size / 100) (omega (arith, c.requires)) in
     let last = PAIRS_at (c.args.size - c.args.size / 100 * 100) (omega arith) in
     let read = rw (high, first.0, first.1, last.0, last.1, low) at c.from_le_bytes.ensures in
-    le_bytes_4 (four c.args.size) _ refl (λ i. four_small c.args.size i c.requires) read
+    le_bytes_4 _ _ refl (λ i. four_small _ i c.requires) read

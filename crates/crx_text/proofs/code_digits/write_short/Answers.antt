@@ -7,16 +7,15 @@ use Rattle.crx_text.proofs.code_digits.write_short.Goals as goal
 
 pub overflow_shr-columns : goal.overflow_shr-columns
 overflow_shr-columns c =
-    let zeros = zeros_found c.args.size c.four_digits-columns.result c.requires.small
+    let zeros = zeros_found _ _ c.requires.small
     c.four_digits-columns.type_inv c.four_digits-columns.ensures in
     rw c.from_le_bytes.ensures (omega (arith, zeros, few_zeros c.args.size))
 
 pub returns-clause-within : goal.returns-clause-within
 returns-clause-within c =
-    let zeros = zeros_found c.args.size c.four_digits-columns.result c.requires.small
-    c.four_digits-columns.type_inv c.four_digits-columns.ensures in
-    rw c.from_le_bytes.ensures
-    (omega (arith, zeros, few_zeros c.args.size, zeros_counted c.args.size c.requires.small))
+    let zeros = zeros_found _ _ c.requires.small c.four_digits-columns.type_inv c.four_digits-columns.ensures
+    in
+    rw c.from_le_bytes.ensures (omega (arith, zeros, few_zeros c.args.size, zeros_counted _ c.requires.small))
 
 pub returns-clause-written : goal.returns-clause-written
 returns-clause-written c =
@@ -29,9 +28,8 @@ returns-clause-written c =
     let fits : word < 2 ^ 32 = search rules in
     let end : c.args.at + 4 - z ≡ c.args.at + (4 - z) = omega (arith, zeros, few) in
     rw end (
-    first_written c.args.buffer.now c.write_word.new.buffer _ c.args.at 4
-    (4 - z) (omega (arith, c.requires.room)) (omega arith) c.write_word.ensures
-    ∙ ap (λ (t : List ℕ). take c.args.at c.args.buffer.now ++ t) (
-    bytes_shifted word z (omega (arith, zeros, few)) fits
-    ∙ ap (drop z) c.four_digits-columns.ensures
+    first_written c.args.buffer.now c.write_word.new.buffer _ c.args.at 4 (4 - z)
+    (omega (arith, c.requires.room)) (omega arith) c.write_word.ensures ∙ ap
+    (λ (t : List ℕ). take c.args.at c.args.buffer.now ++ t) (
+    bytes_shifted word z (omega (arith, zeros, few)) fits ∙ ap (drop z) c.four_digits-columns.ensures
     ∙ digits_last c.args.size z small (omega (arith, zeros, zeros_counted c.args.size small))))

@@ -1,5 +1,4 @@
-use Rattle.std.proofs.Common.{ap, ◌-◌, arith, drop, length}
-use Rattle.std.proofs.lemmas.List.{length-take}
+use Rattle.std.proofs.{Common.{ap, ◌-◌, arith, drop, length}, lemmas.List.length-take}
 use Rattle.crx_text.proofs.EndBlanks.{few_kept}
 use Rattle.crx_text.proofs.columns.trimmed.Goals as goal
 
@@ -14,6 +13,5 @@ returns-clause-within c =
       few_kept c.trim_start.result.now,
       shorter,
       inside,
-      length-take c.args.width
-          (drop (c.args.first - 1) c.args.line.now),
+      length-take c.args.width (drop (c.args.first - 1) c.args.line.now),
     )

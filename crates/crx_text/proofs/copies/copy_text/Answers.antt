@@ -1,16 +1,15 @@
 use Rattle.std.proofs.Common.{◌≡◌, ◌+◌, ◌-◌, ◌≤◌, ◌++◌, ℕ, List, length, take, arith, ◌∙◌}
 use Rattle.std.proofs.lemmas.Simd.{length-chunk, length-put_chunk, take_more_put_chunk}
 use Rattle.std.specs.Simd.Lanes.{chunk, put_chunk}
-use Rattle.crx_text.proofs.CopiedTexts.{copied_ends}
-use Rattle.crx_text.proofs.LaneTexts.{piece_written, last_written}
+use Rattle.crx_text.proofs.{CopiedTexts.copied_ends, LaneTexts.{piece_written, last_written}}
 use Rattle.crx_text.proofs.copies.copy_text.Goals as goal
 
 -- one vector more
 copied_more : (i : ℕ) (from to : List ℕ) → i + 16 ≤ length from → length to ≡ length from
     → take (i + 16) (put_chunk i to (chunk i 16 from)) ≡ take i to ++ chunk i 16 from
 copied_more i from to room same =
-    let long : length (chunk i 16 from) ≡ 16 = length-chunk i 16 from room in
-    take_more_put_chunk i to (chunk i 16 from) (i + 16) (omega (arith, long)) (omega (arith, room, same))
+    let long = length-chunk i 16 from room in
+    take_more_put_chunk i to _ (i + 16) (omega (arith, long)) (omega (arith, room, same))
 
 pub loop-at-preserved : goal.loop-at-preserved
 loop-at-preserved c =
@@ -18,9 +17,9 @@ loop-at-preserved c =
     let from = c.args.from.now in
     let same = c.loop-at.invariant.1 in (
       omega (arith, c.loop-at-test.true),
-      length-put_chunk i c.loop-at.to (chunk i 16 from) ∙ same,
-      piece_written i 16 from c.loop-at.to _ c.loop-at.invariant.2
-          (copied_more i from c.loop-at.to (omega (arith, c.loop-at-test.true)) same),
+      length-put_chunk i _ _ ∙ same,
+      piece_written i 16 from _ _ c.loop-at.invariant.2
+          (copied_more i from _ (omega (arith, c.loop-at-test.true)) same),
     )
 
 pub returns-then-count-ge-LANES : goal.returns-then-count-ge-LANES
@@ -30,10 +29,9 @@ returns-then-count-ge-LANES c =
     let m : ℕ = length from - 16 in
     record {
       copied =
-          last_written m 16 c.loop-at.at from c.loop-at.to _ (omega (arith, c.if-count-ge-LANES.true))
-          (omega (arith, c.loop-at-test.false)) c.loop-at.invariant.2
-          (length-put_chunk m c.loop-at.to (chunk m 16 from) ∙ same)
-          (copied_more m from c.loop-at.to (omega (arith, c.if-count-ge-LANES.true)) same);
+          last_written m 16 _ from _ _ (omega (arith, c.if-count-ge-LANES.true))
+          (omega (arith, c.loop-at-test.false)) c.loop-at.invariant.2 (length-put_chunk m _ _ ∙ same)
+          (copied_more m from _ (omega (arith, c.if-count-ge-LANES.true)) same);
     }
 
 pub returns-then-count-ge8 : goal.returns-then-count-ge8

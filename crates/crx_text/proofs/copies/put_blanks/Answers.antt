@@ -1,5 +1,4 @@
-use Rattle.std.proofs.Common.{ℕ, length, ◌∙◌}
-use Rattle.std.proofs.lemmas.List.{take-replicate}
+use Rattle.std.proofs.{Common.{ℕ, length, ◌∙◌}, lemmas.List.take-replicate}
 use Rattle.crx_base.specs.declared.limits.TheConstants.{LINE_LIMIT}
 use Rattle.crx_text.proofs.copies.put_blanks.Goals as goal
 

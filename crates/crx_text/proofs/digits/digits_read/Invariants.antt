@@ -1,5 +1,4 @@
-use Rattle.std.proofs.Common.{◌≡◌, ◌+◌, ◌-◌, ◌*◌, ◌≤◌, ◌^◌, length, drop}
-use Rattle.std.specs.Str.{all_ascii_digits}
+use Rattle.std.{proofs.Common.{◌≡◌, ◌+◌, ◌-◌, ◌*◌, ◌≤◌, ◌^◌, length, drop}, specs.Str.all_ascii_digits}
 use Rattle.std.specs.Str.Parse.{digits_value_after}
 use Rattle.crx_text.proofs.digits.digits_read.Given as goal
 

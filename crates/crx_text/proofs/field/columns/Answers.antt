@@ -4,5 +4,5 @@ use Rattle.crx_text.proofs.field.columns.Goals as goal
 
 pub returns : goal.returns
 returns c =
-    let whole = fourteen c.args.field.now c.requires in
+    let whole = fourteen _ c.requires in
     rw whole refl

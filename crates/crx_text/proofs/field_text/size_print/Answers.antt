@@ -1,15 +1,12 @@
 use Rattle.std.proofs.Common.{◌≡◌, ◌+◌, ◌-◌, ◌/◌, ◌%◌, ◌^◌, ◌≤◌, ◌++◌, ◌∷◌, [], ℕ, List, length, replicate}
-use Rattle.std.proofs.Common.{take, drop, ap, refl, sym, ◌∙◌, arith}
-use Rattle.std.proofs.lemmas.List.{length-drop, length-take}
+use Rattle.std.proofs.{Common.{take, drop, ap, refl, sym, ◌∙◌, arith}, lemmas.List.{length-drop, length-take}}
 use Rattle.std.proofs.lemmas.Simd.{length-chunk, length-zip2, put_chunk_whole}
 use lib.Count.{count_trailing_zeros}
 use lib.Lanes.{chunk, mask_l, pick_l}
-use Rattle.crx_text.specs.FieldTexts.{group_digits}
-use Rattle.crx_text.specs.declared.field_text.TheConstants.{BASES}
-use Rattle.crx_text.proofs.PrintedDigits.{leading_zeros, zeros_few}
-use Rattle.crx_text.proofs.PrintedLanes.{base_row, begin_is, begin_lanes}
-use Rattle.crx_text.proofs.PrintedTexts.{nine_in, plus, row_of, three_in, text_length, text_before}
-use Rattle.crx_text.proofs.PrintedTexts.{text_written}
+use Rattle.crx_text.proofs.{PrintedDigits.{leading_zeros, zeros_few}, PrintedLanes.{base_row, begin_is}}
+use Rattle.crx_text.proofs.{PrintedLanes.begin_lanes, PrintedTexts.{nine_in, plus, row_of, three_in}}
+use Rattle.crx_text.proofs.PrintedTexts.{text_length, text_before, text_written}
+use Rattle.crx_text.specs.{FieldTexts.group_digits, declared.field_text.TheConstants.BASES}
 use Rattle.crx_text.proofs.field_text.size_print.Goals as goal
 
 -- the columns of digits, where the number begins in them, and what is added to them
@@ -36,7 +33,7 @@ module _ (size : ℕ) (digits : List ℕ) (is : digits ≡ group_digits (size / 
 
 pub overflow_sub-text : goal.overflow_sub-text
 overflow_sub-text c =
-    let few = start_few c.args.size c.digits.result c.digits.ensures in
+    let few = start_few _ _ c.digits.ensures in
     omega (arith, few)
 
 pub returns : goal.returns

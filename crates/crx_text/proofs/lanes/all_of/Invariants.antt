@@ -1,5 +1,4 @@
-use Rattle.std.proofs.Common.{◌≡◌, ◌≤◌, ◌-◌, eqb, length, take, drop}
-use Rattle.std.specs.List.{list_all}
+use Rattle.std.{proofs.Common.{◌≡◌, ◌≤◌, ◌-◌, eqb, length, take, drop}, specs.List.list_all}
 use Rattle.crx_text.proofs.lanes.all_of.Given as goal
 
 -- no lane is set where all characters that were passed are of the kind

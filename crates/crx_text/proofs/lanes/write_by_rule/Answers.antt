@@ -1,9 +1,7 @@
-use Rattle.std.proofs.Common.{◌≡◌, ◌-◌, ◌∷◌, [], ◌++◌, ℕ, List, get_or, length, ap, sym, ◌∙◌, arith}
-use Rattle.std.proofs.lemmas.List.{take_all, take_more, take_more_set, length-set}
-use Rattle.std.proofs.lemmas.Simd.{get_or-zip2, length-zip2}
+use Rattle.std.proofs.{Common.{◌≡◌, ◌∷◌, [], ◌++◌, get_or, ap, sym, ◌∙◌, arith}, lemmas.List.take_all}
+use Rattle.std.proofs.lemmas.{List.{take_more, take_more_set, length-set}, Simd.{get_or-zip2, length-zip2}}
 use Rattle.std.specs.Simd.Lanes.{zip2}
-use Rattle.crx_text.proofs.LaneTexts.{piece_written, last_written}
-use Rattle.crx_text.proofs.TextEnds.{ends, stored_ends}
+use Rattle.crx_text.proofs.{LaneTexts.{piece_written, last_written}, TextEnds.{ends, stored_ends}}
 use Rattle.crx_text.proofs.lanes.write_by_rule.Goals as goal
 
 pub loop-at-preserved : goal.loop-at-preserved
@@ -16,20 +14,20 @@ loop-at-preserved g c = (
 
 pub returns-then-count-ge-LANES : goal.returns-then-count-ge-LANES
 returns-then-count-ge-LANES g c =
-    let whole : List ℕ = zip2 g.R.Rule.rule c.args.old.now c.args.other.now in
-    let all = length-zip2 g.R.Rule.rule c.args.old.now c.args.other.now (sym c.requires.0) in
-    last_written (length c.args.old.now - 16) 16 c.loop-at.at whole c.loop-at.out c.write_lanes-then-count-ge-LANES.new.out
+    let whole = zip2 _ _ _ in
+    let all = length-zip2 _ _ _ (sym c.requires.0) in
+    last_written _ 16 _ whole _ _
     (omega (arith, all, c.if-count-ge-LANES.true)) (omega (arith, c.loop-at-test.false)) c.loop-at.invariant.2
-    (c.write_lanes-then-count-ge-LANES.ensures.long ∙ c.loop-at.invariant.1 ∙ sym all) c.write_lanes-then-count-ge-LANES.ensures.written
+    (c.write_lanes-then-count-ge-LANES.ensures.long ∙ c.loop-at.invariant.1 ∙ sym all)
+    c.write_lanes-then-count-ge-LANES.ensures.written
 
 pub returns-then-count-ge8 : goal.returns-then-count-ge8
 returns-then-count-ge8 g c =
     let rule = g.R.Rule.rule in
-    stored_ends rule 8 c.args.old.now c.args.other.now c.args.out.now c.if-count-ge8.true
-    (omega (arith, c.if-count-ge-LANES.false)) c.requires.0 c.requires.1 c.apply_to-made.result
-    (c.apply_to-made.ensures.value
-    ∙ (ap (λ (t : List ℕ). zip2 rule t c.ends_of_eight-then-count-ge8.result) c.ends_of_eight.ensures
-    ∙ ap (λ (t : List ℕ). zip2 rule (ends 8 c.args.old.now) t) c.ends_of_eight-then-count-ge8.ensures))
+    stored_ends rule 8 _ _ _ c.if-count-ge8.true (omega (arith, c.if-count-ge-LANES.false)) c.requires.0
+    c.requires.1 _ (c.apply_to-made.ensures.value
+    ∙ (ap (λ t. zip2 rule t c.ends_of_eight-then-count-ge8.result) c.ends_of_eight.ensures ∙ ap
+    (λ t. zip2 rule (ends 8 c.args.old.now) t) c.ends_of_eight-then-count-ge8.ensures))
 
 pub loop-column-preserved : goal.loop-column-preserved
 loop-column-preserved g c =
@@ -37,8 +35,8 @@ loop-column-preserved g c =
     let out = c.loop-column.out in
     let old = c.args.old.now in
     let other = c.args.other.now in
-    let whole : List ℕ = zip2 g.R.Rule.rule old other in
-    let all : length whole ≡ length old = length-zip2 g.R.Rule.rule old other (sym c.requires.0) in
+    let whole = zip2 _ old other in
+    let all = length-zip2 g.R.Rule.rule old other (sym c.requires.0) in
     let within = c.loop-column-test.true in
     let here : c.apply.result ≡ get_or whole i 0 = c.apply.ensures.value
     ∙ sym (get_or-zip2 g.R.Rule.rule old other i 0 0 0 within (omega (arith, within, c.requires.0))) in (
@@ -50,7 +48,7 @@ loop-column-preserved g c =
 
 pub returns : goal.returns
 returns g c =
-    let whole : List ℕ = zip2 g.R.Rule.rule c.args.old.now c.args.other.now in
+    let whole = zip2 _ _ _ in
     let all = length-zip2 g.R.Rule.rule c.args.old.now c.args.other.now (sym c.requires.0) in
     let n = c.loop-column.column in
     sym (take_all n c.loop-column.out (omega (arith, c.loop-column.invariant.0, c.loop-column-test.false)))

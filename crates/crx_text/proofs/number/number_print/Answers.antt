@@ -1,6 +1,5 @@
 use Rattle.std.proofs.Common.{◌≡◌, ◌-◌, ◌<◌, ◌^◌, length, ℕ, pos, take, replicate, true, w64, arith, rules}
-use Rattle.std.proofs.Common.{ap, sym, ◌∙◌}
-use Rattle.std.proofs.lemmas.Int.{to_z-of_z}
+use Rattle.std.proofs.{Common.{ap, sym, ◌∙◌}, lemmas.Int.to_z-of_z}
 use lib.IntN.{nat_abs}
 use lib.Signed.{lt_z}
 use Rattle.crx_text.proofs.Spellings.{size_text_fits, abs_within, abs_within_below, printed_number}
@@ -27,9 +26,8 @@ overflow_sub-field c =
     let below : lt_z number (pos 0) ≡ true = ap (λ z. lt_z z (pos 0)) (sym held) ∙ c.if-number-lt0.true in
     let small : c.unsigned_abs.result < 10 ^ (width - 1 - 1) =
     rw size_is (abs_within_below width number below (c.requires.in_range number c.in-Some.is)) in
-    let short = size_text_fits c.args.decimals c.unsigned_abs.result
-    (width - 1) c.requires.shape.0 (omega (arith, c.requires.shape.1))
-    (omega (arith, c.requires.shape.2)) small in
+    let short = size_text_fits c.args.decimals c.unsigned_abs.result (width - 1) c.requires.shape.0
+    (omega (arith, c.requires.shape.1)) (omega (arith, c.requires.shape.2)) small in
     omega (arith, short, c.size_print-start.ensures.start, c.fill.ensures.len, c.requires.shape.1)
 
 pub returns-then-number-lt0 : goal.returns-then-number-lt0
@@ -38,10 +36,10 @@ returns-then-number-lt0 c =
     let width : ℕ = length c.args.field.now in
     let printed = c.size_print-start in
     let blank : c.fill.new.self ≡ replicate {A = ℕ} width 32 = search rules in
-    rw c.in-Some.is (printed_number_below width c.args.decimals printed.result c.unsigned_abs.result _ number
+    rw c.in-Some.is (printed_number_below width _ _ _ _ number
     printed.new.field (to_z-of_z w64 number (search rules)) c.if-number-lt0.true c.unsigned_abs.ensures.value
     (overflow_sub-field c) (printed.ensures.start ∙ c.fill.ensures.len) printed.ensures.written
-    (printed.ensures.before ∙ ap (take printed.result) blank))
+    (printed.ensures.before ∙ ap (take _) blank))
 
 pub returns-else-number-lt0 : goal.returns-else-number-lt0
 returns-else-number-lt0 c =
@@ -49,12 +47,12 @@ returns-else-number-lt0 c =
     let width : ℕ = length c.args.field.now in
     let printed = c.size_print-start in
     let blank : c.fill.new.self ≡ replicate {A = ℕ} width 32 = search rules in
-    rw c.in-Some.is (printed_number width c.args.decimals printed.result c.unsigned_abs.result _ number
+    rw c.in-Some.is (printed_number width _ _ _ _ number
     printed.new.field (to_z-of_z w64 number (search rules)) c.if-number-lt0.false c.unsigned_abs.ensures.value
     (printed.ensures.start ∙ c.fill.ensures.len) printed.ensures.written
-    (printed.ensures.before ∙ ap (take printed.result) blank))
+    (printed.ensures.before ∙ ap (take _) blank))
 
 pub returns-in_default : goal.returns-in_default
 returns-in_default c =
-    let blank : c.fill.new.self ≡ replicate {A = ℕ} (length c.args.field.now) 32 = search rules in
-    rw c.in_default.is (blank ∙ printed_blank (length c.args.field.now) c.args.decimals)
+    let blank : c.fill.new.self ≡ replicate {A = ℕ} _ 32 = search rules in
+    rw c.in_default.is (blank ∙ printed_blank _ _)

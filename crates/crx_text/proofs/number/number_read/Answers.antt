@@ -1,25 +1,22 @@
 use Rattle.std.proofs.Common.{◌≡◌, ◌<◌, ◌≤◌, length, Some, None, w64, arith, rules, ap, sym, ◌∙◌}
-use Rattle.std.proofs.lemmas.Bool.Decides.{nat_tests}
-use Rattle.std.proofs.lemmas.Int.{to_z-of_z}
-use Rattle.std.specs.Option.{option_map}
+use Rattle.std.{proofs.lemmas.{Bool.Decides.nat_tests, Int.to_z-of_z}, specs.Option.option_map}
 use mir.Val.{SFits}
-use Rattle.crx_text.specs.meaning.Numbers.{missing_or_number, signed_number, size_of}
 use Rattle.crx_text.proofs.Sizes.{IsWithin_more, number_of_width, signed_is_within, size_fits}
 use Rattle.crx_text.proofs.Sizes.{missing_or_number_blank, missing_or_number_text}
+use Rattle.crx_text.specs.meaning.Numbers.{missing_or_number, signed_number, size_of}
 use Rattle.crx_text.proofs.number.number_read.Goals as goal
 
 pub returns-then-is_empty-clause-value : goal.returns-then-is_empty-clause-value
 returns-then-is_empty-clause-value c =
     let text = c.trim_start-text.result.now in
     let empty : length text ≡ 0 = grind (arith, nat_tests) in
-    sym (number_of_width c.args.width c.args.decimals c.args.field.now c.if-field-width.false
-    ∙ ap (missing_or_number c.args.decimals) (sym c.trim_start-text.ensures.value)
-    ∙ missing_or_number_blank c.args.decimals text empty)
+    sym (number_of_width _ _ _ c.if-field-width.false ∙ ap (missing_or_number _)
+    (sym c.trim_start-text.ensures.value) ∙ missing_or_number_blank c.args.decimals text empty)
 
 pub signed-requires : goal.signed-requires
 signed-requires c =
     let rest = c.split_minus-is_below.result.1.now in
-    size_fits c.in-Some.size (length rest) (omega (
+    size_fits _ _ (omega (
       arith,
       c.split_minus-is_below.ensures.shorter,
       c.trim_start-text.ensures.shorter,
@@ -33,30 +30,24 @@ returns-in-Some-clause-value c =
     let text = c.trim_start-text.result.now in
     let some : 0 < length text = grind (arith, nat_tests) in
     let split = c.split_minus-is_below.ensures in
-    let size : size_of decimals c.split_minus-is_below.result.1.now
-    ≡ Some c.in-Some.size = sym c.in-Some.ensures.value in
+    let size : size_of _ _ ≡ Some c.in-Some.size = sym c.in-Some.ensures.value in
     let fits : SFits w64 c.signed.result = search rules in
-    rw (to_z-of_z w64 c.signed.result fits)
-    (sym (number_of_width c.args.width decimals c.args.field.now c.if-field-width.false
-    ∙ ap (missing_or_number decimals) (sym c.trim_start-text.ensures.value)
-    ∙ missing_or_number_text decimals text some
+    rw (to_z-of_z w64 c.signed.result fits) (sym (number_of_width _ _ _ c.if-field-width.false ∙ ap
+    (missing_or_number _) (sym c.trim_start-text.ensures.value) ∙ missing_or_number_text _ text some
     ∙ (λ k. option_map Some
-    (option_map (signed_number (sym split.sign k)) (size_of decimals (sym split.rest k))))
-    ∙ ap (λ r. option_map Some (option_map (signed_number c.split_minus-is_below.result.0) r)) size
-    ∙ ap (λ z. Some (Some z)) (sym c.signed.ensures)))
+    (option_map (signed_number (sym split.sign k)) (size_of decimals (sym split.rest k)))) ∙ ap
+    (λ r. option_map Some (option_map (signed_number c.split_minus-is_below.result.0) r)) size ∙ ap
+    (λ z. Some (Some z)) (sym c.signed.ensures)))
 
 pub returns-in-Some-clause-in_range : goal.returns-in-Some-clause-in_range
 returns-in-Some-clause-in_range c =
-    let fits : SFits w64 c.signed.result = search rules in
+    let fits : SFits w64 _ = search rules in
     let split = c.split_minus-is_below in
     let text = c.trim_start-text.result.now in
     let shorter : length text ≤ c.args.width =
     omega (arith, c.trim_start-text.ensures.shorter, c.if-field-width.false) in
-    rw (to_z-of_z w64 c.signed.result fits, c.signed.ensures)
-    (IsWithin_more (length text) c.args.width _ shorter
-    (signed_is_within split.result.0 c.in-Some.size (length split.result.1.now)
-    (length text) split.ensures.shorter
-    c.in-Some.ensures.fits))
+    rw (to_z-of_z w64 c.signed.result fits, c.signed.ensures) (IsWithin_more _ _ _ shorter
+    (signed_is_within _ _ _ _ split.ensures.shorter c.in-Some.ensures.fits))
 
 pub returns-in-None-clause-value : goal.returns-in-None-clause-value
 returns-in-None-clause-value c =
@@ -64,10 +55,8 @@ returns-in-None-clause-value c =
     let text = c.trim_start-text.result.now in
     let some : 0 < length text = grind (arith, nat_tests) in
     let split = c.split_minus-is_below.ensures in
-    let size : size_of decimals c.split_minus-is_below.result.1.now ≡ None = sym c.in-None.ensures.value in
-    sym (number_of_width c.args.width decimals c.args.field.now c.if-field-width.false
-    ∙ ap (missing_or_number decimals) (sym c.trim_start-text.ensures.value)
-    ∙ missing_or_number_text decimals text some
-    ∙ (λ k. option_map Some
-    (option_map (signed_number (sym split.sign k)) (size_of decimals (sym split.rest k))))
-    ∙ ap (λ r. option_map Some (option_map (signed_number c.split_minus-is_below.result.0) r)) size)
+    let size : size_of _ _ ≡ None = sym c.in-None.ensures.value in
+    sym (number_of_width _ _ _ c.if-field-width.false ∙ ap (missing_or_number _)
+    (sym c.trim_start-text.ensures.value) ∙ missing_or_number_text _ text some ∙ (λ k. option_map Some
+    (option_map (signed_number (sym split.sign k)) (size_of decimals (sym split.rest k)))) ∙ ap
+    (λ r. option_map Some (option_map (signed_number c.split_minus-is_below.result.0) r)) size)

@@ -1,22 +1,21 @@
-use Rattle.std.proofs.Common.{◌≡◌, ◌≤◌, ◌-◌, ℕ, zero, suc, List, [], ◌∷◌, length, take, set, Some, w64, arith}
-use Rattle.std.proofs.Common.{rules, refl, sym, ap, ◌∙◌}
-use Rattle.std.proofs.lemmas.Int.{to_z-of_z}
-use Rattle.std.proofs.lemmas.List.{take-replicate, length-take-le, take-append-le, take_all}
+use Rattle.std.proofs.Common.{◌≡◌, ◌≤◌, ℕ, zero, suc, List, [], ◌∷◌, length, take, set, Some, w64, arith}
+use Rattle.std.proofs.{Common.{rules, refl, sym, ap, ◌∙◌}, lemmas.{Int.to_z-of_z, List.take-replicate}}
+use Rattle.std.proofs.lemmas.List.{length-take-le, take-append-le, take_all}
 use lib.IntN.{nat_abs}
-use Rattle.crx_text.specs.meaning.Numbers.{number_text}
 use Rattle.crx_text.proofs.Spellings.{printed_number, printed_number_below, printed_blank, abs_within}
+use Rattle.crx_text.specs.meaning.Numbers.{number_text}
 use Rattle.crx_text.proofs.number.obs_print_row.Goals as goal
 
 put_in_front : (n : ℕ) (xs : List ℕ) (i x : ℕ) → take n (set xs i x) ≡ set (take n xs) i x
 put_in_front zero xs i x = refl
 put_in_front (suc n) [] i x = refl
 put_in_front (suc n) (y ∷ ys) zero x = refl
-put_in_front (suc n) (y ∷ ys) (suc i) x = ap (λ (t : List ℕ). y ∷ t) (put_in_front n ys i x)
+put_in_front (suc n) (y ∷ ys) (suc i) x = ap (λ t. y ∷ t) (put_in_front n ys i x)
 
 pub overflow_cast-size : goal.overflow_cast-size
 overflow_cast-size c =
     let number = c.in-Some.number in
-    let size_is : c.unsigned_abs-size.result ≡ nat_abs number =
+    let size_is =
     c.unsigned_abs-size.ensures.value ∙ ap nat_abs (to_z-of_z w64 number (search rules)) in
     let small = abs_within 14 number (c.requires.in_range number c.in-Some.is) in
     omega (arith, size_is, small)
@@ -25,11 +24,11 @@ pub returns-then-size-ge1000000 : goal.returns-then-size-ge1000000
 returns-then-size-ge1000000 c =
     let cell = c.args.cell.now in
     let field = c.number_print.new.field in
-    let cut : length (take 14 cell) ≡ 14 = length-take-le 14 cell (omega (arith, c.requires.width)) in
+    let cut = length-take-le 14 cell (omega (arith, c.requires.width)) in
     let same = c.number_print.auto.field in
     let long : 14 ≤ length field = omega (arith, same, cut) in
     take-append-le 14 field _ long ∙ take_all 14 field (omega (arith, same, cut)) ∙ c.number_print.ensures
-    ∙ ap (λ (n : ℕ). number_text n 3 (Some c.in-Some.number)) cut ∙ ap (number_text 14 3) (sym c.in-Some.is)
+    ∙ ap (λ n. number_text n 3 (Some c.in-Some.number)) cut ∙ ap (number_text 14 3) (sym c.in-Some.is)
 
 pub returns-then-number-lt0 : goal.returns-then-number-lt0
 returns-then-number-lt0 c =
@@ -38,10 +37,9 @@ returns-then-number-lt0 c =
     let start : ℕ = printed.result in
     let held = to_z-of_z w64 number (search rules) in
     let blanks = take-replicate start 14 32 (omega (arith, printed.ensures.start)) in
-    rw c.in-Some.is (put_in_front 14 printed.new.cell (start - 1) 45
-    ∙ printed_number_below 14 3 start c.unsigned_abs-size.result _ number (take 14 printed.new.cell)
-    held c.if-number-lt0.true c.unsigned_abs-size.ensures.value
-    printed.ensures.room printed.ensures.start printed.ensures.written (printed.ensures.before ∙ sym blanks))
+    rw c.in-Some.is (put_in_front 14 _ _ 45 ∙ printed_number_below 14 3 start _ _ number _ held
+    c.if-number-lt0.true c.unsigned_abs-size.ensures.value printed.ensures.room printed.ensures.start
+    printed.ensures.written (printed.ensures.before ∙ sym blanks))
 
 pub returns-else-number-lt0 : goal.returns-else-number-lt0
 returns-else-number-lt0 c =
@@ -50,7 +48,7 @@ returns-else-number-lt0 c =
     let start : ℕ = printed.result in
     let held = to_z-of_z w64 number (search rules) in
     let blanks = take-replicate start 14 32 (omega (arith, printed.ensures.start)) in
-    rw c.in-Some.is (printed_number 14 3 start c.unsigned_abs-size.result _ number (take 14 printed.new.cell)
+    rw c.in-Some.is (printed_number 14 3 start _ _ number _
     held c.if-number-lt0.false c.unsigned_abs-size.ensures.value
     printed.ensures.start printed.ensures.written (printed.ensures.before ∙ sym blanks))
 

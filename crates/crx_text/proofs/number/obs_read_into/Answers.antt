@@ -1,15 +1,10 @@
 use Rattle.std.proofs.Common.{◌≡◌, ◌≤◌, ◌++◌, ℕ, List, [], length, take, drop, w64, rules, ap, sym, subst}
-use Rattle.std.proofs.Common.{◌∙◌, append-nil, arith}
-use Rattle.std.proofs.lemmas.Int.{to_z-of_z}
-use Rattle.std.proofs.lemmas.List.{take_all, take-take, length-take-le, take-append-drop}
-use Rattle.std.proofs.lemmas.Bool.{eq-eqb}
-use Rattle.std.specs.List.{list_all}
+use Rattle.std.proofs.{Common.{◌∙◌, append-nil, arith}, lemmas.{Bool.eq-eqb, Int.to_z-of_z, List.take_all}}
+use Rattle.std.{proofs.lemmas.List.{take-take, length-take-le, take-append-drop}, specs.List.list_all}
 use lib.Dec.{eqb}
-use Rattle.crx_text.specs.Fields.{IsPlain}
-use Rattle.crx_text.proofs.LaneBits.{each_of_field}
-use Rattle.crx_text.proofs.PlainSpellings.{blank_number, plain_number, number_in}
+use Rattle.crx_text.proofs.{LaneBits.each_of_field, PlainSpellings.{blank_number, plain_number, number_in}}
+use Rattle.crx_text.{proofs.number.obs_read_into.Goals.{in-14, in-16}, specs.Fields.IsPlain}
 use Rattle.crx_text.proofs.number.obs_read_into.Goals as goal
-use Rattle.crx_text.proofs.number.obs_read_into.Goals.{in-14, in-16}
 
 pub returns-then-columns-eq-FIELD-clause-value : goal.returns-then-columns-eq-FIELD-clause-value
 returns-then-columns-eq-FIELD-clause-value c =
@@ -23,8 +18,9 @@ returns-then-columns-eq-FIELD-clause-value c =
       )
       | in-16 w ↦ (ap (take 14) w.columns-is ∙ take-take 14 16 text (omega arith), omega (arith, w.in-16.is))
     ] in
-    blank_number 14 3 (take 14 text) [] (length-take-le 14 text front.1)
-    (ap (list_all (λ c. eqb c 32)) (append-nil (take 14 text) ∙ sym front.0) ∙ sym (each_of_field 32 c.match-text.columns c.match-text.auto.columns.0)
+    blank_number 14 3 _ [] (length-take-le 14 text front.1)
+    (ap (list_all (λ c. eqb c 32)) (append-nil _ ∙ sym front.0) ∙ sym (each_of_field 32 _
+    c.match-text.auto.columns.0)
     ∙ eq-eqb _ 16383 c.if-columns-eq-FIELD.true)
 
 pub returns-then-is_plain-clause-value : goal.returns-then-is_plain-clause-value

@@ -21,5 +21,5 @@ padded_print-requires c =
 
 pub bounds-field-point : goal.bounds-field-point
 bounds-field-point c =
-    let long = length-size_text c.args.decimals c.args.size c.requires.decimals.0 c.requires.decimals.1 in
+    let long = length-size_text _ c.args.size c.requires.decimals.0 c.requires.decimals.1 in
     simp (length-append, length-take) (omega (arith, long, c.requires.room))

@@ -6,13 +6,13 @@ use Rattle.crx_text.proofs.text.trim_end.Goals.{then-end-ge-EIGHT+else-count-gt0
 
 pub slice_bounds-result-end-then-count-gt0 : goal.slice_bounds-result-end-then-count-gt0
 slice_bounds-result-end-then-count-gt0 c =
-    found_within c.args.text.now c.loop-end.end c.loop-end.invariant.0 c.loop-end.invariant.1 16
-    (c.loop-end.end - 16) (omega arith) (omega (arith, c.loop-end-test.true))
+    found_within _ _ c.loop-end.invariant.0 c.loop-end.invariant.1 16
+    _ (omega arith) (omega (arith, c.loop-end-test.true))
 
 pub returns-then-count-gt0-clause-value : goal.returns-then-count-gt0-clause-value
 returns-then-count-gt0-clause-value c =
-    found_some c.args.text.now c.loop-end.end c.loop-end.invariant.0 c.loop-end.invariant.1 16
-    (c.loop-end.end - 16) (omega arith) (omega (arith, c.loop-end-test.true)) c.if-count-gt0.true
+    found_some _ _ c.loop-end.invariant.0 c.loop-end.invariant.1 16
+    _ (omega arith) (omega (arith, c.loop-end-test.true)) c.if-count-gt0.true
 
 pub loop-end-preserved : goal.loop-end-preserved
 loop-end-preserved c = (
@@ -24,13 +24,13 @@ loop-end-preserved c = (
 
 pub slice_bounds-result-end-then-count-gt0-2 : goal.slice_bounds-result-end-then-count-gt0-2
 slice_bounds-result-end-then-count-gt0-2 c =
-    found_within c.args.text.now c.loop-end.end c.loop-end.invariant.0 c.loop-end.invariant.1 8
-    (c.loop-end.end - 8) (omega arith) (omega (arith, c.if-end-ge-EIGHT.true))
+    found_within _ _ c.loop-end.invariant.0 c.loop-end.invariant.1 8
+    _ (omega arith) (omega (arith, c.if-end-ge-EIGHT.true))
 
 pub returns-then-count-gt0-2-clause-value : goal.returns-then-count-gt0-2-clause-value
 returns-then-count-gt0-2-clause-value c =
-    found_some c.args.text.now c.loop-end.end c.loop-end.invariant.0 c.loop-end.invariant.1 8
-    (c.loop-end.end - 8) (omega arith) (omega (arith, c.if-end-ge-EIGHT.true)) c.if-count-gt0-2.true
+    found_some _ _ c.loop-end.invariant.0 c.loop-end.invariant.1 8
+    _ (omega arith) (omega (arith, c.if-end-ge-EIGHT.true)) c.if-count-gt0-2.true
 
 pub loop-end-2-init : goal.loop-end-2-init
 loop-end-2-init c =
@@ -38,9 +38,8 @@ loop-end-2-init c =
     elim c.if-end-ge-EIGHT.branch [
       | then-end-ge-EIGHT+else-count-gt0-2 w ↦ (
         omega (arith, w.end-is, c.loop-end.invariant.0),
-        ap rest w.end-is ∙ found_none c.args.text.now c.loop-end.end c.loop-end.invariant.0
-            c.loop-end.invariant.1 8 (c.loop-end.end - 8) (omega arith)
-            (omega (arith, w.if-end-ge-EIGHT.true)) (omega (arith, w.if-count-gt0-2.false)),
+        ap rest w.end-is ∙ found_none _ _ c.loop-end.invariant.0 c.loop-end.invariant.1 8 (c.loop-end.end - 8)
+            (omega arith) (omega (arith, w.if-end-ge-EIGHT.true)) (omega (arith, w.if-count-gt0-2.false)),
       )
       | else-end-ge-EIGHT w ↦ (
         omega (arith, w.end-is, c.loop-end.invariant.0),

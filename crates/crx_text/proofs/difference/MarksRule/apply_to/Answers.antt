@@ -2,4 +2,4 @@ use Rattle.crx_text.proofs.LaneWords.{mark_lanes}
 use Rattle.crx_text.proofs.difference.MarksRule.apply_to.Goals as goal
 
 pub returns : goal.returns
-returns c = record { value = mark_lanes c.args.old c.args.new c.fits-old.0 c.fits-new.0 }
+returns c = record { value = mark_lanes _ _ c.fits-old.0 c.fits-new.0 }
