@@ -1,17 +1,14 @@
 -- Things of different identifiers, and one put in the place of another of the same identifier.
 use Rattle.std.proofs.Common.{◌≡◌, ℕ, zero, suc, ◌<◌, true, false, not, ◌||◌, List, [], ◌∷◌, ◌++◌, length}
-use Rattle.std.proofs.Common.{get_or, map, take, refl, ap, sym, ◌∙◌, arith}
-use Rattle.std.specs.Prelude.{Bool}
+use Rattle.std.proofs.{Common.{get_or, map, take, refl, ap, sym, ◌∙◌, arith}, lemmas.Bool.or_parts}
+use Rattle.std.proofs.lemmas.Bool.{and_parts, not-true, false≢true, false_from_ne_true}
+use Rattle.std.{proofs.lemmas.{List.Folds.list_any-append, Slice.Eq.bytes_eq-Decides}, specs.Prelude.Bool}
 use Rattle.std.specs.Str.{bytes_eq}
-use Rattle.std.proofs.lemmas.Bool.{or_parts, and_parts, not-true, false≢true, false_from_ne_true}
-use Rattle.std.proofs.lemmas.List.Folds.{list_any-append}
-use Rattle.std.proofs.lemmas.Slice.Eq.{bytes_eq-Decides}
 use Rattle.crx_header.specs.meaning.Satellites.{is_among, are_apart}
 
 -- the test of two texts doesn't ask which is the first
 pub other_way : (xs ys : List ℕ) → bytes_eq xs ys ≡ false → bytes_eq ys xs ≡ false
-other_way xs ys h = false_from_ne_true
-    (bytes_eq ys xs) (λ t. false≢true
+other_way xs ys h = false_from_ne_true (bytes_eq ys xs) (λ t. false≢true
     (sym h ∙ (bytes_eq-Decides xs ys).1 (sym ((bytes_eq-Decides ys xs).0 t))))
 
 -- one more at the end, of another identifier than those before it
@@ -30,8 +27,7 @@ not-at : {X : Type 0} (f : X → List ℕ) (name : List ℕ) (n : ℕ) (xs : Lis
     → is_among f name (take n xs) ≡ false → k < n → k < length xs → bytes_eq (f (get_or xs k d)) name ≡ false
 not-at f name zero xs k d h a b = absurd (omega (arith, a))
 not-at f name (suc n) [] k d h a b = absurd (omega (arith, b))
-not-at f name (suc n) (x ∷ xs) zero d h a b =
-    (or_parts (bytes_eq (f x) name) (is_among f name (take n xs)) h).0
+not-at f name (suc n) (x ∷ xs) zero d h a b = grind arith
 not-at f name (suc n) (x ∷ xs) (suc k) d h a b = not-at f name n xs k d
     (or_parts (bytes_eq (f x) name) (is_among f name (take n xs)) h).1 (omega (arith, a)) (omega (arith, b))
 

@@ -1,34 +1,23 @@
 -- Counts of types, letter by letter: what a map from letters holds is what the lines declare.
-use Rattle.std.proofs.Common.{◌≡◌, ℕ, ◌+◌, ◌<◌, ◌≤◌, suc, length, Bool, true, false, cond, eqb, List, [], ◌∷◌}
-use Rattle.std.proofs.Common.{◌++◌, Option, Some, None, is_none, IfSome, OnSome, refl, ap, sym, subst, map}
-use Rattle.std.proofs.Common.{get_or, set, unwrap_or, ◌≢◌, ◌∙◌, inl, inr, arith, leb, ◌&&◌}
-use Rattle.std.specs.List.{All, AllByRecursion, IsDistinct, cons_option, list_any}
-use Rattle.std.proofs.lemmas.Cmp.{nat_eq_equiv}
+use Rattle.std.proofs.Common.{◌≡◌, ℕ, ◌<◌, ◌≤◌, suc, length, true, false, cond, eqb, List, [], ◌∷◌, ◌++◌}
+use Rattle.std.proofs.Common.{Option, Some, None, is_none, IfSome, OnSome, refl, ap, sym, subst, map, get_or}
+use Rattle.std.proofs.{Common.{set, unwrap_or, ◌≢◌, ◌∙◌, inl, inr, arith}, lemmas.Bool.{cases_Bool, eq-eqb}}
+use Rattle.std.proofs.lemmas.{Bool.{eqb-true, and_parts, and_from, false≢true}, Cmp.nat_eq_equiv}
 use Rattle.std.proofs.lemmas.List.{length-map, append-nil, get_or-set_same, get_or-set_other}
-use Rattle.std.proofs.lemmas.Map.Made.{length-le_from_is_member}
-use Rattle.std.specs.Map.{lookup, set_value}
-use Rattle.std.proofs.lemmas.Bool.{cases_eq, cases_Bool, eq-eqb, ne_eqb, eqb-true, leb-true, and_parts}
-use Rattle.std.proofs.lemmas.Bool.{and_from, false≢true}
 use Rattle.std.proofs.lemmas.List.Elements.{filter_map-append, All-cons, All-head, All-tail, All-weaker}
-use Rattle.std.proofs.lemmas.Map.Entries.{All-lookup}
-use Rattle.crx_header.specs.meaning.ObservationTypes.{Count, IsAllowedCount, system_letters, is_system}
-use Rattle.crx_header.specs.meaning.ObservationTypes.{count_of, without, last_count, last_counts, counts_in}
-use Rattle.crx_header.specs.meaning.ObservationTypes.{count_of_types_line, types_of, is_types_line, count_in}
-use Rattle.crx_header.specs.meaning.ObservationTypes.{count_if_allowed}
-use Rattle.crx_header.specs.declared.types.TheConstants.{LETTERS}
+use Rattle.std.proofs.lemmas.Map.{Entries.All-lookup, Made.length-le_from_is_member}
+use Rattle.std.{proofs.lemmas.Option.option_and_then_some, specs.List.{All, AllByRecursion, IsDistinct}}
+use Rattle.std.specs.{List.{cons_option, list_any}, Map.{lookup, set_value}}
 use Rattle.crx_header.specs.ObservationTypes.{AreCounts, AreByLetter, IsCount, letters_differ, with_count}
-use Rattle.crx_header.specs.ObservationTypes.{after_count, with_line}
-use Rattle.crx_base.specs.declared.limits.TheConstants.{TYPES_LIMIT}
-use Rattle.crx_header.specs.meaning.Label.{number_in}
+use Rattle.crx_header.specs.{ObservationTypes.{after_count, with_line}, declared.types.TheConstants.LETTERS}
+use Rattle.crx_header.specs.meaning.{Label.number_in, ObservationTypes.{Count, IsAllowedCount}}
+use Rattle.crx_header.specs.meaning.ObservationTypes.{system_letters, is_system, count_of, without}
+use Rattle.crx_header.specs.meaning.ObservationTypes.{last_count, last_counts, counts_in, count_of_types_line}
+use Rattle.crx_header.specs.meaning.ObservationTypes.{types_of, is_types_line, count_in, count_if_allowed}
 use Rattle.crx_text.specs.meaning.Columns.{character_at, columns}
-use Rattle.std.proofs.lemmas.Option.{cond_some, option_and_then_some}
 
 same_test : (a b : ℕ) → eqb a b ≡ eqb b a
-same_test a b =
-    elim (cases_eq a b) [
-      | inl e ↦ eq-eqb a b e ∙ sym (eq-eqb b a (sym e))
-      | inr n ↦ ne_eqb a b n ∙ sym (ne_eqb b a (λ e. n (sym e)))
-    ]
+same_test a b = grind arith
 
 -- a map's look-up
 pub lookup_is_count : (es : List Count) (letter : ℕ) → lookup (eqb letter) es ≡ count_of es letter
@@ -47,7 +36,7 @@ last_count-push letter count (d ∷ ds) c =
 -- what is left of the others is the same after a letter's own count
 without-with_same : (letter count : ℕ) (es : List Count)
     → without letter (with_count es letter count) ≡ without letter es
-without-with_same letter count [] = let e : eqb letter letter ≡ true = eq-eqb letter letter refl in rw e refl
+without-with_same letter count [] = grind arith
 without-with_same letter count (e ∷ es) =
     elim (cases_Bool (eqb letter e.0)) [
       | inl t ↦ let h : eqb e.0 letter ≡ true = same_test e.0 letter ∙ t in rw (t, h) refl
@@ -104,7 +93,8 @@ allowed-with_count [] letter count h s a = All-cons IsCount (letter, count) [] (
 allowed-with_count (e ∷ es) letter count h s a =
     let first : IsCount e = All-head IsCount e es h in
     let rest : All IsCount es = All-tail IsCount e es h in
-    elim (eqb letter e.0) as (λ b. All IsCount (cond b ((e.0, count) ∷ es) (e ∷ with_count es letter count))) [
+    elim (eqb letter e.0) as (λ b. All IsCount (cond b ((e.0, count) ∷ es) (e ∷ with_count es letter
+    count))) [
       | true ↦ All-cons IsCount (e.0, count) es (first.0, a) rest
       | false ↦ All-cons IsCount e (with_count es letter count) first
           (allowed-with_count es letter count rest s a)
@@ -133,8 +123,7 @@ apart-with_count (e ∷ es) letter count h =
     elim (cases_Bool (eqb letter e.0)) [
       | inl t ↦ rw t h
       | inr f ↦ rw f (and_from (is_none (count_of (with_count es letter count) e.0))
-          (letters_differ (with_count es
-          letter count)) (absent-with_count es e.0 letter count f parts.0)
+          (letters_differ (with_count es letter count)) (absent-with_count es e.0 letter count f parts.0)
           (apart-with_count es letter count parts.1))
     ]
 
@@ -155,22 +144,15 @@ allowed_of es letter h =
 -- a line that isn't a types line changes nothing
 pub with_line-other : (counts : List Count) (line : List ℕ)
     → is_types_line line ≡ false → with_line counts line ≡ counts
-with_line-other counts line h = ap (λ (b : Bool). after_count counts (cond b (count_in line) None)) h
+with_line-other counts line h = grind arith
 
 pub with_line-types : (counts : List Count) (line : List ℕ) (letter count : ℕ) → is_types_line line ≡ true
     → count_in line ≡ Some (letter, count) → with_line counts line ≡ with_count counts letter count
-with_line-types counts line letter count h e =
-    ap (λ (b : Bool). after_count counts (cond b (count_in line) None)) h ∙ ap (after_count counts) e
+with_line-types counts line letter count h e = grind arith
 
 allowed_if : (l n letter count : ℕ)
     → count_if_allowed l n ≡ Some (letter, count) → (is_system letter ≡ true) × IsAllowedCount count
-allowed_if l n letter count g =
-    let s = cond_some (is_system l && (leb 1 n && leb n TYPES_LIMIT)) (l, n) (letter, count) g in
-    let a = and_parts (is_system l) (leb 1 n && leb n TYPES_LIMIT) s.0 in
-    let b = and_parts (leb 1 n) (leb n TYPES_LIMIT) a.1 in
-    let e : l ≡ letter = ap (λ (p : ℕ × ℕ). p.0) s.1 in
-    let m : n ≡ count = ap (λ (p : ℕ × ℕ). p.1) s.1 in
-    (ap is_system (sym e) ∙ a.0, (omega (arith, leb-true 1 n b.0), omega (arith, leb-true n TYPES_LIMIT b.1)))
+allowed_if l n letter count g = grind arith
 
 -- what a types line says is allowed
 pub count_in_allowed : (line : List ℕ) (letter count : ℕ)
@@ -199,9 +181,7 @@ system_of es letter h = system_in es letter h.allowed
 -- another letter's count stays, and a letter's new count is its own
 count_with : (es : List Count) (letter count a : ℕ) → unwrap_or (count_of (with_count es letter count) a) 0
     ≡ cond (eqb letter a) count (unwrap_or (count_of es a) 0)
-count_with [] letter count a =
-    elim (eqb letter a) as (λ b. unwrap_or (cond b (Some count) None) 0 ≡ cond b count 0)
-    [ true ↦ refl | false ↦ refl ]
+count_with [] letter count a = grind arith
 count_with (e ∷ es) letter count a =
     elim (cases_Bool (eqb letter e.0)) [
       | inl t ↦
@@ -244,8 +224,7 @@ absent_by_letter table es letter sound h few none =
 
 pub present_by_letter : (table : List ℕ) (es : List Count) (letter : ℕ) → AreByLetter table es
     → letter < LETTERS → get_or table letter 0 ≢ 0 → count_of es letter ≡ Some (get_or table letter 0)
-present_by_letter table es letter h few some =
-    some_by_count (count_of es letter) (get_or table letter 0) (sym (h letter few)) some
+present_by_letter table es letter h few some = grind arith
 
 -- ---- few systems
 
@@ -270,7 +249,7 @@ different_letters (c ∷ cs) h =
 
 turned : (letter : ℕ) (ls : List ℕ) → list_any (λ l. eqb l letter) ls ≡ list_any (eqb letter) ls
 turned letter [] = refl
-turned letter (l ∷ ls) = rw (same_test l letter, turned letter ls) refl
+turned letter (l ∷ ls) = grind arith
 
 are_systems : (cs : List Count) (letter : ℕ) → All IsCount cs → list_any (eqb letter) (letters_of cs) ≡ true
     → list_any (eqb letter) system_letters ≡ true
@@ -289,7 +268,7 @@ systems_few counts h =
     omega (arith, few, length-map counts (λ (c : Count). c.0))
 
 some_none : (n : ℕ) → Some n ≡ None → ⊥
-some_none n e = false≢true (ap (λ (o : Option ℕ). is_none o) e)
+some_none n e = grind arith
 
 -- a system without a count is one more than those that have one
 one_more : (es : List Count) (letter count : ℕ)

@@ -1,13 +1,8 @@
 -- Which identifiers are among the first ones of a list, by what is found in all of it.
-use Rattle.std.proofs.Common.{◌≡◌, ℕ, zero, suc, ◌<◌, false, List, [], ◌∷◌, length, get_or, take}
-use Rattle.std.proofs.Common.{refl, sym, arith}
-use Rattle.std.specs.List.{IsDistinct}
-use Rattle.std.specs.Str.{bytes_eq}
-use Rattle.std.proofs.lemmas.Bool.{false_from_ne_true}
-use Rattle.std.proofs.lemmas.Map.Made.{AllPairs-from_IsDistinct}
-use Rattle.std.proofs.lemmas.Slice.Eq.{bytes_eq-Decides}
-use Rattle.crx_header.specs.meaning.Satellites.{is_among}
-use Rattle.crx_header.proofs.Apart.{other_way}
+use Rattle.std.proofs.Common.{◌≡◌, ℕ, zero, suc, ◌<◌, false, List, [], ◌∷◌, length, get_or, take, refl, sym}
+use Rattle.std.proofs.{Common.arith, lemmas.{Bool.false_from_ne_true, Map.Made.AllPairs-from_IsDistinct}}
+use Rattle.std.{proofs.lemmas.Slice.Eq.bytes_eq-Decides, specs.{List.IsDistinct, Str.bytes_eq}}
+use Rattle.crx_header.{proofs.Apart.other_way, specs.meaning.Satellites.is_among}
 
 -- one that differs from each of them isn't
 pub not-among_first : (name : List ℕ) (count : ℕ) (names : List (List ℕ))
@@ -25,7 +20,6 @@ pub not-before_its_place : (names : List (List ℕ)) (place : ℕ)
     → is_among (λ (n : List ℕ). n) (get_or names place []) (take place names) ≡ false
 not-before_its_place names place distinct within =
     let here = get_or names place [] in
-    not-among_first here place names (λ k before.
-    false_from_ne_true (bytes_eq here (get_or names k [])) (λ same.
-    AllPairs-from_IsDistinct bytes_eq-Decides names distinct k place [] before within
+    not-among_first here place names (λ k before. false_from_ne_true (bytes_eq here (get_or names k []))
+    (λ same. AllPairs-from_IsDistinct bytes_eq-Decides names distinct k place [] before within
     (sym ((bytes_eq-Decides here (get_or names k [])).0 same))))

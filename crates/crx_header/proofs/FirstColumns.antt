@@ -1,8 +1,7 @@
 -- The identifier in a line's first columns.
 use Rattle.std.proofs.Common.{◌≡◌, ℕ, ◌&&◌, List, [], ◌∷◌, refl}
 use Rattle.crx_text.specs.meaning.Columns.{character_at, columns}
-use Rattle.crx_header.specs.meaning.ObservationTypes.{is_system}
-use Rattle.crx_header.specs.meaning.Satellites.{has_number, is_identifier}
+use Rattle.crx_header.specs.meaning.{ObservationTypes.is_system, Satellites.{has_number, is_identifier}}
 
 -- an identifier's columns
 pub identifier_columns : (line : List ℕ)

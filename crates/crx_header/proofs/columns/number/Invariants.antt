@@ -1,6 +1,4 @@
-use Rattle.std.proofs.Common.{◌≡◌, ◌<◌, drop}
-use Rattle.std.specs.Char.{is_ascii_digit}
-use Rattle.std.specs.List.{list_all}
+use Rattle.std.{proofs.Common.{◌≡◌, ◌<◌, drop}, specs.{Char.is_ascii_digit, List.list_all}}
 use Rattle.std.specs.Str.Parse.{digits_value_after, digits_value}
 use Rattle.crx_header.proofs.columns.number.Given as goal
 

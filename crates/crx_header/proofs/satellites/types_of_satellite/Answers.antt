@@ -1,10 +1,7 @@
-use Rattle.std.proofs.Common.{◌≡◌, true, ap, sym, ◌∙◌}
-use Rattle.std.proofs.lemmas.Option.{IfSome_then}
-use Rattle.std.proofs.lemmas.Bool.{and_from}
+use Rattle.std.proofs.{Common.{◌≡◌, true, ap, sym, ◌∙◌}, lemmas.{Bool.and_from, Option.IfSome_then}}
 use Rattle.crx_text.specs.meaning.Columns.{character_at}
-use Rattle.crx_header.specs.meaning.ObservationTypes.{is_system}
+use Rattle.crx_header.{proofs.FirstColumns.identifier_columns, specs.meaning.ObservationTypes.is_system}
 use Rattle.crx_header.specs.meaning.Satellites.{has_number}
-use Rattle.crx_header.proofs.FirstColumns.{identifier_columns}
 use Rattle.crx_header.proofs.satellites.types_of_satellite.Goals as goal
 
 pub returns-then-has_number-clause-named : goal.returns-then-has_number-clause-named

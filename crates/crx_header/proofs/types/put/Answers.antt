@@ -1,7 +1,6 @@
-use Rattle.std.proofs.Common.{◌≡◌, ◌<◌, None, false, is_none, ap, sym, ◌∙◌, arith}
-use Rattle.std.proofs.lemmas.Bool.{false≢true}
-use Rattle.crx_header.specs.meaning.ObservationTypes.{count_of}
+use Rattle.std.proofs.{Common.{◌≡◌, ◌<◌, None, false, is_none, ap, sym, ◌∙◌, arith}, lemmas.Bool.false≢true}
 use Rattle.crx_header.proofs.Counts.{lookup_is_count, set_is_with, systems_fewer}
+use Rattle.crx_header.specs.meaning.ObservationTypes.{count_of}
 use Rattle.indexmap.specs.IndexMap.{spare}
 use Rattle.crx_header.proofs.types.put.Goals as goal
 

@@ -1,9 +1,8 @@
 use Rattle.std.proofs.Common.{◌≡◌, ℕ, List, Some, true, false, ap, sym, subst, inr, ◌∙◌, length, arith}
-use Rattle.crx_header.specs.declared.types.TheConstants.{LETTERS}
+use Rattle.crx_header.proofs.Counts.{types_of-push, with_line-other, count_in_allowed, AreCounts-with_count}
+use Rattle.crx_header.{proofs.Counts.AreByLetter-with_count, specs.ObservationTypes.{with_line, with_count}}
+use Rattle.crx_header.specs.{ObservationTypes.{AreCounts, AreByLetter}, declared.types.TheConstants.LETTERS}
 use Rattle.crx_header.specs.meaning.ObservationTypes.{Count, is_types_line, count_in, types_of}
-use Rattle.crx_header.specs.ObservationTypes.{with_line, with_count, AreCounts, AreByLetter}
-use Rattle.crx_header.proofs.Counts.{types_of-push, with_line-other, with_line-types, count_in_allowed}
-use Rattle.crx_header.proofs.Counts.{AreCounts-with_count, AreByLetter-with_count}
 use Rattle.crx_header.proofs.types.Types.accept_line.Goals as goal
 
 pub returns-then-not-is_types-clause-declared : goal.returns-then-not-is_types-clause-declared
@@ -16,23 +15,14 @@ returns-then-not-is_types-clause-declared c = λ lines h.
 inserted : (es now old : List Count) (line : List ℕ) (letter count : ℕ)
     → is_types_line line ≡ true → Some (letter, count) ≡ count_in line
     → es ≡ now → (new : List Count) → new ≡ with_count es letter count → new ≡ with_line now line
-inserted es now old line letter count t h v new e =
-    e ∙ ap (λ (s : List Count). with_count s letter count) v
-    ∙ sym (with_line-types now line letter count t (sym h))
+inserted es now old line letter count t h v new e = grind arith
 
 pub returns-clause-ok : goal.returns-clause-ok
-returns-clause-ok c =
-    inserted c.self.inside.counts.entries
-    c.args.self.now c.args.self.now c.args.line.now c.in-Some.letter c.in-Some.count
-    (sym c.is_types.ensures.value ∙ c.if-not-is_types.false)
-    c.in-Some.ensures.value c.self.view_is c.put.new.counts.entries
-    (c.put.ensures.entries ∙ ap (λ (s : List Count). with_count s c.in-Some.letter c.in-Some.count)
-    c.make_room.ensures.entries)
+returns-clause-ok c = grind arith
 
 pub returns-clause-declared : goal.returns-clause-declared
-returns-clause-declared c = λ lines h.
-    returns-clause-ok c ∙ ap (λ (s : List Count). with_line s c.args.line.now) h
-    ∙ sym (types_of-push lines c.args.line.now)
+returns-clause-declared c = λ lines h. returns-clause-ok c ∙ ap
+    (λ (s : List Count). with_line s c.args.line.now) h ∙ sym (types_of-push lines c.args.line.now)
 
 pub invariant_of-self-2 : goal.invariant_of-self-2
 invariant_of-self-2 c =

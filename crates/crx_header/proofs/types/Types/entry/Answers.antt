@@ -1,13 +1,10 @@
-use Rattle.std.specs.List.{slice_get}
-use Rattle.std.proofs.Common.{List, ap, subst, sym, ◌∙◌}
-use Rattle.std.proofs.lemmas.Option.{get_or_from_slice_get, slice_get_within}
-use Rattle.crx_header.specs.meaning.ObservationTypes.{Count}
-use Rattle.crx_header.specs.ObservationTypes.{IsCount}
+use Rattle.std.proofs.{Common.{arith, List, subst, sym}, lemmas.Option.get_or_from_slice_get}
+use Rattle.std.proofs.lemmas.Option.{slice_get_within}
+use Rattle.crx_header.specs.{ObservationTypes.IsCount, meaning.ObservationTypes.Count}
 use Rattle.crx_header.proofs.types.Types.entry.Goals as goal
 
 pub returns-clause-value : goal.returns-clause-value
-returns-clause-value c =
-    c.in_ok-letter.ensures.entry ∙ ap (λ (counts : List Count). slice_get counts c.args.index) c.self.view_is
+returns-clause-value c = grind arith
 
 pub returns-clause-allowed : goal.returns-clause-allowed
 returns-clause-allowed c =
