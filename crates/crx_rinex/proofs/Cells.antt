@@ -1,41 +1,31 @@
 -- The cells of a satellite line, taken one by one.
-use Rattle.std.proofs.Common.{◌≡◌, ℕ, ℤ, ◌+◌, ◌-◌, ◌*◌, ◌<◌, ◌≤◌, All, List, [], ◌∷◌, ◌++◌, Option}
-use Rattle.std.proofs.Common.{Some}
+use Rattle.std.proofs.Common.{◌≡◌, ℕ, ℤ, ◌+◌, ◌-◌, ◌*◌, ◌<◌, ◌≤◌, All, List, [], ◌∷◌, ◌++◌, Option, Some}
 use Rattle.std.proofs.Common.{None, length, take, drop, replicate, get_or, refl, ap, sym, subst, ◌∙◌, arith}
-use Rattle.std.proofs.Common.{suc, zero, Bool, true, false, Err, MatchBool}
-use Rattle.std.specs.List.{concat, list_all}
-use Rattle.std.proofs.lemmas.Bool.{and_from}
-use Rattle.std.proofs.lemmas.List.Elements.{All-push, All-replicate, All-same, All-set}
-use Rattle.std.proofs.lemmas.List.Folds.{concat-append, list_all-append}
-use Rattle.std.specs.Prelude.{slice_set}
+use Rattle.std.proofs.{Common.{suc, zero, Bool, true, false, Err, MatchBool}, lemmas.Bool.and_from}
 use Rattle.std.proofs.lemmas.List.{take_more_set, length-set, take_at, take-append-le, drop_all, length-drop}
-use Rattle.std.proofs.lemmas.List.{get_or_default, get_or_past, take-set, take-take, take_all}
-use Rattle.std.proofs.lemmas.List.{length-append, length-replicate, take-replicate, append_assoc}
-use Rattle.std.proofs.lemmas.Option.{option_and_then_some, same_Some, none-some}
-use Rattle.crx_text.specs.meaning.Columns.{character_at, is_blank}
-use Rattle.crx_text.specs.meaning.EachPlace.{each_place}
-use Rattle.crx_rinex.specs.meaning.Observations.{Row}
-use Rattle.crx_text.specs.Numbers.{IsObservation}
-use Rattle.crx_text.specs.meaning.Numbers.{observation_of, number_of, IsValue}
-use Rattle.crx_text.specs.meaning.Texts.{is_kept}
-use Rattle.crx_header.specs.meaning.ObservationTypes.{IsAllowedCount}
-use Rattle.crx_rinex.specs.meaning.SatelliteLines.{all_some, values_in, flags_at, flags_in, field}
-use Rattle.crx_header.specs.meaning.Satellites.{is_identifier}
-use Rattle.crx_base.specs.declared.fault.Fault.TheVariants.{BadField}
-use Rattle.crx_rinex.specs.meaning.SatelliteLines.{row_with, IsSoundRow}
-use Rattle.crx_rinex.specs.SatelliteLines.{blank_row, row_by_cells, with_flags, with_value, AreAllRead}
-use Rattle.crx_rinex.specs.SatelliteLines.{AreCellsRead}
+use Rattle.std.proofs.lemmas.List.{get_or_default, get_or_past, take-set, take-take, take_all, length-append}
+use Rattle.std.proofs.lemmas.List.{length-replicate, take-replicate, append_assoc, Elements.All-push}
+use Rattle.std.proofs.lemmas.List.{Elements.{All-replicate, All-same, All-set}, Folds.concat-append}
+use Rattle.std.proofs.lemmas.{List.Folds.list_all-append, Option.{option_and_then_some, same_Some, none-some}}
+use Rattle.std.specs.{List.{concat, list_all}, Prelude.slice_set}
 use Rattle.crx_text.proofs.EachPlace.{each_place-more, index-each_place, length-each_place}
+use Rattle.crx_text.specs.{Numbers.IsObservation, meaning.Columns.{character_at, is_blank}}
+use Rattle.crx_text.specs.meaning.{EachPlace.each_place, Numbers.{observation_of, number_of, IsValue}}
+use Rattle.crx_text.specs.meaning.Texts.{is_kept}
+use Rattle.crx_rinex.specs.SatelliteLines.{blank_row, cells_of, with_flags, with_value, AreAllRead}
+use Rattle.crx_rinex.specs.{SatelliteLines.AreCellsRead, meaning.{Observations.Row, SatelliteLines.all_some}}
+use Rattle.crx_rinex.specs.meaning.SatelliteLines.{values_in, flags_at, flags_in, field, row_with, IsSoundRow}
+use Rattle.crx_header.specs.meaning.{ObservationTypes.IsAllowedCount, Satellites.is_identifier}
+use Rattle.crx_base.specs.declared.fault.Fault.TheVariants.{BadField}
 
 -- one value more
 pub all_some-push : (xs : List (Option (Option ℤ))) (vs : List (Option ℤ)) (v : Option ℤ)
     → all_some xs ≡ Some vs → all_some (xs ++ Some v ∷ []) ≡ Some (vs ++ v ∷ [])
-all_some-push [] vs v h = ap (λ (ws : List (Option ℤ)). Some (ws ++ v ∷ [])) (same_Some [] vs h)
+all_some-push [] vs v h = grind arith
 all_some-push (None ∷ xs) vs v h = absurd (none-some vs h)
 all_some-push (Some x ∷ xs) vs v h =
     option_and_then_some {P = all_some (Some x ∷ (xs ++ Some v ∷ [])) ≡ Some (vs ++ v ∷ [])}
-    (λ values. Some (x ∷ values)) (all_some xs) vs h
-    (λ ws e g. rw (all_some-push xs ws v e)
+    (λ values. Some (x ∷ values)) (all_some xs) vs h (λ ws e g. rw (all_some-push xs ws v e)
     (ap (λ (us : List (Option ℤ)). Some (us ++ v ∷ [])) (same_Some (x ∷ ws) vs g)))
 
 -- one that is missing a spelling
@@ -51,27 +41,25 @@ pub values_in_more : (line : List ℕ) (k : ℕ) (vs : List (Option ℤ)) (v : O
     → values_in (k + 1) line ≡ Some (vs ++ v ∷ [])
 values_in_more line k vs v h e =
     ap all_some (each_place-more k (λ j. observation_of (field line j)))
-    ∙ ap (λ (o : Option (Option ℤ)). all_some (each_place k (λ j. observation_of (field line j)) ++ o ∷ [])) e
-    ∙ all_some-push (each_place k (λ j. observation_of (field line j))) vs v h
+    ∙ ap (λ o. all_some (each_place k (λ j. observation_of (field line j)) ++ o ∷ [])) e
+    ∙ all_some-push (each_place k (λ j. observation_of _)) vs v h
 
 pub values_in_none : (line : List ℕ) (k m : ℕ) → k < m → observation_of (field line k) ≡ None
     → values_in m line ≡ None
 values_in_none line k m h e =
     all_some_at (each_place m (λ j. observation_of (field line j))) k
     (omega (arith, length-each_place m (λ j. observation_of (field line j))))
-    (index-each_place m k (λ j. observation_of (field line j)) None (λ past. absurd (omega (arith, past)))
-    ∙ e)
+    (index-each_place m k (λ j. observation_of _) None (λ past. absurd (omega (arith, past))) ∙ e)
 
 pub flags_in_more : (line : List ℕ) (k : ℕ) → flags_in (k + 1) line ≡ flags_in k line ++ flags_at line k
-flags_in_more line k = ap concat (each_place-more k (flags_at line))
-    ∙ concat-append (each_place k (flags_at line)) (flags_at line k ∷ [])
+flags_in_more line k = ap concat (each_place-more k _) ∙ concat-append (each_place k _) (flags_at line k ∷ [])
 
 -- a field past the line's end is blank, and so missing
 pub field_past : (line : List ℕ) (k : ℕ) → length line ≤ 16 * k + 3
     → observation_of (field line k) ≡ Some None
 unfolding number_of
 field_past line k h =
-    let e : drop (16 * k + 3 + 1 - 1) line ≡ [] = drop_all (16 * k + 3 + 1 - 1) line (omega arith) in
+    let e = drop_all (16 * k + 3 + 1 - 1) line (omega arith) in
     rw e refl
 
 -- a field inside the line
@@ -79,16 +67,15 @@ pub field_inside : (line : List ℕ) (k : ℕ) → 16 * k + 17 ≤ length line
     → field line k ≡ take 14 (drop (16 * k + 3) line)
 field_inside line k h =
     let e : 16 * k + 3 + 1 - 1 ≡ 16 * k + 3 = omega arith in
-    rw e (take-append-le 14 (drop (16 * k + 3) line) (replicate 14 32)
-    (omega (arith, length-drop (16 * k + 3) line)))
+    rw e (take-append-le 14 _ _ (omega (arith, length-drop (16 * k + 3) line)))
 
 -- what is read of a line begins with that field
 pub read_inside : (line : List ℕ) (k n : ℕ) → 14 ≤ n → 16 * k + 3 + 14 ≤ length line
     → take 14 (take (16 * k + 3 + n - (16 * k + 3)) (drop (16 * k + 3) line)) ≡ field line k
 read_inside line k n long h =
     let width : 16 * k + 3 + n - (16 * k + 3) ≡ n = omega arith in
-    ap (λ (n : ℕ). take 14 (take n (drop (16 * k + 3) line))) width
-    ∙ take-take 14 n (drop (16 * k + 3) line) long ∙ sym (field_inside line k (omega (arith, h)))
+    ap (λ n. take 14 (take n (drop (16 * k + 3) line))) width
+    ∙ take-take 14 n _ long ∙ sym (field_inside line k (omega (arith, h)))
 
 -- two indicators more
 pub pair_pushed : (line : List ℕ) (k : ℕ) (flags : List ℕ) (a b : ℕ) → 2 * k + 1 < length flags
@@ -99,45 +86,42 @@ pair_pushed line k flags a b room h ha hb =
     let one = slice_set flags (2 * k) a in
     let e : 2 * (k + 1) ≡ 2 * k + 1 + 1 = omega arith in
     let long = length-set flags (2 * k) a in
-    ap (λ n. take n (slice_set one (2 * k + 1) b)) e
-    ∙ take_more_set one (2 * k + 1) b (omega (arith, room, long))
-    ∙ ap (λ (fs : List ℕ). fs ++ b ∷ []) (take_more_set flags (2 * k) a (omega (arith, room)))
-    ∙ append_assoc (take (2 * k) flags) (a ∷ []) (b ∷ [])
-    ∙ ap (λ (fs : List ℕ). fs ++ a ∷ b ∷ []) h ∙ ap (λ (x : ℕ). flags_in k line ++ x ∷ b ∷ []) ha
-    ∙ ap (λ (x : ℕ). flags_in k line ++ character_at line (16 * k + 18) ∷ x ∷ []) hb
-    ∙ sym (flags_in_more line k)
+    ap (λ n. take n (slice_set one (2 * k + 1) b)) e ∙ take_more_set one (2 * k + 1) b
+    (omega (arith, room, long)) ∙ ap (λ fs. fs ++ b ∷ [])
+    (take_more_set flags (2 * k) a (omega (arith, room))) ∙ append_assoc (take (2 * k) flags) (a ∷ []) _
+    ∙ ap (λ fs. fs ++ a ∷ b ∷ []) h ∙ ap (λ x. flags_in k line ++ x ∷ b ∷ []) ha ∙ ap
+    (λ x. flags_in k line ++ character_at line (16 * k + 18) ∷ x ∷ []) hb ∙ sym (flags_in_more line k)
 
 -- a character inside the line
 pub inside : (line : List ℕ) (i column : ℕ) → i < length line → i ≡ column - 1
     → get_or line i 0 ≡ character_at line column
 inside line i column within is =
-    get_or_default line i 0 32 within ∙ ap (λ (n : ℕ). get_or line n 32) is
+    get_or_default line i 0 32 within ∙ ap (λ n. get_or line n 32) is
 
 -- and one past its end
 pub past : (line : List ℕ) (column : ℕ) → length line < column → 32 ≡ character_at line column
-past line column h = sym (get_or_past line (column - 1) 32 (omega arith))
+past line column h = sym (get_or_past line _ 32 (omega arith))
 
 -- one cell more
 pub cells_more : (line : List ℕ) (values : List (Option ℤ)) (flags : List ℕ) (k a b : ℕ) (value : Option ℤ)
     → AreCellsRead k line values flags → k < length values
     → observation_of (field line k) ≡ Some value → IsValue value
     → a ≡ character_at line (16 * k + 18) → b ≡ character_at line (16 * k + 19)
-    → AreCellsRead (k + 1) line (slice_set values k value) (slice_set (slice_set flags (2 * k) a) (2 * k + 1) b)
+    → AreCellsRead (k + 1) line (slice_set values k value) (slice_set (slice_set flags (2 * k) a) (2 * k + 1)
+    b)
 cells_more line values flags k a b value h within read fits lock strength =
     let more = take_more_set values k value within in
     let long = length-set values k value in
     let one = slice_set flags (2 * k) a in
     let room : 2 * k + 1 < length flags = omega (arith, within, h.pairs.0) in
-    let pairs : length (slice_set one (2 * k + 1) b) ≡ length flags =
+    let pairs : length _ ≡ length flags =
     length-set one (2 * k + 1) b ∙ length-set flags (2 * k) a in
     record {
       pairs = (omega (arith, pairs, long, h.pairs.0), omega (arith, long, h.pairs.1));
       within = omega (arith, long, within);
-      values_read = values_in_more line k (take k values) value h.values_read read
-          ∙ ap (λ (vs : List (Option ℤ)). Some vs) (sym more);
+      values_read = values_in_more line k _ value h.values_read read ∙ ap (λ vs. Some vs) (sym more);
       flags_read = pair_pushed line k flags a b room h.flags_read lock strength;
-      ranged = All-same IsValue (take (k + 1) _) (take k values ++ value ∷ []) more
-          (All-push IsValue (take k values) value h.ranged fits);
+      ranged = All-same IsValue _ _ more (All-push IsValue _ value h.ranged fits);
     }
 
 -- another value after them is no loss
@@ -149,9 +133,9 @@ cells_kept line values flags k value h =
     record {
       pairs = (omega (arith, long, h.pairs.0), omega (arith, long, h.pairs.1));
       within = omega (arith, long, h.within);
-      values_read = h.values_read ∙ ap (λ (vs : List (Option ℤ)). Some vs) (sym kept);
+      values_read = h.values_read ∙ ap (λ vs. Some vs) (sym kept);
       flags_read = h.flags_read;
-      ranged = All-same IsValue _ (take k values) kept h.ranged;
+      ranged = All-same IsValue _ _ kept h.ranged;
     }
 
 -- once the last is read
@@ -161,11 +145,10 @@ pub cells_whole : (line : List ℕ) (values : List (Option ℤ)) (flags : List �
 cells_whole line values flags k m h all long ended =
     let whole = take_all k values (omega (arith, all, long)) in
     record {
-      values_read = ap (λ (n : ℕ). values_in n line) (sym all) ∙ h.values_read
-          ∙ ap (λ (vs : List (Option ℤ)). Some vs) whole;
+      values_read = ap (λ n. values_in n line) (sym all) ∙ h.values_read ∙ ap (λ vs. Some vs) whole;
       flags_read = sym (take_all (2 * k) flags (omega (arith, all, long, h.pairs.0))) ∙ h.flags_read
-          ∙ ap (λ (n : ℕ). flags_in n line) all;
-      ranged = All-same IsValue values (take k values) (sym whole) h.ranged;
+          ∙ ap (λ n. flags_in n line) all;
+      ranged = All-same IsValue values _ (sym whole) h.ranged;
       ended = ended;
     }
 
@@ -173,12 +156,10 @@ cells_whole line values flags k m h all long ended =
 pub cells_end : (line : List ℕ) (values : List (Option ℤ)) (flags : List ℕ) (k m : ℕ) (b : Bool)
     → AreCellsRead k line values flags → k ≡ m → length values ≡ m
     → b ≡ list_all is_blank (drop (16 * m + 3) line)
-    → MatchBool b (AreAllRead m line values flags) (row_by_cells m line ≡ Err BadField)
-cells_end line values flags k m true h all long ended = cells_whole line values flags k m h all long (sym ended)
-cells_end line values flags k m false h all long ended =
-    let read : values_in m line ≡ Some values = ap (λ (n : ℕ). values_in n line) (sym all) ∙ h.values_read
-    ∙ ap (λ (vs : List (Option ℤ)). Some vs) (take_all k values (omega (arith, all, long))) in
-    ap (row_with m line) read ∙ (rw (← ended) refl)
+    → MatchBool b (AreAllRead m line values flags) (cells_of m line ≡ Err BadField)
+cells_end line values flags k m true h all long ended = cells_whole line values flags k m h all long (sym
+    ended)
+cells_end line values flags k m false h all long ended = grind arith
 
 -- a field that spells nothing
 pub cells_none : (line : List ℕ) (k m : ℕ) → k < m → observation_of (field line k) ≡ None
@@ -194,33 +175,22 @@ pub sound-cells : (name : List ℕ) (values : List (Option ℤ)) (flags : List �
     → is_identifier name ≡ true → IsAllowedCount m → length values ≡ m → length flags ≡ 2 * m
     → All IsValue values → list_all is_kept flags ≡ true
     → IsSoundRow (record { name = name; values = values; flags = flags })
-sound-cells name values flags m named allowed long pairs ranged kept =
-    record {
-      named = named;
-      counted = subst IsAllowedCount (sym long) allowed;
-      ranged = ranged;
-      paired = omega (arith, long, pairs);
-      kept = kept;
-    }
+sound-cells name values flags m named allowed long pairs ranged kept = grind arith
 
 -- the same where each list was written through a slice of so many elements
 pub sound-written : (name : List ℕ) (values old_values : List (Option ℤ)) (flags old_flags : List ℕ)
     (m n k : ℕ)
     → is_identifier name ≡ true → IsAllowedCount m → length values ≡ m → length flags ≡ 2 * m → n ≡ m
-    → k ≡ 2 * m
-    → All IsValue values → list_all is_kept flags ≡ true
-    → IsSoundRow (record {
+    → k ≡ 2 * m → All IsValue values → list_all is_kept flags ≡ true → IsSoundRow (record {
       name = name;
       values = take n (values ++ drop (length values) old_values);
       flags = take k (flags ++ drop (length flags) old_flags);
     })
 sound-written name values old_values flags old_flags m n k named allowed long pairs n_is k_is ranged kept =
     rw (
-      take_at values (drop (length values) old_values) n
-          (omega (arith, long, n_is)),
-      take_at flags (drop (length flags) old_flags) k (omega (arith, pairs, k_is)),
-    )
-    (sound-cells name values flags m named allowed long pairs ranged kept)
+      take_at values _ n (omega (arith, long, n_is)),
+      take_at flags (drop _ old_flags) k (omega (arith, pairs, k_is)),
+    ) (sound-cells name values flags m named allowed long pairs ranged kept)
 
 -- rows stay sound
 pub sound-blank : (name : List ℕ) (m : ℕ) → is_identifier name ≡ true → IsAllowedCount m
@@ -231,8 +201,7 @@ sound-blank name m named small =
       counted = let e = length-replicate {A = Option ℤ} m None in
           (omega (arith, e, small.0), omega (arith, e, small.1));
       ranged = All-replicate IsValue m None tt;
-      paired = length-replicate (2 * m) 32
-          ∙ ap (λ (n : ℕ). 2 * n) (sym (length-replicate {A = Option ℤ} m None));
+      paired = length-replicate (2 * m) 32 ∙ ap (λ n. 2 * n) (sym (length-replicate {A = Option ℤ} m None));
       kept = all_kept_blanks (2 * m);
     }
 
@@ -247,8 +216,7 @@ sound-cleared name m n named small within =
     rw (
       take-replicate {X = Option ℤ} m n None within,
       take-replicate {X = ℕ} (2 * m) (2 * n) 32 (omega (arith, within)),
-    )
-    (sound-blank name m named small)
+    ) (sound-blank name m named small)
 
 -- a value of which every number that it has fits its columns
 pub is-value : (value : Option ℤ)
@@ -259,13 +227,13 @@ is-value (Some number) h = h number refl
 pub sound-with_value : (row : Row) (k : ℕ) (value : Option ℤ)
     → IsSoundRow row → IsValue value → IsSoundRow (with_value row k value)
 sound-with_value row k value h sound =
-    let same : length row.values ≡ length (slice_set row.values k value) =
-    sym (length-set row.values k value) in
+    let same =
+    sym (length-set _ k value) in
     record {
       named = h.named;
       counted = subst IsAllowedCount same h.counted;
-      ranged = All-set IsValue row.values k value sound h.ranged;
-      paired = h.paired ∙ ap (λ (n : ℕ). 2 * n) same;
+      ranged = All-set IsValue _ k value sound h.ranged;
+      paired = h.paired ∙ ap (λ n. 2 * n) same;
       kept = h.kept;
     }
 
@@ -281,8 +249,7 @@ sound-with_flags row flags h small kept =
         length-append flags (replicate (2 * length row.values - length flags) 32),
         length-replicate {A = ℕ} (2 * length row.values - length flags) 32,
       );
-      kept = list_all-append is_kept flags (replicate (2 * length row.values - length flags) 32)
-          ∙ and_from (list_all is_kept flags)
-          (list_all is_kept (replicate (2 * length row.values - length flags) 32))
+      kept = list_all-append is_kept flags (replicate (2 * length row.values - length flags) 32) ∙ and_from
+          (list_all is_kept flags) (list_all is_kept (replicate (2 * length row.values - length flags) 32))
           kept (all_kept_blanks (2 * length row.values - length flags));
     }

@@ -7,7 +7,7 @@ use Rattle.std.proofs.lemmas.Option.{none-some}
 pub after_first : {X : Type 0} (x : X) (xs : List X) (n : ℕ) → n ≢ 0
     → slice_get (x ∷ xs) n ≡ slice_get xs (n - 1)
 after_first x xs zero h = absurd (h refl)
-after_first x xs (suc n) h = let e : n ≡ suc n - 1 = omega arith in ap (slice_get xs) e
+after_first x xs (suc n) h = grind arith
 
 pub first_of_rest : {X : Type 0} (xs : List X) (n : ℕ) → slice_get (drop n xs) 0 ≡ slice_get xs n
 first_of_rest xs zero = refl
@@ -19,14 +19,14 @@ no_next [] h = refl
 no_next (x ∷ xs) h = absurd (none-some x (sym h))
 
 some-left : {A : Type 0} (x : A) (xs : List A) → x ∷ xs ≡ [] → ⊥
-some-left x xs e = true≢false (ap (λ l. elim l [ [] ↦ false | y ∷ ys ↦ true ]) e)
+some-left x xs e = grind arith
 
 -- no element is at a place exactly where nothing is left from there on
 none-left : {A B : Type 0} (f : A → B) (xs : List A) (k : ℕ)
     → IsTrue (is_none (slice_get xs k)) ↔ (drop k (map f xs) ≡ [])
 none-left f [] zero = ((λ t. refl), (λ e. refl))
 none-left f [] (suc k) = ((λ t. refl), (λ e. refl))
-none-left f (x ∷ xs) zero = ((λ t. absurd (true≢false (sym t))), (λ e. absurd (some-left (f x) (map f xs) e)))
+none-left f (x ∷ xs) zero = grind arith
 none-left f (x ∷ xs) (suc k) = none-left f xs k
 
 -- whether something is at a place, as `is_some` says it of a reference
@@ -35,12 +35,11 @@ none-copied : {A : Type 0} (b : Bool) (o : Option (Bor A))
 none-copied true None is = ((λ t. refl), (λ t. refl))
 none-copied false None is = absurd (true≢false (sym is))
 none-copied true (Some x) is = absurd (true≢false is)
-none-copied false (Some x) is = ((λ t. absurd (true≢false (sym t))), (λ t. absurd (true≢false (sym t))))
+none-copied false (Some x) is = grind arith
 
 -- lines that are a first one and others are all borrowed where no other is at the last place
 pub all-handed_out : {A B : Type 0} (f : A → B) (first : B) (xs : List A) (n : ℕ) (b : Bool)
-    (o : Option (Bor A))
-    → 0 < n → is_some o ≡ not b → option_copied o ≡ slice_get xs (n - 1)
+    (o : Option (Bor A)) → 0 < n → is_some o ≡ not b → option_copied o ≡ slice_get xs (n - 1)
     → IsTrue b ↔ (drop n (first ∷ map f xs) ≡ [])
 all-handed_out f first xs zero b o less is at = absurd (omega (arith, less))
 all-handed_out f first xs (suc n) b o less is at =

@@ -1,46 +1,38 @@
 -- Epochs whose lines come one after another.
-use Rattle.std.proofs.Common.{◌≡◌, ℕ, ◌+◌, ◌-◌, ◌<◌, zero, suc, List, [], ◌∷◌, ◌++◌, length, Option, Some}
-use Rattle.std.proofs.Common.{None, Result, Ok, Err, refl, ap, sym, subst, ◌∙◌, inl, inr, arith, append-nil}
-use Rattle.std.specs.Prelude.{⊤}
-use Rattle.std.proofs.lemmas.List.{length_push}
-use Rattle.std.proofs.lemmas.Option.{same_Some, none-some}
-use Rattle.crx_base.specs.meaning.Seen.{ReadLine, Content, Overlong}
-use Rattle.crx_base.specs.declared.fault.Fault.{Fault}
-use Rattle.crx_rinex.specs.meaning.Observations.{Row, Epoch}
-use Rattle.crx_rinex.specs.meaning.Units.{Unit, Observation}
-use Rattle.crx_rinex.specs.meaning.Places.{Place, Here, Wrong, Wanted, after_lines, then_place, one_line}
-use Rattle.crx_rinex.specs.meaning.Places.{first_line}
-use Rattle.crx_rinex.specs.meaning.EpochLines.{ObservationHead}
-use Rattle.crx_header.specs.meaning.ObservationTypes.{Count}
-use Rattle.crx_rinex.specs.Steady.{IsSteady}
-use Rattle.crx_rinex.specs.meaning.EpochPlaces.{OpenEpoch, Beginning, EventBegins, EpochBegins, opened}
-use Rattle.crx_rinex.specs.meaning.EpochPlaces.{rows_wanted, epoch_of, with_next_row, next_row, row_at}
-use Rattle.crx_rinex.specs.meaning.EpochPlaces.{rows_at, rest_at, beginning_of, unit_begun, epoch_place}
+use Rattle.std.proofs.Common.{◌≡◌, ℕ, ◌-◌, ◌<◌, zero, suc, List, [], ◌∷◌, ◌++◌, length, Option, Some, None}
+use Rattle.std.proofs.Common.{Result, Ok, Err, refl, ap, sym, subst, ◌∙◌, inl, inr, arith, append-nil}
+use Rattle.std.{proofs.lemmas.{List.length_push, Option.none-some}, specs.Prelude.⊤}
+use Rattle.crx_base.specs.{declared.fault.Fault.Fault, meaning.Seen.{ReadLine, Content, Overlong}}
+use Rattle.crx_rinex.proofs.Steady.{steady-here, steady-first_line, steady-then}
 use Rattle.crx_rinex.specs.EpochPlaces.{EpochStep, Going, Whole, Faulty, when_wanted, whole_or_going}
 use Rattle.crx_rinex.specs.EpochPlaces.{after_row, epoch_step, still_open, opened_by, opened_at, open_after}
-use Rattle.crx_rinex.specs.EpochPlaces.{open_with, place_after}
-use Rattle.crx_rinex.specs.Laws.{IsWantedWhereOpen, IsDecidedByOpen}
-use Rattle.crx_rinex.proofs.Steady.{steady-here, steady-first_line, steady-then}
+use Rattle.crx_rinex.specs.{EpochPlaces.{open_with, place_after}, Laws.{IsWantedWhereOpen, IsDecidedByOpen}}
+use Rattle.crx_rinex.specs.{Steady.IsSteady, meaning.{EpochLines.ObservationHead, EpochPlaces.OpenEpoch}}
+use Rattle.crx_rinex.specs.meaning.EpochPlaces.{Beginning, EventBegins, EpochBegins, opened, rows_wanted}
+use Rattle.crx_rinex.specs.meaning.EpochPlaces.{with_next_row, row_at, rows_at, rest_at, beginning_of}
+use Rattle.crx_rinex.specs.meaning.{EpochPlaces.{unit_begun, epoch_place}, Observations.{Row, Epoch}}
+use Rattle.crx_rinex.specs.meaning.Places.{Place, Here, Wrong, Wanted, after_lines, then_place, one_line}
+use Rattle.crx_rinex.specs.meaning.{Places.first_line, Units.{Unit, Observation}}
+use Rattle.crx_header.specs.meaning.ObservationTypes.{Count}
 
 -- ---- what is found is certain
 
 pub steady-rows : (count : ℕ) (so_far : OpenEpoch) → IsSteady (rows_at so_far count)
-steady-rows zero so_far = steady-here (epoch_of so_far)
+steady-rows zero so_far = steady-here _
 steady-rows (suc count) so_far =
     steady-then (row_at so_far) (λ row rest. rows_at (with_next_row so_far row) count rest)
-    (steady-first_line (next_row so_far)) (λ row. steady-rows count (with_next_row so_far row))
+    (steady-first_line _) (λ row. steady-rows count _)
 
 pub steady-rest : (so_far : OpenEpoch) → IsSteady (rest_at so_far)
-steady-rest so_far = steady-rows (rows_wanted so_far) so_far
+steady-rest so_far = steady-rows _ so_far
 
 pub steady-begun : (types : List Count) (beginning : Beginning) → IsSteady (unit_begun types beginning)
 steady-begun types (EventBegins line) = steady-here _
 steady-begun types (EpochBegins head) = steady-then (rest_at (opened types head)) (λ epoch rest.
-    Here (Observation epoch) 0) (steady-rest (opened types head)) (λ epoch. steady-here (Observation epoch))
+    Here _ 0) (steady-rest (opened types head)) (λ epoch. steady-here (Observation epoch))
 
 pub steady-epoch_place : (types : List Count) → IsSteady (epoch_place types)
-steady-epoch_place types = steady-then
-    (λ lines. first_line lines beginning_of) (unit_begun types) (steady-first_line beginning_of)
+steady-epoch_place types = steady-then (λ lines. first_line lines _) _ (steady-first_line _)
     (steady-begun types)
 
 -- ---- one line of an open epoch
@@ -50,17 +42,14 @@ after_step (Going so_far) lines = after_lines 1 (rest_at so_far lines)
 after_step (Whole epoch) lines = Here epoch 1
 after_step (Faulty fault) lines = Wrong 0 fault
 
-rest_when : (n : ℕ) (so_far : OpenEpoch) (lines : List ReadLine)
-    → rows_wanted so_far ≡ n
+rest_when : (n : ℕ) (so_far : OpenEpoch) (lines : List ReadLine) → rows_wanted so_far ≡ n
     → after_lines 1 (rows_at so_far n lines) ≡ after_step (when_wanted n so_far) lines
 rest_when zero so_far lines h = refl
-rest_when (suc n) so_far lines h = ap (λ m. after_lines 1 (rows_at so_far m lines)) (sym h)
+rest_when (suc n) so_far lines h = grind arith
 
-whole_or_rest : (n : ℕ) (so_far : OpenEpoch) (lines : List ReadLine)
-    → rows_wanted so_far ≡ n
+whole_or_rest : (n : ℕ) (so_far : OpenEpoch) (lines : List ReadLine) → rows_wanted so_far ≡ n
     → after_lines 1 (rows_at so_far n lines) ≡ after_step (whole_or_going so_far) lines
-whole_or_rest n so_far lines h = rest_when n so_far lines h
-    ∙ ap (λ m. after_step (when_wanted m so_far) lines) (sym h)
+whole_or_rest n so_far lines h = grind arith
 
 row_then_rest : (n : ℕ) (so_far : OpenEpoch) (line : List ℕ) (lines : List ReadLine) (r : Result Row Fault)
     → rows_wanted so_far ≡ suc n
@@ -68,13 +57,13 @@ row_then_rest : (n : ℕ) (so_far : OpenEpoch) (line : List ℕ) (lines : List R
     ≡ after_step (after_row so_far r) lines
 row_then_rest n so_far line lines (Err fault) h = refl
 row_then_rest n so_far line lines (Ok row) h =
-    whole_or_rest n (with_next_row so_far row) lines (omega (arith, h, length_push so_far.rows row))
+    whole_or_rest n _ lines (omega (arith, h, length_push so_far.rows row))
 
 rest_by_step : (n : ℕ) (so_far : OpenEpoch) (line : ReadLine) (lines : List ReadLine)
     → rows_wanted so_far ≡ suc n → rest_at so_far (line ∷ lines) ≡ after_step (epoch_step so_far line) lines
 rest_by_step n so_far Overlong lines h = rw h refl
 rest_by_step n so_far (Content line) lines h =
-    rw h (row_then_rest n so_far line lines (next_row so_far line) h)
+    rw h (row_then_rest n so_far line lines _ h)
 
 -- ---- line after line
 
@@ -89,15 +78,15 @@ when_wants zero so_far h = tt
 when_wants (suc n) so_far h = omega (arith, h)
 
 going_wants : (so_far : OpenEpoch) → IsGoing (whole_or_going so_far)
-going_wants so_far = when_wants (rows_wanted so_far) so_far refl
+going_wants so_far = when_wants _ so_far refl
 
 row_wants : (so_far : OpenEpoch) (r : Result Row Fault) → IsGoing (after_row so_far r)
 row_wants so_far (Err fault) = tt
-row_wants so_far (Ok row) = going_wants (with_next_row so_far row)
+row_wants so_far (Ok row) = going_wants _
 
 step_wants : (so_far : OpenEpoch) (line : ReadLine) → IsGoing (epoch_step so_far line)
 step_wants so_far Overlong = tt
-step_wants so_far (Content line) = row_wants so_far (next_row so_far line)
+step_wants so_far (Content line) = row_wants so_far _
 
 step_at : (so_far : OpenEpoch) (line : ReadLine) (lines : List ReadLine)
     → 0 < rows_wanted so_far → rest_at so_far (line ∷ lines) ≡ after_step (epoch_step so_far line) lines
@@ -107,7 +96,7 @@ rest_none : (n : ℕ) (so_far : OpenEpoch) → rows_wanted so_far ≡ suc n → 
 rest_none n so_far h = rw h refl
 
 nothing_yet : (so_far : OpenEpoch) → 0 < rows_wanted so_far → rest_at so_far [] ≡ Wanted
-nothing_yet so_far h = rest_none (rows_wanted so_far - 1) so_far (omega (arith, h))
+nothing_yet so_far h = grind arith
 
 none_before : {X : Type 0} (p : Place X) → after_lines 0 p ≡ p
 none_before (Here x n) = ap (λ m. Here x m) (omega arith)
@@ -128,27 +117,23 @@ record GoesOn (so_far later : OpenEpoch) (lines : List ReadLine) : Type 0 where
 
 goes_on_after : (so_far later : OpenEpoch) (line : ReadLine) (lines : List ReadLine) (step : EpochStep)
     → ((next : OpenEpoch) → 0 < rows_wanted next → open_after (Some next) lines ≡ Some later
-    → GoesOn next later lines)
-    → 0 < rows_wanted so_far → epoch_step so_far line ≡ step
+    → GoesOn next later lines) → 0 < rows_wanted so_far → epoch_step so_far line ≡ step
     → IsGoing step → open_after (still_open step) lines ≡ Some later → GoesOn so_far later (line ∷ lines)
 goes_on_after so_far later line lines (Going next) ih h e wants left =
     let on = ih next wants left in
     record {
       wants = on.wants;
-      rest = λ more. step_at so_far line (lines ++ more) h
-          ∙ ap (λ (s : EpochStep). after_step s (lines ++ more)) e
-          ∙ ap (after_lines 1) (on.rest more) ∙ one_more_before (length lines) (rest_at later more);
+      rest = λ more. step_at so_far line _ h ∙ ap (λ s. after_step s (lines ++ more)) e ∙ ap (after_lines 1)
+          (on.rest more) ∙ one_more_before _ _;
     }
 goes_on_after so_far later line lines (Whole epoch) ih h e wants left = absurd (none-some later left)
 goes_on_after so_far later line lines (Faulty fault) ih h e wants left = absurd (none-some later left)
 
 goes_on : (so_far later : OpenEpoch) (lines : List ReadLine)
     → 0 < rows_wanted so_far → open_after (Some so_far) lines ≡ Some later → GoesOn so_far later lines
-goes_on so_far later [] h left =
-    let same : so_far ≡ later = same_Some so_far later left in
-    record { wants = rw (sym same) h; rest = λ more. rw same (sym (none_before (rest_at later more))) }
+goes_on so_far later [] h left = grind arith
 goes_on so_far later (line ∷ lines) h left =
-    goes_on_after so_far later line lines (epoch_step so_far line)
+    goes_on_after so_far later line lines _
     (λ next wants more. goes_on next later lines wants more) h refl (step_wants so_far line) left
 
 -- where an epoch's lines want more, it is open
@@ -167,14 +152,14 @@ not_wrong : {X : Type 0} (k : ℕ) (fault : Fault) → ◌≡◌ {A = Place X} (
 not_wrong k fault h = subst IsFound h tt
 
 wanted_before : {X : Type 0} (count : ℕ) (p : Place X) → after_lines count p ≡ Wanted → p ≡ Wanted
-wanted_before count (Here x n) h = absurd (not_here x (count + n) h)
-wanted_before count (Wrong k fault) h = absurd (not_wrong (count + k) fault h)
+wanted_before count (Here x n) h = absurd (not_here x _ h)
+wanted_before count (Wrong k fault) h = absurd (not_wrong _ fault h)
 wanted_before count Wanted h = refl
 
 open_by : (so_far : OpenEpoch) (line : ReadLine) (lines : List ReadLine) (step : EpochStep)
     → ((next : OpenEpoch) → 0 < rows_wanted next → rest_at next lines ≡ Wanted → IsOpen (Some next) lines)
     → IsGoing step → after_step step lines ≡ Wanted → IsOpen (still_open step) lines
-open_by so_far line lines (Going next) ih wants h = ih next wants (wanted_before 1 (rest_at next lines) h)
+open_by so_far line lines (Going next) ih wants h = grind arith
 open_by so_far line lines (Whole epoch) ih wants h = absurd (not_here epoch 1 h)
 open_by so_far line lines (Faulty fault) ih wants h = absurd (not_wrong 0 fault h)
 
@@ -182,8 +167,7 @@ open_where_wanted : (lines : List ReadLine) (so_far : OpenEpoch)
     → 0 < rows_wanted so_far → rest_at so_far lines ≡ Wanted → IsOpen (Some so_far) lines
 open_where_wanted [] so_far wants h = (so_far, refl)
 open_where_wanted (line ∷ lines) so_far wants h =
-    open_by so_far line lines (epoch_step so_far line)
-    (λ next. open_where_wanted lines next) (step_wants so_far line)
+    open_by so_far line lines _ (λ next. open_where_wanted lines next) (step_wants so_far line)
     (sym (step_at so_far line lines wants) ∙ h)
 
 -- one line more
@@ -195,14 +179,13 @@ open_push : (lines : List ReadLine) (begun : Option OpenEpoch) (line : ReadLine)
     → open_after begun (lines ++ line ∷ []) ≡ open_after (open_after begun lines) (line ∷ [])
 open_push lines None line = refl
 open_push [] (Some so_far) line = refl
-open_push (l ∷ lines) (Some so_far) line = open_push lines (still_open (epoch_step so_far l)) line
+open_push (l ∷ lines) (Some so_far) line = open_push lines _ line
 
 open_next : (lines : List ReadLine) (begun : Option OpenEpoch) (line : ReadLine) (so_far : OpenEpoch)
     → open_after begun lines ≡ Some so_far
     → open_after begun (lines ++ line ∷ []) ≡ still_open (epoch_step so_far line)
 open_next lines begun line so_far h =
-    open_push lines begun line ∙ ap (λ (o : Option OpenEpoch). open_after o (line ∷ [])) h
-    ∙ open_none (still_open (epoch_step so_far line))
+    open_push lines begun line ∙ ap (λ o. open_after o (line ∷ [])) h ∙ open_none _
 
 -- ---- from the epoch line on
 
@@ -213,7 +196,7 @@ as_unit Wanted = Wanted
 
 unit_is : (p : Place Epoch) (lines : List ReadLine)
     → then_place p lines (λ epoch rest. Here (Observation epoch) 0) ≡ as_unit p
-unit_is (Here epoch n) lines = ap (λ m. Here (Observation epoch) m) (omega arith)
+unit_is (Here epoch n) lines = grind arith
 unit_is (Wrong k fault) lines = refl
 unit_is Wanted lines = refl
 
@@ -226,27 +209,19 @@ record Begins (types : List Count) (line : ReadLine) (so_far : OpenEpoch) : Type
 begins_when : (n : ℕ) (begun so_far : OpenEpoch) → rows_wanted begun ≡ n
     → still_open (when_wanted n begun) ≡ Some so_far → (0 < rows_wanted so_far) × (begun ≡ so_far)
 begins_when zero begun so_far e h = absurd (none-some so_far h)
-begins_when (suc n) begun so_far e h = let same : begun ≡ so_far = same_Some begun so_far h in
-    (rw (sym same) (omega (arith, e)), same)
+begins_when (suc n) begun so_far e h = grind arith
 
 begins_going : (types : List Count) (head : ObservationHead) (so_far : OpenEpoch) → still_open
     (whole_or_going (opened types head)) ≡ Some so_far → (0 < rows_wanted so_far)
     × (opened types head ≡ so_far)
-begins_going types head so_far h =
-    begins_when (rows_wanted (opened types head)) (opened types head) so_far refl h
+begins_going types head so_far h = grind arith
 
 begins_by : (types : List Count) (line : List ℕ) (r : Result Beginning Fault) (so_far : OpenEpoch)
-    → opened_by types r ≡ Some so_far
-    → (0 < rows_wanted so_far) × ((lines : List ReadLine) → then_place
+    → opened_by types r ≡ Some so_far → (0 < rows_wanted so_far) × ((lines : List ReadLine) → then_place
     (one_line r) (Content line ∷ lines) (unit_begun types) ≡ after_lines 1 (as_unit (rest_at so_far lines)))
 begins_by types line (Err fault) so_far h = absurd (none-some so_far h)
 begins_by types line (Ok (EventBegins event)) so_far h = absurd (none-some so_far h)
-begins_by types line (Ok (EpochBegins head)) so_far h =
-    let going = begins_going types head so_far h in (
-      going.0,
-      λ lines. ap (after_lines 1) (unit_is (rest_at (opened types head) lines) lines
-          ∙ ap (λ (s : OpenEpoch). as_unit (rest_at s lines)) going.1),
-    )
+begins_by types line (Ok (EpochBegins head)) so_far h = grind arith
 
 begins : (types : List Count) (line : ReadLine) (so_far : OpenEpoch)
     → opened_at types line ≡ Some so_far → Begins types line so_far
@@ -264,17 +239,14 @@ whole_when (suc n) begun lines h w = none-some begun (sym h)
 whole_decides : (types : List Count) (head : ObservationHead) (lines : List ReadLine)
     → still_open (whole_or_going (opened types head)) ≡ None
     → after_lines 1 (as_unit (rest_at (opened types head) lines)) ≡ Wanted → ⊥
-whole_decides types head lines h w =
-    whole_when (rows_wanted (opened types head)) (opened types head) lines h w
+whole_decides types head lines h w = grind arith
 
 decided_by : (types : List Count) (line : List ℕ) (r : Result Beginning Fault) (lines : List ReadLine)
     → opened_by types r ≡ None
     → then_place (one_line r) (Content line ∷ lines) (unit_begun types) ≡ Wanted → ⊥
 decided_by types line (Err fault) lines h w = not_wrong 0 fault w
 decided_by types line (Ok (EventBegins event)) lines h w = not_here _ _ w
-decided_by types line (Ok (EpochBegins head)) lines h w =
-    whole_decides types head lines h
-    (sym (ap (after_lines 1) (unit_is (rest_at (opened types head) lines) lines)) ∙ w)
+decided_by types line (Ok (EpochBegins head)) lines h w = grind arith
 
 decided : (types : List Count) (line : ReadLine) (lines : List ReadLine)
     → opened_at types line ≡ None → epoch_place types (line ∷ lines) ≡ Wanted → ⊥
@@ -287,13 +259,11 @@ unit_wanted (Wrong k fault) h = absurd (not_wrong _ _ h)
 unit_wanted Wanted h = refl
 
 wanted_from : (types : List Count) (line : ReadLine) (lines : List ReadLine) (begun : Option OpenEpoch)
-    → opened_at types line ≡ begun
-    → epoch_place types (line ∷ lines) ≡ Wanted → IsOpen begun lines
+    → opened_at types line ≡ begun → epoch_place types (line ∷ lines) ≡ Wanted → IsOpen begun lines
 wanted_from types line lines None e w = absurd (decided types line lines e w)
 wanted_from types line lines (Some so_far) e w =
     let b = begins types line so_far e in
-    open_where_wanted lines so_far b.wants (unit_wanted
-    (rest_at so_far lines) (wanted_before 1 (as_unit (rest_at so_far lines)) (sym (b.place lines) ∙ w)))
+    open_where_wanted lines so_far b.wants (unit_wanted _ (wanted_before 1 _ (sym (b.place lines) ∙ w)))
 
 open_from : (types : List Count) (line : ReadLine)
     (lines : List ReadLine) (begun : Option OpenEpoch) (later : OpenEpoch) → opened_at types line ≡ begun
@@ -309,22 +279,17 @@ place_by_open : (types : List Count) (line : ReadLine) (lines : List ReadLine) (
     → (0 < rows_wanted later) × ((more : List ReadLine) → epoch_place types (line ∷ (lines ++ more))
     ≡ after_lines 1 (as_unit (after_lines (length lines) (rest_at later more))))
 place_by_open types line lines later h =
-    let from = open_from types line lines (opened_at types line) later refl h in
+    let from = open_from types line lines _ later refl h in
     let b = from.1 in
-    let on = from.2 in (
-      on.wants,
-      λ more. b.place (lines ++ more) ∙ ap (λ (p : Place Epoch). after_lines 1 (as_unit p))
-          (on.rest more),
-    )
+    let on = from.2 in (on.wants, λ more. b.place _ ∙ ap (λ p. after_lines 1 (as_unit p)) (on.rest more))
 
 wanted_by_open : (types : List Count) (lines : List ReadLine) (later : OpenEpoch)
     → open_with types lines ≡ Some later → epoch_place types lines ≡ Wanted
 wanted_by_open types [] later h = refl
 wanted_by_open types (line ∷ lines) later h =
     let by = place_by_open types line lines later h in
-    ap (λ (ls : List ReadLine). epoch_place types (line ∷ ls)) (sym (append-nil lines)) ∙ by.1 []
-    ∙ ap (λ (p : Place Epoch). after_lines 1 (as_unit (after_lines (length lines) p)))
-    (nothing_yet later by.0)
+    ap (λ ls. epoch_place types (line ∷ ls)) (sym (append-nil lines)) ∙ by.1 [] ∙ ap
+    (λ p. after_lines 1 (as_unit (after_lines (length lines) p))) (nothing_yet later by.0)
 
 abbrev HasLines : List ReadLine → Type 0
 HasLines [] = ⊥
@@ -339,8 +304,7 @@ wanted-open types (line ∷ lines) = (
   λ w. inr (wanted_from types line lines (opened_at types line) refl w),
   λ o. elim o [
     | inl e ↦ absurd (some_lines line lines e)
-    | inr s ↦ wanted_by_open types
-        (line ∷ lines) s.0 s.1
+    | inr s ↦ wanted_by_open types (line ∷ lines) s.0 s.1
   ],
 )
 
@@ -349,9 +313,8 @@ step_place : (count : ℕ) (step : EpochStep)
     → IsGoing step → after_lines 1 (as_unit (after_lines count (after_step step [])))
     ≡ place_after (suc count) step
 step_place count (Going so_far) wants =
-    ap (λ (p : Place Epoch). after_lines 1 (as_unit (after_lines count (after_lines 1 p))))
-    (nothing_yet so_far wants)
-step_place count (Whole epoch) wants = ap (λ m. Here (Observation epoch) m) (omega arith)
+    ap (λ p. after_lines 1 (as_unit (after_lines count (after_lines 1 p)))) (nothing_yet so_far wants)
+step_place count (Whole epoch) wants = grind arith
 step_place count (Faulty fault) wants = ap (λ m. Wrong m fault) (omega arith)
 
 pub next-by_open : (types : List Count) (lines : List ReadLine) (line : ReadLine) (so_far : OpenEpoch)
@@ -360,9 +323,7 @@ next-by_open types [] line so_far h = absurd (none-some so_far h)
 next-by_open types (first ∷ lines) line so_far h =
     let by = place_by_open types first lines so_far h in
     record {
-      place = by.1 (line ∷ [])
-          ∙ ap (λ (p : Place Epoch). after_lines 1 (as_unit (after_lines (length lines) p)))
-          (step_at so_far line [] by.0)
-          ∙ step_place (length lines) (epoch_step so_far line) (step_wants so_far line);
-      left_open = open_next lines (opened_at types first) line so_far h;
+      place = by.1 _ ∙ ap (λ p. after_lines 1 (as_unit (after_lines (length lines) p)))
+          (step_at so_far line [] by.0) ∙ step_place _ _ (step_wants so_far line);
+      left_open = open_next lines _ line so_far h;
     }

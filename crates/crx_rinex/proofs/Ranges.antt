@@ -1,30 +1,22 @@
 -- What is read out of columns fits them.
 use Rattle.std.proofs.Common.{◌≡◌, ℕ, ◌+◌, ◌-◌, ◌<◌, ◌≤◌, ◌^◌, Bool, true, false, cond, eqb, ◌&&◌, List, []}
 use Rattle.std.proofs.Common.{◌∷◌, ◌++◌, length, take, drop, Option, Some, None, refl, subst, inl, inr, arith}
-use Rattle.std.specs.Prelude.{ℤ, slice_index}
-use Rattle.std.specs.Bool.{nat_lt}
-use Rattle.std.specs.Option.{option_map}
-use Rattle.std.specs.Char.{is_ascii_digit}
-use Rattle.std.specs.Str.{all_ascii_digits}
-use Rattle.std.specs.Str.Parse.{digits_value}
-use Rattle.std.proofs.lemmas.Bool.{cases_Bool, and_parts, eqb-true}
-use Rattle.std.proofs.lemmas.List.{length-append, length-take, length-drop}
-use Rattle.std.proofs.lemmas.Option.{cond_some, same_Some, none-some}
+use Rattle.std.proofs.lemmas.{Bool.{cases_Bool, and_parts, eqb-true}, List.{length-append, length-take}}
+use Rattle.std.proofs.lemmas.{List.length-drop, Option.{cond_some, same_Some, none-some}}
 use Rattle.std.proofs.lemmas.Str.Parse.{digits_value_short, numerals_by_value, tells_all_ascii_digits}
-use Rattle.crx_text.specs.meaning.Columns.{is_blank, without_first_blanks}
-use Rattle.crx_text.specs.meaning.Numbers.{size_of, decimal_number, signed_number, missing_or_number}
-use Rattle.crx_text.specs.meaning.Numbers.{number_of, observation_of, clock_of, IsWithin, IsMissingOrWithin}
-use Rattle.crx_text.specs.meaning.Numbers.{IsValue}
-use Rattle.crx_base.specs.declared.limits.TheConstants.{OBSERVATION_WIDTH, OBSERVATION_DECIMALS, CLOCK_WIDTH}
-use Rattle.crx_base.specs.declared.limits.TheConstants.{CLOCK_DECIMALS}
-use Rattle.crx_text.proofs.Sizes.{signed_is_within, IsWithin_more}
+use Rattle.std.specs.{Bool.nat_lt, Option.option_map, Prelude.{ℤ, slice_index}, Str.all_ascii_digits}
+use Rattle.std.specs.Str.Parse.{digits_value}
+use Rattle.crx_text.{proofs.Sizes.{signed_is_within, IsWithin_more}, specs.meaning.Columns.is_blank}
+use Rattle.crx_text.specs.meaning.{Columns.without_first_blanks, Numbers.{size_of, decimal_number}}
+use Rattle.crx_text.specs.meaning.Numbers.{signed_number, missing_or_number, number_of, observation_of}
+use Rattle.crx_text.specs.meaning.Numbers.{clock_of, IsWithin, IsMissingOrWithin, IsValue}
 use Rattle.crx_rinex.specs.meaning.EpochLines.{IsClockOffset}
 
 digits-append : (xs ys : List ℕ)
     → all_ascii_digits xs ≡ true → all_ascii_digits ys ≡ true → all_ascii_digits (xs ++ ys) ≡ true
 digits-append [] ys h k = k
 digits-append (x ∷ xs) ys h k =
-    let parts = and_parts (is_ascii_digit x) (all_ascii_digits xs) h in
+    let parts = and_parts _ (all_ascii_digits xs) h in
     rw parts.0 (digits-append xs ys parts.1 k)
 
 -- the digits of a text with a point are one fewer than its characters
@@ -57,16 +49,15 @@ mapped f (Some n) v h k = k n refl (same_Some (f n) v h)
 decimal_within : (decimals : ℕ) (text : List ℕ) (v : ℤ)
     → decimal_number decimals text ≡ Some v → IsWithin (length text) v
 decimal_within decimals [] v =
-    λ h. mapped (signed_number false) (size_of decimals []) v h
-    (λ n e s. subst (IsWithin 0) s (signed_is_within false n 0 0 refl (size_small decimals [] n e)))
+    λ h. mapped _ _ v h
+    (λ n e s. subst (IsWithin 0) s (signed_is_within false n 0 0 refl (size_small _ [] n e)))
 decimal_within decimals (c ∷ cs) v =
     elim (cases_Bool (eqb c 45)) [
-      | inl t ↦ rw t (λ h. mapped (signed_number true) (size_of decimals cs) v h
+      | inl t ↦ rw t (λ h. mapped (signed_number true) (size_of _ cs) v h
           (λ n e s. subst (IsWithin (length (c ∷ cs))) s
           (signed_is_within true n (length cs) (length (c ∷ cs)) (omega arith) (size_small decimals cs n e))))
-      | inr f ↦ rw f (λ h. mapped (signed_number false) (size_of decimals (c ∷ cs)) v h
-          (λ n e s. subst (IsWithin (length (c ∷ cs))) s (signed_is_within false n
-          (length (c ∷ cs)) (length (c ∷ cs)) (omega arith) (size_small decimals (c ∷ cs) n e))))
+      | inr f ↦ rw f (λ h. mapped _ _ v h (λ n e s. subst (IsWithin _) s (signed_is_within false n
+          (length (c ∷ cs)) (length (c ∷ cs)) (omega arith) (size_small decimals _ n e))))
     ]
 
 first_blanks_shorter : (text : List ℕ) → length (without_first_blanks text) ≤ length text
@@ -80,15 +71,14 @@ first_blanks_shorter (c ∷ cs) =
 found_within : (decimals : ℕ) (text : List ℕ) (s : Option ℤ) (o : Option ℤ)
     → decimal_number decimals text ≡ s → option_map Some s ≡ Some o → IsMissingOrWithin (length text) o
 found_within decimals text None o e h = absurd (none-some o h)
-found_within decimals text (Some v) o e h = subst
-    (λ (p : Option ℤ). IsMissingOrWithin (length text) p) (same_Some (Some v) o h)
-    (decimal_within decimals text v e)
+found_within decimals text (Some v) o e h = subst (λ p. IsMissingOrWithin (length text) p) (same_Some _ o h)
+    (decimal_within _ text v e)
 
 missing_within : (decimals : ℕ) (text : List ℕ) (o : Option ℤ)
     → missing_or_number decimals text ≡ Some o → IsMissingOrWithin (length text) o
-missing_within decimals [] o h = subst (λ (p : Option ℤ). IsMissingOrWithin 0 p) (same_Some None o h) tt
+missing_within decimals [] o h = grind arith
 missing_within decimals (c ∷ cs) o h =
-    found_within decimals (c ∷ cs) (decimal_number decimals (c ∷ cs)) o refl h
+    found_within _ (c ∷ cs) _ o refl h
 
 within_more : (columns width : ℕ) (o : Option ℤ)
     → columns ≤ width → IsMissingOrWithin columns o → IsMissingOrWithin width o
@@ -104,16 +94,14 @@ number_within : (width decimals : ℕ) (text : List ℕ) (o : Option ℤ)
     → number_of width decimals text ≡ Some o → IsMissingOrWithin width o
 unfolding number_of
 number_within width decimals text o h =
-    let parts = tested (eqb (length text) width) (missing_or_number decimals (without_first_blanks text)) o h
-    in
-    let same : length text ≡ width = eqb-true (length text) width parts.0 in
-    let shorter : length (without_first_blanks text) ≤ width = let e = first_blanks_shorter text in
+    let parts = tested _ _ o h in
+    let same = eqb-true _ width parts.0 in
+    let shorter : length _ ≤ width = let e = first_blanks_shorter text in
     omega (arith, e, same) in
-    within_more (length (without_first_blanks text)) width o shorter
-    (missing_within decimals (without_first_blanks text) o parts.1)
+    within_more (length (without_first_blanks text)) width o shorter (missing_within _ _ o parts.1)
 
 pub value_fits : (text : List ℕ) (value : Option ℤ) → observation_of text ≡ Some value → IsValue value
-value_fits text value h = number_within OBSERVATION_WIDTH OBSERVATION_DECIMALS text value h
+value_fits text value h = number_within _ _ text value h
 
 pub clock_fits : (text : List ℕ) (clock : Option ℤ) → clock_of text ≡ Some clock → IsClockOffset clock
-clock_fits text clock h = number_within CLOCK_WIDTH CLOCK_DECIMALS text clock h
+clock_fits text clock h = number_within _ _ text clock h

@@ -1,49 +1,32 @@
 -- What is printed of rows, epoch lines and epochs is read back.
-use Rattle.std.proofs.Common.{◌≡◌, ◌≢◌, ℕ, ℤ, ◌+◌, ◌-◌, ◌*◌, ◌<◌, suc, Bool, true, false, not, cond, eqb}
-use Rattle.std.proofs.Common.{◌&&◌, List, [], ◌∷◌, ◌++◌, length, drop, map, Option, Some, None, IfSome, Ok}
-use Rattle.std.proofs.Common.{refl, ap, sym, subst, Result, ◌∙◌, ◌⊎◌, inl, inr, arith, append-nil}
-use Rattle.std.proofs.Common.{append_assoc, length-append}
-use Rattle.std.specs.Prelude.{All, ◌==◌}
-use Rattle.std.specs.List.{concat, list_all}
-use Rattle.std.specs.Option.{option_and_then, ForSome}
+use Rattle.std.proofs.Common.{◌≡◌, ◌≢◌, ℕ, ℤ, ◌+◌, ◌-◌, ◌*◌, ◌<◌, suc, Bool, true, false, cond, ◌&&◌, List}
+use Rattle.std.proofs.Common.{[], ◌∷◌, ◌++◌, length, drop, map, Option, Some, None, IfSome, Ok, refl, ap, sym}
+use Rattle.std.proofs.Common.{subst, ◌∙◌, ◌⊎◌, inl, inr, arith, append-nil, append_assoc, length-append}
+use Rattle.std.proofs.lemmas.{Bool.{and_parts, or_parts, not-true, Decides.eqb_tells}, List.Elements.All-head}
+use Rattle.std.proofs.lemmas.{List.{Elements.All-tail, Folds.list_any-append}, Option.none-some}
+use Rattle.std.specs.{List.{concat, list_all}, Option.{option_and_then, ForSome}, Prelude.{All, ◌==◌}}
 use Rattle.std.specs.Str.{bytes_eq}
-use Rattle.std.proofs.lemmas.Bool.{and_parts, or_parts, eqb-true, not-true}
-use Rattle.std.proofs.lemmas.Bool.Decides.{eqb_tells}
-use Rattle.std.proofs.lemmas.List.Elements.{All-head, All-tail}
-use Rattle.std.proofs.lemmas.List.Folds.{list_any-append}
-use Rattle.std.proofs.lemmas.Option.{none-some}
-use Rattle.crx_text.specs.meaning.Columns.{character_at, columns, is_blank, without_first_blanks}
-use Rattle.crx_text.specs.meaning.Numbers.{number_of, missing_or_number, observation_of, observation_text}
-use Rattle.crx_text.specs.meaning.Numbers.{clock_of, clock_text, IsWithin, IsValue}
+use Rattle.crx_text.proofs.Characters.{at, at-without_end_blanks, at-drop, at-append, at-append_past}
+use Rattle.crx_text.proofs.{Characters.{columns-are, list_all-from_at}, ReadBack.number_of-number_text}
+use Rattle.crx_text.specs.meaning.{Columns.{character_at, columns, is_blank}, EachPlace.each_place}
+use Rattle.crx_text.specs.meaning.Numbers.{number_of, observation_of, observation_text, clock_of, clock_text}
+use Rattle.crx_text.specs.meaning.{Numbers.IsValue, PrintedCells.printed_cells, Texts.is_kept}
+use Rattle.crx_base.specs.declared.limits.TheConstants.{OBSERVATION_DECIMALS, CLOCK_DECIMALS}
 use Rattle.crx_base.specs.meaning.Seen.{ReadLine, Content}
-use Rattle.crx_base.specs.declared.limits.TheConstants.{OBSERVATION_WIDTH, OBSERVATION_DECIMALS, CLOCK_WIDTH}
-use Rattle.crx_base.specs.declared.limits.TheConstants.{CLOCK_DECIMALS}
-use Rattle.crx_base.specs.declared.fault.Fault.{Fault}
-use Rattle.crx_text.proofs.ReadBack.{number_of-number_text}
-use Rattle.crx_text.specs.meaning.Texts.{is_kept}
-use Rattle.crx_rinex.specs.meaning.Observations.{Row, Epoch}
-use Rattle.crx_header.specs.meaning.ObservationTypes.{Count, is_system}
-use Rattle.crx_rinex.specs.meaning.EpochLines.{EpochHead, ObservationHead, IsObservationHead, IsClockOffset}
-use Rattle.crx_rinex.specs.meaning.EpochLines.{HeadLine, epoch_head, head_of}
-use Rattle.crx_header.specs.meaning.EpochColumns.{begins_epoch, is_event_flag, is_observation_flag}
-use Rattle.crx_header.specs.meaning.EpochColumns.{satellites_in, satellites_of, epoch_count}
-use Rattle.crx_rinex.specs.meaning.Epochs.{has_satellite, are_different, IsWholeEpoch}
+use Rattle.crx_rinex.{proofs.SoundEpochs.name_types, specs.meaning.EpochLines.{EpochHead, ObservationHead}}
+use Rattle.crx_rinex.specs.meaning.EpochLines.{IsObservationHead, IsClockOffset, head_of}
 use Rattle.crx_rinex.specs.meaning.EpochPlaces.{OpenEpoch, EpochBegins, opened, rows_wanted, epoch_of}
 use Rattle.crx_rinex.specs.meaning.EpochPlaces.{with_next_row, next_row, rows_at, rest_at, begun_by}
-use Rattle.crx_rinex.specs.meaning.EpochPlaces.{beginning_of, unit_begun, epoch_place}
-use Rattle.crx_rinex.specs.meaning.Places.{Here, after_lines, then_place, one_line}
-use Rattle.crx_rinex.specs.meaning.Units.{Observation}
-use Rattle.crx_rinex.specs.meaning.Printing.{printed_row, printed_head, printed_epoch}
-use Rattle.crx_text.specs.meaning.PrintedCells.{printed_cells}
-use Rattle.crx_rinex.specs.meaning.SatelliteLines.{all_some, field, flags_at, flags_in, row_with}
-use Rattle.crx_rinex.specs.meaning.SatelliteLines.{row_of_types, row_of, IsSoundRow, HasItsTypes}
-use Rattle.crx_header.specs.meaning.Satellites.{has_number, types_of_satellite}
-use Rattle.crx_text.specs.meaning.EachPlace.{each_place}
-use Rattle.crx_text.proofs.EachPlace.{each_place-same}
-use Rattle.crx_text.proofs.Characters.{at, at-without_end_blanks, at-drop, at-append, at-append_past}
-use Rattle.crx_text.proofs.Characters.{columns-are, list_all-from_at}
-use Rattle.crx_header.proofs.Apart.{other_way}
-use Rattle.crx_rinex.proofs.SoundEpochs.{name_types}
+use Rattle.crx_rinex.specs.meaning.{EpochPlaces.{beginning_of, epoch_place}, Epochs.has_satellite}
+use Rattle.crx_rinex.specs.meaning.{Epochs.{are_different, IsWholeEpoch}, Observations.{Row, Epoch}}
+use Rattle.crx_rinex.specs.meaning.{Places.{Here, after_lines, then_place}, Printing.printed_row}
+use Rattle.crx_rinex.specs.meaning.{Printing.{printed_head, printed_epoch}, SatelliteLines.{all_some, field}}
+use Rattle.crx_rinex.specs.meaning.SatelliteLines.{flags_at, flags_in, row_with, row_of_types, row_of}
+use Rattle.crx_rinex.specs.meaning.{SatelliteLines.{IsSoundRow, HasItsTypes}, Units.Observation}
+use Rattle.crx_header.{proofs.Apart.other_way, specs.meaning.EpochColumns.{begins_epoch, is_event_flag}}
+use Rattle.crx_header.specs.meaning.EpochColumns.{is_observation_flag, satellites_in, satellites_of}
+use Rattle.crx_header.specs.meaning.{EpochColumns.epoch_count, ObservationTypes.{Count, is_system}}
+use Rattle.crx_header.specs.meaning.Satellites.{types_of_satellite}
 
 -- ---- a field
 
@@ -62,17 +45,14 @@ tested false o y h = absurd (none-some y h)
 decimal-width : (width decimals : ℕ) (text : List ℕ) (o : Option ℤ)
     → number_of width decimals text ≡ Some o → length text ≡ width
 unfolding number_of
-decimal-width width decimals text o h = eqb-true
-    (length text) width (tested (eqb (length text) width)
-    (missing_or_number decimals (without_first_blanks text)) o h)
+decimal-width width decimals text o h = grind arith
 
 pub value-back : (value : Option ℤ) → IsValue value → observation_of (observation_text value) ≡ Some value
-value-back value h = number_of-number_text OBSERVATION_WIDTH OBSERVATION_DECIMALS value
-    (omega arith) (omega arith) (omega arith) (given (IsWithin OBSERVATION_WIDTH) value h)
+value-back value h = number_of-number_text _ _ value
+    (omega arith) (omega arith) (omega arith) (given _ value h)
 
 value-width : (value : Option ℤ) → IsValue value → length (observation_text value) ≡ 14
-value-width value h = decimal-width OBSERVATION_WIDTH OBSERVATION_DECIMALS
-    (observation_text value) value (value-back value h)
+value-width value h = decimal-width _ OBSERVATION_DECIMALS _ value (value-back value h)
 
 -- ---- the cells of a line
 
@@ -86,17 +66,17 @@ first-cell : (line rest : List ℕ) (k : ℕ) (value : Option ℤ) (a b : ℕ) �
     → (observation_of (field line k) ≡ Some value)
     × (character_at line (16 * k + 18) ≡ a) × (character_at line (16 * k + 19) ≡ b)
 first-cell line rest k value a b fits same =
-    let width : length (observation_text value) ≡ 14 = value-width value fits in
-    let found : field line k ≡ observation_text value =
-    columns-are line (16 * k + 3 + 1) 14 (observation_text value) width (λ p less.
+    let width = value-width value fits in
+    let found =
+    columns-are line (16 * k + 3 + 1) 14 _ width (λ p less.
     let place : 16 * k + 3 + 1 - 1 + p ≡ 16 * k + 3 + p = omega arith in
     ap (at line) place ∙ same p ∙ at-append (observation_text value) (a ∷ b ∷ rest) p
     (omega (arith, less, width))) in
     let one : 16 * k + 18 - 1 ≡ 16 * k + 3 + (14 + 0) = omega arith in
     let two : 16 * k + 19 - 1 ≡ 16 * k + 3 + (14 + 1) = omega arith in (
       ap observation_of found ∙ value-back value fits,
-      ap (at line) one ∙ same (14 + 0) ∙ at-append_past (observation_text value) (a ∷ b ∷ rest) 14 0 width,
-      ap (at line) two ∙ same (14 + 1) ∙ at-append_past (observation_text value) (a ∷ b ∷ rest) 14 1 width,
+      ap (at line) one ∙ same _ ∙ at-append_past _ _ 14 0 width,
+      ap (at line) two ∙ same _ ∙ at-append_past _ _ 14 1 width,
     )
 
 -- the first cell, and those after it
@@ -109,46 +89,39 @@ cells-are values flags value a b = append_assoc (observation_text value) (a ∷ 
 -- the place that is counted from, and those after it
 from-next : {X : Type 0} (n k : ℕ) (f : ℕ → X)
     → each_place (suc n) (λ j. f (k + j)) ≡ f k ∷ each_place n (λ j. f (k + 1 + j))
-from-next n k f =
-    let here : k + 0 ≡ k = omega arith in
-    ap (λ p. f p ∷ each_place n (λ i. f (k + suc i))) here
-    ∙ ap (λ xs. f k ∷ xs) (each_place-same n
-    (λ i. f (k + suc i)) (λ i. f (k + 1 + i))
-    (λ i. let next : k + suc i ≡ k + 1 + i = omega arith in ap f next))
+from-next n k f = grind arith
 
 -- places that are counted from 0
 from-none : {X : Type 0} (n : ℕ) (f : ℕ → X) → each_place n f ≡ each_place n (λ j. f (0 + j))
-from-none n f = each_place-same n f (λ j. f (0 + j)) (λ j. let same : j ≡ 0 + j = omega arith in ap f same)
+from-none n f = grind arith
 
 cells-read : (line : List ℕ) (k : ℕ) (values : List (Option ℤ)) (flags : List ℕ)
     → ((p : ℕ) → at line (16 * k + 3 + p) ≡ at (printed_cells values flags) p)
     → length flags ≡ 2 * length values → All IsValue values → AreCells line k values flags
-cells-read line k [] [] same pairs fit = record { values_read = refl; flags_read = refl }
+cells-read line k [] [] same pairs fit = grind arith
 cells-read line k [] (a ∷ flags) same pairs fit = absurd (omega (arith, pairs))
 cells-read line k (value ∷ values) [] same pairs fit = absurd (omega (arith, pairs))
 cells-read line k (value ∷ values) (a ∷ []) same pairs fit = absurd (omega (arith, pairs))
 cells-read line k (value ∷ values) (a ∷ b ∷ flags) same pairs fit =
     let fits : IsValue value = All-head IsValue value values fit in
-    let width : length (observation_text value) ≡ 14 = value-width value fits in
-    let now : (p : ℕ) → at line (16 * k + 3 + p)
-    ≡ at (observation_text value ++ a ∷ b ∷ printed_cells values flags) p =
+    let width : length _ ≡ 14 = value-width value fits in
+    let now : (p : ℕ) → at line _ ≡ at (observation_text value ++ a ∷ b ∷ printed_cells values flags) p =
     λ p. same p ∙ ap (λ t. at t p) (cells-are values flags value a b) in
     let first = first-cell line (printed_cells values flags) k value a b fits now in
     let rest : AreCells line (k + 1) values flags =
     cells-read line (k + 1) values flags (λ p.
     let place : 16 * (k + 1) + 3 + p ≡ 16 * k + 3 + (14 + suc (suc p)) = omega arith in
-    ap (at line) place ∙ now (14 + suc (suc p))
-    ∙ at-append_past (observation_text value) (a ∷ b ∷ printed_cells values flags) 14 (suc (suc p)) width)
-    (omega (arith, pairs)) (All-tail IsValue value values fit) in
+    ap (at line) place ∙ now (14 + suc (suc p)) ∙ at-append_past (observation_text value)
+    (a ∷ b ∷ printed_cells values flags) 14 (suc (suc p)) width) (omega (arith, pairs))
+    (All-tail IsValue value values fit) in
     record {
       values_read = ap all_some (from-next (length values) k (λ j. observation_of (field line j)))
           ∙ ap (λ o. all_some (o ∷ each_place (length values) (λ j. observation_of (field line (k + 1 + j)))))
-          first.0
-          ∙ ap (option_and_then (λ (vs : List (Option ℤ)). Some (value ∷ vs))) rest.values_read;
-      flags_read = ap concat (from-next (length values) k (flags_at line))
-          ∙ ap (λ c. c ∷ character_at line (16 * k + 19)
-          ∷ concat (each_place (length values) (λ j. flags_at line (k + 1 + j)))) first.1
-          ∙ ap (λ c. a ∷ c ∷ concat (each_place (length values) (λ j. flags_at line (k + 1 + j)))) first.2
+          first.0 ∙ ap (option_and_then (λ vs. Some (value ∷ vs))) rest.values_read;
+      flags_read = ap concat (from-next (length values) k (flags_at line)) ∙ ap
+          (λ c. c ∷ character_at line (16 * k + 19) ∷ concat
+          (each_place (length values) (λ j. flags_at line (k + 1 + j)))) first.1 ∙ ap
+          (λ c. a ∷ c ∷ concat (each_place (length values) (λ j. flags_at line (k + 1 + j)))) first.2
           ∙ ap (λ fs. a ∷ b ∷ fs) rest.flags_read;
     }
 
@@ -159,22 +132,17 @@ length-cells [] flags pairs fit = refl
 length-cells (value ∷ values) [] pairs fit = absurd (omega (arith, pairs))
 length-cells (value ∷ values) (a ∷ []) pairs fit = absurd (omega (arith, pairs))
 length-cells (value ∷ values) (a ∷ b ∷ flags) pairs fit =
-    let width : length (observation_text value) ≡ 14 = value-width value (All-head IsValue value values fit)
-    in
-    let rest : length (printed_cells values flags) ≡ 16 * length values =
+    let width : length _ ≡ 14 = value-width value (All-head IsValue value values fit) in
+    let rest =
     length-cells values flags (omega (arith, pairs)) (All-tail IsValue value values fit) in
-    let all : length (printed_cells (value ∷ values) (a ∷ b ∷ flags)) ≡ length (observation_text value)
-    + length
-    (a ∷ b ∷ printed_cells values flags) = ap (λ (t : List ℕ). length t) (cells-are values flags value a b)
-    ∙ length-append (observation_text value) (a ∷ b ∷ printed_cells values flags) in
+    let all = ap (λ t. length t) (cells-are values flags value a b) ∙ length-append (observation_text value)
+    (a ∷ b ∷ printed_cells values flags) in
     omega (arith, width, rest, all)
 
 -- ---- a row
 
 pub name-length : (row : Row) → IsSoundRow row → length row.name ≡ 3
-name-length row h = eqb-true (length row.name) 3
-    ((and_parts (length row.name == 3) (is_system (character_at row.name 1) && has_number row.name)
-    h.named).0)
+name-length row h = grind arith
 
 -- a row's columns
 pub length-row : (row : Row) → IsSoundRow row
@@ -206,30 +174,24 @@ row-of_text : (types : List Count) (row : Row) (line : List ℕ) → IsSoundRow 
     → ((p : ℕ) → at line p ≡ at (row.name ++ printed_cells row.values row.flags) p)
     → row_of types line ≡ Ok row
 row-of_text types row line h typed same =
-    let three : length row.name ≡ 3 = name-length row h in
-    let named : columns line 1 3 ≡ row.name = columns-are line 1 3 row.name three (λ p less.
+    let three = name-length row h in
+    let named = columns-are line 1 3 _ three (λ p less.
     let place : 1 - 1 + p ≡ p = omega arith in
-    ap (at line) place
-    ∙ same p ∙ at-append row.name (printed_cells row.values row.flags) p (omega (arith, less, three))) in
-    let counted : types_of_satellite types line ≡ Some (length row.values) = sym (name_types types line)
-    ∙ ap (types_of_satellite types) named ∙ typed in
-    let read : AreCells line 0 row.values row.flags = cells-read line 0 row.values row.flags (λ p.
+    ap (at line) place ∙ same p ∙ at-append row.name (printed_cells _ _) p (omega (arith, less, three))) in
+    let counted : types_of_satellite types line ≡ Some _ = sym (name_types types line) ∙ ap
+    (types_of_satellite types) named ∙ typed in
+    let read = cells-read line 0 _ _ (λ p.
     let place : 16 * 0 + 3 + p ≡ 3 + p = omega arith in
-    ap (at line) place ∙ same (3 + p)
-    ∙ at-append_past row.name (printed_cells row.values row.flags) 3 p three) h.paired h.ranged in
-    let wide : length (row.name ++ printed_cells row.values row.flags)
-    ≡ 16 * length row.values + 3 = length-row row h in
-    ap (row_of_types line) counted
-    ∙ ap (row_with (length row.values) line)
-    (ap all_some (from-none (length row.values) (λ j. observation_of (field line j))) ∙ read.values_read)
-    ∙ row-chosen (length row.values) line row.name row.flags row.values
-    (after-text line (row.name ++ printed_cells row.values row.flags) (16 * length row.values + 3) wide same)
-    (ap concat (from-none (length row.values) (flags_at line)) ∙ read.flags_read) h.kept named
+    ap (at line) place ∙ same (3 + p) ∙ at-append_past _ _ 3 p three) h.paired h.ranged in
+    let wide = length-row row h in
+    ap (row_of_types line) counted ∙ ap (row_with _ line)
+    (ap all_some (from-none (length _) (λ j. observation_of (field line j))) ∙ read.values_read) ∙ row-chosen
+    (length _) line _ _ _ (after-text line _ _ wide same)
+    (ap concat (from-none (length _) (flags_at line)) ∙ read.flags_read) h.kept named
 
 pub row-back : (types : List Count) (row : Row)
     → IsSoundRow row → HasItsTypes types row → row_of types (printed_row row) ≡ Ok row
-row-back types row h typed = row-of_text types row
-    (printed_row row) h typed (λ p. at-without_end_blanks (row.name ++ printed_cells row.values row.flags) p)
+row-back types row h typed = row-of_text types row _ h typed (λ p. at-without_end_blanks _ p)
 
 -- ---- an epoch line
 
@@ -240,20 +202,14 @@ head-chosen : (line head : List ℕ) (count : ℕ) (clock : Option ℤ) → begi
     → is_event_flag (character_at line 32) ≡ false → columns line 1 41 ≡ head → epoch_count head ≡ Some count
     → list_all is_blank (drop 56 line) ≡ true
     → clock_of (columns line 42 15) ≡ Some clock → head_of line ≡ Ok (EpochHead head count clock)
-head-chosen line head count clock begins flag same counted blank reads =
-    let first : epoch_count (columns line 1 41) ≡ Some count = ap epoch_count same ∙ counted in
-    let rest : epoch_head line (Some count) ≡ Ok (EpochHead (columns line 1 41) count clock) =
-    rw (blank, reads) refl in
-    let all : head_of line ≡ epoch_head line (epoch_count (columns line 1 41)) = rw (begins, flag) refl in
-    all ∙ ap (epoch_head line) first ∙ rest
-    ∙ ap {B = Result HeadLine Fault} (λ h. Ok (EpochHead h count clock)) same
+head-chosen line head count clock begins flag same counted blank reads = grind arith
 
 clock-back : (clock : Option ℤ) → IsClockOffset clock → clock_of (clock_text clock) ≡ Some clock
-clock-back clock h = number_of-number_text CLOCK_WIDTH CLOCK_DECIMALS clock
-    (omega arith) (omega arith) (omega arith) (given (IsWithin CLOCK_WIDTH) clock h)
+clock-back clock h = number_of-number_text _ _ clock
+    (omega arith) (omega arith) (omega arith) (given _ clock h)
 
 clock-width : (clock : Option ℤ) → IsClockOffset clock → length (clock_text clock) ≡ 15
-clock-width clock h = decimal-width CLOCK_WIDTH CLOCK_DECIMALS (clock_text clock) clock (clock-back clock h)
+clock-width clock h = decimal-width _ CLOCK_DECIMALS _ clock (clock-back clock h)
 
 -- an epoch line's columns
 pub length-head : (head : ObservationHead) → IsObservationHead head
@@ -270,85 +226,73 @@ head-of_text : (head : ObservationHead) (line : List ℕ)
     → IsObservationHead head → ((p : ℕ) → at line p ≡ at (head.head ++ clock_text head.clock) p)
     → head_of line ≡ Ok (EpochHead head.head head.count head.clock)
 head-of_text head line h same =
-    let wide : length head.head ≡ 41 = h.width in
-    let reads : length (clock_text head.clock) ≡ 15 = clock-width head.clock h.ranged in
+    let wide : length _ ≡ 41 = h.width in
+    let reads : length _ ≡ 15 = clock-width head.clock h.ranged in
     let front : (p : ℕ) → p < 41 → at line p ≡ at head.head p =
-    λ p less. same p ∙ at-append head.head (clock_text head.clock) p (omega (arith, less, wide)) in
-    let tests = tested (begins_epoch head.head && is_observation_flag (character_at head.head 32)
-    && list_all is_kept head.head) (satellites_in head.head) head.count h.counted in
-    let both = (and_parts (begins_epoch head.head && is_observation_flag (character_at head.head 32))
-    (list_all is_kept head.head) tests).0 in
-    let two = and_parts (begins_epoch head.head) (is_observation_flag (character_at head.head 32)) both in
-    let named : columns line 1 41 ≡ head.head = columns-are line 1 41 head.head wide (λ p less.
+    λ p less. same p ∙ at-append head.head (clock_text _) p (omega (arith, less, wide)) in
+    let tests = tested (begins_epoch head.head && is_observation_flag (character_at head.head 32) && list_all
+    is_kept head.head) (satellites_in head.head) head.count h.counted in
+    let both = (and_parts _ (list_all is_kept head.head) tests).0 in
+    let two = and_parts _ _ both in
+    let named = columns-are line 1 41 _ wide (λ p less.
     let place : 1 - 1 + p ≡ p = omega arith in
     ap (at line) place ∙ front p less) in
-    let offset : columns line 42 15 ≡ clock_text head.clock =
-    columns-are line 42 15 (clock_text head.clock) reads (λ p less.
+    let offset =
+    columns-are line 42 15 _ reads (λ p less.
     let place : 42 - 1 + p ≡ 41 + p = omega arith in
-    ap (at line) place ∙ same (41 + p) ∙ at-append_past head.head (clock_text head.clock) 41 p wide) in
-    let all : length (head.head ++ clock_text head.clock) ≡ 56 = length-head head h in
-    head-chosen line head.head head.count head.clock
-    (ap (λ c. c == 62) (front 0 (omega arith)) ∙ two.0)
-    (ap is_event_flag (front 31 (omega arith)) ∙ flag-test (character_at head.head 32) two.1)
-    named h.counted
-    (after-text line (head.head ++ clock_text head.clock) 56 all same)
-    (ap clock_of offset ∙ clock-back head.clock h.ranged)
+    ap (at line) place ∙ same _ ∙ at-append_past _ _ 41 p wide) in
+    let all = length-head head h in
+    head-chosen line _ _ _ (ap (λ c. c == 62) (front 0 (omega arith)) ∙ two.0)
+    (ap is_event_flag (front 31 (omega arith)) ∙ flag-test (character_at head.head 32) two.1) named h.counted
+    (after-text line _ 56 all same) (ap clock_of offset ∙ clock-back _ h.ranged)
 
 pub head-back : (head : ObservationHead) → IsObservationHead head
     → head_of (printed_head head.head head.clock) ≡ Ok (EpochHead head.head head.count head.clock)
-head-back head h = head-of_text head
-    (printed_head head.head head.clock) h (λ p. at-without_end_blanks (head.head ++ clock_text head.clock) p)
+head-back head h = head-of_text head _ h (λ p. at-without_end_blanks _ p)
 
 -- ---- an epoch
 
 -- no satellite line begins as an epoch line does
 system-other : (c : ℕ) → ((c == 62) ≡ true) × (c ≡ 62) ⊎ ((c == 62) ≡ false) × (c ≢ 62)
     → is_system c ≡ true → (c == 62) ≡ false
-system-other c (inl is) h = let never : is_system 62 ≡ true = ap is_system (sym is.1) ∙ h in absurd (cc)
+system-other c (inl is) h = grind arith
 system-other c (inr is) h = is.0
 
 row-begins : (row : Row) → IsSoundRow row → begins_epoch (printed_row row) ≡ false
 row-begins row h =
-    let three : length row.name ≡ 3 = name-length row h in
+    let three = name-length row h in
     let rest =
-    (and_parts (length row.name == 3) (is_system (character_at row.name 1) && has_number row.name) h.named).1
-    in
-    let system : is_system (character_at row.name 1) ≡ true =
-    (and_parts (is_system (character_at row.name 1)) (has_number row.name) rest).0 in
-    ap (λ c. c == 62) (at-without_end_blanks (row.name ++ printed_cells row.values row.flags) 0
-    ∙ at-append row.name (printed_cells row.values row.flags) 0 (omega (arith, three)))
-    ∙ system-other (character_at row.name 1) (eqb_tells (character_at row.name 1) 62) system
+    (and_parts _ _ h.named).1 in
+    let system =
+    (and_parts _ _ rest).0 in
+    ap (λ c. c == 62) (at-without_end_blanks (row.name ++ printed_cells _ _) 0 ∙ at-append row.name
+    (printed_cells row.values row.flags) 0 (omega (arith, three))) ∙ system-other _ (eqb_tells _ 62) system
 
 -- a row isn't among those before it
 row-new : (rows : List Row) (row : Row) (rest : List Row)
     → are_different (rows ++ row ∷ rest) ≡ true → has_satellite row.name rows ≡ false
 row-new [] row rest h = refl
 row-new (r ∷ rows) row rest h =
-    let parts = and_parts (not (has_satellite r.name (rows ++ row ∷ rest)))
-    (are_different (rows ++ row ∷ rest)) h in
-    let none : has_satellite r.name (rows ++ row ∷ rest) ≡ false =
-    not-true (has_satellite r.name (rows ++ row ∷ rest)) parts.0 in
-    let apart = or_parts (has_satellite r.name rows) (has_satellite r.name (row ∷ rest))
-    (sym (list_any-append (λ (k : Row). bytes_eq k.name r.name) rows (row ∷ rest)) ∙ none) in
-    let differs : bytes_eq row.name r.name ≡ false =
-    (or_parts (bytes_eq row.name r.name) (has_satellite r.name rest) apart.1).0 in
-    let other : bytes_eq r.name row.name ≡ false = other_way row.name r.name differs in
+    let parts = and_parts _ _ h in
+    let none =
+    not-true _ parts.0 in
+    let apart = or_parts _ _ (sym (list_any-append (λ k. bytes_eq k.name r.name) rows _) ∙ none) in
+    let differs =
+    (or_parts _ _ apart.1).0 in
+    let other : bytes_eq r.name _ ≡ false = other_way row.name r.name differs in
     rw other (row-new rows row rest parts.1)
 
 next-read : (so_far : OpenEpoch) (row : Row) → IsSoundRow row → HasItsTypes so_far.types row
     → has_satellite row.name so_far.rows ≡ false → next_row so_far (printed_row row) ≡ Ok row
 next-read so_far row h typed new =
-    let begins : begins_epoch (printed_row row) ≡ false = row-begins row h in
-    let read : row_of so_far.types (printed_row row) ≡ Ok row = row-back so_far.types row h typed in
+    let begins = row-begins row h in
+    let read = row-back _ row h typed in
     rw (begins, read, new) refl
 
 row-then : (so_far : OpenEpoch) (row : Row) (count : ℕ) (line : List ℕ) (lines : List ReadLine)
-    → next_row so_far line ≡ Ok row
-    → rows_at so_far (suc count) (Content line ∷ lines)
-    ≡ after_lines 1 (rows_at (with_next_row so_far row) count lines)
-row-then so_far row count line lines e = ap (λ r.
-    then_place (one_line r) (Content line ∷ lines)
-    (λ next rest. rows_at (with_next_row so_far next) count rest)) e
+    → next_row so_far line ≡ Ok row → rows_at so_far (suc count) (Content line ∷ lines) ≡ after_lines 1
+    (rows_at (with_next_row so_far row) count lines)
+row-then so_far row count line lines e = grind arith
 
 -- the epoch with more rows
 abbrev with_rows : OpenEpoch → List Row → OpenEpoch
@@ -371,17 +315,14 @@ rows-back so_far (row ∷ rows) lines h typed apart =
     (All-tail (HasItsTypes so_far.types) row rows typed) (ap are_different same ∙ apart) in
     let one : 1 + length rows ≡ suc (length rows) = omega arith in
     row-then so_far row (length rows) (printed_row row) (map Content (map printed_row rows) ++ lines)
-    (next-read so_far row sound its (row-new so_far.rows row rows apart))
-    ∙ ap (after_lines 1) rest
+    (next-read so_far row sound its (row-new so_far.rows row rows apart)) ∙ ap (after_lines 1) rest
     ∙ ap (λ (all : List Row). Here (epoch_of (record so_far { rows = all })) (1 + length rows)) same
     ∙ ap (λ n. Here (epoch_of (with_rows so_far (row ∷ rows))) n) one
 
 epoch-begun : (types : List Count) (line : List ℕ) (head : ObservationHead) (lines : List ReadLine)
-    → beginning_of line ≡ Ok (EpochBegins head)
-    → epoch_place types (Content line ∷ lines) ≡ after_lines 1
+    → beginning_of line ≡ Ok (EpochBegins head) → epoch_place types (Content line ∷ lines) ≡ after_lines 1
     (then_place (rest_at (opened types head) lines) lines (λ epoch rest. Here (Observation epoch) 0))
-epoch-begun types line head lines e =
-    ap (λ r. then_place (one_line r) (Content line ∷ lines) (unit_begun types)) e
+epoch-begun types line head lines e = grind arith
 
 pub epoch-back : (types : List Count) (epoch : Epoch) (lines : List ReadLine) → IsWholeEpoch types epoch
     → epoch_place types (map Content (printed_epoch epoch) ++ lines) ≡ Here (Observation epoch)
@@ -395,13 +336,12 @@ epoch-back types epoch lines h =
     ap (begun_by (printed_head epoch.head epoch.clock)) (head-back head h.sound.head_sound) in
     let wanted : rows_wanted (opened types head) ≡ length epoch.rows =
     (let full = h.full in omega (arith, full)) in
-    let read : rest_at (opened types head) (map Content (map printed_row epoch.rows) ++ lines)
-    ≡ Here epoch (length epoch.rows) =
+    let read : rest_at (opened types head) (map Content (map printed_row epoch.rows) ++ lines) ≡ Here epoch
+    (length epoch.rows) =
     ap (λ n. rows_at (opened types head) n (map Content (map printed_row epoch.rows) ++ lines)) wanted
     ∙ rows-back (opened types head) epoch.rows lines h.sound.rows_sound h.typed h.sound.apart in
     let count : 1 + (length epoch.rows + 0) ≡ length epoch.rows + 1 = omega arith in
     epoch-begun types (printed_head epoch.head epoch.clock) head
-    (map Content (map printed_row epoch.rows) ++ lines) begins
-    ∙ ap (λ p. after_lines 1 (then_place p
+    (map Content (map printed_row epoch.rows) ++ lines) begins ∙ ap (λ p. after_lines 1 (then_place p
     (map Content (map printed_row epoch.rows) ++ lines) (λ e others. Here (Observation e) 0))) read
     ∙ ap (λ n. Here (Observation epoch) n) count

@@ -1,48 +1,35 @@
 -- What is read of an observation epoch is sound.
 use Rattle.std.proofs.Common.{◌≡◌, ℕ, ℤ, ◌+◌, ◌*◌, ◌≤◌, zero, suc, Bool, true, false, not, cond, List, []}
 use Rattle.std.proofs.Common.{◌∷◌, length, drop, Option, Some, None, IfSome, OnSome, unwrap_or, Result, Ok}
-use Rattle.std.proofs.Common.{Err, refl, ap, sym, subst, ◌∙◌, arith}
-use Rattle.std.specs.Prelude.{⊤, All}
-use Rattle.std.specs.List.{list_all, AllByRecursion}
-use Rattle.std.proofs.lemmas.Bool.{and_from}
-use Rattle.std.proofs.lemmas.List.{length_push, length-append}
-use Rattle.std.proofs.lemmas.List.Elements.{All-cons, All-nil, All-push}
-use Rattle.std.proofs.lemmas.Option.{option_and_then_some, same_Some, none-some}
-use Rattle.crx_text.specs.meaning.Columns.{character_at, columns, is_blank}
-use Rattle.crx_text.specs.meaning.Numbers.{observation_of, clock_of, IsValue}
-use Rattle.crx_base.specs.meaning.Seen.{ReadLine, Content, Overlong}
-use Rattle.crx_base.specs.declared.fault.Fault.{Fault}
-use Rattle.crx_base.specs.declared.fault.Fault.TheVariants.{NotAnEpoch, BadEpoch, RepeatedSatellite, BadField}
-use Rattle.crx_base.specs.declared.fault.Fault.TheVariants.{BadClock, BadFlags, Truncated}
-use Rattle.crx_base.specs.declared.limits.TheConstants.{SATELLITES_LIMIT}
-use Rattle.crx_text.specs.meaning.Texts.{is_kept}
-use Rattle.crx_header.specs.meaning.ObservationTypes.{Count, IsAllowedCount, is_system, count_of}
-use Rattle.crx_header.specs.ObservationTypes.{AreCounts}
-use Rattle.crx_rinex.specs.meaning.Observations.{Row, Epoch}
-use Rattle.crx_rinex.specs.meaning.Units.{Unit, Observation}
-use Rattle.crx_rinex.specs.meaning.Places.{Place, Here, Wrong, Wanted, after_lines, then_place, one_line}
-use Rattle.crx_rinex.specs.meaning.EpochLines.{HeadLine, EventHead, EpochHead, ObservationHead}
-use Rattle.crx_rinex.specs.meaning.EpochLines.{IsObservationHead, epoch_head, event_head, head_of}
+use Rattle.std.proofs.{Common.{Err, refl, ap, sym, subst, ◌∙◌, arith}, lemmas.Bool.and_from}
+use Rattle.std.proofs.lemmas.List.{length_push, length-append, Elements.{All-cons, All-nil, All-push}}
+use Rattle.std.{proofs.lemmas.Option.{option_and_then_some, same_Some, none-some}, specs.List.list_all}
+use Rattle.std.specs.{List.AllByRecursion, Prelude.{⊤, All}}
+use Rattle.crx_text.proofs.{Characters.length-columns, EachPlace.{each_place-all, length-each_place}}
+use Rattle.crx_text.specs.meaning.{Columns.{character_at, columns, is_blank}, EachPlace.each_place}
+use Rattle.crx_text.specs.meaning.{Numbers.{observation_of, clock_of, IsValue}, Texts.is_kept}
+use Rattle.crx_base.specs.declared.fault.Fault.{Fault, TheVariants.{NotAnEpoch, BadEpoch, RepeatedSatellite}}
+use Rattle.crx_base.specs.declared.fault.Fault.TheVariants.{BadField, BadClock, BadFlags, Truncated}
+use Rattle.crx_base.specs.{declared.limits.TheConstants.SATELLITES_LIMIT, meaning.Seen.{ReadLine, Content}}
+use Rattle.crx_base.specs.meaning.Seen.{Overlong}
+use Rattle.crx_header.proofs.{Apart.apart-push, Counts.{allowed_of, system_of}}
+use Rattle.crx_header.{proofs.FirstColumns.identifier_columns, specs.ObservationTypes.AreCounts}
 use Rattle.crx_header.specs.meaning.EpochColumns.{is_event_flag, begins_epoch, epoch_count, records_in}
-use Rattle.crx_header.specs.meaning.EpochColumns.{satellites_of}
-use Rattle.crx_header.specs.meaning.InOrder.{◌or_else◌with◌}
+use Rattle.crx_header.specs.meaning.{InOrder.◌or_else◌with◌, ObservationTypes.{Count, IsAllowedCount}}
+use Rattle.crx_header.specs.meaning.{ObservationTypes.{is_system, count_of}, Satellites.types_of_satellite}
+use Rattle.crx_header.specs.meaning.Satellites.{has_number, is_identifier}
+use Rattle.crx_rinex.proofs.{Cells.flags_in_more, Ranges.{value_fits, clock_fits, tested}}
+use Rattle.crx_rinex.{proofs.Rows.satellites_few, specs.meaning.EpochLines.{HeadLine, EventHead, EpochHead}}
+use Rattle.crx_rinex.specs.meaning.EpochLines.{ObservationHead, IsObservationHead, epoch_head, event_head}
+use Rattle.crx_rinex.specs.meaning.{EpochLines.head_of, EpochPlaces.{OpenEpoch, Beginning, EventBegins}}
+use Rattle.crx_rinex.specs.meaning.EpochPlaces.{EpochBegins, opened, rows_wanted, epoch_of, with_next_row}
+use Rattle.crx_rinex.specs.meaning.EpochPlaces.{row_if_new, next_row, rows_at, rest_at, begun_by}
+use Rattle.crx_rinex.specs.meaning.{EpochPlaces.{beginning_of, unit_begun, epoch_place}, Epochs.has_satellite}
+use Rattle.crx_rinex.specs.meaning.{Epochs.{are_different, IsWholeEpoch}, Observations.{Row, Epoch}}
+use Rattle.crx_rinex.specs.meaning.Places.{Place, Here, Wrong, Wanted, after_lines, then_place, one_line}
 use Rattle.crx_rinex.specs.meaning.SatelliteLines.{row_of, row_of_types, row_with, values_in, flags_in}
 use Rattle.crx_rinex.specs.meaning.SatelliteLines.{flags_at, field, all_some, IsSoundRow, HasItsTypes}
-use Rattle.crx_header.specs.meaning.Satellites.{types_of_satellite, has_number, is_identifier}
-use Rattle.crx_rinex.specs.meaning.Epochs.{has_satellite, are_different, IsWholeEpoch}
-use Rattle.crx_rinex.specs.meaning.EpochPlaces.{OpenEpoch, Beginning, EventBegins, EpochBegins, opened}
-use Rattle.crx_rinex.specs.meaning.EpochPlaces.{rows_wanted, epoch_of, with_next_row, row_if_new, next_row}
-use Rattle.crx_rinex.specs.meaning.EpochPlaces.{rows_at, rest_at, begun_by, beginning_of, unit_begun}
-use Rattle.crx_rinex.specs.meaning.EpochPlaces.{epoch_place}
-use Rattle.crx_text.specs.meaning.EachPlace.{each_place}
-use Rattle.crx_text.proofs.Characters.{length-columns}
-use Rattle.crx_text.proofs.EachPlace.{each_place-all, length-each_place}
-use Rattle.crx_rinex.proofs.Cells.{flags_in_more}
-use Rattle.crx_header.proofs.FirstColumns.{identifier_columns}
-use Rattle.crx_header.proofs.Counts.{allowed_of, system_of}
-use Rattle.crx_rinex.proofs.Ranges.{value_fits, clock_fits, tested}
-use Rattle.crx_header.proofs.Apart.{apart-push}
-use Rattle.crx_rinex.proofs.Rows.{satellites_few}
+use Rattle.crx_rinex.specs.meaning.Units.{Unit, Observation}
 
 -- ---- a row
 
@@ -66,14 +53,12 @@ record AreValues (count : ℕ) (values : List (Option ℤ)) : Type 0 where
 values_sound : (xs : List (Option (Option ℤ))) (values : List (Option ℤ)) → AllByRecursion
     (λ (o : Option (Option ℤ)). IfSome o IsValue) xs → all_some xs ≡ Some values
     → AreValues (length xs) values
-values_sound [] values h e = subst
-    (AreValues 0) (same_Some [] values e) (record { long = refl; ranged = All-nil IsValue })
+values_sound [] values h e = grind arith
 values_sound (None ∷ xs) values h e = absurd (none-some values e)
 values_sound (Some x ∷ xs) values h e =
-    option_and_then_some {P = AreValues (length (Some x ∷ xs)) values}
-    (λ (vs : List (Option ℤ)). Some (x ∷ vs)) (all_some xs) values e
+    option_and_then_some {P = AreValues _ values} (λ vs. Some _) _ values e
     (λ vs some same. let ih = values_sound xs vs h.1 some in
-    subst (AreValues (suc (length xs))) (same_Some (x ∷ vs) values same)
+    subst (AreValues _) (same_Some _ values same)
     (record { long = ap suc ih.long; ranged = All-cons IsValue x vs h.0 ih.ranged }))
 
 flags_long : (line : List ℕ) (m : ℕ) → length (flags_in m line) ≡ 2 * m
@@ -101,20 +86,18 @@ typed : (types : List Count) (line : List ℕ) (m : ℕ)
     → AreCounts types → types_of_satellite types line ≡ Some m → IsTyped line m
 typed types line m counts h =
     let parts = tested (has_number line) (count_of types (character_at line 1)) m h in
-    let system : is_system (character_at line 1) ≡ true = subst (λ (o : Option ℕ).
-    OnSome o (is_system (character_at line 1) ≡ true)) parts.1 (system_of types (character_at line 1) counts)
-    in
+    let system : is_system (character_at line 1) ≡ true = subst (λ (o : Option ℕ). OnSome o
+    (is_system (character_at line 1) ≡ true)) parts.1 (system_of types (character_at line 1) counts) in
     record {
-      named = identifier_columns line
-          ∙ and_from (is_system (character_at line 1)) (has_number line) system parts.0;
+      named = identifier_columns line ∙ and_from (is_system (character_at line 1)) (has_number line) system
+          parts.0;
       counted = subst (λ (o : Option ℕ). IfSome o IsAllowedCount) parts.1
           (allowed_of types (character_at line 1) counts);
     }
 
 flags_case : (types : List Count) (line : List ℕ) (m : ℕ) (values : List (Option ℤ))
     → types_of_satellite types line ≡ Some m → IsTyped line m → AreValues m values
-    → (b : Bool) → list_all is_kept (flags_in m line) ≡ b → IsSoundRead types (cond
-    (not b) (Err BadFlags)
+    → (b : Bool) → list_all is_kept (flags_in m line) ≡ b → IsSoundRead types (cond (not b) (Err BadFlags)
     (Ok (record { name = columns line 1 3; values = values; flags = flags_in m line })))
 flags_case types line m values e t v false k = tt
 flags_case types line m values e t v true k =
@@ -155,7 +138,7 @@ types_case types line counts (Some m) e =
 
 pub sound-row_of : (types : List Count) (line : List ℕ) → AreCounts types
     → IsSoundRead types (row_of types line)
-sound-row_of types line counts = types_case types line counts (types_of_satellite types line) refl
+sound-row_of types line counts = types_case types line counts _ refl
 
 -- ---- an epoch line
 
@@ -186,8 +169,7 @@ count_case : (line : List ℕ) (o : Option ℕ) → epoch_count (columns line 1 
     → IsSoundHead (epoch_head line o)
 count_case line None e = tt
 count_case line (Some count) e =
-    elim (list_all is_blank (drop 56 line)) as (λ b.
-    IsSoundHead (cond (not b) (Err BadEpoch)
+    elim (list_all is_blank (drop 56 line)) as (λ b. IsSoundHead (cond (not b) (Err BadEpoch)
     (with_clock (columns line 1 41) count (clock_of (columns line 42 15))))) [
       | true ↦ clock_case line count e (clock_of (columns line 42 15)) refl
       | false ↦ tt
@@ -223,12 +205,8 @@ pub record IsSoundSoFar (so_far : OpenEpoch) : Type 0 where
 
 pub sound-opened : (types : List Count) (head : ObservationHead)
     → IsObservationHead head → IsSoundSoFar (opened types head)
-sound-opened types head h = record {
-  head = h;
-  rows = All-nil IsSoundRow;
-  typed = All-nil (HasItsTypes types);
-  apart = refl;
-}
+sound-opened types head h =
+    record { head = h; rows = All-nil IsSoundRow; typed = All-nil (HasItsTypes types); apart = refl }
 
 abbrev pub IsNext : OpenEpoch → Result Row Fault → Type 0
 IsNext so_far (Err fault) = ⊤
@@ -244,7 +222,7 @@ new_case so_far row s t false h = (s, t, h)
 new_row : (so_far : OpenEpoch) (r : Result Row Fault)
     → IsSoundRead so_far.types r → IsNext so_far (row_if_new so_far.rows r)
 new_row so_far (Err fault) h = tt
-new_row so_far (Ok row) h = new_case so_far row h.0 h.1 (has_satellite row.name so_far.rows) refl
+new_row so_far (Ok row) h = grind arith
 
 pub next_sound : (so_far : OpenEpoch) (line : List ℕ) → AreCounts so_far.types
     → IsNext so_far (next_row so_far line)
@@ -260,32 +238,14 @@ pub sound-next_row : (so_far : OpenEpoch) (row : Row)
 sound-next_row so_far row h n =
     record {
       head = h.head;
-      rows = All-push IsSoundRow so_far.rows row h.rows n.0;
-      typed = All-push (HasItsTypes so_far.types) so_far.rows row h.typed n.1;
-      apart = apart-push (λ (r : Row). r.name) so_far.rows row h.apart n.2;
+      rows = All-push IsSoundRow _ row h.rows n.0;
+      typed = All-push (HasItsTypes _) _ row h.typed n.1;
+      apart = apart-push (λ r. r.name) _ row h.apart n.2;
     }
 
 whole : (so_far : OpenEpoch) → IsSoundSoFar so_far
     → length so_far.rows ≡ so_far.head.count → IsWholeEpoch so_far.types (epoch_of so_far)
-whole so_far h full =
-    let head = h.head in
-    let same : satellites_of so_far.head.head ≡ so_far.head.count =
-    ap (λ (o : Option ℕ). unwrap_or o 0) head.counted in
-    record {
-      sound = record {
-        head_sound = record {
-          width = head.width;
-          counted = head.counted ∙ ap (λ n. Some n) (sym same);
-          within = rw same head.within;
-          ranged = head.ranged;
-        };
-        rows_sound = h.rows;
-        apart = h.apart;
-        within = omega (arith, same, full);
-      };
-      full = full ∙ sym same;
-      typed = h.typed;
-    }
+whole so_far h full = grind arith
 
 -- the epoch that is read, and how many lines it took
 abbrev AreGood : List Count → ℕ → ℕ → Place Epoch → Type 0
@@ -303,28 +263,22 @@ good_after types total count Wanted h = tt
 good_row : (count : ℕ) (so_far : OpenEpoch) (line : List ℕ) (lines : List ReadLine)
     → ((row : Row) → IsNext so_far (Ok row)
     → AreGood so_far.types so_far.head.count count (rows_at (with_next_row so_far row) count lines))
-    → (r : Result Row Fault) → IsNext so_far r
-    → AreGood so_far.types so_far.head.count (suc count)
+    → (r : Result Row Fault) → IsNext so_far r → AreGood so_far.types so_far.head.count (suc count)
     (then_place (one_line r) (Content line ∷ lines)
     (λ row rest. rows_at (with_next_row so_far row) count rest))
 good_row count so_far line lines ih (Err fault) n = tt
-good_row count so_far line lines ih (Ok row) n =
-    good_after so_far.types so_far.head.count count (rows_at (with_next_row so_far row) count lines)
-    (ih row n)
+good_row count so_far line lines ih (Ok row) n = grind arith
 
 good_rows : (count : ℕ) (so_far : OpenEpoch) (lines : List ReadLine)
     → AreCounts so_far.types → IsSoundSoFar so_far → length so_far.rows + count ≡ so_far.head.count
     → AreGood so_far.types so_far.head.count count (rows_at so_far count lines)
-good_rows zero so_far lines counts h sum = let full : length so_far.rows ≡ so_far.head.count =
-    omega (arith, sum) in
-    (whole so_far h full, refl, full)
+good_rows zero so_far lines counts h sum = grind arith
 good_rows (suc count) so_far [] counts h sum = tt
 good_rows (suc count) so_far (Overlong ∷ lines) counts h sum = tt
 good_rows (suc count) so_far (Content line ∷ lines) counts h sum =
-    good_row count so_far line lines
-    (λ row n. good_rows count (with_next_row so_far row) lines counts
-    (sound-next_row so_far row h n) (omega (arith, sum, length_push so_far.rows row)))
-    (next_row so_far line) (next_sound so_far line counts)
+    good_row count so_far line lines (λ row n. good_rows count (with_next_row so_far row) lines counts
+    (sound-next_row so_far row h n) (omega (arith, sum, length_push so_far.rows row))) (next_row so_far line)
+    (next_sound so_far line counts)
 
 -- ---- where an epoch or an event may begin
 
@@ -335,7 +289,7 @@ IsReadWell types _ = ⊤
 good_unit : (types : List Count) (count : ℕ) (p : Place Epoch) (lines : List ReadLine)
     → AreGood types count count p
     → IsReadWell types (after_lines 1 (then_place p lines (λ epoch rest. Here (Observation epoch) 0)))
-good_unit types count (Here epoch n) lines h = let e = h.1 in let long = h.2 in (h.0, omega (arith, e, long))
+good_unit types count (Here epoch n) lines h = grind arith
 good_unit types count (Wrong j fault) lines h = tt
 good_unit types count Wanted lines h = tt
 
@@ -369,8 +323,7 @@ read_well : (types : List Count) (lines : List ReadLine) → AreCounts types
 read_well types [] counts = tt
 read_well types (Overlong ∷ lines) counts = tt
 read_well types (Content line ∷ lines) counts =
-    good_begun types line lines (beginning_of line) counts
-    (begun_sound line (head_of line) (sound-head_of line))
+    good_begun types line lines (beginning_of line) counts (begun_sound line _ (sound-head_of line))
 
 pub sound-epoch_place : (types : List Count) (lines : List ReadLine) (epoch : Epoch) (count : ℕ)
     → AreCounts types → epoch_place types lines ≡ Here (Observation epoch) count

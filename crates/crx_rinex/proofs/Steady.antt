@@ -1,12 +1,9 @@
 -- Steady places: one after another, and their parts.
 use Rattle.std.proofs.Common.{◌≡◌, ℕ, ◌+◌, ◌<◌, suc, List, [], ◌∷◌, ◌++◌, length, drop, Result, Ok, Err, refl}
-use Rattle.std.proofs.Common.{ap, subst, arith}
-use Rattle.std.proofs.lemmas.List.{drop-append-le, length-drop}
-use Rattle.crx_base.specs.meaning.Seen.{ReadLine, Content, Overlong}
-use Rattle.crx_base.specs.declared.fault.Fault.{Fault}
-use Rattle.crx_rinex.specs.meaning.Places.{Place, Here, Wrong, Wanted, after_lines, then_place, one_line}
-use Rattle.crx_rinex.specs.meaning.Places.{first_line}
-use Rattle.crx_rinex.specs.Steady.{IsSteady, Remains, IsDecidedAfter}
+use Rattle.std.proofs.{Common.{subst, arith}, lemmas.List.{drop-append-le, length-drop}}
+use Rattle.crx_base.specs.{declared.fault.Fault.Fault, meaning.Seen.{ReadLine, Content, Overlong}}
+use Rattle.crx_rinex.specs.{Steady.{IsSteady, Remains, IsDecidedAfter}, meaning.Places.{Place, Here, Wrong}}
+use Rattle.crx_rinex.specs.meaning.Places.{Wanted, after_lines, then_place, one_line, first_line}
 
 -- a thing of no lines
 pub steady-here : {X : Type 0} (x : X) → IsSteady (λ lines. Here x 0)
@@ -16,8 +13,7 @@ first_decided : {X : Type 0} (read : List ℕ → Result X Fault) (lines : List 
     → IsDecidedAfter 0 (first_line lines read)
 first_decided read [] = tt
 first_decided read (Overlong ∷ lines) = omega arith
-first_decided read (Content line ∷ lines) =
-    elim (read line) as (λ r. IsDecidedAfter 0 (one_line r)) [ Ok x ↦ omega arith | Err fault ↦ omega arith ]
+first_decided read (Content line ∷ lines) = grind arith
 
 one_remains : {X : Type 0} (count : ℕ) (r : Result X Fault) → Remains (suc count) (one_line r) (one_line r)
 one_remains count (Ok x) = (omega arith, refl)
@@ -28,7 +24,7 @@ pub steady-first_line : {X : Type 0} (read : List ℕ → Result X Fault)
     → IsSteady (λ lines. first_line lines read)
 steady-first_line read [] more = first_decided read more
 steady-first_line read (Overlong ∷ lines) more = (omega arith, refl)
-steady-first_line read (Content line ∷ lines) more = one_remains (length lines) (read line)
+steady-first_line read (Content line ∷ lines) more = one_remains _ _
 
 -- lines before a place
 decided_after : {X : Type 0} (count lines : ℕ) (p : Place X)
@@ -39,9 +35,8 @@ decided_after count lines Wanted h = tt
 
 remains_after : {X : Type 0} (count lines : ℕ) (now later : Place X)
     → Remains count now later → Remains (lines + count) (after_lines lines now) (after_lines lines later)
-remains_after count lines (Here x n) later h = (let e = h.0 in omega (arith, e), ap (after_lines lines) h.1)
-remains_after count lines (Wrong k fault) later h =
-    (let e = h.0 in omega (arith, e), ap (after_lines lines) h.1)
+remains_after count lines (Here x n) later h = grind arith
+remains_after count lines (Wrong k fault) later h = grind arith
 remains_after count lines Wanted later h = decided_after count lines later h
 
 decided_at : {X : Type 0} (count lines : ℕ) (p : Place X) → count < lines
@@ -52,22 +47,17 @@ decided_at count lines Wanted h = tt
 
 then_remains : {X Y : Type 0} (next : X
     → List ReadLine → Place Y) (steady : (x : X) → IsSteady (next x)) (lines more : List ReadLine)
-    (now later : Place X)
-    → Remains (length lines) now later
+    (now later : Place X) → Remains (length lines) now later
     → Remains (length lines) (then_place now lines next) (then_place later (lines ++ more) next)
 then_remains next steady lines more (Here x n) later h =
     let within = h.0 in
     let split : n + length (drop n lines) ≡ length lines = omega (arith, within, length-drop n lines) in
-    let same : drop n (lines ++ more) ≡ drop n lines ++ more = drop-append-le n lines more within in
-    rw h.1
-    (rw same
-    (subst (λ (count : ℕ). Remains count
-    (after_lines n (next x (drop n lines))) (after_lines n (next x (drop n lines ++ more)))) split
-    (remains_after (length (drop n lines)) n
-    (next x (drop n lines)) (next x (drop n lines ++ more)) (steady x (drop n lines) more))))
+    let same = drop-append-le n lines more within in
+    rw h.1 (rw same (subst (λ count. Remains count (after_lines n (next x (drop n lines)))
+    (after_lines n (next x (drop n lines ++ more)))) split (remains_after (length (drop n lines)) n
+    (next x (drop n lines)) (next x (drop n lines ++ more)) (steady x _ more))))
 then_remains next steady lines more (Wrong k fault) later h = (h.0, rw h.1 refl)
-then_remains next steady lines more Wanted (Here x n) h =
-    decided_at (length lines) n (next x (drop n (lines ++ more))) h
+then_remains next steady lines more Wanted (Here x n) h = grind arith
 then_remains next steady lines more Wanted (Wrong k fault) h = h
 then_remains next steady lines more Wanted Wanted h = tt
 
@@ -75,4 +65,4 @@ then_remains next steady lines more Wanted Wanted h = tt
 pub steady-then : {X Y : Type 0} (first : List ReadLine → Place X) (next : X → List ReadLine → Place Y)
     → IsSteady first → ((x : X) → IsSteady (next x)) → IsSteady (λ lines. then_place (first lines) lines next)
 steady-then first next h steady lines more =
-    then_remains next steady lines more (first lines) (first (lines ++ more)) (h lines more)
+    then_remains next steady lines more _ _ (h lines more)

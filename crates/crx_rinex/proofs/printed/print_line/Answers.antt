@@ -1,21 +1,16 @@
-use Rattle.std.proofs.Common.{◌-◌, List, Option, Some, ℕ, option_map, map, ap, sym, ◌∙◌, arith}
-use Rattle.std.proofs.lemmas.Option.{slice_get-map, slice_get_within}
-use Rattle.crx_rinex.specs.meaning.Observations.{Row}
-use Rattle.crx_rinex.specs.meaning.Printing.{printed_row, printed_head}
-use Rattle.crx_rinex.proofs.Lines.{after_first}
+use Rattle.std.proofs.{Common.{◌-◌, Some, option_map, ap, sym, ◌∙◌, arith}, lemmas.Option.slice_get-map}
+use Rattle.std.proofs.lemmas.Option.{slice_get_within}
+use Rattle.crx_rinex.{proofs.Lines.after_first, specs.meaning.Printing.printed_row}
 use Rattle.crx_rinex.proofs.printed.print_line.Goals as goal
 
 pub returns-clause-line : goal.returns-clause-line
 returns-clause-line c =
     let epoch = c.args.epoch.now in
-    after_first (printed_head epoch.head epoch.clock)
-    (map printed_row epoch.rows) c.args.index c.if-index-eq0.false
-    ∙ slice_get-map printed_row epoch.rows (c.args.index - 1)
-    ∙ ap (λ (o : Option Row). option_map printed_row o) (sym c.in-Some.ensures.value)
-    ∙ ap (λ (l : List ℕ). Some l) (sym c.print.ensures.value)
+    after_first _ _ _ c.if-index-eq0.false ∙ slice_get-map printed_row epoch.rows (c.args.index - 1)
+    ∙ ap (λ o. option_map printed_row o) (sym c.in-Some.ensures.value) ∙ ap (λ l. Some l)
+    (sym c.print.ensures.value)
 
 pub returns-clause-within : goal.returns-clause-within
 returns-clause-within c =
-    let inside = slice_get_within c.args.epoch.now.rows
-    (c.args.index - 1) c.in-Some.row.now (sym c.in-Some.ensures.value) in
+    let inside = slice_get_within _ (c.args.index - 1) c.in-Some.row.now (sym c.in-Some.ensures.value) in
     omega (arith, inside, c.in-Some.ensures.within)

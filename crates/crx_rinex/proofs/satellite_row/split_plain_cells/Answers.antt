@@ -16,10 +16,9 @@ loop-k-preserved c =
     cells_more line values c.loop-k.flags k _ _ c.obs_read_into.new.value c.loop-k.invariant
     (omega (arith, test, same, c.cells_within-count.ensures.few))
     (ap observation_of (sym field_is) ∙ c.if-not-obs_read_into.ensures.value)
-    c.if-not-obs_read_into.ensures.in_range
-    (inside line _ (16 * k + 18) (omega (arith, room)) (omega arith))
+    c.if-not-obs_read_into.ensures.in_range (inside line _ (16 * k + 18) (omega (arith, room)) (omega arith))
     (inside line _ (16 * k + 19) (omega (arith, room)) (omega arith))
 
 pub returns-then-not-obs_read_into : goal.returns-then-not-obs_read_into
 returns-then-not-obs_read_into c =
-    cells_kept c.args.line.now c.loop-k.values c.loop-k.flags c.loop-k.k _ c.loop-k.invariant
+    cells_kept _ _ _ _ _ c.loop-k.invariant

@@ -1,18 +1,13 @@
-use Rattle.std.proofs.Common.{◌≡◌, ℕ, ◌+◌, ◌*◌, ◌-◌, ◌≤◌, List, length, take, drop, ap, sym, ◌∙◌, arith}
-use Rattle.std.proofs.Common.{Bool, true, false, refl}
-use Rattle.std.specs.Prelude.{slice_set}
-use Rattle.std.specs.Bool.{OnTrue}
-use Rattle.std.specs.List.{list_all}
-use Rattle.std.proofs.lemmas.Bool.{leb-true}
-use Rattle.std.proofs.lemmas.List.{length-set, set-get_or, drop_all}
-use Rattle.crx_text.specs.meaning.Columns.{is_blank}
-use Rattle.crx_text.specs.meaning.Numbers.{observation_of}
-use Rattle.crx_rinex.specs.meaning.SatelliteLines.{field}
+use Rattle.std.proofs.Common.{◌≡◌, ℕ, ◌+◌, ◌*◌, ◌-◌, ◌≤◌, List, length, take, drop, ap, sym, ◌∙◌, arith, Bool}
+use Rattle.std.proofs.{Common.{true, false, refl}, lemmas.{Bool.leb-true, List.{length-set, set-get_or}}}
+use Rattle.std.{proofs.lemmas.List.drop_all, specs.{Bool.OnTrue, List.list_all, Prelude.slice_set}}
+use Rattle.crx_text.specs.meaning.{Columns.is_blank, Numbers.observation_of}
 use Rattle.crx_rinex.proofs.Cells.{cells_more, cells_whole, past, read_inside}
+use Rattle.crx_rinex.specs.meaning.SatelliteLines.{field}
 use Rattle.crx_rinex.proofs.satellite_row.take_last_cell.Goals as goal
 
 nothing-after : (line : List ℕ) (n : ℕ) → length line ≤ n → list_all is_blank (drop n line) ≡ true
-nothing-after line n h = ap (list_all is_blank) (drop_all n line h)
+nothing-after line n h = ap (list_all _) (drop_all n line h)
 
 pub returns-clause-read : goal.returns-clause-read
 returns-clause-read c =
@@ -44,9 +39,9 @@ returns-then-first-values-clause-read c =
     let line = c.args.line.now in
     let values = c.args.values.now in
     let first : ℕ = c.args.first in
-    let same : first ≡ length values = c.if-first-values.true in
-    on-true _ _ (λ t. let ends = leb-true (length line) (16 * first + 3) t in
-    cells_whole line values c.args.flags.now first (length values) c.requires same refl
+    let same = c.if-first-values.true in
+    on-true _ _ (λ t. let ends = leb-true _ _ t in
+    cells_whole line values _ first _ c.requires same refl
     (nothing-after line (16 * length values + 3) (omega (arith, ends, same))))
 
 -- ---- where the last one isn't taken
@@ -54,7 +49,6 @@ returns-then-first-values-clause-read c =
 pub returns-then-not-obs_read_into-clause-same : goal.returns-then-not-obs_read_into-clause-same
 returns-then-not-obs_read_into-clause-same c =
     let values = c.args.values.now in (
-      ap (slice_set values c.args.first) c.if-not-obs_read_into.ensures.same
-          ∙ set-get_or values c.args.first _,
+      ap (slice_set values _) c.if-not-obs_read_into.ensures.same ∙ set-get_or values c.args.first _,
       refl,
     )

@@ -1,7 +1,5 @@
-use Rattle.std.proofs.Common.{◌≡◌, List, Some, None, ℕ, drop, slice_get, refl, ap, sym, ◌∙◌}
-use Rattle.std.proofs.lemmas.List.{drop-drop}
-use Rattle.crx_rinex.specs.meaning.Printing.{printed_epoch}
-use Rattle.crx_rinex.proofs.Lines.{first_of_rest, no_next}
+use Rattle.std.proofs.{Common.{Some, drop, slice_get, refl, ap, sym, ◌∙◌}, lemmas.List.drop-drop}
+use Rattle.crx_rinex.{proofs.Lines.{first_of_rest, no_next}, specs.meaning.Printing.printed_epoch}
 use Rattle.crx_rinex.proofs.printed.Printed.next_line.Goals as goal
 
 pub returns-then-print_line : goal.returns-then-print_line
@@ -10,8 +8,8 @@ returns-then-print_line c =
     let next = c.self.inside.next in (
       (refl, λ _. tt, sym (drop-drop 1 next lines) ∙ ap (drop 1) c.self.view_is),
       record {
-        value = ap (λ (l : List ℕ). Some l) c.bytes.ensures.value ∙ sym c.if-print_line.ensures.line
-            ∙ sym (first_of_rest lines next) ∙ ap (λ (ls : List (List ℕ)). slice_get ls 0) c.self.view_is;
+        value = ap (λ l. Some l) c.bytes.ensures.value ∙ sym c.if-print_line.ensures.line
+            ∙ sym (first_of_rest lines next) ∙ ap (λ ls. slice_get ls 0) c.self.view_is;
         after_borrow = tt;
       },
     )
@@ -20,11 +18,7 @@ pub returns : goal.returns
 returns c =
     let lines = printed_epoch c.self.inside.epoch in
     let next = c.self.inside.next in
-    let none : slice_get (drop next lines) 0 ≡ None = first_of_rest lines next ∙ c.if-print_line.ensures.line
-    in (
-      (refl, λ _. tt, no_next (drop next lines) none ∙ ap (drop 1) c.self.view_is),
-      record {
-        value = sym none ∙ ap (λ (ls : List (List ℕ)). slice_get ls 0) c.self.view_is;
-        after_borrow = tt;
-      },
+    let none = first_of_rest lines next ∙ c.if-print_line.ensures.line in (
+      (refl, λ _. tt, no_next _ none ∙ ap (drop 1) c.self.view_is),
+      record { value = sym none ∙ ap (λ ls. slice_get ls 0) c.self.view_is; after_borrow = tt },
     )

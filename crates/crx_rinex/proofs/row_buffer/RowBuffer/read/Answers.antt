@@ -5,6 +5,6 @@ use Rattle.crx_rinex.proofs.row_buffer.RowBuffer.read.Goals as goal
 pub invariant_of-self : goal.invariant_of-self
 invariant_of-self c =
     let allowed = c.in-Some.ensures.allowed in (
-      sound-cleared c.self.inside.name c.in-Some.count TYPES_LIMIT c.self.invariant.0.named allowed allowed.1,
+      sound-cleared _ _ TYPES_LIMIT c.self.invariant.0.named allowed allowed.1,
       allowed.1,
     )

@@ -12,8 +12,8 @@ use prog.Wp.{Calls, Loops, WpFn, Tables}
 use types.Logic.{Logic}
 use contract.Monad.{Fun}
 use contract.Running.{tables, tables_of}
-use types.Kit.{‵, ◌⊛◌, ◌$◌, ◌∵◌, !, qed, by, move, keep, drop, use1, split, join, fsplit, fsplit3}
-use types.Kit.{fjoin, fjoin3, feq_i, suffices, frame, done}
+use types.Kit.{‵, ◌⊛◌, ◌$◌, ◌∵◌, !, qed, by, move, keep, drop, use1, split, join, fsplit, fsplit3, fjoin}
+use types.Kit.{fjoin3, feq_i, suffices, frame, done}
 use types.Run.{unit_lit, of_opd, returns, enter}
 use types.SemTy.{Body}
 use types.ByLocal.{alloc_all, pass_all, free_all, look_at, sets}
@@ -23,20 +23,17 @@ use denote.Memory.{mem}
 use denote.Ref.{Bor, MutRef, ShrRef, mut_vals, mut_Tells, shr_vals, shr_Tells}
 use denote.Signature.{plain}
 use denote.Steps.{opens, closes}
-use denote.Triple.Entry.{on_entry}
-use denote.Triple.Spec.{Meets, triple_of}
-use denote.Triple.Table.{entered}
-use denote.Triple.Walked.{says, Stays, stay_ref, stay_none_ref, walk_of, AllGo, Goes-ref, Goes-none_ref}
-use denote.Triple.Walked.{Walks, ends_at, walked, walk_Meets}
-use Rattle.crx_rinex.specs.declared.rows_so_far.RowsSoFar.{RowsSoFar}
+use denote.Triple.{Entry.on_entry, Spec.{Meets, triple_of}, Table.entered, Walked.{says, Stays, stay_ref}}
+use denote.Triple.Walked.{stay_none_ref, walk_of, AllGo, Goes-ref, Goes-none_ref, Walks, ends_at, walked}
+use denote.Triple.Walked.{walk_Meets}
+use Rattle.crx_rinex.specs.contracts.rows_so_far.RowsSoFar.add.Key.{name as #it}
+use Rattle.crx_rinex.specs.{declared.rows_so_far.RowsSoFar.RowsSoFar, meaning.Observations.Row}
+use denote.Exit.{yes}
 use Rattle.crx_rinex.specs.contracts.rows_so_far.RowsSoFar as T
 use Rattle.crx_rinex.specs.contracts.row_buffer.RowBuffer as R
-use Rattle.crx_rinex.specs.meaning.Observations.{Row}
-use Rattle.crx_rinex.specs.contracts.rows_so_far.RowsSoFar.add.Key.{name as #it}
 use Rattle.crx_rinex.specs.contracts.rows_so_far.RowsSoFar.add as it
 use Rattle.crx_rinex.proofs.rows_so_far.RowsSoFar.add.Statement as stated
 use Rattle.crx_rinex.proofs.rows_so_far.RowsSoFar.add.Code as code
-use denote.Exit.{yes}
 
 abbrev Arg : Type 0
 Arg = MutBor RowsSoFar × (Bor Row × Unit {0})
@@ -70,29 +67,24 @@ module _ {M : Type 1} {𝓤 : Ura M} (𝓛 : Logic 𝓤) (at_mem : Memory → SP
   exits : ent 𝓤 (sep 𝓤 (A.obs γ ((T.the_row).coded.code h')) (sep 𝓤 (A.bor κ (Body (mem T.the_row) b o γ))
       (sep 𝓤 (A.lft κ q) (sep 𝓤 (types.Logic.sem 𝓛 rest) (sep 𝓤 (A.lft κ' q') (emp 𝓤)))))) (Post vunit)
   exits =
-      qed 𝓛 (‵ (fobs γ ((T.the_row).coded.code h')) ∷ ‵ (fbor κ (Body (mem T.the_row) b o γ))
-      ∷ ‵ (flft κ q) ∷ ‵ rest ∷ (‵ (flft κ' q') ⊛ ‵ ftrue) ∷ []) ∵
+      qed 𝓛 (‵ (fobs γ _) ∷ ‵ (fbor κ _) ∷ ‵ (flft κ q) ∷ ‵ rest ∷ (‵ (flft κ' q') ⊛ ‵ ftrue) ∷ []) ∵
       suffices ! _ (ends_at 𝓛 it.ended stayed (it.clauses 𝓛 at_mem run)
-      (((κ, (κ', tt)), (q, (q', tt)), tt, x, at), tt) vunit tt (h', (tt, tt)) (tt, (tt, tt))) $
-      says ! refl $ move ! (2 ∷ 4 ∷ []) $ join ! $
-      frame ! $ feq_i ! (List Val) (vptr b o ∷ []) (vptr b o ∷ []) refl $ fjoin3 ! $ fjoin ! $
-      feq_i ! (List Val) (vunit ∷ []) (vunit ∷ []) refl $ move ! (1 ∷ 0 ∷ []) $ done !
+      (((κ, (κ', tt)), (q, (q', tt)), tt, x, at), tt) vunit tt (h', (tt, tt)) (tt, (tt, tt))) $ says ! refl $
+      move ! (2 ∷ 4 ∷ []) $ join ! $ frame ! $ feq_i ! (List Val) (vptr b o ∷ []) _ refl $ fjoin3 ! $ fjoin !
+      $ feq_i ! (List Val) (vunit ∷ []) _ refl $ move ! (1 ∷ 0 ∷ []) $ done !
 
   module _ (C : Calls 𝓤 H) (Λ : Loops 𝓤 H) where
     walk : ent 𝓤 (on_entry 𝓛 it.signature (κ, (κ', tt)) (q, (q', tt)) x at)
         (WpFn 𝓤 H C Λ code.function (vptr b o ∷ vptr s.ref_ptr.0 s.ref_ptr.1 ∷ []) Post)
     walk =
-        qed 𝓛 ((‵ (flft κ q) ⊛ (‵ (flft κ' q') ⊛ ‵ ftrue))
-        ∷ ‵ (owns (MutRef (named 0) κ T.the_row ∷ ShrRef (named 1) κ' R.the_row ∷ []) x at) ∷ []) ∵
-        split ! $ move ! (2 ∷ []) $ fsplit ! $ fsplit3 ! $ drop ! $ move ! (0 ∷ 1 ∷ 3 ∷ []) $
-        enter ! C Λ code.function (vptr b o ∷ vptr s.ref_ptr.0 s.ref_ptr.1 ∷ []) _ $
-        alloc_all ! (λ l. pass_all ! refl ((tt, tt), ((tt, tt), tt)) $
-        move ! (0 ∷ 1 ∷ 2 ∷ []) $ opens ! tt T.the_row {h = h} b o (λ vs.
-        sets ! (of_opd ! (unit_lit !)) refl (tt, tt) $
-        move ! (1 ∷ []) $ use1 𝓛 (‵ ((T.the_row).own_val h' vs)) (id⊢ 𝓤 _) $
-        move ! (1 ∷ 0 ∷ []) $ closes ! tt T.the_row h' vs b o $
-        returns ! (look_at ! 0 refl) $ free_all ! refl $
-        keep ! (0 ∷ 1 ∷ 2 ∷ 3 ∷ 4 ∷ []) $ by ! exits))
+        qed 𝓛 ((‵ (flft κ q) ⊛ (‵ (flft κ' q') ⊛ ‵ ftrue)) ∷ ‵
+        (owns (MutRef (named 0) κ T.the_row ∷ ShrRef (named 1) κ' R.the_row ∷ []) x at) ∷ []) ∵ split ! $ move
+        ! (2 ∷ []) $ fsplit ! $ fsplit3 ! $ drop ! $ move ! (0 ∷ 1 ∷ 3 ∷ []) $ enter ! C Λ code.function
+        (vptr b o ∷ vptr s.ref_ptr.0 s.ref_ptr.1 ∷ []) _ $ alloc_all !
+        (λ l. pass_all ! refl ((tt, tt), ((tt, tt), tt)) $ move ! (0 ∷ 1 ∷ 2 ∷ []) $ opens ! tt T.the_row
+        {h = h} b o (λ vs. sets ! (of_opd ! (unit_lit !)) refl (tt, tt) $ move ! (1 ∷ []) $ use1 𝓛
+        (‵ ((T.the_row).own_val h' vs)) (id⊢ 𝓤 _) $ move ! (1 ∷ 0 ∷ []) $ closes ! tt T.the_row h' vs b o $
+        returns ! (look_at ! 0 refl) $ free_all ! refl $ keep ! (0 ∷ 1 ∷ 2 ∷ 3 ∷ 4 ∷ []) $ by ! exits))
 
 module _ {M : Type 1} {𝓤 : Ura M} (𝓛 : Logic 𝓤) (at_mem : Memory → SProp 𝓤) (run : Routine → Fun 𝓤) where
   open 𝓛 use {H}
@@ -103,8 +95,7 @@ module _ {M : Type 1} {𝓤 : Ura M} (𝓛 : Logic 𝓤) (at_mem : Memory → SP
       (λ κs. (mut_vals, (shr_vals, tt)))
       (λ κs. (mut_Tells (named 0) κs.0 T.the_row, (shr_Tells (named 1) κs.1.0 R.the_row, tt)))
       (λ κs qs bounds a _ _. via 𝓤 _ (fst∗ 𝓤 _ (emp 𝓤))
-      (walk 𝓛 at_mem run κs.0 κs.1.0 qs.0 qs.1.0 a.0.ref_ptr.0 a.0.ref_ptr.1 a.0.ghost_name a.0.now a.1.0 C
-      Λ))
+      (walk 𝓛 at_mem run κs.0 κs.1.0 qs.0 qs.1.0 _ _ _ a.0.now a.1.0 C Λ))
 
   goes : AllGo 𝓛 2 (it.signature).params (it.ended).kept stayed
   goes = (
@@ -112,12 +103,11 @@ module _ {M : Type 1} {𝓤 : Ura M} (𝓛 : Logic 𝓤) (at_mem : Memory → SP
     (Goes-none_ref 𝓛 2 (1 ∷ []) tt (plain (λ _. R.the_row)) yes, tt),
   )
 
-meets : {M : Type 1} {𝓤 : Ura M} (𝓛 : Logic 𝓤) → (at_mem : Memory → SProp 𝓤)
-    (run : Routine → Fun 𝓤) (𝓣 : Tables 𝓤 𝓛.H)
-    → Meets 𝓛 it.signature (WpFn 𝓤 𝓛.H 𝓣.C 𝓣.Λ code.function) (it.spec 𝓛 at_mem run)
+meets : {M : Type 1} {𝓤 : Ura M} (𝓛 : Logic 𝓤) → (at_mem : Memory → SProp 𝓤) (run : Routine → Fun 𝓤)
+    (𝓣 : Tables 𝓤 𝓛.H) → Meets 𝓛 it.signature (WpFn 𝓤 𝓛.H 𝓣.C 𝓣.Λ code.function) (it.spec 𝓛 at_mem run)
 meets {𝓤 = 𝓤} 𝓛 at_mem run 𝓣 =
     walk_Meets 𝓛 it.ended stayed (goes 𝓛 at_mem run) (it.clauses 𝓛 at_mem run)
-    (WpFn 𝓤 𝓛.H 𝓣.C 𝓣.Λ code.function) (WpFn-mono 𝓤 𝓛.H 𝓛.laws 𝓣 code.function) (walks 𝓛 at_mem run 𝓣.C 𝓣.Λ)
+    (WpFn 𝓤 𝓛.H 𝓣.C 𝓣.Λ _) (WpFn-mono 𝓤 𝓛.H 𝓛.laws 𝓣 _) (walks 𝓛 at_mem run 𝓣.C 𝓣.Λ)
 
 pub add_spec : {M : Type 1} → stated.statement M
 unfolding tables_of

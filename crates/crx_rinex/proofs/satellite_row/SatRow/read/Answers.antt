@@ -1,26 +1,21 @@
-use Rattle.std.proofs.Common.{◌≡◌, ◌*◌, ℕ, length, ap, sym, ◌∙◌, arith, refl, inl, inr}
-use Rattle.std.specs.Option.{is_some}
-use Rattle.std.proofs.lemmas.List.{with_items_is}
-use Rattle.std.proofs.lemmas.Result.{IfOk-from_err, err_from_is_err_and}
+use Rattle.std.proofs.{Common.{◌≡◌, ◌*◌, ℕ, length, ap, sym, ◌∙◌, arith}, lemmas.List.with_items_is}
+use Rattle.std.proofs.lemmas.Result.{IfOk-from_err}
 use Rattle.crx_header.specs.meaning.Satellites.{is_identifier}
-use Rattle.crx_rinex.specs.meaning.SatelliteLines.{row_of_types, row_with, values_in}
-use Rattle.crx_rinex.proofs.Cells.{sound-written}
+use Rattle.crx_rinex.{proofs.Cells.sound-written, specs.meaning.SatelliteLines.{row_of_types, row_with}}
+use Rattle.crx_rinex.specs.meaning.SatelliteLines.{values_in}
 use Rattle.crx_rinex.proofs.satellite_row.SatRow.read.Goals as goal
 
 pub invariant_of-result : goal.invariant_of-result
 invariant_of-result c =
     let m = c.in-Some.m in
-    let values_len : c.in-Ok.values.len ≡ m = c.in-Ok.ensures.len in
-    let flags_len : c.in-Ok-vec.flags.len ≡ 2 * m = c.in-Ok-vec.ensures.len in
-    let values : length c.read_cells.new.values
-    ≡ m = let a = c.read_cells.auto.values in let b = c.deref_mut.ensures.len
+    let values_len = c.in-Ok.ensures.len in
+    let flags_len = c.in-Ok-vec.ensures.len in
+    let values : length _ ≡ m = let a = c.read_cells.auto.values in let b = c.deref_mut.ensures.len
     in omega (arith, a, b, values_len) in
     let flags : length c.read_cells.new.flags ≡ 2 * m = let a =
     c.read_cells.auto.flags in let b = c.deref_mut-2.ensures.len in omega (arith, a, b, flags_len) in
-    sound-written c.identifier.result c.read_cells.new.values
-    c.in-Ok.values.items c.read_cells.new.flags c.in-Ok-vec.flags.items m c.in-Ok.values.len
-    c.in-Ok-vec.flags.len
-    (ap is_identifier c.identifier.ensures.value ∙ c.in-Some.ensures.named) c.in-Some.ensures.allowed
+    sound-written c.identifier.result c.read_cells.new.values c.in-Ok.values.items c.read_cells.new.flags _ m
+    _ _ (ap is_identifier c.identifier.ensures.value ∙ c.in-Some.ensures.named) c.in-Some.ensures.allowed
     values flags values_len flags_len c.in_ok-read_cells.ensures.ok.ranged c.in_ok-read_cells.ensures.ok.kept
 
 pub returns-clause-sound : goal.returns-clause-sound
@@ -34,12 +29,10 @@ read_cells-requires c = (
 )
 
 pub returns-in_default-vec-clause-err : goal.returns-in_default-vec-clause-err
-returns-in_default-vec-clause-err c =
-    inr (refl, ap (λ o. is_some o) (sym c.types_of_satellite.ensures.value ∙ c.in-Some.is))
+returns-in_default-vec-clause-err c = grind arith
 
 pub returns-in_default-vec-2-clause-err : goal.returns-in_default-vec-2-clause-err
-returns-in_default-vec-2-clause-err c =
-    inr (refl, ap (λ o. is_some o) (sym c.types_of_satellite.ensures.value ∙ c.in-Some.is))
+returns-in_default-vec-2-clause-err c = grind arith
 
 pub returns-in_err-read_cells-clause-ok : goal.returns-in_err-read_cells-clause-ok
 returns-in_err-read_cells-clause-ok c = IfOk-from_err _ _ c.from_residual.ensures.0
@@ -48,30 +41,18 @@ pub returns-in_err-read_cells-clause-sound : goal.returns-in_err-read_cells-clau
 returns-in_err-read_cells-clause-sound c = IfOk-from_err _ _ c.from_residual.ensures.0
 
 pub returns-in_default-clause-err : goal.returns-in_default-clause-err
-returns-in_default-clause-err c =
-    inl (ap (row_of_types c.args.line.now) (sym c.types_of_satellite.ensures.value ∙ c.in_default.is))
+returns-in_default-clause-err c = grind arith
 
 pub returns-in_err-read_cells-clause-err : goal.returns-in_err-read_cells-clause-err
-returns-in_err-read_cells-clause-err c =
-    let line = c.args.line.now in
-    let p = err_from_is_err_and c.from_residual.result c.from_residual.ensures.1 in
-    rw (p.1, p.2)
-    (inl (ap (row_of_types line) (sym c.types_of_satellite.ensures.value ∙ c.in-Some.is)
-    ∙ ap (λ (m : ℕ). row_with m line (values_in m line))
-    (sym (c.deref_mut.ensures.len ∙ c.in-Ok.ensures.len))
-    ∙ c.in_err-read_cells.ensures.err))
+returns-in_err-read_cells-clause-err c = grind arith
 
 pub returns-clause-ok : goal.returns-clause-ok
 returns-clause-ok c =
     let line = c.args.line.now in
     rw (
-      with_items_is c.in-Ok.values c.read_cells.new.values
-          (c.read_cells.auto.values ∙ c.deref_mut.ensures.len),
-      with_items_is c.in-Ok-vec.flags c.read_cells.new.flags
-          (c.read_cells.auto.flags ∙ c.deref_mut-2.ensures.len),
+      with_items_is c.in-Ok.values _ (c.read_cells.auto.values ∙ c.deref_mut.ensures.len),
+      with_items_is c.in-Ok-vec.flags _ (c.read_cells.auto.flags ∙ c.deref_mut-2.ensures.len),
       c.identifier.ensures.value,
-    )
-    (ap (row_of_types line) (sym c.types_of_satellite.ensures.value ∙ c.in-Some.is)
-    ∙ ap (λ (m : ℕ). row_with m line (values_in m line))
-    (sym (c.deref_mut.ensures.len ∙ c.in-Ok.ensures.len))
+    ) (ap (row_of_types line) (sym c.types_of_satellite.ensures.value ∙ c.in-Some.is) ∙ ap
+    (λ m. row_with m line (values_in m line)) (sym (c.deref_mut.ensures.len ∙ c.in-Ok.ensures.len))
     ∙ c.in_ok-read_cells.ensures.ok.row)
