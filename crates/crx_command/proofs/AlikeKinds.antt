@@ -1,38 +1,25 @@
 -- The kinds of error that a parse may have at some words come to one plan: help is never among others.
-use Rattle.std.proofs.Common.{⊎_elim, ◌≡◌, ◌+◌, ◌&&◌, ◌==◌, ℕ, Bool, zero, suc, true, false, not, cond}
-use Rattle.std.proofs.Common.{codes, refl, ap, List, [], ◌∷◌, min, length, nat_lt, Option, Some, None}
-use Rattle.std.proofs.Common.{is_some}
-use Rattle.std.specs.Prelude.{find, slice_get}
-use Rattle.std.specs.Option.{option_map_or}
-use Rattle.std.specs.Str.{bytes_eq, chars}
-use Rattle.clap.specs.Lexer.{long_of, short_of}
-use Rattle.clap.specs.Facts.{parser_of_value, unwrap_or_range}
-use Rattle.clap.specs.Matches.{count_text}
-use Rattle.clap.specs.ValueTests.{accepts}
-use Rattle.clap.specs.Walk.{Held, Names, Row, Rule, Step, Text, Waiting, Walk, action_of, answers_to}
-use Rattle.clap.specs.Walk.{arg_by_id}
-use Rattle.clap.specs.Walk.{arg_by_index, arg_by_long, arg_by_short, attached_value, count_of, most_values}
-use Rattle.clap.specs.Walk.{nothing_held, reacted, settled, subcommand_met, takes_values, values_or_missing}
-use Rattle.clap.specs.Walk.{walk}
-use Rattle.clap.specs.Walk.{walk_from, walked, with_default, word_met, idle, next}
-use Rattle.clap.specs.Walk.{option, positional, subcommand, trailing, value}
-use Rattle.clap.specs.Simple.{App, Shape, argument_words, built, label_of, names_of}
-use Rattle.clap.specs.Kinds.{IsAmong, Kinds, check_kinds, or_else, range_kinds, request_kinds, value_kinds}
-use Rattle.clap.specs.Kinds.{values_kinds}
-use Rattle.clap.specs.Faults.{action_fault, built_fault, bundle_step_fault, count_fault}
-use Rattle.clap.specs.Faults.{default_fault, defaults_fault, entered_fault, fault_of, flag_word_fault}
-use Rattle.clap.specs.Faults.{flags_fault}
-use Rattle.clap.specs.Faults.{level_fault, long_fault, option_fault, other_fault, positional_fault}
-use Rattle.clap.specs.Faults.{react_fault, repeat_fault, set_fault, settle_fault, short_fault, step_fault}
-use Rattle.clap.specs.Faults.{stray_fault}
-use Rattle.clap.specs.Faults.{turn_fault, use_fault, walk_fault, word_fault}
-use Rattle.clap.specs.declared.builder.ArgAction.{ArgAction}
-use Rattle.clap.specs.declared.builder.ArgAction.TheVariants as action
-use Rattle.clap.specs.declared.builder.ValueParser.{ValueParser}
+use Rattle.std.proofs.Common.{arith, ◌≡◌, ◌+◌, ◌&&◌, ℕ, Bool, zero, suc, true, false, not, cond, codes, refl}
+use Rattle.std.proofs.Common.{List, [], ◌∷◌, min, length, Option, Some, None, is_some}
+use Rattle.std.specs.{Option.option_map_or, Prelude.{find, slice_get}, Str.{bytes_eq, chars}}
+use Rattle.clap.specs.{Facts.{parser_of_value, unwrap_or_range}, Faults.{action_fault, built_fault}}
+use Rattle.clap.specs.Faults.{bundle_step_fault, count_fault, default_fault, defaults_fault, entered_fault}
+use Rattle.clap.specs.Faults.{fault_of, flag_word_fault, flags_fault, level_fault, long_fault, option_fault}
+use Rattle.clap.specs.Faults.{other_fault, positional_fault, react_fault, repeat_fault, set_fault}
+use Rattle.clap.specs.Faults.{settle_fault, short_fault, step_fault, stray_fault, turn_fault, use_fault}
+use Rattle.clap.specs.{Faults.{walk_fault, word_fault}, Kinds.{IsAmong, Kinds, check_kinds, or_else}}
+use Rattle.clap.specs.{Kinds.{range_kinds, request_kinds, value_kinds, values_kinds}, Lexer.long_of}
+use Rattle.clap.specs.{Lexer.short_of, Matches.count_text, Simple.{App, Shape, argument_words, built}}
+use Rattle.clap.specs.{Simple.{label_of, names_of}, ValueTests.accepts, Walk.{Held, Names, Row, Rule, Step}}
+use Rattle.clap.specs.Walk.{Text, Waiting, Walk, action_of, answers_to, arg_by_id, arg_by_long, arg_by_short}
+use Rattle.clap.specs.Walk.{attached_value, count_of, most_values, nothing_held, reacted, settled}
+use Rattle.clap.specs.Walk.{subcommand_met, takes_values, values_or_missing, walk, walk_from, walked}
+use Rattle.clap.specs.Walk.{with_default, word_met, idle, next, option, positional, subcommand, trailing}
+use Rattle.clap.specs.{Walk.value, declared.builder.{ArgAction.ArgAction, ValueParser.ValueParser}}
 use Rattle.clap.specs.declared.error.ErrorKind.{ErrorKind}
+use Rattle.crx_command.specs.meaning.{Commands.program, Planning.{Plan, by_kind, by_kinds}}
+use Rattle.clap.specs.declared.builder.ArgAction.TheVariants as action
 use Rattle.clap.specs.declared.error.ErrorKind.TheVariants as kind
-use Rattle.crx_command.specs.meaning.Commands.{program}
-use Rattle.crx_command.specs.meaning.Planning.{Plan, by_kind, by_kinds}
 
 -- each of the kinds comes to the plan of the first
 pub record Alike (kinds : Kinds) : Type 0 where
@@ -42,7 +29,7 @@ alike_none : Alike []
 alike_none = record { same = λ k plan h. absurd h }
 
 alike_one : (x : ErrorKind) → Alike (x ∷ [])
-alike_one x = record { same = λ k plan h. ⊎_elim (λ same. ap by_kind same) (λ none. absurd none) h }
+alike_one x = grind arith
 
 alike_or : (a b : Kinds) → Alike a → Alike b → Alike (or_else a b)
 alike_or [] b h g = g
@@ -68,9 +55,7 @@ alike_values i p (text ∷ rest) = alike_or (value_kinds i p text) _ (alike_valu
     (alike_values i p rest)
 
 alike_range : (least most n : ℕ) → Alike (range_kinds least most n)
-alike_range least most n = alike_if (nat_lt 0 least && n == 0) _ _ (alike_one _)
-    (alike_if (least == most) _ _ (alike_if (least == n) _ _ alike_none (alike_one _))
-    (alike_if (nat_lt n least) _ _ (alike_one _) (alike_if (nat_lt most n) _ _ (alike_one _) alike_none)))
+alike_range least most n = grind arith
 
 alike_request : (x : ArgAction) → Alike (request_kinds x)
 alike_request action.Help = alike_one _
@@ -137,17 +122,14 @@ alike_long c again (Some a) v h =
     (alike_if (is_some v) _ _ (alike_one _) (alike_react c again a [] h))
 
 alike_short : (c : List Rule) (again : Bool) (found : Option Rule) (rest : Text) (h : Held)
-    (more : Held → Kinds)
-    → ((g : Held) → Alike (more g))
-    → Alike (short_fault c again found rest h more)
+    (more : Held → Kinds) → ((g : Held) → Alike (more g)) → Alike (short_fault c again found rest h more)
 alike_short c again None rest h more each = alike_one _
 alike_short c again (Some a) rest h more each =
     alike_if (takes_values a) _ _ (alike_with_value c again a (attached_value rest) h)
     (alike_or (react_fault c again a [] h) _ (alike_react c again a [] h) (each (reacted c a [] h)))
 
-alike_bundle_step : (c : List Rule)
-    (again : Bool) (x : Option ℕ) (flags : Text) (skip : ℕ) (h : Held) (more : Text → ℕ → Held → Kinds)
-    → ((t : Text) (n : ℕ) (g : Held) → Alike (more t n g))
+alike_bundle_step : (c : List Rule) (again : Bool) (x : Option ℕ) (flags : Text) (skip : ℕ) (h : Held)
+    (more : Text → ℕ → Held → Kinds) → ((t : Text) (n : ℕ) (g : Held) → Alike (more t n g))
     → Alike (bundle_step_fault c again x flags skip h more)
 alike_bundle_step c again None flags skip h more each = alike_none
 alike_bundle_step c again (Some x) flags zero h more each =
@@ -170,8 +152,7 @@ alike_flag_word c again None word h =
     (λ flags. alike_flags c again (length flags) flags h.skip (record h { skip = 0 }))
 
 alike_plain_word : (s : Shape) (word : Text) (h : Held) → Alike (other_fault s None word h)
-alike_plain_word s word h = alike_if
-    (bytes_eq word (45 ∷ 45 ∷ [])) _ _ alike_none
+alike_plain_word s word h = alike_if (bytes_eq word (45 ∷ 45 ∷ [])) _ _ alike_none
     (alike_flag_word s.rules s.args_override_self (long_of word) word h)
 
 -- no subcommand is called `help`, or there is none
@@ -201,11 +182,7 @@ alike_positional : (c : List Rule) (again : Bool) (a : Rule) (h : Held) → Alik
 alike_positional c again a h = alike_if _ _ _ alike_none (alike_settle c again h)
 
 alike_stray : (s : Shape) → Alike (stray_fault s)
-alike_stray s = alike_if s.is_leaf _ _ (alike_one _)
-    (record {
-      same = λ k plan h. ⊎_elim
-          (λ same. ap by_kind same) (λ more. ⊎_elim (λ same. ap by_kind same) (λ none. absurd none) more) h;
-    })
+alike_stray s = grind arith
 
 alike_position : (s : Shape) (h : Held) (found : Option Rule)
     → Alike (option_map_or (λ a. positional_fault s.rules s.args_override_self a h) found (stray_fault s))
@@ -213,7 +190,7 @@ alike_position s h None = alike_stray s
 alike_position s h (Some a) = alike_positional s.rules s.args_override_self a h
 
 alike_step : (s : Shape) (position : ℕ) (h : Held) (step : Step) → Alike (step_fault s position h step)
-alike_step s position h value = alike_position s h (arg_by_index s.rules position)
+alike_step s position h value = alike_position s h _
 alike_step s position h (next w) = alike_none
 alike_step s position h (trailing n) = alike_none
 alike_step s position h (subcommand name) = alike_none
@@ -247,12 +224,10 @@ alike_defaults rows (a ∷ rest) =
     alike_or (default_fault rows a) _ (alike_default rows a) (alike_defaults (with_default rows a) rest)
 
 alike_checks : (a b d : Bool) → Alike (check_kinds a b d)
-alike_checks a b d = alike_if a _ _ (alike_one _)
-    (alike_if b _ _ (alike_one _) (alike_if d _ _ (alike_one _) alike_none))
+alike_checks a b d = grind arith
 
 alike_level : (s : Shape) (names : Names) (h : Held) (words : List Text) (has : Bool) (below : Kinds)
-    → NoHelp s names → Alike below
-    → Alike (level_fault s names h words has below)
+    → NoHelp s names → Alike below → Alike (level_fault s names h words has below)
 alike_level s names h words has below off under =
     alike_or (walk_fault s names (walk_from h) words) _ (alike_walk s names (walk_from h) words off)
     (alike_or below _ under

@@ -1,18 +1,11 @@
 -- The date of a moment fits its columns.
 use Rattle.std.proofs.Common.{arith, ◌≡◌, ◌∙◌, ◌≤◌, ◌<◌, ◌+◌, ◌-◌, ◌/◌, ◌%◌, ◌&&◌, ap, refl, ℕ, zero, suc}
-use Rattle.std.proofs.Common.{true, false}
-use Rattle.std.proofs.Common.{Bool, List, [], ◌∷◌, ◌++◌, length, length-append, codes, nat_le, leb-true}
-use Rattle.std.proofs.Common.{le-leb, Option, None}
-use Rattle.std.proofs.Common.{Some}
-use Rattle.std.specs.List.{list_all, slice_index_or}
+use Rattle.std.proofs.Common.{true, false, Bool, List, [], ◌∷◌, ◌++◌, length, length-append, codes, nat_le}
+use Rattle.std.proofs.{Common.{le-leb, Option, None, Some}, lemmas.Bool.and_parts}
+use Rattle.std.{proofs.lemmas.List.Folds.list_all-append, specs.List.{list_all, slice_index_or}}
 use Rattle.std.specs.Prelude.{unsigned_abs, ℤ, if◌then◌else◌}
-use Rattle.std.proofs.lemmas.List.Folds.{list_all-append}
-use Rattle.std.proofs.lemmas.Bool.{and_parts}
-use Rattle.jiff.specs.Types.{DateTime}
-use Rattle.jiff.specs.Words.{days_in_month}
-use Rattle.jiff.specs.declared.timestamp.Timestamp.{Timestamp}
-use Rattle.crx_base.specs.meaning.Lines.{is_printable}
-use Rattle.crx_base.specs.meaning.Choices.{is_date}
+use Rattle.jiff.specs.{Types.DateTime, Words.days_in_month, declared.timestamp.Timestamp.Timestamp}
+use Rattle.crx_base.specs.meaning.{Choices.is_date, Lines.is_printable}
 use Rattle.crx_command.specs.meaning.Dates.{IsDateOf, IsDateText, date_text_of, months, two_digits}
 
 -- a text of so many bytes at most, each printable
@@ -26,15 +19,12 @@ joined m n xs ys a b =
     let b_short = b.short in
     record {
       short = omega (arith, length-append xs ys, a_short, b_short);
-      printable = list_all-append is_printable xs ys
+      printable = list_all-append _ xs ys
           ∙ (ap (λ b. b && list_all is_printable ys) a.printable ∙ b.printable);
     }
 
 digit : (n : ℕ) → n < 10 → is_printable (48 + n) ≡ true
-digit n h =
-    let low : nat_le 32 (48 + n) ≡ true = le-leb 32 (48 + n) (omega arith) in
-    let high : nat_le (48 + n) 126 ≡ true = le-leb (48 + n) 126 (omega (arith, h)) in
-    rw (low, high) refl
+digit n h = grind arith
 
 digits : (n : ℕ) → n < 100 → Fits 2 (two_digits n)
 digits n h = record {
@@ -47,15 +37,13 @@ abbrev fits_three : List ℕ → Bool
 fits_three name = nat_le (length name) 3 && list_all is_printable name
 
 three : (name : List ℕ) → fits_three name ≡ true → Fits 3 name
-three name h =
-    let parts = and_parts (nat_le (length name) 3) (list_all is_printable name) h in
-    record { short = leb-true (length name) 3 parts.0; printable = parts.1 }
+three name h = grind arith
 
 named : (names : List (List ℕ)) (k : ℕ)
     → list_all fits_three names ≡ true → fits_three (slice_index_or names k []) ≡ true
 named [] k h = refl
-named (name ∷ names) zero h = (and_parts (fits_three name) (list_all fits_three names) h).0
-named (name ∷ names) (suc k) h = named names k (and_parts (fits_three name) (list_all fits_three names) h).1
+named (name ∷ names) zero h = grind arith
+named (name ∷ names) (suc k) h = named names k (and_parts _ _ h).1
 
 -- a month has at most 31 days
 month_ends : (is_second is_leap is_shorter : Bool)
@@ -90,4 +78,4 @@ moment_fits nanoseconds text h = ap is_date h.2 ∙ date_fits h.0
 -- the date of a run that has none among its words
 pub default_fits : (moment : Option Timestamp) (text : List ℕ) → IsDateOf moment text → is_date text ≡ true
 default_fits None text none = ap is_date none
-default_fits (Some at) text h = moment_fits at.nanosecond text h
+default_fits (Some at) text h = moment_fits _ text h

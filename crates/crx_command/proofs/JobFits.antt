@@ -1,23 +1,13 @@
 -- The date of a job that words ask for fits its columns.
-use Rattle.std.proofs.Common.{◌≡◌, ◌∙◌, ap, refl, cond, not, true, false, Bool, ℕ, List, [], ◌∷◌, Option}
-use Rattle.std.proofs.Common.{Some, None}
-use Rattle.std.proofs.Common.{nat_lt}
-use Rattle.std.specs.Option.{option_map_or}
-use Rattle.clap.specs.Faults.{fault_of}
-use Rattle.clap.specs.Kinds.{Kinds}
-use Rattle.clap.specs.Simple.{subcommand_of}
-use Rattle.clap.specs.Walk.{Row}
+use Rattle.std.proofs.Common.{arith, ◌≡◌, ◌∙◌, ap, refl, cond, not, true, false, Bool, ℕ, List, [], ◌∷◌}
+use Rattle.std.{proofs.Common.{Option, Some, None}, specs.Option.option_map_or}
+use Rattle.clap.specs.{Faults.fault_of, Kinds.Kinds, Simple.subcommand_of, Walk.Row}
 use Rattle.clap.specs.declared.error.ErrorKind.{ErrorKind}
-use Rattle.clap.specs.declared.error.ErrorKind.TheVariants as kind
 use Rattle.crx_base.specs.meaning.Choices.{is_date}
-use Rattle.crx_command.specs.meaning.Commands.{program}
-use Rattle.crx_command.specs.meaning.Names.{output_name}
-use Rattle.crx_command.specs.meaning.Planning.{Given, Plan, Help, Run, Refused, by_kind, by_kinds, given_in}
-use Rattle.crx_command.specs.meaning.Planning.{judged}
+use Rattle.crx_command.specs.{declared.job.{Job.Job, Tool.Tool}, meaning.{Commands.program, Planning.Given}}
+use Rattle.crx_command.specs.meaning.Planning.{Plan, Help, Run, Refused, by_kind, by_kinds, given_in, judged}
 use Rattle.crx_command.specs.meaning.Planning.{of_subcommand, plan_of, tool_named, with_source, with_target}
-use Rattle.crx_command.specs.meaning.Planning.{writes_file}
-use Rattle.crx_command.specs.declared.job.Job.{Job}
-use Rattle.crx_command.specs.declared.job.Tool.{Tool}
+use Rattle.clap.specs.declared.error.ErrorKind.TheVariants as kind
 
 -- whether the date of a plan fits, where it has one
 abbrev date_is : Option (List ℕ) → Bool
@@ -63,9 +53,7 @@ either_fits false p q h g = g
 source_fits : (tool : Tool) (given : Given) (source : Option (List ℕ))
     → date_is given.date ≡ true → fits (with_source tool given source) ≡ true
 source_fits tool given None h = h
-source_fits tool given (Some source) h =
-    either_fits (writes_file tool given.dashes) _ _
-    (target_fits tool given source (output_name tool source) h) h
+source_fits tool given (Some source) h = grind arith
 
 unless_bad : (b : Bool) (p q : Plan) → fits p ≡ true → (b ≡ true → fits q ≡ true)
     → fits (cond (not b) p q) ≡ true
@@ -73,10 +61,7 @@ unless_bad true p q h g = g refl
 unless_bad false p q h g = h
 
 judged_fits : (tool : Tool) (given : Given) → fits (judged tool given) ≡ true
-judged_fits tool given =
-    either_fits (nat_lt 1 given.dashes) _ _ refl
-    (either_fits (nat_lt 1 given.files) _ _ refl
-    (unless_bad (date_is given.date) _ _ refl (source_fits tool given given.file)))
+judged_fits tool given = grind arith
 
 subcommand_fits : (found : Option (List ℕ × List Row)) → fits (of_subcommand found) ≡ true
 subcommand_fits None = refl

@@ -1,18 +1,14 @@
 -- A number that `u32` reads from a text.
 use Rattle.std.proofs.Common.{◌≡◌, ◌^◌, ◌&&◌, ℕ, Bool, true, false, refl, List, [], ◌∷◌, length, nat_lt}
-use Rattle.std.proofs.Common.{Option}
-use Rattle.std.proofs.Common.{Some, None, Result, Ok, Err, lt-ltb, ltb-true}
-use Rattle.std.specs.Char.{digit_value}
-use Rattle.std.specs.List.{list_all}
-use Rattle.std.specs.Str.Parse.{AllDigits, ParsesUnsigned, digits_value, without_leading_plus}
-use Rattle.clap.specs.Matches.{ReadsOne}
-use Rattle.clap.specs.ValueTests.{is_numeral}
-use Rattle.clap.proofs.WalkLemmas.{both}
+use Rattle.std.{proofs.Common.{Option, Some, None, Result, Ok, Err, lt-ltb, ltb-true}, specs.Char.digit_value}
+use Rattle.std.specs.{List.list_all, Str.Parse.{AllDigits, ParsesUnsigned, digits_value}}
+use Rattle.std.specs.Str.Parse.{without_leading_plus}
+use Rattle.clap.{proofs.WalkLemmas.both, specs.{Matches.ReadsOne, ValueTests.is_numeral}}
 use Rattle.crx_command.specs.meaning.Planning.{counted_argument}
 
 digits_pass : (ds : List ℕ) → AllDigits 10 ds → list_all (λ d. nat_lt (digit_value d) 10) ds ≡ true
 digits_pass [] h = refl
-digits_pass (d ∷ ds) h = rw (lt-ltb (digit_value d) 10 h.0) (digits_pass ds h.1)
+digits_pass (d ∷ ds) h = rw (lt-ltb _ 10 h.0) (digits_pass ds h.1)
 
 digits_from : (ds : List ℕ) → list_all (λ d. nat_lt (digit_value d) 10) ds ≡ true → AllDigits 10 ds
 digits_from [] e = tt
@@ -33,8 +29,7 @@ module _ {E : Type 0} (G : List ℕ
       rw (
         lt-ltb 0 (length ds) parsed.0.0.0,
         digits_pass ds parsed.0.0.1,
-        lt-ltb
-            (digits_value 10 ds) (2 ^ 32) parsed.0.1,
+        lt-ltb (digits_value 10 ds) (2 ^ 32) parsed.0.1,
         parsed.1,
       ) refl
   number_read text None h = go (fits (without_leading_plus text)) refl

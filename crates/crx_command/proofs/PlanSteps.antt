@@ -1,18 +1,11 @@
 -- From what the parser of command lines answers to a plan.
-use Rattle.std.proofs.Common.{◌≡◌, ◌≢◌, ◌∙◌, ⊎_elim, refl, sym, Option, Some, None}
-use Rattle.std.proofs.Common.{option_map, unwrap_or, subst, true}
-use Rattle.std.specs.Option.{IfSome}
-use Rattle.std.proofs.lemmas.Option.{none-some}
-use Rattle.clap.specs.Kinds.{HasKind, Kinds}
-use Rattle.clap.specs.Faults.{is_simple_and_free}
-use Rattle.clap.specs.Simple.{is_simple}
-use Rattle.clap.specs.Values.{kind_of}
-use Rattle.clap.specs.declared.error.Error.{Error}
+use Rattle.std.proofs.Common.{arith, ◌≡◌, ◌≢◌, refl, sym, Option, Some, None, option_map, true}
+use Rattle.std.{proofs.lemmas.Option.none-some, specs.Option.IfSome}
+use Rattle.clap.{proofs.OnLiterals.clap_on_literals, specs.{Faults.is_simple_and_free, Kinds.HasKind}}
+use Rattle.clap.specs.{Kinds.Kinds, Simple.is_simple, Values.kind_of, declared.error.Error.Error}
 use Rattle.clap.specs.declared.error.ErrorKind.TheVariants.{OutOfMemory}
-use Rattle.clap.proofs.OnLiterals.{clap_on_literals}
-use Rattle.crx_command.specs.meaning.Commands.{program}
-use Rattle.crx_command.specs.meaning.Planning.{Plan, by_kind, by_kinds}
-use Rattle.crx_command.proofs.AlikeKinds.{Alike}
+use Rattle.crx_command.{proofs.AlikeKinds.Alike, specs.meaning.{Commands.program, Planning.{Plan, by_kind}}}
+use Rattle.crx_command.specs.meaning.Planning.{by_kinds}
 
 pub program_is_simple : is_simple program ≡ true
 unfolding clap_on_literals
@@ -31,17 +24,16 @@ module _ {X A B : Type 0} (f : X → A) (g : X → B) where
       → Some a ≡ option_map f o → Some b ≡ option_map (λ (p : A × B). p.1) (option_map pair o)
       → ◌≡◌ {A = Option (A × B)} (Some (a, b)) (option_map pair o)
   both_halves None a b first second = absurd (none-some a (sym first))
-  both_halves (Some x) a b first second = λ i. Some (unwrap_or (first i) a, unwrap_or (second i) b)
+  both_halves (Some x) a b first second = grind arith
 
 -- an answer's plan is another, where the two are one
 pub same_plan : (o : Option Plan) (p q : Plan) → p ≡ q → IfSome o (λ plan. plan ≡ p)
     → IfSome o (λ plan. plan ≡ q)
-same_plan o p q same h = subst (λ (r : Plan). IfSome o (λ plan. plan ≡ r)) same h
+same_plan o p q same h = grind arith
 
 -- the plan of an error of the parser, whose kind is among those that it may have
 pub not_run_plan : (o : Option Plan) (e : Error) (kinds : Kinds) (rest : Plan) → Alike kinds → HasKind kinds e
     → IfSome o (λ plan. (plan ≡ by_kind (kind_of e)) × (kind_of e ≢ OutOfMemory))
     → IfSome o (λ plan. plan ≡ by_kinds kinds rest)
 not_run_plan None e kinds rest alike has h = h
-not_run_plan (Some plan) e kinds rest alike has h =
-    ⊎_elim (λ memory. absurd (h.1 memory)) (λ among. h.0 ∙ alike.same (kind_of e) rest among) has
+not_run_plan (Some plan) e kinds rest alike has h = grind arith

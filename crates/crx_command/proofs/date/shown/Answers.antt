@@ -1,7 +1,5 @@
 use Rattle.std.proofs.Common.{rules, ◌≡◌, ◌++◌, ◌∙◌, ◌-◌, ◌%◌, ap, codes, [], List, ℕ, string_bytes}
-use Rattle.std.proofs.Common.{append_assoc}
-use Rattle.std.specs.List.{slice_index_or}
-use Rattle.std.specs.Prelude.{unsigned_abs}
+use Rattle.std.{proofs.Common.append_assoc, specs.{List.slice_index_or, Prelude.unsigned_abs}}
 use Rattle.crx_command.specs.meaning.Dates.{months, two_digits}
 use Rattle.crx_command.proofs.date.shown.Goals as goal
 

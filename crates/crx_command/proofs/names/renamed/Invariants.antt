@@ -1,6 +1,5 @@
 use Rattle.std.proofs.Common.{◌≡◌, map, drop}
-use Rattle.crx_command.specs.meaning.Names.{first_renamed}
-use Rattle.crx_command.specs.Names.{renaming_of}
+use Rattle.crx_command.specs.{Names.renaming_of, meaning.Names.first_renamed}
 use Rattle.crx_command.proofs.names.renamed.Given as goal
 
 abbrev pub invariant-loop-ending : goal.invariant-loop-ending

@@ -1,11 +1,7 @@
-use Rattle.std.proofs.Common.{arith, ◌≡◌, ◌≢◌, ◌++◌, ◌∙◌, ◌+◌, ap, sym, refl, option_map, ℕ, ◌-◌}
-use Rattle.std.proofs.Common.{length, take, drop, Bool, true, false, List, Bor, Option, Some, None}
-use Rattle.std.proofs.Common.{MatchOption}
-use Rattle.std.proofs.Common.{take-append-drop}
-use Rattle.std.specs.Str.{bytes_eq}
-use Rattle.std.specs.Str.Pattern.{FindsTextSuffix, StripsSuffix}
-use Rattle.std.proofs.lemmas.Slice.Eq.{bytes_eq-Decides}
-use Rattle.std.proofs.lemmas.List.{drop_at}
+use Rattle.std.proofs.Common.{arith, ◌≡◌, ◌≢◌, ◌++◌, ◌∙◌, ◌+◌, ap, sym, refl, option_map, ℕ, ◌-◌, length}
+use Rattle.std.proofs.Common.{take, drop, Bool, true, false, List, Bor, Option, Some, None, MatchOption}
+use Rattle.std.proofs.{Common.take-append-drop, lemmas.{List.drop_at, Slice.Eq.bytes_eq-Decides}}
+use Rattle.std.specs.Str.{bytes_eq, Pattern.{FindsTextSuffix, StripsSuffix}}
 use Rattle.crx_command.specs.meaning.Names.{without_ending}
 use Rattle.crx_command.proofs.names.without_ending.Goals as goal
 
@@ -26,12 +22,11 @@ its_stem : (name ending x : List ℕ) (k : ℕ)
     → k ≡ length ending → name ≡ take (length name - k) name ++ ending → x ≡ take (length name - k) name
     → length x + k ≡ length name → Some x ≡ without_ending ending name
 its_stem name ending x k is parts kept long =
-    let size : length (take (length name - k) name) ≡ length name - k = ap length (sym kept) ∙ omega arith in
-    let rest : drop (length name - k) name ≡ ending = ap (drop (length name - k)) parts
-    ∙ drop_at (take (length name - k) name) ending (length name - k) size in
-    let same : drop (length name - length ending) name ≡ ending =
+    let size : length _ ≡ length name - k = ap length (sym kept) ∙ omega arith in
+    let rest : drop _ name ≡ ending = ap (drop _) parts ∙ drop_at _ ending _ size in
+    let same =
     ap (λ n. drop (length name - n) name) (sym is) ∙ rest in
-    let found : bytes_eq (drop (length name - length ending) name) ending ≡ true =
+    let found : bytes_eq (drop _ name) ending ≡ true =
     (bytes_eq-Decides _ ending).1 same in
     rw found (ap Some (kept ∙ ap (λ n. take (length name - n) name) is))
 
@@ -43,4 +38,4 @@ either name ending None h = no_ending name ending h
 either name ending (Some x) h = its_stem name ending x.now h.0 h.1.0 h.1.1 h.2 h.3
 
 pub returns : goal.returns
-returns c = either c.args.name.now c.args.ending.now c.strip_suffix.result c.strip_suffix.ensures.cases
+returns c = either _ _ _ c.strip_suffix.ensures.cases

@@ -1,10 +1,7 @@
 use Rattle.std.proofs.Common.{◌≡◌, ◌∙◌, ap, codes, count_by, find, map, List, ℕ, Option, Some, None}
-use Rattle.std.proofs.Common.{unwrap_or, [], Bor}
-use Rattle.std.proofs.Common.{option_map, refl}
-use Rattle.clap.specs.Matches.{found_of}
-use Rattle.clap.specs.Walk.{rows_of}
-use Rattle.clap.proofs.WalkLemmas.{first_value-rows, raw_values-rows}
-use Rattle.crx_command.specs.meaning.Planning.{file_names_in, is_dash, is_file}
+use Rattle.std.proofs.Common.{unwrap_or, [], Bor, option_map, refl}
+use Rattle.clap.{proofs.WalkLemmas.{first_value-rows, raw_values-rows}, specs.Matches.found_of}
+use Rattle.crx_command.specs.meaning.Planning.{is_dash, is_file}
 use Rattle.crx_command.proofs.plan.arguments_of.Goals as goal
 
 abbrev texts : List (Bor (List ℕ)) → List (List ℕ)
@@ -18,10 +15,9 @@ given (Some names) none e = refl
 
 pub returns : goal.returns
 returns c =
-    let names : texts c.unwrap_or-names.result.now ≡ file_names_in (rows_of (found_of c.args.found.now)) =
-    ap (λ (given : Bor (List (Bor (List ℕ)))). texts given.now) c.unwrap_or-names.ensures
-    ∙ given c.get_strs.result _ refl ∙ ap (λ (o : Option (List (List ℕ))). unwrap_or o [])
-    (c.get_strs.ensures ∙ raw_values-rows (found_of c.args.found.now) (codes "names")) in
+    let names =
+    ap (λ given. texts given.now) c.unwrap_or-names.ensures ∙ given _ _ refl ∙ ap (λ o. unwrap_or o [])
+    (c.get_strs.ensures ∙ raw_values-rows (found_of _) (codes "names")) in
     λ i. record {
       dashes = (c.dashes_among.ensures ∙ ap (count_by is_dash) names) i;
       files = (c.files_among.ensures ∙ ap (count_by is_file) names) i;
@@ -29,5 +25,5 @@ returns c =
       every = c.every.ensures i;
       skip = c.is_set.ensures i;
       force = c.is_set-2.ensures i;
-      date = (c.get_str.ensures ∙ first_value-rows (found_of c.args.found.now) (codes "date")) i;
+      date = (c.get_str.ensures ∙ first_value-rows (found_of _) (codes "date")) i;
     }

@@ -1,26 +1,22 @@
 use Rattle.std.proofs.Common.{◌≡◌, ◌∙◌, ap, ap₂, map, sym, subst, string_bytes}
-use Rattle.clap.specs.Kinds.{HasKind}
-use Rattle.clap.specs.Faults.{fault_of, is_simple_and_free}
-use Rattle.clap.specs.Simple.{app_of, is_simple, subcommand_of}
-use Rattle.crx_command.specs.meaning.Commands.{program}
-use Rattle.crx_command.specs.meaning.Planning.{by_kinds, of_subcommand}
-use Rattle.crx_command.specs.Planning.{plan_in}
-use Rattle.crx_command.proofs.AlikeKinds.{program_alike}
-use Rattle.crx_command.proofs.PlanSteps.{program_is_free, program_is_simple, same_plan, not_run_plan}
+use Rattle.clap.specs.{Faults.{fault_of, is_simple_and_free}, Kinds.HasKind, Simple.{app_of, is_simple}}
+use Rattle.clap.specs.Simple.{subcommand_of}
+use Rattle.crx_command.proofs.{AlikeKinds.program_alike, PlanSteps.{program_is_free, program_is_simple}}
+use Rattle.crx_command.{proofs.PlanSteps.{same_plan, not_run_plan}, specs.Planning.plan_in}
+use Rattle.crx_command.specs.meaning.{Commands.program, Planning.{by_kinds, of_subcommand}}
 use Rattle.crx_command.proofs.plan.plan.Goals as goal
 
 pub returns-in-Ok : goal.returns-in-Ok
 returns-in-Ok c =
-    let is_program : app_of c.in_ok-command.field-0 ≡ program = c.in_ok-command.ensures in
-    let words_are : map string_bytes c.as_slice.result.now ≡ map string_bytes c.args.words.items =
-    ap (map string_bytes) c.as_slice.ensures.value in
-    let none = sym (ap₂ fault_of is_program words_are)
-    ∙ c.in-Ok.ensures.kinds (ap is_simple_and_free is_program ∙ program_is_free) in
-    let found = (c.in-Ok.ensures.matches (ap is_simple is_program ∙ program_is_simple)).1
-    ∙ ap₂ subcommand_of is_program words_are in
+    let is_program = c.in_ok-command.ensures in
+    let words_are =
+    ap (map _) c.as_slice.ensures.value in
+    let none = sym (ap₂ fault_of is_program words_are) ∙ c.in-Ok.ensures.kinds
+    (ap is_simple_and_free is_program ∙ program_is_free) in
+    let found = (c.in-Ok.ensures.matches (ap is_simple is_program ∙ program_is_simple)).1 ∙ ap₂ subcommand_of
+    is_program words_are in
     record {
-      value = same_plan (plan_in c.matched.result) _ _
-          (ap of_subcommand found ∙ sym (ap (λ kinds. by_kinds kinds
+      value = same_plan _ _ _ (ap of_subcommand found ∙ sym (ap (λ kinds. by_kinds kinds
           (of_subcommand (subcommand_of program (map string_bytes c.args.words.items)))) none))
           c.matched.ensures;
     }
