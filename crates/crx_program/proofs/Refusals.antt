@@ -1,16 +1,12 @@
 -- What the user reads of a refusal.
-use Rattle.std.proofs.Common.{◌≡◌, ◌∙◌, List, [], ℕ, Err, Some, inr, ap, refl, Bool, true, false, true≢false}
-use Rattle.std.specs.Option.{IfSome}
+use Rattle.std.proofs.Common.{arith, ◌≡◌, ◌∙◌, List, [], ℕ, Err, Some, inr, ap, refl, Bool, true, false}
+use Rattle.std.{proofs.Common.true≢false, specs.Option.IfSome}
 use Rattle.crx_runs.specs.meaning.Spans.{Device}
 use Rattle.crx_base.specs.declared.fault.Fault.TheVariants.{OutOfMemory}
-use Rattle.crx_command.specs.meaning.Planning.{Plan, Help, Run, Refused, Refusal, Parse, DashTwice, TwoFiles}
-use Rattle.crx_command.specs.meaning.Planning.{BadDate}
-use Rattle.crx_command.specs.meaning.Planning.{NoName}
-use Rattle.crx_command.specs.Planning.{plan_in}
-use Rattle.crx_command.specs.meaning.ErrorLines.{IsLineOf}
+use Rattle.crx_command.specs.{Planning.plan_in, declared.job.{Job.Job, UsageFault.UsageFault}}
+use Rattle.crx_command.specs.meaning.{ErrorLines.IsLineOf, Planning.{Plan, Help, Run, Refused, Refusal}}
+use Rattle.crx_command.specs.meaning.Planning.{Parse, DashTwice, TwoFiles, BadDate, NoName}
 use Rattle.crx_program.specs.meaning.Program.{IsRefused, IsShown, at_start}
-use Rattle.crx_command.specs.declared.job.Job.{Job}
-use Rattle.crx_command.specs.declared.job.UsageFault.{UsageFault}
 use Rattle.crx_command.specs.declared.job.UsageFault.TheVariants as usage_fault
 
 -- each refusal has a line
@@ -23,8 +19,7 @@ some_line (NoName name) = (_, refl)
 
 module _ (p : Plan) (refusal : Refusal) (messages : Device) (status : ℕ) where
   -- words are refused by the line of their fault, or by that of the memory that ran out
-  pub refused_by : (fault : UsageFault)
-      → p ≡ Refused refusal → status ≡ 1
+  pub refused_by : (fault : UsageFault) → p ≡ Refused refusal → status ≡ 1
       → (fault ≡ usage_fault.Memory → IsShown messages (at_start OutOfMemory))
       → (plan_in (Err fault) ≡ Some (Refused refusal) → IsRefused messages refusal status)
       → IfSome (plan_in (Err fault)) (λ plan. plan ≡ p) → IsRefused messages refusal status
@@ -51,8 +46,8 @@ module _ (p : Plan) (job : Job) (messages : Device) where
       → p ≡ Run job → (fault ≡ usage_fault.Memory → IsShown messages (at_start OutOfMemory))
       → IfSome (plan_in (Err fault)) (λ plan. plan ≡ p) → IsShown messages (at_start OutOfMemory)
   not_run (usage_fault.Parse text) e memory h = absurd (refused-run Parse job (h ∙ e))
-  not_run usage_fault.DashTwice e memory h = absurd (refused-run DashTwice job (h ∙ e))
-  not_run usage_fault.TwoFiles e memory h = absurd (refused-run TwoFiles job (h ∙ e))
+  not_run usage_fault.DashTwice e memory h = absurd (refused-run _ job (h ∙ e))
+  not_run usage_fault.TwoFiles e memory h = absurd (refused-run _ job (h ∙ e))
   not_run usage_fault.BadDate e memory h = absurd (refused-run BadDate job (h ∙ e))
-  not_run (usage_fault.NoName name) e memory h = absurd (refused-run (NoName name) job (h ∙ e))
+  not_run (usage_fault.NoName name) e memory h = grind arith
   not_run usage_fault.Memory e memory h = memory refl

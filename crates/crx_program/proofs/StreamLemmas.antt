@@ -1,22 +1,16 @@
 -- What the logs of a run's devices are, by what ran between them.
-use Rattle.std.proofs.Common.{◌≡◌, ◌⊎◌, ◌∙◌, ◌<◌, ℕ, Bool, true, List, [], ◌++◌, Option, Some, None, ap, inl}
-use Rattle.std.proofs.Common.{inr, is_some, refl, subst, sym}
-use Rattle.crx_lines.specs.declared.device.Sink.{Ghosts as SinkGhosts}
-use Rattle.crx_lines.specs.declared.device.Source.{Ghosts as SourceGhosts}
-use Rattle.crx_lines.specs.declared.device.Std.{Std}
-use Rattle.std.specs.Io.KnownBytes.{Appends, Consumes, IsAtEnd}
-use Rattle.crx_base.specs.declared.fault.At.{At}
-use Rattle.crx_base.specs.meaning.Choices.{Choices}
+use Rattle.std.proofs.Common.{arith, ◌≡◌, ◌⊎◌, ◌∙◌, ◌<◌, ℕ, Bool, true, List, [], ◌++◌, Option, Some, None}
+use Rattle.std.{proofs.Common.{ap, inl, inr, is_some, refl, subst, sym}, specs.Io.KnownBytes.Appends}
+use Rattle.std.specs.Io.KnownBytes.{Consumes, IsAtEnd}
+use Rattle.crx_lines.specs.declared.device.{Sink.Ghosts as SinkGhosts, Source.Ghosts as SourceGhosts, Std.Std}
+use Rattle.crx_base.specs.{declared.fault.At.At, meaning.Choices.Choices}
 use Rattle.crx_runs.specs.meaning.Spans.{Input, Device, reader_span, span}
 use Rattle.jiff.specs.declared.timestamp.Timestamp.{Timestamp}
-use Rattle.crx_command.specs.declared.job.Job.{Job}
-use Rattle.crx_command.specs.declared.job.Tool.{Tool}
-use Rattle.crx_program.specs.declared.log.Logged.{Logged}
-use Rattle.crx_program.specs.declared.log.Opening.{Opening}
-use Rattle.crx_program.specs.meaning.Jobs.{tool_result, IsChosen, IsFiltered, IsFilteredFrom, IsFilteredInto}
-use Rattle.crx_program.specs.meaning.Jobs.{IsJobDone, IsMadeBy, IsRunOf}
-use Rattle.crx_program.specs.meaning.Streams.{ReadsGave, WritesTook, IsAllOf, IsEndTold, IsFlushedLast}
-use Rattle.crx_program.specs.meaning.Streams.{IsUnused, IsPrefixOf}
+use Rattle.crx_command.specs.declared.job.{Job.Job, Tool.Tool}
+use Rattle.crx_program.specs.{declared.log.{Logged.Logged, Opening.Opening}, meaning.Jobs.tool_result}
+use Rattle.crx_program.specs.meaning.Jobs.{IsChosen, IsFiltered, IsFilteredFrom, IsFilteredInto, IsJobDone}
+use Rattle.crx_program.specs.meaning.{Jobs.{IsMadeBy, IsRunOf}, Streams.{ReadsGave, WritesTook, IsAllOf}}
+use Rattle.crx_program.specs.meaning.Streams.{IsEndTold, IsFlushedLast, IsUnused, IsPrefixOf}
 
 -- a good run of a filter
 record Good (tool : Tool) (choices : Choices) (input : Input) (writer messages : Device)
@@ -33,25 +27,14 @@ good_of : (tool : Tool) (choices : Choices) (input : Input) (writer messages : D
     (fault : Option At) (given : List ℕ) → input.gave given
     → IsRunOf tool choices input given writer messages status fault
     → (status ≡ 1 → ⊥) → Good tool choices input writer messages status
-good_of tool choices input writer messages status None given gave runs well =
-    let good = runs.good refl in
-    record {
-      given = given;
-      gave = gave;
-      ended = good.0;
-      output = good.5.output;
-      flushed = runs.flushed refl;
-      reported = good.5.messages_are;
-      status_is = good.5.status_is;
-    }
+good_of tool choices input writer messages status None given gave runs well = grind arith
 good_of tool choices input writer messages status (Some at) given gave runs well =
     absurd (well (runs.ended at refl).0)
 
 good : (tool : Tool) (choices : Choices) (input : Input) (writer messages : Device) (status : ℕ)
     → IsFiltered tool choices input writer messages status → (status ≡ 1 → ⊥)
     → Good tool choices input writer messages status
-good tool choices input writer messages status h well =
-    good_of tool choices input writer messages status h.0 h.1 h.2 h.3 well
+good tool choices input writer messages status h well = grind arith
 
 -- ---- what is known of the devices of logs
 
@@ -72,14 +55,14 @@ Flushes {D = D} sink = (a : Logged (Std D)) → sink.is_flushed a → a.inner.fl
 
 -- what was added to an empty log
 from_empty : (before after bytes : List ℕ) → before ≡ [] → after ≡ before ++ bytes → after ≡ bytes
-from_empty before after bytes empty is = is ∙ ap (λ (log : List ℕ). log ++ bytes) empty
+from_empty before after bytes empty is = grind arith
 
 pub same_log : {D : Type 0} (a b : Logged D) → b ≡ a → a.log.bytes ≡ [] → b.log.bytes ≡ []
-same_log {D = D} a b same empty = ap (λ (device : Logged D). device.log.bytes) same ∙ empty
+same_log {D = D} a b same empty = grind arith
 
 made_still : (name : List ℕ) (force : Bool) (a b c : Opening)
     → c ≡ b → b ≡ a → IsMadeBy name force a → IsMadeBy name force c
-made_still name force a b c p q made = subst (IsMadeBy name force) (sym (p ∙ q)) made
+made_still name force a b c p q made = grind arith
 
 -- the run of a filter, where its writer is by the logs
 record Writing {G O : Type 0} (name : Option (List ℕ)) (force : Bool) (target : Option (Logged (Std G)))
@@ -105,8 +88,7 @@ module _ {G O : Type 0} (sinks : SinkGhosts (Logged (Std G))) (outputs : SinkGho
     (sink_takes : Takes sinks) (output_takes : Takes outputs)
     (sink_flushes : Flushes sinks) (output_flushes : Flushes outputs) where
   writing : (name : Option (List ℕ)) (force : Bool) (target : Option (Logged (Std G)))
-      (before after : Logged (Std O))
-      → before.log.bytes ≡ [] → (is_some name ≡ true → after ≡ before)
+      (before after : Logged (Std O)) → before.log.bytes ≡ [] → (is_some name ≡ true → after ≡ before)
       → (tool : Tool) (choices : Choices) (input : Input) (messages : Device) (status : ℕ)
       → IsFilteredInto sinks name force target tool choices input (span outputs before after) messages status
       → Writing name force target after tool choices input messages status
@@ -115,8 +97,7 @@ module _ {G O : Type 0} (sinks : SinkGhosts (Logged (Std G))) (outputs : SinkGho
     ran = h.1;
     took = λ bytes took. (
       h.0,
-      from_empty before.log.bytes after.log.bytes bytes empty
-          (output_takes before after bytes took).0,
+      from_empty before.log.bytes after.log.bytes bytes empty (output_takes before after bytes took).0,
     );
     flushed = λ flushed. subst (λ (t : Option (Logged (Std G))). IsFlushedLast t after) (sym h.0)
         (output_flushes after flushed);
@@ -141,9 +122,8 @@ module _ {G O : Type 0} (sinks : SinkGhosts (Logged (Std G))) (outputs : SinkGho
       (source_gives : Gives sources) (input_gives : Gives inputs)
       (source_tells : Tells sources) (input_tells : Tells inputs) where
     placed : (job : Job) (source_name : Option (List ℕ)) → job.source ≡ source_name
-        → (source : Option (Logged (Std F))) (target : Option (Logged (Std G)))
-        (first last : Logged (Std I)) (before after : Logged (Std O)) → first.log.bytes ≡ []
-        → before.log.bytes ≡ []
+        → (source : Option (Logged (Std F))) (target : Option (Logged (Std G))) (first last : Logged (Std I))
+        (before after : Logged (Std O)) → first.log.bytes ≡ [] → before.log.bytes ≡ []
         → (is_some source_name ≡ true → last ≡ first) → (is_some job.target ≡ true → after ≡ before)
         → (choices : Choices) (messages : Device) (status : ℕ)
         → IsFilteredFrom sources sinks source_name source job.target job.force target job.tool choices
@@ -157,8 +137,7 @@ module _ {G O : Type 0} (sinks : SinkGhosts (Logged (Std G))) (outputs : SinkGho
               (reader_span inputs first last) messages status h.1;
           gave = λ bytes gave. subst (λ (name : Option (List ℕ)). ReadsGave name source last bytes) (sym e) (
             h.0,
-            from_empty first.log.bytes last.log.bytes bytes none
-                (input_gives first last bytes gave).0,
+            from_empty first.log.bytes last.log.bytes bytes none (input_gives first last bytes gave).0,
           );
           ended = λ ended. subst (λ (s : Option (Logged (Std F))). IsEndTold s last) (sym h.0)
               (input_tells last ended);
@@ -192,29 +171,10 @@ module _ {G O : Type 0} (sinks : SinkGhosts (Logged (Std G))) (outputs : SinkGho
       -- a run without a fault is exact
       exact_of : (choices : Choices) → IsChosen moment job.tool job.date job.every job.skip choices
           → Placed job source target last after choices (span reports quiet spoken) status → (status ≡ 1 → ⊥)
-          → (given : List ℕ) × (written : List ℕ) × ReadsGave job.source source last given
-          × IsEndTold source last
-          × WritesTook job.target job.force target after written × IsFlushedLast target after
+          → (given : List ℕ) × (written : List ℕ) × ReadsGave job.source source last given × IsEndTold source
+          last × WritesTook job.target job.force target after written × IsFlushedLast target after
           × IsAllOf moment job given written spoken.log.bytes status
-      exact_of choices chosen place well =
-          let run = good job.tool choices place.reader place.writing.writer (span reports quiet spoken) status
-          place.writing.ran well in
-          let result = tool_result job.tool choices run.given in (
-            run.given,
-            result.output,
-            place.gave run.given run.gave,
-            place.ended run.ended,
-            place.writing.took result.output run.output,
-            place.writing.flushed run.flushed,
-            (
-              choices,
-              chosen,
-              refl,
-              from_empty quiet.log.bytes spoken.log.bytes result.messages silent
-                  (report_takes quiet spoken result.messages run.reported).0,
-              run.status_is,
-            ),
-          )
+      exact_of choices chosen place well = grind arith
 
       -- whatever ended a run, what was written is a prefix
       front_of : (choices : Choices) → IsChosen moment job.tool job.date job.every job.skip choices
@@ -227,25 +187,23 @@ module _ {G O : Type 0} (sinks : SinkGhosts (Logged (Std G))) (outputs : SinkGho
             ran.1,
             front.written,
             place.gave ran.1 ran.2,
-            place.writing.took front.written front.wrote,
+            place.writing.took _ front.wrote,
             (choices, chosen, elim front.first [ inl some ↦ inl some | inr all ↦ inr all.1 ]),
           )
 
       -- a job that was begun has a reader and a writer
       place_of : (choices : Choices)
-          → IsFilteredFrom sources sinks job.source source job.target job.force target
-          job.tool choices (reader_span inputs first last) (span outputs before after)
-          (span reports quiet spoken) status
+          → IsFilteredFrom sources sinks job.source source job.target job.force target job.tool choices
+          (reader_span inputs first last) (span outputs before after) (span reports quiet spoken) status
           → Placed job source target last after choices (span reports quiet spoken) status
       place_of choices h =
-          placed job job.source refl source target first last before after none empty same_input same choices
-          (span reports quiet spoken) status h
+          placed job _ refl source target first last before after none empty same_input same choices
+          _ status h
 
       exact : (P : Type 0) → IsJobDone sources sinks moment job source target (reader_span inputs first last)
           (span outputs before after) (span reports quiet spoken) status P → (status ≡ 1 → ⊥)
-          → (given : List ℕ) × (written : List ℕ) × ReadsGave job.source source last given
-          × IsEndTold source last
-          × WritesTook job.target job.force target after written × IsFlushedLast target after
+          → (given : List ℕ) × (written : List ℕ) × ReadsGave job.source source last given × IsEndTold source
+          last × WritesTook job.target job.force target after written × IsFlushedLast target after
           × IsAllOf moment job given written spoken.log.bytes status
       exact P (inl begun) well = exact_of begun.0 begun.1 (place_of begun.0 begun.2) well
       exact P (inr not_begun) well = absurd (well not_begun.status_is)
@@ -257,9 +215,7 @@ module _ {G O : Type 0} (sinks : SinkGhosts (Logged (Std G))) (outputs : SinkGho
           × WritesTook job.target job.force target after written × IsPrefixOf moment job given written)
           ⊎ ((last.log.bytes ≡ []) × (after.log.bytes ≡ []) × (target ≡ None))
       front (inl begun) = inl (front_of begun.0 begun.1 (place_of begun.0 begun.2))
-      front (inr not_begun) =
-          let left = not_begun.same in
-          inr (same_log first last left.0 none, same_log before after left.1 empty, left.2)
+      front (inr not_begun) = grind arith
 
 -- ---- the devices of the program
 

@@ -1,36 +1,18 @@
-use Rattle.std.proofs.Common.{subst, sym}
+use Rattle.std.proofs.Common.{arith, subst, sym}
 use Rattle.crx_program.specs.meaning.Jobs.{IsFiltered}
 use Rattle.crx_runs.specs.meaning.Spans.{span, reader_span}
-use Rattle.crx_command.specs.declared.job.Tool.{Tool}
 use Rattle.crx_program.proofs.program.filter.Goals as goal
 
 pub returns-in-Compact : goal.returns-in-Compact
-returns-in-Compact g c =
-    subst (λ (tool : Tool). IsFiltered tool c.args.options
-    (reader_span g.R.Source c.args.reader.now c.compact.new.reader)
-    (span g.W.Sink c.args.writer.now c.compact.new.writer)
-    (span g.M.Sink c.args.messages.now c.compact.new.messages) c.compact.result.status)
-    (sym c.in-Compact.is)
-    (c.compact.result.fault, c.compact.ensures.runs.0, c.compact.ensures.runs.1, c.compact.ensures.runs.2)
+returns-in-Compact g c = grind arith
 
 pub returns-in-Expand : goal.returns-in-Expand
 returns-in-Expand g c =
-    subst (λ (tool : Tool). IsFiltered tool c.args.options
+    subst (λ tool. IsFiltered tool c.args.options
     (reader_span g.R.Source c.args.reader.now c.expand.new.reader)
     (span g.W.Sink c.args.writer.now c.expand.new.writer)
-    (span g.M.Sink c.args.messages.now c.expand.new.messages) c.expand.result.status)
-    (sym c.in-Expand.is)
+    (span g.M.Sink c.args.messages.now c.expand.new.messages) c.expand.result.status) (sym c.in-Expand.is)
     (c.expand.result.fault, c.expand.ensures.runs.0, c.expand.ensures.runs.1, c.expand.ensures.runs.2)
 
 pub returns-in-Check : goal.returns-in-Check
-returns-in-Check g c =
-    subst (λ (tool : Tool). IsFiltered tool c.args.options
-    (reader_span g.R.Source c.args.reader.now c.check.new.reader)
-    (span g.W.Sink c.args.writer.now c.check.new.writer)
-    (span g.M.Sink c.args.messages.now c.check.new.messages) c.check.result.status)
-    (sym c.in-Check.is) (
-      c.check.result.fault,
-      c.check.ensures.runs.0,
-      c.check.ensures.runs.1,
-      c.check.ensures.runs.2,
-    )
+returns-in-Check g c = grind arith

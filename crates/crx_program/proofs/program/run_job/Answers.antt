@@ -1,5 +1,4 @@
-use Rattle.std.proofs.Common.{◌∙◌, inl, inr, refl}
-use Rattle.crx_program.specs.meaning.Jobs.{NoMemory}
+use Rattle.std.proofs.Common.{arith, inl, inr}
 use Rattle.crx_program.proofs.program.run_job.Goals as goal
 
 pub returns-in-Ok-clause-done : goal.returns-in-Ok-clause-done
@@ -9,11 +8,4 @@ returns-in-Ok-clause-done g c = elim c.run_from_source.ensures.done [
 ]
 
 pub returns-in-Err-clause-done : goal.returns-in-Err-clause-done
-returns-in-Err-clause-done g c =
-    inr (record {
-      why = NoMemory;
-      can = tt;
-      shown = inl c.report_at_start.ensures.shown;
-      status_is = c.without_files.ensures.status ∙ c.report_at_start.ensures.status;
-      same = (refl, refl, c.without_files.ensures.target);
-    })
+returns-in-Err-clause-done g c = grind arith

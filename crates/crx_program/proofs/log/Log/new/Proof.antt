@@ -1,6 +1,5 @@
 -- `new` makes a value of no bytes, at the empty list.
-use mathlib.Core.Path.{refl}
-use mathlib.Core.List.{[], ◌∷◌}
+use mathlib.Core.{List.{[], ◌∷◌}, Path.refl}
 use seplogic.Ra.Ura.{Ura}
 use mir.Val.{Val, vstruct, vcons, vnil}
 use base.Logic.{SProp}
@@ -17,13 +16,10 @@ use types.Part.{agg}
 use types.ByLocal.{alloc_all, pass_all, free_all, look_at, get, sets}
 use denote.Shadow.{pure_i}
 use denote.Steps.{nothing}
-use denote.Triple.Entry.{on_entry}
-use denote.Triple.Spec.{Meets, triple_of}
-use denote.Triple.Table.{entered}
-use denote.Triple.Walked.{says, ends_at, walked, walk_Meets}
-use Rattle.crx_program.specs.declared.log.Log.{Log}
+use denote.Triple.{Entry.on_entry, Spec.{Meets, triple_of}, Table.entered, Walked.{says, ends_at, walked}}
+use denote.Triple.Walked.{walk_Meets}
+use Rattle.crx_program.specs.{contracts.log.Log.new.Key.name as #it, declared.log.Log.Log}
 use Rattle.crx_program.specs.contracts.log.Log as T
-use Rattle.crx_program.specs.contracts.log.Log.new.Key.{name as #it}
 use Rattle.crx_program.specs.contracts.log.Log.new as it
 use Rattle.crx_program.proofs.log.Log.new.Statement as stated
 use Rattle.crx_program.proofs.log.Log.new.Code as code
@@ -41,17 +37,14 @@ meets {𝓤 = 𝓤} 𝓛 at_mem run 𝓣 =
     walk_Meets 𝓛 it.ended tt tt (it.clauses 𝓛 at_mem run) (WpFn 𝓤 𝓛.H 𝓣.C 𝓣.Λ code.function)
     (WpFn-mono 𝓤 𝓛.H 𝓛.laws 𝓣 code.function)
     (walked 𝓛 it.ended tt (it.clauses 𝓛 at_mem run) (WpFn 𝓤 𝓛.H 𝓣.C 𝓣.Λ code.function) (λ κs. tt) (λ κs. tt)
-    (λ κs qs bounds a g _.
-    qed 𝓛 (raw (on_entry 𝓛 it.signature κs qs a tt) ∷ raw ((it.clauses 𝓛 at_mem run κs a).requires g) ∷ []) ∵
-    keep ! [] $
-    enter ! 𝓣.C 𝓣.Λ code.function [] _ $ alloc_all ! (λ l. pass_all ! refl tt $
-    sets ! (agg ! (no_more !)) refl (tt, tt) $ sets ! (agg ! (and_then ! (get ! refl) (no_more !))) refl
-    (tt, (tt, tt)) $
-    returns ! (look_at ! 0 refl) $ free_all ! refl $
-    pure_i ! ((T.the_row).own_val r (v ∷ [])) ((λ vss. (tt, ((λ uss. (tt, tt)), tt))), tt)
-    (((vstruct vnil ∷ [], tt), (refl, ((tt, (refl, tt)), tt))), tt) $
-    suffices ! _ (ends_at 𝓛 it.ended tt (it.clauses 𝓛 at_mem run) ((κs, qs, bounds, a, tt), g) v r tt tt)
-    $ says ! refl $
+    (λ κs qs bounds a g _. qed 𝓛
+    (raw (on_entry 𝓛 it.signature κs qs a tt) ∷ raw ((it.clauses 𝓛 at_mem run κs a).requires g) ∷ []) ∵
+    keep ! [] $ enter ! 𝓣.C 𝓣.Λ code.function [] _ $ alloc_all ! (λ l. pass_all ! refl tt $ sets !
+    (agg ! (no_more !)) refl (tt, tt) $ sets ! (agg ! (and_then ! (get ! refl) (no_more !))) refl
+    (tt, (tt, tt)) $ returns ! (look_at ! 0 refl) $ free_all ! refl $ pure_i !
+    ((T.the_row).own_val r (v ∷ [])) ((λ vss. (tt, ((λ uss. (tt, tt)), tt))), tt)
+    (((vstruct vnil ∷ [], tt), (refl, ((tt, (refl, tt)), tt))), tt) $ suffices ! _
+    (ends_at 𝓛 it.ended tt (it.clauses 𝓛 at_mem run) ((κs, qs, bounds, a, tt), g) v r tt tt) $ says ! refl $
     nothing ! $ join ! $ nothing ! $ done !)))
 
 pub new_spec : {M : Type 1} → stated.statement M
