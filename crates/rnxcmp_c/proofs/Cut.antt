@@ -1,14 +1,12 @@
 -- What ended a run at a line, by what is kept.
-use Rattle.rnxcmp_c.proofs.Words.{◌≡◌, inl, inr, ℕ, Bool, true, List, [], ◌++◌, take, drop, Option, Some}
-use Rattle.rnxcmp_c.proofs.Words.{None, refl, sym, ap, ◌∙◌, append-nil, arith, length}
-use Rattle.rnxcmp_c.proofs.Words.{length-append, take-append-drop, At, notices_text, Begins, Course, Halt}
-use Rattle.rnxcmp_c.proofs.Words.{Unwritten, Unreported, AreNext, Device, waiting, Pending, IsKept, StopsBy}
+use Rattle.rnxcmp_c.proofs.{GoingLemmas.notices-both, Words.{◌≡◌, inl, inr, ℕ, Bool, true, List, [], ◌++◌}}
+use Rattle.rnxcmp_c.proofs.Words.{take, drop, Option, Some, None, refl, sym, ap, ◌∙◌, append-nil, arith}
+use Rattle.rnxcmp_c.proofs.Words.{length, length-append, take-append-drop, At, notices_text, Begins, Course}
+use Rattle.rnxcmp_c.proofs.Words.{Halt, Unwritten, Unreported, AreNext, Device, waiting, Pending, IsKept}
+use Rattle.rnxcmp_c.proofs.Words.{StopsBy}
 use Rattle.crx_lines.specs.meaning.Devices.{SinkTally}
-use Rattle.crx_runs.specs.declared.taking.Halt.TheVariants.{Fault}
-use Rattle.crx_runs.specs.Endings.{EndsFrom}
-use Rattle.crx_runs.specs.Taking.{IsDone}
+use Rattle.crx_runs.specs.{Endings.EndsFrom, Taking.IsDone, declared.taking.Halt.TheVariants.Fault}
 use Rattle.std.proofs.lemmas.List.{append_cancel_left}
-use Rattle.rnxcmp_c.proofs.GoingLemmas.{notices-both}
 
 none-not-some : {notices : List At} → ◌≡◌ {A = Option (List At)} None (Some notices) → ⊥
 none-not-some e = cc
@@ -77,11 +75,8 @@ module _ (before after : Course) (output then_output kept then_kept : Pending) w
           notices = out.notices;
           allowed = out.allowed;
           own = out.next;
-          wrote = w.2 ∙ ap (λ t. waiting output ++ t) (none-more before.output w.0 w.1)
-              ∙ append-nil (waiting output);
-          reported = m.2 ∙ ap (λ t. waiting kept ++ t)
-              (rest-of (notices_text before.warnings) m.0 (notices_text out.notices)
-              (sym (notices-both before.warnings out.notices) ∙ m.1));
+          wrote = w.2 ∙ ap (λ t. waiting output ++ t) (none-more _ w.0 w.1) ∙ append-nil _;
+          reported = m.2 ∙ ap (λ t. waiting kept ++ t) (rest-of _ m.0 _ (sym (notices-both _ _) ∙ m.1));
         },
       )
   cut-stops memory number (Fault at) (inr ended) =
@@ -92,12 +87,10 @@ module _ (before after : Course) (output then_output kept then_kept : Pending) w
         notices = ended.notices;
         output_is = ended.ends.output;
         warnings_are = ended.ends.warnings;
-        wrote = w.2 ∙ ap (λ t. waiting output ++ t)
-            (none-more before.output w.0 (sym ended.ends.output ∙ w.1))
-            ∙ append-nil (waiting output);
-        reported = m.2 ∙ ap (λ t. waiting kept ++ t)
-            (rest-of (notices_text before.warnings) m.0 (notices_text ended.notices)
-            (sym (ap notices_text ended.ends.warnings ∙ notices-both before.warnings ended.notices) ∙ m.1));
+        wrote = w.2 ∙ ap (λ t. waiting output ++ t) (none-more _ w.0 (sym ended.ends.output ∙ w.1))
+            ∙ append-nil _;
+        reported = m.2 ∙ ap (λ t. waiting kept ++ t) (rest-of _ m.0 _
+            (sym (ap notices_text ended.ends.warnings ∙ notices-both _ _) ∙ m.1));
       })
   cut-stops memory number Unwritten cut =
       let w = cut.wrote.took in
@@ -106,17 +99,17 @@ module _ (before after : Course) (output then_output kept then_kept : Pending) w
         text = w.0;
         told = m.0;
         wrote = w.2;
-        first = inr (begins-taken after.output before.output w.0 cut.wrote.count w.1);
+        first = inr (begins-taken _ _ w.0 cut.wrote.count w.1);
         reported = m.2;
         lost = inl (record {
-          failed = ap (λ (t : SinkTally). t.failures) cut.wrote.failed;
+          failed = ap (λ t. t.failures) cut.wrote.failed;
           longer = omega (arith, cut.wrote.some, cut.wrote.less);
         });
       }
   cut-stops memory number Unreported cut =
       let w = cut.wrote.0 in
       let m = cut.reported.took in
-      let next = begins-next before after cut.notices cut.next in
+      let next = begins-next before after _ cut.next in
       record {
         text = [];
         told = m.0;

@@ -1,15 +1,14 @@
 -- What the result of a run brings back, saves and judges follows from what it is, by the laws.
-use Rattle.rnxcmp_c.proofs.Words.{◌≡◌, ◌⊎◌, inl, inr, ⊎_elim, ℕ, List, true, ap, sym, ◌∙◌, subst}
-use Rattle.rnxcmp_c.proofs.Words.{code_of_fault, InputTooLong, Choices, expanded, checked, what-passes}
-use Rattle.rnxcmp_c.proofs.Words.{FilterResult, Answer, OUTPUT_LIMIT, BothTexts, HasNoMemory, fault_code_in}
-use Rattle.rnxcmp_c.proofs.Words.{LacksLastMessage, RunHasEnded, RunHasResult, StopsAtLimit, StopsForMemory}
-use Rattle.rnxcmp_c.proofs.Words.{StopsWhenFull, Task, run_for, CallBringsBackWhatPasses}
-use Rattle.rnxcmp_c.proofs.Words.{CallBringsBackWhatWasCompacted, CallSavesAllElse}
-use Rattle.crx_filter.proofs.stretches.StretchesSaved.{rest-kept, whole-first}
-use Rattle.rnxcmp_c.specs.meaning.Ended.{CheckPromises, ExpansionPromises}
+use Rattle.std.proofs.Common.{arith}
+use Rattle.rnxcmp_c.proofs.{Kept.{brings-back, judges-status, saves-all_else}, Lossless.brings-back_passed}
+use Rattle.rnxcmp_c.proofs.Words.{◌≡◌, ◌⊎◌, inl, inr, ℕ, List, true, ap, sym, ◌∙◌, subst, code_of_fault}
+use Rattle.rnxcmp_c.proofs.Words.{InputTooLong, Choices, expanded, checked, what-passes, FilterResult, Answer}
+use Rattle.rnxcmp_c.proofs.Words.{OUTPUT_LIMIT, BothTexts, HasNoMemory, fault_code_in, LacksLastMessage}
+use Rattle.rnxcmp_c.proofs.Words.{RunHasEnded, RunHasResult, StopsAtLimit, StopsForMemory, StopsWhenFull}
+use Rattle.rnxcmp_c.proofs.Words.{Task, run_for, CallBringsBackWhatPasses, CallBringsBackWhatWasCompacted}
+use Rattle.rnxcmp_c.{proofs.Words.CallSavesAllElse, specs.meaning.Ended.{CheckPromises, ExpansionPromises}}
 use Rattle.rnxcmp_c.specs.meaning.Stretches.{CallKeepsUndamaged, CallWritesWholeUnits}
-use Rattle.rnxcmp_c.proofs.Kept.{brings-back, judges-status, saves-all_else}
-use Rattle.rnxcmp_c.proofs.Lossless.{brings-back_passed}
+use Rattle.crx_filter.proofs.stretches.StretchesSaved.{rest-kept, whole-first}
 
 -- what holds of the result of an expansion holds of what it brings back, saves and keeps
 pub record KeepsPromises (holds : FilterResult → Type 0) (choices : Choices) (text : List ℕ) : Type 0 where
@@ -42,49 +41,39 @@ module _ (fed : List ℕ) (made kept : BothTexts) (answer : Answer) where
       ⊎ (StopsAtLimit (run_for task) fed result ⊎ StopsForMemory is_line (run_for task) fed result)
 
   abbrev Late : (ℕ → Type 0) → Task → FilterResult → Type 0
-  Late is_line task result = (result ≡ (run_for task).result fed)
-      ⊎ (StopsAtLimit (run_for task) fed result
+  Late is_line task result = (result ≡ (run_for task).result fed) ⊎ (StopsAtLimit (run_for task) fed result
       ⊎ (StopsForMemory is_line (run_for task) fed result ⊎ StopsWhenFull (run_for task) fed result))
 
   module _ (is_line : ℕ → Type 0) (task : Task) (memory : HasNoMemory answer → ⊥) where
     lacks-none : (result : FilterResult) → LacksLastMessage result made kept answer → ⊥
-    lacks-none result lacks = memory (ap (λ (a : Answer). a.code) lacks.answered)
+    lacks-none result lacks = grind arith
 
     code-is : (result then : FilterResult) → Has result → result ≡ then
         → answer.code ≡ fault_code_in then.fault
-    code-is result then has is =
-        ap (λ (a : Answer). a.code) has.answered ∙ ap (λ (r : FilterResult). fault_code_in r.fault) is
+    code-is result then has is = grind arith
 
     has-where : (answer.status ≡ OUTPUT_LIMIT → ⊥) → (result : FilterResult) → Has result
         → Early is_line task result → Has ((run_for task).result fed)
     has-where few result has (inl whole) = subst Has whole has
-    has-where few result has (inr (inl limit)) = absurd (few
-        (ap (λ (a : Answer). a.status) has.answered ∙ ap (λ (r : FilterResult). r.status) limit.result_is))
-    has-where few result has (inr (inr short)) = absurd (memory (code-is result _ has short.result_is))
+    has-where few result has (inr (inl limit)) = grind arith
+    has-where few result has (inr (inr short)) = grind arith
 
     -- a run has its result where neither memory nor a limit ended it
     pub result-where : (answer.status ≡ OUTPUT_LIMIT → ⊥) → RunHasEnded (Early is_line task) made kept answer
         → Has ((run_for task).result fed)
-    result-where few ended = ⊎_elim (λ has. has-where few ended.result has ended.is)
-        (λ lacks. absurd (lacks-none ended.result lacks)) ended.ends
+    result-where few ended = grind arith
 
     not-full : (result : FilterResult) → Has result → (answer.code ≡ code_of_fault InputTooLong → ⊥)
         → Late is_line task result → Early is_line task result
     not-full result has long (inl whole) = inl whole
     not-full result has long (inr (inl limit)) = inr (inl limit)
     not-full result has long (inr (inr (inl short))) = inr (inr short)
-    not-full result has long (inr (inr (inr full))) = absurd (long (code-is result _ has full.result_is))
+    not-full result has long (inr (inr (inr full))) = grind arith
 
     -- and where its input wasn't too long
     pub ended-where : (answer.code ≡ code_of_fault InputTooLong → ⊥)
         → RunHasEnded (Late is_line task) made kept answer → RunHasEnded (Early is_line task) made kept answer
-    ended-where long ended = ⊎_elim
-        (λ has. record {
-          result = ended.result;
-          is = not-full ended.result has long ended.is;
-          ends = inl has;
-        })
-        (λ lacks. absurd (lacks-none ended.result lacks)) ended.ends
+    ended-where long ended = grind arith
 
   pub run-expansion : (choices : Choices) → Has (expanded fed choices)
       → ExpansionPromises choices fed made kept answer
@@ -101,7 +90,4 @@ module _ (fed : List ℕ) (made kept : BothTexts) (answer : Answer) where
   pub run-check : Has (checked fed) → CheckPromises fed answer
   run-check whole =
       let status = ap (λ (a : Answer). a.status) (RunHasResult.answered whole) in
-      record {
-        lossless = λ zero. what-passes fed (sym status ∙ zero);
-        standard = judges-status fed answer.status status;
-      }
+      record { lossless = λ zero. what-passes fed (sym status ∙ zero); standard = judges-status fed _ status }

@@ -7,10 +7,11 @@ use Rattle.std.proofs.lemmas.List.{take-take}
 use Rattle.rnxcmp_c.specs.Handles.{IsFed, ReaderHasPassed}
 
 module _ (task : Task) (old new : Reader) (past : HandlePast) (bytes allowed : List ℕ) (used : ℕ)
-    (answer : Answer) (first : allowed ≡ take (INPUT_LIMIT - old.fed) bytes) (answers : answer ≡ answer_now new)
+    (answer : Answer) (first : allowed ≡ take (INPUT_LIMIT - old.fed) bytes) (answers : answer ≡ answer_now
+    new)
     (runs : ReaderRuns task old past) where
   same : allowed ≡ allowed_after past bytes
-  same = first ∙ ap (λ n. take (INPUT_LIMIT - n) bytes) runs.counted
+  same = grind arith
 
   -- an input may have some of them, or there are none
   pub fed-bytes : (0 < length bytes → 0 < length allowed)
@@ -52,7 +53,8 @@ pub runs-where_none : (task : Task) (reader : Reader) (past : HandlePast) (outco
 runs-where_none task reader past None none runs = runs
 runs-where_none task reader past (Some outcome) none stands = absurd (cc)
 
-pub fed-by : (task : Task) (old new : Reader) (past : HandlePast) (bytes : List ℕ) (used : ℕ) (answer : Answer)
+pub fed-by : (task : Task) (old new : Reader) (past : HandlePast) (bytes : List ℕ) (used : ℕ) (answer :
+    Answer)
     (outcome : Option Outcome) → is_some outcome ≡ false → FeedsBytes task old new past bytes used answer
     → FeedsBy task old new past bytes used answer outcome
 fed-by task old new past bytes used answer None none feeds = feeds

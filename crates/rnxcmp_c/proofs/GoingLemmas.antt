@@ -1,33 +1,28 @@
 -- A run goes on by the bytes that are fed.
-use Rattle.rnxcmp_c.proofs.Words.{Some, ◌≡◌, inl, inr, ℕ, ◌+◌, ◌-◌, ◌<◌, ◌≤◌, true, false, ◌||◌, List, []}
-use Rattle.rnxcmp_c.proofs.Words.{◌∷◌, ◌++◌, ⊎_elim, length, take, drop, None, refl, sym, ap, ◌∙◌, subst}
-use Rattle.rnxcmp_c.proofs.Words.{arith, append-nil, Option, append_assoc, is_some, length-append}
-use Rattle.rnxcmp_c.proofs.Words.{length-take, take-append-add, take-append-drop, take-append-le, InputLine}
-use Rattle.rnxcmp_c.proofs.Words.{lines_of, ended_lines_of, HasNoFeed, At, IsLawful, Filter, with_next}
-use Rattle.rnxcmp_c.proofs.Words.{notices_text, Begins, Course, are_some, Held, waiting, IsText, IsGoing}
-use Rattle.rnxcmp_c.proofs.Words.{MovesOn, EndsThere, HandlePast, fed_with, StopsSoon, with_one_more}
-use Rattle.rnxcmp_c.proofs.Words.{piece_line, IsAll, IsCutBy, RanOutAt, StopsShort, IsPastLimit, MovesWithin}
-use Rattle.rnxcmp_c.proofs.Words.{PassesLimit, RunBreaks, RunFails, StepStops, IsMemoryLacking, ready_in}
-use Rattle.rnxcmp_c.proofs.Words.{LINE_ROOM, READY_LIMIT, Stop, Fault, Limit, line_reached, memory_next}
+use Rattle.rnxcmp_c.proofs.{PieceLemmas.none-where_none, Words.{Some, ◌≡◌, inl, inr, ℕ, ◌+◌, ◌-◌, ◌<◌, ◌≤◌}}
+use Rattle.rnxcmp_c.proofs.Words.{true, false, ◌||◌, List, [], ◌∷◌, ◌++◌, length, take, drop, None, refl, sym}
+use Rattle.rnxcmp_c.proofs.Words.{ap, ◌∙◌, subst, arith, append-nil, Option, append_assoc, is_some}
+use Rattle.rnxcmp_c.proofs.Words.{length-append, length-take, take-append-add, take-append-drop}
+use Rattle.rnxcmp_c.proofs.Words.{take-append-le, InputLine, lines_of, ended_lines_of, HasNoFeed, At}
+use Rattle.rnxcmp_c.proofs.Words.{IsLawful, Filter, with_next, notices_text, Begins, Course, are_some, Held}
+use Rattle.rnxcmp_c.proofs.Words.{waiting, IsText, IsGoing, MovesOn, EndsThere, HandlePast, fed_with}
+use Rattle.rnxcmp_c.proofs.Words.{StopsSoon, with_one_more, piece_line, IsAll, IsCutBy, RanOutAt, StopsShort}
+use Rattle.rnxcmp_c.proofs.Words.{IsPastLimit, MovesWithin, PassesLimit, RunBreaks, RunFails, StepStops}
+use Rattle.rnxcmp_c.proofs.Words.{IsMemoryLacking, ready_in, LINE_ROOM, READY_LIMIT, Stop, Fault, Limit}
+use Rattle.rnxcmp_c.{proofs.Words.{line_reached, memory_next}, specs.Counting.take-of_taken}
 use Rattle.rnxcmp_c.specs.Going.{RunsShort, IsBroken, IsFailed, AddsWithin, IsKeptWithin}
-use Rattle.std.proofs.Common.{◌≢◌, slice_index}
-use Rattle.std.proofs.lemmas.List.{drop_more, get_or-take}
-use Rattle.std.proofs.lemmas.List.Elements.{All-append, All-from_get_or}
-use Rattle.crx_lines.proofs.ProgressLemmas.{lines-first, lines-last, ended_lines-first, ended_lines-none}
-use Rattle.crx_runs.specs.Engines.{Awaited}
-use Rattle.crx_runs.specs.meaning.Messages.{warning_text}
-use Rattle.rnxcmp_c.specs.Counting.{take-of_taken}
 use Rattle.rnxcmp_c.specs.Holding.{AreUnfailed}
-use Rattle.rnxcmp_c.proofs.PieceLemmas.{none-where_none}
+use Rattle.std.proofs.{Common.{◌≢◌, slice_index}, lemmas.List.{drop_more, get_or-take, Elements.All-append}}
+use Rattle.std.proofs.lemmas.List.Elements.{All-from_get_or}
+use Rattle.crx_lines.proofs.ProgressLemmas.{lines-first, lines-last, ended_lines-first, ended_lines-none}
+use Rattle.crx_runs.specs.{Engines.Awaited, meaning.Messages.warning_text}
 
 -- lines that were ended are no more, where the bytes that follow have no LF
 ended-still : (filter : Filter) (shows : List InputLine → List Awaited → Type 0) (held : Held)
-    (past : HandlePast)
-    (more : List ℕ) → IsGoing filter shows held past → HasNoFeed more
+    (past : HandlePast) (more : List ℕ) → IsGoing filter shows held past → HasNoFeed more
     → ended_lines_of (past.fed ++ more) ≡ ended_lines_of past.fed
 ended-still filter shows held past more going none =
-    going.cut_ended more
-    ∙ ap (λ (ls : List InputLine). ended_lines_of past.fed ++ ls)
+    going.cut_ended more ∙ ap (λ (ls : List InputLine). ended_lines_of past.fed ++ ls)
     (ended_lines-none (going.tail ++ more) (All-append (λ b. b ≢ 10) going.tail more going.no_feed none))
     ∙ append-nil (ended_lines_of past.fed)
 
@@ -41,15 +36,14 @@ soon-by filter shows past bytes done some rest old all going none more low =
     let count : length (done ++ some) - 1 ≡ length done + (length some - 1) =
     omega (arith, length-append done some, more) in
     let first : take (length (done ++ some) - 1) bytes ≡ done ++ most =
-    ap (λ (n : ℕ). take n bytes) count
-    ∙ ap (take (length done + (length some - 1))) all
-    ∙ take-append-add done (some ++ rest) (length some - 1)
-    ∙ ap (λ (l : List ℕ). done ++ l) (take-append-le (length some - 1) some rest (omega arith)) in
-    let lines : ended_lines_of (past.fed ++ take (length (done ++ some) - 1) bytes)
-    ≡ ended_lines_of (past.fed ++ done) =
-    ap (λ (l : List ℕ). ended_lines_of (past.fed ++ l)) first
-    ∙ ap ended_lines_of (sym (append_assoc past.fed done most))
-    ∙ ended-still filter shows old (fed_with past done) most going none in
+    ap (λ (n : ℕ). take n bytes) count ∙ ap (take (length done + (length some - 1))) all ∙ take-append-add
+    done (some ++ rest) (length some - 1) ∙ ap (λ (l : List ℕ). done ++ l)
+    (take-append-le (length some - 1) some rest (omega arith)) in
+    let lines : ended_lines_of (past.fed ++ take (length (done ++ some) - 1) bytes) ≡ ended_lines_of
+    (past.fed ++ done) =
+    ap (λ (l : List ℕ). ended_lines_of (past.fed ++ l)) first ∙ ap ended_lines_of
+    (sym (append_assoc past.fed done most)) ∙ ended-still filter shows old (fed_with past done) most going
+    none in
     record {
       low = omega (
         arith,
@@ -90,8 +84,7 @@ some-both (x ∷ xs) ys = refl
 
 -- texts grow at their ends
 more-text : (whole taken kept more then : List ℕ) (after : List ℕ) → after ≡ whole ++ more
-    → whole ≡ taken ++ kept
-    → then ≡ kept ++ more → after ≡ taken ++ then
+    → whole ≡ taken ++ kept → then ≡ kept ++ more → after ≡ taken ++ then
 more-text whole taken kept more then after grows is was =
     grows ∙ ap (λ t. t ++ more) is ∙ append_assoc taken kept more ∙ ap (λ t. taken ++ t) (sym was)
 
@@ -107,7 +100,7 @@ text-kept {course} {old} {new} {past} text output messages = record {
 -- whatever was fed since
 text-fed : {course : Course} {held : Held} {past : HandlePast} {fed : List ℕ} → IsText course held past
     → IsText course held (record past { fed = fed })
-text-fed text = record { wrote = text.wrote; reported = text.reported }
+text-fed text = grind arith
 
 text-grows : (before after : Course) (shown : Type 0) (old new : Held) (past : HandlePast)
     → IsText before old past → MovesOn before after shown old new → IsText after new past
@@ -117,18 +110,15 @@ text-grows before after shown old new past text moved =
       wrote = more-text before.output past.output (waiting old.output) kept.text (waiting new.output) _
           kept.output_is text.wrote kept.wrote;
       reported = more-text (notices_text before.warnings) past.messages (waiting old.messages)
-          (notices_text kept.notices)
-          (waiting new.messages) _
-          (ap notices_text kept.warnings_are ∙ notices-both before.warnings kept.notices)
-          text.reported kept.reported;
+          (notices_text kept.notices) (waiting new.messages) _
+          (ap notices_text kept.warnings_are ∙ notices-both before.warnings kept.notices) text.reported
+          kept.reported;
     }
 
 flag-grows : (before after : Course) (shown : Type 0) (old new : Held)
     → old.warned ≡ are_some before.warnings → MovesOn before after shown old new
     → new.warned ≡ are_some after.warnings
-flag-grows before after shown old new flag moved =
-    moved.flag ∙ ap (λ b. b || moved.warned) flag ∙ ap (λ b. are_some before.warnings || b) moved.kept.flag
-    ∙ sym (some-both before.warnings moved.kept.notices) ∙ ap are_some (sym moved.kept.warnings_are)
+flag-grows before after shown old new flag moved = grind arith
 
 text-ends : (before after : Course) (old new : Held) (past : HandlePast) (at : At) → IsText before old past
     → EndsThere before after old.output new.output old.messages new.messages at → IsText after new past
@@ -160,12 +150,7 @@ cut-by before after memory old new past good text short = record {
 -- where no write had failed before, one did
 pub lacking-by : (before after : Course) (memory : Option (List At)) (old new : Held) → AreUnfailed old
     → StopsShort memory before after old new → IsMemoryLacking (is_some memory) new
-lacking-by before after memory old new good short =
-    ⊎_elim (λ takes. inl takes)
-    (λ less. inr (⊎_elim
-    (λ output. inl (λ none. absurd (omega (arith, none, output, good.output))))
-    (λ messages. inr (λ none. absurd (omega (arith, none, messages, good.messages)))) less))
-    short.lacking
+lacking-by before after memory old new good short = grind arith
 
 -- a prefix of a prefix
 pub begins-then : (all mid first : List ℕ) → Begins all mid → Begins mid first → Begins all first
@@ -242,13 +227,8 @@ module _ (filter : Filter) (shows : List InputLine → List Awaited → Type 0)
         no_feed = no_feed;
         cut = λ more. over lines_of more is.cut;
         cut_ended = λ more. over ended_lines_of more is.cut_ended;
-        counted = omega (
-          arith,
-          is.counted,
-          same.number,
-          length-append is.tail bytes,
-          length-append past.fed bytes,
-        );
+        counted =
+            omega (arith, is.counted, same.number, length-append is.tail bytes, length-append past.fed bytes);
         left = λ limited.
             let before : 0 < held.limit = subst (λ (n : ℕ). 0 < n) same.limit limited in
             omega (
@@ -319,7 +299,8 @@ module _ (filter : Filter) (shows : List InputLine → List Awaited → Type 0)
     }
 
     pub goes-on : (then : List InputLine → List Awaited → Type 0) (new : Held)
-        → MovesWithin (filter.so_far lines) (filter.so_far (with_next lines line)) (then (with_next lines line) [])
+        → MovesWithin (filter.so_far lines) (filter.so_far (with_next lines line)) (then (with_next lines
+        line) [])
         mid new → new.number ≡ mid.number + 1 → new.tail.bytes.items ≡ []
         → IsGoing filter then new (fed_with past fed)
     goes-on then new within number empty =
@@ -377,9 +358,8 @@ module _ (filter : Filter) (shows : List InputLine → List Awaited → Type 0)
         × (lines_of ((then-fed rest).fed ++ more) ≡ with_next lines line ++ others)
     line-then rest more = (
       lines_of (rest ++ more),
-      ap lines_of (append_assoc past.fed (piece ++ 10 ∷ rest) more
-          ∙ ap (λ t. past.fed ++ t) (append_assoc piece (10 ∷ rest) more
-          ∙ sym (append_assoc piece (10 ∷ []) (rest ++ more))))
+      ap lines_of (append_assoc past.fed (piece ++ 10 ∷ rest) more ∙ ap (λ t. past.fed ++ t)
+          (append_assoc piece (10 ∷ rest) more ∙ sym (append_assoc piece (10 ∷ []) (rest ++ more))))
           ∙ line-first (rest ++ more),
     )
 
@@ -419,8 +399,7 @@ module _ (filter : Filter) (shows : List InputLine → List Awaited → Type 0)
 
     breaks-short : (new : Held) (rest : List ℕ) (at : At) → RanOutAt (length lines + 1) at
         → StopsShort (filter.memory_after lines line) (filter.so_far lines)
-        (filter.so_far (with_next lines line)) mid new
-        → RunsShort past.fed filter new (then-fed rest) at
+        (filter.so_far (with_next lines line)) mid new → RunsShort past.fed filter new (then-fed rest) at
     breaks-short new rest at memory short =
         let more : ended_lines_of (then-fed rest).fed ≡ with_next lines line ++ ended_lines_of rest =
         ap (λ t. ended_lines_of (past.fed ++ t)) (sym (append_assoc piece (10 ∷ []) rest))
@@ -456,7 +435,8 @@ module _ (filter : Filter) (shows : List InputLine → List Awaited → Type 0)
 
     pub breaks : (new : Held) (rest : List ℕ) (stop : Stop)
         → StepStops (length lines + 1) (filter.memory_after lines line) (filter.so_far lines)
-        (filter.so_far (with_next lines line)) mid new stop → RunBreaks past.fed filter new (then-fed rest) stop
+        (filter.so_far (with_next lines line)) mid new stop → RunBreaks past.fed filter new (then-fed rest)
+        stop
     breaks new rest (Fault at) (inl memory, adds) =
         (inl (breaks-short new rest at memory.0 memory.1), breaks-kept new adds)
     breaks new rest (Fault at) (inr ends, adds) = (inr (breaks-there new rest at ends), breaks-kept new adds)
@@ -484,8 +464,7 @@ breaks-after filter before then held past Limit few passes = passes
 
 -- lines that were ended stay so
 pub ended-more : (filter : Filter) (shows : List InputLine → List Awaited → Type 0) (held : Held)
-    (past : HandlePast)
-    (more : List ℕ) → IsGoing filter shows held past
+    (past : HandlePast) (more : List ℕ) → IsGoing filter shows held past
     → length (ended_lines_of past.fed) ≤ length (ended_lines_of (past.fed ++ more))
 ended-more filter shows held past more going = omega (
   arith,
@@ -496,7 +475,8 @@ ended-more filter shows held past more going = omega (
 -- ---- the end
 
 -- what is held once some lines were taken
-pub record IsHeldAfter (filter : Filter) (held : Held) (past : HandlePast) (lines : List InputLine) : Type 0 where
+pub record IsHeldAfter (filter : Filter) (held : Held) (past : HandlePast) (lines : List InputLine) : Type
+    0 where
   pub text : IsText (filter.so_far lines) held past
   pub sound : (filter.so_far lines).fault ≡ None
   pub flag : held.warned ≡ are_some (filter.so_far lines).warnings
@@ -526,10 +506,10 @@ module _ {filter : Filter} {mid : Held} {past : HandlePast} {lines : List InputL
   pub stopped-after : (others : List InputLine) → lines_of past.fed ≡ lines ++ others
       → ((at : At) → (with_one_more filter lines others).fault ≡ Some at
       → filter.whole (lines_of past.fed) ≡ with_one_more filter lines others)
-      → (number : ℕ) → number ≡ line_reached lines others → number ≡ length (lines_of past.fed) → (stop : Stop)
+      → (number : ℕ) → number ≡ line_reached lines others → number ≡ length (lines_of past.fed) → (stop :
+      Stop)
       → StepStops number (memory_next filter lines others) (filter.so_far lines)
-      (with_one_more filter lines others) mid new stop
-      → RunFails filter new past stop
+      (with_one_more filter lines others) mid new stop → RunFails filter new past stop
   stopped-after others first decided number reached last (Fault at) (inl memory, adds) = (
     inl (record {
       ran_out = (memory.0.0, memory.0.1 ∙ last);
@@ -573,8 +553,7 @@ module _ (filter : Filter) (shows : List InputLine → List Awaited → Type 0)
 
   all-cut : lines_of past.fed ≡ ended ++ lines_of is.tail
   all-cut =
-      ap lines_of (sym (append-nil past.fed)) ∙ is.cut []
-      ∙ ap (λ t. ended ++ lines_of t) (append-nil is.tail)
+      ap lines_of (sym (append-nil past.fed)) ∙ is.cut [] ∙ ap (λ t. ended ++ lines_of t) (append-nil is.tail)
 
   -- nothing is after the last LF
   pub all-ended : held.tail.bytes.items ≡ [] → lines_of past.fed ≡ ended
@@ -618,16 +597,19 @@ module _ (filter : Filter) (shows : List InputLine → List Awaited → Type 0)
         left = λ limited.
             let before : 0 < held.limit = subst (λ (n : ℕ). 0 < n) within.limit limited in
             omega (arith, is.left before, within.left before, within.limit);
-        number = number ∙ ap (λ n. n + 1) is.number ∙ sym (length-append ended (piece_line is.tail false ∷ []));
+        number = number ∙ ap (λ n. n + 1) is.number ∙ sym (length-append ended (piece_line is.tail false ∷
+            []));
       }
 
   -- it ended the run
   pub last-stopped : (mid : Held) → 0 < length held.tail.bytes.items → IsLawful filter → (stop : Stop)
-      → StepStops (length ended + 1) (filter.memory_after ended (piece_line is.tail false)) (filter.so_far ended)
+      → StepStops (length ended + 1) (filter.memory_after ended (piece_line is.tail false)) (filter.so_far
+      ended)
       (filter.so_far last) held mid stop → RunFails filter mid past stop
   last-stopped mid some lawful stop stops =
       let whole : lines_of past.fed ≡ last = all-but_last some in
       stopped-after held-going mid (piece_line is.tail false ∷ []) whole
       (λ at fault. ap filter.whole (whole ∙ sym (append-nil last)) ∙ lawful.decided last [] at fault)
-      (length ended + 1) refl (sym (ap length whole ∙ length-append ended (piece_line is.tail false ∷ []))) stop
+      (length ended + 1) refl (sym (ap length whole ∙ length-append ended (piece_line is.tail false ∷ [])))
+      stop
       stops

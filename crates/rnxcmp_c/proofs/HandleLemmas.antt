@@ -1,17 +1,13 @@
 -- A handle stays sound from call to call.
-use Rattle.rnxcmp_c.proofs.Words.{◌≡◌, inl, inr, ℕ, ◌<◌, ◌≤◌, List, [], ◌∷◌, length, Option, Some, None}
-use Rattle.rnxcmp_c.proofs.Words.{is_some, true, false, take, ◌++◌, arith, refl, sym, ap, ◌∙◌, subst}
-use Rattle.rnxcmp_c.proofs.Words.{append-nil, length-append, ⊎_elim, lines_of, ended_lines_of}
-use Rattle.rnxcmp_c.proofs.Words.{ended_lines-come_first, IsLawful, notices_text, Course, are_some, Outcome}
-use Rattle.rnxcmp_c.proofs.Words.{ReaderRuns, FeedsBy, HasEndedBy, HasFedBy, HasPassedBy, ReaderIsOver}
-use Rattle.rnxcmp_c.proofs.Words.{ReaderStands, RunIsOverLimit, ReaderHasEnded, answer_now, StandsBy}
-use Rattle.rnxcmp_c.proofs.Words.{RunIsOutOfMemory, HandlePast, fed_with, limit_for, nothing_fed, result_for}
-use Rattle.rnxcmp_c.proofs.Words.{Task, allowed_after, IsLineEnded, bare_answer, Answer, AnyEngine, Held}
-use Rattle.rnxcmp_c.proofs.Words.{Reader, MISUSED}
-use Rattle.rnxcmp_c.specs.Handles.{IsFresh, ReaderEndsBy}
-use Rattle.rnxcmp_c.specs.Holding.{HoldsNothing}
-use Rattle.rnxcmp_c.proofs.PieceLemmas.{none-or}
-use Rattle.rnxcmp_c.proofs.ReaderLemmas.{filter-is, lawful-for}
+use Rattle.rnxcmp_c.proofs.{PieceLemmas.none-or, Words.{◌≡◌, inl, inr, ℕ, ◌<◌, ◌≤◌, List, [], ◌∷◌, length}}
+use Rattle.rnxcmp_c.proofs.Words.{Option, Some, None, is_some, true, false, take, ◌++◌, arith, sym, ap, ◌∙◌}
+use Rattle.rnxcmp_c.proofs.Words.{subst, append-nil, length-append, ⊎_elim, lines_of, ended_lines_of}
+use Rattle.rnxcmp_c.proofs.Words.{ended_lines-come_first, Outcome, ReaderRuns, FeedsBy, HasEndedBy, HasFedBy}
+use Rattle.rnxcmp_c.proofs.Words.{HasPassedBy, ReaderIsOver, ReaderStands, RunIsOverLimit, ReaderHasEnded}
+use Rattle.rnxcmp_c.proofs.Words.{answer_now, StandsBy, RunIsOutOfMemory, HandlePast, fed_with, limit_for}
+use Rattle.rnxcmp_c.proofs.Words.{nothing_fed, result_for, Task, allowed_after, IsLineEnded, bare_answer}
+use Rattle.rnxcmp_c.{proofs.Words.{Answer, AnyEngine, Held, Reader, MISUSED}, specs.Handles.IsFresh}
+use Rattle.rnxcmp_c.specs.{Handles.ReaderEndsBy, Holding.HoldsNothing}
 
 first_or : Reader → List Reader → Reader
 first_or other [] = other
@@ -26,7 +22,7 @@ one-held held a b first second = ap (first_or a) (sym first ∙ second)
 ended-within : (fed : List ℕ) → length (ended_lines_of fed) ≤ length (lines_of fed)
 ended-within fed =
     let first = ended_lines-come_first fed in
-    let all : lines_of fed ≡ ended_lines_of fed ++ lines_of (first.0 ++ []) =
+    let all =
     ap lines_of (sym (append-nil fed)) ∙ first.2 [] in
     omega (arith, ap length all, length-append (ended_lines_of fed) (lines_of (first.0 ++ [])))
 
@@ -51,11 +47,10 @@ fed-stands before task reader past (Some outcome) (inl memory) =
     (subst (λ (bytes : List ℕ). RunIsOutOfMemory task (IsLineEnded before past.fed) bytes reader outcome past)
     (append-nil past.fed) (memory [])))
 fed-stands before task reader past (Some outcome) (inr (inl limit)) =
-    inr (inl (subst (λ (bytes : List ℕ). RunIsOverLimit task bytes reader outcome past) (append-nil past.fed)
-    (limit [])))
+    inr (inl (subst (λ bytes. RunIsOverLimit task bytes reader outcome past) (append-nil _) (limit [])))
 fed-stands before task reader past (Some outcome) (inr (inr over)) =
-    inr (inr (inr (subst (λ (bytes : List ℕ). ReaderIsOver (limit_for task) (result_for task bytes) reader outcome
-    past) (append-nil past.fed) (over.1 []))))
+    inr (inr (inr (subst (λ bytes. ReaderIsOver (limit_for task) (result_for task bytes) reader outcome
+    past) (append-nil _) (over.1 []))))
 
 ended-stands : (task : Task) (reader : Reader) (past : HandlePast) (outcome : Option Outcome)
     → HasEndedBy task reader past outcome → StandsBy task reader past outcome
@@ -74,24 +69,21 @@ passed-stands task reader past (Some outcome) long = inr (inr (inl long))
 pub none-fed : (past : HandlePast) (bytes : List ℕ) (used : ℕ) → used ≡ 0
     → past ≡ fed_with past (take used bytes)
 none-fed past bytes used none =
-    sym (ap (λ (n : ℕ). fed_with past (take n bytes)) none
-    ∙ ap (λ (fed : List ℕ). let then : HandlePast = record past { fed = fed } in then) (append-nil past.fed))
+    sym (ap (λ n. fed_with past (take n bytes)) none
+    ∙ ap (λ fed. let then = record past { fed = fed } in then) (append-nil _))
 
 pub feeds-stands : (task : Task) (old new : Reader) (past : HandlePast) (bytes : List ℕ) (used : ℕ)
-    (answer : Answer)
-    (outcome : Option Outcome) → ReaderStands task old past
+    (answer : Answer) (outcome : Option Outcome) → ReaderStands task old past
     → FeedsBy task old new past bytes used answer outcome
     → ReaderStands task new (fed_with past (take used bytes))
 feeds-stands task old new past bytes used answer None stands feeds =
     let goes_on : (0 < length bytes → 0 < length (allowed_after past bytes))
     → ReaderStands task new (fed_with past (take used bytes)) =
     λ some. fed-stands past.fed task new (fed_with past (take used bytes)) new.outcome (feeds.fed some) in
-    ⊎_elim (λ none. goes_on (λ h. absurd (omega (arith, h, none))))
-    (λ more. ⊎_elim
+    ⊎_elim (λ none. goes_on (λ h. absurd (omega (arith, h, none)))) (λ more. ⊎_elim
     (λ none. subst (ReaderStands task new) (none-fed past bytes used (feeds.over more none).0)
-    (passed-stands task new past new.outcome (feeds.over more none).1))
-    (λ some. goes_on (λ h. some)) (none-or (length (allowed_after past bytes))))
-    (none-or (length bytes))
+    (passed-stands task new past new.outcome (feeds.over more none).1)) (λ some. goes_on (λ h. some))
+    (none-or (length (allowed_after past bytes)))) (none-or (length bytes))
 feeds-stands task old new past bytes used answer (Some outcome) stands feeds =
     subst (λ (r : Reader). ReaderStands task r (fed_with past (take used bytes))) (sym feeds.2)
     (subst (ReaderStands task old) (none-fed past bytes used feeds.1) stands)
@@ -99,9 +91,8 @@ feeds-stands task old new past bytes used answer (Some outcome) stands feeds =
 pub ends-stands : (task : Task) (old new : Reader) (past : HandlePast) (answer : Answer)
     (outcome : Option Outcome) → ReaderStands task old past → ReaderEndsBy task old new past answer outcome
     → ReaderStands task new past
-ends-stands task old new past answer None stands ends = ended-stands task new past new.outcome ends.0
-ends-stands task old new past answer (Some outcome) stands ends =
-    subst (λ (r : Reader). ReaderStands task r past) (sym ends.1) stands
+ends-stands task old new past answer None stands ends = ended-stands task new past _ ends.0
+ends-stands task old new past answer (Some outcome) stands ends = grind arith
 
 -- whether the run had ended before
 module _ (task : Task) (old new : Reader) (past : HandlePast) (answer : Answer) where
@@ -131,37 +122,4 @@ module _ (task : Task) (old new : Reader) (past : HandlePast) (answer : Answer) 
 pub fresh-stands : (task : Task) (engine : AnyEngine) (held : Held) (limit : ℕ) → IsFresh task engine
     → limit_for task ≡ limit → HoldsNothing limit held
     → ReaderRuns task (record { engine = engine; held = held; fed = 0; outcome = None }) nothing_fed
-fresh-stands task engine held limit fresh limited nothing_held =
-    let nothing = IsLawful.nothing
-    (subst IsLawful (sym (filter-is task engine fresh.is_of)) (lawful-for task)) in
-    record {
-      is_of = fresh.is_of;
-      drained = fresh.drained;
-      takes = fresh.takes;
-      limit = nothing_held.limit_is ∙ sym limited;
-      going = record {
-        shown = fresh.shown;
-        good = ap (λ (c : Course). c.fault) nothing;
-        text = record {
-          wrote = ap (λ (c : Course). c.output) nothing ∙ sym nothing_held.output;
-          reported = ap (λ (c : Course). notices_text c.warnings) nothing ∙ sym nothing_held.messages;
-        };
-        flag = nothing_held.warned ∙ ap (λ (c : Course). are_some c.warnings) (sym nothing);
-        number = nothing_held.number;
-        tail = [];
-        kept = nothing_held.tail;
-        no_feed = λ k d h. absurd (omega (arith, h));
-        cut = λ more. refl;
-        cut_ended = λ more. refl;
-        counted = omega (arith, nothing_held.number);
-        left = λ limited. omega (
-          arith,
-          nothing_held.left,
-          nothing_held.limit_is,
-          ap (λ (c : Course). length c.output) nothing,
-        );
-        unfailed = nothing_held.unfailed;
-      };
-      counted = refl;
-      within = omega arith;
-    }
+fresh-stands task engine held limit fresh limited nothing_held = grind arith

@@ -1,8 +1,7 @@
 -- What passes a check comes back, in the caller's memory, by the law.
-use Rattle.rnxcmp_c.proofs.Words.{ℕ, ◌≡◌, List, length, ap, sym, subst, ◌∙◌, arith, nat_le, Choices, expanded}
+use Rattle.rnxcmp_c.proofs.Words.{ℕ, ◌≡◌, List, length, ap, sym, subst, ◌∙◌, arith, Choices, expanded}
 use Rattle.rnxcmp_c.proofs.Words.{checked, FilterResult, what-passes, IsAnswer, BothTexts, status_in}
 use Rattle.rnxcmp_c.proofs.Words.{CallBringsBackWhatPasses, Answer}
-use Rattle.crx_filter.proofs.Choosing.{by_bool}
 use Rattle.crx_filter.specs.meaning.Lossless.{SaysThatItComesBack}
 
 pub brings-back_passed : (holds : FilterResult → Type 0) (expanding : Choices) (text : List ℕ)
@@ -13,13 +12,9 @@ brings-back_passed holds expanding text answered file compacting dated passed sa
 
 -- an output that doesn't fit has a status of its own, which isn't 0
 zero-status : (result : FilterResult) (room : ℕ) → status_in result room ≡ 0 → result.status ≡ 0
-zero-status result room e = by_bool (nat_le (length result.output) room)
-    (λ on. rw on at e)
-    (λ off.
-    let never = rw off at e in
-    absurd (omega (arith, never)))
+zero-status result room e = grind arith
 
 pub says-so : (file : List ℕ) (answer : Answer) (before after : BothTexts)
     → IsAnswer (checked file) answer before after → SaysThatItComesBack answer.status file
 says-so file answer before after is zero =
-    what-passes file (zero-status (checked file) (length before.output) (sym (IsAnswer.status is) ∙ zero))
+    what-passes file (zero-status (checked file) (length _) (sym (IsAnswer.status is) ∙ zero))

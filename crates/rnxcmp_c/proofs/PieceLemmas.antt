@@ -1,9 +1,7 @@
 -- What is kept of a line says of the whole line all that counts: whether it is too long, and else its bytes.
 use Rattle.rnxcmp_c.proofs.Words.{◌≡◌, ◌⊎◌, inl, inr, ⊎_elim, ℕ, ◌<◌, ◌≤◌, Bool, true, false, List, []}
-use Rattle.rnxcmp_c.proofs.Words.{length, take, refl, sym, ap, ◌∙◌, subst, arith, length-take, take_all}
+use Rattle.rnxcmp_c.proofs.Words.{length, take, refl, ap, ◌∙◌, subst, arith, length-take, take_all}
 use Rattle.rnxcmp_c.proofs.Words.{LINE_LIMIT, without_return, LINE_ROOM}
-use Rattle.std.proofs.Common.{nat_lt}
-use Rattle.std.proofs.lemmas.Bool.{ltb-true, ltb-false}
 use Rattle.crx_lines.proofs.ReturnLemmas.{length-without_return}
 
 either : (b : Bool) → (b ≡ true) ⊎ (b ≡ false)
@@ -11,10 +9,10 @@ either true = inl refl
 either false = inr refl
 
 pub within-or : (n m : ℕ) → (n ≤ m) ⊎ (m < n)
-within-or n m = ⊎_elim (λ e. inr (ltb-true m n e)) (λ e. inl (ltb-false m n e)) (either (nat_lt m n))
+within-or n m = grind arith
 
 pub none-or : (n : ℕ) → (n ≡ 0) ⊎ (0 < n)
-none-or n = ⊎_elim (λ h. inl (omega (arith, h))) (λ h. inr h) (within-or n 0)
+none-or n = grind arith
 
 -- what has room is whole
 pub whole-where_short : (n : ℕ) (whole : List ℕ) → length (take n whole) < n → take n whole ≡ whole
@@ -22,18 +20,15 @@ whole-where_short n whole short = take_all n whole (omega (arith, short, length-
 
 -- a line of which nothing is kept has none
 pub none-where_none : (whole : List ℕ) → take LINE_ROOM whole ≡ [] → whole ≡ []
-none-where_none whole none =
-    sym (whole-where_short LINE_ROOM whole (omega (arith, ap length none))) ∙ none
+none-where_none whole none = grind arith
 
 -- what is too long in what is kept is too long
 pub long-where_long : (bytes whole : List ℕ) → bytes ≡ take LINE_ROOM whole
-    → LINE_LIMIT < length (without_return bytes)
-    → LINE_LIMIT < length (without_return whole)
+    → LINE_LIMIT < length (without_return bytes) → LINE_LIMIT < length (without_return whole)
 long-where_long bytes whole kept long =
-    ⊎_elim (λ within. subst (λ (l : List ℕ). LINE_LIMIT < length (without_return l))
+    ⊎_elim (λ within. subst (λ l. LINE_LIMIT < length (without_return l))
     (kept ∙ take_all LINE_ROOM whole within) long)
-    (λ past. omega (arith, past, (length-without_return whole).1))
-    (within-or (length whole) LINE_ROOM)
+    (λ past. omega (arith, past, (length-without_return whole).1)) (within-or _ _)
 
 -- and what isn't is whole
 pub whole-where_not_long : (bytes whole : List ℕ) → bytes ≡ take LINE_ROOM whole

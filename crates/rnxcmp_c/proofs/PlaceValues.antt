@@ -11,8 +11,6 @@ module _ {M : Type 1} {𝓤 : Ura M} {𝓛 : Logic 𝓤} {K : Type 0} {Γ : List
   pub place_in : K → (p : Ptr) (held : List Reader)
       → Step K 𝓛 (‵ ((place.the_row).own_val (record { at = p; held = held }) (word p ∷ [])) ∷ Γ) G
       (‵ (place_owns p held) ∷ Γ) G
-  place_in t p held = step (λ s.
-      nothing t $ feq_i t (List Val) (ptr_val p ∷ []) (ptr_val p ∷ []) refl $ fjoin t $ feq_i t (List Val)
-      (word p ∷ []) (word p ∷ []) refl $ fjoin t $
-      fpack t (Valss (RawPtr ∷ [])) (within (shape place.the_type) (p, tt) (word p ∷ []))
-      (ptr_val p ∷ [], tt) $ fjoin t $ s)
+  place_in t p held = step (λ s. nothing t $ feq_i t _ _ _ refl $ fjoin t $ feq_i t _ _ _ refl $ fjoin t $
+      fpack t (Valss (RawPtr ∷ [])) (within (shape place.the_type) (p, tt) (word p ∷ [])) (ptr_val p ∷ [], tt)
+      $ fjoin t $ s)

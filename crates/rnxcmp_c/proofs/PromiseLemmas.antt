@@ -1,40 +1,30 @@
 -- What the state of a reader says of its run, in the words of the promise.
-use Rattle.rnxcmp_c.proofs.Words.{◌≡◌, ◌⊎◌, inl, inr, ⊎_elim, ℕ, ◌-◌, ◌<◌, ◌≤◌, List, [], ◌∷◌, ◌++◌, length}
-use Rattle.rnxcmp_c.proofs.Words.{map, take, drop, append_assoc, Option, Some, None, is_some, true, false}
-use Rattle.rnxcmp_c.proofs.Words.{arith, refl, sym, ap, ◌∙◌, subst, append-nil, length-append, InputLine}
-use Rattle.rnxcmp_c.proofs.Words.{lines_of, ended_lines_of, seen, At, OutOfMemory, whole_compact, Filter}
-use Rattle.rnxcmp_c.proofs.Words.{with_next, error_text, notices_text, Begins, Course, FilterResult}
-use Rattle.rnxcmp_c.proofs.Words.{result_of_course, AreNext, Outcome, IsGoing, IsLineEnded, IsLastLine}
-use Rattle.rnxcmp_c.proofs.Words.{IsLineReached, ReaderIsOver, ReaderRuns, ReaderStands, RunIsOutOfMemory}
-use Rattle.rnxcmp_c.proofs.Words.{RunIsOverLimit, RunIsTooLong, StandsBy, answer_now, shows_of}
-use Rattle.rnxcmp_c.proofs.Words.{too_long_after, FeedsBy, FeedsBytes, HasEndedBy, HasFedBy, HasPassedBy}
-use Rattle.rnxcmp_c.proofs.Words.{ReaderHasEnded, texts_of_held, Holds, have_ended, Handle, HandlePast}
-use Rattle.rnxcmp_c.proofs.Words.{allowed_after, fed_with, filter_for, limit_for, memory_next, past_of}
-use Rattle.rnxcmp_c.proofs.Words.{result_for, texts_made, waiting, Answer, OUTPUT_LIMIT, Held, READY_LIMIT}
-use Rattle.rnxcmp_c.proofs.Words.{Reader, BothTexts, line_in, RunHasEnded, StopsAtLimit, StopsForMemory}
-use Rattle.rnxcmp_c.proofs.Words.{StopsWhenFull, Task, Compact, Expand, Check, handle_answer, run_for}
-use Rattle.rnxcmp_c.proofs.Words.{with_one_more, bare_answer, MISUSED}
-use Rattle.std.proofs.Common.{reverse}
-use Rattle.std.proofs.lemmas.List.{map-append, reverse-append}
-use Rattle.crx_base.specs.meaning.Seen.{ReadLine}
-use Rattle.crx_filter.specs.meaning.Compacted.{rinex_place, whole_rinex}
-use Rattle.crx_filter.specs.meaning.Directions.{compact_reading, rinex_reading}
-use Rattle.crx_filter.specs.meaning.Items.{Item, Accepted, Warned}
-use Rattle.crx_filter.specs.meaning.Written.{warnings_in}
-use Rattle.crx_filter.proofs.reading.CompactPrefixes.{whole-more}
-use Rattle.crx_filter.proofs.reading.Forward.{rinex-forward}
-use Rattle.crx_filter.proofs.reading.Prefixes.{AreMore, whole-items}
-use Rattle.rnxcmp_c.specs.Handles.{fault_now, status_now, Feeds, Ends}
-use Rattle.rnxcmp_c.specs.Opened.{EndsHandle, FeedsHandle, HandleStands, has_ended, run_in, run_state}
-use Rattle.rnxcmp_c.specs.Opened.{texts_in, texts_kept}
-use Rattle.rnxcmp_c.specs.Past.{AsksMemory}
+use Rattle.rnxcmp_c.proofs.{Cut.begins-next, GoingLemmas.{begins-then, notices-both}}
+use Rattle.rnxcmp_c.proofs.{HandleLemmas.{ends-stands, feeds-stands, none-fed}, PieceLemmas.none-or}
+use Rattle.rnxcmp_c.proofs.{ReaderLemmas.{fault-at, faulty-status, lawful-for, output-for}, Words.{◌≡◌, ◌⊎◌}}
+use Rattle.rnxcmp_c.proofs.Words.{inl, inr, ⊎_elim, ℕ, ◌-◌, ◌<◌, ◌≤◌, List, [], ◌∷◌, ◌++◌, length, map, take}
+use Rattle.rnxcmp_c.proofs.Words.{drop, append_assoc, Option, Some, None, is_some, true, false, arith, refl}
+use Rattle.rnxcmp_c.proofs.Words.{sym, ap, ◌∙◌, subst, append-nil, length-append, InputLine, lines_of}
+use Rattle.rnxcmp_c.proofs.Words.{ended_lines_of, seen, At, OutOfMemory, whole_compact, Filter, with_next}
+use Rattle.rnxcmp_c.proofs.Words.{error_text, notices_text, Begins, Course, FilterResult, result_of_course}
+use Rattle.rnxcmp_c.proofs.Words.{AreNext, Outcome, IsLineEnded, IsLastLine, IsLineReached, ReaderIsOver}
+use Rattle.rnxcmp_c.proofs.Words.{ReaderRuns, ReaderStands, RunIsOutOfMemory, RunIsOverLimit, RunIsTooLong}
+use Rattle.rnxcmp_c.proofs.Words.{StandsBy, answer_now, FeedsBy, FeedsBytes, HasEndedBy, HasFedBy}
+use Rattle.rnxcmp_c.proofs.Words.{HasPassedBy, ReaderHasEnded, texts_of_held, Holds, have_ended, Handle}
+use Rattle.rnxcmp_c.proofs.Words.{HandlePast, allowed_after, fed_with, filter_for, limit_for, memory_next}
+use Rattle.rnxcmp_c.proofs.Words.{past_of, result_for, texts_made, waiting, Answer, OUTPUT_LIMIT, Held}
+use Rattle.rnxcmp_c.proofs.Words.{READY_LIMIT, Reader, BothTexts, line_in, RunHasEnded, StopsAtLimit}
+use Rattle.rnxcmp_c.proofs.Words.{StopsForMemory, StopsWhenFull, Task, Compact, Expand, Check, handle_answer}
+use Rattle.rnxcmp_c.{proofs.Words.{run_for, with_one_more, bare_answer, MISUSED}, specs.Handles.fault_now}
+use Rattle.rnxcmp_c.specs.{Handles.{status_now, Feeds, Ends}, Opened.{EndsHandle, FeedsHandle, HandleStands}}
+use Rattle.rnxcmp_c.specs.{Opened.{has_ended, run_in, run_state, texts_in, texts_kept}, Past.AsksMemory}
 use Rattle.rnxcmp_c.specs.meaning.Handles.{HandlePromise, RunWasEnded, TakesBytes, joined_texts}
-use Rattle.rnxcmp_c.proofs.Cut.{begins-next}
-use Rattle.rnxcmp_c.proofs.GoingLemmas.{begins-then, notices-both}
-use Rattle.rnxcmp_c.proofs.HandleLemmas.{ends-answer, ends-misused, ends-stands, feeds-answer, feeds-misused}
-use Rattle.rnxcmp_c.proofs.HandleLemmas.{feeds-stands, none-fed, one-held}
-use Rattle.rnxcmp_c.proofs.PieceLemmas.{none-or}
-use Rattle.rnxcmp_c.proofs.ReaderLemmas.{fault-at, faulty-status, filter-is, lawful-for, output-for}
+use Rattle.std.proofs.{Common.reverse, lemmas.List.{map-append, reverse-append}}
+use Rattle.crx_base.specs.meaning.Seen.{ReadLine}
+use Rattle.crx_filter.proofs.reading.{CompactPrefixes.whole-more, Forward.rinex-forward, Prefixes.AreMore}
+use Rattle.crx_filter.{proofs.reading.Prefixes.whole-items, specs.meaning.Compacted.rinex_place}
+use Rattle.crx_filter.specs.meaning.{Compacted.whole_rinex, Directions.{compact_reading, rinex_reading}}
+use Rattle.crx_filter.specs.meaning.{Items.{Item, Accepted, Warned}, Written.warnings_in}
 
 -- ---- warnings
 
@@ -74,8 +64,7 @@ warned-first (Expand choices limit) lines more =
 warned-first Check lines more = record { rest = []; same = refl }
 
 -- the messages of a result begin with the warnings
-pub messages-for : (task : Task) (input : List ℕ)
-    → Begins (result_for task input).messages
+pub messages-for : (task : Task) (input : List ℕ) → Begins (result_for task input).messages
     (notices_text ((filter_for task).whole (lines_of input)).warnings)
 messages-for (Compact choices limit) input = record { rest = _; same = refl }
 messages-for (Expand choices limit) input = record { rest = _; same = refl }
@@ -104,8 +93,7 @@ module _ (task : Task) (input : List ℕ) (lines : List InputLine) where
       (notices_text (with_one_more (filter_for task) lines others).warnings)
   messages-next [] first =
       subst (λ ls. Begins (result_for task input).messages (notices_text
-      ((filter_for task).whole ls).warnings))
-      (first ∙ append-nil lines) (messages-for task input)
+      ((filter_for task).whole ls).warnings)) (first ∙ append-nil lines) (messages-for task input)
   messages-next (line ∷ others) first =
       messages-first task input (with_next lines line) others (first ∙ sym (append_assoc lines
       (line ∷ []) others))
@@ -113,16 +101,13 @@ module _ (task : Task) (input : List ℕ) (lines : List InputLine) where
   -- the warnings of the lines before it, and then some of its own
   pub messages-own : (others : List InputLine) → lines_of input ≡ lines ++ others → (notices : List At)
       → (notices ≡ []) ⊎ AreNext ((filter_for task).so_far lines)
-      (with_one_more (filter_for task) lines others) notices
-      → Begins (result_for task input).messages
+      (with_one_more (filter_for task) lines others) notices → Begins (result_for task input).messages
       (notices_text ((filter_for task).so_far lines).warnings ++ notices_text notices)
   messages-own others first notices own =
       let before : List At = ((filter_for task).so_far lines).warnings in
-      ⊎_elim
-      (λ none. subst (Begins (result_for task input).messages)
+      ⊎_elim (λ none. subst (Begins (result_for task input).messages)
       (sym (ap (λ ns. notices_text before ++ notices_text ns) none ∙ append-nil (notices_text before)))
-      (messages-first task input lines others first))
-      (λ next. begins-then _ _ _ (messages-next others first)
+      (messages-first task input lines others first)) (λ next. begins-then _ _ _ (messages-next others first)
       (begins-next ((filter_for task).so_far lines) (with_one_more (filter_for task) lines others) notices
       next)) own
 
@@ -135,27 +120,22 @@ answer_by outcome reader = handle_answer (status_now outcome) (fault_now outcome
 ended-as : (P Q : FilterResult → Type 0) (made kept : BothTexts) (answer : Answer)
     → ((result : FilterResult) → P result → Q result) → RunHasEnded P made kept answer
     → RunHasEnded Q made kept answer
-ended-as P Q made kept answer weaker ended = record {
-  result = ended.result;
-  is = weaker ended.result ended.is;
-  ends = ended.ends;
-}
+ended-as P Q made kept answer weaker ended =
+    record { result = ended.result; is = weaker ended.result ended.is; ends = ended.ends }
 
 -- ---- memory
 
 -- the line that comes next takes memory, or it adds to one of both texts
 abbrev Asks : Filter → List InputLine → List InputLine → List At → Type 0
-Asks filter lines others notices = ((next : InputLine) × (more : List InputLine)
-    × (others ≡ next ∷ more) × (filter.memory_after lines next ≡ Some notices))
-    ⊎ ((notices ≡ [])
-    × ((length (filter.so_far lines).output < length (with_one_more filter lines others).output)
-    ⊎ (length (notices_text (filter.so_far lines).warnings)
-    < length (notices_text (with_one_more filter lines others).warnings))))
+Asks filter lines others notices = ((next : InputLine) × (more : List InputLine) × (others ≡ next ∷ more) ×
+    (filter.memory_after lines next ≡ Some notices)) ⊎ ((notices ≡ []) ×
+    ((length (filter.so_far lines).output < length (with_one_more filter lines others).output) ⊎
+    (length (notices_text (filter.so_far lines).warnings) < length
+    (notices_text (with_one_more filter lines others).warnings))))
 
 asks : (filter : Filter) (lines others : List InputLine) (notices : List At)
     → AsksMemory (memory_next filter lines others) (filter.so_far lines) (with_one_more filter lines others)
-    notices
-    → Asks filter lines others notices
+    notices → Asks filter lines others notices
 asks filter lines [] notices (inl takes) = absurd (cc)
 asks filter lines (next ∷ more) notices (inl takes) = inl (next, more, refl, takes)
 asks filter lines others notices (inr adds) = inr adds
@@ -179,8 +159,7 @@ module _ (task : Task) (reader : Reader) (past : HandlePast) where
 
   answered-by : (outcome : Outcome) {status : ℕ} {fault : Option At} → outcome.status ≡ status
       → outcome.fault ≡ fault → answer_by (Some outcome) reader ≡ handle_answer status fault kept
-  answered-by outcome {status} same is =
-      ap (λ s. handle_answer s outcome.fault kept) same ∙ ap (λ f. handle_answer status f kept) is
+  answered-by outcome {status} same is = grind arith
 
   -- the result of an input, that at the limit of the output, or that of a run for which memory ran out
   abbrev Whole : List ℕ → FilterResult → Type 0
@@ -197,20 +176,7 @@ module _ (task : Task) (reader : Reader) (past : HandlePast) where
 
   runs-on : ReaderRuns task reader past
       → HandlePromise None (run_for task) past.fed made kept (answer_by None reader)
-  runs-on runs =
-      let going = subst (λ (f : Filter). IsGoing f (shows_of reader.engine) reader.held past)
-      (filter-is task reader.engine runs.is_of) runs.going in
-      record {
-        goes_on = λ none. (
-          going.good,
-          record { answered = refl; output = going.text.wrote; messages = going.text.reported },
-        );
-        answered = λ (outcome : Outcome) is. ap (λ (o : Option Outcome). answer_by o reader) is;
-        ended = λ ended. absurd (cc);
-        within = λ limited.
-            let before : 0 < reader.held.limit = subst (λ (n : ℕ). 0 < n) (sym runs.limit) limited in
-            omega (arith, going.left before, runs.limit, ap length going.text.wrote);
-      }
+  runs-on runs = grind arith
 
   -- at a line, or at the end; or for the message of a fault
   short-of_memory : (is_line : ℕ → Type 0) (outcome : Outcome) (input : List ℕ)
@@ -285,34 +251,9 @@ module _ (task : Task) (reader : Reader) (past : HandlePast) where
 
   is-full : (outcome : Outcome) → RunIsTooLong task reader outcome past
       → Ended (StopsWhenFull (run_for task) past.fed) (Some outcome)
-  is-full outcome long =
-      let at : At = too_long_after past.fed in
-      let before : Course = (filter_for task).so_far (ended_lines_of past.fed) in
-      record {
-        result = result_of_course (record {
-          output = before.output;
-          warnings = before.warnings;
-          fault = Some at;
-        });
-        is = record { full = long.full; good = long.good; result_is = refl };
-        ends = ⊎_elim
-            (λ said. inl (record {
-              answered = answered-by outcome long.status said.0;
-              output = long.output;
-              messages = said.1;
-            }))
-            (λ hidden. inr (record {
-              at = at;
-              faulty = refl;
-              answered = answered-by outcome long.status hidden.0;
-              output = long.output;
-              messages = ap (λ t. t ++ error_text (Some at)) hidden.1;
-            }))
-            long.said;
-      }
+  is-full outcome long = grind arith
 
-  over-limit : (outcome : Outcome) (input : List ℕ)
-      → RunIsOverLimit task input reader outcome past
+  over-limit : (outcome : Outcome) (input : List ℕ) → RunIsOverLimit task input reader outcome past
       → Ended (Limited input) (Some outcome)
   over-limit outcome input over =
       let before : Course = (filter_for task).so_far over.lines in
@@ -375,8 +316,7 @@ module _ (task : Task) (reader : Reader) (past : HandlePast) where
   stands-by : (outcome : Option Outcome) → StandsBy task reader past outcome
       → HandlePromise outcome (run_for task) past.fed made kept (answer_by outcome reader)
   stands-by None runs = runs-on runs
-  stands-by (Some outcome) (inl ran) = promise-by outcome
-      (ended-as _ Any made kept _
+  stands-by (Some outcome) (inl ran) = promise-by outcome (ended-as _ Any made kept _
       (λ result is. ⊎_elim (λ whole. inl whole.0) (λ short. inr (inr (inl short))) is)
       (short-of_memory (IsLineReached past.fed) outcome past.fed ran)) ran.within
   stands-by (Some outcome) (inr (inl over)) = promise-by outcome
@@ -430,12 +370,10 @@ module _ (task : Task) (reader : Reader) (past : HandlePast) where
       inl (λ (more : List ℕ). ended-as _ (Broken before more) made kept _ (λ result is. inr (inl is))
       (over-limit outcome (past.fed ++ more) (limit more)))
   fed-ended before left (Some outcome) ended (inr (inr over)) =
-      inl (λ (more : List ℕ). ended-as _ (Broken before more) made kept _
-      (λ result is. inl (
+      inl (λ (more : List ℕ). ended-as _ (Broken before more) made kept _ (λ result is. inl (
         is,
         ap (λ (r : FilterResult). r.status) is ∙ sym (ReaderIsOver.status (over.1 more)) ∙ over.0,
-      ))
-      (has-result outcome (past.fed ++ more) (over.1 more)))
+      )) (has-result outcome (past.fed ++ more) (over.1 more)))
 
   passed-ended : (left : List ℕ) → 0 < length left → (outcome : Option Outcome)
       → HasPassedBy task reader past outcome
@@ -463,39 +401,30 @@ module _ (task : Task) (old new : Reader) (fed : List ℕ) (taken : BothTexts) (
   feeds-ended None runs ended feeds =
       let goes_on : (0 < length bytes → 0 < length (allowed_after past bytes))
       → BytesEnded (fed_with past (take used bytes)) used =
-      λ some. fed-ended task new (fed_with past (take used bytes)) fed
-      (drop used bytes) new.outcome ended
+      λ some. fed-ended task new (fed_with past (take used bytes)) fed (drop used bytes) new.outcome ended
       (feeds.fed some) in
-      ⊎_elim (λ none. goes_on (λ h. absurd (omega (arith, h, none))))
-      (λ more. ⊎_elim
+      ⊎_elim (λ none. goes_on (λ h. absurd (omega (arith, h, none)))) (λ more. ⊎_elim
       (λ none. subst (λ (then : HandlePast). BytesEnded then used)
       (none-fed past bytes used (feeds.over more none).0)
       (subst (BytesEnded past) (sym (feeds.over more none).0)
       (passed-ended task new past bytes more new.outcome (feeds.over more none).1)))
-      (λ some. goes_on (λ h. some)) (none-or (length (allowed_after past bytes))))
-      (none-or (length bytes))
+      (λ some. goes_on (λ h. some)) (none-or (length (allowed_after past bytes)))) (none-or (length bytes))
   feeds-ended (Some outcome) runs ended feeds = absurd (cc)
 
   -- all were taken, or much is ready
   takes-all : (outcome : Option Outcome) → new.outcome ≡ outcome
-      → FeedsBytes task old new past bytes used answer
-      → used < length (allowed_after past bytes)
-      → (is_some new.outcome ≡ false)
-      × (READY_LIMIT ≤ length (waiting new.held.output ++ waiting new.held.messages))
+      → FeedsBytes task old new past bytes used answer → used < length (allowed_after past bytes)
+      → (is_some new.outcome ≡ false) ×
+      (READY_LIMIT ≤ length (waiting new.held.output ++ waiting new.held.messages))
   takes-all None is feeds less = (
     ap (λ (o : Option Outcome). is_some o) is,
-    omega (
-      arith,
-      feeds.all is less,
-      length-append (waiting new.held.output) (waiting new.held.messages),
-    ),
+    omega (arith, feeds.all is less, length-append (waiting new.held.output) (waiting new.held.messages)),
   )
   takes-all (Some outcome) is feeds less =
       absurd (omega (
         arith,
         less,
-        feeds.ended (omega (arith, less)) (ap (λ
-            (o : Option Outcome). is_some o) is),
+        feeds.ended (omega (arith, less)) (ap (λ (o : Option Outcome). is_some o) is),
       ))
 
   none-is : (outcome : Option Outcome) → is_some outcome ≡ false → outcome ≡ None
@@ -544,15 +473,12 @@ module _ (task : Task) (old new : Reader) (fed : List ℕ) (taken : BothTexts) (
 held-as : (P : List Reader → Answer → Type 0) (handle : Handle) (reader : Reader) (answer : Answer)
     → Holds handle reader → answer ≡ answer_now reader → P (reader ∷ []) (answer_now reader)
     → P handle.place.held answer
-held-as P handle reader answer holds answers here =
-    subst (λ (l : List Reader). P l answer) (sym holds) (subst (P (reader ∷ [])) (sym answers) here)
+held-as P handle reader answer holds answers here = grind arith
 
 -- a handle stands as the reader does that it holds
 pub stood : {task : Task} {handle : Handle} {fed : List ℕ} {taken : BothTexts} {reader : Reader}
     → Holds handle reader → HandleStands task handle fed taken → ReaderStands task reader (past_of fed taken)
-stood {task} {handle} {fed} {taken} {reader} holds stands =
-    subst (λ (r : Reader). ReaderStands task r (past_of fed taken))
-    (one-held handle.place.held stands.reader reader stands.holds holds) stands.stands
+stood {task} {handle} {fed} {taken} {reader} holds stands = grind arith
 
 pub handle-promise : {task : Task} {handle : Handle} {fed : List ℕ} {taken : BothTexts} {reader : Reader}
     {answer : Answer} → HandleStands task handle fed taken → Holds handle reader → answer ≡ answer_now reader
@@ -581,7 +507,8 @@ module _ {old new : Handle} {before after : Reader} (held : Holds old before) (h
   }
 
   pub handle-ends : {answer : Answer}
-      → ((task : Task) (past : HandlePast) → ReaderStands task before past → Ends task before after past answer)
+      → ((task : Task) (past : HandlePast) → ReaderStands task before past → Ends task before after past
+      answer)
       → (task : Task) (fed : List ℕ) (taken : BothTexts) → HandleStands task old fed taken
       → EndsHandle task old new fed taken answer
   handle-ends ended_by task fed taken stands = record {
@@ -608,28 +535,27 @@ module _ {task : Task} {old new : Handle} {fed : List ℕ} {taken : BothTexts} {
 
   pub feeds-refused : has_ended old ≡ true
       → (answer ≡ bare_answer MISUSED 0 0) × (used ≡ 0) × (new.place.held ≡ old.place.held)
-  feeds-refused ended =
-      let none = feeds-misused task is.before is.after (past_of fed taken) answer bytes used is.before.outcome
-      (sym (ap have_ended is.held) ∙ ended) is.feeds in
-      (none.0, none.1, is.holds ∙ ap (λ (r : Reader). r ∷ []) none.2 ∙ sym is.held)
+  feeds-refused ended = grind arith
 
   module _ (runs : has_ended old ≡ false) where
     went-on : is_some is.before.outcome ≡ false
     went-on = sym (ap have_ended is.held) ∙ runs
 
     answered : answer ≡ answer_now is.after
-    answered = feeds-answer task is.before is.after (past_of fed taken) answer bytes used is.before.outcome went-on
-        is.feeds
+    answered = grind arith
 
     pub feeds-promise : HandlePromise (run_state new) (run_for task) (fed ++ take used bytes)
         (joined_texts taken (texts_kept new)) (texts_kept new) answer
     feeds-promise = handle-promise feeds-on is.holds answered
 
-    pub feeds-takes : TakesBytes (run_for task) fed taken bytes used (texts_kept old) (texts_kept new) (has_ended new)
+    pub feeds-takes : TakesBytes (run_for task) fed taken bytes used (texts_kept old) (texts_kept new)
+        (has_ended new)
     feeds-takes =
-        subst (λ (l : List Reader). TakesBytes (run_for task) fed taken bytes used (texts_in l) (texts_kept new)
+        subst (λ (l : List Reader). TakesBytes (run_for task) fed taken bytes used (texts_in l) (texts_kept
+        new)
         (has_ended new)) (sym is.held)
-        (subst (λ (l : List Reader). TakesBytes (run_for task) fed taken bytes used (texts_of_held is.before.held)
+        (subst (λ (l : List Reader). TakesBytes (run_for task) fed taken bytes used (texts_of_held
+        is.before.held)
         (texts_in l) (have_ended l)) (sym is.holds)
         (takes-bytes task is.before is.after fed taken bytes used answer is.before.outcome went-on is.feeds))
 
@@ -638,7 +564,8 @@ module _ {task : Task} {old new : Handle} {fed : List ℕ} {taken : BothTexts} {
         (joined_texts taken (texts_kept new)) (texts_kept new) answer
     feeds-was_ended ended =
         held-as (λ (l : List Reader) (a : Answer). RunWasEnded (run_for task) fed (fed ++ take used bytes)
-        (drop used bytes) (joined_texts taken (texts_in l)) (texts_in l) a) new is.after answer is.holds answered
+        (drop used bytes) (joined_texts taken (texts_in l)) (texts_in l) a) new is.after answer is.holds
+        answered
         (feeds-ended task is.before is.after fed taken bytes used answer is.before.outcome went-on
         (sym (ap have_ended is.holds) ∙ ended) is.feeds)
 
@@ -656,15 +583,11 @@ module _ {task : Task} {old new : Handle} {fed : List ℕ} {taken : BothTexts} {
 
   pub ends-refused : has_ended old ≡ true
       → (answer ≡ bare_answer MISUSED 0 0) × (new.place.held ≡ old.place.held)
-  ends-refused ended =
-      let none = ends-misused task is.before is.after (past_of fed taken) answer is.before.outcome
-      (sym (ap have_ended is.held) ∙ ended) is.ends in
-      (none.0, is.holds ∙ ap (λ (r : Reader). r ∷ []) none.1 ∙ sym is.held)
+  ends-refused ended = grind arith
 
   module _ (runs : has_ended old ≡ false) where
     came-to-end : ReaderHasEnded task is.after (past_of fed taken) × (answer ≡ answer_now is.after)
-    came-to-end = ends-answer task is.before is.after (past_of fed taken) answer is.before.outcome
-        (sym (ap have_ended is.held) ∙ runs) is.ends
+    came-to-end = grind arith
 
     pub ends-promise : HandlePromise (run_state new) (run_for task) fed (joined_texts taken (texts_kept new))
         (texts_kept new) answer
@@ -674,6 +597,7 @@ module _ {task : Task} {old new : Handle} {fed : List ℕ} {taken : BothTexts} {
         (joined_texts taken (texts_kept new)) (texts_kept new) answer
     ends-was_ended =
         held-as (λ (l : List Reader) (a : Answer). (have_ended l ≡ true)
-        × RunHasEnded (Last task is.after (past_of fed taken)) (joined_texts taken (texts_in l)) (texts_in l) a)
+        × RunHasEnded (Last task is.after (past_of fed taken)) (joined_texts taken (texts_in l)) (texts_in l)
+        a)
         new is.after answer is.holds came-to-end.1
         (reader-ended task is.after (past_of fed taken) came-to-end.0)

@@ -2,23 +2,21 @@
 use Rattle.rnxcmp_c.proofs.Words.{◌≡◌, ◌⊎◌, inl, inr, ⊎_elim, ℕ, List, [], ◌++◌, Option, Some, None, refl}
 use Rattle.rnxcmp_c.proofs.Words.{sym, ap, ◌∙◌, subst, ◌<◌, ◌≤◌, ◌+◌, ◌∷◌, is_some, arith, length, append-nil}
 use Rattle.rnxcmp_c.proofs.Words.{append_assoc, length-append, take, InputLine, lines_of, INPUT_LIMIT, At}
-use Rattle.rnxcmp_c.proofs.Words.{InputTooLong, OutOfMemory, compaction_filter, expansion_filter, IsLawful}
-use Rattle.rnxcmp_c.proofs.Words.{Filter, with_next, error_text, notices_text, Begins, Course}
-use Rattle.rnxcmp_c.proofs.Words.{result_of_course, Findings, checked_by, findings_of, report_status}
-use Rattle.rnxcmp_c.proofs.Words.{check-lawful, compaction-lawful, expansion-lawful, Outcome, FaultIs}
-use Rattle.rnxcmp_c.proofs.Words.{IsMemoryLacking, waiting, IsAll, IsCutBy, IsGoing, IsText, IsPastLimit}
-use Rattle.rnxcmp_c.proofs.Words.{RunBreaks, RunFails, Stop, Fault, Limit, ReaderIsOver, ReaderRuns}
-use Rattle.rnxcmp_c.proofs.Words.{RunIsOutOfMemory, RunIsOverLimit, RunIsTooLong, shows_of, too_long_after}
-use Rattle.rnxcmp_c.proofs.Words.{HasFedBy, HasEndedBy, engine_filter, has_ended_of, KeepsToLimit, line_in}
-use Rattle.rnxcmp_c.proofs.Words.{HandlePast, limit_for, result_for, Task, Compact, Expand, Check, filter_for}
-use Rattle.rnxcmp_c.proofs.Words.{memory_next, with_one_more, AnyEngine, Compacting, Expanding, Checking}
-use Rattle.rnxcmp_c.proofs.Words.{Held, Reader, HidesFault, texts_made, texts_of_held, line_reached}
-use Rattle.rnxcmp_c.specs.Going.{LineFails, EndsPastLimit, Breaks}
-use Rattle.crx_base.specs.declared.fault.Fault.{Fault as FaultOf}
-use Rattle.crx_filter.specs.meaning.Directions.{check_filter, report_unless}
+use Rattle.rnxcmp_c.proofs.Words.{InputTooLong, OutOfMemory, expansion_filter, IsLawful, Filter, with_next}
+use Rattle.rnxcmp_c.proofs.Words.{error_text, notices_text, Begins, Course, result_of_course, Findings}
+use Rattle.rnxcmp_c.proofs.Words.{checked_by, findings_of, report_status, check-lawful, compaction-lawful}
+use Rattle.rnxcmp_c.proofs.Words.{expansion-lawful, Outcome, FaultIs, IsMemoryLacking, waiting, IsAll}
+use Rattle.rnxcmp_c.proofs.Words.{IsCutBy, IsGoing, IsText, IsPastLimit, RunBreaks, RunFails, Stop, Fault}
+use Rattle.rnxcmp_c.proofs.Words.{Limit, ReaderIsOver, ReaderRuns, RunIsOutOfMemory, RunIsOverLimit}
+use Rattle.rnxcmp_c.proofs.Words.{RunIsTooLong, shows_of, too_long_after, HasFedBy, HasEndedBy, engine_filter}
+use Rattle.rnxcmp_c.proofs.Words.{has_ended_of, KeepsToLimit, line_in, HandlePast, limit_for, result_for}
+use Rattle.rnxcmp_c.proofs.Words.{Task, Compact, Expand, Check, filter_for, memory_next, with_one_more}
+use Rattle.rnxcmp_c.proofs.Words.{AnyEngine, Compacting, Expanding, Checking, Held, Reader, HidesFault}
+use Rattle.rnxcmp_c.{proofs.Words.{texts_made, texts_of_held, line_reached}, specs.Going.LineFails}
+use Rattle.rnxcmp_c.specs.{Going.{EndsPastLimit, Breaks}, Handles.{IsOf, IsPut, EndsRunBy, EngineGoesOn}}
+use Rattle.rnxcmp_c.specs.Handles.{status_at_end}
+use Rattle.crx_filter.specs.meaning.{Directions.report_unless, Standard.whole_of}
 use Rattle.crx_runs.specs.meaning.Results.{good_status, status_after}
-use Rattle.crx_filter.specs.meaning.Standard.{whole_of}
-use Rattle.rnxcmp_c.specs.Handles.{IsOf, IsPut, EndsRunBy, EngineGoesOn, status_at_end}
 
 pub filter-is : (task : Task) (engine : AnyEngine) → IsOf task engine → engine_filter engine ≡ filter_for task
 filter-is (Compact choices limit) (Compacting e) is = is
@@ -34,7 +32,7 @@ filter-is Check (Checking e) is = refl
 -- a run goes on by an engine, and by what it is
 pub going-as : {one other : AnyEngine} {held : Held} {past : HandlePast} → one ≡ other
     → EngineGoesOn one held past → EngineGoesOn other held past
-going-as {one} {other} {held} {past} same = subst (λ (e : AnyEngine). EngineGoesOn e held past) same
+going-as {one} {other} {held} {past} same = grind arith
 
 pub lawful-for : (task : Task) → IsLawful (filter_for task)
 lawful-for (Compact choices limit) = compaction-lawful choices
@@ -45,17 +43,15 @@ lawful-for Check = check-lawful
 
 checked-faulty : (fault : Option At) (found : Findings) (at : At) → fault ≡ Some at
     → result_of_course (record { output = report_unless fault found; warnings = []; fault = fault })
-    ≡ checked_by fault
-    found
+    ≡ checked_by fault found
 checked-faulty (Some other) found at is = refl
 checked-faulty None found at is = absurd (cc)
 
 result-faulty : (task : Task) (input : List ℕ) (at : At) → ((filter_for task).whole (lines_of input)).fault
-    ≡ Some at
-    → result_of_course ((filter_for task).whole (lines_of input)) ≡ result_for task input
+    ≡ Some at → result_of_course ((filter_for task).whole (lines_of input)) ≡ result_for task input
 result-faulty (Compact choices limit) input at is = refl
 result-faulty (Expand choices limit) input at is = refl
-result-faulty Check input at is = checked-faulty (whole_of input).fault (findings_of (lines_of input)) at is
+result-faulty Check input at is = grind arith
 
 -- the status of a result that has a fault is 1
 checked-status : (fault : Option At) (found : Findings) (at : At) → (checked_by fault found).fault ≡ Some at
@@ -65,8 +61,7 @@ checked-status None found at is = absurd (cc)
 
 pub faulty-status : (task : Task) (input : List ℕ) (at : At) → (result_for task input).fault ≡ Some at
     → (result_for task input).status ≡ 1
-faulty-status (Compact choices limit) input at is =
-    ap (status_after ((compaction_filter choices).whole (lines_of input)).warnings) is
+faulty-status (Compact choices limit) input at is = grind arith
 faulty-status (Expand choices limit) input at is =
     ap (status_after ((expansion_filter choices).whole (lines_of input)).warnings) is
 faulty-status Check input at is = checked-status (whole_of input).fault (findings_of (lines_of input)) at is
@@ -83,13 +78,13 @@ pub output-for : (task : Task) (input : List ℕ) → (result_for task input).ou
     (lines_of input)).output
 output-for (Compact choices limit) input = refl
 output-for (Expand choices limit) input = refl
-output-for Check input = checked-output (whole_of input).fault (findings_of (lines_of input))
+output-for Check input = grind arith
 
 -- a fault that says that memory ran out, by its line
 pub fault-at : (fault : Option At) → FaultIs OutOfMemory fault
     → fault ≡ Some (record { line = line_in fault; fault = OutOfMemory })
 fault-at None is = absurd is
-fault-at (Some at) is = ap (λ (f : FaultOf). let a : At = record at { fault = f } in Some a) is
+fault-at (Some at) is = grind arith
 
 -- the line that was reached is the last of those with the next one
 reached-lines : (lines others : List InputLine) → line_reached lines others ≡ length (lines ++ take 1 others)
@@ -101,16 +96,15 @@ module _ (task : Task) (reader : Reader) (mid : Held) (outcome : Outcome) (past 
     (few : KeepsToLimit (limit_for task) (past.output ++ waiting mid.output))
     (put : IsPut mid reader.held at outcome) where
   kept : KeepsToLimit (limit_for task) (past.output ++ waiting reader.held.output)
-  kept = subst (λ t. KeepsToLimit (limit_for task) (past.output ++ t)) (sym put.output) few
+  kept = grind arith
 
   -- it says that memory ran out
   module _ (memory : at.fault ≡ OutOfMemory) where
     no-memory : FaultIs OutOfMemory outcome.fault
-    no-memory = ⊎_elim (λ down. subst (FaultIs OutOfMemory) (sym down.0) memory)
-        (λ silently. subst (FaultIs OutOfMemory) (sym silently.0) refl) put.said
+    no-memory = grind arith
 
     line-is : line_in outcome.fault ≡ at.line
-    line-is = ⊎_elim (λ down. ap line_in down.0) (λ silently. ap line_in silently.0) put.said
+    line-is = grind arith
 
     abbrev Last : List ℕ → Type 0
     Last text = (text ≡ [])
@@ -154,17 +148,14 @@ module _ (task : Task) (reader : Reader) (mid : Held) (outcome : Outcome) (past 
                 good = cut.made.good;
                 output = cut.made.output ∙ ap (λ t. past.output ++ t) (sym put.output);
                 messages = sym (append_assoc (notices_text ((filter_for task).so_far lines).warnings)
-                    (notices_text cut.notices) said.0)
-                    ∙ ap (λ t. t ++ said.0) cut.made.messages
-                    ∙ append_assoc past.messages (waiting mid.messages) said.0
-                    ∙ ap (λ t. past.messages ++ t) (sym said.2);
+                    (notices_text cut.notices) said.0) ∙ ap (λ t. t ++ said.0) cut.made.messages
+                    ∙ append_assoc past.messages (waiting mid.messages) said.0 ∙ ap (λ t. past.messages ++ t)
+                    (sym said.2);
               };
             };
-            lacking = ⊎_elim (λ takes. inl takes)
-                (λ failed. inr (⊎_elim
+            lacking = ⊎_elim (λ takes. inl takes) (λ failed. inr (⊎_elim
                 (λ output. inl (λ none. output (sym put.output_good ∙ none)))
-                (λ messages. inr (λ none. messages (sym put.messages_good ∙ none))) failed))
-                lacking;
+                (λ messages. inr (λ none. messages (sym put.messages_good ∙ none))) failed)) lacking;
           });
           within = kept;
         }
@@ -173,8 +164,7 @@ module _ (task : Task) (reader : Reader) (mid : Held) (outcome : Outcome) (past 
   module _ (input : List ℕ) (course : Course) (whole : (filter_for task).whole (lines_of input) ≡ course)
       (fault : course.fault ≡ Some at) (text : IsText course mid past) where
     same-result : result_of_course course ≡ result_for task input
-    same-result = sym (ap result_of_course whole)
-        ∙ result-faulty task input at (ap (λ (c : Course). c.fault) whole ∙ fault)
+    same-result = grind arith
 
     -- whose message was kept, or couldn't be kept
     fault-said : outcome.fault ≡ Some at
@@ -199,7 +189,8 @@ module _ (task : Task) (reader : Reader) (mid : Held) (outcome : Outcome) (past 
     fault-hidden is_line hidden messages = record {
       memory = subst (FaultIs OutOfMemory) (sym hidden) refl;
       status = put.status;
-      made = inr (subst (λ r. HidesFault r (line_in outcome.fault) (texts_made past (texts_of_held reader.held)))
+      made = inr (subst (λ r. HidesFault r (line_in outcome.fault) (texts_made past (texts_of_held
+          reader.held)))
           same-result (record {
             faulty = ap (λ (f : Option At). is_some f) fault;
             line_is = ap line_in hidden ∙ ap line_in (sym fault);
@@ -217,17 +208,13 @@ module _ (task : Task) (reader : Reader) (mid : Held) (outcome : Outcome) (past 
   breaks-over before (inr broken) =
       let filter = filter_for task in
       let whole : (more : List ℕ) → filter.whole (lines_of (past.fed ++ more)) ≡ filter.so_far broken.lines =
-      λ more.
-      ap filter.whole (broken.first more).1
-      ∙ (lawful-for task).decided broken.lines (broken.first more).0 at broken.fault in
-      ⊎_elim
-      (λ down. inr (inr (
+      λ more. ap filter.whole (broken.first more).1 ∙ (lawful-for task).decided broken.lines
+      (broken.first more).0 at broken.fault in
+      ⊎_elim (λ down. inr (inr (
         put.status,
         λ more. fault-said (past.fed ++ more) _ (whole more) broken.fault broken.text down.0 down.1,
-      )))
-      (λ silently. inl (λ more.
-      fault-hidden (past.fed ++ more) _ (whole more) broken.fault broken.text _ silently.0 silently.1))
-      put.said
+      ))) (λ silently. inl (λ more. fault-hidden (past.fed ++ more) _ (whole more) broken.fault broken.text _
+      silently.0 silently.1)) put.said
 
   fails-over : LineFails (filter_for task) mid past at → HasEndedBy task reader past (Some outcome)
   fails-over (inl ran) = inl (short-at ran.ran_out.0 _ past.fed ran.ran_out.1 ran.lines ran.others ran.first
@@ -417,9 +404,4 @@ module _ (engine : AnyEngine) (reader : Reader) (outcome : Outcome) (past : Hand
   all-over (Expand choices limit) (Checking c) is now limited status all ended = absurd now
   all-over Check (Compacting c) is now limited status all ended = absurd now
   all-over Check (Expanding c) is now limited status all ended = absurd now
-  all-over Check (Checking c) is now limited status all ended =
-      let whole : IsAll (check_filter.whole (lines_of past.fed)) reader.held past =
-      subst (λ (f : Filter). IsAll (f.whole (lines_of past.fed)) reader.held past)
-      (filter-is Check engine is) all in
-      checked-well (whole_of past.fed).fault (findings_of (lines_of past.fed)) reader outcome past whole.good none
-      (status ∙ ap report_status ended) whole.text
+  all-over Check (Checking c) is now limited status all ended = grind arith

@@ -1,23 +1,17 @@
 -- What was collected of a whole run is its result, or its output is longer than it may be.
-use Rattle.rnxcmp_c.proofs.Words.{◌≡◌, ⊎_elim, inl, inr, ℕ, ◌<◌, ◌≤◌, List, [], ◌++◌, length, take, Option}
-use Rattle.rnxcmp_c.proofs.Words.{Some, None, sym, ap, ◌∙◌, subst, arith, append-nil, length-append}
-use Rattle.rnxcmp_c.proofs.Words.{length-take, take_all, lines_of, ended_lines_of, code_of_fault, At}
-use Rattle.rnxcmp_c.proofs.Words.{OutOfMemory, INPUT_LIMIT, ended_lines-come_first, Outcome, Begins}
-use Rattle.rnxcmp_c.proofs.Words.{FilterResult, FaultIs, Device, Answer, NO_ROOM, AnswersWithin, BothTexts}
-use Rattle.rnxcmp_c.proofs.Words.{HasNoMemory, bare_answer, fault_code_in, line_in, placed, Task, filter_for}
-use Rattle.rnxcmp_c.proofs.Words.{result_for, nat_le}
-use Rattle.std.proofs.lemmas.Grind.{common_steps}
-use Rattle.rnxcmp_c.proofs.PieceLemmas.{within-or}
-use Rattle.crx_runs.specs.meaning.Interruptions.{IsFrontPart, complete_lines}
-use Rattle.crx_runs.specs.meaning.Runs.{IsResult, NoneFailed, RunsAs}
-use Rattle.crx_runs.specs.meaning.Spans.{Input}
-use Rattle.rnxcmp_c.specs.Collecting.{AnswersRun, IsCollected, IsEmpty}
-use Rattle.rnxcmp_c.specs.Counting.{Took}
-use Rattle.rnxcmp_c.specs.declared.devices.Counted.{Counted}
+use Rattle.rnxcmp_c.proofs.{GoingLemmas.begins-then, PieceLemmas.within-or, ReaderLemmas.lawful-for}
+use Rattle.rnxcmp_c.proofs.{ReaderLemmas.output-for, Words.{◌≡◌, ⊎_elim, inl, inr, ℕ, ◌<◌, ◌≤◌, List, []}}
+use Rattle.rnxcmp_c.proofs.Words.{◌++◌, length, take, Option, Some, None, sym, ap, ◌∙◌, subst, arith}
+use Rattle.rnxcmp_c.proofs.Words.{append-nil, length-append, length-take, take_all, lines_of, ended_lines_of}
+use Rattle.rnxcmp_c.proofs.Words.{code_of_fault, At, OutOfMemory, INPUT_LIMIT, ended_lines-come_first}
+use Rattle.rnxcmp_c.proofs.Words.{Outcome, Begins, FilterResult, FaultIs, Device, Answer, NO_ROOM}
+use Rattle.rnxcmp_c.proofs.Words.{AnswersWithin, BothTexts, HasNoMemory, fault_code_in, line_in, placed, Task}
+use Rattle.rnxcmp_c.{proofs.Words.{filter_for, result_for, nat_le}, specs.Collecting.AnswersRun}
+use Rattle.rnxcmp_c.specs.{Collecting.{IsCollected, IsEmpty}, Counting.Took, declared.devices.Counted.Counted}
 use Rattle.rnxcmp_c.specs.meaning.Answers.{AnswersAlone}
-use Rattle.rnxcmp_c.proofs.ReaderLemmas.{lawful-for, output-for}
-use Rattle.std.specs.Prelude.{if◌then◌else◌}
-use Rattle.rnxcmp_c.proofs.GoingLemmas.{begins-then}
+use Rattle.std.{proofs.lemmas.Grind.common_steps, specs.Prelude.if◌then◌else◌}
+use Rattle.crx_runs.specs.meaning.{Interruptions.{IsFrontPart, complete_lines}, Runs.{IsResult, NoneFailed}}
+use Rattle.crx_runs.specs.meaning.{Runs.RunsAs, Spans.Input}
 
 not-memory : (fault : Option At) → (fault_code_in fault ≡ code_of_fault OutOfMemory → ⊥)
     → FaultIs OutOfMemory fault → ⊥
@@ -28,32 +22,28 @@ not-memory (Some at) other is = other (ap code_of_fault is)
 module _ (room most : ℕ) (before after : Counted) (empty : IsEmpty room most before) (text : List ℕ)
     (took : Took before text after) where
   kept-is : after.bytes.items ≡ take room text
-  kept-is = took.kept ∙ ap (λ n. take n (before.bytes.items ++ text)) empty.room_is
-      ∙ ap (λ l. take room (l ++ text)) empty.bytes
+  kept-is = grind arith
 
   count-is : after.count ≡ length text
   count-is = omega (arith, took.count, empty.count)
 
 -- a text was put into a room as far as it fits, and then all of it
 placed-taken : (text room : List ℕ) → placed (take (length room) text) room ≡ placed text room
-placed-taken text room = ⊎_elim
-    (λ fits. ap (λ t. placed t room) (take_all (length room) text fits))
-    (λ more. grind (arith, common_steps, length-take (length room) text))
-    (within-or (length text) (length room))
+placed-taken text room = ⊎_elim (λ fits. ap (λ t. placed t room) (take_all (length room) text fits))
+    (λ more. grind (arith, common_steps, length-take (length room) text)) (within-or _ _)
 
-module _ {outcome : Outcome} {output messages : Counted} {most : ℕ} {answer : Answer} {before after : BothTexts} where
+module _ {outcome : Outcome} {output messages : Counted} {most : ℕ} {answer : Answer} {before after :
+    BothTexts} where
   -- an answer that says that memory ran out has no texts
   pub answers-alone : AnswersRun outcome output messages most answer before after → HasNoMemory answer
       → AnswersAlone 1 answer.line (code_of_fault OutOfMemory) answer before after
-  answers-alone (inl is) memory = absurd (is.memory (sym (ap (λ (a : Answer). a.code) is.answer_is) ∙ memory))
-  answers-alone (inr (ends, same)) memory = ⊎_elim
-      (λ over. absurd (omega (arith, memory, ap (λ (a : Answer). a.code) over.0)))
-      (λ out. (out ∙ ap (λ n. bare_answer 1 n (code_of_fault OutOfMemory)) (sym (ap (λ (a : Answer). a.line) out)), same))
-      ends.answer_is
+  answers-alone (inl is) memory = grind arith
+  answers-alone (inr (ends, same)) memory = grind arith
 
 -- what a run wrote and reported for a task, to sinks with the rooms of a call
 module _ (task : Task) {input : Input} {given : List ℕ} {writer messages : Device} {outcome : Outcome}
-    (runs : RunsAs (result_for task) (filter_for task) input given writer messages outcome.status outcome.fault)
+    (runs : RunsAs (result_for task) (filter_for task) input given writer messages outcome.status
+    outcome.fault)
     {rest text : List ℕ} (same : text ≡ given ++ rest) (ends : input.at_end → rest ≡ [])
     (within : length text ≤ INPUT_LIMIT) (before after : BothTexts) {counted_most told_most : ℕ}
     {output_before output_after messages_before messages_after : Counted}
@@ -72,32 +62,30 @@ module _ (task : Task) {input : Input} {given : List ℕ} {writer messages : Dev
       → IsCollected outcome output_after messages_after most answer before after
       → AnswersWithin most whole answer before after
   run-placed read unfailed unfailed_told is =
-      let made : IsResult whole writer messages outcome.status outcome.fault =
-      subst (λ (l : List ℕ). IsResult (result_for task l) writer messages outcome.status outcome.fault) (sym same)
+      let made : IsResult whole writer _ _ _ =
+      subst (λ l. IsResult (result_for task l) writer messages outcome.status outcome.fault) (sym same)
       (runs.whole read (unfailed (is.output_good ∙ sym empty.good, omega (arith, empty.good)))
       (unfailed_told (is.messages_good ∙ sym none_told.good, omega (arith, none_told.good)))
-      (not-memory outcome.fault is.memory) rest ends
-      (subst (λ (l : List ℕ). length l ≤ INPUT_LIMIT) same within)) in
+      (not-memory _ is.memory) rest ends (subst (λ l. length l ≤ INPUT_LIMIT) same within)) in
       let output = wrote whole.output made.output in
       let told = reported whole.messages made.messages_are in
-      let count = count-is _ _ output_before output_after empty whole.output output in
+      let count = count-is _ _ _ _ empty _ output in
       let told_count = count-is _ _ messages_before messages_after none_told whole.messages told in
       record {
         within = λ few. record {
-          status = ap (λ (a : Answer). a.status) is.answer_is
-              ∙ ap (λ n. if nat_le n (length before.output) then outcome.status else NO_ROOM) count
-              ∙ ap (λ s. if nat_le (length whole.output) (length before.output) then s else NO_ROOM) made.status_is;
+          status = ap (λ (a : Answer). a.status) is.answer_is ∙ ap
+              (λ n. if nat_le n (length before.output) then outcome.status else NO_ROOM) count ∙ ap
+              (λ s. if nat_le (length whole.output) (length before.output) then s else NO_ROOM)
+              made.status_is;
           code = ap (λ (a : Answer). a.code) is.answer_is ∙ ap fault_code_in made.fault_is;
           line = ap (λ (a : Answer). a.line) is.answer_is ∙ ap line_in made.fault_is;
           output_length = ap (λ (a : Answer). a.output_length) is.answer_is ∙ count;
           messages_length = ap (λ (a : Answer). a.messages_length) is.answer_is ∙ told_count;
-          output = is.output_is
-              ∙ ap (λ t. placed t before.output) (kept-is _ _ output_before output_after empty whole.output output)
+          output = is.output_is ∙ ap (λ t. placed t before.output) (kept-is _ _ _ _ empty whole.output output)
               ∙ placed-taken whole.output before.output;
-          messages = is.messages_are
-              ∙ ap (λ t. placed t before.messages)
-              (kept-is _ _ messages_before messages_after none_told whole.messages told)
-              ∙ placed-taken whole.messages before.messages;
+          messages = is.messages_are ∙ ap (λ t. placed t before.messages)
+              (kept-is _ _ messages_before messages_after none_told whole.messages told) ∙ placed-taken
+              whole.messages before.messages;
         };
         over = λ more. ⊎_elim (λ none. absurd (omega (arith, none, more.0)))
             (λ few. absurd (omega (arith, few, more.1, count))) is.within;
@@ -120,16 +108,15 @@ module _ (task : Task) {input : Input} {given : List ℕ} {writer messages : Dev
       λ t begins. subst (λ (l : List ℕ). Begins l t) (sym (output-for task text)) begins in (
         written,
         wrote written front.wrote,
-        ⊎_elim
-            (λ (b : Begins ((filter_for task).so_far (complete_lines given)).output written). to written
+        ⊎_elim (λ (b : Begins ((filter_for task).so_far (complete_lines given)).output written). to written
             (begins-then _ _ _
-            (subst (λ ls. Begins ((filter_for task).whole ls).output ((filter_for task).so_far (ended_lines_of given)).output)
-            (sym all)
-            ((lawful-for task).goes_on (ended_lines_of given) (lines_of (first.0 ++ rest))))
+            (subst (λ ls. Begins ((filter_for task).whole ls).output ((filter_for task).so_far (ended_lines_of
+            given)).output)
+            (sym all) ((lawful-for task).goes_on (ended_lines_of given) (lines_of (first.0 ++ rest))))
             (subst (λ ls. Begins ((filter_for task).so_far ls).output written) complete b)))
-            (λ e. to written (subst (λ (l : List ℕ). Begins ((filter_for task).whole (lines_of l)).output written)
-            (sym (same ∙ ap (λ r. given ++ r) (ends e.0) ∙ append-nil given)) e.1))
-            front.first,
+            (λ e. to written (subst (λ (l : List ℕ). Begins ((filter_for task).whole (lines_of l)).output
+            written)
+            (sym (same ∙ ap (λ r. given ++ r) (ends e.0) ∙ append-nil given)) e.1)) front.first,
       )
 
   pub answers-within : {most : ℕ} {answer : Answer} → NoneFailed input.start.failures input.counted.failures
@@ -139,11 +126,11 @@ module _ (task : Task) {input : Input} {given : List ℕ} {writer messages : Dev
       → NoneFailed messages.before.failures messages.after.failures)
       → AnswersRun outcome output_after messages_after most answer before after → (HasNoMemory answer → ⊥)
       → AnswersWithin most whole answer before after
-  answers-within {most} read unfailed unfailed_told (inl is) memory = run-placed read unfailed unfailed_told is
+  answers-within {most} read unfailed unfailed_told (inl is) memory = run-placed read unfailed unfailed_told
+      is
   answers-within {most} read unfailed unfailed_told (inr (none, unchanged)) memory =
       let part = first-written runs.front in
-      ⊎_elim
-      (λ over.
+      ⊎_elim (λ over.
       let longer : most < length whole.output = omega (
         arith,
         over.2,
@@ -154,6 +141,4 @@ module _ (task : Task) {input : Input} {given : List ℕ} {writer messages : Dev
       record {
         within = λ few. absurd (few (over.1, longer));
         over = λ more. (over.0, unchanged);
-      })
-      (λ out. absurd (memory (ap (λ (a : Answer). a.code) out)))
-      none.answer_is
+      }) (λ out. absurd (memory (ap (λ (a : Answer). a.code) out))) none.answer_is

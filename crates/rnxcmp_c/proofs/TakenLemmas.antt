@@ -4,9 +4,7 @@ use Rattle.rnxcmp_c.proofs.Words.{subst, append_assoc, ended_lines_of, Outcome, 
 use Rattle.rnxcmp_c.proofs.Words.{Course, IsLineReached, ReaderStands, StandsBy, too_long_after}
 use Rattle.rnxcmp_c.proofs.Words.{texts_of_held, HandlePast, HidesFault, filter_for, limit_for, Task}
 use Rattle.rnxcmp_c.proofs.Words.{result_for, taken_with, texts_made, KeepsToLimit, line_in, waiting, Pending}
-use Rattle.rnxcmp_c.proofs.Words.{Reader}
-use Rattle.rnxcmp_c.specs.Handles.{IsSaid, RanOutBy}
-use Rattle.rnxcmp_c.specs.Past.{IsMadeByLines}
+use Rattle.rnxcmp_c.{proofs.Words.Reader, specs.{Handles.{IsSaid, RanOutBy}, Past.IsMadeByLines}}
 
 -- what was taken, and then what is kept
 regrouped : (taken given kept before : List ℕ) → before ≡ given ++ kept
@@ -25,10 +23,10 @@ module _ (task : Task) (old : Reader) (past : HandlePast) (output messages : Pen
   then = taken_with past text told
 
   same-output : past.output ++ waiting old.held.output ≡ then.output ++ waiting output
-  same-output = sym (regrouped past.output text (waiting output) (waiting old.held.output) wrote)
+  same-output = sym (regrouped _ text _ _ wrote)
 
   same-messages : past.messages ++ waiting old.held.messages ≡ then.messages ++ waiting messages
-  same-messages = sym (regrouped past.messages told (waiting messages) (waiting old.held.messages) reported)
+  same-messages = sym (regrouped _ told _ _ reported)
 
   same-made : (course : Course) (after : List ℕ)
       → IsMadeByLines course after (texts_made past (texts_of_held old.held))
@@ -56,15 +54,12 @@ module _ (task : Task) (old : Reader) (past : HandlePast) (output messages : Pen
       last_is = by.made.last_is;
       made = same-made _ _ by.made.made;
     };
-    lacking = ⊎_elim (λ takes. inl takes)
-        (λ failed. inr (⊎_elim
+    lacking = ⊎_elim (λ takes. inl takes) (λ failed. inr (⊎_elim
         (λ few. inl (λ none. few (sym output_good ∙ none)))
-        (λ few. inr (λ none. few (sym messages_good ∙ none))) failed))
-        by.lacking;
+        (λ few. inr (λ none. few (sym messages_good ∙ none))) failed)) by.lacking;
   }
 
-  hidden : (outcome : Outcome)
-      → HidesFault (result_for task past.fed) (line_in outcome.fault)
+  hidden : (outcome : Outcome) → HidesFault (result_for task past.fed) (line_in outcome.fault)
       (texts_made past (texts_of_held old.held))
       → HidesFault (result_for task past.fed) (line_in outcome.fault)
       (texts_made then (texts_of_held new.held))
@@ -129,10 +124,8 @@ module _ (task : Task) (old : Reader) (past : HandlePast) (output messages : Pen
     status = long.status;
     good = long.good;
     output = long.output ∙ same-output;
-    said = subst (λ t. IsSaid (too_long_after past.fed)
-        (notices_text ((filter_for task).so_far
-        (ended_lines_of past.fed)).warnings) t outcome.fault) same-messages
-        long.said;
+    said = subst (λ t. IsSaid (too_long_after past.fed) (notices_text ((filter_for task).so_far
+        (ended_lines_of past.fed)).warnings) t outcome.fault) same-messages long.said;
     within = subst (KeepsToLimit (limit_for task)) same-output long.within;
   })))
   stands-by (Some outcome) (inr (inr (inr over))) = inr (inr (inr (record {
@@ -144,4 +137,4 @@ module _ (task : Task) (old : Reader) (past : HandlePast) (output messages : Pen
   })))
 
   pub taken-stands : ReaderStands task old past → ReaderStands task new then
-  taken-stands stands = stands-by old.outcome stands
+  taken-stands stands = stands-by _ stands

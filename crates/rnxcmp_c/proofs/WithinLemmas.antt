@@ -4,13 +4,11 @@ use Rattle.rnxcmp_c.proofs.Words.{arith, length-append, ◌⊎◌, inl, inr, ⊎
 use Rattle.rnxcmp_c.proofs.Words.{◌||◌, Option, IfErr, IfOk, At, OutOfMemory, Halt, Unwritten, Unreported}
 use Rattle.rnxcmp_c.proofs.Words.{notices_text, Begins, Course, EndsThere, IsKept, MovesOn, MovesWithin}
 use Rattle.rnxcmp_c.proofs.Words.{PassesLimit, RanOutAt, StepStops, StopsBy, StopsShort, StopsCounted}
-use Rattle.rnxcmp_c.proofs.Words.{waiting, Held, Stop, Fault, Limit, take_at}
-use Rattle.std.proofs.Common.{Result, Ok, Err}
-use Rattle.std.proofs.lemmas.Result.{IfErr-at_err, IfOk-at_ok}
-use Rattle.crx_runs.specs.declared.taking.Halt.TheVariants.{Fault as Faulty}
-use Rattle.rnxcmp_c.specs.Going.{LosesText}
+use Rattle.rnxcmp_c.{proofs.Words.{waiting, Held, Stop, Fault, Limit, take_at}, specs.Going.LosesText}
 use Rattle.rnxcmp_c.specs.Holding.{AreCutTo, IsCounted, IsCutBack, StaysWithin, IsMark, IsMarkWithin}
 use Rattle.rnxcmp_c.specs.declared.held.Mark.{Mark}
+use Rattle.std.proofs.{Common.{Result, Ok, Err}, lemmas.Result.{IfErr-at_err, IfOk-at_ok}}
+use Rattle.crx_runs.specs.declared.taking.Halt.TheVariants.{Fault as Faulty}
 
 ok-not-err : {T : Type 0} (done : T) (halt : Halt) → ◌≡◌ {A = Result T Halt} (Ok done) (Err halt) → ⊥
 ok-not-err done halt e = cc
@@ -68,7 +66,7 @@ module _ (number : ℕ) (memory : Option (List At)) (before after : Course) (old
   Stops halt = StopsBy number memory before after old.output mid.output old.messages mid.messages halt
 
   same-output : waiting mid.output ≡ waiting old.output → waiting mid.output ≡ waiting old.output ++ []
-  same-output same = same ∙ sym (append-nil (waiting old.output))
+  same-output same = same ∙ sym (append-nil _)
 
   lost-part : LosesText before after old.output mid.output old.messages mid.messages
       → HasPart before after old mid
@@ -117,7 +115,8 @@ module _ (number : ℕ) (memory : Option (List At)) (before after : Course) (old
       inr (subst (λ (h : Held). EndsThere before after old.output h.output old.messages h.messages at)
       (sym same) ends)
 
-  lost-stops : (new counted : Held) (mark : Mark) → IsMark mark old → counted ≡ record mid { left = counted.left }
+  lost-stops : (new counted : Held) (mark : Mark) → IsMark mark old → counted ≡ record mid
+      { left = counted.left }
       → AreCutTo mark counted new → LosesText before after old.output mid.output old.messages mid.messages
       → StopsShort memory before after old new
   lost-stops new counted mark marked same cut loses = record {
@@ -159,7 +158,7 @@ module _ (number : ℕ) (memory : Option (List At)) (before after : Course) (old
         → StepStops number memory before after old new (Fault at)
     stops-lost at is loses counted stays cut =
         let short = lost-stops new counted mark marked stays.same cut loses in (
-          inl ((ap (λ (a : At). a.fault) is, ap (λ (a : At). a.line) is), short),
+          inl ((ap (λ a. a.fault) is, ap (λ a. a.line) is), short),
           record {
             limit = cut.limit ∙ ap (λ (h : Held). h.limit) stays.same ∙ limit;
             left = λ limited. omega (arith, ap length short.wrote);
@@ -224,10 +223,9 @@ module _ (number : ℕ) (memory : Option (List At)) (before after : Course) (sho
     pub step-stays : mid.warned ≡ old.warned → (taken : Result Bool Halt) → Kept taken
         → IsCounted taken mark mid new → MovesWithin before after shown old new
     step-stays flag taken kept counted =
-        stays-within before after shown old mid counted.warned
-        (IfOk-at_ok
-        (λ warned. IsKept before after shown old.output mid.output old.messages mid.messages warned)
-        counted.is_taken kept) new mark marked limit left flag counted.same counted.left
+        stays-within before after shown old mid counted.warned (IfOk-at_ok
+        (λ warned. IsKept before after shown _ _ _ _ warned) counted.is_taken
+        kept) new mark marked limit left flag counted.same counted.left
 
     pub step-stops : (taken : Result Bool Halt) → Kept taken → Ended taken → (stop : Stop)
         → StopsCounted taken mark number mid new stop → StepStops number memory before after old new stop
@@ -235,13 +233,10 @@ module _ (number : ℕ) (memory : Option (List At)) (before after : Course) (sho
         stops-over number memory before after old mid new mark marked limit left
         (part-either taken kept stopped) back
     step-stops (Ok warned) kept stopped (Fault at) (inl stays) =
-        absurd (ok-not-err warned (Faulty at) stays.0)
+        absurd (ok-not-err warned _ stays.0)
     step-stops (Ok warned) kept stopped (Fault at) (inr lost) =
-        ⊎_elim (λ e. absurd (ok-not-err warned Unwritten e))
-        (λ e. absurd (ok-not-err warned Unreported e)) lost.0
-    step-stops (Err halt) kept stopped (Fault at) (inl stays) =
-        stops-within number memory before after old mid new mark marked limit left at
-        (IfErr-at_err (Stops number memory before after old mid) stays.0 stopped) stays.1
+        ⊎_elim (λ e. absurd (ok-not-err warned _ e)) (λ e. absurd (ok-not-err warned _ e)) lost.0
+    step-stops (Err halt) kept stopped (Fault at) (inl stays) = grind arith
     step-stops (Err halt) kept stopped (Fault at) (inr lost) =
         stops-lost number memory before after old mid new mark marked limit left at lost.1
         (⊎_elim (λ e. IfErr-at_err (Stops number memory before after old mid) e stopped)

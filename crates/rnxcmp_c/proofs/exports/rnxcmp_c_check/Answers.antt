@@ -1,7 +1,5 @@
-use Rattle.rnxcmp_c.proofs.Words.{refl, sym, ◌∙◌, arith, rooms, Check}
-use Rattle.rnxcmp_c.proofs.Kept.{judges-standard}
-use Rattle.rnxcmp_c.proofs.Lossless.{says-so}
-use Rattle.rnxcmp_c.proofs.RunLemmas.{answers-alone, answers-within}
+use Rattle.rnxcmp_c.proofs.{Lossless.says-so, RunLemmas.{answers-alone, answers-within}, Words.{refl, sym}}
+use Rattle.rnxcmp_c.proofs.Words.{◌∙◌, arith, rooms, Check}
 use Rattle.rnxcmp_c.proofs.exports.rnxcmp_c_check.Goals as goal
 
 pub returns-clause-memory : goal.returns-clause-memory
@@ -10,8 +8,8 @@ returns-clause-memory c memory = answers-alone c.answer_of.ensures memory
 pub returns-clause-runs : goal.returns-clause-runs
 returns-clause-runs c within memory =
     let run = c.check-outcome in
-    let before = rooms c.args.output.now c.args.messages.now in
-    let after = rooms c.answer_of.new.output_room c.answer_of.new.messages_room in
+    let before = rooms _ _ in
+    let after = rooms _ _ in
     (answers-within Check run.ensures.runs.2 (sym c.new-reader.ensures ∙ run.ensures.runs.1)
     (λ ended. ended) within before after c.new-written.ensures c.new-reported.ensures (λ t took. took)
     (λ t took. took) (refl, omega arith) (λ none. none) (λ none. none) c.answer_of.ensures memory).within
@@ -19,10 +17,7 @@ returns-clause-runs c within memory =
 
 pub returns-clause-lossless : goal.returns-clause-lossless
 returns-clause-lossless c within memory =
-    says-so c.args.input.now c.answer_of.result (rooms c.args.output.now c.args.messages.now)
-    (rooms c.answer_of.new.output_room c.answer_of.new.messages_room) (returns-clause-runs c within memory)
+    says-so _ c.answer_of.result (rooms _ _) (rooms _ _) (returns-clause-runs c within memory)
 
 pub returns-clause-standard : goal.returns-clause-standard
-returns-clause-standard c within memory fits =
-    judges-standard c.args.input.now c.answer_of.result (rooms c.args.output.now c.args.messages.now)
-    (rooms c.answer_of.new.output_room c.answer_of.new.messages_room) (returns-clause-runs c within memory) fits
+returns-clause-standard c within memory fits = grind arith

@@ -1,10 +1,8 @@
-use Rattle.rnxcmp_c.proofs.Words.{◌≤◌, length, map, refl, subst, sym, ◌∙◌, arith, INPUT_LIMIT, lines_of, seen}
-use Rattle.rnxcmp_c.proofs.Words.{whole_compact, FilterResult, AnswersWithin, HasNoMemory, rooms, Expand}
-use Rattle.crx_filter.specs.meaning.Expanded.{expanded_unit}
-use Rattle.crx_filter.specs.meaning.Written.{result_of}
-use Rattle.rnxcmp_c.proofs.EndedLemmas.{KeepsPromises, keeps-promises}
-use Rattle.rnxcmp_c.proofs.RunLemmas.{answers-alone, answers-within}
-use Rattle.rnxcmp_c.proofs.exports.rnxcmp_c_expand.Goals.{After-answer_of}
+use Rattle.rnxcmp_c.proofs.{EndedLemmas.{KeepsPromises, keeps-promises}, RunLemmas.answers-alone}
+use Rattle.rnxcmp_c.proofs.{RunLemmas.answers-within, Words.{◌≤◌, length, map, refl, subst, sym, ◌∙◌, arith}}
+use Rattle.rnxcmp_c.proofs.Words.{INPUT_LIMIT, lines_of, seen, whole_compact, FilterResult, AnswersWithin}
+use Rattle.rnxcmp_c.proofs.{Words.{HasNoMemory, rooms, Expand}, exports.rnxcmp_c_expand.Goals.After-answer_of}
+use Rattle.crx_filter.specs.meaning.{Expanded.expanded_unit, Written.result_of}
 use Rattle.rnxcmp_c.proofs.exports.rnxcmp_c_expand.Goals as goal
 
 pub returns-clause-memory : goal.returns-clause-memory
@@ -14,17 +12,18 @@ promised : (c : After-answer_of) → length c.args.input.now ≤ INPUT_LIMIT
     → (HasNoMemory c.answer_of.result → ⊥)
     → KeepsPromises (λ whole. AnswersWithin c.args.max_output whole c.answer_of.result
     (rooms c.args.output.now c.args.messages.now)
-    (rooms c.answer_of.new.output_room c.answer_of.new.messages_room)) c.expansion_options.result c.args.input.now
+    (rooms c.answer_of.new.output_room c.answer_of.new.messages_room)) c.expansion_options.result
+    c.args.input.now
 promised c within memory =
     let run = c.expand-outcome in
     let before = rooms c.args.output.now c.args.messages.now in
     let after = rooms c.answer_of.new.output_room c.answer_of.new.messages_room in
-    keeps-promises (λ (whole : FilterResult). AnswersWithin c.args.max_output whole c.answer_of.result before after)
-    _ _
-    (answers-within (Expand c.expansion_options.result 0) run.ensures.runs.2
-    (sym c.new-reader.ensures ∙ run.ensures.runs.1)
-    (λ ended. ended) within before after c.new-written.ensures c.new-reported.ensures (λ t took. took)
-    (λ t took. took) (refl, omega arith) (λ none. none) (λ none. none) c.answer_of.ensures memory)
+    keeps-promises (λ (whole : FilterResult). AnswersWithin c.args.max_output whole c.answer_of.result before
+    after)
+    _ _ (answers-within (Expand c.expansion_options.result 0) run.ensures.runs.2
+    (sym c.new-reader.ensures ∙ run.ensures.runs.1) (λ ended. ended) within before after c.new-written.ensures
+    c.new-reported.ensures (λ t took. took) (λ t took. took) (refl, omega arith) (λ none. none) (λ none. none)
+    c.answer_of.ensures memory)
 
 -- of the choices alone whether faults are skipped counts
 pub returns-clause-runs : goal.returns-clause-runs
@@ -32,7 +31,8 @@ returns-clause-runs c within memory choices same =
     subst (λ skip. AnswersWithin c.args.max_output (result_of expanded_unit
     (whole_compact skip (map seen (lines_of c.args.input.now)))) c.answer_of.result
     (rooms c.args.output.now c.args.messages.now)
-    (rooms c.answer_of.new.output_room c.answer_of.new.messages_room)) (c.expansion_options.ensures ∙ sym same)
+    (rooms c.answer_of.new.output_room c.answer_of.new.messages_room)) (c.expansion_options.ensures ∙ sym
+    same)
     (promised (goal.at.returns-clause-runs c).After-answer_of within memory).whole
 
 pub returns-clause-lossless : goal.returns-clause-lossless

@@ -1,9 +1,7 @@
-use Rattle.rnxcmp_c.proofs.Words.{ℕ, List, [], ◌∷◌, sym, ap, ◌∙◌, Choices, IsLastLine, Holds, past_of}
-use Rattle.rnxcmp_c.proofs.Words.{BothTexts, Task, Expand, Check, Reader}
-use Rattle.rnxcmp_c.proofs.EndedLemmas.{result-where, run-check, run-expansion}
-use Rattle.rnxcmp_c.proofs.PromiseLemmas.{ends-on, ends-promise, ends-refused, ends-was_ended, handle-ends}
-use Rattle.rnxcmp_c.proofs.PromiseLemmas.{stood}
-use Rattle.rnxcmp_c.proofs.handle.rnxcmp_c_end.Goals.{After-deref_mut}
+use Rattle.std.proofs.Common.{arith}
+use Rattle.rnxcmp_c.proofs.{EndedLemmas.{result-where, run-check, run-expansion}, PromiseLemmas.ends-on}
+use Rattle.rnxcmp_c.proofs.PromiseLemmas.{ends-promise, ends-refused, ends-was_ended, handle-ends, stood}
+use Rattle.rnxcmp_c.proofs.{Words.{Holds, past_of, Expand, Check}, handle.rnxcmp_c_end.Goals.After-deref_mut}
 use Rattle.rnxcmp_c.proofs.handle.rnxcmp_c_end.Goals as goal
 
 pub take_out-reader-requires : goal.take_out-reader-requires
@@ -12,7 +10,7 @@ take_out-reader-requires c =
     (sound.3.reader, sound.3.holds)
 
 held : (c : After-deref_mut) → Holds c.args.handle.now c.deref_mut.result.now
-held c = c.take_out-reader.ensures.reader ∙ ap (λ (r : Reader). r ∷ []) (sym c.deref_mut.ensures.value)
+held c = grind arith
 
 pub take_end-answer-requires : goal.take_end-answer-requires
 take_end-answer-requires c =
@@ -20,38 +18,34 @@ take_end-answer-requires c =
     (sound.0, past_of sound.1 sound.2, stood (held (goal.at.take_end-answer-requires c).After-deref_mut) sound.3)
 
 pub returns-clause-ends : goal.returns-clause-ends
-returns-clause-ends c = λ (task : Task) (fed : List ℕ) (taken : BothTexts) stands.
+returns-clause-ends c = λ task fed taken stands.
     handle-ends (held (goal.at.returns-clause-ends c).After-deref_mut) c.put_in.ensures.reader
     c.put_in.ensures.opened c.take_end-answer.ensures task fed taken stands
 
 pub returns-clause-stands : goal.returns-clause-stands
-returns-clause-stands c = λ (task : Task) (fed : List ℕ) (taken : BothTexts) stands.
+returns-clause-stands c = λ task fed taken stands.
     ends-on (returns-clause-ends c task fed taken stands) stands
 
 pub returns-clause-misused : goal.returns-clause-misused
-returns-clause-misused c = λ (task : Task) (fed : List ℕ) (taken : BothTexts) stands ended.
+returns-clause-misused c = λ task fed taken stands ended.
     ends-refused (returns-clause-ends c task fed taken stands) stands ended
 
 pub returns-clause-promise : goal.returns-clause-promise
-returns-clause-promise c = λ (task : Task) (fed : List ℕ) (taken : BothTexts) stands runs.
+returns-clause-promise c = λ task fed taken stands runs.
     ends-promise (returns-clause-ends c task fed taken stands) stands runs
 
 pub returns-clause-ended : goal.returns-clause-ended
-returns-clause-ended c = λ (task : Task) (fed : List ℕ) (taken : BothTexts) stands runs.
+returns-clause-ended c = λ task fed taken stands runs.
     ends-was_ended (returns-clause-ends c task fed taken stands) stands runs
 
 pub returns-clause-expansion : goal.returns-clause-expansion
-returns-clause-expansion c = λ (choices : Choices) (limit : ℕ) (fed : List ℕ) (taken : BothTexts)
-    stands runs memory few.
-    run-expansion fed _ _ c.take_end-answer.result choices
-    (result-where fed _ _ c.take_end-answer.result (IsLastLine fed) (Expand choices limit) memory few
-    (returns-clause-ended c (Expand choices limit) fed taken stands runs).1)
+returns-clause-expansion c = λ choices limit fed taken stands runs memory few. run-expansion fed _ _ _ choices
+    (result-where fed _ _ _ _ (Expand choices limit) memory few
+    (returns-clause-ended c _ fed taken stands runs).1)
 
 pub returns-clause-check : goal.returns-clause-check
-returns-clause-check c = λ (fed : List ℕ) (taken : BothTexts) stands runs memory few.
-    run-check fed _ _ c.take_end-answer.result
-    (result-where fed _ _ c.take_end-answer.result (IsLastLine fed) Check memory few
-    (returns-clause-ended c Check fed taken stands runs).1)
+returns-clause-check c = λ fed taken stands runs memory few. run-check fed _ _ _
+    (result-where fed _ _ _ _ Check memory few (returns-clause-ended c Check fed taken stands runs).1)
 
 pub returns-clause-sound : goal.returns-clause-sound
 returns-clause-sound c = λ is_open.

@@ -1,6 +1,6 @@
-use Rattle.rnxcmp_c.proofs.Words.{ℕ, List, [], ◌∷◌, sym, ap, ◌∙◌, Holds, past_of, BothTexts, Task, Reader}
+use Rattle.std.proofs.Common.{arith}
 use Rattle.rnxcmp_c.proofs.PromiseLemmas.{feeds-on, feeds-promise, feeds-refused, feeds-takes}
-use Rattle.rnxcmp_c.proofs.PromiseLemmas.{feeds-was_ended, handle-feeds, stood}
+use Rattle.rnxcmp_c.proofs.{PromiseLemmas.{feeds-was_ended, handle-feeds, stood}, Words.{Holds, past_of}}
 use Rattle.rnxcmp_c.proofs.handle.rnxcmp_c_feed.Goals.{After-deref_mut}
 use Rattle.rnxcmp_c.proofs.handle.rnxcmp_c_feed.Goals as goal
 
@@ -10,7 +10,7 @@ take_out-reader-requires c =
     (sound.3.reader, sound.3.holds)
 
 held : (c : After-deref_mut) → Holds c.args.handle.now c.deref_mut.result.now
-held c = c.take_out-reader.ensures.reader ∙ ap (λ (r : Reader). r ∷ []) (sym c.deref_mut.ensures.value)
+held c = grind arith
 
 pub take_in-count-requires : goal.take_in-count-requires
 take_in-count-requires c =
@@ -18,28 +18,28 @@ take_in-count-requires c =
     (sound.0, past_of sound.1 sound.2, stood (held (goal.at.take_in-count-requires c).After-deref_mut) sound.3)
 
 pub returns-clause-feeds : goal.returns-clause-feeds
-returns-clause-feeds c = λ (task : Task) (fed : List ℕ) (taken : BothTexts) stands.
+returns-clause-feeds c = λ task fed taken stands.
     handle-feeds (held (goal.at.returns-clause-feeds c).After-deref_mut) c.put_in.ensures.reader
     c.put_in.ensures.opened c.take_in-count.ensures task fed taken stands
 
 pub returns-clause-stands : goal.returns-clause-stands
-returns-clause-stands c = λ (task : Task) (fed : List ℕ) (taken : BothTexts) stands.
+returns-clause-stands c = λ task fed taken stands.
     feeds-on (returns-clause-feeds c task fed taken stands) stands
 
 pub returns-clause-misused : goal.returns-clause-misused
-returns-clause-misused c = λ (task : Task) (fed : List ℕ) (taken : BothTexts) stands ended.
+returns-clause-misused c = λ task fed taken stands ended.
     feeds-refused (returns-clause-feeds c task fed taken stands) stands ended
 
 pub returns-clause-promise : goal.returns-clause-promise
-returns-clause-promise c = λ (task : Task) (fed : List ℕ) (taken : BothTexts) stands runs.
+returns-clause-promise c = λ task fed taken stands runs.
     feeds-promise (returns-clause-feeds c task fed taken stands) stands runs
 
 pub returns-clause-takes : goal.returns-clause-takes
-returns-clause-takes c = λ (task : Task) (fed : List ℕ) (taken : BothTexts) stands runs.
+returns-clause-takes c = λ task fed taken stands runs.
     feeds-takes (returns-clause-feeds c task fed taken stands) stands runs
 
 pub returns-clause-ended : goal.returns-clause-ended
-returns-clause-ended c = λ (task : Task) (fed : List ℕ) (taken : BothTexts) stands runs ended.
+returns-clause-ended c = λ task fed taken stands runs ended.
     feeds-was_ended (returns-clause-feeds c task fed taken stands) stands runs ended
 
 pub returns-clause-sound : goal.returns-clause-sound

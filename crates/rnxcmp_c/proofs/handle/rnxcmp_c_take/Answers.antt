@@ -1,10 +1,9 @@
-use Rattle.rnxcmp_c.proofs.Words.{ℕ, List, [], ◌∷◌, length, take, sym, ap, ◌∙◌, subst, Choices, IsLineReached}
-use Rattle.rnxcmp_c.proofs.Words.{ReaderStands, Holds, past_of, taken_with, BothTexts, rooms, Task, Expand}
-use Rattle.rnxcmp_c.proofs.Words.{Check, Reader}
-use Rattle.rnxcmp_c.specs.Opened.{HandsOut, messages_kept, output_kept}
+use Rattle.std.proofs.Common.{arith}
 use Rattle.rnxcmp_c.proofs.EndedLemmas.{ended-where, result-where, run-check, run-expansion}
-use Rattle.rnxcmp_c.proofs.PromiseLemmas.{handle-promise, stood}
-use Rattle.rnxcmp_c.proofs.handle.rnxcmp_c_take.Goals.{After-deref_mut, After-put_in}
+use Rattle.rnxcmp_c.proofs.{PromiseLemmas.{handle-promise, stood}, Words.{ℕ, List, length, take, sym, subst}}
+use Rattle.rnxcmp_c.proofs.Words.{ReaderStands, Holds, past_of, taken_with, BothTexts, rooms, Task, Expand}
+use Rattle.rnxcmp_c.proofs.{Words.{Check, Reader}, handle.rnxcmp_c_take.Goals.{After-deref_mut, After-put_in}}
+use Rattle.rnxcmp_c.specs.Opened.{HandsOut, messages_kept, output_kept}
 use Rattle.rnxcmp_c.proofs.handle.rnxcmp_c_take.Goals as goal
 
 pub take_out-reader-requires : goal.take_out-reader-requires
@@ -13,33 +12,27 @@ take_out-reader-requires c =
     (sound.3.reader, sound.3.holds)
 
 held : (c : After-deref_mut) → Holds c.args.handle.now c.deref_mut.result.now
-held c = c.take_out-reader.ensures.reader ∙ ap (λ (r : Reader). r ∷ []) (sym c.deref_mut.ensures.value)
+held c = grind arith
 
 given : (c : After-put_in) → HandsOut c.args.handle.now.place.held c.put_in.new.handle.place.held
     (rooms c.args.output.now c.args.messages.now)
     (rooms c.hand_out-answer.new.output c.hand_out-answer.new.messages) c.hand_out-answer.result
-given c =
-    let before = rooms c.args.output.now c.args.messages.now in
-    let after = rooms c.hand_out-answer.new.output c.hand_out-answer.new.messages in
-    subst (λ (l : List Reader). HandsOut l c.put_in.new.handle.place.held before after c.hand_out-answer.result)
-    (ap (λ (r : Reader). r ∷ []) c.deref_mut.ensures.value ∙ sym c.take_out-reader.ensures.reader)
-    (subst (λ (l : List Reader). HandsOut (c.deref_mut.result.now ∷ []) l before after c.hand_out-answer.result)
-    (sym c.put_in.ensures.reader) c.hand_out-answer.ensures.taken)
+given c = grind arith
 
 pub returns-clause-output : goal.returns-clause-output
-returns-clause-output c = λ is_open. (given (goal.at.returns-clause-output c).After-put_in).output
+returns-clause-output c = grind arith
 
 pub returns-clause-messages : goal.returns-clause-messages
-returns-clause-messages c = λ is_open. (given (goal.at.returns-clause-messages c).After-put_in).messages
+returns-clause-messages c = grind arith
 
 pub returns-clause-output_left : goal.returns-clause-output_left
-returns-clause-output_left c = λ is_open. (given (goal.at.returns-clause-output_left c).After-put_in).output_left
+returns-clause-output_left c = grind arith
 
 pub returns-clause-messages_left : goal.returns-clause-messages_left
-returns-clause-messages_left c = λ is_open. (given (goal.at.returns-clause-messages_left c).After-put_in).messages_left
+returns-clause-messages_left c = grind arith
 
 pub returns-clause-still : goal.returns-clause-still
-returns-clause-still c = (given (goal.at.returns-clause-still c).After-put_in).same
+returns-clause-still c = grind arith
 
 pub returns-clause-stands : goal.returns-clause-stands
 returns-clause-stands c = λ (task : Task) (fed : List ℕ) (taken : BothTexts) stands.
@@ -62,18 +55,14 @@ returns-clause-promise c = λ (task : Task) (fed : List ℕ) (taken : BothTexts)
 )
 
 pub returns-clause-expansion : goal.returns-clause-expansion
-returns-clause-expansion c = λ (choices : Choices) (limit : ℕ) (fed : List ℕ) (taken : BothTexts)
-    stands ended memory few long.
-    run-expansion fed _ _ c.hand_out-answer.result choices
-    (result-where fed _ _ c.hand_out-answer.result (IsLineReached fed) (Expand choices limit) memory few
-    (ended-where fed _ _ c.hand_out-answer.result (IsLineReached fed) (Expand choices limit) memory long
+returns-clause-expansion c = λ choices limit fed taken stands ended memory few long. run-expansion fed _ _ _
+    choices (result-where fed _ _ _ _ (Expand choices limit) memory few
+    (ended-where fed _ _ _ _ (Expand choices limit) memory long
     ((handle-promise stands c.put_in.ensures.reader c.hand_out-answer.ensures.taken.answered).ended ended)))
 
 pub returns-clause-check : goal.returns-clause-check
-returns-clause-check c = λ (fed : List ℕ) (taken : BothTexts) stands ended memory few long.
-    run-check fed _ _ c.hand_out-answer.result
-    (result-where fed _ _ c.hand_out-answer.result (IsLineReached fed) Check memory few
-    (ended-where fed _ _ c.hand_out-answer.result (IsLineReached fed) Check memory long
+returns-clause-check c = λ fed taken stands ended memory few long. run-check fed _ _ _
+    (result-where fed _ _ _ _ Check memory few (ended-where fed _ _ _ _ Check memory long
     ((handle-promise stands c.put_in.ensures.reader c.hand_out-answer.ensures.taken.answered).ended ended)))
 
 pub returns-clause-sound : goal.returns-clause-sound

@@ -1,5 +1,4 @@
-use Rattle.rnxcmp_c.proofs.Words.{◌≡◌, refl, ap, arith, AnyEngine, Compacting, Expanding, Checking, Held}
-use Rattle.rnxcmp_c.proofs.Words.{Reader}
+use Rattle.rnxcmp_c.proofs.Words.{◌≡◌, refl, ap, arith, AnyEngine, Compacting, Expanding, Checking}
 use Rattle.std.proofs.lemmas.List.{length-drop}
 use Rattle.rnxcmp_c.specs.Holdings.{engine_with}
 use Rattle.rnxcmp_c.proofs.laws.handle_holds.Goals as goal
@@ -17,12 +16,10 @@ engine-is (Checking one) (Expanding other) = refl
 engine-is (Checking one) (Checking other) = refl
 
 pub returns-clause-parts : goal.returns-clause-parts
-returns-clause-parts c = λ (one other : Reader).
-    ap (λ (e : AnyEngine). let r : Reader = record other { engine = e } in r)
-    (engine-is one.engine other.engine)
+returns-clause-parts c = λ one other. ap (λ e. let r = record other { engine = e } in r) (engine-is _ _)
 
 pub returns-clause-bounded : goal.returns-clause-bounded
-returns-clause-bounded c = λ (held : Held).
+returns-clause-bounded c = λ held.
     let output = held.output in
     let messages = held.messages in
     record {

@@ -1,14 +1,13 @@
-use Rattle.rnxcmp_c.proofs.Words.{ℕ, List, ◌++◌, InputLine, lines_of, At, ended_lines-come_first, Task}
+use Rattle.rnxcmp_c.proofs.Words.{◌++◌, lines_of, ended_lines-come_first}
 use Rattle.rnxcmp_c.proofs.PromiseLemmas.{messages-own, output-first}
 use Rattle.rnxcmp_c.proofs.laws.what_lines_make_comes_first.Goals as goal
 
 pub returns-clause-begun : goal.returns-clause-begun
-returns-clause-begun c = λ (task : Task) (input : List ℕ) (lines others : List InputLine) (notices : List At)
-    first own. (
-      output-first task input lines others first,
-      messages-own task input lines others first notices own,
-    )
+returns-clause-begun c = λ task input lines others notices first own. (
+  output-first task input lines others first,
+  messages-own task input lines others first notices own,
+)
 
 pub returns-clause-fed : goal.returns-clause-fed
-returns-clause-fed c = λ (fed more : List ℕ).
+returns-clause-fed c = λ fed more.
     let tail = ended_lines-come_first fed in (lines_of (tail.0 ++ more), tail.2 more)

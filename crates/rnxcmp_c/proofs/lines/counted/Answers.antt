@@ -6,9 +6,5 @@ returns-in-Err-Unwritten-clause-stops c =
     inr (
       search rules,
       refl,
-      (
-        c.count_since.new.self,
-        c.count_since.ensures.good c.if-not-count_since.false,
-        c.cut_back.ensures,
-      ),
+      (c.count_since.new.self, c.count_since.ensures.good c.if-not-count_since.false, c.cut_back.ensures),
     )

@@ -1,44 +1,40 @@
-use Rattle.rnxcmp_c.proofs.Words.{◌≡◌, ℕ, List, length, ap, refl, subst, ◌∙◌, ◌<◌, ◌≤◌, rules, IfErr-weaker}
-use Rattle.rnxcmp_c.proofs.Words.{IfOk-weaker, InputLine, LINE_LIMIT, piece_line}
+use Rattle.rnxcmp_c.proofs.{Cut.{cut-stops, kept-where_done}, PieceLemmas.long-where_long}
+use Rattle.rnxcmp_c.proofs.{PieceLemmas.whole-where_not_long, Words.{◌≡◌, length, ap, refl, subst, ◌∙◌, ◌<◌}}
+use Rattle.rnxcmp_c.proofs.Words.{◌≤◌, rules, IfErr-weaker, IfOk-weaker, InputLine, LINE_LIMIT, piece_line}
+use Rattle.rnxcmp_c.{proofs.lines.give_line.Goals.{then-is_ended, else-is_ended}, specs.Going.LineIsGiven}
 use Rattle.std.proofs.lemmas.Bool.{lt-ltb}
 use Rattle.crx_lines.specs.Reading.{line_shown}
-use Rattle.rnxcmp_c.specs.Going.{LineIsGiven}
-use Rattle.rnxcmp_c.proofs.Cut.{cut-stops, kept-where_done}
-use Rattle.rnxcmp_c.proofs.PieceLemmas.{long-where_long, whole-where_not_long}
-use Rattle.rnxcmp_c.proofs.lines.give_line.Goals.{then-is_ended, else-is_ended}
 use Rattle.rnxcmp_c.proofs.lines.give_line.Goals as goal
 
 pub returns-then-content-gt-LINE_LIMIT-clause-step : goal.returns-then-content-gt-LINE_LIMIT-clause-step
-returns-then-content-gt-LINE_LIMIT-clause-step g c = λ (lines : List InputLine) (whole : List ℕ) shown kept.
+returns-then-content-gt-LINE_LIMIT-clause-step g c = λ lines whole shown kept.
     let taken = c.take_overlong in
     let output = c.args.output.now in
     let messages = c.args.messages.now in
-    let long = lt-ltb _ _ (long-where_long c.args.bytes.now whole kept
-    (subst (λ (bs : List ℕ). LINE_LIMIT < length bs) c.content_of-content.ensures
-    c.if-content-gt-LINE_LIMIT.true)) in (
-      IfOk-weaker taken.result _ _
-          (λ warned done. kept-where_done _ _ output taken.new.writer messages taken.new.messages _ warned done)
-          (taken.ensures.taken.done lines (piece_line whole c.args.is_ended) shown long),
+    let long = lt-ltb _ _ (long-where_long _ whole kept
+    (subst (λ bs. LINE_LIMIT < length bs) c.content_of-content.ensures c.if-content-gt-LINE_LIMIT.true)) in (
+      IfOk-weaker _ _ _ (λ warned done. kept-where_done _ _ output _ _ _ _ warned done)
+          (taken.ensures.taken.done lines _ shown long),
       IfErr-weaker taken.result _ _
           (λ halt cut. cut-stops _ _ output taken.new.writer messages taken.new.messages _ _ halt cut)
-          (taken.ensures.taken.cut lines (piece_line whole c.args.is_ended) shown long),
+          (taken.ensures.taken.cut lines (piece_line whole _) shown long),
     )
 
 pub returns-clause-step : goal.returns-clause-step
-returns-clause-step g c = λ (lines : List InputLine) (whole : List ℕ) shown kept.
+returns-clause-step g c = λ lines whole shown kept.
     let taken = c.take_line in
     let output = c.args.output.now in
     let messages = c.args.messages.now in
-    let all : c.args.bytes.now ≡ whole = whole-where_not_long c.args.bytes.now whole kept
-    (subst (λ (bs : List ℕ). length bs ≤ LINE_LIMIT) c.content_of-content.ensures
-    c.if-content-gt-LINE_LIMIT.false) in
+    let all = whole-where_not_long c.args.bytes.now whole kept
+    (subst (λ bs. length bs ≤ LINE_LIMIT) c.content_of-content.ensures c.if-content-gt-LINE_LIMIT.false) in
     let same : line_shown c.of.result ≡ piece_line c.args.bytes.now c.args.is_ended =
     elim c.if-is_ended.branch [ then-is_ended w ↦ search rules | else-is_ended w ↦ search rules ] in
     subst (λ (line : InputLine). LineIsGiven taken.result (g.E.Engine.filter c.args.engine.now)
     (g.E.Engine.shows taken.new.engine) lines line output taken.new.writer messages taken.new.messages)
-    (same ∙ ap (λ (bs : List ℕ). piece_line bs c.args.is_ended) all) (
-      IfOk-weaker taken.result _ _
-          (λ warned done. kept-where_done _ _ output taken.new.writer messages taken.new.messages _ warned done)
+    (same ∙ ap (λ bs. piece_line bs c.args.is_ended) all) (
+      IfOk-weaker _ _ _
+          (λ warned done. kept-where_done _ _ output taken.new.writer messages taken.new.messages _ warned
+          done)
           (taken.ensures.taken.done lines _ shown refl),
       IfErr-weaker taken.result _ _
           (λ halt cut. cut-stops _ _ output taken.new.writer messages taken.new.messages _ _ halt cut)

@@ -5,5 +5,4 @@ use Rattle.rnxcmp_c.proofs.lines.has_return.Goals as goal
 
 pub returns-in-Some : goal.returns-in-Some
 returns-in-Some c =
-    sym (ap ends_with_return c.in-Some.ensures.cases.0
-    ∙ ends_with_return-push c.in-Some.field-0-1.now c.in-Some.last.now)
+    sym (ap ends_with_return c.in-Some.ensures.cases.0 ∙ ends_with_return-push c.in-Some.field-0-1.now _)

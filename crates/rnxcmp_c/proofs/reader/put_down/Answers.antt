@@ -10,8 +10,7 @@ returns-then-add c = record {
   messages_good = c.add.ensures.counts.failures;
   said = inl (
     refl,
-    c.add.ensures.taken c.if-add.true
-        ∙ ap (λ (t : List ℕ). waiting c.args.held.now.messages ++ t)
+    c.add.ensures.taken c.if-add.true ∙ ap (λ (t : List ℕ). waiting c.args.held.now.messages ++ t)
         (c.bytes.ensures.value ∙ c.message.ensures.value),
   );
 }

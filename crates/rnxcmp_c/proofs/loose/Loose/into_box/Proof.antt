@@ -1,25 +1,22 @@
 -- `into_box` makes the box again.
-use Rattle.rnxcmp_c.proofs.RawWords.{◌≡◌, List, [], ◌∷◌, ◌++◌, refl, sym, ap, subst, a_type, dcons, dnil, Val}
-use Rattle.rnxcmp_c.proofs.RawWords.{vptr, inst_fn, SProp, ent, id⊢, ftrue, flft, WpFn, ‵, raw, ◌⊛◌, some}
-use Rattle.rnxcmp_c.proofs.RawWords.{later, ◌$◌, ◌∵◌, !, qed, by, move, keep, drop, split, split3, join}
-use Rattle.rnxcmp_c.proofs.RawWords.{fsplit, fjoin, pick, suffices, use1, await, rewrite, feq_i, stop, fld}
-use Rattle.rnxcmp_c.proofs.RawWords.{of_opd, no_more, and_then, returns, enter, alloc_all, pass_all, free_all}
-use Rattle.rnxcmp_c.proofs.RawWords.{look_at, get, get_in, sets, sub, whole, fact, tables, no, RattleType}
-use Rattle.rnxcmp_c.proofs.RawWords.{owns, types_at, plain, block_ptr, nothing, only, param, layout, bounded}
-use Rattle.rnxcmp_c.proofs.RawWords.{param_laws, triple_of, Stays, stay_dropped, walk_of, Goes-blank, fm}
-use Rattle.rnxcmp_c.proofs.RawWords.{Good, box_out, box_in, proved_at, leaves}
+use Rattle.rnxcmp_c.proofs.{LooseValues.{both, Loose, loose_good, loose_out}, RawWords.{◌≡◌, List, [], ◌∷◌}}
+use Rattle.rnxcmp_c.proofs.RawWords.{◌++◌, refl, sym, ap, subst, a_type, dcons, dnil, Val, vptr, inst_fn}
+use Rattle.rnxcmp_c.proofs.RawWords.{SProp, ent, id⊢, ftrue, flft, WpFn, ‵, raw, ◌⊛◌, some, later, ◌$◌, ◌∵◌}
+use Rattle.rnxcmp_c.proofs.RawWords.{ !, qed, by, move, keep, drop, split, split3, join, fsplit, fjoin, pick}
+use Rattle.rnxcmp_c.proofs.RawWords.{suffices, use1, await, rewrite, feq_i, stop, fld, of_opd, no_more}
+use Rattle.rnxcmp_c.proofs.RawWords.{and_then, returns, enter, alloc_all, pass_all, free_all, look_at, get}
+use Rattle.rnxcmp_c.proofs.RawWords.{get_in, sets, sub, whole, fact, tables, no, RattleType, owns, types_at}
+use Rattle.rnxcmp_c.proofs.RawWords.{plain, block_ptr, nothing, only, param, layout, bounded, param_laws}
+use Rattle.rnxcmp_c.proofs.RawWords.{triple_of, Stays, stay_dropped, walk_of, Goes-blank, fm, Good, box_out}
+use Rattle.rnxcmp_c.proofs.{RawWords.{box_in, proved_at, leaves}, loose.Loose.into_box.Statement.statement}
+use Rattle.rnxcmp_c.specs.contracts.loose.Loose.into_box.{ended, clauses, Key.name as #self}
 use types.Kit.{at_ret}
 use types.Run.{first, blocks, exec}
 use types.ByLocal.{lands_last, env}
 use contract.BorrowLft.{◌⊑◌}
-use denote.Triple.Clauses.{Lasts, lasts}
-use denote.Triple.Call.{calls_at_last}
+use denote.Triple.{Call.calls_at_last, Clauses.{Lasts, lasts}}
 use Rattle.core.proofs.alloc.Shapes.{after}
-use Rattle.rnxcmp_c.proofs.LooseValues.{both, Loose, loose_good, loose_out}
 use Rattle.std_alloc.proofs.boxed.Box.from_raw.Met.{met}
-use Rattle.rnxcmp_c.specs.contracts.loose.Loose.into_box.{ended, clauses}
-use Rattle.rnxcmp_c.specs.contracts.loose.Loose.into_box.Key.{name as #self}
-use Rattle.rnxcmp_c.proofs.loose.Loose.into_box.Statement.{statement}
 use Rattle.std_alloc.proofs.BoxSteps.Form as box
 use Rattle.std_alloc.specs.contracts.boxed.Box.from_raw as callee
 use Rattle.rnxcmp_c.proofs.loose.Loose.into_box.Code as code
@@ -41,8 +38,8 @@ into_box_spec 𝓤 𝓛 𝓜 𝓡 wired T A L LA g d dx dd allocator glue glued 
     (code.unfolded 𝓤 H 𝓜 𝓡 wired (T, (A, tt)) d dx dd) (λ z are.
     let κs = z.0.0 in let qs = z.0.1 in let v = z.0.3.0 in let a = v.alloc in let Post : Val → SProp 𝓤 =
     (walk_of 𝓛 En hs c).post z in let Run : List Val → SProp 𝓤 = λ ws. WpFn 𝓤 H 𝓣.C 𝓣.Λ fn ws Post in
-    let toks = ‵ (flft κs.0 qs.0) ⊛ ‵ (flft κs.1.0 qs.1.0) ⊛ ‵ ftrue
-    in let asked = raw ((c κs z.0.3).requires z.1) in
+    let toks = ‵ (flft κs.0 qs.0) ⊛ ‵ (flft κs.1.0 qs.1.0) ⊛ ‵ ftrue in let asked = raw
+    ((c κs z.0.3).requires z.1) in
     qed 𝓛 ((toks ⊛ ‵ (owns (types_at En.signature.params κs) z.0.3 z.0.4)) ∷ asked ∷ []) ∵ split ! $ move !
     (1 ∷ []) $ fsplit ! $ loose_out R Z LZ g ! v z.0.4.0 (λ b o h e ws fits.
     let w : Val = both (vptr b o) h in let typed = loose_good R Z LZ g b o h fits in let k =
@@ -50,13 +47,11 @@ into_box_spec 𝓤 𝓛 𝓜 𝓡 wired T A L LA g d dx dd allocator glue glued 
     let y : k.Ghost = ((κs, qs, tt, (a, (block_ptr b o, tt)), (h ∷ [], (vptr b o ∷ [], tt))), v.value)
     in let B : RattleType = box.B E in
     move ! (4 ∷ []) $ use1 𝓛 (raw (fact 𝓤 (κs.0 ⊑ T.lives)) ⊛ raw (fact 𝓤 (κs.1.0 ⊑ A.lives)) ⊛ ‵ ftrue)
-    (id⊢ 𝓤 _) $ split3 ! $ move ! (2 ∷ []) $ drop ! $ move ! (1 ∷ 2 ∷ []) $ join ! $ move !
-    (1 ∷ 0 ∷ []) $ join ! $
-    move ! (2 ∷ []) $ feq_i ! (List Val) (vptr b o ∷ []) (vptr b o ∷ []) refl $ fjoin ! $ move !
+    (id⊢ 𝓤 _) $ split3 ! $ move ! (2 ∷ []) $ drop ! $ move ! (1 ∷ 2 ∷ []) $ join ! $ move ! (1 ∷ 0 ∷ []) $
+    join ! $ move ! (2 ∷ []) $ feq_i ! (List Val) (vptr b o ∷ []) (vptr b o ∷ []) refl $ fjoin ! $ move !
     (2 ∷ 0 ∷ []) $ fjoin ! $ move ! (2 ∷ 0 ∷ []) $ join ! $ join ! $ use1 𝓛 (raw (k.pre y)) (id⊢ 𝓤 _) $
     suffices ! (Run (w ∷ [])) (subst (λ (us : List Val). ent 𝓤 (Run (w ∷ [])) (Run us))
-    (sym (λ i. ws i ++ [])) (id⊢ 𝓤 (Run (w ∷ [])))) $
-    enter ! 𝓣.C 𝓣.Λ fn (w ∷ []) Post $ alloc_all !
+    (sym (λ i. ws i ++ [])) (id⊢ 𝓤 (Run (w ∷ [])))) $ enter ! 𝓣.C 𝓣.Λ fn (w ∷ []) Post $ alloc_all !
     (λ l. pass_all ! refl (typed, tt) $ let Ev = env fn.locals l in sets !
     (of_opd ! (get_in ! (fld ! refl (stop !)) (sub ! 0 refl (whole !)))) refl (tt, tt) $ sets !
     (of_opd ! (get_in ! (fld ! refl (stop !))
@@ -65,14 +60,14 @@ into_box_spec 𝓤 𝓛 𝓜 𝓡 wired T A L LA g d dx dd allocator glue glued 
     LA g d dd allocator glued) y (and_then ! (get ! refl) (and_then ! (get ! refl) (no_more !))) (λ u.
     use1 𝓛 (later (some (λ (r : B.Denot). (toks ⊛ ‵ (B.own_val r (u ∷ []))) ⊛ some
     (λ (ls : Lasts (callee.ended T A g d dd) κs y.0.3). ‵ (lasts (callee.ended T A g d dd) κs y.0.3 ls) ⊛
-    (raw (fact 𝓤 (r.value ≡ v.value)) ⊛ raw (fact 𝓤 (r.alloc ≡ a))))))) (id⊢ 𝓤 (k.post y u)) $
-    await ! tt $ pick ! (λ r. split ! $ move ! (1 ∷ []) $ pick !
-    (λ _. split3 ! $ drop ! $ move ! (2 ∷ []) $ split ! $ move ! (1 ∷ []) $
-    box_out E ! r (u ∷ []) (λ b' o' h' e' us fits'. box_in E ! r b' o' r.value e' refl $ rewrite ! 0
+    (raw (fact 𝓤 (r.value ≡ v.value)) ⊛ raw (fact 𝓤 (r.alloc ≡ a))))))) (id⊢ 𝓤 (k.post y u)) $ await ! tt $
+    pick ! (λ r. split ! $ move ! (1 ∷ []) $ pick !
+    (λ _. split3 ! $ drop ! $ move ! (2 ∷ []) $ split ! $ move ! (1 ∷ []) $ box_out E ! r (u ∷ [])
+    (λ b' o' h' e' us fits'. box_in E ! r b' o' r.value e' refl $ rewrite ! 0
     (λ (xs : List Val). ‵ (B.own_val r xs)) (sym us) refl $
     let good : Good (layout B) u =
     subst (Good (layout B)) (sym (ap only us)) (loose_good R Z LZ g b' o' h' fits') in
     lands_last ! refl good $ exec ! 𝓣.C 𝓣.Λ Ev (after 3 fn.body) (at_ret Ev Post) $ sets !
-    (of_opd ! (get ! refl)) refl good $ nothing ! $ nothing ! $ fjoin ! $
-    returns ! (look_at ! 0 refl) $ free_all ! refl $ keep ! (2 ∷ 0 ∷ 1 ∷ 3 ∷ []) $ by !
+    (of_opd ! (get ! refl)) refl good $ nothing ! $ nothing ! $ fjoin ! $ returns ! (look_at ! 0 refl) $
+    free_all ! refl $ keep ! (2 ∷ 0 ∷ 1 ∷ 3 ∷ []) $ by !
     (leaves 𝓛 En hs c z u r ((tt, (tt, tt)), tt) (tt, tt)))))))))

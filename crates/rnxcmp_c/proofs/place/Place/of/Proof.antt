@@ -1,16 +1,13 @@
 -- `of` moves the pointer, and what the parts owned goes with it.
+use Rattle.rnxcmp_c.proofs.{LooseValues.{both, Loose, loose_good, loose_out}, PlaceValues.{word, place_in}}
 use Rattle.rnxcmp_c.proofs.RawWords.{List, [], ◌∷◌, ◌++◌, refl, sym, subst, Val, vptr, SProp, ent, emp, id⊢}
 use Rattle.rnxcmp_c.proofs.RawWords.{ftrue, fsep, WpFn, ‵, raw, ◌⊛◌, ◌$◌, ◌∵◌, !, qed, move, keep, drop}
 use Rattle.rnxcmp_c.proofs.RawWords.{split, join, fsplit, fjoin, suffices, done, stop, fld, of_opd, no_more}
 use Rattle.rnxcmp_c.proofs.RawWords.{and_then, returns, enter, alloc_all, pass_all, free_all, look_at, get}
 use Rattle.rnxcmp_c.proofs.RawWords.{get_in, sets, agg, sub, whole, tables, yes, RattleType, plain, block_ptr}
 use Rattle.rnxcmp_c.proofs.RawWords.{nothing, says, Stays, stay_dropped, walk_of, ends_at, Goes-dropped}
-use Rattle.rnxcmp_c.proofs.RawWords.{proved_at, ghosts}
-use Rattle.rnxcmp_c.proofs.LooseValues.{both, Loose, loose_good, loose_out}
-use Rattle.rnxcmp_c.proofs.PlaceValues.{word, place_in}
-use Rattle.rnxcmp_c.specs.contracts.place.Place.of.{ended, clauses}
-use Rattle.rnxcmp_c.specs.contracts.place.Place.of.Key.{name as #self}
-use Rattle.rnxcmp_c.proofs.place.Place.of.Statement.{statement}
+use Rattle.rnxcmp_c.proofs.{RawWords.{proved_at, ghosts}, place.Place.of.Statement.statement}
+use Rattle.rnxcmp_c.specs.contracts.place.Place.of.{ended, clauses, Key.name as #self}
 use Rattle.std_heap.specs.contracts.Global as heap
 use Rattle.std_heap.proofs.Global.TheLaws as heap_laws
 use Rattle.rnxcmp_c.specs.contracts.reader.Reader as reader
@@ -23,26 +20,20 @@ of_spec 𝓤 𝓛 𝓜 𝓡 wired =
     heap_laws.the_row_laws in let From : RattleType = Loose R Z LZ ghosts in
     let hs : Stays ended.signature.params ended.kept = (stay_dropped (plain (λ _. From)) yes, tt) in
     proved_at 𝓛 ended hs c 𝓜 𝓡 (
-      Goes-dropped 𝓛 0 (plain (λ _. From)) yes
-          (λ κs x f. refl),
+      Goes-dropped 𝓛 0 (plain (λ _. From)) yes (λ κs x f. refl),
       tt,
     ) #self code.function (code.unfolded 𝓤 H 𝓜 𝓡 wired) (λ z are.
     let v = z.0.3.0 in let Post : Val → SProp 𝓤 =
     (walk_of 𝓛 ended hs c).post z in let Run : List Val → SProp 𝓤 =
     λ ws. WpFn 𝓤 H 𝓣.C 𝓣.Λ code.function ws Post in
     qed 𝓛 ((‵ ftrue ⊛ ‵ (fsep (From.own_val v z.0.4.0) ftrue)) ∷ raw (emp 𝓤) ∷ []) ∵ split ! $ drop !
-    $ fsplit ! $
-    loose_out R Z LZ ghosts ! v z.0.4.0 (λ b o h e ws fits. let w : Val = both (vptr b o) h in
-    move ! (0 ∷ []) $
-    suffices ! (Run (w ∷ [])) (subst (λ (us : List Val). ent 𝓤 (Run (w ∷ [])) (Run us))
-    (sym (λ i. ws i ++ [])) (id⊢ 𝓤 (Run (w ∷ [])))) $ keep ! (0 ∷ []) $
-    enter ! 𝓣.C 𝓣.Λ code.function (w ∷ []) Post $ alloc_all !
-    (λ l. pass_all ! refl (loose_good R Z LZ ghosts b o h fits, tt) $
-    sets ! (of_opd ! (get_in ! (fld ! refl (stop !)) (sub ! 0 refl (whole !)))) refl (tt, tt) $ sets !
-    (of_opd ! (get ! refl)) refl (tt, tt) $
-    sets ! (agg ! (and_then ! (get ! refl) (no_more !))) refl (tt, (tt, tt)) $
-    returns ! (look_at ! 0 refl) $ free_all ! refl $
-    place_in ! (block_ptr b o) (v.value ∷ []) $
-    suffices ! _ (ends_at 𝓛 ended hs c z (word (block_ptr b o))
-    (record { at = block_ptr b o; held = v.value ∷ [] }) (tt, tt) (tt, tt)) $ says ! refl $
-    nothing ! $ nothing ! $ fjoin ! $ join ! $ nothing ! $ join ! $ done !)))
+    $ fsplit ! $ loose_out R Z LZ ghosts ! v z.0.4.0 (λ b o h e ws fits. let w : Val = both (vptr b o) h in
+    move ! (0 ∷ []) $ suffices ! (Run (w ∷ [])) (subst (λ (us : List Val). ent 𝓤 (Run (w ∷ [])) (Run us))
+    (sym (λ i. ws i ++ [])) (id⊢ 𝓤 (Run (w ∷ [])))) $ keep ! (0 ∷ []) $ enter ! 𝓣.C 𝓣.Λ code.function (w ∷ [])
+    Post $ alloc_all ! (λ l. pass_all ! refl (loose_good R Z LZ ghosts b o h fits, tt) $ sets !
+    (of_opd ! (get_in ! (fld ! refl (stop !)) (sub ! 0 refl (whole !)))) refl (tt, tt) $ sets !
+    (of_opd ! (get ! refl)) refl (tt, tt) $ sets ! (agg ! (and_then ! (get ! refl) (no_more !))) refl
+    (tt, (tt, tt)) $ returns ! (look_at ! 0 refl) $ free_all ! refl $ place_in ! (block_ptr b o)
+    (v.value ∷ []) $ suffices ! _ (ends_at 𝓛 ended hs c z (word (block_ptr b o))
+    (record { at = block_ptr b o; held = v.value ∷ [] }) (tt, tt) (tt, tt)) $ says ! refl $ nothing ! $
+    nothing ! $ fjoin ! $ join ! $ nothing ! $ join ! $ done !)))

@@ -1,16 +1,13 @@
-use Rattle.rnxcmp_c.proofs.Words.{◌∙◌, inr, refl, HandlePast, Task}
-use Rattle.rnxcmp_c.proofs.ReaderLemmas.{all-over, stops-at_end}
+use Rattle.rnxcmp_c.proofs.{ReaderLemmas.{all-over, stops-at_end}, Words.{◌∙◌, inr, refl}}
 use Rattle.rnxcmp_c.proofs.reader.Reader.end.Goals as goal
 
 pub returns-in-Ok : goal.returns-in-Ok
-returns-in-Ok c = λ (task : Task) (past : HandlePast) is.
+returns-in-Ok c = λ task past is.
     let ends = c.in-Ok.ensures.ends past is.going in
-    inr (inr (all-over c.args.self.now.engine _ _ past refl task c.end_engine.new.engine is.is_of
+    inr (inr (all-over c.args.self.now.engine _ _ past refl task _ is.is_of
     (c.end_engine.ensures.of task is.is_of) (c.end_engine.ensures.limit ∙ is.limit) c.status_at_end.ensures
     ends.0.1 ends.0.0))
 
 pub returns-in-Err : goal.returns-in-Err
-returns-in-Err c = λ (task : Task) (past : HandlePast) is.
-    stops-at_end task c.args.self.now.engine is.is_of _ c.end_engine.new.held
-    (c.in-Err.ensures.limit ∙ is.limit)
-    c.outcome_of.result past c.in-Err.stop (c.in-Err.ensures.ends past is.going).1 c.outcome_of.ensures
+returns-in-Err c = λ task past is. stops-at_end task _ is.is_of _ _ (c.in-Err.ensures.limit ∙ is.limit)
+    _ past _ (c.in-Err.ensures.ends past is.going).1 c.outcome_of.ensures

@@ -1,5 +1,4 @@
-use Rattle.rnxcmp_c.proofs.Words.{List, ℕ, length, take, rules, sym, ap, ◌∙◌, ◌++◌, take-append-drop}
-use Rattle.rnxcmp_c.proofs.Words.{HandlePast, Task, waiting}
+use Rattle.rnxcmp_c.proofs.Words.{take, rules, sym, ap, ◌∙◌, ◌++◌, take-append-drop}
 use Rattle.rnxcmp_c.proofs.TakenLemmas.{taken-stands}
 use Rattle.rnxcmp_c.proofs.reader.Reader.hand_out.Goals as goal
 
@@ -14,13 +13,11 @@ returns-clause-taken c = record {
 }
 
 pub returns-clause-stands : goal.returns-clause-stands
-returns-clause-stands c = λ (task : Task) (past : HandlePast) stands.
+returns-clause-stands c = λ task past stands.
     let old = c.args.self.now in
-    let output : List ℕ = take (length c.args.output.now) (waiting old.held.output) in
-    let messages : List ℕ = take (length c.args.messages.now) (waiting old.held.messages) in
-    taken-stands task old past c.hand_out.new.self c.hand_out-2.new.self output messages
-    (sym (take-append-drop (length c.args.output.now) (waiting old.held.output))
-    ∙ ap (λ (t : List ℕ). output ++ t) (sym c.hand_out.ensures.left))
-    (sym (take-append-drop (length c.args.messages.now) (waiting old.held.messages))
-    ∙ ap (λ (t : List ℕ). messages ++ t) (sym c.hand_out-2.ensures.left))
-    c.hand_out.ensures.counts.failures c.hand_out-2.ensures.counts.failures stands
+    let output = take _ _ in
+    let messages = take _ _ in
+    taken-stands task old past _ _ output _ (sym (take-append-drop _ _) ∙ ap (λ t. output ++ t)
+    (sym c.hand_out.ensures.left)) (sym (take-append-drop _ _) ∙ ap (λ t. messages ++ t)
+    (sym c.hand_out-2.ensures.left)) c.hand_out.ensures.counts.failures c.hand_out-2.ensures.counts.failures
+    stands

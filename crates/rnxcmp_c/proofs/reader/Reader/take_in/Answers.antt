@@ -1,12 +1,11 @@
 use Rattle.rnxcmp_c.proofs.Words.{◌-◌, refl, sym, ap, ◌∙◌, arith, length, length-take, INPUT_LIMIT}
-use Rattle.rnxcmp_c.proofs.Words.{HandlePast, Task}
 use Rattle.rnxcmp_c.proofs.FedLemmas.{fed-by, fed-bytes, passed-bytes, runs-where_none}
 use Rattle.rnxcmp_c.proofs.reader.Reader.take_in.Goals as goal
 
 pub feed-used-requires-clause-running : goal.feed-used-requires-clause-running
 feed-used-requires-clause-running c =
     let old = c.args.self.now in
-    let runs = runs-where_none c.requires.0 old c.requires.1 old.outcome
+    let runs = runs-where_none c.requires.0 old c.requires.1 _
     (sym c.is_some.ensures ∙ c.if-is_some.false) c.requires.2 in (
       c.requires.0,
       c.requires.1,
@@ -21,13 +20,12 @@ feed-used-requires-clause-running c =
     )
 
 pub returns-then-is_past : goal.returns-then-is_past
-returns-then-is_past c = λ (task : Task) (past : HandlePast) stands.
+returns-then-is_past c = λ task past stands.
     let old = c.args.self.now in
     let none = sym c.is_some.ensures ∙ c.if-is_some.false in
-    let runs = runs-where_none task old past old.outcome none stands in
+    let runs = runs-where_none task old past _ none stands in
     let full = c.is_past.ensures.past c.if-is_past.true in
-    fed-by task old _ past c.args.bytes.now 0 _ old.outcome none
-    (passed-bytes task old _ past c.args.bytes.now c.allowed-allowed.result.now 0 _ c.allowed-allowed.ensures
+    fed-by task old _ past _ 0 _ _ none (passed-bytes task old _ past _ _ 0 _ c.allowed-allowed.ensures
     c.answer.ensures runs full.1 full.0 refl (c.pass_limit.ensures task past runs (omega (
       arith,
       runs.counted,
@@ -39,11 +37,11 @@ returns-then-is_past c = λ (task : Task) (past : HandlePast) stands.
     ))))
 
 pub returns : goal.returns
-returns c = λ (task : Task) (past : HandlePast) stands.
+returns c = λ task past stands.
     let old = c.args.self.now in
     let none = sym c.is_some.ensures ∙ c.if-is_some.false in
-    let runs = runs-where_none task old past old.outcome none stands in
-    fed-by task old _ past c.args.bytes.now c.feed-used.result _ old.outcome none
-    (fed-bytes task old _ past c.args.bytes.now c.allowed-allowed.result.now c.feed-used.result _
-    c.allowed-allowed.ensures c.answer-2.ensures runs (c.is_past.ensures.within c.if-is_past.false)
-    (c.feed-used.ensures.fed task past runs) c.feed-used.ensures.count (c.feed-used.ensures.soon task past runs))
+    let runs = runs-where_none task old past _ none stands in
+    fed-by task old _ past _ _ _ _ none (fed-bytes task old _ past _ _ _ _ c.allowed-allowed.ensures
+    c.answer-2.ensures runs (c.is_past.ensures.within c.if-is_past.false)
+    (c.feed-used.ensures.fed task past runs) c.feed-used.ensures.count (c.feed-used.ensures.soon task past
+    runs))
