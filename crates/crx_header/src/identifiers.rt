@@ -1,6 +1,6 @@
 //! The identifiers of an epoch's satellites, each at its place: RINEX 3.05, table A3.
 
-ghost use Rattle.std.specs.Prelude.{ℕ, List, ◌≡◌, ◌≤◌, ◌<◌, ◌+◌, ◌*◌, ◌++◌, ◌∷◌, [], Some, length, take, slice_get, not, true, false, get_or, IsOk, OnErr, OnSome, IfOk, IfSome, IfNone};
+ghost use Rattle.std.specs.Prelude.{ℕ, List, ◌≡◌, ◌≤◌, ◌<◌, ◌+◌, ◌*◌, ◌++◌, ◌∷◌, [], Some, length, take, slice_get, not, true, false, IsOk, OnErr, IfOk};
 ghost use Rattle.crx_header.specs.meaning.Satellites.{is_among};
 
 use crate::columns::is_same_identifier;

@@ -12,7 +12,7 @@ use Rattle.crx_text.proofs.EachPlace.{each_place-more, index-each_place, length-
 use Rattle.crx_text.specs.{Numbers.IsObservation, meaning.Columns.{character_at, is_blank}}
 use Rattle.crx_text.specs.meaning.{EachPlace.each_place, Numbers.{observation_of, number_of, IsValue}}
 use Rattle.crx_text.specs.meaning.Texts.{is_kept}
-use Rattle.crx_rinex.specs.SatelliteLines.{blank_row, cells_of, with_flags, with_value, AreAllRead}
+use Rattle.crx_rinex.specs.SatelliteLines.{blank_row, row_by_cells, with_flags, with_value, AreAllRead}
 use Rattle.crx_rinex.specs.{SatelliteLines.AreCellsRead, meaning.{Observations.Row, SatelliteLines.all_some}}
 use Rattle.crx_rinex.specs.meaning.SatelliteLines.{values_in, flags_at, flags_in, field, row_with, IsSoundRow}
 use Rattle.crx_header.specs.meaning.{ObservationTypes.IsAllowedCount, Satellites.is_identifier}
@@ -156,7 +156,7 @@ cells_whole line values flags k m h all long ended =
 pub cells_end : (line : List ℕ) (values : List (Option ℤ)) (flags : List ℕ) (k m : ℕ) (b : Bool)
     → AreCellsRead k line values flags → k ≡ m → length values ≡ m
     → b ≡ list_all is_blank (drop (16 * m + 3) line)
-    → MatchBool b (AreAllRead m line values flags) (cells_of m line ≡ Err BadField)
+    → MatchBool b (AreAllRead m line values flags) (row_by_cells m line ≡ Err BadField)
 cells_end line values flags k m true h all long ended = cells_whole line values flags k m h all long (sym
     ended)
 cells_end line values flags k m false h all long ended = grind arith

@@ -13,7 +13,7 @@ ghost use Rattle.crx_rinex.specs.meaning.Observations.{observations_of};
 ghost use Rattle.crx_rinex.specs.meaning.Printing.{printed_row};
 ghost use Rattle.crx_text.specs.meaning.PrintedCells.{printed_cells};
 ghost use Rattle.crx_rinex.specs.SatelliteLines.{blank_row, row_by_cells, with_flags, with_value, AreAllRead, AreCellsRead, ArePaired, IsRowOf};
-ghost use Rattle.crx_rinex.specs.meaning.SatelliteLines.{field, flags_in, row_of, row_with, values_in, IsSoundRow};
+ghost use Rattle.crx_rinex.specs.meaning.SatelliteLines.{field, row_of, IsSoundRow};
 ghost use Rattle.crx_header.specs.meaning.Satellites.{is_identifier, types_of_satellite};
 
 use crx_base::Fault;

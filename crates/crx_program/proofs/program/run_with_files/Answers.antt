@@ -1,9 +1,13 @@
-use Rattle.std.proofs.Common.{arith, ◌≡◌, ◌∙◌, inl, inr, refl, subst, sym}
-use Rattle.crx_command.{proofs.JobFits.job_fits, specs.{declared.job.Job.Job, meaning.Planning.Help}}
-use Rattle.crx_command.specs.meaning.Planning.{Refused, Refusal, Run}
-use Rattle.crx_program.proofs.{FilterEnds.done_for, Refusals.{not_run, refused_by}}
-use Rattle.crx_program.specs.meaning.{Jobs.NoMemory, Program.IsRefused}
-use Rattle.crx_runs.specs.meaning.Spans.{span}
+use Rattle.std.proofs.Common.{◌≡◌, ◌∙◌, map, None, inl, inr, refl, string_bytes, subst, sym}
+use Rattle.crx_command.specs.meaning.Planning.{Help, Refused, Refusal, Run, plan_of}
+use Rattle.crx_program.specs.Devices.{LeavesDevices}
+use Rattle.crx_program.specs.meaning.Jobs.{NoMemory}
+use Rattle.crx_program.specs.meaning.Program.{IsRefused}
+use Rattle.crx_runs.specs.meaning.Spans.{span, reader_span}
+use Rattle.crx_command.specs.declared.job.Job.{Job}
+use Rattle.crx_program.proofs.FilterEnds.{done_for}
+use Rattle.crx_command.proofs.JobFits.{job_fits}
+use Rattle.crx_program.proofs.Refusals.{not_run, refused_by}
 use Rattle.crx_program.proofs.program.run_with_files.Goals as goal
 
 -- a run is of one job
@@ -35,15 +39,21 @@ returns-in-Err-clause-done g c = λ job e. inr (record {
 
 pub run_job-requires : goal.run_job-requires
 run_job-requires g c =
-    let planned =
+    let planned : Run c.in-Ok-Run.job ≡ plan_of (map string_bytes c.args.words.items) =
     rw c.in-Ok-Run.field-0-is at c.in-Ok-Run.ensures.value in
-    job_fits _ _ planned
+    job_fits (map string_bytes c.args.words.items) c.in-Ok-Run.job planned
 
 pub returns-in-Ok-Run-clause-done : goal.returns-in-Ok-Run-clause-done
 returns-in-Ok-Run-clause-done g c = λ job e.
-    let planned =
+    let planned : Run c.in-Ok-Run.job ≡ plan_of (map string_bytes c.args.words.items) =
     rw c.in-Ok-Run.field-0-is at c.in-Ok-Run.ensures.value in
-    done_for _ _ _ _ job _ _ _ _ _ _ _ (same_job _ job (planned ∙ e)) c.run_job.ensures.done
+    done_for _ _ c.args.moment c.in-Ok-Run.job job c.run_job.result.source c.run_job.result.target
+    (reader_span g.R.Source c.args.input.now c.run_job.new.input)
+    (span g.W.Sink c.args.output.now c.run_job.new.output)
+    (span g.M.Sink c.args.messages.now c.run_job.new.messages) c.run_job.result.status
+    ((c.run_job.new.input ≡ c.args.input.now) × (c.run_job.new.output ≡ c.args.output.now)
+    × (c.run_job.result.target ≡ None))
+    (same_job c.in-Ok-Run.job job (planned ∙ e)) c.run_job.ensures.done
 
 -- help is no run and no refusal, and a run is neither help nor a refusal
 help_not_run : (job : Job) → Help ≡ Run job → ⊥
@@ -56,28 +66,42 @@ run_not_refused : (job : Job) (refusal : Refusal) → Run job ≡ Refused refusa
 run_not_refused job refusal e = cc
 
 pub returns-in-Ok-Help-clause-refused : goal.returns-in-Ok-Help-clause-refused
-returns-in-Ok-Help-clause-refused g c = grind arith
+returns-in-Ok-Help-clause-refused g c = λ refusal e.
+    let planned : Help ≡ plan_of (map string_bytes c.args.words.items) =
+    rw c.in-Ok-Help.field-0-is at c.in-Ok-Help.ensures.value in
+    absurd (help_not_refused refusal (planned ∙ e))
 
-pub returns-in-Ok-Help-clause-output : goal.returns-in-Ok-Help-clause-output
-returns-in-Ok-Help-clause-output g c = grind arith
+pub returns-in-Ok-Help-clause-devices : goal.returns-in-Ok-Help-clause-devices
+returns-in-Ok-Help-clause-devices g c = λ job e.
+    let planned : Help ≡ plan_of (map string_bytes c.args.words.items) =
+    rw c.in-Ok-Help.field-0-is at c.in-Ok-Help.ensures.value in
+    absurd (help_not_run job (planned ∙ e))
 
 pub returns-in-Ok-Help-clause-done : goal.returns-in-Ok-Help-clause-done
-returns-in-Ok-Help-clause-done g c = grind arith
+returns-in-Ok-Help-clause-done g c = λ job e.
+    let planned : Help ≡ plan_of (map string_bytes c.args.words.items) =
+    rw c.in-Ok-Help.field-0-is at c.in-Ok-Help.ensures.value in
+    absurd (help_not_run job (planned ∙ e))
 
 pub returns-in-Ok-Run-clause-refused : goal.returns-in-Ok-Run-clause-refused
-returns-in-Ok-Run-clause-refused g c = grind arith
+returns-in-Ok-Run-clause-refused g c = λ refusal e.
+    let planned : Run c.in-Ok-Run.job ≡ plan_of (map string_bytes c.args.words.items) =
+    rw c.in-Ok-Run.field-0-is at c.in-Ok-Run.ensures.value in
+    absurd (run_not_refused c.in-Ok-Run.job refusal (planned ∙ e))
 
 pub returns-in-Ok-Run-clause-help : goal.returns-in-Ok-Run-clause-help
-returns-in-Ok-Run-clause-help g c = grind arith
+returns-in-Ok-Run-clause-help g c = λ e.
+    let planned : Run c.in-Ok-Run.job ≡ plan_of (map string_bytes c.args.words.items) =
+    rw c.in-Ok-Run.field-0-is at c.in-Ok-Run.ensures.value in
+    absurd (help_not_run c.in-Ok-Run.job (sym (planned ∙ e)))
 
-pub returns-in-Ok-Run-clause-input : goal.returns-in-Ok-Run-clause-input
-returns-in-Ok-Run-clause-input g c = grind arith
+pub returns-in-Ok-Run-clause-devices : goal.returns-in-Ok-Run-clause-devices
+returns-in-Ok-Run-clause-devices g c = λ job e.
+    let planned : Run c.in-Ok-Run.job ≡ plan_of (map string_bytes c.args.words.items) =
+    rw c.in-Ok-Run.field-0-is at c.in-Ok-Run.ensures.value in
+    subst (λ (j : Job). LeavesDevices j (c.run_job.new.input ≡ c.args.input.now)
+    (c.run_job.new.output ≡ c.args.output.now)) (same_job c.in-Ok-Run.job job (planned ∙ e))
+    c.run_job.ensures.devices
 
-pub returns-in-Ok-Run-clause-output : goal.returns-in-Ok-Run-clause-output
-returns-in-Ok-Run-clause-output g c = grind arith
-
-pub returns-in-Err-clause-input : goal.returns-in-Err-clause-input
-returns-in-Err-clause-input g c = λ job e some. refl {a = c.args.input.now}
-
-pub returns-in-Err-clause-output : goal.returns-in-Err-clause-output
-returns-in-Err-clause-output g c = λ job e some. refl {a = c.args.output.now}
+pub returns-in-Err-clause-devices : goal.returns-in-Err-clause-devices
+returns-in-Err-clause-devices g c = λ job e. record { input = λ some. refl; output = λ some. refl }

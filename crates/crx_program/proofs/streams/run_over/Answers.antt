@@ -9,7 +9,8 @@ returns-clause-refused g c = λ refusal e.
     let refused = c.run_with_files-ended.ensures.refused refusal e in (
       (
         c.new-messages.result,
-        (fresh _ _ c.new-messages.result c.new-messages.ensures.inner c.new-messages.ensures.log
+        (fresh c.args.stderr c.new-3.result c.new-messages.result c.new-messages.ensures.inner
+            c.new-messages.ensures.log
             c.new-3.ensures.inner c.new-3.ensures.failures c.new-3.ensures.ends c.new-3.ensures.flushes),
         refused.0,
       ),
@@ -24,11 +25,13 @@ returns-clause-help g c = λ e.
     let helped = c.run_with_files-ended.ensures.help e in (
       (
         c.new-output.result,
-        (fresh _ _ c.new-output.result c.new-output.ensures.inner c.new-output.ensures.log
+        (fresh c.args.stdout c.new-2.result c.new-output.result c.new-output.ensures.inner
+            c.new-output.ensures.log
             c.new-2.ensures.inner c.new-2.ensures.failures c.new-2.ensures.ends c.new-2.ensures.flushes),
         (
           c.new-messages.result,
-          (fresh _ _ c.new-messages.result c.new-messages.ensures.inner c.new-messages.ensures.log
+          (fresh c.args.stderr c.new-3.result c.new-messages.result c.new-messages.ensures.inner
+              c.new-messages.ensures.log
               c.new-3.ensures.inner c.new-3.ensures.failures c.new-3.ensures.ends c.new-3.ensures.flushes),
           helped.0,
         ),
@@ -59,29 +62,33 @@ returns-clause-done g c = λ job e. (
 )
 
 pub returns-clause-exact : goal.returns-clause-exact
-returns-clause-exact g c = λ job e well. exact_run
-    (λ (r : Uninterrupted g.row.H-File.Denot). g.H.File.Read.remaining r.inner)
+returns-clause-exact g c = λ job e well.
+    exact_run (λ (r : Uninterrupted g.row.H-File.Denot). g.H.File.Read.remaining r.inner)
     (writer_contents (λ (w : UntilFailure (Uninterrupted g.row.H-File.Denot)). g.H.File.Write.contents
-    w.inner.inner)) (λ (r : Uninterrupted g.row.I.Denot). g.I.Read.remaining r.inner)
+    w.inner.inner))
+    (λ (r : Uninterrupted g.row.I.Denot). g.I.Read.remaining r.inner)
     (writer_contents (λ (w : UntilFailure (Uninterrupted g.row.O.Denot)). g.O.Write.contents w.inner.inner))
-    (λ (w : Uninterrupted g.row.E.Denot). g.E.Write.contents w.inner) c.args.moment job
-    c.run_with_files-ended.result.source c.run_with_files-ended.result.target c.new-input.result
-    c.run_with_files-ended.new.input c.new-output.result c.run_with_files-ended.new.output
-    c.new-messages.result c.run_with_files-ended.new.messages c.new-input.ensures.log c.new-output.ensures.log
-    c.new-messages.ensures.log (c.run_with_files-ended.ensures.input job e)
-    (c.run_with_files-ended.ensures.output job e) c.run_with_files-ended.result.status _
-    (c.run_with_files-ended.ensures.done job e) well
+    (λ (w : Uninterrupted g.row.E.Denot). g.E.Write.contents w.inner)
+    c.args.moment job c.run_with_files-ended.result.source c.run_with_files-ended.result.target
+    c.new-input.result c.run_with_files-ended.new.input c.new-output.result c.run_with_files-ended.new.output
+    c.new-messages.result c.run_with_files-ended.new.messages
+    c.new-input.ensures.log c.new-output.ensures.log c.new-messages.ensures.log
+    (c.run_with_files-ended.ensures.devices job e).input
+    (c.run_with_files-ended.ensures.devices job e).output c.run_with_files-ended.result.status
+    _ (c.run_with_files-ended.ensures.done job e) well
 
 pub returns-clause-front : goal.returns-clause-front
-returns-clause-front g c = λ job e. front_run
-    (λ (r : Uninterrupted g.row.H-File.Denot). g.H.File.Read.remaining r.inner)
+returns-clause-front g c = λ job e.
+    front_run (λ (r : Uninterrupted g.row.H-File.Denot). g.H.File.Read.remaining r.inner)
     (writer_contents (λ (w : UntilFailure (Uninterrupted g.row.H-File.Denot)). g.H.File.Write.contents
-    w.inner.inner)) (λ (r : Uninterrupted g.row.I.Denot). g.I.Read.remaining r.inner)
+    w.inner.inner))
+    (λ (r : Uninterrupted g.row.I.Denot). g.I.Read.remaining r.inner)
     (writer_contents (λ (w : UntilFailure (Uninterrupted g.row.O.Denot)). g.O.Write.contents w.inner.inner))
-    (λ (w : Uninterrupted g.row.E.Denot). g.E.Write.contents w.inner) c.args.moment job
-    c.run_with_files-ended.result.source c.run_with_files-ended.result.target c.new-input.result
-    c.run_with_files-ended.new.input c.new-output.result c.run_with_files-ended.new.output
-    c.new-messages.result c.run_with_files-ended.new.messages c.new-input.ensures.log c.new-output.ensures.log
-    c.new-messages.ensures.log (c.run_with_files-ended.ensures.input job e)
-    (c.run_with_files-ended.ensures.output job e) c.run_with_files-ended.result.status
+    (λ (w : Uninterrupted g.row.E.Denot). g.E.Write.contents w.inner)
+    c.args.moment job c.run_with_files-ended.result.source c.run_with_files-ended.result.target
+    c.new-input.result c.run_with_files-ended.new.input c.new-output.result c.run_with_files-ended.new.output
+    c.new-messages.result c.run_with_files-ended.new.messages
+    c.new-input.ensures.log c.new-output.ensures.log c.new-messages.ensures.log
+    (c.run_with_files-ended.ensures.devices job e).input
+    (c.run_with_files-ended.ensures.devices job e).output c.run_with_files-ended.result.status
     (c.run_with_files-ended.ensures.done job e)

@@ -54,9 +54,9 @@ returns-then-take g c =
 
 pub returns : goal.returns
 returns g c = record {
-  taken = c.take_answered.ensures c.args.engine.now (answered g (goal.at.returns g c).After-take _
-      (ap (λ b. answer_given b (g.E.Engine.answer c.take.new.self)) c.if-take.false
-      ∙ sym c.answer-answer.ensures.value));
+  taken = c.take_other.ensures c.args.engine.now
+      (answered g (goal.at.returns g c).After-take (g.E.Engine.answer c.take.new.self)
+      (ap (λ (b : Bool). answer_given b (g.E.Engine.answer c.take.new.self)) c.if-take.false));
 }
 
 pub returns-in-Err : goal.returns-in-Err

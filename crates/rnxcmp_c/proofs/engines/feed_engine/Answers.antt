@@ -2,12 +2,13 @@ use Rattle.std.proofs.Common.{arith}
 use Rattle.rnxcmp_c.proofs.{ReaderLemmas.going-as, Words.{◌<◌, IfErr, IfOk, take, sym, subst, IsGoing}}
 use Rattle.rnxcmp_c.proofs.Words.{RunBreaks, fed_with, StopsSoon, engine_filter, shows_of, Compacting}
 use Rattle.rnxcmp_c.proofs.Words.{Expanding}
+use Rattle.rnxcmp_c.specs.Handles.{EngineIsReady}
 use Rattle.rnxcmp_c.proofs.engines.feed_engine.Goals as goal
 
 pub returns-in-Compacting-clause-going : goal.returns-in-Compacting-clause-going
 returns-in-Compacting-clause-going c = λ past is. subst (λ f. IfOk c.take_bytes.result
     (λ n. IsGoing f (shows_of (Compacting c.take_bytes.new.engine)) c.take_bytes.new.held
-    (fed_with past (take n c.args.bytes.now)))) (sym c.take_bytes.ensures.same.0)
+    (fed_with past (take n c.args.bytes.now)))) (sym c.take_bytes.ensures.keeps.0.0)
     (c.take_bytes.ensures.fed past (going-as c.in-Compacting.is is)).0
 
 pub returns-in-Expanding-clause-going : goal.returns-in-Expanding-clause-going
@@ -58,5 +59,15 @@ take_bytes-requires-in-Expanding c =
       going = (
         subst EngineIsReady c.in-Expanding.is c.requires.ready,
         (going.0, going-as c.in-Expanding.is going.1, going.2),
+      );
+    }
+
+pub take_bytes-requires : goal.take_bytes-requires
+take_bytes-requires c =
+    let going = c.requires.going in
+    record {
+      going = (
+        subst EngineIsReady c.in-Compacting.is c.requires.ready,
+        (going.0, going-as c.in-Compacting.is going.1, going.2),
       );
     }

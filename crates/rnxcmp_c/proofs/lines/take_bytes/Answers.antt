@@ -18,19 +18,25 @@ pub take_to_line_end-requires : goal.take_to_line_end-requires
 take_to_line_end-requires g c =
     let i = c.bytes.invariant in
     let done = i.0.0 in
-    let past = c.requires.going.0 in
-    let shows = g.E.Engine.shows c.bytes.engine in (
-      fed_with past done,
-      subst (λ f. IsGoing f shows c.bytes.held (fed_with past done)) (sym i.1)
-          (i.0.2 past c.requires.going.1),
-      omega (
-        arith,
-        c.requires.going.2,
-        length-append past.fed done,
-        ap length i.0.1,
-        length-append done c.bytes.left.now,
-      ),
-    )
+    let past = c.requires.going.1.0 in
+    let shows = g.E.Engine.shows c.bytes.engine in
+    record {
+      going = (
+        (i.2, i.3),
+        (
+          fed_with past done,
+          subst (λ f. IsGoing f shows c.bytes.held (fed_with past done)) (sym i.1)
+              (i.0.2 past c.requires.going.1.1),
+          omega (
+            arith,
+            c.requires.going.1.2,
+            length-append past.fed done,
+            ap length i.0.1,
+            length-append done c.bytes.left.now,
+          ),
+        ),
+      );
+    }
 
 pub bytes-preserved : goal.bytes-preserved
 bytes-preserved g c =

@@ -44,7 +44,7 @@ returns-clause-ends g c = λ past is.
     let after = held-last filter shows held past is mid _ within c.in_ok-take_within.ensures.next.0 in
     let then = g.E.Engine.has_ended _ lines in
     let step = subst (λ f. EndStaysWithin c.end_within-2.result f then lines mid new)
-    c.in_ok-take_within.ensures.same.0 (c.end_within-2.ensures.step lines within.moved.kept.is_shown) in (
+    c.in_ok-take_within.ensures.keeps.0.0 (c.end_within-2.ensures.step lines within.moved.kept.is_shown) in (
       on_ok_weaker c.end_within-2.result
           (λ e. (
             subst (g.E.Engine.has_ended _) (sym whole) e.moved.kept.is_shown,

@@ -1,61 +1,63 @@
-use Rattle.std.proofs.Common.{arith, ◌≡◌, ℕ, Bool, List, take, ap, sym, ◌∙◌, not, true, false, refl, subst}
-use Rattle.std.proofs.Common.{inl, inr}
-use Rattle.crx_header.specs.meaning.Satellites.{is_among}
-use Rattle.crx_rinex.proofs.{Rows.{by_names, parts-kept, parts-next}, epoch.Epoch.push.Goals.in-Ok}
-use Rattle.crx_rinex.proofs.epoch.Epoch.push.Goals.{in-Err-push, After-put, In-Ok-true}
-use Rattle.crx_rinex.specs.{Epochs.{is_full_epoch, AreEpochParts}, meaning.Epochs.has_satellite}
+use Rattle.std.proofs.Common.{◌≡◌, ◌≤◌, ◌+◌, ◌++◌, ◌∷◌, [], ℕ, List, length, vec_capacity, arith, rules}
+use Rattle.std.proofs.Common.{sym, ap, ◌∙◌}
+use Rattle.std.proofs.Common.{false, if◌then◌else◌, refl, inl, inr}
+use Rattle.std.specs.List.{list_any}
+use Rattle.std.specs.Str.{bytes_eq}
+use Rattle.std.proofs.lemmas.List.{length_push}
+use Rattle.indexmap.specs.IndexSet.{spare}
+use Rattle.crx_header.specs.meaning.EpochColumns.{satellites_of}
+use Rattle.crx_rinex.specs.meaning.Epochs.{has_satellite}
 use Rattle.crx_rinex.specs.meaning.Observations.{Epoch}
+use Rattle.crx_rinex.specs.Epochs.{AreEpochParts, is_full_epoch}
+use Rattle.crx_rinex.proofs.Rows.{among-names, parts-more}
+use Rattle.crx_rinex.proofs.epoch.Epoch.push.Goals.{After-contains}
 use Rattle.crx_rinex.proofs.epoch.Epoch.push.Goals as goal
 
--- the parts stay those of the epoch, without the row
-kept : (c : After-put) → AreEpochParts c.self.inside.head c.put.new.self c.self.inside.rows.items
-kept c =
-    parts-kept _ _ _ _ _ c.self.invariant (c.len.ensures ∙ c.self.inside.rows.ok.0)
-    (ap is_full_epoch c.self.view_is ∙ c.requires) c.put.ensures.within c.put.ensures.kept c.put.ensures.few
+-- whether the epoch has the satellite
+known : (c : After-contains) → has_satellite c.args.row.name c.args.self.now.rows ≡ c.contains.result
+known c = sym (c.contains.ensures
+    ∙ ap (λ (n : List ℕ). list_any (bytes_eq n) c.self.inside.names.keys) c.name.ensures.value
+    ∙ among-names c.self.inside.names.keys c.self.inside.rows.items c.args.row.name c.self.invariant.0.2
+    ∙ ap (λ (e : Epoch). has_satellite c.args.row.name e.rows) c.self.view_is)
 
--- whether the epoch has the satellite, by what is known of its identifier
-known : (c : After-put) (b : Bool)
-    → is_among (λ (n : List ℕ). n) c.name.result (take c.len.result c.self.inside.names) ≡ b
-    → has_satellite c.args.row.name c.args.self.now.rows ≡ b
-known c b told =
-    by_names c.args.self.now _ _ _ _ _ b c.name.ensures.value (ap (λ (e : Epoch). e.rows) c.self.view_is)
-    (c.len.ensures ∙ c.self.inside.rows.ok.0) c.self.invariant.3 told
+pub returns-then-contains-clause-refused : goal.returns-then-contains-clause-refused
+returns-then-contains-clause-refused c =
+    inl (refl, known (goal.at.returns-then-contains-clause-refused c).After-contains ∙ c.if-contains.true)
 
-new : (c : In-Ok-true)
-    → is_among (λ (n : List ℕ). n) c.name.result (take c.len.result c.self.inside.names) ≡ false
-new c = grind arith
-
-pub invariant_of-self : goal.invariant_of-self
-invariant_of-self c = kept (goal.at.invariant_of-self c).After-put
-
-pub invariant_of-self-in-Err : goal.invariant_of-self-in-Err
-invariant_of-self-in-Err c = kept (goal.at.invariant_of-self-in-Err c).After-put
-
-pub returns-in-Ok-false-clause-refused : goal.returns-in-Ok-false-clause-refused
-returns-in-Ok-false-clause-refused c =
-    inl (
-      refl,
-      known (goal.at.returns-in-Ok-false-clause-refused c).After-put true
-          (c.in-Ok-false.ensures.new ∙ ap not c.in-Ok-false.field-0-test),
-    )
-
-pub returns-in-Err-clause-refused : goal.returns-in-Err-clause-refused
-returns-in-Err-clause-refused c =
-    inr (refl, known (goal.at.returns-in-Err-clause-refused c).After-put false c.in-Err.ensures.err)
+pub returns-then-is_err-clause-refused : goal.returns-then-is_err-clause-refused
+returns-then-is_err-clause-refused c =
+    inr (refl, known (goal.at.returns-then-is_err-clause-refused c).After-contains ∙ c.if-contains.false)
 
 pub invariant_of-self-2 : goal.invariant_of-self-2
 invariant_of-self-2 c =
     let head = c.self.inside.head in
     let names = c.self.inside.names.keys in
     let rows = c.self.inside.rows.items in
-    elim c.match-push.branch [
-      | in-Ok w ↦ subst (λ rs. AreEpochParts head next rs) (sym w.in-Ok.ensures.items)
-          (parts-next head _ next rows _ _ _ c.self.invariant (c.len.ensures ∙ c.self.inside.rows.ok.0)
-          (ap is_full_epoch c.self.view_is ∙ c.requires) c.name.ensures.sound c.name.ensures.value
-          (new at.In-Ok-true) (c.in-Ok-true.ensures.next c.in-Ok-true.field-0-test) c.put.ensures.few)
-      | in-Err-push w ↦ subst (λ rs. AreEpochParts head next rs) (sym w.in-Err-push.ensures.items)
-          (kept at.After-put)
-    ]
+    let row = c.args.row in
+    let new = known (goal.at.invariant_of-self-2 c).After-contains ∙ c.if-contains.false in
+    let same = c.make_room.ensures.names in
+    let absent : list_any (bytes_eq c.name-2.result) c.make_room.new.names.keys ≡ false =
+    (λ j. list_any (bytes_eq (c.name-2.ensures.value j)) (same j))
+    ∙ sym (ap (λ (n : List ℕ). list_any (bytes_eq n) names) c.name.ensures.value)
+    ∙ sym c.contains.ensures ∙ c.if-contains.false in
+    let put : c.insert.new.self.keys ≡ names ++ row.name ∷ [] =
+    (rw c.unwrap.ensures at c.insert.ensures.keys)
+    ∙ ap (λ b. if b then c.make_room.new.names.keys
+    else c.make_room.new.names.keys ++ c.name-2.result ∷ []) absent
+    ∙ (λ j. same j ++ c.name-2.ensures.value j ∷ []) in
+    let pushed : c.push.new.self.items ≡ rows ++ row ∷ [] =
+    (rw c.unwrap-2.ensures at c.push.ensures.items) ∙ ap (λ rs. rs ++ row ∷ []) c.make_room.ensures.rows in
+    let parts : AreEpochParts head c.insert.new.self.keys c.push.new.self.items = rw (put, pushed)
+    (parts-more head names rows row c.self.invariant.0 (ap is_full_epoch c.self.view_is ∙ c.requires)
+    c.name.ensures.sound (ap (λ (e : Epoch). has_satellite row.name e.rows) c.self.view_is ∙ new)) in
+    let room : (satellites_of head.head ≤ vec_capacity c.make_room.new.rows)
+    × (satellites_of head.head ≤ length rows + spare c.make_room.new.names) = search rules in
+    let fewer = c.insert.ensures.spare in
+    let many = ap length pushed in
+    let more = c.push.ensures.capacity in (
+      parts,
+      inr (omega (arith, room.0, more), omega (arith, room.1, fewer, many, length_push rows row)),
+    )
 
 pub returns-clause-new : goal.returns-clause-new
 returns-clause-new c =
