@@ -164,7 +164,7 @@ fn run_from_file(
 }
 
 /// What the arguments of a subcommand ask for: the first refusal that fits, else the run.
-fn judged(alloc: Global, tool: Tool, given: &Arguments<'_>) -> Result<Decision, UsageFault>
+fn decide_for(alloc: Global, tool: Tool, given: &Arguments<'_>) -> Result<Decision, UsageFault>
     ensures { IfSome (plan_in result) (λ plan. plan ≡ judged tool (given_of given.now)) }
 {
     if given.dashes > 1 {
@@ -194,11 +194,11 @@ fn tool_named(name: &str) -> Tool
 }
 
 /// What the arguments ask for where they fit the command line.
-fn matched(alloc: Global, matches: &ArgMatches<'_>) -> Result<Decision, UsageFault>
+fn decide(alloc: Global, matches: &ArgMatches<'_>) -> Result<Decision, UsageFault>
     ensures { IfSome (plan_in result) (λ plan. plan ≡ of_subcommand (subcommand_rows_of matches.now)) }
 {
     match matches.subcommand() {
-        Some((name, found)) => judged(alloc, tool_named(name), &arguments_of(found)),
+        Some((name, found)) => decide_for(alloc, tool_named(name), &arguments_of(found)),
         None => Err(UsageFault::Parse(Word::new(alloc, "no subcommand\n")?)),
     }
 }
@@ -238,7 +238,7 @@ pub fn plan(alloc: Global, words: Vec<String>) -> Result<Decision, UsageFault>
     ensures value { IfSome (plan_in result) (λ plan. plan ≡ plan_of (map string_bytes words.items)) }
 {
     match command(alloc)?.try_get_matches_from(words.as_slice()) {
-        Ok(matches) => matched(alloc, &matches),
+        Ok(matches) => decide(alloc, &matches),
         Err(error) => not_run(alloc, &error),
     }
 }

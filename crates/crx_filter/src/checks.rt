@@ -18,7 +18,7 @@ use crx_runs::run::run;
 use std::alloc::Global;
 
 /// What a check answers: where no fault ended it, the status says whether the file is standard.
-fn judged(outcome: Outcome, not_standard: Option<u64>) -> Outcome
+fn outcome_of_check(outcome: Outcome, not_standard: Option<u64>) -> Outcome
     ensures fault { result.fault ≡ outcome.fault }
     ensures good { outcome.fault ≡ None → result.status ≡ report_status not_standard }
     ensures bad { (at : At) → outcome.fault ≡ Some at → result.status ≡ outcome.status }
@@ -51,7 +51,7 @@ fn check_by<R: Source, W: Sink, M: Sink>(
         (span M.Sink messages.old messages.new) result.status result.fault }
 {
     let outcome = run(alloc, checker, reader, writer, messages);
-    judged(outcome, checker.not_standard())
+    outcome_of_check(outcome, checker.not_standard())
 }
 
 /// Checks a RINEX file: writes its report once the whole input is accepted, and else reports the fault that ended the check. The status

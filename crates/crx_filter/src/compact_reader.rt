@@ -149,7 +149,7 @@ impl CompactReader {
 
     /// Goes to the stage after a fault or after the end of the input, where no epoch is open, and empties the columns where that is
     /// asked for.
-    pub fn settle(&mut self, stage: Stage, is_emptied: bool)
+    pub fn end_with(&mut self, stage: Stage, is_emptied: bool)
         requires settled { is_settled stage ≡ true }
         ensures stage { self.new.stage ≡ stage }
         ensures types { self.new.types ≡ self.old.types }

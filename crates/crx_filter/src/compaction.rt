@@ -185,7 +185,7 @@ impl Direction for Compaction {
         }
     }
 
-    fn settle(&mut self, stage: Stage, is_emptied: bool) {
+    fn end_with(&mut self, stage: Stage, is_emptied: bool) {
         if is_emptied {
             self.encoder.reset();
         }

@@ -86,7 +86,7 @@ pub trait Direction: Drop {
         ensures same { OnErr result (counted self.new ≤ counted self.old) };
 
     /// Goes to a stage after a fault or after the end of the input, and forgets the epochs before where that is asked for.
-    fn settle(&mut self, stage: Stage, is_emptied: bool)
+    fn end_with(&mut self, stage: Stage, is_emptied: bool)
         requires settled { is_settled stage ≡ true }
         requires closed { is_emptied ≡ false → is_open_stage (parts self.old).stage ≡ false }
         requires drained { ready self.old ≡ [] }

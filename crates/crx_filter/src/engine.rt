@@ -83,13 +83,13 @@ impl<D: Direction> Engine<D> {
             fault,
         };
         if !(self.options.skip() & stage.may_skip() & fault.is_skippable()) {
-            self.direction.settle(Stage::Ended(notice), true);
+            self.direction.end_with(Stage::Ended(notice), true);
             self.answer = Err(notice);
             return;
         }
         // A line that is to come again doesn't count yet.
         let again = stage.is_in_epoch() & goes_on;
-        self.direction.settle(Stage::Looking, true);
+        self.direction.end_with(Stage::Looking, true);
         self.number -= u64::from(again);
         self.answer = Ok(Step::Warned { notice, again });
     }
@@ -181,7 +181,7 @@ impl<D: Direction> Engine<D> {
             return Err(at);
         }
         let Some(fault) = stage.fault_at_end() else {
-            self.direction.settle(Stage::Closed, false);
+            self.direction.end_with(Stage::Closed, false);
             return Ok(Step::Quiet);
         };
         let notice = At {
@@ -189,13 +189,13 @@ impl<D: Direction> Engine<D> {
             fault,
         };
         if self.options.skip() & stage.may_skip() & fault.is_skippable() {
-            self.direction.settle(Stage::Closed, true);
+            self.direction.end_with(Stage::Closed, true);
             return Ok(Step::Warned {
                 notice,
                 again: false,
             });
         }
-        self.direction.settle(Stage::Ended(notice), true);
+        self.direction.end_with(Stage::Ended(notice), true);
         Err(notice)
     }
 

@@ -85,8 +85,8 @@ impl Direction for Expansion {
         Ok(is_copied)
     }
 
-    fn settle(&mut self, stage: Stage, is_emptied: bool) {
-        self.reader.settle(stage, is_emptied);
+    fn end_with(&mut self, stage: Stage, is_emptied: bool) {
+        self.reader.end_with(stage, is_emptied);
     }
 
     fn is_drained(&self) -> bool {

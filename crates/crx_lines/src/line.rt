@@ -145,7 +145,7 @@ impl LineReader {
             return self.advance_by_reading(reader);
         };
         let place = self.window.content(len);
-        self.window.pass(len + 1);
+        self.window.skip(len + 1);
         self.passed += len as u64 + 1;
         self.number += 1;
         if place.to - place.from > LINE_LIMIT {
@@ -187,7 +187,7 @@ impl LineReader {
         }
         let place = self.window.content(found.len);
         let held = found.held();
-        self.window.pass(held);
+        self.window.skip(held);
         self.passed += found.passed + held as u64;
         self.number += 1;
         self.phase = phase_after(found.is_ended);

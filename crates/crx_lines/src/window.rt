@@ -101,7 +101,7 @@ impl Window {
     }
 
     /// Lets go of the first bytes.
-    pub(crate) fn pass(&mut self, count: usize)
+    pub(crate) fn skip(&mut self, count: usize)
         requires { count ≤ length (kept self.old) }
         ensures kept { kept self.new ≡ drop count (kept self.old) }
         ensures bytes { self.new.bytes.items ≡ self.old.bytes.items }

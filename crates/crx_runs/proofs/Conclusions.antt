@@ -13,12 +13,12 @@ use Rattle.crx_runs.proofs.RunEndings.{end-stands, reader-stands, start-stands, 
 use Rattle.crx_runs.proofs.{RunEndings.well-front, Salvaged.{AskedOnce, is-open, none-failed, asked-once}}
 use Rattle.crx_runs.{proofs.Salvaged.asked-stopped, specs.Endings.{EndedByFault, EndsAt, Finishes}}
 use Rattle.crx_runs.specs.Endings.{FlushFailed, IsFlushed, IsReported, StopsAt, StoppedAtStart, StoppedByEnd}
-use Rattle.crx_runs.specs.{Endings.WorkEnds, Lawful.IsLawful, Runs.result_by, declared.taking.Halt.Halt}
+use Rattle.crx_runs.specs.{Endings.WorkEnds, Lawful.IsLawful, Runs.result_by, declared.one_line.Halt.Halt}
 use Rattle.crx_runs.specs.meaning.{Filters.{Filter, with_next}, Interruptions.IsFrontPart}
 use Rattle.crx_runs.specs.meaning.{Messages.{error_text, notices_text}, Results.{Course, good_status}}
 use Rattle.crx_runs.specs.meaning.{Results.{result_of_course, status_after, are_some}, Runs.IsResult}
 use Rattle.crx_runs.specs.meaning.{Runs.{NoneFailed, FaultIs, RunsAs}, Spans.{Device, TookAll, Input}}
-use Rattle.crx_runs.specs.declared.taking.Halt.TheVariants as halt
+use Rattle.crx_runs.specs.declared.one_line.Halt.TheVariants as halt
 
 module _ {input : Input} {now : ReaderState} {lines : List InputLine}
     (h : HasRead input.gave input.at_end input.start input.counted now lines) where

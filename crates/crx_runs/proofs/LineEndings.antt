@@ -6,8 +6,8 @@ use Rattle.crx_base.specs.declared.fault.{At.At, Fault.TheVariants.OutOfMemory}
 use Rattle.crx_runs.proofs.DeviceSpans.{Joins, Carries, all-all, all-resumed, none-resumed, part-resumed}
 use Rattle.crx_runs.proofs.DeviceSpans.{carried-all, carried-part, carry, notices-append}
 use Rattle.crx_runs.specs.{Endings.{Adds, IsAllOut, EndsAt, EndsFrom, resumed}, Engines.EndsWith}
-use Rattle.crx_runs.specs.{Taking.{IsDone, IsSettled}, declared.taking.Halt.{Halt, TheVariants.Fault}}
-use Rattle.crx_runs.specs.declared.taking.Halt.TheVariants.{Unwritten, Unreported}
+use Rattle.crx_runs.specs.{Taking.{IsDone, IsSettled}, declared.one_line.Halt.{Halt, TheVariants.Fault}}
+use Rattle.crx_runs.specs.declared.one_line.Halt.TheVariants.{Unwritten, Unreported}
 use Rattle.crx_runs.specs.meaning.{Messages.notices_text, Results.Course, Spans.{Device, TookAll, AreNext}}
 
 none-some : {A : Type 0} (x : A) → ◌≡◌ {A = Option A} None (Some x) → ⊥

@@ -10,8 +10,8 @@ use Rattle.crx_runs.specs.{Endings.{Adds, LineEndsRun, EndEndsRun, WarnsAtEnd}, 
 use Rattle.crx_runs.specs.Engines.{awaited_notices, EngineAnswers, IsDrainedAfter, RunsOutAt, EndsWith}
 use Rattle.crx_runs.specs.{Engines.{Concludes, GoesOn}, Taking.{HasAnswered, IsDone, IsSettled, KeepsLines}}
 use Rattle.crx_runs.specs.{Taking.{LineIsTaken, made_by, step_notices}, declared.engine.Engine.Ghosts}
-use Rattle.crx_runs.specs.declared.{engine.Step.{Step, TheVariants.{Quiet, Ready, Warned}}, taking.Halt.Halt}
-use Rattle.crx_runs.specs.declared.taking.Halt.TheVariants.{Fault, Unwritten, Unreported}
+use Rattle.crx_runs.specs.declared.{engine.Step.{Step, TheVariants.{Quiet, Ready, Warned}}, one_line.Halt.Halt}
+use Rattle.crx_runs.specs.declared.one_line.Halt.TheVariants.{Fault, Unwritten, Unreported}
 use Rattle.crx_runs.specs.meaning.{Filters.{Filter, with_next}, Messages.notices_text, Results.Course}
 use Rattle.crx_runs.specs.meaning.Spans.{Device, TookAll, TookPart, AreNext, IsPart}
 

@@ -12,12 +12,12 @@ use Rattle.crx_runs.proofs.Salvaged.{all-of, taken-read, begins-itself, begins-t
 use Rattle.crx_runs.{proofs.Salvaged.{first-before-turn, first-complete}, specs.Endings.{EndsAt, EndsBy}}
 use Rattle.crx_runs.specs.Endings.{ReaderStopped, StoppedAtStart, StoppedByEnd, WellDone, Finishes}
 use Rattle.crx_runs.specs.{Endings.{IsReported, IsFlushed, FlushFailed, write_failed_at}, Lawful.IsLawful}
-use Rattle.crx_runs.specs.{Lawful.is_of_lines, declared.taking.Halt.Halt, meaning.Filters.{Filter, with_next}}
+use Rattle.crx_runs.specs.{Lawful.is_of_lines, declared.one_line.Halt.Halt, meaning.Filters.{Filter, with_next}}
 use Rattle.crx_runs.specs.meaning.Interruptions.{complete_lines, IsTurn, IsWritten, AreReported}
 use Rattle.crx_runs.specs.meaning.Interruptions.{ReadingStopped, NoMemoryAtLine, FaultFound, Stands}
 use Rattle.crx_runs.specs.meaning.{Interruptions.IsFrontPart, Messages.{error_text, notices_text}}
 use Rattle.crx_runs.specs.meaning.{Results.Course, Spans.{Device, TookAll, AreNext, Input}}
-use Rattle.crx_runs.specs.declared.taking.Halt.TheVariants as halt
+use Rattle.crx_runs.specs.declared.one_line.Halt.TheVariants as halt
 
 -- the one fault of a run
 pub one-fault : (P : At → Type 0) (at other : At) (fault : Option At)

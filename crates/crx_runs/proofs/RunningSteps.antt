@@ -5,7 +5,7 @@ use Rattle.crx_lines.specs.Reading.{ReaderState}
 use Rattle.crx_runs.proofs.{DeviceSpans.Joins, LineEndings.{ends-after, out-more}, StepReading.ReadsLine}
 use Rattle.crx_runs.specs.{Endings.{EndEndsRun, EndsBy, LineEndsRun, StoppedByEnd, WellDone}, Engines.Awaited}
 use Rattle.crx_runs.specs.{Running.{ComesToEnd, GoesOnBy, IsRunning}, Taking.IsDone}
-use Rattle.crx_runs.specs.{declared.taking.Halt.Halt, meaning.{Filters.{Filter, with_next}, Results.are_some}}
+use Rattle.crx_runs.specs.{declared.one_line.Halt.Halt, meaning.{Filters.{Filter, with_next}, Results.are_some}}
 use Rattle.crx_runs.specs.meaning.Spans.{Device, Input}
 
 are-some-append : (xs ys : List At) → are_some (xs ++ ys) ≡ (are_some xs || are_some ys)

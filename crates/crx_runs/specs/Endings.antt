@@ -7,9 +7,9 @@ use Rattle.crx_lines.specs.declared.phase.Phase.TheVariants.{Open, Ended, Stoppe
 use Rattle.crx_lines.specs.meaning.Devices.{with_failed_flush, with_flush}
 use Rattle.crx_lines.specs.Progress.{HasRead}
 use Rattle.crx_lines.specs.Reading.{ReaderState}
-use Rattle.crx_runs.specs.declared.taking.Halt.{Halt}
-use Rattle.crx_runs.specs.declared.taking.Halt.TheVariants.{Unwritten, Unreported}
-use Rattle.crx_runs.specs.declared.taking.Halt.TheVariants as halts
+use Rattle.crx_runs.specs.declared.one_line.Halt.{Halt}
+use Rattle.crx_runs.specs.declared.one_line.Halt.TheVariants.{Unwritten, Unreported}
+use Rattle.crx_runs.specs.declared.one_line.Halt.TheVariants as halts
 use Rattle.crx_runs.specs.Engines.{EndsWith}
 use Rattle.crx_runs.specs.meaning.Filters.{Filter, with_next}
 use Rattle.crx_runs.specs.meaning.Messages.{error_text, notices_text}

@@ -6,7 +6,7 @@ use Rattle.crx_lines.specs.Progress.{HasRead}
 use Rattle.crx_base.specs.declared.fault.At.{At}
 use Rattle.crx_base.specs.declared.limits.TheConstants.{INPUT_LIMIT}
 use Rattle.crx_lines.specs.declared.phase.Phase.TheVariants.{Open, Ended}
-use Rattle.crx_runs.specs.declared.taking.Halt.{Halt}
+use Rattle.crx_runs.specs.declared.one_line.Halt.{Halt}
 use Rattle.crx_runs.specs.meaning.Results.{Course, are_some}
 use Rattle.crx_runs.specs.meaning.Filters.{Filter, with_next}
 use Rattle.crx_runs.specs.meaning.Spans.{Device, Input}

@@ -7,9 +7,9 @@ use Rattle.crx_base.specs.declared.limits.TheConstants.{INPUT_LIMIT}
 use Rattle.crx_runs.specs.declared.engine.Engine.{Ghosts as EngineGhosts}
 use Rattle.crx_runs.specs.declared.engine.Step.{Step}
 use Rattle.crx_runs.specs.declared.engine.Step.TheVariants.{Quiet, Ready, Warned}
-use Rattle.crx_runs.specs.declared.taking.Halt.{Halt}
-use Rattle.crx_runs.specs.declared.taking.Taken.{Taken}
-use Rattle.crx_runs.specs.declared.taking.Taken.TheVariants.{Line, Overlong}
+use Rattle.crx_runs.specs.declared.one_line.Halt.{Halt}
+use Rattle.crx_runs.specs.declared.one_line.Taken.{Taken}
+use Rattle.crx_runs.specs.declared.one_line.Taken.TheVariants.{Line, Overlong}
 use Rattle.crx_runs.specs.meaning.Results.{Course}
 use Rattle.crx_runs.specs.meaning.Filters.{with_next}
 use Rattle.crx_runs.specs.Engines.{Awaited, IsAwaited, IsDrainedAfter, EngineAnswers, taken_after}

@@ -6,8 +6,8 @@ ghost use Rattle.crx_runs.specs.Endings.{Finishes, IsReported};
 ghost use Rattle.crx_runs.specs.meaning.Spans.{span};
 
 use crate::message::{Severity, message};
+use crate::one_line::Halt;
 use crate::outcome::Outcome;
-use crate::taking::Halt;
 use crate::work::Work;
 use crx_base::{At, Fault};
 use crx_lines::{Sink, write_all_counted};

@@ -5,12 +5,12 @@
 pub mod engine;
 mod finish;
 pub mod message;
+pub mod one_line;
 pub mod outcome;
-mod ready;
+mod ready_lines;
 pub mod run;
 pub mod start;
 mod step;
-pub mod taking;
 pub mod until_failure;
 mod work;
 

@@ -10,8 +10,8 @@ ghost use Rattle.crx_runs.specs.meaning.Spans.{reader_span};
 
 use crate::engine::Engine;
 use crate::finish::finish;
+use crate::one_line::Halt;
 use crate::outcome::Outcome;
-use crate::taking::Halt;
 use crate::work::{Work, take_all};
 use crx_base::{At, Fault};
 use crx_lines::{LineReader, Sink, Source};

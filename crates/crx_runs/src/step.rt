@@ -9,7 +9,7 @@ ghost use Rattle.crx_runs.specs.meaning.Spans.{reader_span};
 ghost use Rattle.crx_runs.specs.meaning.Spans.{span};
 
 use crate::engine::Engine;
-use crate::taking::{Halt, take_line, take_overlong};
+use crate::one_line::{Halt, take_line, take_overlong};
 use crx_base::Fault;
 use crx_lines::phase::Phase;
 use crx_lines::{LineReader, Sink, Source};

@@ -7,8 +7,8 @@ ghost use Rattle.crx_runs.specs.meaning.Spans.{reader_span};
 ghost use Rattle.crx_runs.specs.meaning.Spans.{span};
 
 use crate::engine::Engine;
+use crate::one_line::{Halt, take_end};
 use crate::step::step;
-use crate::taking::{Halt, take_end};
 use crx_lines::phase::Phase;
 use crx_lines::{LineReader, Sink, Source};
 

@@ -5,7 +5,7 @@ use Rattle.rnxcmp_c.proofs.Words.{length, length-append, take-append-drop, At, n
 use Rattle.rnxcmp_c.proofs.Words.{Halt, Unwritten, Unreported, AreNext, Device, waiting, Pending, IsKept}
 use Rattle.rnxcmp_c.proofs.Words.{StopsBy}
 use Rattle.crx_lines.specs.meaning.Devices.{SinkTally}
-use Rattle.crx_runs.specs.{Endings.EndsFrom, Taking.IsDone, declared.taking.Halt.TheVariants.Fault}
+use Rattle.crx_runs.specs.{Endings.EndsFrom, Taking.IsDone, declared.one_line.Halt.TheVariants.Fault}
 use Rattle.std.proofs.lemmas.List.{append_cancel_left}
 
 none-not-some : {notices : List At} → ◌≡◌ {A = Option (List At)} None (Some notices) → ⊥

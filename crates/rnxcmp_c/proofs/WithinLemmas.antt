@@ -8,7 +8,7 @@ use Rattle.rnxcmp_c.{proofs.Words.{waiting, Held, Stop, Fault, Limit, take_at}, 
 use Rattle.rnxcmp_c.specs.Holding.{AreCutTo, IsCounted, IsCutBack, StaysWithin, IsMark, IsMarkWithin}
 use Rattle.rnxcmp_c.specs.declared.held.Mark.{Mark}
 use Rattle.std.proofs.{Common.{Result, Ok, Err}, lemmas.Result.{IfErr-at_err, IfOk-at_ok}}
-use Rattle.crx_runs.specs.declared.taking.Halt.TheVariants.{Fault as Faulty}
+use Rattle.crx_runs.specs.declared.one_line.Halt.TheVariants.{Fault as Faulty}
 
 ok-not-err : {T : Type 0} (done : T) (halt : Halt) → ◌≡◌ {A = Result T Halt} (Ok done) (Err halt) → ⊥
 ok-not-err done halt e = cc

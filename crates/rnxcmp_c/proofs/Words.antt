@@ -28,8 +28,8 @@ pub use Rattle.crx_lines.proofs.ProgressLemmas.{ended_lines-come_first}
 pub use Rattle.crx_lines.specs.Reading.{HasNoFeed}
 pub use Rattle.crx_runs.specs.Lawful.{IsLawful}
 pub use Rattle.crx_runs.specs.declared.outcome.Outcome.{Outcome}
-pub use Rattle.crx_runs.specs.declared.taking.Halt.{Halt}
-pub use Rattle.crx_runs.specs.declared.taking.Halt.TheVariants.{Unwritten, Unreported}
+pub use Rattle.crx_runs.specs.declared.one_line.Halt.{Halt}
+pub use Rattle.crx_runs.specs.declared.one_line.Halt.TheVariants.{Unwritten, Unreported}
 pub use Rattle.crx_runs.specs.meaning.Filters.{Filter, with_next}
 pub use Rattle.crx_runs.specs.meaning.Messages.{notices_text, error_text}
 pub use Rattle.crx_runs.specs.meaning.Results.{Begins, Course, FilterResult, are_some, result_of_course}

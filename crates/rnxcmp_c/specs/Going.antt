@@ -14,8 +14,8 @@ use Rattle.crx_runs.specs.meaning.Messages.{notices_text}
 use Rattle.crx_runs.specs.meaning.Results.{Begins, Course, are_some}
 use Rattle.crx_runs.specs.meaning.Spans.{AreNext}
 use Rattle.crx_runs.specs.declared.engine.Engine.{Ghosts}
-use Rattle.crx_runs.specs.declared.taking.Halt.{Halt}
-use Rattle.crx_runs.specs.declared.taking.Halt.TheVariants.{Fault as Faulty, Unwritten, Unreported}
+use Rattle.crx_runs.specs.declared.one_line.Halt.{Halt}
+use Rattle.crx_runs.specs.declared.one_line.Halt.TheVariants.{Fault as Faulty, Unwritten, Unreported}
 use Rattle.rnxcmp_c.specs.Waiting.{waiting}
 use Rattle.rnxcmp_c.specs.declared.pending.Pending.{Pending}
 use Rattle.rnxcmp_c.specs.declared.held.Held.{Held}

@@ -18,7 +18,7 @@ use crx_base::{At, Fault};
 use crx_lines::Line;
 use crx_lines::feed::feed_from;
 use crx_runs::Engine;
-use crx_runs::taking::{Halt, take_end, take_line, take_overlong};
+use crx_runs::one_line::{Halt, take_end, take_line, take_overlong};
 
 /// Whether a CR ends some bytes.
 fn has_return(bytes: &[u8]) -> bool
@@ -41,7 +41,7 @@ fn content_of(bytes: &[u8]) -> &[u8]
 }
 
 /// Gives a line to an engine, by what is kept of its bytes and whether an LF followed them; whether there was a warning.
-fn give_line<E: Engine>(
+fn offer_line<E: Engine>(
     engine: &mut E,
     output: &mut Pending,
     messages: &mut Pending,
@@ -114,7 +114,7 @@ fn take_within<E: Engine>(engine: &mut E, held: &mut Held, is_ended: bool) -> Re
 {
     let mark = held.mark();
     let number = held.number + 1;
-    let taken = give_line(
+    let taken = offer_line(
         engine,
         &mut held.output,
         &mut held.messages,

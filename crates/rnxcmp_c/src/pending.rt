@@ -90,11 +90,11 @@ impl Pending {
         let passed = self.passed;
         place(&self.bytes[passed..], room);
         let count = self.count().min(room.len());
-        self.pass(passed + count);
+        self.keep_from(passed + count);
     }
 
     /// Lets go of the bytes before this place.
-    fn pass(&mut self, passed: usize)
+    fn keep_from(&mut self, passed: usize)
         requires within { passed ≤ length self.old.bytes.items }
         requires bounded { length self.old.bytes.items ≤ passed + WAITING_LIMIT }
         ensures left { waiting self.new ≡ drop passed self.old.bytes.items }

@@ -113,7 +113,7 @@ impl Reader {
     }
 
     /// Ends the run since there are more bytes than an input may have.
-    fn pass_limit(&mut self)
+    fn end_at_limit(&mut self)
         requires { self.old.held.number ≤ INPUT_LIMIT }
         ensures { (task : Task) (past : HandlePast) → ReaderRuns task self.old past
             → length past.fed ≡ INPUT_LIMIT → ReaderHasPassed task self.new past }
@@ -163,7 +163,7 @@ impl Reader {
         }
         let allowed = self.allowed(bytes);
         if is_past(allowed, bytes) {
-            self.pass_limit();
+            self.end_at_limit();
             return (0, self.answer());
         }
         let used = self.feed(allowed);

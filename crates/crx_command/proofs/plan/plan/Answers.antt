@@ -18,7 +18,7 @@ returns-in-Ok c =
     record {
       value = same_plan _ _ _ (ap of_subcommand found ∙ sym (ap (λ kinds. by_kinds kinds
           (of_subcommand (subcommand_of program (map string_bytes c.args.words.items)))) none))
-          c.matched.ensures;
+          c.decide.ensures;
     }
 
 pub returns : goal.returns

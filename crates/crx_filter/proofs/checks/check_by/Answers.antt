@@ -70,16 +70,16 @@ returns g c =
     let writer : Device = span g.W.Sink c.args.writer.now c.run-outcome.new.writer in
     let messages : Device = span g.M.Sink c.args.messages.now c.run-outcome.new.messages in
     let fault = c.run-outcome.result.fault in
-    let status = c.judged.result.status in
+    let status = c.outcome_of_check.result.status in
     let runs : RunsAs checked check_filter input ran.0 writer messages status fault =
-    run-judged writer messages c.run-outcome.result.status status fault c.judged.ensures.bad input ran.0
-    (λ none. c.judged.ensures.good none
+    run-judged writer messages c.run-outcome.result.status status fault c.outcome_of_check.ensures.bad input ran.0
+    (λ none. c.outcome_of_check.ensures.good none
     ∙ ap report_status (c.not_standard.ensures.value ∙ ran.3 none)) ran.2 in
     record {
       runs = (
         ran.0,
         ran.1,
         subst (λ (o : Option At). RunsAs checked check_filter input ran.0 writer messages status o)
-            (sym c.judged.ensures.fault) runs,
+            (sym c.outcome_of_check.ensures.fault) runs,
       );
     }

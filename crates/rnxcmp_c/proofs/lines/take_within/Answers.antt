@@ -5,7 +5,7 @@ use Rattle.rnxcmp_c.proofs.lines.take_within.Goals as goal
 
 pub counted-requires : goal.counted-requires
 counted-requires g c =
-    let taken = c.give_line-taken in
+    let taken = c.offer_line-taken in
     let mid = record c.args.held.now {
       tail = c.clear.new.self;
       number = c.args.held.now.number + 1;
@@ -19,7 +19,7 @@ counted-requires g c =
 
 pub returns-clause-step : goal.returns-clause-step
 returns-clause-step g c = λ lines whole shown kept.
-    let taken = c.give_line-taken in
+    let taken = c.offer_line-taken in
     let mid = record c.args.held.now {
       tail = c.clear.new.self;
       number = c.args.held.now.number + 1;

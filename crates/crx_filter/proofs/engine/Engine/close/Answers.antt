@@ -7,10 +7,10 @@ returns-in_default-fault_at_end-clause-stops g c = rw (← c.self.view_is) (reco
   steps = ends-quietly g.D.Direction.by_line
       c.self.inside.options c.self.inside.number (g.D.Direction.parts c.self.inside.direction) _
       c.stage-stage.result c.stage-stage.ensures.value c.stage-stage.ensures.held c.in_default.not-Ended
-      c.settle.ensures.types c.settle.ensures.stage c.settle.ensures.kept
+      c.end_with.ensures.types c.end_with.ensures.stage c.end_with.ensures.kept
       (sym c.in_default-fault_at_end.ensures.value);
   ended = tt;
-  drained = c.settle.ensures.drained;
+  drained = c.end_with.ensures.drained;
   choices = refl;
 })
 
@@ -19,12 +19,12 @@ returns-then-skip-may_skip-clause-stops g c = rw (← c.self.view_is) (record {
   steps = ends-skipped g.D.Direction.by_line
       c.self.inside.options c.self.inside.number (g.D.Direction.parts c.self.inside.direction) _
       c.stage-stage.result c.stage-stage.ensures.value c.stage-stage.ensures.held c.in_default.not-Ended
-      c.settle-then-skip-may_skip.ensures.types c.in-Some.fault _ _ _ c.skip.ensures.value
+      c.end_with-then-skip-may_skip.ensures.types c.in-Some.fault _ _ _ c.skip.ensures.value
       c.may_skip.ensures.value c.is_skippable.ensures.value (sym c.in-Some.ensures.value)
-      c.settle-then-skip-may_skip.ensures.kept c.settle-then-skip-may_skip.ensures.stage
+      c.end_with-then-skip-may_skip.ensures.kept c.end_with-then-skip-may_skip.ensures.stage
       c.if-skip-may_skip.true;
   ended = tt;
-  drained = c.settle-then-skip-may_skip.ensures.drained;
+  drained = c.end_with-then-skip-may_skip.ensures.drained;
   choices = refl;
 })
 
@@ -33,10 +33,10 @@ returns-clause-stops g c = rw (← c.self.view_is) (record {
   steps = ends-failed g.D.Direction.by_line
       c.self.inside.options c.self.inside.number (g.D.Direction.parts c.self.inside.direction) _
       c.stage-stage.result c.stage-stage.ensures.value c.stage-stage.ensures.held c.in_default.not-Ended
-      c.settle-2.ensures.types c.in-Some.fault _ _ _ c.skip.ensures.value c.may_skip.ensures.value
-      c.is_skippable.ensures.value (sym c.in-Some.ensures.value) c.settle-2.ensures.kept
-      c.settle-2.ensures.stage c.if-skip-may_skip.false;
-  ended = rw c.settle-2.ensures.stage refl;
-  drained = c.settle-2.ensures.drained;
+      c.end_with-2.ensures.types c.in-Some.fault _ _ _ c.skip.ensures.value c.may_skip.ensures.value
+      c.is_skippable.ensures.value (sym c.in-Some.ensures.value) c.end_with-2.ensures.kept
+      c.end_with-2.ensures.stage c.if-skip-may_skip.false;
+  ended = rw c.end_with-2.ensures.stage refl;
+  drained = c.end_with-2.ensures.drained;
   choices = refl;
 })

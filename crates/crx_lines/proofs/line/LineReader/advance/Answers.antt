@@ -20,12 +20,12 @@ returns-then-place-gt-LINE_LIMIT-clause-answers g c =
     (Seeking-start gave held 0 (g.met.R.Source.gave_none c.args.reader.now)) (omega (arith, feed.within))
     feed.first in
     let after : ReaderState = record {
-      rest = kept c.pass.new.self;
+      rest = kept c.skip.new.self;
       passed = old.passed + (len + 1);
       number = old.number + 1;
       phase = old.phase;
     } in
-    let now = c.pass.ensures.kept ∙ ap (λ w. drop (len + 1) (kept w)) c.deref_mut.ensures.value in
+    let now = c.skip.ensures.kept ∙ ap (λ w. drop (len + 1) (kept w)) c.deref_mut.ensures.value in
     let content = slice_range c.deref-2.result.now.bytes.items c.content-place.result.from
     c.content-place.result.to in
     let long : LINE_LIMIT < length content = let over =
@@ -59,13 +59,13 @@ returns-clause-answers g c =
     (Seeking-start gave held 0 (g.met.R.Source.gave_none c.args.reader.now)) (omega (arith, feed.within))
     feed.first in
     let after : ReaderState = record {
-      rest = kept c.pass.new.self;
+      rest = kept c.skip.new.self;
       passed = old.passed + (len + 1);
       number = old.number + 1;
       phase = old.phase;
     } in
-    let now = c.pass.ensures.kept ∙ ap (λ w. drop (len + 1) (kept w)) c.deref_mut.ensures.value in
-    let bytes = c.pass.ensures.bytes ∙ ap (λ w. w.bytes.items)
+    let now = c.skip.ensures.kept ∙ ap (λ w. drop (len + 1) (kept w)) c.deref_mut.ensures.value in
+    let bytes = c.skip.ensures.bytes ∙ ap (λ w. w.bytes.items)
     (c.deref_mut.ensures.value ∙ sym c.deref-2.ensures) in
     let content = ap (λ l. slice_range l place.from place.to) bytes ∙ c.content-place.ensures.value ∙ ap
     (λ w. without_return (take len (kept w))) c.deref-2.ensures in

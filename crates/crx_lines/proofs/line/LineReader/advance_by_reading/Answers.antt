@@ -118,7 +118,7 @@ invariant_of-self-2 g c =
     let bound = passed-within gave start held _ taken found.passed found.len at_end s found.is_ended
     _ c.in-Ok.ensures.end c.held-held.ensures old.passed
     (omega (arith, ap length same, ap length shown, old.limit)) in
-    let now = c.pass.ensures.kept ∙ ap (λ w. drop c.held-held.result (kept w)) c.deref_mut-2.ensures.value in
+    let now = c.skip.ensures.kept ∙ ap (λ w. drop c.held-held.result (kept w)) c.deref_mut-2.ensures.value in
     record {
       counted = omega (arith, byte, old.counted);
       limit = omega (arith, bound, ap length now, length-drop c.held-held.result held);
@@ -139,7 +139,7 @@ returns-then-is_over-clause-answers g c =
     let taken = c.in-Ok.ensures.ok.0 in
     let s = c.in-Ok.ensures.ok.1 in
     let some = c.if-is_nothing.ensures.something refl in
-    let now = c.pass.ensures.kept ∙ ap (λ w. drop c.held-held.result (kept w)) c.deref_mut-2.ensures.value in
+    let now = c.skip.ensures.kept ∙ ap (λ w. drop c.held-held.result (kept w)) c.deref_mut-2.ensures.value in
     let place = c.content-place.result in
     let content = slice_range c.deref-2.result.now.bytes.items place.from place.to in
     let over = ⊎_elim (λ h. inl h) (λ h. inr (omega (arith, h, c.content-place.ensures.len)))
@@ -175,11 +175,11 @@ returns-clause-answers g c =
     let taken = c.in-Ok.ensures.ok.0 in
     let s = c.in-Ok.ensures.ok.1 in
     let some = c.if-is_nothing.ensures.something refl in
-    let now = c.pass.ensures.kept ∙ ap (λ w. drop c.held-held.result (kept w)) c.deref_mut-2.ensures.value in
+    let now = c.skip.ensures.kept ∙ ap (λ w. drop c.held-held.result (kept w)) c.deref_mut-2.ensures.value in
     let place = c.content-place.result in
     let none = (c.if-is_over.ensures.within refl).0 in
     let whole = whole-piece gave start held _ taken found.passed found.len at_end s none in
-    let bytes = c.pass.ensures.bytes ∙ ap (λ w. w.bytes.items)
+    let bytes = c.skip.ensures.bytes ∙ ap (λ w. w.bytes.items)
     (c.deref_mut-2.ensures.value ∙ sym c.deref-2.ensures) in
     let content = ap (λ l. slice_range l place.from place.to) bytes ∙ c.content-place.ensures.value ∙ ap
     (λ w. without_return (take found.len (kept w))) c.deref-2.ensures in

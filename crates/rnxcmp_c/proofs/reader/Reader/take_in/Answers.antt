@@ -26,7 +26,7 @@ returns-then-is_past c = λ task past stands.
     let runs = runs-where_none task old past _ none stands in
     let full = c.is_past.ensures.past c.if-is_past.true in
     fed-by task old _ past _ 0 _ _ none (passed-bytes task old _ past _ _ 0 _ c.allowed-allowed.ensures
-    c.answer.ensures runs full.1 full.0 refl (c.pass_limit.ensures task past runs (omega (
+    c.answer.ensures runs full.1 full.0 refl (c.end_at_limit.ensures task past runs (omega (
       arith,
       runs.counted,
       runs.within,

@@ -2,9 +2,9 @@ use Rattle.std.proofs.Common.{◌≡◌, ℕ, List, [], ◌∷◌, ◌++◌, dro
 use Rattle.crx_base.specs.meaning.Lines.{InputLine, lines_text}
 use Rattle.crx_lines.specs.Devices.{sink_tally_of}
 use Rattle.crx_runs.proofs.{DeviceSpans.{all-all, span-joins}, output.ReadyLines.first-and-rest}
-use Rattle.crx_runs.proofs.{output.ReadyLines.{one-written, part-after}, ready.write_ready.Given.Over}
-use Rattle.crx_runs.{proofs.ready.write_ready.Goals.In-Some-next_line, specs.Engines.Awaited}
-use Rattle.crx_runs.proofs.ready.write_ready.Goals as goal
+use Rattle.crx_runs.proofs.{output.ReadyLines.{one-written, part-after}, ready_lines.write_ready.Given.Over}
+use Rattle.crx_runs.{proofs.ready_lines.write_ready.Goals.In-Some-next_line, specs.Engines.Awaited}
+use Rattle.crx_runs.proofs.ready_lines.write_ready.Goals as goal
 
 -- What was ready at first is what was written, the next line, its LF and the others.
 next-line : (g : Over) (c : In-Some-next_line g) → lines_text (g.E.Engine.ready c.args.engine.now)

@@ -3,9 +3,9 @@ use Rattle.std.proofs.Common.{◌∙◌, arith, append-nil}
 use Rattle.crx_base.specs.meaning.Lines.{lines_text}
 use Rattle.crx_lines.specs.Devices.{sink_tally_of}
 use Rattle.crx_runs.{proofs.LinesTaken.ready-cut, specs.{Engines.IsDrainedAfter, Taking.{IsSettled, made_by}}}
-use Rattle.crx_runs.specs.declared.{engine.Step.Step, taking.Halt.TheVariants.{Unreported, Unwritten}}
+use Rattle.crx_runs.specs.declared.{engine.Step.Step, one_line.Halt.TheVariants.{Unreported, Unwritten}}
 use Rattle.crx_runs.specs.meaning.{Messages.warning_text, Spans.span}
-use Rattle.crx_runs.proofs.taking.settle.Goals as goal
+use Rattle.crx_runs.proofs.one_line.carry_out.Goals as goal
 
 pub returns-in-Ok-write_all_counted-clause-settled : goal.returns-in-Ok-write_all_counted-clause-settled
 unfolding warning_text

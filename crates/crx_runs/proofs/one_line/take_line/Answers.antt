@@ -1,12 +1,12 @@
 use Rattle.std.proofs.Common.{◌≡◌, ℕ, Bool, false, List, Result, Ok, Err, refl, sym, ap, subst, ◌∙◌}
 use Rattle.crx_base.specs.{declared.fault.At.At, meaning.Lines.{InputLine, lines_text}}
 use Rattle.crx_lines.specs.Reading.{line_shown}
-use Rattle.crx_runs.proofs.{LinesTaken.{line-settled, ready-cut}, taking.take_line.Given.Over}
-use Rattle.crx_runs.{proofs.taking.take_line.Goals.After-take, specs.Engines.{Awaited, EngineAnswers}}
+use Rattle.crx_runs.proofs.{LinesTaken.{line-settled, ready-cut}, one_line.take_line.Given.Over}
+use Rattle.crx_runs.{proofs.one_line.take_line.Goals.After-take, specs.Engines.{Awaited, EngineAnswers}}
 use Rattle.crx_runs.specs.{Engines.{IsAwaited, answer_given}, Taking.HasAnswered, declared.engine.Step.Step}
-use Rattle.crx_runs.specs.declared.{engine.Step.TheVariants.{Quiet, Ready}, taking.Halt.TheVariants.Unwritten}
+use Rattle.crx_runs.specs.declared.{engine.Step.TheVariants.{Quiet, Ready}, one_line.Halt.TheVariants.Unwritten}
 use Rattle.crx_runs.specs.meaning.Spans.{span}
-use Rattle.crx_runs.proofs.taking.take_line.Goals as goal
+use Rattle.crx_runs.proofs.one_line.take_line.Goals as goal
 
 -- What the engine answered to the line.
 answered : (g : Over) (c : After-take g) (answer : Result Step At)
@@ -27,11 +27,11 @@ answered g c answer is =
           (e.answers lines notices shown (subst (IsAwaited notices) same awaited));
     })
 
-pub take_other-requires : goal.take_other-requires
-take_other-requires g c = (
+pub take_stored-requires : goal.take_stored-requires
+take_stored-requires g c = (
   c.args.engine.now,
   c.requires.may_take,
-  answered g (goal.at.take_other-requires g c).After-take (g.E.Engine.answer c.take.new.self)
+  answered g (goal.at.take_stored-requires g c).After-take (g.E.Engine.answer c.take.new.self)
       (ap (λ (b : Bool). answer_given b (g.E.Engine.answer c.take.new.self)) c.if-take.false),
 )
 
@@ -54,7 +54,7 @@ returns-then-take g c =
 
 pub returns : goal.returns
 returns g c = record {
-  taken = c.take_other.ensures c.args.engine.now
+  taken = c.take_stored.ensures c.args.engine.now
       (answered g (goal.at.returns g c).After-take (g.E.Engine.answer c.take.new.self)
       (ap (λ (b : Bool). answer_given b (g.E.Engine.answer c.take.new.self)) c.if-take.false));
 }

@@ -1,6 +1,6 @@
 use Rattle.std.proofs.{Common.{ℕ, arith}, lemmas.List.{length-take, length-drop}}
 use Rattle.crx_lines.proofs.WindowLemmas.{passed}
-use Rattle.crx_lines.proofs.window.Window.pass.Goals as goal
+use Rattle.crx_lines.proofs.window.Window.skip.Goals as goal
 
 pub returns-clause-kept : goal.returns-clause-kept
 returns-clause-kept c =

@@ -2,11 +2,11 @@ use Rattle.std.proofs.Common.{◌≡◌, ⊎_elim, ◌+◌, ℕ, true, Ok, Err, 
 use Rattle.std.proofs.lemmas.Result.{err_from_is_err_and}
 use Rattle.crx_runs.proofs.{DeviceSpans.span-joins, LinesTaken.{again-refused, again-settled, line-failed}}
 use Rattle.crx_runs.proofs.LinesTaken.{line-refused, line-settled, Stays, then_of}
-use Rattle.crx_runs.proofs.taking.take_answered.{Given.Over, Goals.{After-settle-then-again, In_ok-warned}}
-use Rattle.crx_runs.{proofs.taking.take_answered.Goals.Then-again, specs.Taking.{HasAnswered, IsSettled}}
+use Rattle.crx_runs.proofs.one_line.take_answered.{Given.Over, Goals.{After-carry_out-then-again, In_ok-warned}}
+use Rattle.crx_runs.{proofs.one_line.take_answered.Goals.Then-again, specs.Taking.{HasAnswered, IsSettled}}
 use Rattle.crx_runs.specs.{Taking.{IsTouchedBy, LineIsTaken, TakenIs, made_by}, declared.engine.Step.Step}
 use Rattle.crx_runs.specs.{declared.engine.Step.TheVariants.Warned, meaning.Spans.span}
-use Rattle.crx_runs.proofs.taking.take_answered.Goals as goal
+use Rattle.crx_runs.proofs.one_line.take_answered.Goals as goal
 
 pub returns-in_err-step : goal.returns-in_err-step
 returns-in_err-step g c = λ before a.
@@ -18,21 +18,21 @@ pub returns-in_err-warned : goal.returns-in_err-warned
 returns-in_err-warned g c = λ before a.
     let p = err_from_is_err_and c.from_residual-in_err-warned.result c.from_residual-in_err-warned.ensures.1
     in
-    rw (p.1, p.2) (line-failed _ _ _ _ _ _ (rw (← c.in_ok-step.was) a) c.settle.ensures.kept
+    rw (p.1, p.2) (line-failed _ _ _ _ _ _ (rw (← c.in_ok-step.was) a) c.carry_out.ensures.kept
     c.in_err-warned.ensures.settled)
 
-pub give-requires : goal.give-requires
-give-requires g c =
-    let at = (goal.at.give-requires g c).Then-again in
+pub offer-requires : goal.offer-requires
+offer-requires g c =
+    let at = (goal.at.offer-requires g c).Then-again in
     let may = c.requires.1 in
     let is : at.in_ok-step.step ≡ Warned at.in-Warned.notice true =
     at.in-Warned.is ∙ ap (Warned at.in-Warned.notice) at.if-again.true in
     let a : HasAnswered g.E.Engine c.requires.0 c.args.engine.now (TakenIs c.args.taken)
     (Ok (Warned at.in-Warned.notice true)) = rw (← is, ← c.in_ok-step.was) c.requires.2 in
-    let touched : c.settle.new.engine ≡ c.args.engine.now = rw is at c.settle.ensures.touched in
+    let touched : c.carry_out.new.engine ≡ c.args.engine.now = rw is at c.carry_out.ensures.touched in
     record {
       drained = c.in_ok-warned.ensures.drained;
-      running = c.settle.ensures.kept.running a.running;
+      running = c.carry_out.ensures.kept.running a.running;
       next = may.next ∙ ap (λ n. n + 1) (sym (ap g.E.Engine.taken touched ∙ a.count));
       within = may.within;
     }
@@ -43,42 +43,42 @@ returns-in_err-second-in-Warned g c = λ before a.
     let p = err_from_is_err_and c.from_residual-in_err-second-in-Warned.result
     c.from_residual-in_err-second-in-Warned.ensures.1 in
     rw (p.1, p.2) (again-refused _ (at.in-Warned.is ∙ ap (Warned at.in-Warned.notice) at.if-again.true)
-    (rw (← at.in_ok-step.was) a) c.settle.ensures.kept (span-joins g.W.Sink g.met.W.Sink.took_both)
+    (rw (← at.in_ok-step.was) a) c.carry_out.ensures.kept (span-joins g.W.Sink g.met.W.Sink.took_both)
     (span-joins g.M.Sink g.met.M.Sink.took_both) _ c.in_ok-warned.ensures.settled _ _
-    (rw (← c.in_err-second-in-Warned.was) c.give.ensures) (g.met.W.Sink.took_none _, refl)
+    (rw (← c.in_err-second-in-Warned.was) c.offer.ensures) (g.met.W.Sink.took_none _, refl)
     (g.met.M.Sink.took_none _, refl))
 
 -- A line that comes a second time.
-twice : (g : Over) (c : After-settle-then-again g) (before : g.row.E.Denot)
+twice : (g : Over) (c : After-carry_out-then-again g) (before : g.row.E.Denot)
     → HasAnswered g.E.Engine before c.args.engine.now (TakenIs c.args.taken) c.args.answer
-    → LineIsTaken g.E.Engine before c.settle-then-again.new.engine (TakenIs c.args.taken)
-    (span g.W.Sink c.args.writer.now c.settle-then-again.new.writer)
-    (span g.M.Sink c.args.messages.now c.settle-then-again.new.messages)
-    (then_of c.in_ok-warned.warned c.settle-then-again.result)
+    → LineIsTaken g.E.Engine before c.carry_out-then-again.new.engine (TakenIs c.args.taken)
+    (span g.W.Sink c.args.writer.now c.carry_out-then-again.new.writer)
+    (span g.M.Sink c.args.messages.now c.carry_out-then-again.new.messages)
+    (then_of c.in_ok-warned.warned c.carry_out-then-again.result)
 twice g c before a = again-settled _ (c.in-Warned.is ∙ ap (Warned c.in-Warned.notice) c.if-again.true)
-    (rw (← c.in_ok-step.was) a) c.settle.ensures.kept (span-joins g.W.Sink g.met.W.Sink.took_both)
+    (rw (← c.in_ok-step.was) a) c.carry_out.ensures.kept (span-joins g.W.Sink g.met.W.Sink.took_both)
     (span-joins g.M.Sink g.met.M.Sink.took_both) _ c.in_ok-warned.ensures.settled _ _ _ _
-    (rw (← c.in_ok-second-in-Warned.was) c.give.ensures) c.settle-then-again.ensures.kept
-    c.settle-then-again.ensures.drained c.settle-then-again.ensures.settled
+    (rw (← c.in_ok-second-in-Warned.was) c.offer.ensures) c.carry_out-then-again.ensures.kept
+    c.carry_out-then-again.ensures.drained c.carry_out-then-again.ensures.settled
 
-pub returns-in_err-settle-in-Warned : goal.returns-in_err-settle-in-Warned
-returns-in_err-settle-in-Warned g c = λ before a.
-    let made = c.from_residual-in_err-settle-in-Warned in
+pub returns-in_err-carry_out-in-Warned : goal.returns-in_err-carry_out-in-Warned
+returns-in_err-carry_out-in-Warned g c = λ before a.
+    let made = c.from_residual-in_err-carry_out-in-Warned in
     let p = err_from_is_err_and made.result made.ensures.1 in
-    rw (p.1, p.2) (rw c.in_err-settle-in-Warned.was at
-    (twice g (goal.at.returns-in_err-settle-in-Warned g c).After-settle-then-again before a))
+    rw (p.1, p.2) (rw c.in_err-carry_out-in-Warned.was at
+    (twice g (goal.at.returns-in_err-carry_out-in-Warned g c).After-carry_out-then-again before a))
 
-pub returns-in_ok-settle-in-Warned : goal.returns-in_ok-settle-in-Warned
-returns-in_ok-settle-in-Warned g c = λ before a. rw c.in_ok-settle-in-Warned.was at
-    (twice g (goal.at.returns-in_ok-settle-in-Warned g c).After-settle-then-again before a)
+pub returns-in_ok-carry_out-in-Warned : goal.returns-in_ok-carry_out-in-Warned
+returns-in_ok-carry_out-in-Warned g c = λ before a. rw c.in_ok-carry_out-in-Warned.was at
+    (twice g (goal.at.returns-in_ok-carry_out-in-Warned g c).After-carry_out-then-again before a)
 
 -- A line that doesn't come a second time.
 once : (g : Over) (c : In_ok-warned g) → Stays c.in_ok-step.step → (before : g.row.E.Denot)
     → HasAnswered g.E.Engine before c.args.engine.now (TakenIs c.args.taken) c.args.answer
-    → LineIsTaken g.E.Engine before c.settle.new.engine (TakenIs c.args.taken)
-    (span g.W.Sink c.args.writer.now c.settle.new.writer)
-    (span g.M.Sink c.args.messages.now c.settle.new.messages) (Ok c.in_ok-warned.warned)
-once g c stays before a = line-settled _ _ _ _ _ _ (rw (← c.in_ok-step.was) a) stays c.settle.ensures.kept
+    → LineIsTaken g.E.Engine before c.carry_out.new.engine (TakenIs c.args.taken)
+    (span g.W.Sink c.args.writer.now c.carry_out.new.writer)
+    (span g.M.Sink c.args.messages.now c.carry_out.new.messages) (Ok c.in_ok-warned.warned)
+once g c stays before a = line-settled _ _ _ _ _ _ (rw (← c.in_ok-step.was) a) stays c.carry_out.ensures.kept
     c.in_ok-warned.ensures.drained c.in_ok-warned.ensures.settled
 
 pub returns-in-Quiet : goal.returns-in-Quiet

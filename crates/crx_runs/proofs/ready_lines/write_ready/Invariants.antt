@@ -1,7 +1,7 @@
 use Rattle.std.proofs.Common.{◌≡◌, ℕ, List, ◌++◌, length}
 use Rattle.crx_base.specs.meaning.Lines.{lines_text}
 use Rattle.crx_runs.specs.{Taking.KeepsLines, meaning.Spans.{TookAll, span}}
-use Rattle.crx_runs.proofs.ready.write_ready.Given as goal
+use Rattle.crx_runs.proofs.ready_lines.write_ready.Given as goal
 
 abbrev pub invariant-loop-line : goal.invariant-loop-line
 invariant-loop-line g l =

@@ -1,8 +1,8 @@
 use Rattle.std.proofs.Common.{true, ◌≡◌}
 use Rattle.crx_base.specs.meaning.Lines.{InputLine, is_long}
-use Rattle.crx_runs.proofs.taking.take_overlong.{Given.Over, Goals.After-overlong-answer}
+use Rattle.crx_runs.proofs.one_line.take_overlong.{Given.Over, Goals.After-overlong-answer}
 use Rattle.crx_runs.specs.Taking.{HasAnswered}
-use Rattle.crx_runs.proofs.taking.take_overlong.Goals as goal
+use Rattle.crx_runs.proofs.one_line.take_overlong.Goals as goal
 
 -- What the engine answered to the line.
 answered : (g : Over) (c : After-overlong-answer g)

@@ -2,7 +2,7 @@ use Rattle.std.proofs.Common.{◌≡◌, subst, sym}
 use Rattle.crx_base.specs.meaning.Lines.{InputLine}
 use Rattle.crx_lines.specs.Reading.{line_shown}
 use Rattle.crx_runs.specs.Taking.{HasAnswered}
-use Rattle.crx_runs.proofs.taking.take_other.Goals as goal
+use Rattle.crx_runs.proofs.one_line.take_stored.Goals as goal
 
 pub take_answered-requires : goal.take_answered-requires
 take_answered-requires g c = (

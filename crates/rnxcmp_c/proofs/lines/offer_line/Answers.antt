@@ -1,10 +1,10 @@
 use Rattle.rnxcmp_c.proofs.{Cut.{cut-stops, kept-where_done}, PieceLemmas.long-where_long}
 use Rattle.rnxcmp_c.proofs.{PieceLemmas.whole-where_not_long, Words.{◌≡◌, length, ap, refl, subst, ◌∙◌, ◌<◌}}
 use Rattle.rnxcmp_c.proofs.Words.{◌≤◌, rules, IfErr-weaker, IfOk-weaker, InputLine, LINE_LIMIT, piece_line}
-use Rattle.rnxcmp_c.{proofs.lines.give_line.Goals.{then-is_ended, else-is_ended}, specs.Going.LineIsGiven}
+use Rattle.rnxcmp_c.{proofs.lines.offer_line.Goals.{then-is_ended, else-is_ended}, specs.Going.LineIsGiven}
 use Rattle.std.proofs.lemmas.Bool.{lt-ltb}
 use Rattle.crx_lines.specs.Reading.{line_shown}
-use Rattle.rnxcmp_c.proofs.lines.give_line.Goals as goal
+use Rattle.rnxcmp_c.proofs.lines.offer_line.Goals as goal
 
 pub returns-then-content-gt-LINE_LIMIT-clause-step : goal.returns-then-content-gt-LINE_LIMIT-clause-step
 returns-then-content-gt-LINE_LIMIT-clause-step g c = λ lines whole shown kept.

@@ -7,13 +7,13 @@ ghost use Rattle.crx_base.specs.declared.fault.At.{At};
 ghost use Rattle.crx_base.specs.declared.limits.TheConstants.{INPUT_LIMIT};
 ghost use Rattle.crx_runs.specs.Endings.{EndEndsRun};
 ghost use Rattle.crx_runs.specs.Engines.{IsDrainedAfter};
-ghost use Rattle.crx_runs.specs.declared.taking.Halt.TheVariants as halts;
+ghost use Rattle.crx_runs.specs.declared.one_line.Halt.TheVariants as halts;
 ghost use Rattle.crx_runs.specs.Taking.{HasAnswered, IsDone, IsSettled, IsTouchedBy, KeepsLines, LineIsTaken, MayTake, TakenIs, made_by, number_taken};
 ghost use Rattle.crx_runs.specs.meaning.Spans.{span};
 
 use crate::engine::{Engine, Step, answer_given};
 use crate::message::{Severity, message};
-use crate::ready::write_ready;
+use crate::ready_lines::write_ready;
 use crx_base::At;
 use crx_lines::{Line, Sink, write_all_counted};
 
@@ -46,7 +46,7 @@ pub(crate) enum Taken<'a> {
 }
 
 /// Gives a line to an engine.
-fn give<E: Engine>(engine: &mut E, taken: Taken<'_>) -> Result<Step, At>
+fn offer<E: Engine>(engine: &mut E, taken: Taken<'_>) -> Result<Step, At>
     requires { MayTake E.Engine engine.old (number_taken taken) }
     ensures { HasAnswered E.Engine engine.old engine.new (TakenIs taken.entry) result }
 {
@@ -61,7 +61,7 @@ fn give<E: Engine>(engine: &mut E, taken: Taken<'_>) -> Result<Step, At>
 
 /// Writes what a step made ready, or reports its warning; whether it was a warning.
 #[inline(never)]
-fn settle<E: Engine, W: Sink, M: Sink>(
+fn carry_out<E: Engine, W: Sink, M: Sink>(
     engine: &mut E,
     writer: &mut W,
     messages: &mut M,
@@ -105,13 +105,13 @@ fn take_answered<E: Engine, W: Sink, M: Sink>(
         (span W.Sink writer.old writer.new) (span M.Sink messages.old messages.new) result }
 {
     let step = answer?;
-    let warned = settle(engine, writer, messages, step)?;
+    let warned = carry_out(engine, writer, messages, step)?;
     match step {
         Step::Quiet | Step::Ready => Ok(warned),
         Step::Warned { again, .. } => {
             if again {
-                let second = give(engine, taken)?;
-                settle(engine, writer, messages, second)?;
+                let second = offer(engine, taken)?;
+                carry_out(engine, writer, messages, second)?;
             }
             Ok(warned)
         }
@@ -142,13 +142,13 @@ pub fn take_line<E: Engine, W: Sink, M: Sink>(
             Err(_) => Err(Halt::Unwritten),
         };
     }
-    take_other(engine, writer, messages, line)
+    take_stored(engine, writer, messages, line)
 }
 
 /// Does what an engine answered to a line after which more is to be done than to write what is ready. In [`take_line`] the places for the
 /// answer and the line would be cleared for each line.
 #[inline(never)]
-fn take_other<E: Engine, W: Sink, M: Sink>(
+fn take_stored<E: Engine, W: Sink, M: Sink>(
     engine: &mut E,
     writer: &mut W,
     messages: &mut M,
@@ -199,5 +199,5 @@ pub fn take_end<E: Engine, W: Sink, M: Sink>(
         (span W.Sink writer.old writer.new) (span M.Sink messages.old messages.new)) }
 {
     let step = engine.end()?;
-    settle(engine, writer, messages, step)
+    carry_out(engine, writer, messages, step)
 }
