@@ -237,16 +237,17 @@ impl Columns {
     }
 
     /// Takes the memory of printed lines back, once none of them is pending, for those of the next epoch: so one block of memory serves all
-    /// epochs. It is asked for between two epochs.
+    /// epochs. While an epoch is open nothing changes.
     pub fn take_room(&mut self, lines: &mut ExpandedLines)
-        requires idle { is_idle self.old.state ≡ true }
         requires drained { lines.old ≡ [] }
         ensures drained { lines.new ≡ [] }
         ensures state { self.new.state ≡ self.old.state }
         // There is never less room than before.
         ensures kept { KeepsRoom self.old.room self.new.room }
     {
-        lines.give_room(&mut self.block.lines);
+        if self.is_idle() {
+            lines.give_room(&mut self.block.lines);
+        }
     }
 
     /// Takes the next line of the epoch that was begun: the clock line, then a line for each satellite. With the last one it

@@ -46,9 +46,8 @@ impl CompactReader {
         }
     }
 
-    /// Takes the memory of lines that have been written back, where no epoch is open: see [`Columns::take_room`].
+    /// Takes the memory of lines that have been written back: see [`Columns::take_room`].
     pub(crate) fn take_room(&mut self, lines: &mut ExpandedLines)
-        requires between { self.old.stage ≢ Open }
         requires drained { lines.old ≡ [] }
         ensures drained { lines.new ≡ [] }
         ensures stage { self.new.stage ≡ self.old.stage }
