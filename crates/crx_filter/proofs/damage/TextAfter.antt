@@ -34,7 +34,12 @@ module _ (every : Option ℕ) where
 
   -- ---- they are read as their units
 
-  pub reads-on : (skip : Bool) (number : ℕ) (later before : List (Item Epoch)) → AreInPlace (later ++ before) → reading_from compact_place skip (read_back every before) number (map Content (lines_on every later before)) ≡ record { items = read_back every (later ++ before); stop = AtLines (number + length (lines_on every later before)) [] }
+  pub reads-on : (skip : Bool) (number : ℕ) (later before : List (Item Epoch))
+      → AreInPlace (later ++ before) → reading_from compact_place skip
+      (read_back every before) number (map Content (lines_on every later before)) ≡ record {
+        items = read_back every (later ++ before);
+        stop = AtLines (number + length (lines_on every later before)) [];
+      }
   reads-on skip number [] before h = within-wanted compact_place skip 0 _ number []
       (compact-forward.wants (read_back every before)) ∙ at-line _ number _ (omega arith)
   reads-on skip number (Warned at ∷ later) before h = reads-on skip number later before h.1

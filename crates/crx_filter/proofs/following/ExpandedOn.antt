@@ -62,7 +62,13 @@ module _ (choices : Choices) where
       (made_in expansion seen.phase seen.types seen.kept line) refl)) once
 
   -- a fault in the first two lines is never skipped
-  ends : (count : ℕ) (line : ReadLine) (fault : Fault) → fed_once (step_of_made expansion (seen_in choices count (InFirstLines count) [] None) line (Fails fault)) ≡ record { warned = []; failed = Some (record { line = count + 1; fault = fault }); handed_out = []; next = seen_in choices (count + 1) (Ended (record { line = count + 1; fault = fault })) [] None }
+  ends : (count : ℕ) (line : ReadLine) (fault : Fault) → fed_once (step_of_made expansion
+      (seen_in choices count (InFirstLines count) [] None) line (Fails fault)) ≡ record {
+        warned = [];
+        failed = Some (record { line = count + 1; fault = fault });
+        handed_out = [];
+        next = seen_in choices (count + 1) (Ended (record { line = count + 1; fault = fault })) [] None;
+      }
   ends count line fault = cc (failed-ends expansion (seen_in choices count (InFirstLines count) [] None)
       line fault (never-before choices.skip (is_skippable fault)))
 

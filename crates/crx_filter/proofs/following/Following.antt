@@ -138,10 +138,21 @@ module _ {U O K : Type 0} (direction : Direction U O K) where
       (seen_next direction seen line) (seen_next direction (seen_next direction seen line).next line)
   fed-twice seen line e = rw (e, fed) refl
 
-  pub failed-ends : (seen : Seen O K) (line : ReadLine) (fault : Fault) → is_skipped_in seen fault ≡ false → failed_step direction seen line fault ≡ record { answer = Failed (record { line = seen.number + 1; fault = fault }); handed_out = []; next = with_phase direction seen (Ended (record { line = seen.number + 1; fault = fault })) }
+  pub failed-ends : (seen : Seen O K) (line : ReadLine) (fault : Fault)
+      → is_skipped_in seen fault ≡ false → failed_step direction seen line fault ≡ record {
+        answer = Failed (record { line = seen.number + 1; fault = fault });
+        handed_out = [];
+        next = with_phase direction seen (Ended (record { line = seen.number + 1; fault = fault }));
+      }
   failed-ends seen line fault e = rw e refl
 
-  pub failed-skipped : (seen : Seen O K) (line : ReadLine) (fault : Fault) → is_skipped_in seen fault ≡ true → failed_step direction seen line fault ≡ record { answer = Notice (record { line = seen.number + 1; fault = fault }) (is_in_epoch seen.phase && can_go_on line); handed_out = []; next = after_warning direction seen (is_in_epoch seen.phase && can_go_on line) }
+  pub failed-skipped : (seen : Seen O K) (line : ReadLine) (fault : Fault)
+      → is_skipped_in seen fault ≡ true → failed_step direction seen line fault ≡ record {
+        answer = Notice
+            (record { line = seen.number + 1; fault = fault }) (is_in_epoch seen.phase && can_go_on line);
+        handed_out = [];
+        next = after_warning direction seen (is_in_epoch seen.phase && can_go_on line);
+      }
   failed-skipped seen line fault e = rw e refl
 
 -- ---- one line of a reading
