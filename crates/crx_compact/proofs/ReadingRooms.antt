@@ -1,6 +1,6 @@
 -- The room that an epoch's lines need, by its satellites and by its rows.
 use Rattle.std.specs.Prelude.{◌≡◌, ◌≤◌, ◌<◌, ◌+◌, refl, ℕ, List}
-use Rattle.std.specs.Prelude.{[], ◌∷◌, map, sum, length, Option, Some, None}
+use Rattle.std.specs.Prelude.{[], ◌∷◌, map, sum, length, Option, Some}
 use Rattle.std.specs.Prelude.{Result, Ok, Err}
 use Rattle.std.proofs.Common.{sym, ◌∙◌, ap, subst, arith, true≢false}
 use Rattle.std.proofs.lemmas.List.Elements.{All-nil, All-cons, All-head, All-tail}
@@ -14,15 +14,14 @@ use Rattle.crx_compact.specs.HeldRows.{past_of_tail}
 use Rattle.crx_compact.specs.meaning.CompactPlaces.{satellites_of_line}
 use Rattle.crx_compact.specs.meaning.EpochText.{Satellite}
 use Rattle.crx_compact.specs.meaning.Sequences.{and_then}
-use Rattle.crx_compact.specs.OpenEpochs.{ColumnsState, OpenRawEpoch, RawStep, Going, Whole, Faulty}
+use Rattle.crx_compact.specs.OpenEpochs.{OpenRawEpoch, RawStep, Going, Whole, Faulty}
 use Rattle.crx_compact.specs.OpenEpochs.{before_clock, first_step}
 use Rattle.crx_compact.specs.OpenEpochs.{is_faulty, opened_raw, opening, rows_before, tail_for_line}
 use Rattle.crx_compact.specs.OpenEpochs.{tail_opened}
 use Rattle.crx_compact.specs.OpenLines.{reading_room}
-use Rattle.crx_compact.specs.Placing.{HasRoom, HaveTypesRoom, KeepsRooms, OpenHistory, padded}
+use Rattle.crx_compact.specs.Placing.{HasRoom, HaveTypesRoom, OpenHistory, padded}
 use Rattle.crx_compact.specs.PrintedBlocks.{printed_room}
-use Rattle.crx_compact.specs.ReadingRooms.{HasRoomFor, HaveCellsRoom, HeldColumns, KeepsHistoryRoom}
-use Rattle.crx_compact.specs.ReadingRooms.{KeepsRoom}
+use Rattle.crx_compact.specs.ReadingRooms.{HasRoomFor, HaveCellsRoom}
 use Rattle.crx_compact.specs.ReadingRooms.{ReadingRoom}
 use Rattle.crx_compact.specs.Steps.{cell_of_tail, tail_named}
 use Rattle.crx_compact.specs.Tails.{RowTail, Tail}

@@ -3,7 +3,6 @@
 
 ghost use Rattle.std.specs.Prelude.{◌≡◌, ◌≤◌, ◌<◌, ◌++◌, ◌∷◌, List, if◌then◌else◌, [], Some, None, true, false, length, IfOk, IfErr, OnOk, OnErr, Err, IsOk};
 ghost use Rattle.crx_rinex.specs.Epochs.{is_full_epoch};
-ghost use Rattle.crx_rinex.specs.meaning.Epochs.{IsSoundEpoch};
 ghost use Rattle.std.specs.Prelude.{◌⊎◌};
 ghost use Rattle.crx_base.specs.meaning.Seen.{Content, ReadLine};
 ghost use Rattle.crx_header.specs.meaning.ObservationTypes.{Count};

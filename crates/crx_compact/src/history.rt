@@ -1,32 +1,29 @@
 //! The history, which each epoch's lines are made and read after, and which they change in place: Hatanaka's Compact RINEX 3.0.
 
-ghost use Rattle.std.specs.Prelude.{List, ℕ, sum, flat_map, ◌≡◌, ◌≤◌, ◌<◌, ◌+◌, ◌*◌, ◌++◌, ◌∷◌, ◌⊎◌, if◌then◌else◌, [], true, false, None, Some, Ok, Err, All, length, take, map, slice_get, is_some, not, OnOk, OnErr, IfOk, IfErr, IsOk, vec_capacity};
+ghost use Rattle.std.specs.Prelude.{List, ℕ, sum, flat_map, ◌≡◌, ◌≤◌, ◌<◌, ◌+◌, ◌*◌, ◌++◌, ◌∷◌, ◌⊎◌, if◌then◌else◌, [], true, false, None, Some, Ok, Err, All, length, take, map, slice_get, is_some, OnOk, OnErr, IfOk, IfErr, IsOk, vec_capacity};
 ghost use Rattle.std.specs.Result.{is_ok};
 ghost use Rattle.crx_text.specs.meaning.Columns.{columns, without_end_blanks};
-ghost use Rattle.crx_text.specs.meaning.Texts.{text_difference};
-ghost use Rattle.crx_text.specs.Texts.{patched};
 ghost use Rattle.crx_base.specs.declared.limits.TheConstants.{HEAD_WIDTH, LINE_LIMIT, NAME_WIDTH, SATELLITES_LIMIT};
 ghost use Rattle.crx_header.specs.meaning.EpochColumns.{begins_epoch, epoch_count};
-ghost use Rattle.crx_rinex.specs.Epochs.{is_full_epoch, with_row};
+ghost use Rattle.crx_rinex.specs.Epochs.{is_full_epoch};
 ghost use Rattle.crx_rinex.specs.meaning.Epochs.{IsSoundEpoch, has_satellite};
 ghost use Rattle.crx_rinex.specs.meaning.Observations.{Row};
 ghost use Rattle.crx_header.specs.meaning.Satellites.{types_of_satellite};
-ghost use Rattle.crx_rinex.specs.meaning.Printing.{printed_head, printed_row};
+ghost use Rattle.crx_rinex.specs.meaning.Printing.{printed_head};
 ghost use Rattle.crx_compact.specs.ArcSteps.{shown_value};
 ghost use Rattle.crx_compact.specs.EncodingRooms.{HasRoomForEpoch, HasRowRoom, HasTakenRow, HasTakenText, KeepsEncodingRoom, encoding_room};
 ghost use Rattle.crx_compact.specs.EpochLinesRead.{AreSatellitesRead, AreSatellitesRefused, IsEpochLineRead, IsEpochLineRefused, history_cleared};
-ghost use Rattle.crx_compact.specs.HeldRows.{IsAwaitedSatellite, past_of_tail, row_held};
+ghost use Rattle.crx_compact.specs.HeldRows.{past_of_tail, row_held};
 ghost use Rattle.crx_compact.specs.LineLists.{HasTakenLine, KeepsLinesRoom};
-ghost use Rattle.crx_compact.specs.meaning.CompactPlaces.{clock_line_read, satellites_of_line, satellites_of_text};
-ghost use Rattle.crx_compact.specs.meaning.EpochText.{Satellite, names_in, satellites_named};
-ghost use Rattle.crx_compact.specs.Placing.{HasAllowedCount, HasAskedRoom, HasSameTexts, HaveRoom, IsAnnounced, IsBetween, IsPlaced, IsRowRead, KeepsRooms, padded, padded_among, room_of_types, row_of_parts, row_room, satellite_of, tail_of_history};
+ghost use Rattle.crx_compact.specs.meaning.CompactPlaces.{clock_line_read, satellites_of_text};
+ghost use Rattle.crx_compact.specs.meaning.EpochText.{names_in, satellites_named};
+ghost use Rattle.crx_compact.specs.Placing.{HasAllowedCount, HasAskedRoom, HasSameTexts, HaveRoom, IsAnnounced, IsBetween, IsPlaced, IsRowRead, KeepsRooms, padded, row_of_parts, row_room, satellite_of, tail_of_history};
 ghost use Rattle.crx_compact.specs.Written.{AreRowsWritten, IsEpochWritten, IsRowWritten, epoch_by_rows};
 ghost use Rattle.crx_rinex.specs.meaning.SatelliteLines.{IsSoundRow};
 ghost use Rattle.crx_compact.specs.PrintedBlocks.{printed_room};
-ghost use Rattle.crx_compact.specs.Refusals.{AnswersRefusal};
 ghost use Rattle.crx_compact.specs.RowsSoFar.{HasClock};
-ghost use Rattle.crx_compact.specs.ShownRows.{shown_epoch, shown_row};
-ghost use Rattle.crx_compact.specs.Steps.{lines_after_tail, no_tail, tail_after, tail_named};
+ghost use Rattle.crx_compact.specs.ShownRows.{shown_epoch};
+ghost use Rattle.crx_compact.specs.Steps.{no_tail};
 ghost use Rattle.crx_compact.specs.Tails.{RowTail, Tail};
 
 use crate::arc::ClockArc;

@@ -1,7 +1,7 @@
 //! What is stored of a satellite: its indicators and the arcs of its cells, changed in place by each of its lines. Hatanaka's Compact RINEX
 //! 3.0, satellite lines.
 
-ghost use Rattle.std.specs.Prelude.{All, ℕ, List, ◌≡◌, ◌≤◌, ◌<◌, ◌+◌, ◌-◌, ◌*◌, ◌++◌, ◌∷◌, ◌⊎◌, [], None, Some, Ok, Err, true, false, length, replicate, take, OnOk, OnErr, IfOk, IfErr, IsOk, IsTrue, ◌↔◌, vec_capacity};
+ghost use Rattle.std.specs.Prelude.{All, ℕ, List, ◌≡◌, ◌≤◌, ◌<◌, ◌+◌, ◌-◌, ◌*◌, ◌++◌, ◌⊎◌, [], None, Some, Ok, Err, true, false, length, replicate, take, OnOk, OnErr, IfOk, IfErr, IsOk, IsTrue, ◌↔◌, vec_capacity};
 ghost use Rattle.std.specs.List.{flat_map};
 ghost use Rattle.crx_text.specs.meaning.Columns.{columns, without_end_blanks};
 ghost use Rattle.crx_text.specs.Texts.{patched};
@@ -286,21 +286,11 @@ fn grow(indicators: &mut Vec<u8>, arcs: &mut Vec<ObsArc>, count: usize) -> Resul
     indicators.reserve_exact(2 * more)?;
     arcs.reserve_exact(more)?;
     while arcs.len() < count {
-        put_last(indicators, b' ');
-        put_last(indicators, b' ');
-        put_last(arcs, ObsArc::new());
+        indicators.push_reserved(b' ');
+        indicators.push_reserved(b' ');
+        arcs.push_reserved(ObsArc::new());
     }
     Ok(())
-}
-
-/// Puts a value after the others, where there is room.
-fn put_last<T>(values: &mut Vec<T>, value: T)
-    requires { length values.old.items < vec_capacity values.old }
-    ensures items { values.new.items ≡ values.old.items ++ value ∷ [] }
-    ensures capacity { vec_capacity values.new ≡ vec_capacity values.old }
-{
-    let end = values.len();
-    values.insert(end, value).unwrap();
 }
 
 /// Blanks the indicators and ends the arcs of the types from one on, up to another.

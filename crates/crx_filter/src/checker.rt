@@ -1,11 +1,11 @@
 //! The check of a RINEX file, one line at a time.
 
-ghost use Rattle.std.specs.Prelude.{◌≡◌, ◌≤◌, ◌<◌, ◌+◌, ◌⊎◌, ◌++◌, ◌∷◌, ℕ, List, [], None, Some, true, false, length, drop, slice_get, OnErr, OnOk, IfErr, IfOk};
+ghost use Rattle.std.specs.Prelude.{◌≡◌, ◌≤◌, ◌<◌, ◌+◌, ◌⊎◌, ◌++◌, ◌∷◌, ℕ, List, [], None, Some, true, false, length, OnErr, OnOk, IfErr, IfOk};
 ghost use Rattle.crx_base.specs.declared.limits.TheConstants.{INPUT_LIMIT, SATELLITES_LIMIT};
 ghost use Rattle.crx_rinex.specs.meaning.EpochPlaces.{OpenEpoch};
 ghost use Rattle.crx_rinex.specs.meaning.Observations.{Epoch as ObservationEpoch};
 ghost use Rattle.crx_base.specs.meaning.Lines.{InputLine};
-ghost use Rattle.crx_lines.specs.Reading.{line_shown, line_number};
+ghost use Rattle.crx_lines.specs.Reading.{line_shown};
 ghost use Rattle.crx_filter.specs.CheckByLine.{check_seen, earliest, printed_made, totals_made};
 ghost use Rattle.crx_filter.specs.meaning.Directions.{check_filter, fault_so_far};
 ghost use Rattle.crx_filter.specs.Totals.{AreBounded, HasPrinted, IsCounting, IsObserved, totals_held};
@@ -223,8 +223,6 @@ fn observed_with(observed: u64, reader: &RinexReader, step: RinexStep) -> u64
 }
 
 impl Engine for Checker {
-    ghost use Rattle.std.specs.Borrow.{sem};
-    ghost use Rattle.std.specs.Io.BufRead.{Rests};
     ghost use Rattle.crx_filter.specs.CheckerState.{taken_counted};
 
     ghost filter = { λ c. check_filter };

@@ -5,7 +5,7 @@ ghost use Rattle.crx_rinex.specs.meaning.EpochPlaces.{OpenEpoch};
 ghost use Rattle.crx_compact.specs.OpenEpochs.{OpenRawEpoch};
 ghost use Rattle.crx_filter.specs.LineByLine.{fault_at_end_in, is_in_epoch, may_skip, with_records_left, InHeader, BetweenUnits};
 ghost use Rattle.crx_filter.specs.meaning.Items.{counts_types};
-ghost use Rattle.crx_filter.specs.Stages.{bare_phase, is_held, seen_stage};
+ghost use Rattle.crx_filter.specs.Stages.{bare_phase, seen_stage};
 ghost use Rattle.crx_filter.specs.RinexStages.{is_open_stage, is_rinex_stage};
 ghost use Rattle.crx_header.specs.meaning.Header.{is_end_of_header};
 ghost use Rattle.crx_rinex.specs.meaning.Observations.{Row};
@@ -49,10 +49,6 @@ pub enum Stage {
 impl Stage {
     /// Whether an epoch's lines have come in part.
     pub fn is_in_epoch(&self) -> bool
-        ensures rinex { (held : Option OpenEpoch)
-            → is_held self.now held ≡ true → result ≡ is_in_epoch (seen_stage held self.now) }
-        ensures compact { (held : Option OpenRawEpoch)
-            → is_held self.now held ≡ true → result ≡ is_in_epoch (seen_stage held self.now) }
         ensures value { result ≡ is_open_stage self.now }
     {
         matches!(self, Stage::Open)
@@ -60,8 +56,6 @@ impl Stage {
 
     /// Whether faults may be skipped: outside the header and the records of events.
     pub fn may_skip(&self) -> bool
-        ensures rinex { (held : Option OpenEpoch) → result ≡ may_skip (seen_stage held self.now) }
-        ensures compact { (held : Option OpenRawEpoch) → result ≡ may_skip (seen_stage held self.now) }
         ensures value { result ≡ may_skip (bare_phase self.now) }
     {
         matches!(self, Stage::Between | Stage::Open | Stage::Looking)

@@ -5,7 +5,7 @@ use Rattle.crx_filter.proofs.Words.{length, Some, None, Result, Ok, Err, refl, a
 use Rattle.crx_filter.proofs.Words.{append-nil, ◌≤◌, rules, and_parts, reverse, ◌&&◌, reverse-append}
 use Rattle.crx_filter.proofs.Words.{InputLine, is_long, ReadLine, Content, Overlong, seen, At, OutOfMemory}
 use Rattle.crx_filter.proofs.Words.{LINE_LIMIT, Choices, with_next, lines_text, step_made, Steps, noticed_by}
-use Rattle.crx_filter.proofs.Words.{failed_by, is_again, Fed, fed_once, fed_twice, fed, IsReadyWhereHandedOut}
+use Rattle.crx_filter.proofs.Words.{is_again, Fed, fed_once, fed_twice, fed}
 use Rattle.crx_filter.proofs.Words.{LookingOn, Seen, Direction, Made, Fails, Notice, SeenStep, made_in}
 use Rattle.crx_filter.proofs.Words.{may_skip, is_in_epoch, is_skipped_in, failed_step, step_of_made}
 use Rattle.crx_filter.proofs.Words.{seen_next, seen_end, takes_memory, can_go_on, is_skippable, Quiet, Ready}

@@ -4,7 +4,7 @@ use Rattle.crx_filter.proofs.Words.{None, Result, Ok, Err, refl, sym, ap, subst,
 use Rattle.crx_filter.proofs.Words.{LineTooLong, Count, Choices, Seen, Direction, Fails, Failed, made_in}
 use Rattle.crx_filter.proofs.Words.{SeenStep, SeenEnded, is_skipped_in, may_skip, is_skippable, failed_step}
 use Rattle.crx_filter.proofs.Words.{step_of_made}
-use Rattle.crx_filter.proofs.Words.{seen_next, seen_end, can_go_on, begins_epoch, step_made, Steps, is_held}
+use Rattle.crx_filter.proofs.Words.{seen_next, seen_end, begins_epoch, step_made, Steps, is_held}
 use Rattle.crx_filter.proofs.Words.{seen_stage, Quiet, Stage, Open}
 use Rattle.std.proofs.Common.{OnErr, IfErr}
 use Rattle.crx_filter.specs.DirectionParts.{DirectionParts, seen_by, Reads, RefusesLine, AnswersToFault}

@@ -1,8 +1,8 @@
 use Rattle.crx_compact.proofs.Words.{ℕ, ◌≡◌, ◌∙◌, ◌+◌, ap, length, refl, sym, subst, arith, rules, ◌==◌, Some}
 use Rattle.crx_compact.proofs.Words.{length-set, err_from_is_err_and, Content, step_at, OpenHistory}
-use Rattle.crx_compact.proofs.Words.{satellite_of, tail_of_history, Stage, Rows}
+use Rattle.crx_compact.proofs.Words.{satellite_of, tail_of_history, Stage}
 use Rattle.crx_compact.specs.OpenEpochs.{Faulty}
-use Rattle.crx_compact.specs.OpenLines.{IsLineTaken, IsSoundBlock}
+use Rattle.crx_compact.specs.OpenLines.{IsLineTaken}
 use Rattle.crx_compact.proofs.PrintedBlocks.{block-row}
 use Rattle.crx_compact.proofs.reading.Announced.{row-announced, rows-allowed, rows-few}
 use Rattle.crx_compact.proofs.reading.NoMemory.{no-memory-at-row}
