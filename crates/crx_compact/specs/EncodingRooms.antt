@@ -93,7 +93,7 @@ pub record HasTakenText (count : ℕ) (before after : EncodingRoom) : Type 0 whe
   pub next : count ≤ before.held → count ≤ after.text
 
 -- a row was put: there is room for its satellite from now on; one line more is in use, and no more bytes than a line of so many types may have,
--- for which there was room; where there was none, it was asked for, and no more than that
+-- for which there was room; where there was none, memory came into use for the line, and for no more than that
 pub record HasTakenRow (row : Row) (before after : EncodingRoom) : Type 0 where
   pub satellite : HasRoom row.name (length row.values) after.rooms
   pub lines : after.free_lines + (before.lines + 1) ≡ before.free_lines + after.lines

@@ -145,7 +145,7 @@ impl Columns {
         // After `Ok` there is, once the lines are taken back: for the epoch again, and for each one that needs no more.
         ensures room { IfOk result (λ coded. HasRoomForEpoch epoch (with_lines coded.room self.new.encoding)
             × (coded.room.front ≡ FIRST_LINES)) }
-        // There is never less room than before, after a refusal too, but that the lines leave with their memory.
+        // There is never less room for encoding than before, after a refusal too, but that the lines leave with their memory.
         ensures rooms_kept { KeepsRooms self.old.encoding.rooms self.new.encoding.rooms }
         ensures text_kept { self.old.encoding.text ≤ self.new.encoding.text }
         ensures lines_kept { self.old.front ≡ FIRST_LINES → IfOk result (λ coded.
@@ -243,6 +243,8 @@ impl Columns {
         ensures state { self.new.state ≡ self.old.state }
         // There is never less room than before.
         ensures kept { KeepsRoom self.old.room self.new.room }
+        ensures encoding { self.new.encoding ≡ self.old.encoding }
+        ensures front { self.new.front ≡ self.old.front }
     {
         if self.is_idle() {
             lines.give_room(&mut self.block.lines);

@@ -153,7 +153,7 @@ impl Lines {
         ensures grown { HasMoreRoom self.old self.new }
         ensures free_lines { OnOk result (lines ≤ self.new.free_lines) }
         ensures free_bytes { OnOk result (bytes ≤ self.new.free_bytes) }
-        // No more is asked for than that, and where there is room, none.
+        // No more memory comes into use than that, and where there is room, none.
         ensures only_lines { self.new.free_lines ≤ max self.old.free_lines lines }
         ensures only_bytes { self.new.free_bytes ≤ max self.old.free_bytes bytes }
         // It is refused only where less memory is held.

@@ -24,11 +24,6 @@ abbrev pub rows_open : Stage → List Row → List Row
 rows_open Open rows = rows
 rows_open stage rows = []
 
--- one of two answers: the first while an epoch is open
-abbrev pub when_open : Stage → Bool → Bool → Bool
-when_open Open while_open else_so = while_open
-when_open stage while_open else_so = else_so
-
 -- so many rows have come of an epoch that wants more
 abbrev pub wants_rows : Option ObservationHead → ℕ → List Row → Bool
 wants_rows None count rows = false

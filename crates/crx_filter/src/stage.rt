@@ -3,7 +3,7 @@
 ghost use Rattle.std.specs.Prelude.{ℕ, ◌≡◌, List, Option, Some, true, false, if◌then◌else◌};
 ghost use Rattle.crx_rinex.specs.meaning.EpochPlaces.{OpenEpoch};
 ghost use Rattle.crx_compact.specs.OpenEpochs.{OpenRawEpoch};
-ghost use Rattle.crx_filter.specs.LineByLine.{fault_at_end_in, is_in_epoch, may_skip, with_records_left, InHeader, BetweenUnits};
+ghost use Rattle.crx_filter.specs.LineByLine.{fault_at_end_in, may_skip, with_records_left, InHeader, BetweenUnits};
 ghost use Rattle.crx_filter.specs.meaning.Items.{counts_types};
 ghost use Rattle.crx_filter.specs.Stages.{bare_phase, seen_stage};
 ghost use Rattle.crx_filter.specs.RinexStages.{is_open_stage, is_rinex_stage};

@@ -47,8 +47,8 @@ impl Identifiers {
         // There are no more than before, or than the places up to this one.
         ensures few { (n : ℕ) → length self.old ≤ n → place < n → length self.new ≤ n }
         ensures err { OnErr result (is_among (λ (n : List ℕ). n) name (take place self.old) ≡ false) }
-        // Where the same identifier was at the place, no memory is asked for; nor where no fewer of those before it are dropped than stay,
-        // whose memory is used again.
+        // Where the same identifier was at the place, no memory is asked for; nor where at least as many of those that were there are dropped
+        // as stay, since their memory is used again.
         ensures known { slice_get self.old place ≡ Some name → IsOk result }
         ensures used_again { place < length self.old → 2 * place ≤ length self.old → IsOk result }
     {
