@@ -1,12 +1,12 @@
 -- The date of a job that words ask for fits its columns.
-use Rattle.std.proofs.Common.{arith, ◌≡◌, ◌∙◌, ap, refl, cond, not, true, false, Bool, ℕ, List, [], ◌∷◌}
+use Rattle.std.proofs.Common.{arith, ◌≡◌, ◌∙◌, ap, refl, true, Bool, ℕ, List, [], ◌∷◌}
 use Rattle.std.{proofs.Common.{Option, Some, None}, specs.Option.option_map_or}
 use Rattle.clap.specs.{Faults.fault_of, Kinds.Kinds, Simple.subcommand_of, Walk.Row}
 use Rattle.clap.specs.declared.error.ErrorKind.{ErrorKind}
 use Rattle.crx_base.specs.meaning.Choices.{is_date}
 use Rattle.crx_command.specs.{declared.job.{Job.Job, Tool.Tool}, meaning.{Commands.program, Planning.Given}}
 use Rattle.crx_command.specs.meaning.Planning.{Plan, Help, Run, Refused, by_kind, by_kinds, given_in, judged}
-use Rattle.crx_command.specs.meaning.Planning.{of_subcommand, plan_of, tool_named, with_source, with_target}
+use Rattle.crx_command.specs.meaning.Planning.{of_subcommand, plan_of, tool_named}
 use Rattle.clap.specs.declared.error.ErrorKind.TheVariants as kind
 
 -- whether the date of a plan fits, where it has one
@@ -40,25 +40,6 @@ kind_fits kind.OutOfMemory = refl
 kinds_fit : (kinds : Kinds) (plan : Plan) → fits plan ≡ true → fits (by_kinds kinds plan) ≡ true
 kinds_fit [] plan h = h
 kinds_fit (k ∷ more) plan h = kind_fits k
-
-target_fits : (tool : Tool) (given : Given) (source : List ℕ) (target : Option (List ℕ))
-    → date_is given.date ≡ true → fits (with_target tool given source target) ≡ true
-target_fits tool given source None h = refl
-target_fits tool given source (Some target) h = h
-
-either_fits : (b : Bool) (p q : Plan) → fits p ≡ true → fits q ≡ true → fits (cond b p q) ≡ true
-either_fits true p q h g = h
-either_fits false p q h g = g
-
-source_fits : (tool : Tool) (given : Given) (source : Option (List ℕ))
-    → date_is given.date ≡ true → fits (with_source tool given source) ≡ true
-source_fits tool given None h = h
-source_fits tool given (Some source) h = grind arith
-
-unless_bad : (b : Bool) (p q : Plan) → fits p ≡ true → (b ≡ true → fits q ≡ true)
-    → fits (cond (not b) p q) ≡ true
-unless_bad true p q h g = g refl
-unless_bad false p q h g = h
 
 judged_fits : (tool : Tool) (given : Given) → fits (judged tool given) ≡ true
 judged_fits tool given = grind arith

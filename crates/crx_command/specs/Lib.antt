@@ -1,4 +1,5 @@
 pub mod meaning
+pub mod Arguments
 pub mod Names
 pub mod Planning
 pub mod Usage

@@ -1,7 +1,8 @@
 //! The command line: its subcommands, their options, and their help.
 
-ghost use Rattle.std.specs.Prelude.{◌≡◌, IfOk, codes, false};
-ghost use Rattle.clap.specs.Words.{app_of, new_app, rule_of, shape_of, with_rule};
+ghost use Rattle.std.specs.Prelude.{◌≡◌, IfOk, codes};
+ghost use Rattle.clap.specs.Words.{app_of, new_app, shape_of, with_rule};
+ghost use Rattle.crx_command.specs.Arguments.{HasRule};
 ghost use Rattle.crx_command.specs.meaning.Commands.{checker, crx2rnx, date_rule, every_rule, flag_rule, names_rule, program, rnx2crx, top};
 
 use clap::{Arg, ArgAction, Command, value_parser};
@@ -92,8 +93,7 @@ const CHECKED_FILE: &str = "At most one observation file, and `-`, which changes
 
 /// `-e N`, N from 1 to 1000000.
 fn every_option<'a>(alloc: Global) -> Arg<'a>
-    ensures rule { rule_of result ≡ every_rule }
-    ensures local { result.global ≡ false }
+    ensures { HasRule result every_rule }
 {
     Arg::new(alloc, "every")
         .short('e')
@@ -104,8 +104,7 @@ fn every_option<'a>(alloc: Global) -> Arg<'a>
 
 /// `--date TEXT`.
 fn date_option<'a>(alloc: Global) -> Arg<'a>
-    ensures rule { rule_of result ≡ date_rule }
-    ensures local { result.global ≡ false }
+    ensures { HasRule result date_rule }
 {
     Arg::new(alloc, "date")
         .long("date")
@@ -115,8 +114,7 @@ fn date_option<'a>(alloc: Global) -> Arg<'a>
 
 /// A flag of one letter.
 fn flag<'a>(alloc: Global, id: &'a str, letter: char, help: &'a str) -> Arg<'a>
-    ensures rule { rule_of result ≡ flag_rule id.now letter }
-    ensures local { result.global ≡ false }
+    ensures { HasRule result (flag_rule id.now letter) }
 {
     Arg::new(alloc, id)
         .short(letter)
@@ -126,8 +124,7 @@ fn flag<'a>(alloc: Global, id: &'a str, letter: char, help: &'a str) -> Arg<'a>
 
 /// `-` and a file's name, in any order.
 fn names_of_files<'a>(alloc: Global, help: &'a str) -> Arg<'a>
-    ensures rule { rule_of result ≡ names_rule }
-    ensures local { result.global ≡ false }
+    ensures { HasRule result names_rule }
 {
     Arg::new(alloc, "names")
         .action(ArgAction::Append)

@@ -1,7 +1,7 @@
 //! The date in the second line of Compact RINEX 3.0.
 
 ghost use Rattle.std.specs.Prelude.{◌≡◌, ◌<◌, ◌-◌, ◌++◌, [], IfOk, OnOk, string_bytes};
-ghost use Rattle.crx_command.specs.meaning.Dates.{IsDateOf, IsDateText, IsDefaultDate, date_text_of, months, two_digits};
+ghost use Rattle.crx_command.specs.meaning.Dates.{IsDateOf, IsDateText, IsDefaultDate, months, two_digits};
 ghost use Rattle.std.specs.List.{slice_index_or};
 
 use jiff::Timestamp;
@@ -30,30 +30,24 @@ fn month_name(at: DateTime) -> &'static str
     MONTHS[at.month() as usize - 1]
 }
 
-/// What a clock shows, to the minute.
-fn shown(alloc: Global, at: DateTime) -> Result<String, AllocError>
-    ensures { IfOk result (λ text. string_bytes text ≡ date_text_of at) }
-{
-    let mut text = String::new(alloc);
-    push_two_digits(&mut text, at.day() as u8)?;
-    text.push_str("-")?;
-    text.push_str(month_name(at))?;
-    text.push_str("-")?;
-    push_two_digits(&mut text, (at.year().unsigned_abs() % 100) as u8)?;
-    text.push_str(" ")?;
-    push_two_digits(&mut text, at.hour() as u8)?;
-    text.push_str(":")?;
-    push_two_digits(&mut text, at.minute() as u8)?;
-    Ok(text)
-}
-
 /// A moment in UTC, as `31-Dec-23 23:59`: the day, the English name of the month in three letters,
 /// the last two digits of the year (its sign left out), the hour and the minute. Seconds are
 /// left out, so each text stands for the minute that it names, before 1970 too.
 pub fn date_text(alloc: Global, at: Timestamp) -> Result<String, AllocError>
     ensures date { IfOk result (λ text. IsDateText at.nanosecond (string_bytes text)) }
 {
-    shown(alloc, Offset::UTC.to_datetime(at))
+    let shown = Offset::UTC.to_datetime(at);
+    let mut text = String::new(alloc);
+    push_two_digits(&mut text, shown.day() as u8)?;
+    text.push_str("-")?;
+    text.push_str(month_name(shown))?;
+    text.push_str("-")?;
+    push_two_digits(&mut text, (shown.year().unsigned_abs() % 100) as u8)?;
+    text.push_str(" ")?;
+    push_two_digits(&mut text, shown.hour() as u8)?;
+    text.push_str(":")?;
+    push_two_digits(&mut text, shown.minute() as u8)?;
+    Ok(text)
 }
 
 /// The date of a moment as [`date_text`] gives it; an empty text where there is none.

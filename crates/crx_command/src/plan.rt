@@ -1,11 +1,11 @@
 //! From the arguments to what is to be done.
 
-ghost use Rattle.std.specs.Prelude.{◌≡◌, ◌≢◌, IfOk, IfSome, codes, count_by, drop, find, map, option_and_then, option_map, string_bytes, true};
+ghost use Rattle.std.specs.Prelude.{◌≡◌, ◌≢◌, IfOk, IfSome, count_by, drop, find, map, option_map, string_bytes, true};
 ghost use Rattle.std.specs.Option.{option_map_or};
 ghost use Rattle.std.specs.Vec.Iter.{into_iter_items};
-ghost use Rattle.clap.specs.Words.{found_of, kind_of, one_of, rows_of, subcommand_rows_of};
+ghost use Rattle.clap.specs.Words.{found_of, kind_of, rows_of, subcommand_rows_of};
 ghost use Rattle.crx_base.specs.meaning.Choices.{is_date};
-ghost use Rattle.crx_command.specs.meaning.Planning.{by_kind, given_in, is_dash, is_file, is_set, job_of, judged, counted_argument, of_subcommand, plan_of, tool_named, with_source, writes_file};
+ghost use Rattle.crx_command.specs.meaning.Planning.{by_kind, given_in, is_dash, is_file, is_set, job_of, judged, of_subcommand, plan_of, tool_named, with_source};
 ghost use Rattle.crx_command.specs.Planning.{given_of, plan_in};
 
 use crate::command::command;
@@ -39,13 +39,6 @@ fn dashes_among(names: &[&str]) -> usize
     names.iter().filter(|name| **name == "-").count()
 }
 
-/// How many of the names aren't `-`.
-fn files_among(names: &[&str]) -> usize
-    ensures { result ≡ count_by is_file (map (λ name. name.now) names.now) }
-{
-    names.iter().filter(|name| **name != "-").count()
-}
-
 /// The first name that isn't `-`.
 fn file_among<'a>(names: &[&'a str]) -> Option<&'a str>
     ensures { option_map (λ name. name.now) result ≡ find is_file (map (λ name. name.now) names.now) }
@@ -56,14 +49,6 @@ fn file_among<'a>(names: &[&'a str]) -> Option<&'a str>
         }
     }
     None
-}
-
-/// The number of `-e N`.
-fn every(found: &ArgMatches<'_>) -> Option<u32>
-    ensures { result ≡ option_and_then counted_argument
-        (one_of (codes "every") (rows_of (found_of found.now))) }
-{
-    found.get_one::<u32>("every")
 }
 
 /// Whether a flag was given.
@@ -81,11 +66,12 @@ fn arguments_of<'a>(found: &ArgMatches<'a>) -> Arguments<'a>
     ensures { given_of result ≡ given_in (rows_of (found_of found.now)) }
 {
     let names = found.get_strs("names").unwrap_or(&[]);
+    let dashes = dashes_among(names);
     Arguments {
-        dashes: dashes_among(names),
-        files: files_among(names),
+        dashes,
+        files: names.len() - dashes,
         file: file_among(names),
-        every: every(found),
+        every: found.get_one::<u32>("every"),
         skip: is_set(found, "skip"),
         force: is_set(found, "force"),
         date: found.get_str("date"),
@@ -99,16 +85,6 @@ fn date_fits(date: Option<&str>) -> bool
     match date {
         Some(text) => Options::new(None, false, text.as_bytes()).is_ok(),
         None => true,
-    }
-}
-
-/// Whether the output goes to a file of its own where the input comes from one.
-fn writes_file(tool: Tool, dashes: usize) -> bool
-    ensures { result ≡ writes_file tool dashes }
-{
-    match tool {
-        Tool::Check => false,
-        _ => dashes == 0,
     }
 }
 
@@ -154,7 +130,7 @@ fn run_from_file(
     ensures { IfSome (plan_in result)
         (λ plan. plan ≡ with_source tool (given_of given.now) (Some source.now)) }
 {
-    if !writes_file(tool, given.dashes) {
+    if tool == Tool::Check || given.dashes > 0 {
         return Ok(Decision::Run(job(alloc, tool, given, Some(source), None)?));
     }
     match output_name(alloc, tool, source)? {

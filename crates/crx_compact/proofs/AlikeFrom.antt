@@ -1,8 +1,9 @@
 -- Two lists that are alike from a place on, as the arcs that a loop has not come to yet are those before it.
 use Rattle.std.specs.Prelude.{◌≡◌, ◌<◌, ℕ, ◌+◌, List, [], ◌∷◌, length, drop, slice_index_or, slice_set}
-use Rattle.std.proofs.Common.{sym, ◌∙◌, ap, arith}
+use Rattle.std.proofs.Common.{arith}
 use Rattle.std.proofs.lemmas.List.{drop-drop, drop-set-lt, length-drop}
 use Rattle.crx_compact.proofs.PlaceByPlace.{from-place}
+use Rattle.std.proofs.lemmas.Grind.{common_steps}
 
 abbrev first_or : {X : Type 0} → X → List X → X
 first_or d [] = d
@@ -11,14 +12,9 @@ first_or d (x ∷ xs) = x
 -- they have the same item at that place
 pub alike-there : {X : Type 0} (xs ys : List X) (k : ℕ) (d e : X)
     → drop k xs ≡ drop k ys → k < length xs → slice_index_or xs k d ≡ slice_index_or ys k e
-alike-there xs ys k d e same here =
-    let long : length (drop k xs) ≡ length (drop k ys) = ap length same in
-    let there : k < length ys = omega (arith, here, long, length-drop k xs, length-drop k ys) in
-    ap (first_or d) (sym (from-place d k xs here) ∙ same ∙ from-place e k ys there)
+alike-there xs ys k d e same here = grind (arith, common_steps, length-drop, from-place)
 
 -- where the item at that place is replaced, they are alike from the next place on
 pub alike-after : {X : Type 0} (xs ys : List X) (k : ℕ) (x : X)
     → drop k xs ≡ drop k ys → drop (k + 1) (slice_set xs k x) ≡ drop (k + 1) ys
-alike-after xs ys k x same =
-    drop-set-lt (k + 1) xs k x (omega arith)
-    ∙ sym (drop-drop 1 k xs) ∙ ap (drop 1) same ∙ drop-drop 1 k ys
+alike-after xs ys k x same = grind (arith, common_steps, drop-set-lt, drop-drop)

@@ -1,10 +1,11 @@
 -- The cells of a line, read from left to right.
 use Rattle.std.specs.Prelude.{◌≡◌, ◌≤◌, ◌<◌, refl, ℕ, suc, ◌+◌, ◌-◌, ℤ, List, [], ◌∷◌, ◌++◌, length, map}
-use Rattle.std.specs.Prelude.{take, drop, slice_index_or, slice_set, Bool, true, false, Option, Some, None}
+use Rattle.std.specs.Prelude.{take, drop, slice_index_or, slice_set, Option, Some, None}
 use Rattle.std.specs.Prelude.{Result, Ok, Err}
-use Rattle.std.proofs.Common.{sym, ◌∙◌, ap, arith, length-append, true≢false}
+use Rattle.std.proofs.Common.{sym, ◌∙◌, ap, arith, length-append}
 use Rattle.std.proofs.lemmas.List.{drop-drop, length-drop, length-map, length-set, map-append, take_all}
-use Rattle.std.proofs.lemmas.List.{take_more_set}
+use Rattle.std.proofs.lemmas.List.{get_or-take, take_more_set}
+use Rattle.std.proofs.Math.Seq.{take-set-lt}
 use Rattle.crx_text.specs.meaning.Codes.{code_of, first_cell, after_cell}
 use Rattle.crx_text.specs.declared.code.Code.{Code}
 use Rattle.crx_base.specs.declared.fault.Fault.{Fault}
@@ -12,13 +13,12 @@ use Rattle.crx_base.specs.declared.fault.Fault.TheVariants.{BadField}
 use Rattle.crx_compact.specs.meaning.Sequences.{and_then, before_all}
 use Rattle.crx_compact.specs.meaning.Cells.{ReadCell, cell_read, cells_read, cells_of, after_cells}
 use Rattle.crx_compact.specs.ArcTails.{ArcTail}
-use Rattle.crx_compact.specs.ArcSteps.{arc_after_number, arc_of_code, value_of_code, value_of_tail}
+use Rattle.crx_compact.specs.ArcSteps.{arc_of_code, value_of_code}
 use Rattle.crx_compact.specs.ArcSteps.{shown_value}
-use Rattle.crx_compact.specs.meaning.ArcValues.{in_range, is_within}
-use Rattle.crx_text.specs.declared.code.Code.TheVariants.{Missing, Start, Step}
 use Rattle.crx_base.specs.declared.limits.TheConstants.{OBSERVATION_WIDTH}
 use Rattle.crx_compact.proofs.AlikeFrom.{alike-there, alike-after}
 use Rattle.crx_compact.specs.Cells.{value_at_place, arcs_of_codes, CellsAreRead, IsCellRead}
+use Rattle.std.proofs.lemmas.Grind.{common_steps}
 
 -- some cells before those of a good result
 abbrev pub onto : List ReadCell → Result (List ReadCell) Fault → Result (List ReadCell) Fault
@@ -45,8 +45,7 @@ Values = ℕ → Code → Result (Option ℤ) Fault
 
 cell-same : (f g : Code → Result (Option ℤ) Fault)
     → ((c : Code) → f c ≡ g c) → (code : Option Code) → cell_read BadField f code ≡ cell_read BadField g code
-cell-same f g h None = refl
-cell-same f g h (Some code) = cc (h code)
+cell-same f g h c = grind arith
 
 -- the same values at each place of some texts
 pub cells-within : (f g : Values) (texts : List (List ℕ)) → ((place : ℕ) (c : Code)
@@ -71,30 +70,9 @@ arcs-more before [] code = refl
 arcs-more [] (c ∷ cs) code = cc (arcs-more [] cs code)
 arcs-more (b ∷ bs) (c ∷ cs) code = cc (arcs-more bs cs code)
 
--- the value that a code gives is the one that the arc after it shows
-abbrev ok-value : Result (Option ℤ) Fault → Option ℤ
-ok-value (Ok value) = value
-ok-value (Err fault) = None
-
-abbrev is-ok-value : Result (Option ℤ) Fault → Bool
-is-ok-value (Ok value) = true
-is-ok-value (Err fault) = false
-
-in-columns : (width : ℕ) (number : ℤ) (value : Option ℤ) → in_range width number ≡ Ok value
-    → Some number ≡ value
-in-columns width number value e = by_range (is_within width number) refl
-  where
-    by_range : (b : Bool) → is_within width number ≡ b → Some number ≡ value
-    by_range true is = cc (is, e)
-    by_range false is = absurd (true≢false (cc (is, e)))
-
 pub shown-code : (width : ℕ) (code : Code) (arc : Option ArcTail) (value : Option ℤ)
     → value_of_code width code arc ≡ Ok value → shown_value (arc_of_code code arc) ≡ value
-shown-code width Missing arc value e = ap ok-value e
-shown-code width (Start order number) arc value e = in-columns width number value e
-shown-code width (Step number) None value e = absurd (true≢false (sym (ap is-ok-value e)))
-shown-code width (Step number) (Some arc) value e =
-    in-columns width (value_of_tail (arc_after_number number arc)) value e
+shown-code width code arc value e = grind arith
 
 abbrev codes_in : List ReadCell → List Code
 codes_in cells = map (λ (c : ReadCell). c.code) cells
@@ -190,8 +168,7 @@ pub record ReadUpTo (first : List (Option ArcTail))
 arc-there : (first : List (Option ArcTail)) (line rest : List ℕ) (k : ℕ) (arcs : List (Option ArcTail))
     → ReadUpTo first line rest k arcs → k < length first
     → slice_index_or arcs k None ≡ slice_index_or first k None
-arc-there first line rest k arcs s h =
-    alike-there arcs first k None None s.later (omega (arith, h, s.counted))
+arc-there first line rest k arcs s h = grind (arith, common_steps, alike-there)
 
 -- the next cell, and the arcs with its own in its place
 pub read-next : (first : List (Option ArcTail)) (line rest rest' : List ℕ) (k : ℕ) (arcs arcs' made : List
@@ -234,6 +211,33 @@ next-refused first line rest k arcs fault s h refused =
     ∙ ap (λ (arc : Option ArcTail). cell_read BadField (λ code. value_of_code OBSERVATION_WIDTH code arc)
     (code_of (first_cell rest))) (sym there) ∙ refused)
 
+-- what is read of the first arcs, of which the next one is
+pub first-read : (count : ℕ) (arcs made : List (Option ArcTail)) (k : ℕ) (rest : List ℕ) (taken : ℕ)
+    → k < count → IsCellRead arcs k rest arcs made taken
+    → IsCellRead (take count arcs) k rest (take count arcs) (take count made) taken
+first-read count arcs made k rest taken less read =
+    let there : slice_index_or (take count arcs) k None ≡ slice_index_or arcs k None =
+    get_or-take count arcs k None less in
+    record {
+      code = read.code;
+      value = read.value;
+      formed = read.formed;
+      given = ap (value_of_code OBSERVATION_WIDTH read.code) there ∙ read.given;
+      left = ap (take count) read.left
+          ∙ take-set-lt count arcs k (arc_of_code read.code (slice_index_or arcs k None)) less
+          ∙ ap (λ (arc : Option ArcTail). slice_set (take count arcs) k (arc_of_code read.code arc))
+          (sym there);
+      after = read.after;
+      within = read.within;
+    }
+
+pub first-refused : (count : ℕ) (arcs : List (Option ArcTail)) (k : ℕ) (rest : List ℕ) (fault : Fault)
+    → k < count → cell_read BadField (value_at_place arcs k) (code_of (first_cell rest)) ≡ Err fault
+    → cell_read BadField (value_at_place (take count arcs) k) (code_of (first_cell rest)) ≡ Err fault
+first-refused count arcs k rest fault less refused =
+    ap (λ (arc : Option ArcTail). cell_read BadField (λ code. value_of_code OBSERVATION_WIDTH code arc)
+    (code_of (first_cell rest))) (get_or-take count arcs k None less) ∙ refused
+
 pub read-none : (first : List (Option ArcTail)) (line : List ℕ) → ReadUpTo first line line 0 first
 read-none first line =
     let count = length first in
@@ -259,18 +263,4 @@ read-none first line =
 pub read-all : (first : List (Option ArcTail)) (line rest : List ℕ) (k : ℕ) (arcs : List (Option ArcTail))
     → ReadUpTo first line rest k arcs → k ≡ length first
     → CellsAreRead first (length first) line arcs (length line - length rest)
-read-all first line rest k arcs s end =
-    let count = length first in
-    let none : count - k ≡ 0 = omega arith in
-    let whole = take_all k arcs (omega (arith, end, s.counted)) in
-    let within = s.read.within in
-    let at_is : s.at
-    ≡ length line - length rest = omega (arith, ap length s.left, within, length-drop s.at line) in
-    rw (← at_is) (record {
-      cells = s.read.cells;
-      good = cc (s.read.so_far, none, onto-ok s.read.cells);
-      marks = cc (s.read.marks, none);
-      within = within;
-      left = sym whole ∙ s.read.left;
-      shown = cc (whole, s.read.shown);
-    })
+read-all first line rest k arcs s end = grind (arith, common_steps, take_all, length-drop, onto-ok)

@@ -1,25 +1,20 @@
 -- Texts and identifiers by their characters.
 use Rattle.crx_compact.proofs.Words.{◌≡◌, refl, ℕ, zero, suc, ◌<◌, ◌≤◌, ◌⊎◌, List, [], ◌∷◌, take, Bool, true}
-use Rattle.crx_compact.proofs.Words.{false, ◌++◌, Option, Some, None, if◌then◌else◌, ◌&&◌, nat_eq, ◌||◌, ◌==◌}
+use Rattle.crx_compact.proofs.Words.{◌++◌, Option, Some, None, if◌then◌else◌, nat_eq, ◌||◌}
 use Rattle.crx_compact.proofs.Words.{length, arith, inl, inr, not-suc-le-zero, le_of_suc-le-suc, sym, ◌∙◌, ap}
 use Rattle.crx_compact.proofs.Words.{at, list_all, and_parts, and_from, before_end_blanks, without_end_blanks}
 use Rattle.crx_compact.proofs.Words.{by_position, is_kept, bytes_eq, is_ascii_digit, is_system}
 use Rattle.crx_header.specs.meaning.Satellites.{is_identifier}
 
 pub at-take_past : (n : ℕ) (text : List ℕ) (p : ℕ) → n ≤ p → at (take n text) p ≡ 32
-at-take_past zero text p h = refl
-at-take_past (suc n) [] p h = refl
 at-take_past (suc n) (c ∷ cs) zero h = absurd (not-suc-le-zero h)
 at-take_past (suc n) (c ∷ cs) (suc p) h = at-take_past n cs p (le_of_suc-le-suc h)
+at-take_past n text p h = refl
 
 pub within-or_past : (n p : ℕ) → (p < n) ⊎ (n ≤ p)
 within-or_past zero p = inr (omega arith)
 within-or_past (suc n) zero = inl (omega arith)
-within-or_past (suc n) (suc p) = step (within-or_past n p)
-  where
-    step : (p < n) ⊎ (n ≤ p) → (suc p < suc n) ⊎ (suc n ≤ suc p)
-    step (inl h) = inl (omega (arith, h))
-    step (inr h) = inr (omega (arith, h))
+within-or_past (suc n) (suc p) = grind (arith, within-or_past n p)
 
 pub list_all-at : (p : ℕ → Bool)
     → p 32 ≡ true → (text : List ℕ) → list_all p text ≡ true → (k : ℕ) → p (at text k) ≡ true
@@ -34,21 +29,16 @@ list_all-append p (x ∷ xs) ys h k = and_from (p x) (list_all p (xs ++ ys))
     (and_parts (p x) (list_all p xs) h).0 (list_all-append p xs ys (and_parts (p x) (list_all p xs) h).1 k)
 
 pub all-take : (p : ℕ → Bool) (n : ℕ) (xs : List ℕ) → list_all p xs ≡ true → list_all p (take n xs) ≡ true
-all-take p zero xs h = refl
-all-take p (suc n) [] h = refl
-all-take p (suc n) (x ∷ xs) h = and_from (p x) (list_all p (take n xs))
-    (and_parts (p x) (list_all p xs) h).0 (all-take p n xs (and_parts (p x) (list_all p xs) h).1)
+all-take p (suc n) (x ∷ xs) h = grind (arith, all-take p n xs (and_parts (p x) (list_all p xs) h).1)
+all-take p n xs h = refl
 
 pub if_some : (b : Bool) (x : Option ℕ) (n : ℕ) → (if b then x else None) ≡ Some n → b ≡ true
-if_some true x n h = refl
-if_some false x n h = grind (arith, h)
-
-before-blank : (c : ℕ) (rest : List ℕ) → c ≡ 32 → rest ≡ [] → before_end_blanks c rest ≡ []
-before-blank c rest ec er = ap (before_end_blanks c) er ∙ ap (λ n. before_end_blanks n []) ec
+if_some b x n h = grind arith
 
 all_blank : (text : List ℕ) → ((p : ℕ) → at text p ≡ 32) → without_end_blanks text ≡ []
 all_blank [] h = refl
-all_blank (c ∷ cs) h = before-blank c (without_end_blanks cs) (h 0) (all_blank cs (λ p. h (suc p)))
+all_blank (c ∷ cs) h =
+    ap (before_end_blanks c) (all_blank cs (λ p. h (suc p))) ∙ ap (λ n. before_end_blanks n []) (h 0)
 
 -- texts with the same characters are the same without the blanks at their ends
 pub same_characters : (xs ys : List ℕ) → ((p : ℕ) → at xs p ≡ at ys p)
@@ -69,44 +59,23 @@ at-by_position f e (a ∷ as') (b ∷ bs) (suc p) = at-by_position f e as' bs p
 
 pub bytes_eq-same : (a : List ℕ) → bytes_eq a a ≡ true
 bytes_eq-same [] = refl
-bytes_eq-same (c ∷ cs) =
-    let first : nat_eq c c ≡ true = grind arith in
-    cc (first, bytes_eq-same cs)
+bytes_eq-same (c ∷ cs) = grind (arith, bytes_eq-same cs)
 
 pub bytes_eq-is : (a b : List ℕ) → bytes_eq a b ≡ true → a ≡ b
 bytes_eq-is [] [] h = refl
-bytes_eq-is [] (d ∷ ds) h = grind (arith, h)
-bytes_eq-is (c ∷ cs) [] h = grind (arith, h)
-bytes_eq-is (c ∷ cs) (d ∷ ds) h =
-    let first : c ≡ d = grind (arith, h) in
-    let rest : bytes_eq cs ds ≡ true = grind (arith, h) in
-    cc (first, bytes_eq-is cs ds rest)
+bytes_eq-is (c ∷ cs) (d ∷ ds) h = grind (arith, bytes_eq-is cs ds (grind (arith, h)))
+bytes_eq-is a b h = grind (arith, h)
 
 pub length-is : (name : List ℕ) → is_identifier name ≡ true → length name ≡ 3
-length-is name h =
-    let same : nat_eq (length name) 3 ≡ true = (and_parts (length name == 3) _ h).0 in
-    grind (arith, same)
+length-is name h = grind arith
 
 system-kept : (c : ℕ) → is_system c ≡ true → is_kept c ≡ true
 system-kept c h = grind (arith, h)
-
-digit-kept : (c : ℕ) → is_ascii_digit c ≡ true → is_kept c ≡ true
-digit-kept c h = grind (arith, h)
 
 second-kept : (c : ℕ) → (is_ascii_digit c || nat_eq c 32) ≡ true → is_kept c ≡ true
 second-kept c h = grind (arith, h)
 
 pub name-kept : (name : List ℕ) → length name ≡ 3 → is_identifier name ≡ true → list_all is_kept name ≡ true
 name-kept [] e h = refl
-name-kept (a ∷ []) e h = absurd (omega (arith, e))
-name-kept (a ∷ b ∷ []) e h = absurd (omega (arith, e))
-name-kept (a ∷ b ∷ c ∷ d ∷ ds) e h = absurd (omega (arith, e))
-name-kept (a ∷ b ∷ c ∷ []) e h =
-    let parts = h in
-    let number : ((is_ascii_digit b || nat_eq b 32) && is_ascii_digit c) ≡ true =
-    (and_parts (is_system a) ((is_ascii_digit b || nat_eq b 32) && is_ascii_digit c) parts).1 in
-    and_from (is_kept a) (is_kept b && (is_kept c && true))
-    (system-kept a (and_parts (is_system a) ((is_ascii_digit b || nat_eq b 32) && is_ascii_digit c) parts).0)
-    (and_from (is_kept b) (is_kept c && true) (second-kept b
-    (and_parts (is_ascii_digit b || nat_eq b 32) (is_ascii_digit c) number).0) (and_from (is_kept c) true
-    (digit-kept c (and_parts (is_ascii_digit b || nat_eq b 32) (is_ascii_digit c) number).1) refl))
+name-kept (a ∷ b ∷ c ∷ []) e h = grind (arith, and_parts, system-kept, second-kept)
+name-kept name e h = absurd (omega (arith, e))

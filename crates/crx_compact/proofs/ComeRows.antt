@@ -1,7 +1,7 @@
 -- Rows that come one by one, each after what is stored of its satellite: the row of the epoch before, or a
 -- blank one.
-use Rattle.std.proofs.Common.{◌≡◌, ◌++◌, ◌∷◌, [], ℕ, List, Bool, true, false, not, Option, Some, None}
-use Rattle.std.proofs.Common.{Result, Ok, Err, IsOk, IfOk, length, take, slice_get, refl}
+use Rattle.std.proofs.Common.{◌≡◌, ◌++◌, ◌∷◌, [], ℕ, List, Bool, true, false, not, Some}
+use Rattle.std.proofs.Common.{Result, IsOk, IfOk, length, take, slice_get, refl}
 use Rattle.std.proofs.Common.{if◌then◌else◌, ap, sym, ◌∙◌, arith, unwrap_or}
 use Rattle.std.specs.Str.{bytes_eq}
 use Rattle.std.proofs.lemmas.Bool.{or_parts}
@@ -9,7 +9,7 @@ use Rattle.crx_header.specs.meaning.Satellites.{is_among, are_apart}
 use Rattle.crx_header.proofs.Apart.{other_way, new_at}
 use Rattle.crx_rinex.specs.meaning.Observations.{Row}
 use Rattle.crx_compact.specs.meaning.EpochText.{Satellite}
-use Rattle.crx_compact.specs.Placing.{HasAskedRoom, HasCome, PlacedRows, empty_row, padded, padded_among}
+use Rattle.crx_compact.specs.Placing.{HasCome, PlacedRows, empty_row, padded, padded_among}
 use Rattle.crx_compact.specs.Placing.{row_tail_named, row_or_blank}
 use Rattle.crx_compact.specs.Steps.{row_line_after, row_line_in, row_tail_after, row_tail_in}
 use Rattle.crx_compact.specs.Tails.{RowTail}
@@ -17,43 +17,24 @@ use Rattle.crx_compact.proofs.Characters.{bytes_eq-is}
 use Rattle.crx_rinex.specs.meaning.Epochs.{are_different}
 use Rattle.std.proofs.lemmas.List.{take_all}
 use Rattle.std.proofs.lemmas.Option.{get_or_from_slice_get, slice_get_within}
+use Rattle.std.proofs.lemmas.Grind.{common_steps}
 
 -- ---- a blank row is none
-
-tail-blank : (kept : Option RowTail) (name : List ℕ) (row : Row)
-    → row_tail_after (Some (unwrap_or kept (empty_row name))) row ≡ row_tail_after kept row
-tail-blank None name row = refl
-tail-blank (Some k) name row = refl
-
-line-blank : (kept : Option RowTail) (name : List ℕ) (row : Row)
-    → row_line_after (Some (unwrap_or kept (empty_row name))) row ≡ row_line_after kept row
-line-blank None name row = refl
-line-blank (Some k) name row = refl
-
-padded-blank : (kept : Option RowTail) (name : List ℕ) (satellite : Satellite)
-    → padded satellite (Some (unwrap_or kept (empty_row name))) ≡ padded satellite kept
-padded-blank None name satellite = refl
-padded-blank (Some k) name satellite = refl
 
 pub come-tail : (rest before : List RowTail) (row : Row)
     → row_tail_named row.name rest ≡ row_tail_named row.name before
     → row_tail_after (Some (row_or_blank row.name rest)) row ≡ row_tail_in before row
-come-tail rest before row same =
-    tail-blank (row_tail_named row.name rest) row.name row
-    ∙ ap (λ (k : Option RowTail). row_tail_after k row) same
+come-tail rest before row same = grind arith
 
 pub come-line : (rest before : List RowTail) (row : Row)
     → row_tail_named row.name rest ≡ row_tail_named row.name before
     → row_line_after (Some (row_or_blank row.name rest)) row ≡ row_line_in before row
-come-line rest before row same =
-    line-blank (row_tail_named row.name rest) row.name row
-    ∙ ap (λ (k : Option RowTail). row_line_after k row) same
+come-line rest before row same = grind arith
 
 pub come-padded : (rest before : List RowTail) (satellite : Satellite)
     → row_tail_named satellite.name rest ≡ row_tail_named satellite.name before
     → padded satellite (Some (row_or_blank satellite.name rest)) ≡ padded_among before satellite
-come-padded rest before satellite same =
-    padded-blank (row_tail_named satellite.name rest) satellite.name satellite ∙ ap (padded satellite) same
+come-padded rest before satellite same = grind arith
 
 -- ---- the identifier of the row that has come
 
@@ -69,21 +50,12 @@ come-name name (row ∷ rest) = found-name name rest row (bytes_eq row.name name
 
 -- ---- one comes after room was asked for
 
-pub come-asked : (name : List ℕ) (old asked new : PlacedRows) → HasAskedRoom old asked
-    → HasCome name asked new → HasCome name old new
-come-asked name old asked new same come =
-    record {
-      rows = come.rows ∙ (λ j. same.rows j ++ row_or_blank name (same.rest j) ∷ []);
-      others = λ other differs. come.others other differs ∙ ap (row_tail_named other) same.rest;
-    }
-
 -- ---- one that hasn't come yet comes
 
 pub comes : {E : Type 0} (r : Result Bool E) (b : Bool) (H : Type 0) → IsOk r
     → IfOk r (λ is_new. is_new ≡ not b)
     → IfOk r (λ is_new. is_new ≡ true → H) → b ≡ false → H
-comes (Ok is_new) b H ok answer come new = come (answer ∙ ap not new)
-comes (Err e) b H ok answer come new = absurd (cc)
+comes r b H ok answer come new = grind arith
 
 -- what has not come yet, by identifier, is as before
 abbrev pub AreAwaited : {X : Type 0} → (X → List ℕ) → List X → List RowTail → List RowTail → Type 0
@@ -94,16 +66,17 @@ among-last : {X : Type 0} (f : X → List ℕ) (xs : List X) (x : X) (name : Lis
     → is_among f name (xs ++ x ∷ []) ≡ false → (is_among f name xs ≡ false) × (bytes_eq (f x) name ≡ false)
 among-last f [] x name h = (refl, (or_parts (bytes_eq (f x) name) false h).0)
 among-last f (y ∷ ys) x name h =
-    let parts = or_parts (bytes_eq (f y) name) (is_among f name (ys ++ x ∷ [])) h in
-    let deeper = among-last f ys x name parts.1 in (rw (parts.0, deeper.0) refl, deeper.1)
+    grind (
+      arith,
+      among-last f ys x name (or_parts (bytes_eq (f y) name) (is_among f name (ys ++ x ∷ []))
+          h).1,
+    )
 
 pub awaited-after : {X : Type 0} (f : X → List ℕ) (come : List X) (x : X) (before : List RowTail)
     (old new : PlacedRows)
     → AreAwaited f come before old.rest → HasCome (f x) old new
     → AreAwaited f (come ++ x ∷ []) before new.rest
-awaited-after f come x before old new awaited has = λ name absent.
-    let parts = among-last f come x name absent in
-    has.others name (other_way (f x) name parts.1) ∙ awaited name parts.0
+awaited-after f come x before old new awaited has = grind (arith, common_steps, among-last, other_way)
 
 -- ---- the next row of an epoch
 

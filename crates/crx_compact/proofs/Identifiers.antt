@@ -1,5 +1,5 @@
 -- Things of different identifiers: each is found by its own, and none is among earlier ones.
-use Rattle.std.proofs.Common.{◌≡◌, ℕ, true, false, not, ◌||◌, List, [], ◌∷◌, Some, refl, ap, ◌∙◌}
+use Rattle.std.proofs.Common.{◌≡◌, ℕ, true, false, not, List, [], ◌∷◌, Some, refl}
 use Rattle.std.specs.List.{list_any, AllByRecursion}
 use Rattle.std.specs.Str.{bytes_eq}
 use Rattle.std.proofs.lemmas.Bool.{and_parts, not-true, or_parts}
@@ -7,6 +7,8 @@ use Rattle.crx_header.specs.meaning.Satellites.{is_among, are_apart}
 use Rattle.crx_header.proofs.Apart.{other_way}
 use Rattle.crx_compact.specs.meaning.Sequences.{named}
 use Rattle.crx_compact.proofs.Characters.{bytes_eq-same}
+use Rattle.std.proofs.lemmas.Grind.{common_steps}
+use Rattle.std.proofs.Common.{arith}
 
 -- those that are found among some items are found with one more before them, of another identifier
 found-later : {X : Type 0} (f : X → List ℕ) (x : X) (xs ys : List X) → is_among f (f x) ys ≡ false
@@ -14,8 +16,16 @@ found-later : {X : Type 0} (f : X → List ℕ) (x : X) (xs ys : List X) → is_
     → AllByRecursion (λ y. named f (f y) (x ∷ xs) ≡ Some y) ys
 found-later f x xs [] new h = tt
 found-later f x xs (y ∷ ys) new h =
-    let parts = or_parts (bytes_eq (f y) (f x)) (is_among f (f x) ys) new in
-    (rw (other_way (f y) (f x) parts.0) h.0, found-later f x xs ys parts.1 h.1)
+    grind (
+      arith,
+      common_steps,
+      or_parts,
+      bytes_eq,
+      is_among,
+      other_way,
+      found-later f x xs ys (or_parts
+          (bytes_eq (f y) (f x)) (is_among f (f x) ys) new).1 h.1,
+    )
 
 -- each of some different items is the first of its identifier
 pub each-own : {X : Type 0} (f : X → List ℕ) (xs : List X)
@@ -42,20 +52,15 @@ pub new-after : {X : Type 0} (f : X → List ℕ) (name : List ℕ) (earlier : L
     → AreNew f earlier xs → is_among f name xs ≡ false → AreNew f (name ∷ earlier) xs
 new-after f name earlier [] h k = tt
 new-after f name earlier (x ∷ xs) h k =
-    let parts = or_parts (bytes_eq (f x) name) (is_among f name xs) k in
-    (ap (λ b. b || list_any (bytes_eq (f x)) earlier) parts.0 ∙ h.0, new-after f name earlier xs h.1 parts.1)
+    grind (arith, new-after f name earlier xs h.1 (or_parts (bytes_eq (f x) name) (is_among f name xs) k).1)
 
 -- and without the newest one
 pub new-before : {X : Type 0} (f : X → List ℕ) (name : List ℕ) (earlier : List (List ℕ)) (xs : List X)
     → AreNew f (name ∷ earlier) xs → AreNew f earlier xs
 new-before f name earlier [] h = tt
-new-before f name earlier (x ∷ xs) h = (
-  (or_parts (bytes_eq (f x) name) (list_any (bytes_eq (f x)) earlier) h.0).1,
-  new-before f name earlier xs h.1,
-)
+new-before f name earlier (x ∷ xs) h = grind (arith, new-before f name earlier xs h.1)
 
 pub not-among : {X : Type 0} (f : X → List ℕ) (name : List ℕ) (earlier : List (List ℕ)) (xs : List X)
     → AreNew f (name ∷ earlier) xs → is_among f name xs ≡ false
 not-among f name earlier [] h = refl
-not-among f name earlier (x ∷ xs) h = ap (λ b. b || is_among f name xs) (or_parts
-    (bytes_eq (f x) name) (list_any (bytes_eq (f x)) earlier) h.0).0 ∙ not-among f name earlier xs h.1
+not-among f name earlier (x ∷ xs) h = grind (arith, not-among f name earlier xs h.1)

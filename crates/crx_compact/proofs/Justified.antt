@@ -1,20 +1,16 @@
 -- Texts in columns, with blanks after them.
-use Rattle.crx_compact.proofs.Words.{ℕ, ◌≡◌, ◌+◌, ◌-◌, ◌≤◌, List, [], ◌∷◌, ◌++◌, length, take, replicate, ap}
-use Rattle.crx_compact.proofs.Words.{sym, ◌∙◌, arith, suc, zero, left_justified}
+use Rattle.crx_compact.proofs.Words.{ℕ, ◌≡◌, ◌+◌, ◌-◌, ◌≤◌, List, [], ◌∷◌, ◌++◌, length, take, replicate}
+use Rattle.crx_compact.proofs.Words.{sym, arith, suc, zero, left_justified}
 use Rattle.std.proofs.lemmas.List.{take-replicate}
-
-sub-zero-width : (width : ℕ) → width - 0 ≡ width
-sub-zero-width width = omega arith
+use Rattle.std.proofs.Common.{rules}
 
 -- the columns of a padded text are the text and blanks after it
 take-padded : (width blanks : ℕ) (text : List ℕ) → length text ≤ width → width ≤ length text + blanks
     → take width (text ++ replicate blanks 32) ≡ text ++ replicate (width - length text) 32
-take-padded width blanks [] fits enough = take-replicate width blanks 32 (omega arith)
-    ∙ ap (λ (n : ℕ). replicate n 32) (sym (sub-zero-width width))
+take-padded width blanks [] fits enough = search (rules, take-replicate, replicate)
 take-padded zero blanks (c ∷ cs) fits enough = absurd (omega arith)
 take-padded (suc width) blanks (c ∷ cs) fits enough =
-    let left : suc width - suc (length cs) ≡ width - length cs = omega arith in
-    rw left (ap (λ (rest : List ℕ). c ∷ rest) (take-padded width blanks cs (omega arith) (omega arith)))
+    grind (arith, take-padded width blanks cs (omega arith) (omega arith))
 
 pub left_justified-is : (width : ℕ) (text : List ℕ)
     → length text ≤ width → text ++ replicate (width - length text) 32 ≡ left_justified width text

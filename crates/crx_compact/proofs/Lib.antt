@@ -17,6 +17,7 @@ pub mod AnnouncedRows
 pub mod Identifiers
 pub mod Marks
 pub mod Naming
+mod NamedAgain
 mod Marked
 pub mod Results
 pub mod ShownEpochs

@@ -9,6 +9,7 @@ use Rattle.std.proofs.lemmas.List.{length-append, length-drop, length-take-le, t
 use Rattle.std.proofs.Math.ListN.{drop_of_length-le}
 use Rattle.crx_text.proofs.WrittenTexts.{counted-line, line-ended}
 use Rattle.crx_compact.specs.LineLists.{cut, lines_text, AreCut, HasFront}
+use Rattle.std.proofs.lemmas.Grind.{common_steps}
 
 -- the first of some lines ends within the text, and the others are its rest
 pub record Ended (count : ℕ) (counts text : List ℕ) : Type 0 where
@@ -20,10 +21,7 @@ pub first-ended : (count : ℕ) (counts text : List ℕ)
 first-ended zero counts [] e = absurd (cc)
 first-ended zero counts (c ∷ cs) e = record { within = omega arith; rest = ap (drop 1) e }
 first-ended (suc count) counts [] e = absurd (cc)
-first-ended (suc count) counts (c ∷ cs) e =
-    let others : Ended count counts cs = first-ended count counts cs (ap (drop 1) e) in
-    let within : count < length cs = others.within in
-    record { within = omega (arith, within); rest = others.rest }
+first-ended (suc count) counts (c ∷ cs) e = grind (arith, first-ended count counts cs (ap (drop 1) e))
 
 whole-first : (line after : List ℕ) → take (length line) (line ++ after) ≡ line
 whole-first [] after = refl
@@ -35,20 +33,19 @@ pub cut-more : (counts text line : List ℕ) → lines_text (cut counts text) �
 cut-more [] [] line e = ap (λ l. l ∷ []) (whole-first line (10 ∷ []))
 cut-more [] (c ∷ cs) line e = absurd (cc)
 cut-more (count ∷ counts) text line e =
-    let first : Ended count counts text = first-ended count counts text e in
-    let within : count < length text = first.within in
-    ap (λ l. l ∷ cut (counts ++ length line ∷ []) (drop (suc count) (text ++ (line ++ 10 ∷ []))))
-    (take-append-le count text (line ++ 10 ∷ []) (omega (arith, within)))
-    ∙ ap (λ t. take count text ∷ cut (counts ++ length line ∷ []) t)
-    (drop-append-le (suc count) text (line ++ 10 ∷ []) (omega (arith, within)))
-    ∙ ap (λ ls. take count text ∷ ls) (cut-more counts (drop (suc count) text) line first.rest)
+    grind (
+      arith,
+      first-ended,
+      take-append-le,
+      drop-append-le,
+      cut-more counts (drop (suc count) text) line
+          (first-ended count counts text e).rest,
+    )
 
 pub text-more : (lines : List (List ℕ)) (line : List ℕ)
     → lines_text (lines ++ line ∷ []) ≡ lines_text lines ++ (line ++ 10 ∷ [])
 text-more [] line = simp append_assoc
-text-more (first ∷ lines) line =
-    ap (λ t. (first ++ 10 ∷ []) ++ t) (text-more lines line)
-    ∙ sym (append_assoc (first ++ 10 ∷ []) (lines_text lines) (line ++ 10 ∷ []))
+text-more (first ∷ lines) line = grind (arith, common_steps, append_assoc, lines_text, text-more lines line)
 
 -- a line that was put after others
 pub record Pushed (lengths lengths' text text' line : List ℕ) (past past_bytes : ℕ) : Type 0 where
@@ -61,25 +58,7 @@ pub line-pushed : (lengths lengths' text text' line : List ℕ) (past past_bytes
     → lengths' ≡ lengths ++ length line ∷ []
     → text' ≡ text ++ (line ++ 10 ∷ []) → Pushed lengths lengths' text text' line past past_bytes
 line-pushed lengths lengths' text text' line past past_bytes c longer more =
-    let counts : drop past lengths' ≡ drop past lengths ++ length line ∷ [] = ap (drop past) longer
-    ∙ drop-append-le past lengths (length line ∷ []) c.past_within in
-    let rest : drop past_bytes text' ≡ drop past_bytes text ++ (line ++ 10 ∷ []) = ap (drop past_bytes) more
-    ∙ drop-append-le past_bytes text (line ++ 10 ∷ []) c.bytes_within in
-    let is : cut (drop past lengths') (drop past_bytes text')
-    ≡ cut (drop past lengths) (drop past_bytes text) ++ line ∷ [] =
-    ap (λ ns. cut ns (drop past_bytes text')) counts ∙ ap (cut (drop past lengths ++ length line ∷ [])) rest
-    ∙ cut-more (drop past lengths) (drop past_bytes text) line c.whole in
-    let past_within : past ≤ length lengths = c.past_within in
-    let bytes_within : past_bytes ≤ length text = c.bytes_within in
-    record {
-      is = is;
-      still = record {
-        past_within = omega (arith, past_within, ap length longer, length-append lengths (length line ∷ []));
-        bytes_within = omega (arith, bytes_within, ap length more, length-append text (line ++ 10 ∷ []));
-        whole = ap lines_text is ∙ text-more (cut (drop past lengths) (drop past_bytes text)) line
-            ∙ ap (λ t. t ++ (line ++ 10 ∷ [])) c.whole ∙ sym rest;
-      };
-    }
+    grind (arith, drop-append-le, cut-more, length-append, text-more)
 
 -- ---- the next line
 
@@ -146,8 +125,7 @@ all-lines lengths bytes filled past past_bytes c kept =
 
 pub none-left : (lengths bytes : List ℕ) (filled past : ℕ)
     → length lengths ≤ past → cut (drop past lengths) (drop filled (take filled bytes)) ≡ []
-none-left lengths bytes filled past within =
-    ap (λ (ns : List ℕ). cut ns (drop filled (take filled bytes))) (drop_of_length-le lengths within)
+none-left lengths bytes filled past within = grind (arith, common_steps, cut, drop_of_length-le)
 
 -- ---- a line that was written after others
 

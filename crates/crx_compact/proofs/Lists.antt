@@ -18,9 +18,8 @@ all-from Q next (x ∷ xs) h = (next x h.0, all-from Q next xs h.1)
 pub get_or-take : {X : Type 0} (xs : List X) (n k : ℕ) (d : X) → k < n
     → get_or (take n xs) k d ≡ get_or xs k d
 get_or-take xs zero k d h = absurd (omega (arith, h))
-get_or-take [] (suc n) k d h = refl
-get_or-take (x ∷ xs) (suc n) zero d h = refl
 get_or-take (x ∷ xs) (suc n) (suc k) d h = get_or-take xs n k d (omega (arith, h))
+get_or-take xs (suc n) k d h = refl
 
 -- what is at a place that is within the list
 pub record HasAt {X : Type 0} (xs : List X) (k : ℕ) : Type 0 where
@@ -30,6 +29,4 @@ pub record HasAt {X : Type 0} (xs : List X) (k : ℕ) : Type 0 where
 pub has-at : {X : Type 0} (xs : List X) (k : ℕ) → k < length xs → HasAt xs k
 has-at [] k h = absurd (omega (arith, h))
 has-at (x ∷ xs) zero h = record { it = x; there = refl }
-has-at (x ∷ xs) (suc k) h =
-    let rest : HasAt xs k = has-at xs k (omega (arith, h)) in
-    record { it = rest.it; there = rest.there }
+has-at (x ∷ xs) (suc k) h = grind (arith, has-at xs k (omega (arith, h)))

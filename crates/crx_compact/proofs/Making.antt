@@ -1,14 +1,14 @@
 -- Items one by one, and the text that is made of them.
 use Rattle.crx_compact.proofs.Words.{◌≡◌, refl, ℕ, zero, suc, ◌+◌, List, [], ◌∷◌, ◌++◌, take, slice_get, Some}
-use Rattle.crx_compact.proofs.Words.{None, Result, Ok, Err, sym, ◌∙◌, ap, add-one, same_Some}
+use Rattle.crx_compact.proofs.Words.{None, Result, ◌∙◌, ap, add-one, same_Some}
 use Rattle.std.specs.Prelude.{flat_map}
 use Rattle.std.specs.Prelude.{IsOk, IsErr}
 use Rattle.std.proofs.lemmas.List.{flat_map_more}
+use Rattle.std.proofs.Common.{arith}
 
 -- a result that is no Err is an Ok
 pub ok-unless : {X E : Type 0} (r : Result X E) → (IsErr r → ⊥) → IsOk r
-ok-unless (Ok x) good = refl
-ok-unless (Err e) good = absurd (good refl)
+ok-unless r good = grind arith
 
 -- ---- items one by one
 
@@ -35,6 +35,4 @@ pub texts_more : {X : Type 0} (f : X → List ℕ) (before : List ℕ) (xs : Lis
     (old new : List ℕ)
     → old ≡ before ++ flat_map f (take i xs)
     → slice_get xs i ≡ Some x → new ≡ old ++ f x → new ≡ before ++ flat_map f (take (i + 1) xs)
-texts_more f before xs i x old new so_far here more =
-    more ∙ ap (λ text. text ++ f x) so_far
-    ∙ flat_map_more f before (take i xs) x ∙ ap (λ zs. before ++ flat_map f zs) (sym (taken_more xs i x here))
+texts_more f before xs i x old new so_far here more = grind (arith, flat_map_more, taken_more)

@@ -1,6 +1,6 @@
 -- The marks of a satellite line, and the row that its cells and marks make.
 use Rattle.std.specs.Prelude.{◌≡◌, refl, ℕ, suc, ◌+◌, ◌-◌, ◌*◌, Bool, true, false, List, [], ◌∷◌, ◌++◌, ℤ}
-use Rattle.std.specs.Prelude.{length, map, take, drop, replicate, slice_index_or, Option, None, Some, Result}
+use Rattle.std.specs.Prelude.{length, map, take, drop, replicate, slice_index_or, Option, None, Result}
 use Rattle.std.specs.Prelude.{Ok, Err, IfErr, OnOk, if◌then◌else◌, ◌==◌, zero}
 use Rattle.std.specs.List.{list_all}
 use Rattle.std.proofs.Common.{sym, ◌∙◌, ap, arith}
@@ -10,28 +10,25 @@ use Rattle.crx_text.specs.meaning.Texts.{by_position, is_kept}
 use Rattle.crx_base.specs.meaning.Lines.{is_printable}
 use Rattle.crx_text.specs.Texts.{character_of, patched}
 use Rattle.crx_text.specs.declared.code.Code.{Code}
-use Rattle.crx_text.specs.declared.code.Code.TheVariants.{Missing}
-use Rattle.crx_base.specs.declared.limits.TheConstants.{OBSERVATION_WIDTH}
 use Rattle.crx_base.specs.declared.fault.Fault.{Fault}
 use Rattle.crx_base.specs.declared.fault.Fault.TheVariants.{BadFlags, Truncated, BadField}
 use Rattle.std.proofs.Math.Path.{fun_ext}
-use Rattle.crx_text.specs.meaning.EachPlace.{each_place}
 use Rattle.crx_compact.specs.meaning.Sequences.{and_then, before_all}
 use Rattle.crx_header.specs.meaning.EpochColumns.{begins_epoch}
 use Rattle.crx_header.specs.meaning.InOrder.{◌otherwise◌next◌}
 use Rattle.crx_compact.specs.meaning.EpochText.{Satellite}
 use Rattle.crx_compact.specs.meaning.Cells.{ReadCell, after_cells, cells_of, cells_read, cell_read}
-use Rattle.crx_compact.specs.meaning.CompactPlaces.{ReadRow, satellite_line_read, are_marks, row_of_cells}
+use Rattle.crx_compact.specs.meaning.CompactPlaces.{ReadRow, are_marks, row_of_cells}
 use Rattle.crx_compact.specs.meaning.Past.{Past}
 use Rattle.crx_compact.specs.ArcTails.{ArcTail}
 use Rattle.crx_compact.specs.Tails.{RowTail, Tail}
-use Rattle.crx_compact.specs.ArcSteps.{arc_of_code, value_of_code, shown_value}
+use Rattle.crx_compact.specs.ArcSteps.{shown_value}
 use Rattle.crx_compact.specs.Steps.{cell_of_tail, flags_held, flags_of_tail, tail_named}
 use Rattle.crx_compact.proofs.CellsRead.{cells-same}
 use Rattle.crx_compact.specs.ShownRows.{shown_row}
 use Rattle.crx_compact.specs.HeldRows.{HeldRow, held_row, past_of_tail, arcs_of_tail, held_from, past_of_row}
 use Rattle.crx_compact.specs.HeldRows.{row_after, row_held, row_held_from}
-use Rattle.crx_compact.specs.Cells.{value_at_place, CellsAreRead, arcs_of_codes}
+use Rattle.crx_compact.specs.Cells.{value_at_place, CellsAreRead}
 use Rattle.crx_compact.proofs.SoundTexts.{held-columns, patched-trimmed}
 use Rattle.crx_compact.proofs.Characters.{list_all-at, at-by_position}
 use Rattle.crx_text.proofs.Characters.{at, at-without_end_blanks, columns-are, list_all-from_at}
@@ -39,24 +36,16 @@ use Rattle.crx_text.proofs.Characters.{length-columns}
 use Rattle.crx_compact.proofs.PlaceByPlace.{at-padded, at-take}
 use Rattle.crx_text.specs.meaning.Codes.{code_of, after_cell}
 use Rattle.crx_compact.proofs.Results.{ok-same, and_then-ok, before-ok}
+use Rattle.std.proofs.Common.{rules}
 
 -- ---- the characters of patched indicators
 
-patched-character : (a b : ℕ) → is_kept a ≡ true → is_printable b ≡ true → is_kept (character_of a b) ≡ true
-patched-character a b h k = grind (arith, h, k)
-
 pub patched-kept : (old marks : List ℕ) → list_all is_kept old ≡ true
     → list_all is_printable marks ≡ true → list_all is_kept (patched old marks) ≡ true
-patched-kept old marks h k = list_all-from_at is_kept
-    (patched old marks) (λ p. ap is_kept (at-without_end_blanks (by_position character_of old marks) p
-    ∙ at-by_position character_of refl old marks p) ∙ patched-character
-    (at old p) (at marks p) (list_all-at is_kept refl old h p) (list_all-at is_printable refl marks k p))
+patched-kept old marks h k =
+    grind (arith, list_all-from_at, at-without_end_blanks, at-by_position, list_all-at)
 
 -- ---- no marks
-
-at-unmarked : (flags : List ℕ) (p : ℕ) → at (patched flags []) p ≡ at flags p
-at-unmarked flags p = at-without_end_blanks (by_position character_of flags []) p
-    ∙ at-by_position character_of refl flags [] p
 
 pub none-there : (marks : List ℕ) → true ≡ (length marks == 0) → marks ≡ []
 none-there [] e = refl
@@ -69,7 +58,13 @@ columns-left count flags = columns-are flags 1 (2 * count)
     (columns (patched flags []) 1 (2 * count)) (length-columns (patched flags []) 1 (2 * count)) (λ p less.
     let place : 1 - 1 + p ≡ p = omega arith in
     ap (at flags) place ∙ sym (at-take (2 * count) (patched flags [] ++ replicate (2 * count) 32) p less
-    ∙ at-padded (2 * count) (patched flags []) p ∙ at-unmarked flags p))
+    ∙ at-padded (2 * count) (patched flags []) p ∙ (search (
+      rules,
+      at-without_end_blanks,
+      by_position,
+      character_of,
+      at-by_position,
+    ))))
 
 -- the columns of indicators show what is held of them
 pub columns-held : (count : ℕ) (flags : List ℕ) → columns (flags_held count flags) 1 (2 * count)
@@ -92,18 +87,10 @@ abbrev pub row_of_line : Past → Satellite → List ℕ → Result ReadRow Faul
 row_of_line past satellite line = and_then (cells_read (past.value satellite.name) (cells_of
     satellite.count line)) (λ cells. row_with_marks past satellite (after_cells satellite.count line) cells)
 
--- a line that begins no epoch is read by its cells
-line-cells : (arcs : List (Option ArcTail)) (flags : List ℕ) (satellite : Satellite) (line : List ℕ)
-    → begins_epoch line ≡ false → (r : Result (List ReadCell) Fault) → cells_read (value_at_place arcs)
-    (cells_of satellite.count line) ≡ r → row_held_from arcs flags satellite line ≡ and_then (and_then r
-    (λ cells. row_with_marks (past_of_row arcs flags) satellite (after_cells satellite.count line) cells))
-    (λ read. Ok (held_from arcs flags read))
-line-cells arcs flags satellite line h r e = cc (h, e)
-
 pub line-fault : (arcs : List (Option ArcTail)) (flags : List ℕ) (satellite : Satellite)
     (line : List ℕ) (fault : Fault) → begins_epoch line ≡ false → cells_read (value_at_place arcs)
     (cells_of satellite.count line) ≡ Err fault → row_held_from arcs flags satellite line ≡ Err fault
-line-fault arcs flags satellite line fault h e = line-cells arcs flags satellite line h (Err fault) e
+line-fault arcs flags satellite line fault h e = (cc (h, e))
 
 -- the marks decide after the cells
 line-marks : (arcs : List (Option ArcTail))
@@ -112,15 +99,7 @@ line-marks : (arcs : List (Option ArcTail))
     → after_cells satellite.count line ≡ drop at line → are_marks satellite.count (drop at line) ≡ b
     → row_held_from arcs flags satellite line ≡ and_then (b otherwise Err BadFlags next Ok (row_of_cells
     (past_of_row arcs flags) satellite.name (drop at line) cells)) (λ read. Ok (held_from arcs flags read))
-line-marks arcs flags satellite line at cells b h good marks e =
-    cc (line-cells arcs flags satellite line h (Ok cells) good, marks, e)
-
-pub line-bad_marks : (arcs : List (Option ArcTail)) (flags : List ℕ) (satellite : Satellite)
-    (line : List ℕ) (left : List (Option ArcTail)) (at : ℕ) → begins_epoch line ≡ false
-    → CellsAreRead arcs satellite.count line left at → are_marks satellite.count (drop at line) ≡ false
-    → row_held_from arcs flags satellite line ≡ Err BadFlags
-line-bad_marks arcs flags satellite line left at h read e =
-    line-marks arcs flags satellite line at read.cells false h read.good read.marks e
+line-marks arcs flags satellite line at cells b h good marks e = grind arith
 
 -- ---- cells
 
@@ -197,19 +176,11 @@ line-held arcs flags satellite line left at name held h read e same columned =
 
 -- ---- faults as they are reported
 
-pub marks-refused : (arcs : List (Option ArcTail)) (flags : List ℕ) (satellite : Satellite)
-    (line : List ℕ) (left : List (Option ArcTail)) (at : ℕ) (fault : Fault) → begins_epoch line ≡ false
-    → CellsAreRead arcs satellite.count line left at → (are_marks satellite.count (drop at line) ≡ false)
-    × (fault ≡ BadFlags) → row_held_from arcs flags satellite line ≡ Err fault
-marks-refused arcs flags satellite line left at fault h read e =
-    cc (line-bad_marks arcs flags satellite line left at h read e.0, e.1)
-
 -- ---- by what was kept of the whole epoch before
 
 pub cell-by_kept : (kept : Option RowTail) (place : ℕ)
     → slice_index_or (arcs_of_tail kept) place None ≡ cell_of_tail place kept
-cell-by_kept None place = refl
-cell-by_kept (Some row) place = refl
+cell-by_kept kept place = grind arith
 
 row-decided : (tail : Tail)
     (satellite : Satellite) (marks : List ℕ) (begins good : Bool) (r : Result (List ReadCell) Fault)
@@ -219,64 +190,25 @@ row-decided : (tail : Tail)
     (arcs_of_tail (tail_named satellite.name tail)) (flags_of_tail (tail_named satellite.name tail)) read)))
     (and_then (if begins then Err Truncated else and_then r (λ cells. good otherwise Err BadFlags next Ok
     (row_of_cells (past_of_tail tail) satellite.name marks cells))) (λ read. Ok (held_row tail read)))
-row-decided tail satellite marks true good r = refl
-row-decided tail satellite marks false good (Err fault) = refl
-row-decided tail satellite marks false false (Ok cells) = refl
-row-decided tail satellite marks false true (Ok cells) =
-    let kept : Option RowTail = tail_named satellite.name tail in
-    let codes : List Code = map (λ (c : ReadCell). c.code) cells in
-    ap {B = Result HeldRow Fault} (λ (cell : ℕ → Option ArcTail). Ok (record {
-      row = (row_of_cells (past_of_tail tail) satellite.name marks cells).row;
-      tail = record {
-        name = satellite.name;
-        flags = flags_held (length codes) (patched (flags_of_tail kept) marks);
-        cells = each_place (length codes)
-            (λ place. arc_of_code (slice_index_or codes place Missing) (cell place));
-      };
-    })) (fun_ext (λ place. cell-by_kept kept place))
+row-decided tail satellite marks begins good r = grind arith
 
 pub row-by_tail : (tail : Tail) (satellite : Satellite) (line : List ℕ)
     → row_held (tail_named satellite.name tail) satellite line ≡ row_after tail satellite line
-row-by_tail tail satellite line =
-    let kept = tail_named satellite.name tail in
-    let past = past_of_row (arcs_of_tail kept) (flags_of_tail kept) in
-    let marks = after_cells satellite.count line in
-    let first = cells-same (value_at_place (arcs_of_tail kept)) ((past_of_tail tail).value satellite.name)
-    (λ place code. ap (value_of_code OBSERVATION_WIDTH code) (cell-by_kept kept place))
-    (cells_of satellite.count line) in
-    let second = row-decided tail satellite marks (begins_epoch line) (are_marks satellite.count marks)
-    (cells_read ((past_of_tail tail).value satellite.name) (cells_of satellite.count line)) in
-    cc
+row-by_tail tail satellite line = grind (arith, cells-same, cell-by_kept, row-decided)
 
 -- ---- what is reported, by a result
 
 pub if-err : {X E : Type 0} (r : Result X E) (P Q : E → Type 0) → ((e : E) → P e → Q e) → IfErr r P
     → IfErr r Q
-if-err (Ok x) P Q f h = h
-if-err (Err e) P Q f h = f e h
+if-err r P Q f h = grind arith
 
 pub on-ok : {X E : Type 0} (r : Result X E) {P Q : Type 0} → (P → Q) → OnOk r P → OnOk r Q
-on-ok (Ok x) f h = f h
-on-ok (Err e) f h = h
+on-ok r f h = grind arith
 
 pub on-both : {X E : Type 0} (r : Result X E) {P Q R : Type 0} → (P → Q → R) → OnOk r P → OnOk r Q → OnOk r R
-on-both (Ok x) f p q = f p q
-on-both (Err e) f p q = tt
+on-both r f p q = grind arith
 
 -- blanks at the end of the indicators before a line don't count
 pub row-trimmed : (arcs : List (Option ArcTail)) (flags : List ℕ) (satellite : Satellite) (line : List ℕ)
     → row_held_from arcs (without_end_blanks flags) satellite line ≡ row_held_from arcs flags satellite line
-row-trimmed arcs flags satellite line =
-    ap {B = Result HeldRow Fault} (λ (patch : List ℕ → List ℕ). and_then (satellite_line_read (record {
-      text = λ line. line;
-      clock = λ code. Ok None;
-      value = λ name place code. value_at_place arcs place code;
-      flags = λ name marks. patch marks;
-    }) satellite line) (λ (read : ReadRow). Ok (record {
-      row = read.row;
-      tail = record {
-        name = read.raw.name;
-        flags = flags_held (length read.raw.codes) (patch read.raw.marks);
-        cells = arcs_of_codes arcs read.raw.codes;
-      };
-    }))) (fun_ext (λ marks. patched-trimmed flags marks))
+row-trimmed arcs flags satellite line = grind (arith, fun_ext, patched-trimmed)

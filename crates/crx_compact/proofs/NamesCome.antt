@@ -1,32 +1,24 @@
 -- Satellites that come by the identifiers of an epoch text, each with as many types as its system has.
-use Rattle.std.proofs.Common.{◌≡◌, ◌++◌, ◌∷◌, [], ℕ, List, Bool, true, false, not, length, take, map, refl}
+use Rattle.std.proofs.Common.{◌≡◌, ◌++◌, ◌∷◌, [], ℕ, List, Bool, true, false, not, map}
 use Rattle.std.proofs.Common.{ap, sym, ◌∙◌, subst, Some}
 use Rattle.std.proofs.lemmas.List.{map-append}
-use Rattle.std.proofs.Math.Seq.{take-append_seam}
 use Rattle.crx_text.specs.meaning.Columns.{columns}
 use Rattle.crx_header.specs.meaning.ObservationTypes.{IsAllowedCount}
 use Rattle.crx_header.specs.meaning.Satellites.{is_among, is_identifier}
 use Rattle.crx_header.proofs.Apart.{among-map}
-use Rattle.crx_text.proofs.Characters.{length-columns}
 use Rattle.crx_compact.specs.HeldRows.{IsAwaitedSatellite}
 use Rattle.crx_compact.specs.meaning.EpochText.{Satellite}
 use Rattle.crx_compact.specs.Placing.{HasCome, PlacedRows, padded, padded_among}
 use Rattle.crx_compact.specs.Placing.{row_or_blank}
 use Rattle.crx_compact.specs.Tails.{RowTail}
 use Rattle.crx_compact.proofs.ComeRows.{AreAwaited, awaited-after, come-name, come-padded}
+use Rattle.std.proofs.Common.{arith}
 
 -- whether a satellite has come, by the rows that have
 pub among-rows : (before rows : List RowTail) (found : List Satellite) (name : List ℕ) (b : Bool)
     → rows ≡ map (padded_among before) found → b ≡ not (is_among (λ (t : RowTail). t.name) name rows)
     → is_among (λ (s : Satellite). s.name) name found ≡ not b
-among-rows before rows found name b made answer =
-    sym (ap (is_among (λ (t : RowTail). t.name) name) made
-    ∙ among-map (λ (t : RowTail). t.name) (padded_among before) name found)
-    ∙ twice (is_among (λ (t : RowTail). t.name) name rows) ∙ ap not (sym answer)
-  where
-    twice : (c : Bool) → c ≡ not (not c)
-    twice true = refl
-    twice false = refl
+among-rows before rows found name b made answer = grind (arith, among-map)
 
 -- what is known where the next satellite has come, and has as many types as its system
 pub record HasNameCome (before : List RowTail) (found : List Satellite) (new : PlacedRows) : Type 0 where
@@ -62,8 +54,4 @@ name-comes before found name count old mid new made awaited fresh has sized same
 pub awaited-one : (name text : List ℕ) (first count : ℕ) → name ≡ columns text first 3
     → is_identifier (columns name 1 3) ≡ true → IsAllowedCount count
     → IsAwaitedSatellite (record { name = name; count = count })
-awaited-one name text first count is named allowed =
-    let three : length name ≡ 3 = ap length is ∙ length-columns text first 3 in
-    let whole : columns name 1 3 ≡ name =
-    ap (λ n. take n (name ++ 32 ∷ 32 ∷ 32 ∷ [])) (sym three) ∙ take-append_seam name (32 ∷ 32 ∷ 32 ∷ []) in
-    record { named = ap is_identifier (sym whole) ∙ named; counted = allowed }
+awaited-one name text first count is named allowed = grind arith

@@ -1,6 +1,6 @@
 -- The identifiers of an epoch text, read from left to right.
 use Rattle.std.specs.Prelude.{◌≡◌, ◌<◌, refl, ℕ, zero, suc, ◌+◌, ◌*◌, Bool, true, false, ◌||◌, List, [], ◌∷◌}
-use Rattle.std.specs.Prelude.{◌++◌, drop, Option, Some, None, Result, Ok, Err, if◌then◌else◌, All, slice_get}
+use Rattle.std.specs.Prelude.{◌++◌, drop, Option, Some, None, Result, Ok, Err, All, slice_get}
 use Rattle.std.specs.List.{list_any}
 use Rattle.std.specs.Str.{bytes_eq}
 use Rattle.std.proofs.Common.{sym, ◌∙◌, ap, arith, subst, inl, inr}
@@ -18,6 +18,8 @@ use Rattle.crx_compact.specs.meaning.EpochText.{Satellite, names_in, satellite_b
 use Rattle.crx_compact.specs.Placing.{HasRoom, HaveNamesRoom, HaveTypesRoom, KeepsRooms}
 use Rattle.crx_compact.proofs.Characters.{bytes_eq-same, bytes_eq-is, within-or_past}
 use Rattle.crx_compact.proofs.Results.{before-ok, if-err, no-err, ok-same}
+use Rattle.std.proofs.lemmas.Grind.{common_steps}
+use Rattle.std.proofs.Common.{rules}
 
 -- the names of some satellites before earlier ones, the last one first
 abbrev pub names_after : List Satellite → List (List ℕ) → List (List ℕ)
@@ -50,34 +52,21 @@ names-more (q ∷ qs) s earlier = names-more qs s (q.name ∷ earlier)
 -- ---- whether an identifier is there already
 
 same-way : (b c : Bool) (xs ys : List ℕ) → bytes_eq xs ys ≡ b → bytes_eq ys xs ≡ c → b ≡ c
-same-way true true xs ys e f = refl
-same-way false false xs ys e f = refl
-same-way true false xs ys e f = let same = bytes_eq-is xs ys e in
-    cc (same, bytes_eq-same xs, f)
-same-way false true xs ys e f = let same = bytes_eq-is ys xs f in
-    cc (e, same, bytes_eq-same ys)
+same-way true false xs ys e f = search (rules, bytes_eq-is, bytes_eq-same)
+same-way false true xs ys e f = search (rules, bytes_eq-is, bytes_eq-same)
+same-way b c xs ys e f = refl
 
 either-way : (xs ys : List ℕ) → bytes_eq xs ys ≡ bytes_eq ys xs
 either-way xs ys = same-way (bytes_eq xs ys) (bytes_eq ys xs) xs ys refl refl
 
 regroup : (a b c : Bool) → ((a || b) || c) ≡ (b || (a || c))
-regroup true true c = refl
-regroup true false c = refl
-regroup false true c = refl
-regroup false false c = refl
+regroup a b c = grind arith
 
 any-after : (name : List ℕ) (ss : List Satellite) (earlier : List (List ℕ))
     → list_any (bytes_eq name) (names_after ss earlier)
     ≡ (list_any (bytes_eq name) earlier || list_any (λ (s : Satellite). bytes_eq s.name name) ss)
-any-after name [] earlier = or-false (list_any (bytes_eq name) earlier)
-  where
-    or-false : (b : Bool) → b ≡ (b || false)
-    or-false true = refl
-    or-false false = refl
-any-after name (s ∷ ss) earlier = any-after name ss (s.name ∷ earlier)
-    ∙ regroup (bytes_eq name s.name) (list_any (bytes_eq name) earlier)
-    (list_any (λ (q : Satellite). bytes_eq q.name name) ss) ∙ ap (λ b. list_any (bytes_eq name) earlier ||
-    (b || list_any (λ (q : Satellite). bytes_eq q.name name) ss)) (either-way name s.name)
+any-after name [] earlier = grind arith
+any-after name (s ∷ ss) earlier = grind (arith, regroup, either-way, any-after name ss (s.name ∷ earlier))
 
 -- ---- one identifier more
 
@@ -96,8 +85,7 @@ at-next types all place found name n e = cc (n.so_far, e)
 pub named-bad : (types : List Count) (all : List (List ℕ)) (place : ℕ) (found : List Satellite)
     (name : List ℕ) → NamedSoFar types all place found → drop place all ≡ name ∷ drop (place + 1) all
     → types_of_satellite types name ≡ None → satellites_named types [] all ≡ Err BadSatellite
-named-bad types all place found name n e none =
-    cc (at-next types all place found name n e, none, onto-err found BadSatellite)
+named-bad types all place found name n e none = grind (arith, common_steps, at-next, onto-err)
 
 stands : (name : List ℕ) (found : List Satellite) (b : Bool) → b ≡ list_any
     (λ (s : Satellite). bytes_eq s.name name) found → list_any (bytes_eq name) (names_after found []) ≡ b
@@ -107,12 +95,7 @@ pub named-twice : (types : List Count) (all : List (List ℕ)) (place : ℕ) (fo
     (name : List ℕ) (count : ℕ) → NamedSoFar types all place found → drop place all ≡ name ∷ drop (place + 1)
     all → types_of_satellite types name ≡ Some count → list_any (λ (s : Satellite). bytes_eq s.name name)
     found ≡ true → satellites_named types [] all ≡ Err RepeatedSatellite
-named-twice types all place found name count n e some twice =
-    let others = satellites_named types (name ∷ names_after found []) (drop (place + 1) all) in
-    at-next types all place found name n e ∙ ap (λ (c : Option ℕ). onto found
-    (satellite_before (names_after found []) name c others)) some ∙ ap (λ b. onto found
-    (if b then Err RepeatedSatellite else before_all (record { name = name; count = count }) others))
-    (stands name found true (sym twice)) ∙ onto-err found RepeatedSatellite
+named-twice types all place found name count n e some twice = grind (arith, at-next, stands, onto-err)
 
 pub named-more : (types : List Count) (all : List (List ℕ))
     (place : ℕ) (found more : List Satellite) (name : List ℕ) (count : ℕ) → NamedSoFar types all place found
@@ -120,18 +103,7 @@ pub named-more : (types : List Count) (all : List (List ℕ))
     → list_any (λ (s : Satellite). bytes_eq s.name name) found ≡ false
     → more ≡ found ++ record { name = name; count = count } ∷ [] → NamedSoFar types all (place + 1) more
 named-more types all place found more name count n e some once m =
-    let s : Satellite = record { name = name; count = count } in
-    let others : Result (List Satellite) Fault =
-    satellites_named types (name ∷ names_after found []) (drop (place + 1) all) in
-    let here : satellites_named types [] all ≡ onto found (before_all s others) = at-next types all place
-    found name n e ∙ ap (λ (c : Option ℕ). onto found (satellite_before (names_after found []) name c others))
-    some ∙ ap (λ b. onto found (if b then Err RepeatedSatellite else before_all s others))
-    (stands name found false (sym once)) in
-    record {
-      so_far = here ∙ sym (onto-more found s others) ∙ ap (λ names. onto (found ++ s ∷ [])
-          (satellites_named types names (drop (place + 1) all))) (sym (names-more found s []))
-          ∙ ap (λ ss. onto ss (satellites_named types (names_after ss []) (drop (place + 1) all))) (sym m);
-    }
+    grind (arith, stands, onto-more, names-more)
 
 pub named-all : (types : List Count) (all : List (List ℕ)) (place : ℕ) (found : List Satellite)
     → NamedSoFar types all place found → drop place all ≡ [] → satellites_named types [] all ≡ Ok found
@@ -152,12 +124,7 @@ any-at P (suc n) (suc k) f h e = or-true (P (f 0)) _ (any-at P n k (λ i. f (suc
 pub any-append : (P : List ℕ → Bool) (xs : List (List ℕ)) (x : List ℕ)
     → list_any P xs ≡ false → P x ≡ false → list_any P (xs ++ x ∷ []) ≡ false
 any-append P [] x h e = ap (λ b. b || false) e
-any-append P (y ∷ ys) x h e = both (P y) (list_any P ys) (list_any P (ys ++ x ∷ [])) h
-    (λ k. any-append P ys x k e)
-  where
-    both : (a b c : Bool) → (a || b) ≡ false → (b ≡ false → c ≡ false) → (a || c) ≡ false
-    both true b c h k = h
-    both false b c h k = k h
+any-append P (y ∷ ys) x h e = grind (arith, common_steps, list_any)
 
 pub any-more : (P : List ℕ → Bool) (n : ℕ) (f : ℕ → List ℕ)
     → list_any P (each_place n f) ≡ false → P (f n) ≡ false → list_any P (each_place (n + 1) f) ≡ false
@@ -173,11 +140,7 @@ pub named-each : (P : Satellite → Type 0) (types : List Count) (earlier all : 
     (name : List ℕ) (others : List (List ℕ)) (count : ℕ) (named : List Satellite)
     → satellites_named types earlier all ≡ Ok named → drop k all ≡ name ∷ others
     → types_of_satellite types name ≡ Some count → All P named → P (record { name = name; count = count })
-named-each P types earlier [] k name others count named is at some h = absurd (none-there k at)
-  where
-    none-there : (k : ℕ) → drop k [] ≡ name ∷ others → ⊥
-    none-there zero e = cc
-    none-there (suc k) e = cc
+named-each P types earlier [] k name others count named is at some h = grind (arith, common_steps)
 named-each P types earlier (n ∷ ns) k name others count named is at some h =
     by (λ j there rest first all. named-each P types
     (n ∷ earlier) ns j name others count rest first there some all) (types_of_satellite types n) refl is

@@ -2,7 +2,7 @@
 use Rattle.std.specs.Prelude.{◌≡◌, ◌≤◌, ◌<◌, ℕ, zero, suc, ◌+◌, ℤ, List, [], ◌∷◌, ◌++◌, length, flat_map}
 use Rattle.std.specs.Prelude.{slice_get}
 use Rattle.std.specs.Prelude.{slice_index_or, Option, Some, None, refl, ◌*◌, map, drop, replicate, take}
-use Rattle.std.proofs.Common.{sym, ◌∙◌, ap, arith, append_assoc, not-suc-le-zero, le_of_suc-le-suc}
+use Rattle.std.proofs.Common.{◌∙◌, ap, arith, append_assoc, not-suc-le-zero, le_of_suc-le-suc}
 use Rattle.std.proofs.lemmas.List.{flat_map_more, length-map}
 use Rattle.crx_text.specs.declared.code.Code.{Code}
 use Rattle.crx_text.specs.meaning.EachPlace.{each_place}
@@ -16,6 +16,7 @@ use Rattle.crx_text.specs.meaning.Columns.{columns}
 use Rattle.crx_text.specs.meaning.Numbers.{observation_text}
 use Rattle.crx_text.specs.meaning.PrintedCells.{printed_cells}
 use Rattle.crx_text.proofs.Characters.{at, length-columns}
+use Rattle.std.proofs.Common.{rules}
 
 pub value-there : {X : Type 0} (xs : List X) (k : ℕ) (x d : X) → slice_get xs k ≡ Some x
     → slice_index_or xs k d ≡ x
@@ -40,24 +41,13 @@ pub cells-more : (before : List (Option ArcTail)) (values : List (Option ℤ)) (
     → arc ≡ arc_of_value value (slice_index_or before place None) → newer ≡ line' ++ cell_text code
     → more ≡ arcs ++ arc ∷ [] → CellsMade before values (place + 1) line newer more
 cells-more before values place line line' arcs value code arc newer more m here c a n r =
-    let is = value-there values place value None here in
-    let there = some-there values place value here in
-    record {
-      arcs_made = cc (r, m.arcs_made, a, is, each_place-more place (arc_at_place before values));
-      line_made =
-          let first = flat_map_more cell_text line
-          (each_place place (code_at_place before values)) (code_at_place before values place) in
-          cc (n, m.line_made, c, is, each_place-more place (code_at_place before values));
-      within = omega arith;
-    }
+    search (rules, value-there, some-there, each_place-more, flat_map_more)
 
 pub from-place : {X : Type 0} (d : X) (k : ℕ) (xs : List X)
     → k < length xs → drop k xs ≡ slice_index_or xs k d ∷ drop (k + 1) xs
 from-place d k [] h = absurd (omega (arith, h))
 from-place d zero (x ∷ xs) h = refl
-from-place d (suc k) (x ∷ xs) h =
-    let next : suc k + 1 ≡ suc (k + 1) = omega arith in
-    cc (from-place d k xs (omega (arith, h)), next)
+from-place d (suc k) (x ∷ xs) h = grind (arith, from-place d k xs (omega (arith, h)))
 
 pub at-map : {X Y : Type 0} (f : X → Y) (d : X) (e : Y) (k : ℕ) (xs : List X)
     → k < length xs → slice_index_or (map f xs) k e ≡ f (slice_index_or xs k d)
@@ -67,16 +57,13 @@ at-map f d e (suc k) (x ∷ xs) h = at-map f d e k xs (omega (arith, h))
 
 pub at-take : (n : ℕ) (text : List ℕ) (p : ℕ) → p < n → at (take n text) p ≡ at text p
 at-take zero text p h = absurd (not-suc-le-zero h)
-at-take (suc n) [] p h = refl
-at-take (suc n) (c ∷ cs) zero h = refl
 at-take (suc n) (c ∷ cs) (suc p) h = at-take n cs p (le_of_suc-le-suc h)
+at-take (suc n) text p h = refl
 
 pub at-padded : (k : ℕ) (text : List ℕ) (p : ℕ) → at (text ++ replicate k 32) p ≡ at text p
-at-padded zero [] p = refl
-at-padded (suc k) [] zero = refl
 at-padded (suc k) [] (suc p) = at-padded k [] p
-at-padded k (c ∷ cs) zero = refl
 at-padded k (c ∷ cs) (suc p) = at-padded k cs p
+at-padded k text p = refl
 
 at-columns : (flags : List ℕ) (count p : ℕ) → p < count → at (columns flags 1 count) p ≡ at flags p
 at-columns flags count p h = at-take count (flags ++ replicate count 32) p h ∙ at-padded count flags p
@@ -106,10 +93,4 @@ pub print-on : (arcs : List (Option ArcTail)) (flags before text whole : List �
     (drop (2 * k) (columns flags 1 (2 * length arcs))) ≡ whole → text ++ printed_cells
     (drop (k + 1) (map shown_value arcs)) (drop (2 * (k + 1)) (columns flags 1 (2 * length arcs))) ≡ whole
 print-on arcs flags before text whole k arc h is made left =
-    let values = map shown_value arcs in
-    let rest = printed_cells (drop (k + 1) values) (drop (2 * (k + 1)) (columns flags 1 (2 * length arcs))) in
-    let cell = ap (λ a. observation_text (shown_value a)) is
-    ∙ sym (ap observation_text (at-map shown_value arc None k arcs h)) in
-    ap (λ t. t ++ rest) made ∙ append_assoc before _ rest
-    ∙ ap (λ t. before ++ ((t ++ at flags (2 * k) ∷ at flags (2 * k + 1) ∷ []) ++ rest)) cell ∙ ap
-    (λ t. before ++ t) (sym (print-next values flags (length arcs) k (length-map arcs shown_value) h)) ∙ left
+    grind (arith, at-map, append_assoc, print-next, length-map)

@@ -21,12 +21,11 @@ use Rattle.crx_compact.specs.OpenEpochs.{tail_opened}
 use Rattle.crx_compact.specs.OpenLines.{reading_room}
 use Rattle.crx_compact.specs.Placing.{HasRoom, HaveTypesRoom, OpenHistory, padded}
 use Rattle.crx_compact.specs.PrintedBlocks.{printed_room}
-use Rattle.crx_compact.specs.ReadingRooms.{HasRoomFor, HaveCellsRoom}
+use Rattle.crx_compact.specs.ReadingRooms.{HasRoomFor, HasRoomReady, HaveCellsRoom}
 use Rattle.crx_compact.specs.ReadingRooms.{ReadingRoom}
 use Rattle.crx_compact.specs.Steps.{cell_of_tail, tail_named}
 use Rattle.crx_compact.specs.Tails.{RowTail, Tail}
 use Rattle.crx_compact.specs.declared.printed_block.PrintedBlock.{PrintedBlock}
-use Rattle.crx_compact.proofs.Results.{ok-same}
 
 -- ---- satellites, and the rows of them
 
@@ -99,9 +98,7 @@ pub rows-opened : (types : List Count) (line : List ℕ) (before : Tail) (begun 
     (found : List Satellite) (rows : List RowTail) → IsOpened types line before begun
     → satellites_of_line types (past_of_tail before) line ≡ Ok found → rows ≡ rows_before before found
     → rows ≡ begun.rows
-rows-opened types line before begun found rows opened read made =
-    made ∙ ap (rows_before before) (ok-same found opened.satellites (sym read ∙ opened.read))
-    ∙ sym opened.rows
+rows-opened types line before begun found rows opened read made = grind arith
 
 -- ---- what the lines need is there
 
@@ -118,9 +115,7 @@ pub text-known : (types : List Count) (line : List ℕ) (before : Tail) (begun :
     (room : ReadingRoom)
     (held : ℕ) → IsOpened types line before begun → HasRoomFor begun room → room.text ≡ held
     → length (patched before.text line) ≤ held
-text-known types line before begun room held opened has same =
-    let made = ap length opened.text in
-    let within = has.text in omega (arith, made, within, same)
+text-known types line before begun room held opened has same = grind arith
 
 -- what was read for has room
 pub room-for : (types : List Count) (line : List ℕ) (before : Tail) (begun : OpenRawEpoch)
@@ -129,16 +124,21 @@ pub room-for : (types : List Count) (line : List ℕ) (before : Tail) (begun : O
     → HaveTypesRoom opened.satellites new.satellites.rooms → new.satellites.rows ≡ begun.rows
     → length new.satellites.rows < after.lines.all_lines
     → LINE_LIMIT + 1 + sum (map printed_room new.satellites.rows) ≤ after.lines.all_bytes
-    → HasRoomFor begun (reading_room new after)
+    → HasRoomReady begun (reading_room new after)
 room-for types line before begun opened new after made fits known rows lines bytes =
     let same = ap length opened.text in
     let same' = ap length made in
+    let in_lines = subst (λ (rs : List RowTail). length rs < after.lines.all_lines) rows lines in
+    let in_bytes = subst (λ (rs : List RowTail). LINE_LIMIT + 1 + sum (map printed_room rs) ≤ after.lines.all_bytes)
+    rows bytes in
     record {
-      text = omega (arith, same, same', fits);
-      rows = subst (λ (rs : List RowTail). HaveCellsRoom rs new.satellites.rooms) (sym opened.rows)
-          (cells-room before opened.satellites new.satellites.rooms known);
-      lines = subst (λ (rs : List RowTail). length rs < after.lines.all_lines) rows lines;
-      bytes = subst (λ (rs : List RowTail). LINE_LIMIT + 1 + sum (map printed_room rs)
-          ≤ after.lines.all_bytes)
-          rows bytes;
+      has = record {
+        text = omega (arith, same, same', fits);
+        rows = subst (λ (rs : List RowTail). HaveCellsRoom rs new.satellites.rooms) (sym opened.rows)
+            (cells-room before opened.satellites new.satellites.rooms known);
+        lines = omega (arith, in_lines);
+        bytes = omega (arith, in_bytes);
+      };
+      lines = in_lines;
+      bytes = in_bytes;
     }

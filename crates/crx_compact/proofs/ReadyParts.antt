@@ -1,6 +1,7 @@
 -- Lines that are ready in two parts.
-use Rattle.std.proofs.Common.{◌≡◌, ℕ, List, [], ◌∷◌, ◌++◌, Bool, true, false, if◌then◌else◌, refl, ap}
+use Rattle.std.proofs.Common.{◌≡◌, ℕ, List, [], ◌∷◌, ◌++◌, Bool, true, false, if◌then◌else◌, ap}
 use Rattle.std.proofs.Common.{true≢false}
+use Rattle.std.proofs.Common.{arith}
 
 abbrev pub none-left : {A : Type 0} (x : A) (xs : List A) → x ∷ xs ≡ [] → ⊥
 none-left x xs e = true≢false (ap (λ l. elim l [ [] ↦ false | y ∷ ys ↦ true ]) e)
@@ -8,5 +9,4 @@ none-left x xs e = true≢false (ap (λ l. elim l [ [] ↦ false | y ∷ ys ↦ 
 -- no line is copied where none is ready
 pub none-copied : (is_copied : Bool) (line : List ℕ) (printed : List (List ℕ))
     → (if is_copied then line ∷ [] else []) ++ printed ≡ [] → is_copied ≡ false
-none-copied false line printed e = refl
-none-copied true line printed e = absurd (none-left line printed e)
+none-copied is_copied line printed e = grind arith

@@ -1,10 +1,11 @@
 -- Good results come from good results.
-use Rattle.crx_compact.proofs.Words.{◌≡◌, refl, Bool, true, false, not, List, ◌∷◌, Result, Ok, Err, IfOk}
+use Rattle.crx_compact.proofs.Words.{◌≡◌, Bool, true, not, List, ◌∷◌, Result, Ok, Err, IfOk}
 use Rattle.crx_compact.proofs.Words.{Option, None, Some, IfSome, if◌then◌else◌, is_ok, sym, ap, subst}
 use Rattle.crx_compact.proofs.Words.{true≢false, Fault, and_then, before_all}
 use Rattle.std.specs.Prelude.{OnOk, OnErr}
 use Rattle.std.specs.Prelude.{is_some}
 use Rattle.std.specs.Result.{is_err}
+use Rattle.std.proofs.Common.{arith}
 
 pub no-err : {X : Type 0} (f : Fault) (x : X) → Err f ≡ Ok x → ⊥
 no-err f x e = true≢false (sym (ap is_ok e))
@@ -24,38 +25,27 @@ pub record Follows {X Y : Type 0} (r : Result X Fault) (f : X → Result Y Fault
 
 pub and_then-ok : {X Y : Type 0} (r : Result X Fault) (f : X → Result Y Fault) (y : Y)
     → and_then r f ≡ Ok y → Follows r f y
-and_then-ok (Ok x) f y e = record { from = x; first = refl; next = e }
-and_then-ok (Err q) f y e = absurd (no-err q y e)
+and_then-ok r f y e = grind arith
 
 pub if-err : {X : Type 0} (b : Bool) (q : Fault) (r : Result X Fault) (x : X)
     → (if b then Err q else r) ≡ Ok x → r ≡ Ok x
-if-err true q r x e = absurd (no-err q x e)
-if-err false q r x e = e
+if-err b q r x e = grind arith
 
 pub if-true : {X : Type 0} (b : Bool) (q : Fault) (r : Result X Fault) (x : X)
     → (if not b then Err q else r) ≡ Ok x → b ≡ true
-if-true true q r x e = refl
-if-true false q r x e = absurd (no-err q x e)
-
-pub if-false : {X : Type 0} (b : Bool) (q : Fault) (r : Result X Fault) (x : X)
-    → (if b then Err q else r) ≡ Ok x → b ≡ false
-if-false true q r x e = absurd (no-err q x e)
-if-false false q r x e = refl
+if-true b q r x e = grind arith
 
 pub before-ok : {X : Type 0} (x : X) (r : Result (List X) Fault) (given : List X)
     → before_all x r ≡ Ok given → Follows r (λ xs. Ok (x ∷ xs)) given
-before-ok x (Ok xs) given e = record { from = xs; first = refl; next = e }
-before-ok x (Err q) given e = absurd (no-err q given e)
+before-ok x r given e = grind arith
 
 -- what is said of a good result is so where it is good
 pub by_ok : {T E X : Type 0} (r : Result T E) → is_ok r ≡ true → OnOk r X → X
-by_ok (Ok a) good x = x
-by_ok (Err e) good x = absurd (true≢false (sym good))
+by_ok r good x = grind arith
 
 -- one that is bad isn't good
 pub by_err : {T E : Type 0} (r : Result T E) → is_err r ≡ true → is_ok r ≡ true → ⊥
-by_err (Ok a) bad good = true≢false (sym bad)
-by_err (Err e) bad good = true≢false (sym good)
+by_err r bad good = grind arith
 
 pub from_ok : {T E : Type 0} (P : T → Type 0) (r : Result T E) (x : T) → r ≡ Ok x → IfOk r P → P x
 from_ok P r x is h = subst (λ q. IfOk q P) is h
@@ -66,12 +56,10 @@ pub from_some : {T : Type 0} (P : T → Type 0) (o : Option T) (x : T) → o ≡
 from_some P o x is h = subst (λ q. IfSome q P) is h
 
 pub some-otherwise : {T : Type 0} (o : Option T) → (o ≡ None → ⊥) → is_some o ≡ true
-some-otherwise (Some x) other = refl
-some-otherwise None other = absurd (other refl)
+some-otherwise o other = grind arith
 
 -- ---- a refusal that is handed on
 
 -- what is so is so of any refusal
 pub on_err : {X E P : Type 0} (r : Result X E) → P → OnErr r P
-on_err (Ok x) h = tt
-on_err (Err e) h = h
+on_err r h = grind arith

@@ -1,5 +1,5 @@
 -- Rows one by one: what holds of each, the sum of what each needs, and what is made of those up to an index.
-use Rattle.crx_compact.proofs.Words.{◌≡◌, ◌<◌, ◌+◌, ◌++◌, ◌∷◌, [], ℕ, zero, suc, List, Some, All, length}
+use Rattle.crx_compact.proofs.Words.{◌≡◌, ◌≤◌, ◌<◌, ◌+◌, ◌++◌, ◌∷◌, [], ℕ, zero, suc, List, Some, All, length}
 use Rattle.crx_compact.proofs.Words.{take, drop, map, sum, slice_get, refl, ap, sym, ◌∙◌, subst, arith}
 use Rattle.crx_compact.proofs.Words.{get_or, add-one, map-append, All-append, same_Some, slice_get_within}
 use Rattle.crx_compact.proofs.Words.{printed_row, shown_row, RowTail}
@@ -7,12 +7,12 @@ use Rattle.std.proofs.Common.{append_assoc}
 use Rattle.std.proofs.lemmas.List.Sums.{sum-map, sum_by-append, sum_by-cons}
 use Rattle.std.proofs.lemmas.Option.{get_or_from_slice_get}
 use Rattle.crx_compact.proofs.Making.{taken_more}
+use Rattle.std.proofs.lemmas.Grind.{common_steps}
 
 -- ---- what holds of each
 
 pub only : {X : Type 0} (P : X → Type 0) (x : X) → P x → All P (x ∷ [])
-only P x p zero d within = p
-only P x p (suc i) d within = absurd (omega (arith, within))
+only P x p h d within = grind arith
 
 pub all-next : {X : Type 0} (P : X → Type 0) (xs : List X) (k : ℕ) (x : X)
     → All P (take k xs) → slice_get xs k ≡ Some x → P x → All P (take (k + 1) xs)
@@ -35,8 +35,7 @@ pub record IsThere {X : Type 0} (xs : List X) (k : ℕ) : Type 0 where
 pub is-there : {X : Type 0} (xs : List X) (k : ℕ) → k < length xs → IsThere xs k
 is-there [] k within = absurd (omega (arith, within))
 is-there (x ∷ xs) zero within = record { item = x; there = refl }
-is-there (x ∷ xs) (suc k) within =
-    let deeper = is-there xs k (omega (arith, within)) in record { item = deeper.item; there = deeper.there }
+is-there (x ∷ xs) (suc k) within = grind (arith, is-there xs k (omega (arith, within)))
 
 -- ---- sums
 
@@ -50,11 +49,7 @@ sum-next f xs k x here =
     omega (arith, more, one, so_far)
 
 sum-first : {X : Type 0} (f : X → ℕ) (x : X) (xs : List X) → sum (map f (x ∷ xs)) ≡ f x + sum (map f xs)
-sum-first f x xs =
-    let all = sum-map f (x ∷ xs) in
-    let one = sum_by-cons f x xs in
-    let others = sum-map f xs in
-    omega (arith, all, one, others)
+sum-first f x xs = grind (arith, common_steps, sum-map, sum_by-cons)
 
 sum-after : {X : Type 0} (f : X → ℕ) (xs : List X) (k : ℕ) (x : X)
     → slice_get xs k ≡ Some x → sum (map f (drop k xs)) ≡ f x + sum (map f (drop (suc k) xs))
@@ -65,6 +60,14 @@ sum-after f (y ∷ ys) (suc k) x here = sum-after f ys k x here
 pub sum-left : {X : Type 0} (f : X → ℕ) (xs : List X) (k : ℕ) (x : X)
     → slice_get xs k ≡ Some x → sum (map f (drop k xs)) ≡ f x + sum (map f (drop (k + 1) xs))
 sum-left f xs k x here = sum-after f xs k x here ∙ ap (λ n. f x + sum (map f (drop n xs))) (sym (add-one k))
+
+-- what the items up to one need is no more than what all need
+pub sum-to : {X : Type 0} (f : X → ℕ) (xs : List X) (k : ℕ) (x : X)
+    → slice_get xs k ≡ Some x → sum (map f (take k xs)) + f x ≤ sum (map f xs)
+sum-to f [] k x here = absurd (cc)
+sum-to f (y ∷ ys) zero x here = omega (arith, sum-first f y ys, ap f (same_Some y x here))
+sum-to f (y ∷ ys) (suc k) x here =
+    omega (arith, sum-first f y ys, sum-first f y (take k ys), sum-to f ys k x here)
 
 -- ---- printed rows
 

@@ -3,11 +3,11 @@ use Rattle.std.proofs.Common.{true, false, ℕ, ◌≡◌, ◌+◌, ◌-◌, ◌
 use Rattle.std.proofs.Common.{List, [], ◌∷◌, length, take, drop, map, w8, refl, ap, sym, ◌∙◌, arith}
 use Rattle.std.specs.Prelude.{◌≢◌, MatchBool}
 use Rattle.std.proofs.Math.Seq.{take-take}
-use Rattle.std.proofs.lemmas.Bool.{true≢false}
 use Rattle.std.proofs.lemmas.Bool.Decides.{nat_tests, Decides-eqb}
 use Rattle.std.proofs.lemmas.List.{length-drop, length-take-le, take_all, take-append-drop}
 use Rattle.std.proofs.lemmas.Simd.{length-chunk, length-zip2, mask_l-mod, tops_compared}
 use lib.Lanes.{chunk, mask_l, top, zip2}
+use Rattle.std.proofs.lemmas.Grind.{common_steps}
 
 abbrev differs : ℕ → ℕ → Bool
 differs a b = not (eqb a b)
@@ -17,19 +17,17 @@ abbrev pub others : List ℕ → List ℕ → ℕ
 others xs ys = mask_l (map (top 7) (zip2 (λ a b. cond (differs a b) 255 0) xs ys)) % 2 ^ 64
 
 no_first : (b : Bool) (m : ℕ) → cond b 1 0 + 2 * m ≡ 0 → (b ≡ false) × (m ≡ 0)
-no_first true m e = absurd (omega arith)
-no_first false m e = (refl, omega arith)
+no_first b m e = grind arith
 
 equal : (a b : ℕ) → differs a b ≡ false → a ≡ b
 equal a b e = grind (arith, nat_tests)
 
 none_differ : (xs ys : List ℕ) → length ys ≡ length xs → mask_l (zip2 differs xs ys) ≡ 0 → xs ≡ ys
 none_differ [] [] long none = refl
-none_differ [] (y ∷ ys) long none = absurd (omega arith)
-none_differ (x ∷ xs) [] long none = absurd (omega arith)
 none_differ (x ∷ xs) (y ∷ ys) long none =
     let parts = no_first (differs x y) (mask_l (zip2 differs xs ys)) none in
     cc (equal x y parts.0, none_differ xs ys (omega arith) parts.1)
+none_differ xs ys long none = absurd (omega arith)
 
 same_rows : (xs ys : List ℕ) → length ys ≡ length xs → length xs ≤ 64 → others xs ys ≡ 0 → xs ≡ ys
 same_rows xs ys long few same =
@@ -39,10 +37,7 @@ same_rows xs ys long few same =
 
 none_within : (xs : List ℕ) → mask_l (zip2 differs xs xs) ≡ 0
 none_within [] = refl
-none_within (x ∷ xs) =
-    let same : differs x x ≡ false = grind (arith, nat_tests) in
-    let rest = none_within xs in
-    ap (λ b. cond b 1 0 + 2 * mask_l (zip2 differs xs xs)) same ∙ omega (arith, rest)
+none_within (x ∷ xs) = grind (arith, none_within xs)
 
 -- a row differs nowhere from itself
 alike : (xs ys : List ℕ) → xs ≡ ys → others xs ys ≡ 0
@@ -64,19 +59,15 @@ same_ends n xs ys narrow some few long first last =
     cc (take-append-drop m xs, begin, rest, take-append-drop m ys)
 
 matched : (b : Bool) (P : Type 0) → (b ≡ true → P) → (b ≡ false → P → ⊥) → MatchBool b P (P → ⊥)
-matched true P where_true where_false = where_true refl
-matched false P where_true where_false = where_false refl
+matched b P where_true where_false = grind arith
 
 -- where the first ends are the same, the last ones decide
 pub last-ends_decide : (n : ℕ) (xs ys : List ℕ) → n ≤ 64 → n ≤ length xs
     → length xs ≤ n + n → length ys ≡ length xs → others (take n xs) (take n ys) ≡ 0 → MatchBool
     (nat_eq (others (chunk (length xs - n) n xs) (chunk (length xs - n) n ys)) 0) (xs ≡ ys) (xs ≢ ys)
-last-ends_decide n xs ys narrow some few long first =
-    matched _ _ (λ last. same_ends n xs ys narrow some few long first last) (λ last same. true≢false
-    (sym ((Decides-eqb _ 0).1 (alike _ _ (ap (chunk (length xs - n) n) same))) ∙ last))
+last-ends_decide n xs ys narrow some few long first = grind (arith, same_ends, alike)
 
 -- where they aren't, the texts are others
 pub first-ends_decide : (n : ℕ) (xs ys : List ℕ) → (others (take n xs) (take n ys) ≡ 0 → ⊥)
     → MatchBool (nat_eq (others (take n xs) (take n ys)) 0) (xs ≡ ys) (xs ≢ ys)
-first-ends_decide n xs ys other = matched _ _ (λ first. absurd (other ((Decides-eqb _ 0).0 first)))
-    (λ first same. other (alike _ _ (ap (take n) same)))
+first-ends_decide n xs ys other = grind (arith, common_steps, matched, alike)

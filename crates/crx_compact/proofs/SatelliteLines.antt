@@ -17,7 +17,7 @@ use Rattle.crx_compact.specs.ArcTails.{ArcTail}
 use Rattle.crx_compact.specs.Cells.{CellsAreRead, value_at_place}
 use Rattle.crx_compact.specs.HeldRows.{HeldRow, row_held_from}
 use Rattle.crx_compact.specs.ShownRows.{shown_row}
-use Rattle.crx_compact.proofs.Marks.{columns-left, line-fault, line-held, marks-refused, row-trimmed}
+use Rattle.crx_compact.proofs.Marks.{columns-left, line-fault, line-held, row-trimmed}
 
 -- how the line of a satellite of which so many types are stored is read
 abbrev pub stored_read : List ℕ → List (Option ArcTail) → ℕ → List ℕ → List ℕ → Result HeldRow Fault
@@ -30,11 +30,7 @@ counted : (indicators : List ℕ) (arcs : List (Option ArcTail)) (count : ℕ) (
     → stored_read indicators arcs count line name
     ≡ row_held_from (take count arcs) (take (2 * count) indicators)
     (record { name = name; count = count }) line
-counted indicators arcs count line name h =
-    ap {B = Result HeldRow Fault} (λ n. row_held_from (take count arcs)
-    (without_end_blanks (take (2 * count) indicators)) (record { name = name; count = n }) line)
-    (length-take-le count arcs h)
-    ∙ row-trimmed (take count arcs) (take (2 * count) indicators) (record { name = name; count = count }) line
+counted indicators arcs count line name h = grind (arith, length-take-le, row-trimmed)
 
 pub stored-read : (indicators indicators' : List ℕ) (arcs arcs' : List (Option ArcTail)) (count : ℕ)
     (line : List ℕ) (at : ℕ) → count ≤ length arcs → begins_epoch line ≡ false
@@ -63,10 +59,7 @@ pub cells-refused : (indicators : List ℕ) (arcs : List (Option ArcTail)) (coun
     → count ≤ length arcs → begins_epoch line ≡ false
     → cells_read (value_at_place (take count arcs)) (cells_of count line) ≡ Err fault
     → (name : List ℕ) → stored_read indicators arcs count line name ≡ Err fault
-cells-refused indicators arcs count line fault h other e name =
-    counted indicators arcs count line name h
-    ∙ line-fault (take count arcs) (take (2 * count) indicators) (record { name = name; count = count }) line
-    fault other e
+cells-refused indicators arcs count line fault h other e name = grind (arith, counted, line-fault)
 
 pub flags-refused : (indicators : List ℕ) (arcs left : List (Option ArcTail)) (count : ℕ)
     (line : List ℕ) (at : ℕ)
@@ -74,11 +67,7 @@ pub flags-refused : (indicators : List ℕ) (arcs left : List (Option ArcTail)) 
     → CellsAreRead (take count arcs) count line left at
     → (are_marks count (drop at line) ≡ false) × (fault ≡ BadFlags)
     → (name : List ℕ) → stored_read indicators arcs count line name ≡ Err fault
-flags-refused indicators arcs left count line at fault h other read e name =
-    counted indicators arcs count line name h
-    ∙ marks-refused (take count arcs) (take (2 * count) indicators)
-    (record { name = name; count = count }) line
-    left at fault other read e
+flags-refused indicators arcs left count line at fault h other read e name = grind (arith, counted)
 
 -- ---- without marks
 

@@ -1,8 +1,8 @@
 -- The epoch that a history shows, row by row.
 use Rattle.crx_compact.proofs.Words.{◌≡◌, refl, ℕ, ◌<◌, List, [], length, take, Option, Some, None, Ok}
-use Rattle.crx_compact.proofs.Words.{unwrap_or, ℤ, Bool, true, false, ◌==◌, Result, Err, slice_get, ◌≤◌, suc}
+use Rattle.crx_compact.proofs.Words.{unwrap_or, ℤ, true, false, ◌==◌, Result, slice_get, ◌≤◌, suc}
 use Rattle.crx_compact.proofs.Words.{zero, ◌+◌, ◌∷◌, map, slice_index_or, is_ok, sym, ◌∙◌, ap, arith}
-use Rattle.crx_compact.proofs.Words.{true≢false, get_or, slice_get_within, same_Some, slice_get-map, take_all}
+use Rattle.crx_compact.proofs.Words.{get_or, slice_get_within, same_Some, slice_get-map, take_all}
 use Rattle.crx_compact.proofs.Words.{length-map, length-take-le, map-append, take-map, take-take, Fault}
 use Rattle.crx_compact.proofs.Words.{BadEpoch, satellites_of, epoch_count, with_row, has_satellite, is_among}
 use Rattle.crx_compact.proofs.Words.{are_apart, Tail, RowTail, AreRowsSoFar, Row, Epoch, Satellite}
@@ -12,7 +12,6 @@ use Rattle.std.specs.Prelude.{MatchResult, is_some}
 use Rattle.crx_rinex.specs.meaning.EpochLines.{ObservationHead}
 use Rattle.crx_rinex.specs.Epochs.{begun, is_full_epoch}
 use Rattle.crx_header.proofs.Apart.{among-names, new_at}
-use Rattle.crx_compact.proofs.Results.{ok-same, no-err}
 use Rattle.crx_compact.proofs.PlaceByPlace.{value-there}
 use Rattle.crx_compact.proofs.Making.{taken_more}
 use Rattle.crx_compact.proofs.ShownRows.{get-there}
@@ -23,19 +22,13 @@ pub line-made : (line : Result ObservationHead Fault) (head : List ℕ) (clock :
     → MatchResult line (λ (l : ObservationHead). (epoch_count head ≡ Some l.count)
     × (l.head ≡ head) × (l.clock ≡ clock)) (λ fault. (epoch_count head ≡ None) × (fault ≡ BadEpoch))
     → is_some (epoch_count head) ≡ true → is_ok line ≡ true
-line-made (Ok l) head clock h e = refl
-line-made (Err fault) head clock h e =
-    absurd (true≢false (sym e ∙ ap {B = Bool} (λ (n : Option ℕ). is_some n) h.0))
+line-made line head clock h e = grind arith
 
 pub made-line : (line : Result ObservationHead Fault) (head : List ℕ) (clock : Option ℤ) (l : ObservationHead)
     → MatchResult line (λ (l : ObservationHead). (epoch_count head ≡ Some l.count)
     × (l.head ≡ head) × (l.clock ≡ clock)) (λ fault. (epoch_count head ≡ None) × (fault ≡ BadEpoch))
     → line ≡ Ok l → begun l ≡ record { head = head; clock = clock; rows = [] }
-made-line (Ok k) head clock l h e =
-    ap begun (sym (ok-same k l e))
-    ∙ ap {B = Epoch} (λ (hs : List ℕ). record { head = hs; clock = k.clock; rows = [] }) h.1
-    ∙ ap {B = Epoch} (λ (q : Option ℤ). record { head = head; clock = q; rows = [] }) h.2
-made-line (Err fault) head clock l h e = absurd (no-err fault l e)
+made-line line head clock l h e = grind arith
 
 -- ---- satellite lines
 
@@ -79,9 +72,8 @@ first-same f g xs ys m n h e =
 
 get-taken : {X : Type 0} (xs : List X) (k n : ℕ) → k < n → slice_get (take n xs) k ≡ slice_get xs k
 get-taken xs k zero h = absurd (omega (arith, h))
-get-taken [] k (suc n) h = refl
-get-taken (x ∷ xs) zero (suc n) h = refl
 get-taken (x ∷ xs) (suc k) (suc n) h = get-taken xs k n (omega (arith, h))
+get-taken xs k (suc n) h = refl
 
 same-there : {X Y Z : Type 0} (f : X → Z) (g : Y → Z) (xs : List X) (ys : List Y) (n k : ℕ) (x : X) (y : Y)
     → map f (take n xs) ≡ map g (take n ys) → k < n → slice_get xs k ≡ Some x → slice_get ys k ≡ Some y

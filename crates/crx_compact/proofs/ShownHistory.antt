@@ -1,9 +1,9 @@
 -- The epoch that a history shows: its rows are of the satellites that its text announces.
-use Rattle.crx_compact.proofs.Words.{◌≡◌, [], ◌∷◌, ℕ, List, Some, length, take, map, slice_get, refl, ap, sym}
+use Rattle.crx_compact.proofs.Words.{◌≡◌, [], ◌∷◌, ℕ, List, Some, length, map, slice_get, refl, ap, sym}
 use Rattle.crx_compact.proofs.Words.{◌∙◌, arith, option_map, length-map, length-take-le, take-map}
 use Rattle.crx_compact.proofs.Words.{slice_get-map, slice_get_within, Row, shown_value, Satellite}
-use Rattle.crx_compact.proofs.Words.{IsAnnounced, OpenHistory, satellite_of, tail_of_history, AreRowsSoFar}
-use Rattle.crx_compact.proofs.Words.{shown_epoch, shown_row, RowTail}
+use Rattle.crx_compact.proofs.Words.{IsAnnounced, OpenHistory, satellite_of, tail_of_history}
+use Rattle.crx_compact.proofs.Words.{shown_row, RowTail}
 use Rattle.crx_compact.proofs.PlaceByPlace.{value-there}
 use Rattle.crx_compact.proofs.ShownEpochs.{IsRowShown, row-at}
 
@@ -18,25 +18,6 @@ sizes : (rows : List RowTail)
 sizes [] = refl
 sizes (row ∷ rows) = cc (length-map row.cells shown_value, sizes rows)
 
-all-shown : (history : OpenHistory) → IsAnnounced history
-    → AreRowsSoFar (shown_epoch (tail_of_history history) (length history.satellites.rows))
-    (tail_of_history history)
-    (length history.satellites.rows) (map satellite_of history.satellites.rows)
-all-shown history h =
-    let rows = history.satellites.rows in
-    let count = length rows in
-    let firsts = take-map satellite_of count rows in
-    let many = length-map rows satellite_of in
-    record {
-      head = refl;
-      announced = h.announced;
-      counted = length-map (take count rows) shown_row ∙ length-take-le count rows (omega arith);
-      named = names (take count rows) ∙ ap (map (λ (s : Satellite). s.name)) (sym firsts);
-      sized = sizes (take count rows) ∙ ap (map (λ (s : Satellite). s.count)) (sym firsts);
-      within = omega (arith, many);
-      left = omega arith;
-    }
-
 -- the row at an index is that of its satellite, and goes after those before it
 pub row-shown : (history : OpenHistory) (index : ℕ) (row : RowTail) → IsAnnounced history
     → slice_get history.satellites.rows index ≡ Some row
@@ -46,5 +27,6 @@ row-shown history index row h there =
     let satellite : slice_get (map satellite_of rows) index ≡ Some (satellite_of row) =
     slice_get-map satellite_of rows index ∙ ap (option_map satellite_of) there in
     row-at (tail_of_history history) (map satellite_of rows) (length rows) index row (satellite_of row)
-    (all-shown history h) (slice_get_within rows index row there) (sym (value-there rows index row row there))
+    (grind (arith, take-map, length-map, length-take-le, names, sizes)) (slice_get_within rows index row
+    there) (sym (value-there rows index row row there))
     (sym (value-there (map satellite_of rows) index (satellite_of row) (satellite_of row) satellite))

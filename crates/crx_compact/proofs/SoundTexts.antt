@@ -1,41 +1,36 @@
 -- Blanks at the end of texts, and what is held of indicators.
-use Rattle.crx_compact.proofs.Words.{◌≡◌, ◌≤◌, refl, ℕ, zero, suc, ◌*◌, true, if◌then◌else◌, List, [], ◌∷◌}
+use Rattle.crx_compact.proofs.Words.{◌≡◌, ◌≤◌, refl, ℕ, suc, ◌*◌, true, if◌then◌else◌, List, [], ◌∷◌}
 use Rattle.crx_compact.proofs.Words.{length, take, ap, arith, inl, inr, ◌∙◌, sym, ◌<◌, ◌+◌, ◌-◌, ◌++◌, ◌⊎◌}
-use Rattle.crx_compact.proofs.Words.{replicate, character_of, patched, IsAllowedCount, length-columns, at}
+use Rattle.crx_compact.proofs.Words.{replicate, patched, IsAllowedCount, length-columns, at}
 use Rattle.crx_compact.proofs.Words.{at-without_end_blanks, columns-are, list_all-from_at, columns, is_blank}
-use Rattle.crx_compact.proofs.Words.{without_end_blanks, flags_held, by_position, mark_of}
+use Rattle.crx_compact.proofs.Words.{without_end_blanks, flags_held}
 use Rattle.crx_compact.proofs.Words.{text_difference, is_kept, few_kept}
 use Rattle.std.proofs.lemmas.Bool.Decides.{Decides-eqb}
 use Rattle.crx_compact.proofs.PlaceByPlace.{at-padded, at-take}
 use Rattle.crx_compact.proofs.Characters.{at-take_past, within-or_past, list_all-at, at-by_position}
 use Rattle.crx_compact.proofs.Characters.{same_characters}
 use Rattle.crx_compact.specs.HeldRows.{AreHeldFlags}
+use Rattle.std.proofs.Common.{rules}
 
 -- ---- blanks at the end
 
 -- a difference doesn't see the blanks at the end of the new text
 pub difference-trimmed : (old new : List ℕ)
     → text_difference old (without_end_blanks new) ≡ text_difference old new
-difference-trimmed old new = same_characters (by_position mark_of old (without_end_blanks new))
-    (by_position mark_of old new) (λ p. at-by_position mark_of refl old (without_end_blanks new) p
-    ∙ ap (mark_of (at old p)) (at-without_end_blanks new p) ∙ sym (at-by_position mark_of refl old new p))
+difference-trimmed old new = search (rules, same_characters, at-by_position, at-without_end_blanks)
 
 -- ---- indicators
 
--- nothing is marked where nothing changes
-mark-same : (c : ℕ) → mark_of c c ≡ 32
-mark-same c = ap (λ b. if b then 32 else if is_blank c then 38 else c) ((Decides-eqb c c).1 refl)
-
 pub same-text : (text : List ℕ) → text_difference text text ≡ []
 same-text [] = refl
-same-text (c ∷ cs) = cc (mark-same c, same-text cs)
+same-text (c ∷ cs) =
+    cc ((ap (λ b. if b then 32 else if is_blank c then 38 else c) ((Decides-eqb c c).1 refl)), same-text cs)
 
 -- ---- what is held of indicators by so many types
 
 length-cut : (n : ℕ) (text : List ℕ) → length (take n text) ≤ n
-length-cut zero text = omega arith
-length-cut (suc n) [] = omega arith
 length-cut (suc n) (c ∷ cs) = omega (arith, length-cut n cs)
+length-cut n text = omega arith
 
 pub length-held : (count : ℕ) (flags : List ℕ) → length (flags_held count flags) ≤ 2 * count
 length-held count flags = omega (arith, few_kept (take (2 * count) flags), length-cut (2 * count) flags)
@@ -80,13 +75,8 @@ columns-trimmed width flags = columns-are
     ∙ sym (at-take width (flags ++ replicate width 32) p less ∙ at-padded width flags p))
 
 pub patched-trimmed : (flags marks : List ℕ) → patched (without_end_blanks flags) marks ≡ patched flags marks
-patched-trimmed flags marks = same_characters (by_position character_of (without_end_blanks flags) marks)
-    (by_position character_of flags marks) (λ p. at-by_position character_of refl
-    (without_end_blanks flags) marks p ∙ ap (λ c. character_of c (at marks p)) (at-without_end_blanks flags p)
-    ∙ sym (at-by_position character_of refl flags marks p))
+patched-trimmed flags marks = search (rules, same_characters, at-by_position, at-without_end_blanks)
 
 pub before-trimmed : (old new : List ℕ)
     → text_difference (without_end_blanks old) new ≡ text_difference old new
-before-trimmed old new = same_characters (by_position mark_of (without_end_blanks old) new)
-    (by_position mark_of old new) (λ p. at-by_position mark_of refl (without_end_blanks old) new p ∙ ap
-    (λ c. mark_of c (at new p)) (at-without_end_blanks old p) ∙ sym (at-by_position mark_of refl old new p))
+before-trimmed old new = search (rules, same_characters, at-by_position, at-without_end_blanks)

@@ -9,16 +9,14 @@ use Rattle.crx_compact.specs.Placing.{HasCome, row_tail_named}
 use Rattle.crx_compact.proofs.ComeRows.{awaited-after, come-line, come-name, come-tail}
 use Rattle.crx_compact.proofs.RowByRow.{only}
 use Rattle.crx_compact.proofs.placing.SteppedRows.{last-is}
+use Rattle.std.proofs.Common.{arith}
 
 -- a satellite has come where it has a row
 pub come-already : (after : Tail) (rows : List Row) (history : OpenHistory) (lines : List (List ℕ))
     (placed : PlacedRows) (name : List ℕ)
     → placed ≡ history.satellites → AreRowsWritten after rows history lines
     → is_among (λ (t : RowTail). t.name) name placed.rows ≡ has_satellite name rows
-come-already after rows history lines placed name same written =
-    let tail_name = λ (t : RowTail). t.name in
-    ap (λ (p : PlacedRows). is_among tail_name name p.rows) same
-    ∙ ap (is_among tail_name name) written.rows_after ∙ among-map tail_name (row_tail_in after.rows) name rows
+come-already after rows history lines placed name same written = grind (arith, among-map)
 
 -- a satellite that comes for the first time has no row yet
 pub no-row : (after : Tail) (rows : List Row) (history : OpenHistory) (lines : List (List ℕ))

@@ -6,6 +6,7 @@ pub mod PutNext
 pub mod EntryChanges
 pub mod Found
 pub mod Revived
+pub mod Again
 pub mod Coming
 pub mod Prepared
 pub mod SteppedRows

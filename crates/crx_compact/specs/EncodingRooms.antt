@@ -1,8 +1,10 @@
 -- For how much there is room in an encoder, before and after a row.
-use Rattle.std.specs.Prelude.{◌≡◌, ◌≤◌, ◌<◌, ◌+◌, ◌*◌, ℕ, List, [], length, map, max, sum}
-use Rattle.crx_base.specs.declared.limits.TheConstants.{HEAD_WIDTH, NAME_WIDTH}
-use Rattle.crx_compact.specs.LineLists.{LinesRoom, PendingLines}
-use Rattle.crx_compact.specs.Placing.{HasRoom, HaveRoom, KeepsRooms, OpenHistory, row_room}
+use Rattle.std.specs.Prelude.{◌≡◌, ◌≤◌, ◌<◌, ◌+◌, ◌-◌, ◌*◌, ℕ, List, [], length, map, max, sum}
+use Rattle.crx_base.specs.declared.limits.TheConstants.{HEAD_WIDTH, LINE_LIMIT, NAME_WIDTH}
+use Rattle.crx_compact.specs.declared.lines.TheConstants.{FIRST_LINES}
+use Rattle.crx_compact.specs.LineLists.{AllAreHeldFor, IsHeldFor, LinesRoom, PendingLines}
+use Rattle.crx_compact.specs.Placing.{GrowsOnly, HasRoom, HasSameRooms, HaveRoom, IsAskedAmong, IsAskedFor}
+use Rattle.crx_compact.specs.Placing.{KeepsRooms, OpenHistory, row_room}
 use Rattle.crx_rinex.specs.meaning.Observations.{Epoch, Row}
 
 -- so many types of each satellite that is known; a text of so many characters, and so many where the newest one is,
@@ -65,6 +67,17 @@ with_lines lines room =
       spare_bytes = lines.spare_bytes;
     }
 
+-- the room of the lines, with so many in front
+abbrev pub made_room : ℕ → EncodingRoom → LinesRoom
+made_room front room =
+    record {
+      front = front;
+      lines = room.lines;
+      bytes = room.bytes;
+      spare_lines = room.spare_lines;
+      spare_bytes = room.spare_bytes;
+    }
+
 -- there is room for a row: its satellite is known, and has room for its types, and its line fits
 pub record HasRowRoom (row : Row) (room : EncodingRoom) : Type 0 where
   pub satellite : HasRoom row.name (length row.values) room.rooms
@@ -86,6 +99,29 @@ pub record KeepsEncodingRoom (before after : EncodingRoom) : Type 0 where
   pub bytes : before.bytes ≤ after.bytes
   pub held_lines : before.lines + before.spare_lines ≤ after.lines + after.spare_lines
   pub held_bytes : before.bytes + before.spare_bytes ≤ after.bytes + after.spare_bytes
+
+-- no more is held than before, but for a row: room for its satellite's types, and twice what the lines so far and the row's need
+pub record GrowsForRow (row : Row) (before after : EncodingRoom) : Type 0 where
+  pub rooms : GrowsOnly (IsAskedFor row.name (length row.values)) before.rooms after.rooms
+  pub text : after.text ≤ before.text
+  pub lines : IsHeldFor (before.lines - before.free_lines + 1) (before.lines + before.spare_lines)
+      (after.lines + after.spare_lines)
+  pub bytes : IsHeldFor (before.bytes - before.free_bytes + row_room row) (before.bytes + before.spare_bytes)
+      (after.bytes + after.spare_bytes)
+
+-- no more is held for an epoch than before, but room for its satellites' types, and twice what its lines need
+pub record GrowsForEpoch (epoch : Epoch) (old new : List (List ℕ × ℕ)) (before after : LinesRoom) : Type 0 where
+  pub rooms : GrowsOnly (IsAskedAmong epoch.rows) old new
+  pub lines : AllAreHeldFor (FIRST_LINES + length epoch.rows)
+      (FIRST_LINES * (LINE_LIMIT + 1) + sum (map row_room epoch.rows)) before after
+
+-- the satellites and the lines have the same memory
+pub record HasSameMemory (before after : EncodingRoom) : Type 0 where
+  pub rooms : HasSameRooms before.rooms after.rooms
+  pub lines : after.lines ≡ before.lines
+  pub bytes : after.bytes ≡ before.bytes
+  pub spare_lines : after.spare_lines ≡ before.spare_lines
+  pub spare_bytes : after.spare_bytes ≡ before.spare_bytes
 
 -- a text of so many characters was put: there is room for it from now on, and where there was before, for the next one too
 pub record HasTakenText (count : ℕ) (before after : EncodingRoom) : Type 0 where

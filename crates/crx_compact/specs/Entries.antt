@@ -4,7 +4,10 @@ use Rattle.std.specs.Prelude.{◌≡◌, ◌≤◌, ◌<◌, ℕ, ◌+◌, List,
 use Rattle.std.specs.Prelude.{Some, false}
 use Rattle.std.specs.Str.{bytes_eq}
 use Rattle.crx_compact.specs.meaning.Sequences.{named}
-use Rattle.crx_compact.specs.Placing.{KeepsRooms, PlacedRows, SatelliteTail, room_of_entry, row_of_entry}
+use Rattle.crx_header.specs.meaning.ObservationTypes.{Count}
+use Rattle.crx_header.specs.meaning.Satellites.{types_of_satellite}
+use Rattle.crx_compact.specs.Placing.{GrowsOnly, IsAskedFor, KeepsRooms, PlacedRows, SatelliteTail, padded}
+use Rattle.crx_compact.specs.Placing.{room_of_entry, row_of_entry, satellite_of}
 
 abbrev pub Entry : Type 0
 Entry = List ℕ × SatelliteTail
@@ -32,6 +35,7 @@ pub record IsFound (name : List ℕ) (found : ℕ) (old new : List Entry) : Type
   pub front : (count : ℕ) → count ≤ length old → take count new ≡ take count old
   pub known : found < length old → new ≡ old
   pub rooms : KeepsRooms (rooms_of old) (rooms_of new)
+  pub only : GrowsOnly (IsAskedFor name 0) (rooms_of old) (rooms_of new)
 
 -- a satellite that means nothing is the first one behind those that do, with nothing stored
 pub record IsRevived (live found : ℕ) (old new : List Entry) : Type 0 where
@@ -41,6 +45,14 @@ pub record IsRevived (live found : ℕ) (old new : List Entry) : Type 0 where
   pub counted : length new ≡ length old
   pub rooms : KeepsRooms (rooms_of old) (rooms_of new)
   pub back : KeepsRooms (rooms_of new) (rooms_of old)
+
+-- the satellite at an index has as many types as its system has now
+pub record KeepsTypes (types : List Count) (index : ℕ) (entries : List Entry) : Type 0 where
+  pub entry : Entry
+  pub there : slice_get entries index ≡ Some entry
+  pub typed : types_of_satellite types (key_of entry) ≡ Some (length entry.1.cells)
+  pub own : padded (satellite_of (row_of_entry entry)) (Some (row_of_entry entry)) ≡ row_of_entry entry
+  pub room : length entry.1.cells ≤ entry.1.room
 
 -- the satellite at an index comes: it is the next of those that have come, and among the rest each other one
 -- is found as before

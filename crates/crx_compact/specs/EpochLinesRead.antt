@@ -1,16 +1,18 @@
 -- What reading an epoch line makes of a history: its satellites have come, or the line is refused.
-use Rattle.std.specs.Prelude.{◌≡◌, ◌≤◌, ℕ, List, [], All, length, map, Result, Ok, None}
+use Rattle.std.specs.Prelude.{◌≡◌, ◌≤◌, ℕ, List, [], All, length, map, Result, Ok, Some, None}
 use Rattle.crx_base.specs.declared.fault.Fault.{Fault}
 use Rattle.crx_base.specs.declared.fault.Fault.TheVariants.{OutOfMemory}
 use Rattle.crx_text.specs.Texts.{patched}
 use Rattle.crx_header.specs.meaning.ObservationTypes.{Count}
+use Rattle.crx_header.specs.meaning.Satellites.{types_of_satellite}
 use Rattle.crx_compact.specs.HeldRows.{IsAwaitedSatellite, past_of_tail}
 use Rattle.crx_compact.specs.meaning.CompactPlaces.{satellites_of_line}
 use Rattle.crx_compact.specs.meaning.EpochText.{Satellite}
-use Rattle.crx_compact.specs.Placing.{HaveTypesRoom, IsAnnounced, KeepsRooms, OpenHistory}
-use Rattle.crx_compact.specs.Placing.{PlacedRows, padded, padded_among, tail_of_history}
+use Rattle.crx_compact.specs.Placing.{HasRoom, HaveTypesRoom, IsAnnounced, KeepsRooms, OpenHistory}
+use Rattle.crx_compact.specs.Placing.{PlacedRows, padded, padded_among, satellite_of, tail_of_history}
 use Rattle.crx_compact.specs.Refusals.{AnswersRefusal}
 use Rattle.crx_compact.specs.Steps.{tail_named}
+use Rattle.crx_compact.specs.Tails.{RowTail}
 
 -- everything is forgotten, and the memory is kept
 abbrev pub history_cleared : OpenHistory → OpenHistory
@@ -27,6 +29,18 @@ pub record AreSatellitesRead (made : Result (List Satellite) Fault) (old new : P
   pub rows : new.rows ≡ map (padded_among old.rest) satellites
   pub awaited : All IsAwaitedSatellite satellites
   pub room : HaveTypesRoom satellites new.rooms
+
+-- a satellite of the epoch before has as many types as its system has now, and nothing of it changes
+pub record IsAgain (types : List Count) (before : PlacedRows) (row : RowTail) : Type 0 where
+  pub typed : types_of_satellite types row.name ≡ Some (length row.cells)
+  pub own : padded_among before.rest (satellite_of row) ≡ row
+  pub room : HasRoom row.name (length row.cells) before.rooms
+
+-- the satellites of the epoch before have come again
+pub record HaveComeAgain (types : List Count) (old new : PlacedRows) : Type 0 where
+  pub rows : new.rows ≡ old.rest
+  pub rooms : new.rooms ≡ old.rooms
+  pub again : All (IsAgain types old) old.rest
 
 -- they are refused: by their fault, where they have one, and then no room was asked for; else for want of memory, where there wasn't room
 pub record AreSatellitesRefused (made : Result (List Satellite) Fault) (old new : PlacedRows) (fault : Fault)

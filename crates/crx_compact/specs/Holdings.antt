@@ -83,6 +83,7 @@ abbrev pub columns_with : ColumnsInside → ColumnsInside → ColumnsInside
 columns_with one other = record one {
   history = other.history;
   is_kept = other.is_kept;
+  is_named = other.is_named;
   stage = other.stage;
   count = other.count;
   block = other.block;

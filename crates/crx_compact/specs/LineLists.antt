@@ -1,5 +1,5 @@
 -- Lines one after another in one text, each followed by LF.
-use Rattle.std.specs.Prelude.{◌≡◌, ◌≤◌, ◌+◌, ◌*◌, ℕ, suc, List, [], ◌∷◌, length, take, drop}
+use Rattle.std.specs.Prelude.{◌≡◌, ◌≤◌, ◌+◌, ◌-◌, ◌*◌, ℕ, suc, List, [], ◌∷◌, length, take, drop, max}
 use Rattle.crx_base.specs.declared.limits.TheConstants.{LINE_LIMIT}
 pub use Rattle.crx_base.specs.meaning.Lines.{lines_text}
 
@@ -47,6 +47,39 @@ room_of_lines made =
       spare_bytes = made.spare_bytes;
     }
 
+-- for how much there is room in printed lines: so many, of so many bytes with their LFs; and for how many lines and bytes more
+-- memory is held
+pub record BlockRoom : Type 0 where
+  pub lines : ℕ
+  pub bytes : ℕ
+  pub spare_lines : ℕ
+  pub spare_bytes : ℕ
+
+-- nothing is held
+abbrev pub no_block_room : BlockRoom
+no_block_room = record { lines = 0; bytes = 0; spare_lines = 0; spare_bytes = 0 }
+
+abbrev pub block_room : PendingLines → BlockRoom
+block_room printed =
+    record {
+      lines = printed.all_lines;
+      bytes = printed.all_bytes;
+      spare_lines = printed.spare_lines;
+      spare_bytes = printed.spare_bytes;
+    }
+
+-- a block has no more room than another, and no more memory
+pub record HasNoMoreRoom (one other : BlockRoom) : Type 0 where
+  pub lines : one.lines ≤ other.lines
+  pub bytes : one.bytes ≤ other.bytes
+  pub held_lines : one.lines + one.spare_lines ≤ other.lines + other.spare_lines
+  pub held_bytes : one.bytes + one.spare_bytes ≤ other.bytes + other.spare_bytes
+
+-- the lines that an expansion has ready, and the room of the printed ones
+pub record HeldLines : Type 0 where
+  pub lines : List (List ℕ)
+  pub room : BlockRoom
+
 -- all lines are dropped: the room that was ever asked for is free
 abbrev pub cleared : PendingLines → PendingLines
 cleared lines = record lines {
@@ -69,6 +102,29 @@ pub record HasMoreRoom (old new : PendingLines) : Type 0 where
   pub among_bytes : new.free_bytes ≤ new.all_bytes
   pub grown_lines : new.free_lines + old.all_lines ≡ old.free_lines + new.all_lines
   pub grown_bytes : new.free_bytes + old.all_bytes ≡ old.free_bytes + new.all_bytes
+
+-- no more is held than before, or than twice what is needed
+abbrev pub IsHeldFor : ℕ → ℕ → ℕ → Type 0
+IsHeldFor needed before after = after ≤ max before (2 * needed)
+
+-- no more is held than before, or than twice what the lines that are there need with so many more, of so many bytes
+pub record AreHeldFor (many size : ℕ) (old new : PendingLines) : Type 0 where
+  pub lines : IsHeldFor (old.all_lines - old.free_lines + many) (old.all_lines + old.spare_lines)
+      (new.all_lines + new.spare_lines)
+  pub bytes : IsHeldFor (old.all_bytes - old.free_bytes + size) (old.all_bytes + old.spare_bytes)
+      (new.all_bytes + new.spare_bytes)
+
+-- for how many lines and bytes memory is held, those in front among them
+abbrev pub lines_held : LinesRoom → ℕ
+lines_held room = room.front + room.lines + room.spare_lines
+
+abbrev pub bytes_held : LinesRoom → ℕ
+bytes_held room = room.front * (LINE_LIMIT + 1) + room.bytes + room.spare_bytes
+
+-- no more is held than before, or than twice what so many lines need, of so many bytes, those in front among them
+pub record AllAreHeldFor (many size : ℕ) (old new : LinesRoom) : Type 0 where
+  pub lines : IsHeldFor many (lines_held old) (lines_held new)
+  pub bytes : IsHeldFor size (bytes_held old) (bytes_held new)
 
 -- for so many lines and bytes there is room once all are dropped, and so many come in front: the same as before
 pub record HasSameRoom (old new : PendingLines) : Type 0 where

@@ -5,6 +5,7 @@ use Rattle.crx_base.specs.meaning.Seen.{Content, ReadLine}
 use Rattle.crx_header.specs.meaning.EpochColumns.{begins_epoch}
 use Rattle.crx_compact.specs.OpenEpochs.{OpenRawEpoch, RawStep, before_clock, step_in, step_with_rows, with_rows}
 use Rattle.crx_compact.specs.OpenEpochs.{ColumnsState, Idle, Reading}
+use Rattle.crx_compact.specs.LineLists.{block_room}
 use Rattle.crx_compact.specs.Placing.{OpenHistory, IsAnnounced, IsBetween, tail_of_history}
 use Rattle.crx_compact.specs.PrintedBlocks.{IsBlock}
 use Rattle.crx_compact.specs.ReadingRooms.{ReadingRoom}
@@ -61,6 +62,5 @@ reading_room history block =
     record {
       text = history.held_room;
       rooms = history.satellites.rooms;
-      lines = block.lines.all_lines;
-      bytes = block.lines.all_bytes;
+      block = block_room block.lines;
     }

@@ -1,7 +1,7 @@
 -- The satellites of a history while an epoch is open: the rows that have come, in the order of the file; those of the epoch before that
 -- haven't come yet, each known by its identifier; and how many types there is room for.
 use Rattle.std.specs.Prelude.{◌≡◌, ◌≤◌, ◌++◌, ◌∷◌, ℕ, ℤ, List, [], length, slice_index_or, Option, None, Some, false, map}
-use Rattle.std.specs.Prelude.{All, unwrap_or, ◌+◌, ◌*◌, ◌<◌, Bool, true, not, IfSome}
+use Rattle.std.specs.Prelude.{All, unwrap_or, ◌+◌, ◌*◌, ◌<◌, ◌⊎◌, Bool, true, not, IfSome}
 use Rattle.std.specs.Str.{bytes_eq}
 use Rattle.crx_text.specs.meaning.EachPlace.{each_place}
 use Rattle.crx_compact.specs.ArcTails.{ArcTail}
@@ -11,7 +11,7 @@ use Rattle.std.specs.Prelude.{Ok, slice_get, slice_set}
 use Rattle.crx_header.specs.meaning.ObservationTypes.{Count, IsAllowedCount}
 use Rattle.crx_compact.specs.HeldRows.{AreHeldFlags, IsAwaitedSatellite, row_held}
 use Rattle.crx_text.specs.meaning.Texts.{text_difference}
-use Rattle.crx_compact.specs.RowsSoFar.{AreAnnounced}
+use Rattle.crx_compact.specs.RowsSoFar.{AreAnnounced, NamesSatellites}
 use Rattle.crx_compact.specs.ShownRows.{shown_row}
 use Rattle.crx_compact.specs.Steps.{cell_of_tail, flags_of_tail, flags_held}
 use Rattle.crx_compact.specs.Tails.{RowTail, Tail}
@@ -83,10 +83,24 @@ pub record HasRoom (name : List ℕ) (count : ℕ) (rooms : List (List ℕ × �
 abbrev pub KeepsRooms : List (List ℕ × ℕ) → List (List ℕ × ℕ) → Type 0
 KeepsRooms before after = (name : List ℕ) (count : ℕ) → HasRoom name count before → HasRoom name count after
 
--- the satellites that haven't come stay, and none has less room
+-- each satellite that is known stays known, with as much room as before
+pub record HasSameRooms (before after : List (List ℕ × ℕ)) : Type 0 where
+  pub forth : KeepsRooms before after
+  pub back : KeepsRooms after before
+
+-- a satellite is known that wasn't, or has more room than before, only where so much was asked for it
+abbrev pub GrowsOnly : (List ℕ → ℕ → Type 0) → List (List ℕ × ℕ) → List (List ℕ × ℕ) → Type 0
+GrowsOnly asked before after = (name : List ℕ) (count : ℕ) → HasRoom name count after
+    → HasRoom name count before ⊎ asked name count
+
+-- what is asked for a satellite: room for so many types
+abbrev pub IsAskedFor : List ℕ → ℕ → List ℕ → ℕ → Type 0
+IsAskedFor satellite most name count = (name ≡ satellite) × (count ≤ most)
+
+-- the satellites that haven't come stay, and each has as much room
 pub record KeepsRest (old new : PlacedRows) : Type 0 where
   pub rest : new.rest ≡ old.rest
-  pub rooms : KeepsRooms old.rooms new.rooms
+  pub rooms : HasSameRooms old.rooms new.rooms
 
 -- room was asked for: no row has changed, and no satellite has less room
 pub record HasAskedRoom (old new : PlacedRows) : Type 0 where
@@ -99,11 +113,6 @@ pub record HasAskedRoom (old new : PlacedRows) : Type 0 where
 pub record HasCome (name : List ℕ) (before after : PlacedRows) : Type 0 where
   pub rows : after.rows ≡ before.rows ++ row_or_blank name before.rest ∷ []
   pub others : (other : List ℕ) → bytes_eq other name ≡ false → row_tail_named other after.rest ≡ row_tail_named other before.rest
-
--- each satellite that is known stays known, with as much room as before
-pub record HasSameRooms (before after : List (List ℕ × ℕ)) : Type 0 where
-  pub forth : KeepsRooms before after
-  pub back : KeepsRooms after before
 
 -- a satellite that is new comes, with room for so many types; where its row has come already, nothing changes
 pub record IsPlaced (name : List ℕ) (count : ℕ) (old new : PlacedRows) (is_new : Bool) : Type 0 where
@@ -176,6 +185,13 @@ HaveRoom rows rooms = All (λ (row : Row). HasRoom row.name (length row.values) 
 abbrev pub HaveTypesRoom : List Satellite → List (List ℕ × ℕ) → Type 0
 HaveTypesRoom satellites rooms = All (λ (s : Satellite). HasRoom s.name s.count rooms) satellites
 
+-- what is asked for a satellite of one of some rows
+pub record IsAskedAmong (rows : List Row) (name : List ℕ) (count : ℕ) : Type 0 where
+  pub index : ℕ
+  pub row : Row
+  pub there : slice_get rows index ≡ Some row
+  pub asked : IsAskedFor row.name (length row.values) name count
+
 -- the same of so many satellites of an epoch text, which have no fault
 abbrev pub HaveNamesRoom : List Count → List ℕ → ℕ → List (List ℕ × ℕ) → Type 0
 HaveNamesRoom types text count rooms = (place cells : ℕ) → place < count
@@ -197,9 +213,10 @@ row_room row = room_of_types (length row.values)
 abbrev pub HasAllowedCount : RowTail → Type 0
 HasAllowedCount row = IsAllowedCount (length row.cells)
 
--- the rows are of the satellites that the text announces, of which no two have one identifier
+-- the rows are of the satellites that the text announces and names, of which no two have one identifier
 pub record IsAnnounced (history : OpenHistory) : Type 0 where
   pub announced : AreAnnounced history.text (map satellite_of history.satellites.rows)
+  pub named : NamesSatellites history.text (map satellite_of history.satellites.rows)
   pub satellites : All IsAwaitedSatellite (map satellite_of history.satellites.rows)
 
 -- the satellite line of the row at a place was read: what it leaves of the satellite, which shows the row, is in its place, and nothing

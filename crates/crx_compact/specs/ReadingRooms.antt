@@ -2,22 +2,21 @@
 use Rattle.std.specs.Prelude.{◌≤◌, ◌<◌, ◌+◌, ℕ, List, [], All, length, map, sum}
 use Rattle.crx_base.specs.declared.limits.TheConstants.{LINE_LIMIT}
 use Rattle.crx_compact.specs.EncodingRooms.{EncodingRoom}
+use Rattle.crx_compact.specs.LineLists.{BlockRoom, HasNoMoreRoom, IsHeldFor, no_block_room}
 use Rattle.crx_compact.specs.OpenEpochs.{ColumnsState, OpenRawEpoch}
 use Rattle.crx_compact.specs.Placing.{HasRoom, KeepsRooms}
 use Rattle.crx_compact.specs.PrintedBlocks.{printed_room}
 use Rattle.crx_compact.specs.Tails.{RowTail}
 
--- for how much there is room: a text of so many characters, so many types of each satellite that is known, and so many printed lines, of so
--- many bytes with their LFs
+-- for how much there is room: a text of so many characters, so many types of each satellite that is known, and printed lines
 pub record ReadingRoom : Type 0 where
   pub text : ℕ
   pub rooms : List (List ℕ × ℕ)
-  pub lines : ℕ
-  pub bytes : ℕ
+  pub block : BlockRoom
 
 -- nothing is held
 abbrev pub no_reading_room : ReadingRoom
-no_reading_room = record { text = 0; rooms = []; lines = 0; bytes = 0 }
+no_reading_room = record { text = 0; rooms = []; block = no_block_room }
 
 -- the state between two lines, the room for reading, and that for encoding, with how many lines have room in front of an epoch's rows
 pub record HeldColumns : Type 0 where
@@ -34,8 +33,21 @@ HaveCellsRoom rows rooms = All (λ (row : RowTail). HasRoom row.name (length row
 pub record HasRoomFor (begun : OpenRawEpoch) (room : ReadingRoom) : Type 0 where
   pub text : length begun.text ≤ room.text
   pub rows : HaveCellsRoom begun.rows room.rooms
-  pub lines : length begun.rows < room.lines
-  pub bytes : LINE_LIMIT + 1 + sum (map printed_room begun.rows) ≤ room.bytes
+  pub lines : length begun.rows < room.block.lines + room.block.spare_lines
+  pub bytes : LINE_LIMIT + 1 + sum (map printed_room begun.rows) ≤ room.block.bytes + room.block.spare_bytes
+
+-- that room is there, and that for printed lines is in use already
+pub record HasRoomReady (begun : OpenRawEpoch) (room : ReadingRoom) : Type 0 where
+  pub has : HasRoomFor begun room
+  pub lines : length begun.rows < room.block.lines
+  pub bytes : LINE_LIMIT + 1 + sum (map printed_room begun.rows) ≤ room.block.bytes
+
+-- for printed lines no more is held than before, or than twice what those of an epoch need
+pub record IsHeldForEpoch (begun : OpenRawEpoch) (before after : BlockRoom) : Type 0 where
+  pub lines : IsHeldFor (length begun.rows + 1) (before.lines + before.spare_lines)
+      (after.lines + after.spare_lines)
+  pub bytes : IsHeldFor (LINE_LIMIT + 1 + sum (map printed_room begun.rows))
+      (before.bytes + before.spare_bytes) (after.bytes + after.spare_bytes)
 
 -- there is no less room than before for texts and satellites
 pub record KeepsHistoryRoom (before after : ReadingRoom) : Type 0 where
@@ -45,5 +57,4 @@ pub record KeepsHistoryRoom (before after : ReadingRoom) : Type 0 where
 -- there is no less room than before
 pub record KeepsRoom (before after : ReadingRoom) : Type 0 where
   pub history : KeepsHistoryRoom before after
-  pub lines : before.lines ≤ after.lines
-  pub bytes : before.bytes ≤ after.bytes
+  pub block : HasNoMoreRoom before.block after.block

@@ -1,10 +1,11 @@
 -- The satellites of an epoch text, the clock, and the rows of which so many have come, as a history shows them.
-use Rattle.std.specs.Prelude.{◌≡◌, ℕ, ◌≤◌, List, length, map, take, true, Some, Ok}
+use Rattle.std.specs.Prelude.{◌≡◌, ℕ, ◌≤◌, List, [], length, map, take, true, Some, Ok}
 use Rattle.crx_text.specs.meaning.Columns.{columns}
 use Rattle.crx_base.specs.declared.limits.TheConstants.{HEAD_WIDTH}
 use Rattle.crx_rinex.specs.meaning.Observations.{Row, Epoch}
-use Rattle.crx_compact.specs.meaning.EpochText.{Satellite}
+use Rattle.crx_compact.specs.meaning.EpochText.{Satellite, names_in, satellites_named}
 use Rattle.crx_header.specs.meaning.EpochColumns.{epoch_count}
+use Rattle.crx_header.specs.meaning.ObservationTypes.{Count}
 use Rattle.crx_compact.specs.Tails.{Tail}
 use Rattle.crx_compact.specs.HeldRows.{past_of_tail}
 use Rattle.crx_header.specs.meaning.Satellites.{are_apart}
@@ -16,6 +17,11 @@ use Rattle.crx_compact.specs.ArcSteps.{arc_of_code, shown_value}
 pub record AreAnnounced (text : List ℕ) (satellites : List Satellite) : Type 0 where
   pub counted : epoch_count (columns text 1 HEAD_WIDTH) ≡ Some (length satellites)
   pub apart : are_apart (λ (s : Satellite). s.name) satellites ≡ true
+
+-- the satellites of an epoch text are those that it names, by the counts of types of some header
+pub record NamesSatellites (text : List ℕ) (satellites : List Satellite) : Type 0 where
+  pub earlier : List Count
+  pub named : satellites_named earlier [] (names_in text (length satellites)) ≡ Ok satellites
 
 -- the epoch of the rows so far: it has the columns of the text, which announce the satellites, and the rows of the
 -- first so many of these

@@ -159,7 +159,7 @@ fn rest_after(text: &[u8], count: usize) -> &[u8]
     &text[count..]
 }
 
-/// Reads a cell of a line for each of some arcs, which go on by them, and gives the index at which the marks begin.
+/// Reads a cell of a line for each of the first so many arcs, which go on by them, and gives the index at which the marks begin.
 ///
 /// The first cell with a fault decides: `BadField` where its text is no code, then `NoArc` and `OutOfRange` as by
 /// [`ObsArc::apply`]. The arcs before it have gone on then.
@@ -167,14 +167,15 @@ fn rest_after(text: &[u8], count: usize) -> &[u8]
 /// The calls for the few other cells are in the loop: a loop without calls, meant to keep all in registers, took more instructions (.2 a
 /// byte of RINEX, bench/README.md).
 #[inline(always)]
-pub fn read_cells(arcs: &mut [ObsArc], line: &[u8]) -> Result<usize, Fault>
-    ensures ok { IfOk result (λ at. CellsAreRead arcs.old (length arcs.old) line.now arcs.new at) }
+pub(crate) fn read_cells(arcs: &mut [ObsArc], count: usize, line: &[u8]) -> Result<usize, Fault>
+    requires fitting { count ≤ length arcs.old }
+    ensures ok { IfOk result (λ at.
+        CellsAreRead (take count arcs.old) count line.now (take count arcs.new) at) }
     ensures err { IfErr result (λ fault.
-        cells_read (value_at_place arcs.old) (cells_of (length arcs.old) line.now) ≡ Err fault) }
-    ensures sized { length arcs.new ≡ length arcs.old }
+        cells_read (value_at_place (take count arcs.old)) (cells_of count line.now) ≡ Err fault) }
 {
     let mut rest = line;
-    for place in 0..arcs.len() {
+    for place in 0..count {
         match read_cell_fast(arcs, place, rest) {
             Some(length) => rest = rest_after(rest, length),
             None => {

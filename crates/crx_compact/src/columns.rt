@@ -12,12 +12,13 @@ ghost use Rattle.crx_compact.specs.meaning.CompactPlaces.{epoch_at};
 ghost use Rattle.crx_compact.specs.ReadBlocks.{HasReadTo, IsReading};
 ghost use Rattle.crx_base.specs.declared.limits.TheConstants.{LINE_LIMIT};
 ghost use Rattle.crx_header.specs.meaning.EpochColumns.{begins_epoch, is_event_line};
+ghost use Rattle.crx_compact.specs.LineLists.{HasNoMoreRoom};
 ghost use Rattle.crx_compact.specs.OpenLines.{IsLineTaken, IsSoundState, step_at};
-ghost use Rattle.crx_compact.specs.EncodingRooms.{HasRoomForEpoch, KeepsEncodingRoom, no_encoding_room, with_lines};
+ghost use Rattle.crx_compact.specs.EncodingRooms.{GrowsForEpoch, HasRoomForEpoch, KeepsEncodingRoom, made_room, no_encoding_room, with_lines};
 ghost use Rattle.crx_compact.specs.EpochLinesRead.{history_cleared};
 ghost use Rattle.crx_compact.specs.declared.lines.TheConstants.{FIRST_LINES};
 ghost use Rattle.crx_compact.specs.Placing.{IsBetween, KeepsRooms, tail_of_history};
-ghost use Rattle.crx_compact.specs.ReadingRooms.{HasRoomFor, KeepsHistoryRoom, KeepsRoom, no_reading_room};
+ghost use Rattle.crx_compact.specs.ReadingRooms.{HasRoomFor, HasRoomReady, IsHeldForEpoch, KeepsHistoryRoom, KeepsRoom, no_reading_room};
 ghost use Rattle.crx_compact.specs.OpenEpochs.{OpenRawEpoch, Going, awaits_row, is_faulty, is_idle, makes_epoch, tail_held, first_step, step_in, tail_for_line, Faulty, HasMade, HasPrintedLines};
 ghost use Rattle.crx_compact.specs.OpenEpochs.ColumnsState.{Idle};
 ghost use Rattle.crx_compact.specs.meaning.Compaction.{Marked, compact_epoch};
@@ -55,6 +56,9 @@ pub struct Columns {
     history: History,
     /// Whether an epoch came since everything was last forgotten.
     is_kept: bool,
+    /// Whether it is known that the satellites of the history are those that its text names: an epoch line was read last, and no epoch of
+    /// RINEX was encoded since.
+    is_named: bool,
     stage: Stage,
     /// How many satellite lines of the open epoch have come.
     count: usize,
@@ -68,7 +72,9 @@ pub struct Columns {
 impl Model for Columns {
     ghost use Rattle.crx_compact.specs.EncodingRooms.{all_free, encoding_room};
     ghost use Rattle.crx_compact.specs.OpenLines.{columns_state, reading_room, IsSoundBlock, IsSoundState};
+    ghost use Rattle.crx_compact.specs.Placing.{IsAnnounced};
     ghost use Rattle.crx_compact.specs.ReadingRooms.{HeldColumns};
+    ghost use Rattle.std.specs.Prelude.{◌≡◌, true};
 
     ghost Value = { HeldColumns };
 
@@ -81,7 +87,8 @@ impl Model for Columns {
 
     // Where an epoch is open, a line is awaited.
     ghost invariant = { λ columns. IsSoundState columns.stage columns.count columns.history
-        × IsSoundBlock columns.stage columns.count columns.block columns.history };
+        × IsSoundBlock columns.stage columns.count columns.block columns.history × (columns.block.lines.reserved ≡ 0)
+        × (columns.is_named ≡ true → IsAnnounced columns.history) };
 }
 
 impl Columns {
@@ -96,6 +103,7 @@ impl Columns {
         Columns {
             history: History::new(alloc),
             is_kept: false,
+            is_named: false,
             stage: Stage::Unbegun,
             count: 0,
             block: PrintedBlock::new(alloc),
@@ -113,7 +121,12 @@ impl Columns {
         ensures encoding { self.new.encoding ≡ self.old.encoding }
         ensures front { self.new.front ≡ self.old.front }
     {
-        forget(&mut self.history, &mut self.is_kept, &mut self.stage);
+        forget(
+            &mut self.history,
+            &mut self.is_kept,
+            &mut self.is_named,
+            &mut self.stage,
+        );
     }
 
     /// Whether no epoch's lines have come in part.
@@ -148,8 +161,13 @@ impl Columns {
         // There is never less room for encoding than before, after a refusal too, but that the lines leave with their memory.
         ensures rooms_kept { KeepsRooms self.old.encoding.rooms self.new.encoding.rooms }
         ensures text_kept { self.old.encoding.text ≤ self.new.encoding.text }
+        ensures reading { KeepsRooms self.old.room.rooms self.new.room.rooms × (self.new.room.block ≡ self.old.room.block) }
         ensures lines_kept { self.old.front ≡ FIRST_LINES → IfOk result (λ coded.
             KeepsEncodingRoom self.old.encoding (with_lines coded.room self.new.encoding)) }
+        // After `Ok` lines have no more memory than before, or than twice what the epoch needs, and a satellite no more than before, or than
+        // for its types.
+        ensures only { IfOk result (λ coded. GrowsForEpoch epoch self.old.encoding.rooms self.new.encoding.rooms
+            (made_room self.old.front self.old.encoding) coded.room) }
         ensures err_kept { self.old.front ≡ FIRST_LINES → OnErr result
             (KeepsEncodingRoom self.old.encoding self.new.encoding × (self.new.front ≡ FIRST_LINES)) }
         // After any epochs at all, the lines are those of their compact text, and the columns have their tail.
@@ -161,6 +179,7 @@ impl Columns {
             (λ coded. coded.lines ≡ compact_epoch (record { in_full = full; epoch = epoch } ∷ epochs)) }
     {
         prove!(epoch.is_full());
+        self.is_named = false;
         let in_full = full || !self.is_kept;
         match self
             .history
@@ -209,40 +228,66 @@ impl Columns {
         // After `Ok` there is. There is never less than before, after a refusal too.
         ensures room { (begun : OpenRawEpoch)
             → first_step types.now (tail_held self.old.state) (Content line.now) ≡ Going begun
-            → OnOk result (HasRoomFor begun self.new.room) }
+            → OnOk result (HasRoomReady begun self.new.room) }
         ensures kept { KeepsRoom self.old.room self.new.room }
+        // For printed lines no more is held than before, or than twice what the epoch's need.
+        ensures held { (begun : OpenRawEpoch)
+            → first_step types.now (tail_held self.old.state) (Content line.now) ≡ Going begun
+            → IsHeldForEpoch begun self.old.room.block self.new.room.block }
         ensures encoding { KeepsEncodingRoom self.old.encoding self.new.encoding }
         ensures front { self.new.front ≡ self.old.front }
     {
+        let is_named = self.is_named & !begins_epoch(line);
+        self.is_named = false;
         if !has_history(&mut self.history, self.is_kept, line) {
             return Err(Fault::NotAnEpoch);
         }
-        match self.history.read_epoch_line(types, line, &mut self.part) {
+        match self
+            .history
+            .read_epoch_line(types, line, is_named, &mut self.part)
+        {
             Ok(()) => match self.block.begin(&self.history) {
                 Ok(()) => {
+                    self.is_named = true;
                     self.stage = Stage::Clock;
                     Ok(())
                 }
                 Err(_) => {
-                    forget(&mut self.history, &mut self.is_kept, &mut self.stage);
+                    forget(
+                        &mut self.history,
+                        &mut self.is_kept,
+                        &mut self.is_named,
+                        &mut self.stage,
+                    );
                     Err(Fault::OutOfMemory)
                 }
             },
             Err(fault) => {
-                forget(&mut self.history, &mut self.is_kept, &mut self.stage);
+                forget(
+                    &mut self.history,
+                    &mut self.is_kept,
+                    &mut self.is_named,
+                    &mut self.stage,
+                );
                 Err(fault)
             }
         }
     }
 
     /// Takes the memory of printed lines back, once none of them is pending, for those of the next epoch: so one block of memory serves all
-    /// epochs. While an epoch is open nothing changes.
+    /// epochs.
     pub fn take_room(&mut self, lines: &mut ExpandedLines)
-        requires drained { lines.old ≡ [] }
-        ensures drained { lines.new ≡ [] }
+        requires drained { lines.old.lines ≡ [] }
+        ensures drained { lines.new.lines ≡ [] }
         ensures state { self.new.state ≡ self.old.state }
-        // There is never less room than before.
+        // There is never less room than before, and where the lines have no less than there is for printed lines, it is theirs.
         ensures kept { KeepsRoom self.old.room self.new.room }
+        ensures taken { is_idle self.old.state ≡ true → HasNoMoreRoom self.old.room.block lines.old.room
+            → self.new.room.block ≡ lines.old.room }
+        // The two stay, or change places.
+        ensures places { ((self.new.room.block ≡ lines.old.room)
+            × (lines.new.room ≡ self.old.room.block))
+            ⊎ ((self.new.room ≡ self.old.room) × (lines.new.room ≡ lines.old.room)) }
         ensures encoding { self.new.encoding ≡ self.old.encoding }
         ensures front { self.new.front ≡ self.old.front }
     {
@@ -298,12 +343,22 @@ impl Columns {
                     Ok(Some(epoch))
                 }
                 Err(fault) => {
-                    forget(&mut self.history, &mut self.is_kept, &mut self.stage);
+                    forget(
+                        &mut self.history,
+                        &mut self.is_kept,
+                        &mut self.is_named,
+                        &mut self.stage,
+                    );
                     Err(fault)
                 }
             },
             Err(fault) => {
-                forget(&mut self.history, &mut self.is_kept, &mut self.stage);
+                forget(
+                    &mut self.history,
+                    &mut self.is_kept,
+                    &mut self.is_named,
+                    &mut self.stage,
+                );
                 Err(fault)
             }
         }
@@ -314,18 +369,23 @@ impl Columns {
     /// and that the printed lines of the epoch are ready; no epoch is made of them.
     pub fn feed_into(&mut self, line: &[u8], lines: &mut ExpandedLines) -> Result<bool, Fault>
         requires short { length line.now ≤ LINE_LIMIT }
-        requires drained { lines.old ≡ [] }
+        requires drained { lines.old.lines ≡ [] }
         ensures made { IfOk result (λ is_whole.
-            HasPrintedLines (step_in self.old.state (Content line.now)) self.new.state is_whole lines.new) }
+            HasPrintedLines (step_in self.old.state (Content line.now)) self.new.state is_whole lines.new.lines) }
         ensures refused { IfErr result (λ fault. step_in self.old.state (Content line.now) ≡ Faulty fault) }
         // At no line but the epoch line the answer is for want of memory.
         ensures unasked { IfErr result (λ fault. fault ≡ Fault.OutOfMemory → ⊥) }
         ensures emptied { OnErr result (self.new.state ≡ Idle None) }
-        ensures none { OnErr result (lines.new ≡ []) }
-        // There is never less room than before, but that the lines of a whole epoch leave with their memory.
+        ensures none { OnErr result (lines.new ≡ lines.old) }
+        // There is never less room than before, but that the lines of a whole epoch leave with their memory, in exchange for that of the
+        // lines before them.
         ensures kept { KeepsHistoryRoom self.old.room self.new.room }
-        ensures lines_kept { IfOk result (λ is_whole. is_whole ≡ false → KeepsRoom self.old.room self.new.room) }
+        ensures lines_kept { IfOk result (λ is_whole. is_whole ≡ false
+            → KeepsRoom self.old.room self.new.room × (lines.new ≡ lines.old)) }
         ensures err_kept { OnErr result (KeepsRoom self.old.room self.new.room) }
+        ensures exchanged { IfOk result (λ is_whole. is_whole ≡ true
+            → (lines.new.room ≡ self.old.room.block)
+            × (self.new.room.block ≡ lines.old.room)) }
         ensures encoding { KeepsEncodingRoom self.old.encoding self.new.encoding }
         ensures front { self.new.front ≡ self.old.front }
     {
@@ -348,7 +408,12 @@ impl Columns {
                 Ok(true)
             }
             Err(fault) => {
-                forget(&mut self.history, &mut self.is_kept, &mut self.stage);
+                forget(
+                    &mut self.history,
+                    &mut self.is_kept,
+                    &mut self.is_named,
+                    &mut self.stage,
+                );
                 Err(fault)
             }
         }
@@ -367,13 +432,15 @@ impl Columns {
 }
 
 /// Forgets every epoch, the one whose lines have come in part too.
-fn forget(history: &mut History, is_kept: &mut bool, stage: &mut Stage)
+fn forget(history: &mut History, is_kept: &mut bool, is_named: &mut bool, stage: &mut Stage)
     ensures history { history.new ≡ history_cleared history.old }
     ensures kept { is_kept.new ≡ false }
+    ensures named { is_named.new ≡ false }
     ensures stage { stage.new ≡ Stage.Unbegun }
 {
     history.clear();
     *is_kept = false;
+    *is_named = false;
     *stage = Stage::Unbegun;
 }
 
@@ -382,6 +449,7 @@ fn forget(history: &mut History, is_kept: &mut bool, stage: &mut Stage)
 fn has_history(history: &mut History, is_kept: bool, line: &[u8]) -> bool
     requires between { IsBetween history.old }
     ensures between { IsBetween history.new }
+    ensures same { begins_epoch line.now ≡ false → history.new ≡ history.old }
     ensures before { tail_for_line (if is_kept then Some (tail_of_history history.old) else None) line.now
         ≡ (if result then Some (tail_of_history history.new) else None) }
     ensures rooms { history.new.satellites.rooms ≡ history.old.satellites.rooms }

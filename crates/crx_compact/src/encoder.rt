@@ -5,7 +5,7 @@ ghost use Rattle.crx_base.specs.declared.limits.TheConstants.{DATE_LIMIT, HEAD_W
 ghost use Rattle.crx_header.specs.meaning.CompactHeader.{lines_before_header};
 ghost use Rattle.crx_rinex.specs.meaning.Epochs.{has_satellite};
 ghost use Rattle.crx_compact.specs.Encoding.{EncoderState, forgotten, tail_in};
-ghost use Rattle.crx_compact.specs.EncodingRooms.{HasRowRoom, HasTakenRow, HasTakenText, KeepsEncodingRoom, all_free};
+ghost use Rattle.crx_compact.specs.EncodingRooms.{GrowsForRow, HasRowRoom, HasSameMemory, HasTakenRow, HasTakenText, KeepsEncodingRoom, all_free};
 ghost use Rattle.crx_compact.specs.LineLists.{lines_text};
 ghost use Rattle.crx_compact.specs.EpochLinesRead.{history_cleared};
 ghost use Rattle.crx_compact.specs.Steps.{lines_after_tail, tail_after};
@@ -198,6 +198,8 @@ impl Encoder {
             → HasTakenRow row.now self.old.room self.new.room) }
         // There is never less room than before, after a refusal too.
         ensures kept { KeepsEncodingRoom self.old.room self.new.room }
+        // Lines have no more memory than before, or than twice what those so far and the row need.
+        ensures only { GrowsForRow row.now self.old.room self.new.room }
     {
         match self.history.write_row(
             row.name(),
@@ -242,8 +244,9 @@ impl Encoder {
         // satellites the answer isn't for want of memory.
         ensures taken { OnOk result (HasTakenText (HEAD_WIDTH + NAME_WIDTH * head.now.count)
             self.old.room self.new.room) }
-        // There is never less room than before, after a refusal too.
+        // There is never less room than before, after a refusal too, and memory for no more satellites and lines.
         ensures kept { KeepsEncodingRoom self.old.room self.new.room }
+        ensures memory { HasSameMemory self.old.room self.new.room }
     {
         if self
             .history

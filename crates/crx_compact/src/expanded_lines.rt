@@ -1,11 +1,12 @@
 //! The lines that an expansion has ready, borrowed one after another.
 
-ghost use Rattle.std.specs.Prelude.{◌≡◌, ◌≤◌, ◌↔◌, ◌++◌, [], ◌∷◌, IsTrue, drop, length, slice_get, if◌then◌else◌, IfOk};
+ghost use Rattle.std.specs.Prelude.{◌≡◌, ◌≤◌, ◌↔◌, ◌⊎◌, [], ◌∷◌, IsTrue, drop, length, slice_get, IfOk};
 ghost use Rattle.std.specs.Borrow.{sem};
 ghost use Rattle.std.specs.Io.BufRead.{Rests};
 ghost use Rattle.std.specs.Option.{option_copied};
 ghost use Rattle.crx_base.specs.declared.limits.TheConstants.{LINE_LIMIT};
 ghost use Rattle.crx_base.specs.meaning.Lines.{lines_text};
+ghost use Rattle.crx_compact.specs.LineLists.{HasNoMoreRoom, block_room, no_block_room};
 ghost use Rattle.crx_compact.specs.contracts.expanded_lines.ExpandedLines.{the_row};
 
 use crate::copied_line::CopiedLine;
@@ -25,19 +26,23 @@ pub struct ExpandedLines {
 }
 
 impl Model for ExpandedLines {
-    ghost use Rattle.std.specs.Prelude.{ℕ, List, [], ◌∷◌, ◌++◌, ◌≡◌, true, if◌then◌else◌};
+    ghost use Rattle.std.specs.Prelude.{[], ◌∷◌, ◌++◌, ◌≡◌, true, if◌then◌else◌};
+    ghost use Rattle.crx_compact.specs.LineLists.{HeldLines, block_room};
 
-    ghost Value = { List (List ℕ) };
+    ghost Value = { HeldLines };
 
-    ghost view = { λ lines. (if lines.is_copied then lines.copied ∷ [] else []) ++ lines.printed.lines };
+    ghost view = { λ lines. record {
+      lines = (if lines.is_copied then lines.copied ∷ [] else []) ++ lines.printed.lines;
+      room = block_room lines.printed;
+    } };
 
-    ghost invariant = { λ lines. lines.is_copied ≡ true → lines.printed.lines ≡ [] };
+    ghost invariant = { λ lines. (lines.is_copied ≡ true → lines.printed.lines ≡ []) × (lines.printed.reserved ≡ 0) };
 }
 
 impl ExpandedLines {
     /// No lines; it takes memory for every line that is copied.
     pub fn new(alloc: Global) -> Result<ExpandedLines, AllocError>
-        ensures empty { IfOk result (λ lines. lines ≡ []) }
+        ensures empty { IfOk result (λ lines. lines ≡ record { lines = []; room = no_block_room }) }
     {
         let copied = CopiedLine::new(alloc)?;
         Ok(ExpandedLines {
@@ -49,9 +54,9 @@ impl ExpandedLines {
 
     /// Makes a line ready, once none before it is pending.
     pub fn copy(&mut self, line: &[u8])
-        requires drained { self.old ≡ [] }
+        requires drained { self.old.lines ≡ [] }
         requires short { length line.now ≤ LINE_LIMIT }
-        ensures copied { self.new ≡ line.now ∷ [] }
+        ensures copied { self.new ≡ record self.old { lines = line.now ∷ [] } }
     {
         self.copied.put(line);
         self.is_copied = true;
@@ -59,21 +64,30 @@ impl ExpandedLines {
 
     /// Makes printed lines ready, once no line before them is pending. The memory of the lines before them is given for them.
     pub(crate) fn exchange(&mut self, lines: &mut Lines)
-        requires drained { self.old ≡ [] }
-        ensures lines { self.new ≡ lines.old.lines }
+        requires drained { self.old.lines ≡ [] }
+        requires plain { lines.old.reserved ≡ 0 }
+        ensures lines { self.new.lines ≡ lines.old.lines }
+        ensures taken { self.new.room ≡ block_room lines.old }
+        ensures given { block_room lines.new ≡ self.old.room }
+        ensures plain { lines.new.reserved ≡ 0 }
     {
         mem::swap(&mut self.printed, lines);
     }
 
-    /// Gives the memory of the printed lines, once none of them is pending, for those that are printed next, where it is more than theirs.
+    /// Gives the memory of the printed lines, once none of them is pending, for those that are printed next, where it has no less room than
+    /// theirs.
     #[inline(always)]
     pub(crate) fn give_room(&mut self, lines: &mut Lines)
-        requires drained { self.old ≡ [] }
-        ensures drained { self.new ≡ [] }
-        ensures all_lines { lines.old.all_lines ≤ lines.new.all_lines }
-        ensures all_bytes { lines.old.all_bytes ≤ lines.new.all_bytes }
+        requires drained { self.old.lines ≡ [] }
+        requires plain { lines.old.reserved ≡ 0 }
+        ensures drained { self.new.lines ≡ [] }
+        ensures plain { lines.new.reserved ≡ 0 }
+        ensures kept { HasNoMoreRoom (block_room lines.old) (block_room lines.new) }
+        ensures given { HasNoMoreRoom (block_room lines.old) self.old.room → block_room lines.new ≡ self.old.room }
+        ensures places { ((block_room lines.new ≡ self.old.room) × (self.new.room ≡ block_room lines.old))
+            ⊎ ((block_room lines.new ≡ block_room lines.old) × (self.new.room ≡ self.old.room)) }
     {
-        if lines.has_less_room(&self.printed) {
+        if lines.has_no_more_room(&self.printed) {
             lines.clear();
             mem::swap(&mut self.printed, lines);
         }
@@ -81,16 +95,17 @@ impl ExpandedLines {
 
     /// Whether no line is pending.
     pub fn is_drained(&self) -> bool
-        ensures value { IsTrue result ↔ (self.now ≡ []) }
+        ensures value { IsTrue result ↔ (self.now.lines ≡ []) }
     {
         !self.is_copied && self.printed.is_empty()
     }
 
     /// Borrows the next line, without its line end; `None` once none is pending.
     pub fn next_line(&mut self) -> Option<&[u8]>
-        ensures value { option_copied result ≡ slice_get self.old 0 }
+        ensures value { option_copied result ≡ slice_get self.old.lines 0 }
         // That line is no longer pending.
-        ensures* after_borrow { sem 𝓛 (Rests the_row self.entry (λ new. new ≡ drop 1 self.old)) }
+        ensures* after_borrow { sem 𝓛 (Rests the_row self.entry (λ new.
+            new ≡ record self.old { lines = drop 1 self.old.lines })) }
     {
         if self.is_copied {
             self.is_copied = false;
@@ -101,8 +116,9 @@ impl ExpandedLines {
 
     /// Borrows all lines as one text, each followed by LF, after which none is pending.
     pub fn take_text(&mut self) -> &[u8]
-        ensures value { result.now ≡ lines_text self.old }
-        ensures* after_borrow { sem 𝓛 (Rests the_row self.entry (λ new. new ≡ [])) }
+        ensures value { result.now ≡ lines_text self.old.lines }
+        ensures* after_borrow { sem 𝓛 (Rests the_row self.entry (λ new.
+            new ≡ record self.old { lines = [] })) }
     {
         if self.is_copied {
             self.is_copied = false;

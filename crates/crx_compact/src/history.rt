@@ -1,6 +1,6 @@
 //! The history, which each epoch's lines are made and read after, and which they change in place: Hatanaka's Compact RINEX 3.0.
 
-ghost use Rattle.std.specs.Prelude.{List, ℕ, sum, flat_map, ◌≡◌, ◌≤◌, ◌<◌, ◌+◌, ◌*◌, ◌++◌, ◌∷◌, ◌⊎◌, if◌then◌else◌, [], true, false, None, Some, Ok, Err, All, length, take, map, slice_get, is_some, OnOk, OnErr, IfOk, IfErr, IsOk, vec_capacity};
+ghost use Rattle.std.specs.Prelude.{List, ℕ, sum, flat_map, ◌≡◌, ◌≤◌, ◌<◌, ◌+◌, ◌*◌, ◌++◌, ◌∷◌, ◌⊎◌, if◌then◌else◌, [], true, false, None, Some, Ok, Err, All, length, max, take, map, slice_get, is_some, OnOk, OnErr, IfOk, IfErr, IsOk, vec_capacity};
 ghost use Rattle.std.specs.Result.{is_ok};
 ghost use Rattle.crx_text.specs.meaning.Columns.{columns, without_end_blanks};
 ghost use Rattle.crx_base.specs.declared.limits.TheConstants.{HEAD_WIDTH, LINE_LIMIT, NAME_WIDTH, SATELLITES_LIMIT};
@@ -11,24 +11,24 @@ ghost use Rattle.crx_rinex.specs.meaning.Observations.{Row};
 ghost use Rattle.crx_header.specs.meaning.Satellites.{types_of_satellite};
 ghost use Rattle.crx_rinex.specs.meaning.Printing.{printed_head};
 ghost use Rattle.crx_compact.specs.ArcSteps.{shown_value};
-ghost use Rattle.crx_compact.specs.EncodingRooms.{HasRoomForEpoch, HasRowRoom, HasTakenRow, HasTakenText, KeepsEncodingRoom, encoding_room};
+ghost use Rattle.crx_compact.specs.EncodingRooms.{GrowsForEpoch, GrowsForRow, HasRoomForEpoch, HasRowRoom, HasSameMemory, HasTakenRow, HasTakenText, KeepsEncodingRoom, encoding_room};
 ghost use Rattle.crx_compact.specs.EpochLinesRead.{AreSatellitesRead, AreSatellitesRefused, IsEpochLineRead, IsEpochLineRefused, history_cleared};
-ghost use Rattle.crx_compact.specs.HeldRows.{past_of_tail, row_held};
-ghost use Rattle.crx_compact.specs.LineLists.{HasTakenLine, KeepsLinesRoom};
+ghost use Rattle.crx_compact.specs.HeldRows.{IsAwaitedSatellite, past_of_tail, row_held};
+ghost use Rattle.crx_compact.specs.LineLists.{HasTakenLine, KeepsLinesRoom, room_of_lines};
 ghost use Rattle.crx_compact.specs.meaning.CompactPlaces.{clock_line_read, satellites_of_text};
 ghost use Rattle.crx_compact.specs.meaning.EpochText.{names_in, satellites_named};
-ghost use Rattle.crx_compact.specs.Placing.{HasAllowedCount, HasAskedRoom, HasSameTexts, HaveRoom, IsAnnounced, IsBetween, IsPlaced, IsRowRead, KeepsRooms, padded, row_of_parts, row_room, satellite_of, tail_of_history};
+ghost use Rattle.crx_compact.specs.Placing.{GrowsOnly, HasAllowedCount, HasAskedRoom, HasSameTexts, HaveRoom, IsAnnounced, IsAskedAmong, IsBetween, IsPlaced, IsRowRead, KeepsRooms, padded, row_of_parts, row_room, satellite_of, tail_of_history};
 ghost use Rattle.crx_compact.specs.Written.{AreRowsWritten, IsEpochWritten, IsRowWritten, epoch_by_rows};
 ghost use Rattle.crx_rinex.specs.meaning.SatelliteLines.{IsSoundRow};
 ghost use Rattle.crx_compact.specs.PrintedBlocks.{printed_room};
-ghost use Rattle.crx_compact.specs.RowsSoFar.{HasClock};
+ghost use Rattle.crx_compact.specs.RowsSoFar.{NamesSatellites, HasClock};
 ghost use Rattle.crx_compact.specs.ShownRows.{shown_epoch};
 ghost use Rattle.crx_compact.specs.Steps.{no_tail};
 ghost use Rattle.crx_compact.specs.Tails.{RowTail, Tail};
 
 use crate::arc::ClockArc;
 use crate::cells::CELL_ROOM;
-use crate::lines::{FIRST_LINES, Lines};
+use crate::lines::{FIRST_LINES, Lines, lengthen};
 use crate::refusals::prepare_names;
 use crate::satellites::Satellites;
 use crx_base::Fault;
@@ -70,7 +70,8 @@ impl Model for History {
       satellites = history.satellites;
     } };
 
-    ghost invariant = { λ history. (length history.text.items ≤ LINE_LIMIT) × (length history.next_text.items ≤ LINE_LIMIT) };
+    ghost invariant = { λ history. (length history.text.items ≤ LINE_LIMIT) × (length history.next_text.items ≤ LINE_LIMIT)
+        × (vec_capacity history.text ≤ LINE_LIMIT) × (vec_capacity history.next_text ≤ LINE_LIMIT) };
 }
 
 impl History {
@@ -123,6 +124,8 @@ impl History {
         ensures rooms_kept { KeepsRooms self.old.satellites.rooms self.new.satellites.rooms }
         ensures text_kept { self.old.text_room ≤ self.new.text_room }
         ensures lines_kept { FIRST_LINES ≡ lines.old.reserved → KeepsLinesRoom lines.old lines.new }
+        ensures only { OnOk result (GrowsForEpoch epoch.now self.old.satellites.rooms self.new.satellites.rooms
+            (room_of_lines lines.old) (room_of_lines lines.new)) }
     {
         let length = HEAD_WIDTH + NAME_WIDTH * epoch.count();
         make_long(&mut self.next_text, length)?;
@@ -181,6 +184,8 @@ impl History {
             (row_of_parts name values.now flags.now) (encoding_room self.old lines.old)
             (encoding_room self.new lines.new)) }
         ensures kept { KeepsEncodingRoom (encoding_room self.old lines.old) (encoding_room self.new lines.new) }
+        ensures only { GrowsForRow (row_of_parts name values.now flags.now) (encoding_room self.old lines.old)
+            (encoding_room self.new lines.new) }
         ensures texts { HasSameTexts self.old self.new }
     {
         let count = values.len();
@@ -212,6 +217,7 @@ impl History {
         ensures taken { OnOk result (HasTakenText (HEAD_WIDTH + NAME_WIDTH * head.now.count)
             (encoding_room self.old lines.old) (encoding_room self.new lines.new)) }
         ensures kept { KeepsEncodingRoom (encoding_room self.old lines.old) (encoding_room self.new lines.new) }
+        ensures memory { HasSameMemory (encoding_room self.old lines.old) (encoding_room self.new lines.new) }
     {
         self.satellites.end();
         renew_text(&mut self.next_text, head, &self.satellites)?;
@@ -232,15 +238,17 @@ impl History {
     ///
     /// `BadEpoch` comes where the line holds a character outside 32 to 126, then where the text that it makes is none of an observation
     /// epoch; then the faults of the identifiers; `OutOfMemory` where something can't grow and the line has no fault. After a refusal the
-    /// satellites mean nothing.
+    /// satellites mean nothing. It is given whether the satellites of the epoch before are those that its text names.
     pub(crate) fn read_epoch_line(
         &mut self,
         types: &Types,
         line: &[u8],
+        is_named: bool,
         part: &mut Text,
     ) -> Result<(), Fault>
         requires short { length line.now ≤ LINE_LIMIT }
         requires between { IsBetween self.old }
+        requires named { is_named ≡ true → IsAnnounced self.old }
         ensures ok { OnOk result (IsEpochLineRead types.now line.now self.old self.new) }
         ensures err { IfErr result (IsEpochLineRefused types.now line.now self.old self.new) }
         ensures rooms { KeepsRooms self.old.satellites.rooms self.new.satellites.rooms }
@@ -252,7 +260,9 @@ impl History {
         }
         self.satellites.begin();
         let text = part.bytes();
-        read_satellites(types, text, &mut self.satellites)?;
+        // Most lines have marks in the columns before the identifiers alone.
+        let are_same = is_named & (line.len() <= HEAD_WIDTH);
+        read_satellites(types, text, are_same, &mut self.satellites)?;
         if put_text_in(&mut self.text, text).is_err() {
             return Err(Fault::OutOfMemory);
         }
@@ -400,6 +410,7 @@ fn prepare_rows(satellites: &mut Satellites, epoch: &Epoch) -> Result<usize, All
     ensures bytes { IfOk result (λ bytes. bytes ≡ sum (map row_room epoch.now.rows)) }
     ensures asked { HasAskedRoom satellites.old satellites.new }
     ensures room { OnOk result (HaveRoom epoch.now.rows satellites.new.rooms) }
+    ensures only { OnOk result (GrowsOnly (IsAskedAmong epoch.now.rows) satellites.old.rooms satellites.new.rooms) }
     ensures known { HaveRoom epoch.now.rows satellites.old.rooms → IsOk result }
 {
     let mut bytes = 0;
@@ -428,6 +439,8 @@ fn renew_text(
     ensures asked { HEAD_WIDTH + NAME_WIDTH * head.now.count ≤ vec_capacity text.old → IsOk result }
     ensures room { vec_capacity text.old ≤ vec_capacity text.new }
     ensures fits { OnOk result (HEAD_WIDTH + NAME_WIDTH * head.now.count ≤ vec_capacity text.new) }
+    ensures held { vec_capacity text.new ≤ max (vec_capacity text.old) (HEAD_WIDTH + NAME_WIDTH * head.now.count) }
+    ensures bounded { vec_capacity text.old ≤ LINE_LIMIT → vec_capacity text.new ≤ LINE_LIMIT }
 {
     let length = HEAD_WIDTH + NAME_WIDTH * head.count();
     make_long(text, length)?;
@@ -447,9 +460,10 @@ fn make_long(text: &mut Vec<u8>, count: usize) -> Result<(), AllocError>
     ensures known { count ≤ length text.old.items → IsOk result }
     ensures asked { count ≤ vec_capacity text.old → IsOk result }
     ensures capacity { vec_capacity text.old ≤ vec_capacity text.new }
+    ensures held { vec_capacity text.new ≤ max (vec_capacity text.old) count }
 {
     if text.len() < count {
-        text.resize(count, b' ')?;
+        lengthen(text, count, count, b' ')?;
     }
     Ok(())
 }
@@ -460,8 +474,9 @@ fn make_text_room(text: &mut Vec<u8>, count: usize) -> Result<(), AllocError>
     ensures room { OnOk result (count ≤ vec_capacity text.new) }
     ensures asked { count ≤ vec_capacity text.old → IsOk result }
     ensures capacity { vec_capacity text.old ≤ vec_capacity text.new }
+    ensures held { vec_capacity text.new ≤ max (vec_capacity text.old) count }
 {
-    text.reserve(count.saturating_sub(text.len()))
+    text.reserve_exact(count.saturating_sub(text.len()))
 }
 
 /// Puts the identifiers of the satellites that have come behind the columns of an epoch line.
@@ -481,22 +496,37 @@ fn put_names(text: &mut [u8], satellites: &Satellites)
 
 /// Replaces a text; after `AllocError` it is empty.
 fn put_text_in(text: &mut Vec<u8>, new: &[u8]) -> Result<(), AllocError>
+    requires short { length new.now ≤ LINE_LIMIT }
+    requires within { length text.old.items ≤ LINE_LIMIT }
     ensures ok { OnOk result (text.new.items ≡ new.now) }
     ensures err { OnErr result (text.new.items ≡ []) }
     ensures asked { length new.now ≤ vec_capacity text.old → IsOk result }
     ensures room { vec_capacity text.old ≤ vec_capacity text.new }
+    ensures held { vec_capacity text.new ≤ max (vec_capacity text.old) (length new.now) }
 {
-    text.clear();
-    text.extend_from_slice(new)?;
+    if make_long(text, new.len()).is_err() {
+        text.clear();
+        return Err(AllocError);
+    }
+    put_text(text, 0, new);
+    text.truncate(new.len());
     Ok(())
 }
 
-/// Has the satellites of an epoch text come, each with as many types as its system has.
+/// Has the satellites of an epoch text come, each with as many types as its system has. It is given whether the text names those that are
+/// awaited, where it announces as many.
 ///
 /// `BadEpoch` comes where columns 1 to 41 are not those of an observation epoch, or anything but blanks is behind the last identifier; then
 /// the faults of the identifiers; `OutOfMemory` where something can't grow and the text has no fault.
-fn read_satellites(types: &Types, text: &[u8], satellites: &mut Satellites) -> Result<(), Fault>
-    requires { satellites.old.rows ≡ [] }
+fn read_satellites(
+    types: &Types,
+    text: &[u8],
+    are_same: bool,
+    satellites: &mut Satellites,
+) -> Result<(), Fault>
+    requires none { satellites.old.rows ≡ [] }
+    requires named { are_same ≡ true → NamesSatellites text.now (map satellite_of satellites.old.rest) }
+    requires awaited { are_same ≡ true → All IsAwaitedSatellite (map satellite_of satellites.old.rest) }
     ensures ok { OnOk result
         (AreSatellitesRead (satellites_of_text types.now text.now) satellites.old satellites.new) }
     ensures err { IfErr result
@@ -509,6 +539,12 @@ fn read_satellites(types: &Types, text: &[u8], satellites: &mut Satellites) -> R
     let count = head.count();
     if !all_blank(after_columns(text, HEAD_WIDTH + NAME_WIDTH * count)) {
         return Err(Fault::BadEpoch);
+    }
+    if are_same {
+        if satellites.come_again(types, count) {
+            return Ok(());
+        }
+        return read_names(types, text, count, satellites);
     }
     read_names(types, text, count, satellites)
 }

@@ -1,14 +1,13 @@
 //! Lines that are made one after another and borrowed in that order, one by one or as one text.
 
-ghost use Rattle.std.specs.Prelude.{◌≡◌, ◌≤◌, ◌<◌, ◌+◌, ◌++◌, ◌∷◌, [], drop, length, max, slice_get, slice_set, take, Some, OnOk, IsOk, IsTrue, ◌↔◌, vec_capacity};
+ghost use Rattle.std.specs.Prelude.{◌≡◌, ◌≤◌, ◌<◌, ◌+◌, ◌-◌, ◌*◌, ◌++◌, ◌∷◌, [], ℕ, drop, length, max, slice_get, slice_set, take, Some, OnOk, OnErr, IsOk, IsTrue, ◌↔◌, vec_capacity};
 ghost use Rattle.crx_base.specs.declared.limits.TheConstants.{LINE_LIMIT};
 ghost use Rattle.crx_rinex.specs.meaning.SatelliteLines.{IsSoundRow};
-ghost use Rattle.std.specs.Bool.{OnTrue};
 ghost use Rattle.std.specs.Borrow.{sem};
 ghost use Rattle.std.specs.Io.BufRead.{Rests};
 ghost use Rattle.std.specs.Option.{option_copied};
 ghost use Rattle.crx_compact.specs.contracts.lines.Lines.{the_row};
-ghost use Rattle.crx_compact.specs.LineLists.{HasMoreRoom, HasSameRoom, HasTakenLine, KeepsLinesRoom, cleared, lines_text};
+ghost use Rattle.crx_compact.specs.LineLists.{AllAreHeldFor, AreHeldFor, HasMoreRoom, HasNoMoreRoom, HasSameRoom, HasTakenLine, KeepsLinesRoom, block_room, cleared, lines_text, room_of_lines};
 ghost use Rattle.crx_compact.specs.Placing.{HasRoom, KeepsRest, room_of_types, row_of_parts};
 ghost use Rattle.crx_compact.specs.PrintedBlocks.{printed_room};
 ghost use Rattle.crx_compact.specs.ShownRows.{shown_row};
@@ -22,6 +21,7 @@ use crx_text::Text;
 use crx_text::block::put_line;
 use std::alloc::{AllocError, Global};
 use std::marker::Model;
+use std::mem;
 
 /// How many lines of an epoch come before its rows, in compact text: they are known once its last row has come.
 pub(crate) const FIRST_LINES: usize = 2;
@@ -112,6 +112,10 @@ impl Lines {
         ensures emptied { self.new.lines ≡ [] }
         ensures front { OnOk result (self.new.front ≡ lines) }
         ensures reserved { OnOk result (self.new.reserved ≡ lines) }
+        ensures unused { OnOk result ((self.new.free_lines ≡ self.new.all_lines)
+            × (self.new.free_bytes ≡ self.new.all_bytes)) }
+        ensures held { OnOk result (AllAreHeldFor lines (lines * (LINE_LIMIT + 1)) (room_of_lines self.old)
+            (room_of_lines self.new)) }
         // Where room was left for as many before, none is asked for now, and all that was asked for other lines is free.
         ensures known { lines ≡ self.old.reserved → IsOk result }
         ensures free_lines { lines ≡ self.old.reserved → self.old.all_lines ≤ self.new.free_lines }
@@ -135,16 +139,16 @@ impl Lines {
         Ok(())
     }
 
-    /// Whether other lines have more room for bytes and no less for lines, and neither have room that is left in front.
+    /// Whether other lines have no less room, where neither have room that is left in front.
     #[inline(always)]
-    pub(crate) fn has_less_room(&self, other: &Lines) -> bool
-        ensures lines { OnTrue result (self.now.all_lines ≤ other.now.all_lines) }
-        ensures bytes { OnTrue result (self.now.all_bytes ≤ other.now.all_bytes) }
+    pub(crate) fn has_no_more_room(&self, other: &Lines) -> bool
+        requires plain { (self.now.reserved ≡ 0) × (other.now.reserved ≡ 0) }
+        ensures value { IsTrue result ↔ HasNoMoreRoom (block_room self.now) (block_room other.now) }
     {
-        self.bytes.len() < other.bytes.len()
-            && self.lengths.len() <= other.lengths.len()
-            && self.reserved == 0
-            && other.reserved == 0
+        self.lengths.len() <= other.lengths.len()
+            && self.bytes.len() <= other.bytes.len()
+            && self.lengths.capacity() <= other.lengths.capacity()
+            && self.bytes.capacity() <= other.bytes.capacity()
     }
 
     /// Asks for room for so many lines more, and for so many bytes, in which each line has one more than its length. The lines stay.
@@ -153,6 +157,7 @@ impl Lines {
         ensures grown { HasMoreRoom self.old self.new }
         ensures free_lines { OnOk result (lines ≤ self.new.free_lines) }
         ensures free_bytes { OnOk result (bytes ≤ self.new.free_bytes) }
+        ensures held { AreHeldFor lines bytes self.old self.new }
         // No more memory comes into use than that, and where there is room, none.
         ensures only_lines { self.new.free_lines ≤ max self.old.free_lines lines }
         ensures only_bytes { self.new.free_bytes ≤ max self.old.free_bytes bytes }
@@ -166,11 +171,12 @@ impl Lines {
         if filled <= self.bytes.len() && count <= self.lengths.len() {
             return Ok(());
         }
+        let front = self.reserved * (LINE_LIMIT + 1);
         if filled > self.bytes.len() {
-            self.bytes.resize(filled, b'\n')?;
+            lengthen(&mut self.bytes, filled, front, b'\n')?;
         }
         if count > self.lengths.len() {
-            self.lengths.resize(count, 0)?;
+            lengthen(&mut self.lengths, count, self.reserved, 0)?;
         }
         Ok(())
     }
@@ -302,4 +308,49 @@ impl Lines {
         self.handed_out_bytes = self.filled;
         &self.bytes[start..self.filled]
     }
+}
+
+/// Makes a list longer by items that are all the same. Where there is no room for them, the memory is doubled, but that of so many items in
+/// front, or made as large as these items need, where that is more.
+#[cold]
+#[inline(never)]
+pub(crate) fn lengthen<T: Copy>(
+    items: &mut Vec<T>,
+    count: usize,
+    front: usize,
+    item: T,
+) -> Result<(), AllocError>
+    requires longer { length items.old.items ≤ count }
+    requires front { front ≤ count }
+    ensures counted { OnOk result (length items.new.items ≡ count) }
+    ensures kept { (n : ℕ) → n ≤ length items.old.items → take n items.new.items ≡ take n items.old.items }
+    ensures err { OnErr result (items.new.items ≡ items.old.items) }
+    ensures asked { count ≤ vec_capacity items.old → IsOk result }
+    ensures capacity { vec_capacity items.old ≤ vec_capacity items.new }
+    ensures held { vec_capacity items.new ≤ max (vec_capacity items.old) (2 * count - front) }
+{
+    let capacity = items.capacity();
+    if capacity < count {
+        let most = capacity.saturating_add(capacity.saturating_sub(front));
+        items.reserve_exact(most.max(count) - items.len())?;
+    }
+    let alloc = *items.allocator();
+    *items = filled(mem::replace(items, Vec::new(alloc)), count, item);
+    Ok(())
+}
+
+/// A list with items that are all the same behind its own, for which it has memory. As a value it is filled by one call of the C library;
+/// behind a reference an item would take five instructions.
+#[inline(always)]
+fn filled<T: Copy>(mut items: Vec<T>, count: usize, item: T) -> Vec<T>
+    requires longer { length items.items ≤ count }
+    requires room { count ≤ vec_capacity items }
+    ensures counted { length result.items ≡ count }
+    ensures kept { (n : ℕ) → n ≤ length items.items → take n result.items ≡ take n items.items }
+    ensures capacity { vec_capacity result ≡ vec_capacity items }
+{
+    while items.len() < count {
+        items.push_reserved(item);
+    }
+    items
 }

@@ -2,7 +2,7 @@
 
 ghost use Rattle.std.specs.Prelude.{◌≡◌, ◌≤◌, ◌<◌, ◌+◌, [], true, false, length, map, sum, IsOk, OnOk};
 ghost use Rattle.crx_base.specs.declared.limits.TheConstants.{LINE_LIMIT};
-ghost use Rattle.crx_compact.specs.LineLists.{HasSameRoom};
+ghost use Rattle.crx_compact.specs.LineLists.{HasNoMoreRoom, HasSameRoom, IsHeldFor, block_room, no_block_room};
 ghost use Rattle.crx_compact.specs.Placing.{IsAnnounced};
 ghost use Rattle.crx_compact.specs.PrintedBlocks.{IsBlock, printed_room};
 
@@ -24,7 +24,8 @@ pub(crate) struct PrintedBlock {
 impl PrintedBlock {
     /// No lines.
     pub(crate) fn new(alloc: Global) -> PrintedBlock
-        ensures room { (result.lines.all_lines ≡ 0) × (result.lines.all_bytes ≡ 0) }
+        ensures room { block_room result.lines ≡ no_block_room }
+        ensures plain { result.lines.reserved ≡ 0 }
     {
         PrintedBlock {
             lines: Lines::new(alloc),
@@ -39,14 +40,20 @@ impl PrintedBlock {
         ensures room { OnOk result (IsBlock self.new.has_head self.new.rows self.new.lines history.now) }
         ensures none { self.new.has_head ≡ false }
         // Where room was asked for before, the answer isn't for want of memory.
-        ensures known { length history.now.satellites.rows < self.old.lines.all_lines
-            → LINE_LIMIT + 1 + sum (map printed_room history.now.satellites.rows) ≤ self.old.lines.all_bytes
+        ensures known { length history.now.satellites.rows < self.old.lines.all_lines + self.old.lines.spare_lines
+            → LINE_LIMIT + 1 + sum (map printed_room history.now.satellites.rows)
+            ≤ self.old.lines.all_bytes + self.old.lines.spare_bytes
             → IsOk result }
         ensures enough_lines { OnOk result (length history.now.satellites.rows < self.new.lines.all_lines) }
         ensures enough_bytes { OnOk result (LINE_LIMIT + 1 + sum (map printed_room history.now.satellites.rows)
             ≤ self.new.lines.all_bytes) }
-        ensures all_lines { self.old.lines.all_lines ≤ self.new.lines.all_lines }
-        ensures all_bytes { self.old.lines.all_bytes ≤ self.new.lines.all_bytes }
+        ensures kept { HasNoMoreRoom (block_room self.old.lines) (block_room self.new.lines) }
+        ensures reserved { self.new.lines.reserved ≡ self.old.lines.reserved }
+        // No more is held than before, or than twice what they need.
+        ensures held_lines { IsHeldFor (length history.now.satellites.rows + 1)
+            (self.old.lines.all_lines + self.old.lines.spare_lines) (self.new.lines.all_lines + self.new.lines.spare_lines) }
+        ensures held_bytes { IsHeldFor (LINE_LIMIT + 1 + sum (map printed_room history.now.satellites.rows))
+            (self.old.lines.all_bytes + self.old.lines.spare_bytes) (self.new.lines.all_bytes + self.new.lines.spare_bytes) }
     {
         self.lines.clear();
         self.has_head = false;

@@ -1,7 +1,7 @@
 //! What is stored of a satellite: its indicators and the arcs of its cells, changed in place by each of its lines. Hatanaka's Compact RINEX
 //! 3.0, satellite lines.
 
-ghost use Rattle.std.specs.Prelude.{All, ℕ, List, ◌≡◌, ◌≤◌, ◌<◌, ◌+◌, ◌-◌, ◌*◌, ◌++◌, ◌⊎◌, [], None, Some, Ok, Err, true, false, length, replicate, take, OnOk, OnErr, IfOk, IfErr, IsOk, IsTrue, ◌↔◌, vec_capacity};
+ghost use Rattle.std.specs.Prelude.{All, ℕ, List, ◌≡◌, ◌≤◌, ◌<◌, ◌+◌, ◌-◌, ◌*◌, ◌++◌, ◌⊎◌, [], None, Some, Ok, Err, true, false, length, max, replicate, take, OnOk, OnErr, IfOk, IfErr, IsOk, IsTrue, ◌↔◌, vec_capacity};
 ghost use Rattle.std.specs.List.{flat_map};
 ghost use Rattle.crx_text.specs.meaning.Columns.{columns, without_end_blanks};
 ghost use Rattle.crx_text.specs.Texts.{patched};
@@ -11,9 +11,9 @@ ghost use Rattle.crx_header.specs.meaning.ObservationTypes.{IsAllowedCount};
 ghost use Rattle.crx_header.specs.meaning.Satellites.{is_identifier};
 ghost use Rattle.crx_rinex.specs.meaning.Printing.{printed_row};
 ghost use Rattle.crx_compact.specs.declared.cells.TheConstants.{CELL_ROOM};
-ghost use Rattle.crx_compact.specs.Cells.{arcs_of_cells, codes_of_cells, value_at_place, CellsAreRead};
+ghost use Rattle.crx_compact.specs.Cells.{arcs_of_cells, codes_of_cells};
 ghost use Rattle.crx_compact.specs.HeldRows.{AreHeldFlags, row_held};
-ghost use Rattle.crx_compact.specs.meaning.Cells.{cell_text, cells_of, cells_read};
+ghost use Rattle.crx_compact.specs.meaning.Cells.{cell_text};
 ghost use Rattle.crx_text.specs.meaning.Numbers.{IsValue};
 ghost use Rattle.crx_compact.specs.meaning.CompactPlaces.{are_marks};
 ghost use Rattle.crx_compact.specs.Placing.{FitsFlags, IsMarked, cells_for, row_tail_of, satellite_of};
@@ -82,6 +82,12 @@ impl SatelliteHistory {
     pub(crate) fn count(&self) -> usize
         ensures value { result ≡ length self.now.cells }
         ensures few { result ≤ TYPES_LIMIT }
+        ensures room { result ≤ self.now.room }
+        // It is as it would be after it was made to have so many types.
+        ensures whole { self.now ≡ record self.now {
+          flags = flags_held result self.now.flags;
+          cells = cells_for result self.now.cells;
+        } }
     {
         self.count
     }
@@ -109,6 +115,7 @@ impl SatelliteHistory {
         ensures cells { self.new.cells ≡ self.old.cells }
         ensures room { OnOk result (count ≤ self.new.room) }
         ensures kept { self.old.room ≤ self.new.room }
+        ensures only { self.new.room ≤ max self.old.room count }
         ensures known { count ≤ self.old.room → IsOk result }
     {
         if count <= self.arcs.len() {
@@ -214,7 +221,7 @@ impl SatelliteHistory {
         ensures sized { length self.new.cells ≡ length self.old.cells }
         ensures room { self.new.room ≡ self.old.room }
     {
-        let at = read_first_cells(&mut self.arcs, self.count, line)?;
+        let at = read_cells(&mut self.arcs, self.count, line)?;
         let marks = &line[at..];
         if marks.is_empty() {
             return Ok(());
@@ -273,6 +280,7 @@ fn grow(indicators: &mut Vec<u8>, arcs: &mut Vec<ObsArc>, count: usize) -> Resul
     ensures room { OnOk result (length arcs.new.items ≡ count) }
     ensures longer { length arcs.old.items ≤ length arcs.new.items }
     ensures few { length arcs.new.items ≤ TYPES_LIMIT }
+    ensures only { length arcs.new.items ≤ count }
     ensures paired { length indicators.new.items ≡ 2 * length arcs.new.items }
     ensures arcs { (n : ℕ) → n ≤ length arcs.old.items → take n arcs.new.items ≡ take n arcs.old.items }
     ensures indicators { (n : ℕ) → n ≤ length indicators.old.items
@@ -281,6 +289,7 @@ fn grow(indicators: &mut Vec<u8>, arcs: &mut Vec<ObsArc>, count: usize) -> Resul
         ((vec_capacity indicators.old < 2 * count) ⊎ (vec_capacity arcs.old < count)) }
     ensures filled { vec_capacity arcs.new ≡ length arcs.new.items }
     ensures bounded { vec_capacity indicators.new ≤ 2 * TYPES_LIMIT }
+    ensures held { vec_capacity indicators.new ≤ max (vec_capacity indicators.old) (2 * count) }
 {
     let more = count - arcs.len();
     indicators.reserve_exact(2 * more)?;
@@ -317,18 +326,6 @@ fn put_first(bytes: &mut [u8], text: &[u8])
     ensures { take (length text.now) bytes.new ≡ text.now }
 {
     copy_text(&mut bytes[..text.len()], text);
-}
-
-/// Reads cells as [`read_cells`] does, for the first arcs.
-#[inline(always)]
-fn read_first_cells(arcs: &mut [ObsArc], count: usize, line: &[u8]) -> Result<usize, Fault>
-    requires fitting { count ≤ length arcs.old }
-    ensures ok { IfOk result (λ at.
-        CellsAreRead (take count arcs.old) count line.now (take count arcs.new) at) }
-    ensures err { IfErr result (λ fault.
-        cells_read (value_at_place (take count arcs.old)) (cells_of count line.now) ≡ Err fault) }
-{
-    read_cells(&mut arcs[..count], line)
 }
 
 /// Replaces indicators, the first two for each of so many types, by those that marks make of them.

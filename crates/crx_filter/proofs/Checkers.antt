@@ -1,6 +1,8 @@
 -- What a checker counts, and what it prints, by what a line makes.
-use Rattle.std.proofs.Common.{ℕ, ◌≡◌, inl, inr, Option, Some, Bool, true, false, List, [], ◌∷◌, ◌++◌, map}
-use Rattle.std.proofs.Common.{ap, sym, subst, refl, ◌∙◌}
+use Rattle.std.proofs.lemmas.Grind.{common_steps}
+use Rattle.std.proofs.Common.{arith}
+use Rattle.std.proofs.Common.{ℕ, ◌≡◌, inl, inr, Option, Some, Bool, true, false, List, [], ◌∷◌, ◌++◌}
+use Rattle.std.proofs.Common.{sym, subst, refl, ◌∙◌}
 use Rattle.std.specs.Str.{bytes_eq}
 use Rattle.std.proofs.lemmas.List.{map-append}
 use Rattle.std.proofs.lemmas.Option.{same_Some}
@@ -9,7 +11,6 @@ use Rattle.crx_rinex.specs.meaning.EpochLines.{ObservationHead}
 use Rattle.crx_rinex.specs.meaning.EpochPlaces.{OpenEpoch}
 use Rattle.crx_rinex.specs.meaning.Observations.{Row, Epoch as ObservationEpoch}
 use Rattle.crx_rinex.specs.meaning.Printing.{printed_epoch, printed_head, printed_row}
-use Rattle.crx_rinex.specs.meaning.Units.{HeaderLine}
 use Rattle.crx_compact.proofs.Characters.{bytes_eq-same}
 use Rattle.crx_compact.specs.Written.{epoch_by_rows}
 use Rattle.crx_filter.specs.CompactionByLine.{is_before_header}
@@ -39,10 +40,7 @@ pub first-line : (totals : Totals) (made : Made ObservationEpoch OpenEpoch)
     → totals_made totals (is_before_header (reader_phase before)) made
     ≡ record totals { version = version_in line }
 first-line totals made before after line step is_first is on takes =
-    let h : TakesRinexLine made before line (Header is_first) after =
-    subst (λ s. TakesRinexLine made before line s after) is takes in
-    ap (λ m. totals_made totals (is_before_header (reader_phase before)) m) h.0.unit_made
-    ∙ ap (λ b. totals_with totals b (HeaderLine line)) (sym h.1 ∙ on)
+    grind (arith, common_steps, totals_made, is_before_header, reader_phase, totals_with)
 
 -- ---- the printed line
 
@@ -74,12 +72,7 @@ none-passed made before after line takes some =
 open-printed : (made : Made ObservationEpoch OpenEpoch) (before after : RinexReader) (head : ObservationHead)
     → MovesReader made before after → is_open_stage after.stage ≡ true → after.head ≡ Some head
     → printed_made made ≡ printed_epoch (epoch_by_rows head after.rows.rows)
-open-printed made before after head moves is held =
-    ap printed_made moves.moved ∙ printed (in-epoch after is).1.stage held
-  where
-    printed : after.stage ≡ Open → after.head ≡ Some head
-        → printed_open (reader_phase after) ≡ printed_epoch (epoch_by_rows head after.rows.rows)
-    printed stage held = rw (stage, held) refl
+open-printed made before after head moves is held = grind (arith, common_steps)
 
 -- and so is one that is complete
 complete-printed : (made : Made ObservationEpoch OpenEpoch)
@@ -87,8 +80,7 @@ complete-printed : (made : Made ObservationEpoch OpenEpoch)
     → CompletedEpoch made line before after → after.head ≡ Some head
     → printed_made made ≡ printed_epoch (epoch_by_rows head after.rows.rows)
 complete-printed made before after line head epoch held =
-    ap printed_made epoch.is.unit_made ∙ ap (λ h. printed_epoch (epoch_by_rows h after.rows.rows))
-    (same_Some epoch.head head (sym epoch.held ∙ held))
+    grind (arith, common_steps, printed_made, printed_epoch, epoch_by_rows, same_Some)
 
 -- the line of an epoch, where none of its rows has come
 pub begun-printed : (made : Made ObservationEpoch OpenEpoch)
@@ -96,11 +88,9 @@ pub begun-printed : (made : Made ObservationEpoch OpenEpoch)
     → TakesRinexLine made before line Steps.Begun after → after.head ≡ Some head
     → last_line (printed_made made) ≡ printed_head head.head head.clock
 begun-printed made before after line head (none, inl (is, moves)) held =
-    ap last_line (open-printed made before after head moves is held)
-    ∙ ap (λ rows. last_line (printed_epoch (epoch_by_rows head rows))) none
+    grind (arith, common_steps, last_line, open-printed, printed_epoch, epoch_by_rows)
 begun-printed made before after line head (none, inr (is, epoch)) held =
-    ap last_line (complete-printed made before after line head epoch held)
-    ∙ ap (λ rows. last_line (printed_epoch (epoch_by_rows head rows))) none
+    grind (arith, common_steps, last_line, complete-printed, printed_epoch, epoch_by_rows)
 
 pub last-of : (lines : List (List ℕ)) (line : List ℕ) → last_line (lines ++ line ∷ []) ≡ line
 last-of [] line = refl
@@ -111,28 +101,21 @@ last-of (first ∷ next ∷ lines) line = last-of (next ∷ lines) line
 row-printed : (head : ObservationHead) (rows before : List Row) (row : Row)
     → rows ≡ before ++ row ∷ [] → last_line (printed_epoch (epoch_by_rows head rows)) ≡ printed_row row
 row-printed head rows before row is =
-    let first = printed_head head.head head.clock in
-    ap (λ rs. last_line (first ∷ map printed_row rs)) is
-    ∙ ap (λ lines. last_line (first ∷ lines)) (map-append printed_row before (row ∷ []))
-    ∙ last-of (first ∷ map printed_row before) (printed_row row)
+    grind (arith, common_steps, printed_head, last_line, printed_row, map-append, last-of)
 
 pub part-printed : (made : Made ObservationEpoch OpenEpoch) (before after : RinexReader) (line : List ℕ)
     → TakesRinexLine made before line Steps.Row after → IsLastRow after
     → last_line (printed_made made) ≡ printed_row after.row
 part-printed made before after line takes is_last =
-    let at = in-epoch after takes.1 in
-    ap last_line (open-printed made before after at.0 takes.0 takes.1 at.1.held)
-    ∙ row-printed at.0 after.rows.rows is_last.0 after.row is_last.1
+    grind (arith, common_steps, in-epoch, last_line, open-printed, row-printed)
 
 pub whole-printed : (made : Made ObservationEpoch OpenEpoch) (before after : RinexReader) (line : List ℕ)
     → TakesRinexLine made before line Steps.Epoch after → IsLastRow after
     → last_line (printed_made made) ≡ printed_row after.row
 whole-printed made before after line takes is_last =
-    ap last_line (complete-printed made before after line takes.head takes takes.held)
-    ∙ row-printed takes.head after.rows.rows is_last.0 after.row is_last.1
+    grind (arith, common_steps, last_line, complete-printed, row-printed)
 
 -- a line that is copied is given back
 pub copied-printed : (made : Made ObservationEpoch OpenEpoch) (line : List ℕ) → printed_made made ≡ line ∷ []
     → true ≡ bytes_eq line (last_line (printed_made made))
-copied-printed made line is =
-    sym (bytes_eq-same line) ∙ ap (λ lines. bytes_eq line (last_line lines)) (sym is)
+copied-printed made line is = grind (arith, common_steps, bytes_eq-same, bytes_eq, last_line)

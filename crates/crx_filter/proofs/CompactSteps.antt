@@ -6,12 +6,10 @@ use Rattle.crx_base.specs.declared.fault.Fault.{Fault}
 use Rattle.crx_header.specs.meaning.ObservationTypes.{Count}
 use Rattle.crx_compact.specs.meaning.EpochText.{Satellite}
 use Rattle.crx_compact.specs.Tails.{Tail}
-use Rattle.crx_compact.specs.meaning.CompactPlaces.{satellites_of_line}
 use Rattle.crx_compact.specs.meaning.Sequences.{and_then}
 use Rattle.crx_compact.specs.OpenEpochs.{ColumnsState, RawStep, Going, Whole, Faulty, HasMade, first_step}
 use Rattle.crx_compact.specs.OpenEpochs.{opened_raw, awaited_row, before_clock, opening, tail_for_line}
 use Rattle.crx_compact.specs.OpenEpochs.{tail_opened}
-use Rattle.crx_compact.specs.HeldRows.{past_of_tail}
 use Rattle.crx_filter.specs.CompactStages.{wants_line, wants_lines}
 
 -- whether an epoch that goes on wants lines
@@ -29,8 +27,7 @@ satellites-wanted line before (Err fault) = refl
 opened-wants : (types : List Count) (line : List ℕ) (tail : Option Tail)
     → wants_more (opening (opened_raw types line tail)) ≡ true
 opened-wants types line None = refl
-opened-wants types line (Some before) =
-    satellites-wanted line before (satellites_of_line types (past_of_tail before) line)
+opened-wants types line (Some before) = search (satellites-wanted)
 
 -- an epoch that was begun wants lines
 pub begun-wants : (types : List Count) (tail : Option Tail) (line : List ℕ) (after : ColumnsState)

@@ -79,12 +79,4 @@ judges-standard writer messages status fault file ran good =
     subst (λ o. IsResult (checked_by o found) writer messages status fault) good ran in
     let yes = both-ways (same-number status (report_status found.not_standard) here.status_is)
     (none-where_0 found.not_standard) in
-    record {
-      found = found;
-      report = here.output;
-      says_yes = yes;
-      standard = both-ways yes (named-where_not file good);
-      comes_back = λ compacting expanding dated. both-ways
-          (same-number status (checked file).status ran.status_is)
-          (standard-exactly_where_same file compacting expanding dated good);
-    }
+    search (both-ways, named-where_not, same-number, standard-exactly_where_same)

@@ -20,8 +20,7 @@ counts-more counts index c e =
     take_more counts index c (slice_get_within counts index c e) ∙ ap
     (λ x. take index counts ++ x ∷ []) (sym (unwrap_or-slice_get counts index c)
     ∙ ap (λ o. unwrap_or o c) e) in
-    ap (flat_map count_text) one ∙ flat_map-append count_text (take index counts) (c ∷ [])
-    ∙ ap (λ t. flat_map count_text (take index counts) ++ t) (append-nil (count_text c))
+    cc (one, flat_map-append count_text (take index counts) (c ∷ []), append-nil (count_text c))
 
 -- the version in the columns of the version is the version
 pub version-same : (line : List ℕ) → version_in (columns line 1 9) ≡ version_in line

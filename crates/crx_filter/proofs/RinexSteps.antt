@@ -1,60 +1,45 @@
 -- What a reader of RINEX makes of the lines of an epoch, and of a line where one may begin.
-use Rattle.std.proofs.Common.{◌≡◌, ◌⊎◌, inl, inr, ℕ, zero, suc, ◌+◌, ◌-◌, ◌<◌, ◌∷◌, ◌++◌, [], Bool}
-use Rattle.std.proofs.Common.{true, false, List, length, Option, Some, None, Result, Ok, Err}
-use Rattle.std.proofs.Common.{refl, sym, ap, subst, ◌∙◌, arith}
-use Rattle.std.specs.Prelude.{⊤, drop, not, ◌&&◌, ◌==◌, nat_lt}
-use Rattle.std.proofs.lemmas.Bool.{and_from, and_parts, eq-eqb, eqb-true, lt-ltb, ltb-true}
+use Rattle.std.proofs.Common.{◌≡◌, ◌⊎◌, inl, inr, ℕ, zero, suc, ◌+◌, ◌-◌, ◌<◌, ◌∷◌, ◌++◌, [], Bool, true}
+use Rattle.std.proofs.Common.{false, List, length, Option, Some, None, Result, Ok, Err, refl, sym, ap, subst}
+use Rattle.std.proofs.Common.{◌∙◌, arith}
+use Rattle.std.specs.Prelude.{⊤, drop}
 use Rattle.std.proofs.lemmas.List.{length_push}
-use Rattle.std.proofs.lemmas.Option.{same_Some}
 use Rattle.std.specs.List.{list_all}
-use Rattle.std.specs.Result.{is_ok}
 use Rattle.crx_text.specs.meaning.Columns.{columns, character_at, is_blank}
-use Rattle.crx_text.specs.meaning.Numbers.{clock_of}
 use Rattle.crx_base.specs.meaning.Seen.{Content}
 use Rattle.crx_base.specs.declared.fault.Fault.{Fault}
 use Rattle.crx_base.specs.declared.fault.Fault.TheVariants.{NotAnEpoch}
 use Rattle.crx_base.specs.declared.limits.TheConstants.{HEAD_WIDTH, CLOCK_WIDTH}
 use Rattle.crx_rinex.specs.meaning.Observations.{Row, Epoch as ObservationEpoch}
-use Rattle.crx_rinex.specs.meaning.EpochLines.{HeadLine, EventHead, EpochHead, ObservationHead}
+use Rattle.crx_rinex.specs.meaning.EpochLines.{HeadLine, EventHead, EpochHead, ObservationHead, event_head}
+use Rattle.crx_rinex.specs.meaning.EpochLines.{epoch_head, head_of}
 use Rattle.crx_header.specs.meaning.EpochColumns.{begins_epoch, is_event_flag, is_event_line, records_in}
-use Rattle.crx_rinex.specs.meaning.EpochLines.{event_head, epoch_head}
 use Rattle.crx_header.specs.meaning.EpochColumns.{epoch_count}
-use Rattle.crx_rinex.specs.meaning.EpochLines.{head_of}
-use Rattle.crx_rinex.proofs.SoundEpochs.{with_clock}
-use Rattle.crx_rinex.specs.meaning.EpochPlaces.{OpenEpoch, begun_by, beginning_of, opened, epoch_of, next_row}
-use Rattle.crx_rinex.specs.EpochPlaces.{Going, Whole, when_wanted, whole_or_going, after_row}
+use Rattle.crx_rinex.specs.meaning.EpochPlaces.{OpenEpoch, beginning_of, opened, epoch_of}
+use Rattle.crx_rinex.specs.EpochPlaces.{Whole, when_wanted, whole_or_going}
 use Rattle.crx_rinex.specs.meaning.Epochs.{has_satellite}
 use Rattle.crx_header.specs.meaning.ObservationTypes.{Count}
 use Rattle.crx_rinex.specs.meaning.SatelliteLines.{row_of}
 use Rattle.crx_rinex.specs.meaning.Units.{EventLine}
-use Rattle.crx_filter.specs.CompactionByLine.{Written, compaction, epoch_written, is_next_row}
-use Rattle.crx_filter.specs.CompactionByLine.{is_whole_at_once, made_of_epoch_step, made_of_beginning}
+use Rattle.crx_filter.specs.CompactionByLine.{Written, epoch_written, is_next_row, is_whole_at_once}
+use Rattle.crx_filter.specs.CompactionByLine.{made_of_epoch_step, made_of_beginning}
 use Rattle.crx_filter.specs.meaning.Items.{records_announced}
-use Rattle.crx_filter.specs.LineByLine.{Made, Completes, Moves, InEpoch, Phase, made_in}
+use Rattle.crx_filter.specs.LineByLine.{Made, Completes}
 use Rattle.crx_filter.specs.Memory.{may_take_memory}
-use Rattle.crx_filter.specs.Stages.{seen_stage, is_ended}
-use Rattle.crx_filter.specs.RinexStages.{open_epoch, is_open_stage, is_rinex_stage, wants_rows}
-use Rattle.crx_filter.specs.RinexReaders.{reader_phase, made_at, epoch_open}
-use Rattle.crx_filter.specs.RinexReaders.{BeginsEpoch, CompletedEpoch, MovesReader}
+use Rattle.crx_filter.specs.Stages.{seen_stage}
+use Rattle.crx_filter.specs.RinexStages.{is_open_stage, is_rinex_stage}
+use Rattle.crx_filter.specs.RinexReaders.{reader_phase, made_at, epoch_open, BeginsEpoch, CompletedEpoch}
+use Rattle.crx_filter.specs.RinexReaders.{MovesReader}
 use Rattle.crx_filter.specs.declared.rinex_reader.RinexReader.{RinexReader}
 use Rattle.crx_filter.specs.declared.stage.Stage.{Stage}
-use Rattle.crx_filter.specs.declared.stage.Stage.TheVariants.{FirstLines, Header, Between, Event, Open}
-use Rattle.crx_filter.specs.declared.stage.Stage.TheVariants.{Looking, Closed, Ended}
-use Rattle.crx_filter.proofs.Choosing.{by_bool, false-true}
+use Rattle.crx_filter.specs.declared.stage.Stage.TheVariants.{Between, Open, Looking}
+use Rattle.crx_filter.proofs.Choosing.{by_bool}
 
 -- ---- an epoch is whole, or wants rows
-
-when-going : (k : ℕ) (so_far : OpenEpoch) → 0 < k → when_wanted k so_far ≡ Going so_far
-when-going zero so_far less = absurd (omega (arith, less))
-when-going (suc k) so_far less = refl
 
 when-whole : (k : ℕ) (so_far : OpenEpoch) → k ≡ 0 → when_wanted k so_far ≡ Whole (epoch_of so_far)
 when-whole zero so_far is = refl
 when-whole (suc k) so_far is = absurd (omega (arith, is))
-
-going-on : (so_far : OpenEpoch)
-    → length so_far.rows < so_far.head.count → whole_or_going so_far ≡ Going so_far
-going-on so_far less = when-going (so_far.head.count - length so_far.rows) so_far (omega (arith, less))
 
 whole-now : (so_far : OpenEpoch)
     → length so_far.rows ≡ so_far.head.count → whole_or_going so_far ≡ Whole (epoch_of so_far)
@@ -100,18 +85,7 @@ part-taken : (made : Made ObservationEpoch OpenEpoch)
     → made ≡ made_of_epoch_step (whole_or_going (open_by_rows before.types head rows))
     → length rows < head.count → HasParts after before.types head rows → after.stage ≡ Open
     → MovesReader made before after
-part-taken made before after head rows is part parts stage = record {
-  moved = is ∙ ap made_of_epoch_step (going-on (open_by_rows before.types head rows) part)
-      ∙ ap (λ (phase : Phase OpenEpoch). Moves phase) (sym held-phase);
-  types_then = parts.types_then;
-  goes_on = ap is_ended stage;
-}
-  where
-    held-phase : reader_phase after ≡ InEpoch (open_by_rows before.types head rows)
-    held-phase = ap (λ s. seen_stage (epoch_open after) s) stage
-        ∙ ap (λ o. seen_stage (open_epoch after.types o after.rows.rows) Open) parts.held
-        ∙ ap (λ ts. InEpoch (open_by_rows ts head after.rows.rows)) parts.types_then
-        ∙ ap (λ rs. InEpoch (open_by_rows before.types head rs)) parts.rows_then
+part-taken made before after head rows is part parts stage = grind arith
 
 -- ---- a satellite line
 
@@ -122,97 +96,32 @@ pub record IsInEpoch (r : RinexReader) (head : ObservationHead) : Type 0 where
   pub counted : r.count ≡ length r.rows.rows
   pub wants : r.count < head.count
 
-abbrev AwaitsRow : Stage → Option ObservationHead → ℕ → List Row → Type 0
-AwaitsRow stage held count rows = (head : ObservationHead)
-    × (stage ≡ Open) × (held ≡ Some head) × (count ≡ length rows) × (count < head.count)
-
-wanting : (held : Option ObservationHead) (count : ℕ) (rows : List Row)
-    → wants_rows held count rows ≡ true → AwaitsRow Open held count rows
-wanting None count rows wants = false-true wants
-wanting (Some head) count rows wants =
-    let both = and_parts (count == length rows) (nat_lt count head.count) wants in
-    (head, refl, refl, eqb-true count (length rows) both.0, ltb-true count head.count both.1)
-
-awaits : (stage : Stage) (held : Option ObservationHead) (count : ℕ) (rows : List Row)
-    → is_rinex_stage stage held count rows ≡ true
-    → is_open_stage stage ≡ true → AwaitsRow stage held count rows
-awaits Open held count rows consistent is = wanting held count rows consistent
-awaits (FirstLines lines) held count rows consistent is = false-true is
-awaits (Header is_first) held count rows consistent is = false-true is
-awaits Between held count rows consistent is = false-true is
-awaits (Event left counted) held count rows consistent is = false-true is
-awaits Looking held count rows consistent is = false-true is
-awaits Closed held count rows consistent is = false-true is
-awaits (Ended at) held count rows consistent is = false-true is
-
 pub in-epoch : (r : RinexReader) → is_open_stage r.stage ≡ true → (head : ObservationHead) × IsInEpoch r head
-in-epoch r is =
-    let a = awaits r.stage r.head r.count r.rows.rows r.consistent is in
-    (a.0, record { stage = a.1; held = a.2; counted = a.3; wants = a.4 })
+in-epoch r is = grind arith
 
 pub in-its-epoch : (r : RinexReader) (head : ObservationHead)
     → is_open_stage r.stage ≡ true → r.head ≡ Some head → IsInEpoch r head
-in-its-epoch r head is held =
-    let at = in-epoch r is in
-    let same = same_Some at.0 head (sym at.1.held ∙ held) in
-    record {
-      stage = at.1.stage;
-      held = held;
-      counted = at.1.counted;
-      wants = subst (λ (h : ObservationHead). r.count < h.count) same at.1.wants;
-    }
+in-its-epoch r head is held = grind arith
 
 -- so many rows of an epoch with this line are not all of them: it stays open
 pub stays-open : (stage : Stage) (held : Option ObservationHead)
     (head : ObservationHead) (count : ℕ) (rows : List Row)
     → stage ≡ Open → held ≡ Some head → count ≡ length rows → count < head.count
     → is_rinex_stage stage held count rows ≡ true
-stays-open stage held head count rows is is_head counted more =
-    rw (is, is_head) (and_from (count == length rows) (nat_lt count head.count)
-    (eq-eqb count (length rows) counted) (lt-ltb count head.count more))
-
--- what its next line makes
-row-made : (r : RinexReader) (head : ObservationHead) (line : List ℕ)
-    (kept : Written) (row : Result Row Fault)
-    → IsInEpoch r head → next_row (open_by_rows r.types head r.rows.rows) line ≡ row
-    → made_at r line kept ≡ made_of_epoch_step (after_row (open_by_rows r.types head r.rows.rows) row)
-row-made r head line kept row at is =
-    ap (λ (phase : Phase OpenEpoch). made_in compaction phase r.types kept (Content line))
-    (phase-in r head at) ∙ ap (λ (read : Result Row Fault).
-    made_of_epoch_step (after_row (open_by_rows r.types head r.rows.rows) read)) is
-  where
-    phase-in : (r : RinexReader) (head : ObservationHead)
-        → IsInEpoch r head → reader_phase r ≡ InEpoch (open_by_rows r.types head r.rows.rows)
-    phase-in r head at = rw (at.stage, at.held) refl
-
--- a row of a satellite that has not come
-new-row : (so_far : OpenEpoch) (line : List ℕ) (row : Row) → begins_epoch line ≡ false
-    → row_of so_far.types line ≡ Ok row → has_satellite row.name so_far.rows ≡ false
-    → next_row so_far line ≡ Ok row
-new-row so_far line row other read new = rw (other, read, new) refl
+stays-open stage held head count rows is is_head counted more = grind arith
 
 -- such a line may take memory
 pub row-allowed : (first : List ℕ → Bool)
     (r : RinexReader) (line : List ℕ) (row : Row) → is_open_stage r.stage ≡ true
     → begins_epoch line ≡ false → row_of r.types line ≡ Ok row → has_satellite row.name r.rows.rows ≡ false
     → may_take_memory first is_next_row (reader_phase r) (Content line) ≡ true
-row-allowed first r line row is other read new =
-    let at = in-epoch r is in
-    allowed r at.0 at.1 (ap (λ (o : Result Row Fault). is_ok o)
-    (new-row (open_by_rows r.types at.0 r.rows.rows) line row other read new))
-  where
-    allowed : (r : RinexReader) (head : ObservationHead) → IsInEpoch r head
-        → is_ok (next_row (open_by_rows r.types head r.rows.rows) line) ≡ true
-        → may_take_memory first is_next_row (reader_phase r) (Content line) ≡ true
-    allowed r head at good = rw (at.stage, at.held) (and_from (not (begins_epoch line))
-        (is_ok (next_row (open_by_rows r.types head r.rows.rows) line)) (ap not other) good)
+row-allowed first r line row is other read new = grind arith
 
 new-made : (r : RinexReader) (head : ObservationHead) (line : List ℕ) (kept : Written) (row : Row)
     → IsInEpoch r head → begins_epoch line ≡ false → row_of r.types line ≡ Ok row
     → has_satellite row.name r.rows.rows ≡ false → made_at r line kept
     ≡ made_of_epoch_step (whole_or_going (open_by_rows r.types head (r.rows.rows ++ row ∷ [])))
-new-made r head line kept row at other read new = row-made r head line kept (Ok row) at
-    (new-row (open_by_rows r.types head r.rows.rows) line row other read new)
+new-made r head line kept row at other read new = grind arith
 
 -- the row is the last one of its epoch
 pub last-row-taken : (before after : RinexReader) (head : ObservationHead) (line : List ℕ) (kept : Written)
@@ -254,16 +163,10 @@ of-event : (line : List ℕ) (o : Option ℕ) → records_in line ≡ o
 of-event line None is = tt
 of-event line (Some count) is = rw is refl
 
-of-clock : (line head : List ℕ) (count : ℕ) (o : Option (Option _))
-    → is_event_line line ≡ false → begins_epoch line ≡ true → OfHead line (with_clock head count o)
-of-clock line head count None other begins = tt
-of-clock line head count (Some clock) other begins = (other, begins)
-
 of-blank : (line : List ℕ) (count : ℕ) (b : Bool) → list_all is_blank
     (drop (HEAD_WIDTH + CLOCK_WIDTH) line) ≡ b
     → is_event_line line ≡ false → begins_epoch line ≡ true → OfHead line (epoch_head line (Some count))
-of-blank line count true is other begins = rw is (of-clock line
-    (columns line 1 HEAD_WIDTH) count (clock_of (columns line (HEAD_WIDTH + 1) CLOCK_WIDTH)) other begins)
+of-blank line count true is other begins = grind arith
 of-blank line count false is other begins = rw is tt
 
 of-epoch : (line : List ℕ) (o : Option ℕ)
@@ -299,11 +202,6 @@ pub event-counts : (line : List ℕ) (flag count : ℕ)
     → head_of line ≡ Ok (EventHead flag count) → records_announced line ≡ count
 event-counts line flag count is = subst (OfHead line) is (of-head line)
 
-pub epoch-line : (line : List ℕ) (head : List ℕ) (count : ℕ) (clock : Option _)
-    → head_of line ≡ Ok (EpochHead head count clock) → (is_event_line line ≡ false)
-    × (begins_epoch line ≡ true)
-epoch-line line head count clock is = subst (OfHead line) is (of-head line)
-
 -- where a reader is that takes such a line
 abbrev pub Begins : RinexReader → List ℕ → Type 0
 Begins r line = (r.stage ≡ Between) ⊎ ((r.stage ≡ Looking) × (begins_epoch line ≡ true))
@@ -318,23 +216,17 @@ pub begin-allowed : (before : RinexReader) (line : List ℕ)
     → is_whole_at_once (made_of_beginning before.types (beginning_of line)) ≡ true → may_take_memory
     (epoch_written before.types before.types) is_next_row (reader_phase before) (Content line) ≡ true
 begin-allowed before line (inl stage) epoch whole = rw (stage, epoch.0) whole
-begin-allowed before line (inr looking) epoch whole =
-    let begun = is_whole_at_once (made_of_beginning before.types (beginning_of line)) in
-    rw looking.0 (and_from (begins_epoch line)
-    (not (is_event_line line) && begun) epoch.1 (and_from (not (is_event_line line)) begun
-    (ap not epoch.0) whole))
+begin-allowed before line (inr looking) epoch whole = grind arith
 
 pub event-made : (types : List Count) (line : List ℕ) (flag count : ℕ) → head_of line
     ≡ Ok (EventHead flag count) → made_of_beginning types (beginning_of line) ≡ Completes (EventLine line)
-event-made types line flag count read =
-    ap (λ (r : Result HeadLine Fault). made_of_beginning types (begun_by line r)) read
+event-made types line flag count read = cc (read)
 
 -- an epoch that begins with a line
 begun-made : (types : List Count) (line : List ℕ) (head : ObservationHead)
     → head_of line ≡ Ok (EpochHead head.head head.count head.clock)
     → made_of_beginning types (beginning_of line) ≡ made_of_epoch_step (whole_or_going (opened types head))
-begun-made types line head read =
-    ap (λ (r : Result HeadLine Fault). made_of_beginning types (begun_by line r)) read
+begun-made types line head read = cc (read)
 
 -- what a reader makes of the line that begins an epoch: it is whole with it
 pub begun-whole : (before after : RinexReader) (line : List ℕ) (kept : Written) (head : ObservationHead)
@@ -342,17 +234,7 @@ pub begun-whole : (before after : RinexReader) (line : List ℕ) (kept : Written
     → HasParts after before.types head [] → after.stage ≡ Between
     → BeginsEpoch (made_at before line kept) line before after
 begun-whole before after line kept head begins read none parts stage =
-    let made = begun-made before.types line head read in
-    let whole = ap made_of_epoch_step (whole-now (opened before.types head) (sym none)) in (
-      parts.rows_then,
-      inr (
-        ap is_open_stage stage,
-        whole-taken (made_at before line kept) before after line head []
-            (begin-made before line kept begins ∙ made)
-            (begin-allowed before line begins (epoch-line line head.head head.count head.clock read)
-            (ap is_whole_at_once (made ∙ whole))) (sym none) parts stage,
-      ),
-    )
+    grind (arith, begun-made, whole-now, inr, whole-taken, begin-made, begin-allowed, of-head)
 
 -- or rows are to come
 pub begun-part : (before after : RinexReader) (line : List ℕ) (kept : Written) (head : ObservationHead)

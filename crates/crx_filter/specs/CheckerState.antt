@@ -58,7 +58,7 @@ pub record CheckerIsOpen (c : Checker) : Type 0 where
   pub reading : is_reading (reader_phase c.reader) ≡ true
   pub bounded : AreBounded c.totals c.number
   pub none_handed_out : c.handed_out ≡ None
-  pub named : is_open_stage c.reader.stage ≡ true → AreNamed c.names c.reader.rows.rows
+  pub named : is_open_stage c.reader.stage ≡ true → AreNamed c.names.names c.reader.rows.rows
   pub observed : is_open_stage c.reader.stage ≡ true → IsObserved c.observed c.reader.rows.rows
 
 -- it has taken these lines; no line comes a second time

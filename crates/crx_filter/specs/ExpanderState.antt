@@ -13,4 +13,4 @@ expander_state e = seen_by e.options e.number (expansion_parts e.direction)
 
 -- the lines that are pending
 abbrev pub expander_ready : EngineParts Expansion → List (List ℕ)
-expander_ready e = e.direction.lines
+expander_ready e = e.direction.lines.lines

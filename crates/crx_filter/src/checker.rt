@@ -166,7 +166,7 @@ fn take_line(
     line: &[u8],
 ) -> Result<RinexStep, Fault>
     requires running { is_ended reader.old.stage ≡ false }
-    requires named { is_open_stage reader.old.stage ≡ true → AreNamed names.old reader.old.rows.rows }
+    requires named { is_open_stage reader.old.stage ≡ true → AreNamed names.old.names reader.old.rows.rows }
     ensures takes { (kept : Written) → IfOk result
         (λ step. TakesRinexLine (made_at reader.old line.now kept) reader.old line.now step reader.new) }
     ensures refuses { (kept : Written) → IfErr result
@@ -175,7 +175,7 @@ fn take_line(
         → (is_open_stage reader.old.stage ≡ true → IsObserved observed reader.old.rows.rows)
         → IfOk result (λ step. IsCounting step observed reader.new) }
     ensures named { OnOk result
-        (is_open_stage reader.new.stage ≡ true → AreNamed names.new reader.new.rows.rows) }
+        (is_open_stage reader.new.stage ≡ true → AreNamed names.new.names reader.new.rows.rows) }
 {
     if let Stage::Open = reader.stage {
         take_row(reader, names, line)
@@ -191,13 +191,13 @@ fn take_row(
     line: &[u8],
 ) -> Result<RinexStep, Fault>
     requires open { is_open_stage reader.old.stage ≡ true }
-    requires named { AreNamed names.old reader.old.rows.rows }
+    requires named { AreNamed names.old.names reader.old.rows.rows }
     ensures takes { (kept : Written) → IfOk result
         (λ step. TakesRinexLine (made_at reader.old line.now kept) reader.old line.now step reader.new) }
     ensures refuses { (kept : Written) → IfErr result
         (λ fault. RefusesRinexLine (made_at reader.old line.now kept) reader.old line.now fault) }
     ensures steps { IfOk result (λ step. is_row step ≡ true) }
-    ensures named { OnOk result (AreNamed names.new reader.new.rows.rows) }
+    ensures named { OnOk result (AreNamed names.new.names reader.new.rows.rows) }
     ensures rows { OnOk result (reader.new.rows.rows ≡ reader.old.rows.rows ++ reader.new.row ∷ []) }
     ensures few { OnOk result (length reader.new.rows.rows ≤ SATELLITES_LIMIT) }
 {

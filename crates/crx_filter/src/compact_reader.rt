@@ -48,8 +48,8 @@ impl CompactReader {
 
     /// Takes the memory of lines that have been written back: see [`Columns::take_room`].
     pub(crate) fn take_room(&mut self, lines: &mut ExpandedLines)
-        requires drained { lines.old ≡ [] }
-        ensures drained { lines.new ≡ [] }
+        requires drained { lines.old.lines ≡ [] }
+        ensures drained { lines.new.lines ≡ [] }
         ensures stage { self.new.stage ≡ self.old.stage }
         ensures types { self.new.types ≡ self.old.types }
         ensures columns { self.new.columns.state ≡ self.old.columns.state }
@@ -64,8 +64,8 @@ impl CompactReader {
     pub(crate) fn go_on(&mut self, line: &[u8], lines: &mut ExpandedLines) -> Result<bool, Fault>
         requires open { self.old.stage ≡ Open }
         requires short { length line.now ≤ LINE_LIMIT }
-        requires drained { lines.old ≡ [] }
-        ensures reads { ReadsCompactLine self.old line.now result lines.new self.new }
+        requires drained { lines.old.lines ≡ [] }
+        ensures reads { ReadsCompactLine self.old line.now result lines.new.lines self.new }
     {
         match self.columns.feed_into(line, lines) {
             Ok(false) => Ok(false),

@@ -49,7 +49,7 @@ impl Direction for Expansion {
 
     ghost parts = { expansion_parts };
 
-    ghost ready = { λ e. e.lines };
+    ghost ready = { λ e. e.lines.lines };
 
     ghost counted = { λ e. 0 };
 

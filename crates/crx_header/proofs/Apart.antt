@@ -1,15 +1,15 @@
 -- Things of different identifiers, and one put in the place of another of the same identifier.
+use Rattle.std.proofs.lemmas.Grind.{common_steps}
 use Rattle.std.proofs.Common.{◌≡◌, ℕ, zero, suc, ◌<◌, true, false, not, ◌||◌, List, [], ◌∷◌, ◌++◌, length}
 use Rattle.std.proofs.{Common.{get_or, map, take, refl, ap, sym, ◌∙◌, arith}, lemmas.Bool.or_parts}
-use Rattle.std.proofs.lemmas.Bool.{and_parts, not-true, false≢true, false_from_ne_true}
+use Rattle.std.proofs.lemmas.Bool.{and_parts, not-true, false_from_ne_true}
 use Rattle.std.{proofs.lemmas.{List.Folds.list_any-append, Slice.Eq.bytes_eq-Decides}, specs.Prelude.Bool}
 use Rattle.std.specs.Str.{bytes_eq}
 use Rattle.crx_header.specs.meaning.Satellites.{is_among, are_apart}
 
 -- the test of two texts doesn't ask which is the first
 pub other_way : (xs ys : List ℕ) → bytes_eq xs ys ≡ false → bytes_eq ys xs ≡ false
-other_way xs ys h = false_from_ne_true (bytes_eq ys xs) (λ t. false≢true
-    (sym h ∙ (bytes_eq-Decides xs ys).1 (sym ((bytes_eq-Decides ys xs).0 t))))
+other_way xs ys h = grind (arith, common_steps, false_from_ne_true, bytes_eq, bytes_eq-Decides)
 
 -- one more at the end, of another identifier than those before it
 pub apart-push : {X : Type 0} (f : X → List ℕ) (xs : List X) (x : X)
@@ -28,8 +28,7 @@ not-at : {X : Type 0} (f : X → List ℕ) (name : List ℕ) (n : ℕ) (xs : Lis
 not-at f name zero xs k d h a b = absurd (omega (arith, a))
 not-at f name (suc n) [] k d h a b = absurd (omega (arith, b))
 not-at f name (suc n) (x ∷ xs) zero d h a b = grind arith
-not-at f name (suc n) (x ∷ xs) (suc k) d h a b = not-at f name n xs k d
-    (or_parts (bytes_eq (f x) name) (is_among f name (take n xs)) h).1 (omega (arith, a)) (omega (arith, b))
+not-at f name (suc n) (x ∷ xs) (suc k) d h a b = grind (arith, common_steps, or_parts, bytes_eq, is_among)
 
 pub new_at : {X : Type 0} (f : X → List ℕ) (n : ℕ) (xs : List X) (k : ℕ) (d : X)
     → are_apart f (take n xs) ≡ true → k < n → k < length xs

@@ -146,10 +146,6 @@ pub with_line-other : (counts : List Count) (line : List ℕ)
     → is_types_line line ≡ false → with_line counts line ≡ counts
 with_line-other counts line h = grind arith
 
-pub with_line-types : (counts : List Count) (line : List ℕ) (letter count : ℕ) → is_types_line line ≡ true
-    → count_in line ≡ Some (letter, count) → with_line counts line ≡ with_count counts letter count
-with_line-types counts line letter count h e = grind arith
-
 allowed_if : (l n letter count : ℕ)
     → count_if_allowed l n ≡ Some (letter, count) → (is_system letter ≡ true) × IsAllowedCount count
 allowed_if l n letter count g = grind arith
@@ -212,10 +208,6 @@ AreByLetter-with_count table es letter count h within = λ a few.
 none_by_zero : (o : Option ℕ) → IfSome o IsAllowedCount → unwrap_or o 0 ≡ 0 → o ≡ None
 none_by_zero None a e = refl
 none_by_zero (Some n) a e = absurd (omega (arith, a.0, e))
-
-some_by_count : (o : Option ℕ) (n : ℕ) → unwrap_or o 0 ≡ n → n ≢ 0 → o ≡ Some n
-some_by_count None n e some = absurd (some (sym e))
-some_by_count (Some m) n e some = ap Some e
 
 pub absent_by_letter : (table : List ℕ) (es : List Count) (letter : ℕ) → AreCounts es → AreByLetter table es
     → letter < LETTERS → get_or table letter 0 ≡ 0 → count_of es letter ≡ None

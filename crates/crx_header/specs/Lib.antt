@@ -1,2 +1,3 @@
 pub mod meaning
+pub mod Identifiers
 pub mod ObservationTypes

@@ -16,17 +16,21 @@ pub struct Identifiers {
 }
 
 impl Model for Identifiers {
-    ghost use Rattle.std.specs.Prelude.{ℕ, List};
+    ghost use Rattle.crx_header.specs.Identifiers.{HeldIdentifiers};
+    ghost use Rattle.indexmap.specs.IndexSet.{spare};
 
-    ghost Value = { List (List ℕ) };
+    ghost Value = { HeldIdentifiers };
 
-    ghost view = { λ identifiers. identifiers.names.keys };
+    ghost view = { λ identifiers. record {
+      names = identifiers.names.keys;
+      spare = spare identifiers.names;
+    } };
 }
 
 impl Identifiers {
     /// No identifiers.
     pub fn new(alloc: Global) -> Identifiers
-        ensures empty { result ≡ [] }
+        ensures empty { result.names ≡ [] }
     {
         Identifiers {
             names: IndexSet::new(alloc),
@@ -37,20 +41,23 @@ impl Identifiers {
     /// stay in any case.
     #[inline(always)]
     pub fn put(&mut self, place: usize, name: [u8; NAME_WIDTH]) -> Result<bool, AllocError>
-        requires within { place ≤ length self.old }
+        requires within { place ≤ length self.old.names }
         ensures new { IfOk result
-            (λ is_new. is_among (λ (n : List ℕ). n) name (take place self.old) ≡ not is_new) }
+            (λ is_new. is_among (λ (n : List ℕ). n) name (take place self.old.names) ≡ not is_new) }
         ensures next { IfOk result (λ is_new. is_new ≡ true
-            → take (place + 1) self.new ≡ take place self.old ++ name ∷ []) }
-        ensures kept { take place self.new ≡ take place self.old }
-        ensures within { place ≤ length self.new }
+            → take (place + 1) self.new.names ≡ take place self.old.names ++ name ∷ []) }
+        ensures kept { take place self.new.names ≡ take place self.old.names }
+        ensures within { place ≤ length self.new.names }
         // There are no more than before, or than the places up to this one.
-        ensures few { (n : ℕ) → length self.old ≤ n → place < n → length self.new ≤ n }
-        ensures err { OnErr result (is_among (λ (n : List ℕ). n) name (take place self.old) ≡ false) }
-        // Where the same identifier was at the place, no memory is asked for; nor where at least as many of those that were there are dropped
-        // as stay, since their memory is used again.
-        ensures known { slice_get self.old place ≡ Some name → IsOk result }
-        ensures used_again { place < length self.old → 2 * place ≤ length self.old → IsOk result }
+        ensures few { (n : ℕ) → length self.old.names ≤ n → place < n → length self.new.names ≤ n }
+        ensures err { OnErr result (is_among (λ (n : List ℕ). n) name (take place self.old.names) ≡ false) }
+        // Where there is room, or the same identifier was at the place, no memory is asked for; nor where at least as many of those that
+        // were there are dropped as stay, since their memory is used again.
+        ensures asked { OnErr result (self.old.spare ≡ 0) }
+        ensures known { slice_get self.old.names place ≡ Some name → IsOk result }
+        ensures used_again { place < length self.old.names → 2 * place ≤ length self.old.names → IsOk result }
+        // No more room is used than for this one.
+        ensures room { self.old.spare ≤ self.new.spare + 1 }
     {
         let names = self.names.as_slice();
         if place < names.len() && is_same_identifier(names[place], name) {
@@ -62,15 +69,17 @@ impl Identifiers {
     /// Puts an identifier at a place where another one is, or none: that one and those after it are dropped.
     #[inline(never)]
     fn put_other(&mut self, place: usize, name: [u8; NAME_WIDTH]) -> Result<bool, AllocError>
-        requires within { place ≤ length self.old }
+        requires within { place ≤ length self.old.names }
         ensures new { IfOk result
-            (λ is_new. is_among (λ (n : List ℕ). n) name (take place self.old) ≡ not is_new) }
+            (λ is_new. is_among (λ (n : List ℕ). n) name (take place self.old.names) ≡ not is_new) }
         ensures next { IfOk result (λ is_new. is_new ≡ true
-            → self.new ≡ take place self.old ++ name ∷ []) }
-        ensures repeated { IfOk result (λ is_new. is_new ≡ false → self.new ≡ take place self.old) }
-        ensures err { OnErr result (is_among (λ (n : List ℕ). n) name (take place self.old) ≡ false) }
-        ensures refused { OnErr result (self.new ≡ take place self.old) }
-        ensures used_again { place < length self.old → 2 * place ≤ length self.old → IsOk result }
+            → self.new.names ≡ take place self.old.names ++ name ∷ []) }
+        ensures repeated { IfOk result (λ is_new. is_new ≡ false → self.new.names ≡ take place self.old.names) }
+        ensures err { OnErr result (is_among (λ (n : List ℕ). n) name (take place self.old.names) ≡ false) }
+        ensures refused { OnErr result (self.new.names ≡ take place self.old.names) }
+        ensures asked { OnErr result (self.old.spare ≡ 0) }
+        ensures used_again { place < length self.old.names → 2 * place ≤ length self.old.names → IsOk result }
+        ensures room { self.old.spare ≤ self.new.spare + 1 }
     {
         self.names.truncate(place);
         Ok(self.names.insert(name)?)

@@ -79,10 +79,9 @@ impl Types {
         let Some((letter, count)) = count_in(line) else {
             return Err(Fault::BadTypesLine);
         };
-        if make_room(&mut self.counts).is_err() {
+        if put(&mut self.counts, letter, count).is_err() {
             return Err(Fault::OutOfMemory);
         }
-        put(&mut self.counts, letter, count);
         self.by_letter[letter as usize] = count as u16;
         Ok(())
     }
@@ -120,35 +119,26 @@ impl Types {
     }
 }
 
-/// Asks for room for all systems where none has types yet. Later no more is needed.
-fn make_room(counts: &mut IndexMap<u8, usize>) -> Result<(), AllocError>
-    requires room { HasSystemRoom counts.old.entries (spare counts.old) }
-    ensures entries { counts.new.entries ≡ counts.old.entries }
-    ensures kept { HasSystemRoom counts.new.entries (spare counts.new) }
-    ensures room { OnOk result (SYSTEMS ≤ length counts.new.entries + spare counts.new) }
-    ensures asked { OnErr result (counts.old.entries ≡ []) }
-{
-    if counts.is_empty() {
-        return counts.reserve(SYSTEMS);
-    }
-    Ok(())
-}
-
-/// Replaces the count of a system, or puts it after those of the others. There is room for all systems.
-fn put(counts: &mut IndexMap<u8, usize>, letter: u8, count: usize)
+/// Replaces the count of a system, or puts it after those of the others. Where no system has types yet, room is asked for, for all systems;
+/// later no more is needed.
+fn put(counts: &mut IndexMap<u8, usize>, letter: u8, count: usize) -> Result<(), AllocError>
     requires counts { AreCounts counts.old.entries }
     requires system { is_system letter ≡ true }
-    requires room { SYSTEMS ≤ length counts.old.entries + spare counts.old }
-    ensures entries { counts.new.entries ≡ with_count counts.old.entries letter count }
-    ensures room { SYSTEMS ≤ length counts.new.entries + spare counts.new }
+    requires room { HasSystemRoom counts.old.entries (spare counts.old) }
+    ensures entries { OnOk result (counts.new.entries ≡ with_count counts.old.entries letter count) }
+    ensures room { OnOk result (SYSTEMS ≤ length counts.new.entries + spare counts.new) }
+    ensures same { OnErr result (counts.new.entries ≡ counts.old.entries) }
+    ensures asked { OnErr result (counts.old.entries ≡ []) }
 {
     if let Some(held) = counts.get_mut(&letter) {
         *held = count;
-        return;
+        return Ok(());
     }
-    let Ok(_) = counts.insert(letter, count) else {
-        unreachable!()
-    };
+    if counts.is_empty() {
+        counts.reserve(SYSTEMS)?;
+    }
+    counts.insert(letter, count)?;
+    Ok(())
 }
 
 /// Whether a line begins the list of a system's types: its label is `SYS / # / OBS TYPES`, and column 1 isn't blank

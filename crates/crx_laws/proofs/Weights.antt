@@ -83,30 +83,9 @@ copied-weight : (line : List ℕ) (rest : List ReadLine)
     → size (line ∷ []) + weight (drop 1 (Content line ∷ rest)) ≤ weight (Content line ∷ rest)
 copied-weight line rest = let one = size-more line [] in omega (arith, one)
 
-unless-weighs : (lines : List ReadLine) (types : List Count) (unit : FileUnit ReadEpoch) (o : Option Fault)
-    → Weighs lines types (Here unit 1) → Weighs lines types (one_line (unless_wrong unit o))
-unless-weighs lines types unit None h = h
-unless-weighs lines types unit (Some fault) h = tt
-
-header-weighs : (types : List Count) (is_first : Bool) (lines : List ReadLine)
-    → Weighs lines types (first_line lines (header_line is_first))
-header-weighs types is_first [] = tt
-header-weighs types is_first (Overlong ∷ lines) = tt
-header-weighs types is_first (Content line ∷ lines) =
-    unless-weighs (Content line ∷ lines) types (HeaderLine line)
-    (header_line_fault is_first line) (copied-weight line lines)
-
-record-weighs : (types : List Count) (counts : Bool) (lines : List ReadLine)
-    → Weighs lines types (first_line lines (event_record counts))
-record-weighs types counts [] = tt
-record-weighs types counts (Overlong ∷ lines) = tt
-record-weighs types counts (Content line ∷ lines) =
-    unless-weighs (Content line ∷ lines) types (EventRecord line)
-    (cond counts (types_fault line) None) (copied-weight line lines)
-
-event-weighs : (types : List Count) (lines : List ReadLine) (line : List ℕ) (rest : List ReadLine)
-    → lines ≡ Content line ∷ rest → Weighs lines types (Here (EventLine line) 1)
-event-weighs types lines line rest e =
+line-weighs : (lines : List ReadLine) (line : List ℕ) (rest : List ReadLine)
+    → lines ≡ Content line ∷ rest → size (line ∷ []) + weight (drop 1 lines) ≤ weight lines
+line-weighs lines line rest e =
     subst (λ (ls : List ReadLine). size (line ∷ []) + weight (drop 1 ls) ≤ weight ls) (sym e)
     (copied-weight line rest)
 
@@ -145,19 +124,17 @@ epoch-weight types older lines read count e whole within =
     let counted = facts.counted in
     omega (arith, rows, printed, short, left, counted)
 
-observed-weighs : (types : List Count) (older : List RawEpoch) (lines : List ReadLine) (p : Place ReadEpoch)
-    → epoch_at types older lines ≡ p → Weighs lines types (as_observation p)
-observed-weighs types older lines (Here read count) e = epoch-weight types older lines read count e
-observed-weighs types older lines p e = tt
-
 unit-weighs : (items : List (Item ReadEpoch)) (lines : List ReadLine)
     → Weighs lines (types_in_force items) (compact_place items lines)
 unit-weighs items lines =
     let types : List Count = types_in_force items in
-    of-unit (Weighs lines types) compact_beginning items lines
-    (header-weighs types (is_at_start items) lines) (record-weighs types (records_count_types items) lines)
-    (of-compact (Weighs lines types) types (raws_kept items) lines tt tt (event-weighs types lines)
-    (observed-weighs types (raws_kept items) lines (epoch_at types (raws_kept items) lines) refl))
+    let P : Place (FileUnit ReadEpoch) → Type 0 = Weighs lines types in
+    of-unit P tt (λ offset fault. tt) compact_beginning items lines
+    (λ line rest is open_header good. line-weighs lines line rest is)
+    (λ line rest is ended some good. line-weighs lines line rest is)
+    (λ ended none. of-compact P tt (λ offset fault. tt) types (raws_kept items) lines
+    (λ line rest is event counted. line-weighs lines line rest is)
+    (λ read count e. epoch-weight types (raws_kept items) lines read count e))
 
 written-weighs : (items : List (Item ReadEpoch)) (lines : List ReadLine) (unit : FileUnit ReadEpoch)
     (count : ℕ) → compact_place items lines ≡ Here unit count → AreGoodEpochs (Accepted unit ∷ items)

@@ -1,4 +1,8 @@
 -- What the search for a line's end found, as the first line of the input.
+use Rattle.std.proofs.lemmas.Grind.{common_steps}
+use Rattle.std.proofs.Common.{eqb, ltb, ◌||◌}
+use mir.Val.{bool_byte}
+use Rattle.std.proofs.lemmas.Bool.Decides.{nat_tests}
 use Rattle.std.proofs.Common.{◌≡◌, ◌≢◌, ℕ, ◌+◌, ◌-◌, ◌<◌, ◌≤◌, Bool, true, false, not, ◌&&◌, cond, List, []}
 use Rattle.std.proofs.Common.{◌∷◌, ◌++◌, ◌⊎◌, length, take, drop, slice_index, IsTrue, MatchBool, sym, ap}
 use Rattle.std.proofs.Common.{◌∙◌, subst, arith, ⊎_elim, append-nil, append_assoc, length-append, length-take}
@@ -37,13 +41,8 @@ module _ (gave : List ℕ → Type 0) (old held : List ℕ)
   pub begins : (is_ended : Bool) → EndIs held len is_ended at_end → (0 < passed + len) ⊎ (is_ended ≡ true)
       → BeginsWith (old ++ s.given) at_end (piece_at s.front held len is_ended)
       (drop (len + cond is_ended 1 0) held)
-  begins true end some = record {
-    cut = s.input ∙ ap (λ l. s.front ++ l) (sym (take-append-drop len held)
-        ∙ ap (λ l. take len held ++ l) (drop_more held len 0 end.0 ∙ ap (λ b. b ∷ drop (len + 1) held) end.1))
-        ∙ sym (append_assoc s.front (take len held) (10 ∷ drop (len + 1) held));
-    no_feed = All-append (λ b. b ≢ 10) s.front
-        (take len held) s.none_passed (searched-no_feed held len s.searched_within s.none_searched);
-  }
+  begins true end some =
+      grind (arith, common_steps, take-append-drop, drop_more, append_assoc, searched-no_feed)
   begins false end some =
       let whole : take len held ≡ held = take_all len held (omega (arith, end.0)) in
       let long : 0 < passed + len = ⊎_elim (λ h. h) (λ e. absurd (true≢false (sym e))) some in
@@ -118,12 +117,7 @@ module _ (gave : List ℕ → Type 0) (old held : List ℕ)
       )
 
   pub nothing : passed ≡ 0 → len ≡ 0 → len ≡ length held → (held ≡ []) × (old ++ s.given ≡ [])
-  nothing none empty all =
-      let bare = nil_from_length held (omega (arith, empty, all)) in (
-        bare,
-        s.input ∙ ap (λ l. s.front ++ l) bare ∙ append-nil s.front
-            ∙ nil_from_length s.front (s.passed_is ∙ none),
-      )
+  nothing none empty all = grind (arith, common_steps, nil_from_length, append-nil)
 
 -- no LF came within the limit, and a byte past it
 pub over-limit : (gave : List ℕ → Type 0) (old held : List ℕ) (room passed b so_far : ℕ)
@@ -183,3 +177,22 @@ pub answers-line : (gave : List ℕ → Type 0) (at_end : Type 0) (bytes : List 
     after (Ok o) new
     → (given : List ℕ) × gave given × ReaderAnswers old given at_end before after (Ok (Some l)) new
 answers-line gave at_end bytes o p l old new before after is shown number found = grind arith
+
+-- ---- what the tests of a line that was read say
+
+pub some-read : (passed len : ℕ) (is_ended : Bool)
+    → eqb passed 0 && eqb len 0 && not is_ended ≡ false → (0 < passed + len) ⊎ (is_ended ≡ true)
+some-read passed len is_ended h = grind (arith, nat_tests)
+
+pub too-long : (passed len : ℕ)
+    → ltb 0 passed || ltb LINE_LIMIT len ≡ true → (0 < passed) ⊎ (LINE_LIMIT < len)
+too-long passed len h = grind (arith, nat_tests)
+
+pub none-passed : (passed len : ℕ) → ltb 0 passed || ltb LINE_LIMIT len ≡ false → passed ≡ 0
+none-passed passed len h = grind (arith, nat_tests)
+
+-- how many bytes of the window are the line's, with its LF
+pub held-is : (len more : ℕ) (is_ended : Bool)
+    → more ≡ bool_byte is_ended → len + more ≡ len + cond is_ended 1 0
+held-is len more true e = ap (λ (n : ℕ). len + n) e
+held-is len more false e = ap (λ (n : ℕ). len + n) e

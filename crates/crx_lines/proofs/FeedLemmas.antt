@@ -1,6 +1,7 @@
 -- The lanes before the first one that is LF, by a mask's lowest bit.
+use Rattle.std.proofs.lemmas.Grind.{common_steps}
 use Rattle.std.proofs.Common.{◌≡◌, ℕ, suc, ◌+◌, ◌*◌, ◌%◌, ◌^◌, ◌<◌, ◌≤◌, Bool, true, false, cond, eqb, not}
-use Rattle.std.proofs.Common.{List, [], ◌∷◌, map, length, replicate, w8, arith, ap, sym, ◌∙◌}
+use Rattle.std.proofs.Common.{List, [], ◌∷◌, map, length, replicate, w8, arith, sym, ◌∙◌}
 use Rattle.std.proofs.lemmas.Simd.{bitmask_splat, leading_from_mask_l, length-chunk, trailing_mask_l}
 use Rattle.std.specs.List.{prefix_len}
 use lib.Count.{count_trailing_zeros}
@@ -34,8 +35,4 @@ module _ (bytes : List ℕ) (at : ℕ) (room : at + 32 ≤ length bytes) where
   pub before_first : 0 < feeds_at at bytes → (count_trailing_zeros 64 (feeds_at at bytes) < 32) ×
       (count_trailing_zeros 64 (feeds_at at bytes) ≡ prefix_len (λ b. not (eqb b 10)) (chunk at 32 bytes))
   before_first some =
-      let v = chunk at 32 bytes in
-      let is = ap (count_trailing_zeros 64) hits
-      ∙ trailing_mask_l (λ b. eqb b 10) 64 v (omega (arith, long)) (omega (arith, hits, some)) in
-      let within = first_within (λ b. eqb b 10) v (omega (arith, hits, some)) in
-      (omega (arith, is, within, long), is)
+      grind (arith, common_steps, chunk, count_trailing_zeros, hits, trailing_mask_l, eqb, long, first_within)

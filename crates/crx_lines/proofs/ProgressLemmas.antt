@@ -1,5 +1,6 @@
 -- From one answer of a reader of lines to the next: the lines so far, and the bytes that were given.
-use Rattle.std.proofs.Common.{◌≡◌, ◌≢◌, ◌⊎◌, ⊎_elim, inl, inr, ℕ, ◌+◌, ◌-◌, ◌<◌, ◌≤◌, Bool, true, false}
+use Rattle.std.proofs.lemmas.Grind.{common_steps}
+use Rattle.std.proofs.Common.{◌≡◌, ◌≢◌, ◌⊎◌, inr, ℕ, ◌+◌, ◌-◌, ◌<◌, ◌≤◌, Bool, true, false}
 use Rattle.std.proofs.Common.{Option, Some, None, Result, Ok, Err, List, [], ◌∷◌, ◌++◌, length, take, map}
 use Rattle.std.proofs.Common.{refl, sym, ap, ◌∙◌, subst, arith, append-nil, append_assoc, length-append}
 use Rattle.std.proofs.{Math.Seq.take-append-add, lemmas.List.{length_push, map-append, take_all}}
@@ -43,18 +44,7 @@ take-past xs ys n room e = ap (λ k. take k (xs ++ ys)) e ∙ take-append-add xs
 
 pub HasRead-start : (gave : List ℕ → Type 0) (at_end : Type 0) (start : Tally) → gave []
     → HasRead gave at_end start start (record { rest = []; passed = 0; number = 0; phase = Open }) []
-HasRead-start gave at_end start lead = record {
-  given = [];
-  lead = lead;
-  number = refl;
-  stands = record {
-    bytes = omega arith;
-    within = omega arith;
-    first = λ more. refl;
-    ended = λ more. refl;
-    counts = refl;
-  };
-}
+HasRead-start gave at_end start lead = grind (arith, common_steps)
 
 -- a step over an ended piece, for the lines of an input or those whose LF is there
 over-piece : (F : List ℕ → List InputLine)
@@ -63,9 +53,7 @@ over-piece : (F : List ℕ → List InputLine)
     → F (bytes ++ 10 ∷ (rest ++ x)) ≡ line ∷ F (rest ++ x)
     → F ((given ++ more) ++ x) ≡ (lines ++ line ∷ []) ++ F (rest ++ x)
 over-piece F line given more old_rest bytes rest x lines so-far cut first =
-    ap F (append_assoc given more x) ∙ so-far _ ∙ ap (λ l. lines ++ F l) (sym (append_assoc old_rest more x)
-    ∙ ap (λ l. l ++ x) cut ∙ append_assoc bytes (10 ∷ rest) x) ∙ ap (λ l. lines ++ l) first ∙ sym
-    (append_assoc lines (line ∷ []) _)
+    grind (arith, common_steps, append_assoc, line)
 
 module _ (at_end : Type 0) (start counted counted' : Tally) (given more : List ℕ)
     (old new : ReaderState) (lines : List InputLine) (o : IsOpen start counted given old lines) where
@@ -92,20 +80,7 @@ module _ (at_end : Type 0) (start counted counted' : Tally) (given more : List �
   line-last : (bytes : List ℕ) → TakesPiece old more at_end (last_piece bytes) new
       → counted' ≡ with_end counted
       → IsOver at_end start counted' (given ++ more) (lines ++ line_of (last_piece bytes) ∷ [])
-  line-last bytes t same = record {
-    reported = t.first.cut.3;
-    within = omega (
-      arith,
-      length-append given more,
-      length-append old.rest more,
-      t.passed,
-      o.bytes,
-      t.within,
-    );
-    all = sym (o.first more ∙ ap (λ l. lines ++ lines_of l) t.first.cut.0
-        ∙ ap (λ l. lines ++ l) (lines-last bytes t.first.no_feed t.first.cut.2));
-    counts = same ∙ ap with_end o.counts;
-  }
+  line-last bytes t same = grind (arith, common_steps, length-append, lines_of, lines-last, with_end)
 
   line-stands : (bytes : List ℕ) (is_ended : Bool)
       → TakesPiece old more at_end (record { bytes = bytes; is_ended = is_ended }) new
@@ -128,17 +103,12 @@ module _ (at_end : Type 0) (start counted counted' : Tally) (given more : List �
 
   -- the bytes so far, of which the last have no LF
   ended-so-far : (front : List ℕ) → HasNoFeed (old.rest ++ front) → lines ≡ ended_lines_of (given ++ front)
-  ended-so-far front none =
-      sym (o.ended front ∙ ap (λ l. lines ++ l) (ended_lines-none _ none) ∙ append-nil lines)
+  ended-so-far front none = grind (arith, common_steps, ended_lines-none, append-nil)
 
   failed-stops : old.passed + length (old.rest ++ more) ≤ INPUT_LIMIT
       → HasNoFeed (old.rest ++ more) → counted' ≡ with_failure counted
       → IsStopped ReadFailed start counted' (given ++ more) lines
-  failed-stops within none same = (
-    omega (arith, within, length-append given more, length-append old.rest more, o.bytes),
-    ended-so-far more none,
-    same ∙ ap with_failure o.counts,
-  )
+  failed-stops within none same = grind (arith, common_steps, length-append, ended-so-far, with_failure)
 
   over-stops : INPUT_LIMIT < old.passed + length (old.rest ++ more)
       → HasNoFeed (take (INPUT_LIMIT - old.passed) (old.rest ++ more)) → counted' ≡ counted
@@ -158,8 +128,7 @@ module _ (at_end : Type 0) (start counted counted' : Tally) (given more : List �
 passed-more : (old new : ReaderState) (given : List ℕ) (at_end : Type 0) (bytes : List ℕ) (is_ended : Bool)
     → TakesPiece old given at_end (record { bytes = bytes; is_ended = is_ended }) new
     → old.passed < new.passed
-passed-more old new given at_end bytes true t =
-    omega (arith, t.passed, ap length t.first.cut, length-append bytes (10 ∷ new.rest))
+passed-more old new given at_end bytes true t = grind (arith, common_steps, length-append)
 passed-more old new given at_end bytes false t = grind arith
 
 module _ (gave gives step : List ℕ → Type 0)
@@ -173,23 +142,13 @@ module _ (gave gives step : List ℕ → Type 0)
   one-more : (more : List ℕ) (p : Piece) (line : InputLine) (number : ℕ)
       → TakesPiece old more at_end' p new → line ≡ line_of p → number ≡ new.number
       → IsOneMore old new lines (lines ++ line_of p ∷ []) line number
-  one-more more p line number t shown numbered = record {
-    lines_are = ap (λ l. lines ++ l ∷ []) (sym shown);
-    number_is = omega (arith, numbered, t.number, h.number, length_push lines (line_of p));
-    some = passed-more old new more at_end' p.bytes p.is_ended t;
-    within = omega (arith, t.within);
-  }
+  one-more more p line number t shown numbered =
+      grind (arith, common_steps, length_push, line_of, passed-more)
 
   read-line : old.phase ≡ Open → (more : List ℕ) → step more → (p : Piece) → TakesPiece old more at_end' p new
       → counted' ≡ tally_after_line p.is_ended counted
       → HasRead gives at_end' start counted' new (lines ++ line_of p ∷ [])
-  read-line e more lead p t same = record {
-    given = h.given ++ more;
-    lead = goes h.given more h.lead lead;
-    number = omega (arith, t.number, h.number, length_push lines (line_of p));
-    stands = line-stands at_end' start counted counted' h.given more old new lines
-        (is-open e) p.bytes p.is_ended t same;
-  }
+  read-line e more lead p t same = grind (arith, common_steps, length_push, line_of, line-stands, is-open)
 
   read-stop : (more : List ℕ) → step more
       → (at : At) → at.line ≡ old.number + 1 → new.number ≡ old.number → new.phase ≡ Stopped at
@@ -235,11 +194,8 @@ module _ (gave gives step : List ℕ → Type 0)
       → step more → (r : Result (Option Line) At) → ReaderAnswers old more at_end' counted counted' r new
       → (then : List InputLine) × AtAnswer r old new lines then
       × HasRead gives at_end' start counted' new then
-  HasRead-next e more lead (Ok (Some line)) a = (
-    lines ++ line_of a.0 ∷ [],
-    one-more more a.0 (line_shown line) (line_number line) a.1 a.2 a.3,
-    read-line e more lead a.0 a.1 a.4,
-  )
+  HasRead-next e more lead (Ok (Some line)) a =
+      grind (arith, common_steps, line_of, one-more, line_shown, line, line_number, read-line)
   HasRead-next e more lead (Ok None) a =
       let phase = ap (λ (r : ReaderState). r.phase) a.2 in (
         lines,
@@ -288,51 +244,3 @@ stopped-cases ReadFailed start counted given lines s = (
   inr (refl, s.0, ap (λ (t : Tally). t.failures) s.2),
 )
 stopped-cases _ start counted given lines s = absurd s
-
-phase-cases : (f : Phase) → (f ≡ Open) ⊎ ((f ≡ Ended) ⊎ ((at : At) × (f ≡ Stopped at)))
-phase-cases Open = inl refl
-phase-cases Ended = inr (inl refl)
-phase-cases (Stopped at) = inr (inr (at, refl))
-
-ended-not-open : (f : Phase) → f ≡ Ended → f ≢ Open
-ended-not-open f is other = cc
-
-stopped-not-open : (f : Phase) (at : At) → f ≡ Stopped at → f ≢ Open
-stopped-not-open f at is other = cc
-
--- a fault that stopped the reading is answered again
-stopped-again : (f : Fault) (at : At)
-    (start counted : Tally) (given : List ℕ) (old new : ReaderState) (lines : List InputLine)
-    → IsStopped f start counted given lines → new.phase ≡ Stopped at → AtFault f at old new lines lines
-stopped-again InputTooLong at start counted given old new lines s e = (refl, e)
-stopped-again ReadFailed at start counted given old new lines s e = (refl, e)
-stopped-again _ at start counted given old new lines s e = absurd s
-
--- one call, whatever the phase: after the end and after a fault nothing changes, and the answer is repeated
-module _ (gave gives step : List ℕ → Type 0)
-    (at_end at_end' : Type 0) (start counted counted' : Tally) (old new : ReaderState)
-    (lines : List InputLine)
-    (h : HasRead gave at_end start counted old lines) (goes : (given more : List ℕ)
-    → gave given → step more → gives (given ++ more))
-    (r : Result (Option Line) At) (still : old.phase ≢ Open
-    → (new ≡ old) × ((given : List ℕ) → gave given → gives given) × (at_end → at_end') × (counted' ≡ counted))
-  where
-    still-ended : old.phase ≡ Ended → r ≡ Ok None → (then : List InputLine) × AtAnswer r old new lines then
-        × HasRead gives at_end' start counted' new then
-    still-ended e is = grind arith
-
-    still-stopped : (at : At) → old.phase ≡ Stopped at → r ≡ Err at → (then : List InputLine)
-        × AtAnswer r old new lines then × HasRead gives at_end' start counted' new then
-    still-stopped at e is = grind arith
-
-    pub HasRead-call : (old.phase ≡ Open
-        → (more : List ℕ) × step more × ReaderAnswers old more at_end' counted counted' r new)
-        → (old.phase ≡ Ended → r ≡ Ok None) → ((at : At) → old.phase ≡ Stopped at → r ≡ Err at)
-        → (then : List InputLine) × AtAnswer r old new lines then
-        × HasRead gives at_end' start counted' new then
-    HasRead-call at-open at-ended at-stopped =
-        ⊎_elim (λ e. let a = at-open e in
-        HasRead-next gave gives step at_end at_end' start counted counted' old new lines h goes e a.0 a.1 r
-        a.2)
-        (λ other. ⊎_elim (λ e. still-ended e (at-ended e)) (λ s. still-stopped s.0 s.1 (at-stopped s.0 s.1))
-        other) (phase-cases old.phase)

@@ -1,4 +1,5 @@
 -- A CR at the end of a text.
+use Rattle.std.proofs.lemmas.Grind.{common_steps}
 use Rattle.std.proofs.Common.{◌≡◌, ◌≢◌, ◌==◌, ℕ, ◌+◌, ◌-◌, ◌≤◌, ◌<◌, true, false, List, [], ◌∷◌, ◌++◌, length}
 use Rattle.std.proofs.Common.{take, drop, get_or, slice_range, refl, sym, ap, ◌∙◌, arith, eq-eqb, length-take}
 use Rattle.std.proofs.{Common.length-drop, lemmas.{Bool.ne_eqb, List.{take-take, take_more, get_or-take}}}
@@ -32,14 +33,11 @@ length-without_return (x ∷ y ∷ ys) =
 -- the first bytes of a part
 pub part-front : (xs : List ℕ) (start end n : ℕ)
     → start + n ≤ end → slice_range xs start (start + n) ≡ take n (slice_range xs start end)
-part-front xs start end n inside =
-    let same : start + n - start ≡ n = omega arith in
-    ap (λ k. take k (drop start xs)) same ∙ sym (take-take n _ _ (omega arith))
+part-front xs start end n inside = grind (arith, common_steps, take-take)
 
 pub part-get_or : (xs : List ℕ) (start end n d : ℕ)
     → start + n < end → get_or (slice_range xs start end) n d ≡ get_or xs (start + n) d
-part-get_or xs start end n d inside =
-    get_or-take _ _ n d (omega arith) ∙ get_or-drop start xs n d
+part-get_or xs start end n d inside = grind (arith, common_steps, get_or-take, get_or-drop)
 
 -- the first bytes of a part are those before the last of them, and that one
 pub part-last : (xs : List ℕ) (start end n : ℕ) → 0 < n → start + n ≤ end → end ≤ length xs
@@ -62,12 +60,7 @@ pub content-cr : (xs : List ℕ) (start end n : ℕ)
     → (slice_range xs start (start + n - 1) ≡ without_return (take n (slice_range xs start end)))
     × (true ≡ ends_with_return (take n (slice_range xs start end)))
 content-cr xs start end n some inside within cr =
-    let front = slice_range xs start _ in
-    let test = eq-eqb _ 13 cr in
-    rw (part-last xs start end n some inside within) (
-      sym (without_return-cr front _ test),
-      sym (ends_with_return-push front _ ∙ test),
-    )
+    grind (arith, common_steps, slice_range, eq-eqb, part-last, without_return-cr, ends_with_return-push)
 
 -- the first bytes of a part that no CR ends
 pub content-other : (xs : List ℕ) (start end n : ℕ)

@@ -1,7 +1,8 @@
 -- The search for the end of a line, step by step.
+use Rattle.std.proofs.lemmas.Grind.{common_steps}
 use Rattle.std.proofs.Common.{◌≡◌, ◌≢◌, ℕ, ◌+◌, ◌<◌, ◌≤◌, List, [], ◌++◌, ◌⊎◌, length, slice_index, refl, sym}
-use Rattle.std.proofs.Common.{ap, ◌∙◌, subst, arith, inl, inr, ⊎_elim, append-nil, append_assoc}
-use Rattle.std.proofs.{Common.length-append, lemmas.{Bool.cases_lt, List.get_or_append_left}}
+use Rattle.std.proofs.Common.{ap, ◌∙◌, subst, arith, inr, ⊎_elim, append-nil, append_assoc}
+use Rattle.std.proofs.{Common.length-append, lemmas.{List.get_or_append_left}}
 use Rattle.std.proofs.lemmas.List.Elements.{All-append, All-from_get_or, All-contains, Contains-append_left}
 use Rattle.std.specs.List.{Contains}
 use Rattle.crx_lines.{proofs.PieceLemmas.NoFeed, specs.{Reading.HasNoFeed, Seeking.Seeking}}
@@ -9,38 +10,13 @@ use Rattle.crx_base.specs.declared.limits.TheConstants.{LINE_LIMIT}
 
 pub Seeking-start : (gave : List ℕ → Type 0) (old : List ℕ) (room : ℕ) → gave []
     → Seeking gave old old room 0 0 0
-Seeking-start gave old room lead = record {
-  given = [];
-  front = [];
-  lead = lead;
-  input = append-nil old;
-  taken_is = refl;
-  passed_is = refl;
-  far = inl refl;
-  none_passed = λ k d h. absurd (omega (arith, h));
-  none_searched = λ k h. absurd (omega (arith, h));
-  within = omega arith;
-  searched_within = omega arith;
-}
+Seeking-start gave old room lead = grind (arith, common_steps, append-nil)
 
 -- the bytes from the searched ones up to n were searched too
 pub Seeking-searched : (gave : List ℕ → Type 0) (old held : List ℕ) (room taken passed searched n : ℕ)
     → Seeking gave old held room taken passed searched → n ≤ length held
     → ((k : ℕ) → searched ≤ k → k < n → slice_index held k ≢ 10) → Seeking gave old held room taken passed n
-Seeking-searched gave old held room taken passed searched n s within none = record {
-  given = s.given;
-  front = s.front;
-  lead = s.lead;
-  input = s.input;
-  taken_is = s.taken_is;
-  passed_is = s.passed_is;
-  far = s.far;
-  none_passed = s.none_passed;
-  none_searched = λ k h. ⊎_elim (λ below. s.none_searched k below) (λ above. none k above h)
-      (cases_lt k searched);
-  within = s.within;
-  searched_within = within;
-}
+Seeking-searched gave old held room taken passed searched n s within none = grind (arith, common_steps)
 
 -- the search in the bytes that are shown came as far as n
 pub Seeking-found : (gave : List ℕ → Type 0) (old held shown : List ℕ) (room taken passed searched n : ℕ)
@@ -105,21 +81,7 @@ pub Seeking-filled : (gave then : List ℕ → Type 0) (old held after more : Li
     → ((given : List ℕ) → gave given → then (given ++ more)) → length more ≡ n → taken + n ≤ room
     → after ≡ held ++ more → m ≡ length held → Seeking then old after room (taken + n) passed m
 Seeking-filled gave then old held after more room taken passed n m s goes count within same searched =
-    record {
-      given = s.given ++ more;
-      front = s.front;
-      lead = goes s.given s.lead;
-      input = sym (append_assoc old s.given more)
-          ∙ ap (λ l. l ++ more) s.input ∙ append_assoc s.front held more ∙ ap (λ l. s.front ++ l) (sym same);
-      taken_is = omega (arith, length-append s.given more, s.taken_is, count);
-      passed_is = s.passed_is;
-      far = s.far;
-      none_passed = s.none_passed;
-      none_searched = λ k h. let inside : k < length held = omega (arith, h, searched) in
-          rw (same, get_or_append_left held more 0 k) (s.none_searched k inside);
-      within = within;
-      searched_within = omega (arith, length-append held more, ap length same, searched);
-    }
+    grind (arith, common_steps, append_assoc, length-append, get_or_append_left)
 
 -- nothing more was given
 pub Seeking-same : (gave then : List ℕ → Type 0) (old held after : List ℕ) (room taken passed m : ℕ)
@@ -127,10 +89,7 @@ pub Seeking-same : (gave then : List ℕ → Type 0) (old held after : List ℕ)
     → ((given : List ℕ) → gave given → then (given ++ [])) → after ≡ held → m ≡ length held
     → Seeking then old after room taken passed m
 Seeking-same gave then old held after room taken passed m s goes same searched =
-    let sum : taken + 0 ≡ taken = omega arith in
-    rw (← sum)
-    (Seeking-filled gave then old held after [] room taken passed 0 m s goes refl (omega (arith, s.within))
-    (same ∙ sym (append-nil held)) searched)
+    grind (arith, common_steps, append-nil)
 
 -- every byte was discarded or is held
 pub Seeking-sum : (gave : List ℕ → Type 0) (old held : List ℕ) (room taken passed searched : ℕ)

@@ -1,5 +1,5 @@
 //! Lines of an input, and what hands them out one after another.
-ghost use Rattle.std.specs.Prelude.{◌≡◌, ◌≢◌, ℕ, ◌+◌, ◌-◌, ◌<◌, ◌≤◌, ◌&&◌, ◌⊎◌, not, false, IsTrue, List, [], length, Option, Some, None, Ok, Err, IfOk, IfSome, Contains, if◌then◌else◌};
+ghost use Rattle.std.specs.Prelude.{◌≡◌, ◌≢◌, ℕ, ◌+◌, ◌-◌, ◌<◌, ◌≤◌, ◌&&◌, ◌⊎◌, List, [], length, Option, Some, None, Ok, Err, IfOk, IfSome, Contains, if◌then◌else◌};
 ghost use Rattle.crx_lines.specs.meaning.Devices.{tally_of};
 ghost use Rattle.crx_base.specs.declared.fault.At.{At};
 ghost use Rattle.crx_lines.specs.Window.{kept};
@@ -76,21 +76,6 @@ fn phase_after(is_ended: bool) -> Phase
     ensures { result ≡ (if is_ended then Phase.Open else Phase.Ended) }
 {
     if is_ended { Phase::Open } else { Phase::Ended }
-}
-
-/// Whether a line is too long: bytes of it were discarded, or its content in the window is.
-fn is_over(passed: u64, len: usize) -> bool
-    ensures over { IsTrue result → (0 < passed) ⊎ (LINE_LIMIT < len) }
-    ensures within { result ≡ false → (passed ≡ 0) × (len ≤ LINE_LIMIT) }
-{
-    passed > 0 || len > LINE_LIMIT
-}
-
-/// Whether LF alone ends a line.
-fn is_plain(is_ended: bool, has_return: bool) -> bool
-    ensures { result ≡ (is_ended && not has_return) }
-{
-    is_ended && !has_return
 }
 
 /// Hands out the lines of an input one after another, from a buffer of its own.
@@ -181,17 +166,18 @@ impl LineReader {
                 return Err(at);
             }
         };
-        if found.is_nothing() {
+        if (found.passed == 0) & (found.len == 0) & !found.is_ended {
             self.phase = Phase::Ended;
             return Ok(None);
         }
         let place = self.window.content(found.len);
-        let held = found.held();
+        let held = found.len + usize::from(found.is_ended);
         self.window.skip(held);
         self.passed += found.passed + held as u64;
         self.number += 1;
         self.phase = phase_after(found.is_ended);
-        if is_over(found.passed, place.to - place.from) {
+        // Bytes of a line that is too long were discarded, or its content in the window is too long.
+        if (found.passed > 0) | (place.to - place.from > LINE_LIMIT) {
             return Err(At {
                 line: self.number,
                 fault: Fault::LineTooLong,
@@ -200,7 +186,7 @@ impl LineReader {
         Ok(Some(Part {
             from: place.from,
             to: place.to,
-            is_plain: is_plain(found.is_ended, place.has_return),
+            is_plain: found.is_ended & !place.has_return,
         }))
     }
 

@@ -1,5 +1,5 @@
 //! The search for the end of a line in what a reader gives.
-ghost use Rattle.std.specs.Prelude.{◌≡◌, ℕ, ◌+◌, ◌<◌, ◌≤◌, [], ◌∷◌, ◌++◌, length, slice_index, IfOk, IfErr, OnOk, OnErr, IsOk, MatchBool, Contains, IsTrue, true, false, ◌⊎◌, ◌^◌, if◌then◌else◌};
+ghost use Rattle.std.specs.Prelude.{◌≡◌, ℕ, ◌+◌, ◌<◌, ◌≤◌, [], ◌∷◌, ◌++◌, length, slice_index, IfOk, IfErr, OnOk, OnErr, IsOk, MatchBool, Contains, true, false, ◌⊎◌, ◌^◌, if◌then◌else◌};
 ghost use Rattle.crx_lines.specs.meaning.Devices.{one_more};
 ghost use Rattle.crx_lines.specs.Window.{kept};
 ghost use Rattle.crx_lines.specs.Seeking.{Seeking};
@@ -20,30 +20,6 @@ pub(crate) struct Sought {
     pub(crate) len: usize,
     /// Whether an LF follows them, or the end.
     pub(crate) is_ended: bool,
-}
-
-impl Sought {
-    /// Whether there is no line, but the end.
-    pub(crate) fn is_nothing(&self) -> bool
-        ensures nothing { IsTrue result
-            → (self.now.passed ≡ 0) × (self.now.len ≡ 0) × (self.now.is_ended ≡ false) }
-        ensures something { result ≡ false
-            → (0 < self.now.passed + self.now.len) ⊎ (self.now.is_ended ≡ true) }
-    {
-        self.passed == 0 && self.len == 0 && !self.is_ended
-    }
-
-    /// How many of the window's bytes are the line's, with its LF.
-    pub(crate) fn held(&self) -> usize
-        requires { self.now.len < 2 ^ 63 }
-        ensures { result ≡ self.now.len + (if self.now.is_ended then 1 else 0) }
-    {
-        if self.is_ended {
-            self.len + 1
-        } else {
-            self.len
-        }
-    }
 }
 
 /// Asks for one byte, and answers whether there was one.

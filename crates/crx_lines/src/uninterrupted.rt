@@ -7,7 +7,7 @@ ghost use Rattle.std.specs.IoError.{error_kind};
 use std::io;
 use std::io::{ErrorKind, Read, Write};
 
-/// How often a call is made that a signal interrupts each time. So each call returns.
+/// How often a call is made that a signal interrupts each time. So each call returns; its error is then that time is out.
 const MOST_CALLS: u64 = u64::MAX;
 
 /// A reader or a writer of std that hands on no interruption: a read, a write or a flush that a signal interrupted
@@ -35,13 +35,6 @@ impl<D> Uninterrupted<D> {
     }
 }
 
-/// The error of a call that was interrupted each time.
-fn gave_up() -> io::Error
-    ensures kind { error_kind result ≡ ErrorKind.TimedOut }
-{
-    ErrorKind::TimedOut.into()
-}
-
 impl<D: Read> Read for Uninterrupted<D> {
     ghost remaining = { λ s. D.remaining s.inner };
 
@@ -56,7 +49,7 @@ impl<D: Read> Read for Uninterrupted<D> {
                 answer => return answer,
             }
         }
-        Err(gave_up())
+        Err(ErrorKind::TimedOut.into())
     }
 }
 
@@ -74,7 +67,7 @@ impl<D: Write> Write for Uninterrupted<D> {
                 answer => return answer,
             }
         }
-        Err(gave_up())
+        Err(ErrorKind::TimedOut.into())
     }
 
     fn flush(&mut self) -> io::Result<()>
@@ -87,6 +80,6 @@ impl<D: Write> Write for Uninterrupted<D> {
                 answer => return answer,
             }
         }
-        Err(gave_up())
+        Err(ErrorKind::TimedOut.into())
     }
 }

@@ -3,13 +3,13 @@ use Rattle.std.proofs.Common.{arith, ◌≡◌, ◌⊎◌, ◌∙◌, ◌<◌, �
 use Rattle.std.{proofs.Common.{ap, inl, inr, is_some, refl, subst, sym}, specs.Io.KnownBytes.Appends}
 use Rattle.std.specs.Io.KnownBytes.{Consumes, IsAtEnd}
 use Rattle.crx_lines.specs.declared.device.{Sink.Ghosts as SinkGhosts, Source.Ghosts as SourceGhosts, Std.Std}
-use Rattle.crx_base.specs.{declared.fault.At.At, meaning.Choices.Choices}
+use Rattle.crx_base.specs.{meaning.Choices.Choices}
 use Rattle.crx_runs.specs.meaning.Spans.{Input, Device, reader_span, span}
 use Rattle.jiff.specs.declared.timestamp.Timestamp.{Timestamp}
 use Rattle.crx_command.specs.declared.job.{Job.Job, Tool.Tool}
 use Rattle.crx_program.specs.{declared.log.{Logged.Logged, Opening.Opening}, meaning.Jobs.tool_result}
 use Rattle.crx_program.specs.meaning.Jobs.{IsChosen, IsFiltered, IsFilteredFrom, IsFilteredInto, IsJobDone}
-use Rattle.crx_program.specs.meaning.{Jobs.{IsMadeBy, IsRunOf}, Streams.{ReadsGave, WritesTook, IsAllOf}}
+use Rattle.crx_program.specs.meaning.{Jobs.{IsMadeBy}, Streams.{ReadsGave, WritesTook, IsAllOf}}
 use Rattle.crx_program.specs.meaning.Streams.{IsEndTold, IsFlushedLast, IsUnused, IsPrefixOf}
 
 -- a good run of a filter
@@ -22,14 +22,6 @@ record Good (tool : Tool) (choices : Choices) (input : Input) (writer messages :
   pub flushed : writer.flushed
   pub reported : messages.took (tool_result tool choices given).messages
   pub status_is : status ≡ (tool_result tool choices given).status
-
-good_of : (tool : Tool) (choices : Choices) (input : Input) (writer messages : Device) (status : ℕ)
-    (fault : Option At) (given : List ℕ) → input.gave given
-    → IsRunOf tool choices input given writer messages status fault
-    → (status ≡ 1 → ⊥) → Good tool choices input writer messages status
-good_of tool choices input writer messages status None given gave runs well = grind arith
-good_of tool choices input writer messages status (Some at) given gave runs well =
-    absurd (well (runs.ended at refl).0)
 
 good : (tool : Tool) (choices : Choices) (input : Input) (writer messages : Device) (status : ℕ)
     → IsFiltered tool choices input writer messages status → (status ≡ 1 → ⊥)

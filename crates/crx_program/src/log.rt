@@ -55,17 +55,6 @@ pub struct Opening {
 }
 
 impl Opening {
-    /// That of a device that wasn't opened by a name.
-    fn none() -> Opening
-        ensures name { result.name.bytes ≡ [] }
-        ensures how { result.how ≡ None }
-    {
-        Opening {
-            name: Log::new(),
-            how: None,
-        }
-    }
-
     /// That of a device that was opened by this name, for writing where there are options.
     fn by(name: &str, how: Option<OpenOptions>) -> Opening
         ensures name { result.name.bytes ≡ name.now }
@@ -107,7 +96,10 @@ impl<S> Logged<S> {
         Logged {
             inner,
             log: Log::new(),
-            opening: Opening::none(),
+            opening: Opening {
+                name: Log::new(),
+                how: None,
+            },
         }
     }
 

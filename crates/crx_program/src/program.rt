@@ -5,7 +5,7 @@ ghost use Rattle.std.specs.Option.{option_map_or};
 ghost use Rattle.crx_base.specs.meaning.Choices.{choices_of, is_date};
 ghost use Rattle.crx_command.specs.meaning.Planning.{Help, Refusal, Refused, Run, plan_of};
 ghost use Rattle.crx_program.specs.Devices.{LeavesDevices};
-ghost use Rattle.crx_program.specs.meaning.Jobs.{IsChosen, IsJobDone, IsJobEnded, IsFiltered, IsFilteredFrom, IsFilteredInto, IsFilteredToFile, IsMadeBy, IsNotBegun};
+ghost use Rattle.crx_program.specs.meaning.Jobs.{IsChosen, IsJobDone, IsJobEnded, IsFiltered, IsFilteredInto, IsFilteredToFile, IsMadeBy, IsNotBegun};
 ghost use Rattle.crx_program.specs.meaning.Program.{IsHelped, IsRefused, IsShown, at_start};
 ghost use Rattle.crx_runs.specs.meaning.Spans.{span, reader_span};
 
@@ -197,41 +197,6 @@ fn run_to_target<H: Files, R: Source, W: Sink, M: Sink>(
     }
 }
 
-/// Runs a filter from the job's source: a file, or `input` where the job names none.
-fn run_from_source<H: Files, R: Source, W: Sink, M: Sink>(
-    rt: &H,
-    alloc: Global,
-    job: &Job,
-    options: Options,
-    input: &mut R,
-    output: &mut W,
-    messages: &mut M,
-) -> Ended<H::File>
-    ensures devices { LeavesDevices job.now (input.new ≡ input.old) (output.new ≡ output.old) }
-    ensures done { IsFilteredFrom ⟦<SourceFile<H::File> as Source>⟧ ⟦<TargetFile<H::File> as Sink>⟧
-        job.now.source result.source job.now.target job.now.force result.target job.now.tool options
-        (reader_span R.Source input.old input.new)
-        (span W.Sink output.old output.new) (span M.Sink messages.old messages.new) result.status
-        ⊎ IsNotBegun job.now (span M.Sink messages.old messages.new) result.status ((input.new ≡ input.old)
-        × (output.new ≡ output.old) × (result.target ≡ None)) }
-{
-    match &job.source {
-        None => run_to_target(rt, alloc, job, options, input, output, messages),
-        Some(name) => match open_to_read(rt, name.text()) {
-            Ok(opened) => {
-                let mut reader = opened;
-                let ended = run_to_target(rt, alloc, job, options, &mut reader, output, messages);
-                Ended {
-                    status: ended.status,
-                    source: Some(reader),
-                    target: ended.target,
-                }
-            }
-            Err(_) => Ended::without_files(report(alloc, messages, "cannot read ", name.text())),
-        },
-    }
-}
-
 /// Does a job: makes the default date where one is needed, then opens the input file, then makes the
 /// output file, and runs the filter.
 fn run_job<H: Files, R: Source, W: Sink, M: Sink>(
@@ -250,9 +215,23 @@ fn run_job<H: Files, R: Source, W: Sink, M: Sink>(
         (span W.Sink output.old output.new) (span M.Sink messages.old messages.new) result.status
         ((input.new ≡ input.old) × (output.new ≡ output.old) × (result.target ≡ None)) }
 {
-    match options_of(alloc, moment, job) {
-        Ok(options) => run_from_source(rt, alloc, job, options, input, output, messages),
-        Err(_) => Ended::without_files(report_at_start(messages, Fault::OutOfMemory)),
+    let Ok(options) = options_of(alloc, moment, job) else {
+        return Ended::without_files(report_at_start(messages, Fault::OutOfMemory));
+    };
+    match &job.source {
+        None => run_to_target(rt, alloc, job, options, input, output, messages),
+        Some(name) => match open_to_read(rt, name.text()) {
+            Ok(opened) => {
+                let mut reader = opened;
+                let ended = run_to_target(rt, alloc, job, options, &mut reader, output, messages);
+                Ended {
+                    status: ended.status,
+                    source: Some(reader),
+                    target: ended.target,
+                }
+            }
+            Err(_) => Ended::without_files(report(alloc, messages, "cannot read ", name.text())),
+        },
     }
 }
 

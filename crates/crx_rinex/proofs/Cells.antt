@@ -1,11 +1,12 @@
 -- The cells of a satellite line, taken one by one.
+use Rattle.std.proofs.lemmas.Grind.{common_steps}
 use Rattle.std.proofs.Common.{◌≡◌, ℕ, ℤ, ◌+◌, ◌-◌, ◌*◌, ◌<◌, ◌≤◌, All, List, [], ◌∷◌, ◌++◌, Option, Some}
 use Rattle.std.proofs.Common.{None, length, take, drop, replicate, get_or, refl, ap, sym, subst, ◌∙◌, arith}
 use Rattle.std.proofs.{Common.{suc, zero, Bool, true, false, Err, MatchBool}, lemmas.Bool.and_from}
 use Rattle.std.proofs.lemmas.List.{take_more_set, length-set, take_at, take-append-le, drop_all, length-drop}
 use Rattle.std.proofs.lemmas.List.{get_or_default, get_or_past, take-set, take-take, take_all, length-append}
-use Rattle.std.proofs.lemmas.List.{length-replicate, take-replicate, append_assoc, Elements.All-push}
-use Rattle.std.proofs.lemmas.List.{Elements.{All-replicate, All-same, All-set}, Folds.concat-append}
+use Rattle.std.proofs.lemmas.List.{length-replicate, take-replicate, append_assoc}
+use Rattle.std.proofs.lemmas.List.{Elements.{All-set}, Folds.concat-append}
 use Rattle.std.proofs.lemmas.{List.Folds.list_all-append, Option.{option_and_then_some, same_Some, none-some}}
 use Rattle.std.specs.{List.{concat, list_all}, Prelude.slice_set}
 use Rattle.crx_text.proofs.EachPlace.{each_place-more, index-each_place, length-each_place}
@@ -40,9 +41,7 @@ pub values_in_more : (line : List ℕ) (k : ℕ) (vs : List (Option ℤ)) (v : O
     → values_in k line ≡ Some vs → observation_of (field line k) ≡ Some v
     → values_in (k + 1) line ≡ Some (vs ++ v ∷ [])
 values_in_more line k vs v h e =
-    ap all_some (each_place-more k (λ j. observation_of (field line j)))
-    ∙ ap (λ o. all_some (each_place k (λ j. observation_of (field line j)) ++ o ∷ [])) e
-    ∙ all_some-push (each_place k (λ j. observation_of _)) vs v h
+    grind (arith, common_steps, all_some, each_place-more, observation_of, field, each_place, all_some-push)
 
 pub values_in_none : (line : List ℕ) (k m : ℕ) → k < m → observation_of (field line k) ≡ None
     → values_in m line ≡ None
@@ -58,9 +57,7 @@ flags_in_more line k = ap concat (each_place-more k _) ∙ concat-append (each_p
 pub field_past : (line : List ℕ) (k : ℕ) → length line ≤ 16 * k + 3
     → observation_of (field line k) ≡ Some None
 unfolding number_of
-field_past line k h =
-    let e = drop_all (16 * k + 3 + 1 - 1) line (omega arith) in
-    rw e refl
+field_past line k h = grind (arith, common_steps, drop_all)
 
 -- a field inside the line
 pub field_inside : (line : List ℕ) (k : ℕ) → 16 * k + 17 ≤ length line
@@ -95,8 +92,7 @@ pair_pushed line k flags a b room h ha hb =
 -- a character inside the line
 pub inside : (line : List ℕ) (i column : ℕ) → i < length line → i ≡ column - 1
     → get_or line i 0 ≡ character_at line column
-inside line i column within is =
-    get_or_default line i 0 32 within ∙ ap (λ n. get_or line n 32) is
+inside line i column within is = grind (arith, common_steps, get_or_default, get_or)
 
 -- and one past its end
 pub past : (line : List ℕ) (column : ℕ) → length line < column → 32 ≡ character_at line column
@@ -110,55 +106,26 @@ pub cells_more : (line : List ℕ) (values : List (Option ℤ)) (flags : List �
     → AreCellsRead (k + 1) line (slice_set values k value) (slice_set (slice_set flags (2 * k) a) (2 * k + 1)
     b)
 cells_more line values flags k a b value h within read fits lock strength =
-    let more = take_more_set values k value within in
-    let long = length-set values k value in
-    let one = slice_set flags (2 * k) a in
-    let room : 2 * k + 1 < length flags = omega (arith, within, h.pairs.0) in
-    let pairs : length _ ≡ length flags =
-    length-set one (2 * k + 1) b ∙ length-set flags (2 * k) a in
-    record {
-      pairs = (omega (arith, pairs, long, h.pairs.0), omega (arith, long, h.pairs.1));
-      within = omega (arith, long, within);
-      values_read = values_in_more line k _ value h.values_read read ∙ ap (λ vs. Some vs) (sym more);
-      flags_read = pair_pushed line k flags a b room h.flags_read lock strength;
-      ranged = All-same IsValue _ _ more (All-push IsValue _ value h.ranged fits);
-    }
+    grind (arith, common_steps, take_more_set, length-set, slice_set, values_in_more, pair_pushed)
 
 -- another value after them is no loss
 pub cells_kept : (line : List ℕ) (values : List (Option ℤ)) (flags : List ℕ) (k : ℕ) (value : Option ℤ)
     → AreCellsRead k line values flags → AreCellsRead k line (slice_set values k value) flags
-cells_kept line values flags k value h =
-    let kept = take-set values k value in
-    let long = length-set values k value in
-    record {
-      pairs = (omega (arith, long, h.pairs.0), omega (arith, long, h.pairs.1));
-      within = omega (arith, long, h.within);
-      values_read = h.values_read ∙ ap (λ vs. Some vs) (sym kept);
-      flags_read = h.flags_read;
-      ranged = All-same IsValue _ _ kept h.ranged;
-    }
+cells_kept line values flags k value h = grind (arith, common_steps, take-set, length-set)
 
 -- once the last is read
 pub cells_whole : (line : List ℕ) (values : List (Option ℤ)) (flags : List ℕ) (k m : ℕ)
     → AreCellsRead k line values flags → k ≡ m → length values ≡ m
     → list_all is_blank (drop (16 * m + 3) line) ≡ true → AreAllRead m line values flags
 cells_whole line values flags k m h all long ended =
-    let whole = take_all k values (omega (arith, all, long)) in
-    record {
-      values_read = ap (λ n. values_in n line) (sym all) ∙ h.values_read ∙ ap (λ vs. Some vs) whole;
-      flags_read = sym (take_all (2 * k) flags (omega (arith, all, long, h.pairs.0))) ∙ h.flags_read
-          ∙ ap (λ n. flags_in n line) all;
-      ranged = All-same IsValue values _ (sym whole) h.ranged;
-      ended = ended;
-    }
+    grind (arith, common_steps, take_all, values_in, flags_in)
 
 -- what is after it decides
 pub cells_end : (line : List ℕ) (values : List (Option ℤ)) (flags : List ℕ) (k m : ℕ) (b : Bool)
     → AreCellsRead k line values flags → k ≡ m → length values ≡ m
     → b ≡ list_all is_blank (drop (16 * m + 3) line)
     → MatchBool b (AreAllRead m line values flags) (row_by_cells m line ≡ Err BadField)
-cells_end line values flags k m true h all long ended = cells_whole line values flags k m h all long (sym
-    ended)
+cells_end line values flags k m true h all long ended = grind (arith, common_steps, cells_whole)
 cells_end line values flags k m false h all long ended = grind arith
 
 -- a field that spells nothing
@@ -187,23 +154,12 @@ pub sound-written : (name : List ℕ) (values old_values : List (Option ℤ)) (f
       flags = take k (flags ++ drop (length flags) old_flags);
     })
 sound-written name values old_values flags old_flags m n k named allowed long pairs n_is k_is ranged kept =
-    rw (
-      take_at values _ n (omega (arith, long, n_is)),
-      take_at flags (drop _ old_flags) k (omega (arith, pairs, k_is)),
-    ) (sound-cells name values flags m named allowed long pairs ranged kept)
+    grind (arith, common_steps, take_at, sound-cells)
 
 -- rows stay sound
 pub sound-blank : (name : List ℕ) (m : ℕ) → is_identifier name ≡ true → IsAllowedCount m
     → IsSoundRow (blank_row name m)
-sound-blank name m named small =
-    record {
-      named = named;
-      counted = let e = length-replicate {A = Option ℤ} m None in
-          (omega (arith, e, small.0), omega (arith, e, small.1));
-      ranged = All-replicate IsValue m None tt;
-      paired = length-replicate (2 * m) 32 ∙ ap (λ n. 2 * n) (sym (length-replicate {A = Option ℤ} m None));
-      kept = all_kept_blanks (2 * m);
-    }
+sound-blank name m named small = grind (arith, common_steps, length-replicate, all_kept_blanks)
 
 -- and so is one that takes its blanks out of longer lists of them
 pub sound-cleared : (name : List ℕ) (m n : ℕ) → is_identifier name ≡ true → IsAllowedCount m → m ≤ n

@@ -1,7 +1,8 @@
 -- Lines that are borrowed one by one, from the first of a list on.
+use Rattle.std.proofs.lemmas.Grind.{common_steps}
 use Rattle.std.proofs.Common.{◌≡◌, ◌≢◌, ◌↔◌, ◌<◌, ℕ, ◌-◌, List, [], ◌∷◌, Option, Some, None, is_none, is_some}
-use Rattle.std.proofs.Common.{not, Bool, Bor, option_copied, IsTrue, drop, map, slice_get, refl, ap, sym}
-use Rattle.std.proofs.Common.{subst, ◌∙◌, true, false, true≢false, arith, suc, zero}
+use Rattle.std.proofs.Common.{not, Bool, Bor, option_copied, IsTrue, drop, map, slice_get, refl, sym}
+use Rattle.std.proofs.Common.{true, false, true≢false, arith, suc, zero}
 use Rattle.std.proofs.lemmas.Option.{none-some}
 
 pub after_first : {X : Type 0} (x : X) (xs : List X) (n : ℕ) → n ≢ 0
@@ -17,9 +18,6 @@ first_of_rest (x ∷ xs) (suc n) = first_of_rest xs n
 pub no_next : {X : Type 0} (xs : List X) → slice_get xs 0 ≡ None → xs ≡ drop 1 xs
 no_next [] h = refl
 no_next (x ∷ xs) h = absurd (none-some x (sym h))
-
-some-left : {A : Type 0} (x : A) (xs : List A) → x ∷ xs ≡ [] → ⊥
-some-left x xs e = grind arith
 
 -- no element is at a place exactly where nothing is left from there on
 none-left : {A B : Type 0} (f : A → B) (xs : List A) (k : ℕ)
@@ -43,8 +41,4 @@ pub all-handed_out : {A B : Type 0} (f : A → B) (first : B) (xs : List A) (n :
     → IsTrue b ↔ (drop n (first ∷ map f xs) ≡ [])
 all-handed_out f first xs zero b o less is at = absurd (omega (arith, less))
 all-handed_out f first xs (suc n) b o less is at =
-    let e : suc n - 1 ≡ n = omega arith in
-    let one = none-copied b o is in
-    let two = subst (λ (p : Option _). IsTrue (is_none p) ↔ (drop n (map f xs) ≡ []))
-    (sym (at ∙ ap (slice_get xs) e)) (none-left f xs n) in
-    ((λ t. two.0 (one.0 t)), (λ e. one.1 (two.1 e)))
+    grind (arith, common_steps, none-copied, is_none, slice_get, none-left)

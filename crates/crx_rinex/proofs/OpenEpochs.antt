@@ -1,4 +1,5 @@
 -- Epochs whose lines come one after another.
+use Rattle.std.proofs.lemmas.Grind.{common_steps}
 use Rattle.std.proofs.Common.{◌≡◌, ℕ, ◌-◌, ◌<◌, zero, suc, List, [], ◌∷◌, ◌++◌, length, Option, Some, None}
 use Rattle.std.proofs.Common.{Result, Ok, Err, refl, ap, sym, subst, ◌∙◌, inl, inr, arith, append-nil}
 use Rattle.std.{proofs.lemmas.{List.length_push, Option.none-some}, specs.Prelude.⊤}
@@ -7,7 +8,7 @@ use Rattle.crx_rinex.proofs.Steady.{steady-here, steady-first_line, steady-then}
 use Rattle.crx_rinex.specs.EpochPlaces.{EpochStep, Going, Whole, Faulty, when_wanted, whole_or_going}
 use Rattle.crx_rinex.specs.EpochPlaces.{after_row, epoch_step, still_open, opened_by, opened_at, open_after}
 use Rattle.crx_rinex.specs.{EpochPlaces.{open_with, place_after}, Laws.{IsWantedWhereOpen, IsDecidedByOpen}}
-use Rattle.crx_rinex.specs.{Steady.IsSteady, meaning.{EpochLines.ObservationHead, EpochPlaces.OpenEpoch}}
+use Rattle.crx_rinex.specs.{Steady.IsSteady, meaning.{EpochPlaces.OpenEpoch}}
 use Rattle.crx_rinex.specs.meaning.EpochPlaces.{Beginning, EventBegins, EpochBegins, opened, rows_wanted}
 use Rattle.crx_rinex.specs.meaning.EpochPlaces.{with_next_row, row_at, rows_at, rest_at, beginning_of}
 use Rattle.crx_rinex.specs.meaning.{EpochPlaces.{unit_begun, epoch_place}, Observations.{Row, Epoch}}
@@ -42,11 +43,6 @@ after_step (Going so_far) lines = after_lines 1 (rest_at so_far lines)
 after_step (Whole epoch) lines = Here epoch 1
 after_step (Faulty fault) lines = Wrong 0 fault
 
-rest_when : (n : ℕ) (so_far : OpenEpoch) (lines : List ReadLine) → rows_wanted so_far ≡ n
-    → after_lines 1 (rows_at so_far n lines) ≡ after_step (when_wanted n so_far) lines
-rest_when zero so_far lines h = refl
-rest_when (suc n) so_far lines h = grind arith
-
 whole_or_rest : (n : ℕ) (so_far : OpenEpoch) (lines : List ReadLine) → rows_wanted so_far ≡ n
     → after_lines 1 (rows_at so_far n lines) ≡ after_step (whole_or_going so_far) lines
 whole_or_rest n so_far lines h = grind arith
@@ -56,8 +52,7 @@ row_then_rest : (n : ℕ) (so_far : OpenEpoch) (line : List ℕ) (lines : List R
     → then_place (one_line r) (Content line ∷ lines) (λ row rest. rows_at (with_next_row so_far row) n rest)
     ≡ after_step (after_row so_far r) lines
 row_then_rest n so_far line lines (Err fault) h = refl
-row_then_rest n so_far line lines (Ok row) h =
-    whole_or_rest n _ lines (omega (arith, h, length_push so_far.rows row))
+row_then_rest n so_far line lines (Ok row) h = grind (arith, common_steps, whole_or_rest, length_push)
 
 rest_by_step : (n : ℕ) (so_far : OpenEpoch) (line : ReadLine) (lines : List ReadLine)
     → rows_wanted so_far ≡ suc n → rest_at so_far (line ∷ lines) ≡ after_step (epoch_step so_far line) lines
@@ -92,16 +87,8 @@ step_at : (so_far : OpenEpoch) (line : ReadLine) (lines : List ReadLine)
     → 0 < rows_wanted so_far → rest_at so_far (line ∷ lines) ≡ after_step (epoch_step so_far line) lines
 step_at so_far line lines h = rest_by_step (rows_wanted so_far - 1) so_far line lines (omega (arith, h))
 
-rest_none : (n : ℕ) (so_far : OpenEpoch) → rows_wanted so_far ≡ suc n → rest_at so_far [] ≡ Wanted
-rest_none n so_far h = rw h refl
-
 nothing_yet : (so_far : OpenEpoch) → 0 < rows_wanted so_far → rest_at so_far [] ≡ Wanted
 nothing_yet so_far h = grind arith
-
-none_before : {X : Type 0} (p : Place X) → after_lines 0 p ≡ p
-none_before (Here x n) = ap (λ m. Here x m) (omega arith)
-none_before (Wrong k fault) = ap (λ m. Wrong m fault) (omega arith)
-none_before Wanted = refl
 
 one_more_before : {X : Type 0} (count : ℕ) (p : Place X)
     → after_lines 1 (after_lines count p) ≡ after_lines (suc count) p
@@ -184,8 +171,7 @@ open_push (l ∷ lines) (Some so_far) line = open_push lines _ line
 open_next : (lines : List ReadLine) (begun : Option OpenEpoch) (line : ReadLine) (so_far : OpenEpoch)
     → open_after begun lines ≡ Some so_far
     → open_after begun (lines ++ line ∷ []) ≡ still_open (epoch_step so_far line)
-open_next lines begun line so_far h =
-    open_push lines begun line ∙ ap (λ o. open_after o (line ∷ [])) h ∙ open_none _
+open_next lines begun line so_far h = grind (arith, common_steps, open_push, open_after, open_none)
 
 -- ---- from the epoch line on
 
@@ -194,27 +180,11 @@ as_unit (Here epoch n) = Here (Observation epoch) n
 as_unit (Wrong k fault) = Wrong k fault
 as_unit Wanted = Wanted
 
-unit_is : (p : Place Epoch) (lines : List ReadLine)
-    → then_place p lines (λ epoch rest. Here (Observation epoch) 0) ≡ as_unit p
-unit_is (Here epoch n) lines = grind arith
-unit_is (Wrong k fault) lines = refl
-unit_is Wanted lines = refl
-
 -- an open epoch at a line goes on in the lines after it
 record Begins (types : List Count) (line : ReadLine) (so_far : OpenEpoch) : Type 0 where
   wants : 0 < rows_wanted so_far
   place : (lines : List ReadLine)
       → epoch_place types (line ∷ lines) ≡ after_lines 1 (as_unit (rest_at so_far lines))
-
-begins_when : (n : ℕ) (begun so_far : OpenEpoch) → rows_wanted begun ≡ n
-    → still_open (when_wanted n begun) ≡ Some so_far → (0 < rows_wanted so_far) × (begun ≡ so_far)
-begins_when zero begun so_far e h = absurd (none-some so_far h)
-begins_when (suc n) begun so_far e h = grind arith
-
-begins_going : (types : List Count) (head : ObservationHead) (so_far : OpenEpoch) → still_open
-    (whole_or_going (opened types head)) ≡ Some so_far → (0 < rows_wanted so_far)
-    × (opened types head ≡ so_far)
-begins_going types head so_far h = grind arith
 
 begins_by : (types : List Count) (line : List ℕ) (r : Result Beginning Fault) (so_far : OpenEpoch)
     → opened_by types r ≡ Some so_far → (0 < rows_wanted so_far) × ((lines : List ReadLine) → then_place
@@ -229,17 +199,6 @@ begins types Overlong so_far h = absurd (none-some so_far h)
 begins types (Content line) so_far h =
     let by = begins_by types line (beginning_of line) so_far h in
     record { wants = by.0; place = by.1 }
-
--- a line that opens no epoch decides
-whole_when : (n : ℕ) (begun : OpenEpoch) (lines : List ReadLine)
-    → still_open (when_wanted n begun) ≡ None → after_lines 1 (as_unit (rows_at begun n lines)) ≡ Wanted → ⊥
-whole_when zero begun lines h w = not_here _ _ w
-whole_when (suc n) begun lines h w = none-some begun (sym h)
-
-whole_decides : (types : List Count) (head : ObservationHead) (lines : List ReadLine)
-    → still_open (whole_or_going (opened types head)) ≡ None
-    → after_lines 1 (as_unit (rest_at (opened types head) lines)) ≡ Wanted → ⊥
-whole_decides types head lines h w = grind arith
 
 decided_by : (types : List Count) (line : List ℕ) (r : Result Beginning Fault) (lines : List ReadLine)
     → opened_by types r ≡ None
@@ -312,8 +271,7 @@ wanted-open types (line ∷ lines) = (
 step_place : (count : ℕ) (step : EpochStep)
     → IsGoing step → after_lines 1 (as_unit (after_lines count (after_step step [])))
     ≡ place_after (suc count) step
-step_place count (Going so_far) wants =
-    ap (λ p. after_lines 1 (as_unit (after_lines count (after_lines 1 p)))) (nothing_yet so_far wants)
+step_place count (Going so_far) wants = grind (arith, common_steps, after_lines, as_unit, nothing_yet, wants)
 step_place count (Whole epoch) wants = grind arith
 step_place count (Faulty fault) wants = ap (λ m. Wrong m fault) (omega arith)
 

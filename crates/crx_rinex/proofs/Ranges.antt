@@ -1,4 +1,5 @@
 -- What is read out of columns fits them.
+use Rattle.std.proofs.lemmas.Grind.{common_steps}
 use Rattle.std.proofs.Common.{◌≡◌, ℕ, ◌+◌, ◌-◌, ◌<◌, ◌≤◌, ◌^◌, Bool, true, false, cond, eqb, ◌&&◌, List, []}
 use Rattle.std.proofs.Common.{◌∷◌, ◌++◌, length, take, drop, Option, Some, None, refl, subst, inl, inr, arith}
 use Rattle.std.proofs.lemmas.{Bool.{cases_Bool, and_parts, eqb-true}, List.{length-append, length-take}}
@@ -48,9 +49,7 @@ mapped f (Some n) v h k = k n refl (same_Some (f n) v h)
 
 decimal_within : (decimals : ℕ) (text : List ℕ) (v : ℤ)
     → decimal_number decimals text ≡ Some v → IsWithin (length text) v
-decimal_within decimals [] v =
-    λ h. mapped _ _ v h
-    (λ n e s. subst (IsWithin 0) s (signed_is_within false n 0 0 refl (size_small _ [] n e)))
+decimal_within decimals [] v = grind (arith, common_steps, mapped, signed_is_within, size_small)
 decimal_within decimals (c ∷ cs) v =
     elim (cases_Bool (eqb c 45)) [
       | inl t ↦ rw t (λ h. mapped (signed_number true) (size_of _ cs) v h
@@ -71,8 +70,7 @@ first_blanks_shorter (c ∷ cs) =
 found_within : (decimals : ℕ) (text : List ℕ) (s : Option ℤ) (o : Option ℤ)
     → decimal_number decimals text ≡ s → option_map Some s ≡ Some o → IsMissingOrWithin (length text) o
 found_within decimals text None o e h = absurd (none-some o h)
-found_within decimals text (Some v) o e h = subst (λ p. IsMissingOrWithin (length text) p) (same_Some _ o h)
-    (decimal_within _ text v e)
+found_within decimals text (Some v) o e h = grind (arith, common_steps, same_Some, decimal_within)
 
 missing_within : (decimals : ℕ) (text : List ℕ) (o : Option ℤ)
     → missing_or_number decimals text ≡ Some o → IsMissingOrWithin (length text) o

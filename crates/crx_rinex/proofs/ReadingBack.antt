@@ -1,8 +1,9 @@
 -- What is printed of rows, epoch lines and epochs is read back.
-use Rattle.std.proofs.Common.{◌≡◌, ◌≢◌, ℕ, ℤ, ◌+◌, ◌-◌, ◌*◌, ◌<◌, suc, Bool, true, false, cond, ◌&&◌, List}
+use Rattle.std.proofs.lemmas.Grind.{common_steps}
+use Rattle.std.proofs.Common.{◌≡◌, ℕ, ℤ, ◌+◌, ◌-◌, ◌*◌, ◌<◌, suc, Bool, true, false, cond, ◌&&◌, List}
 use Rattle.std.proofs.Common.{[], ◌∷◌, ◌++◌, length, drop, map, Option, Some, None, IfSome, Ok, refl, ap, sym}
-use Rattle.std.proofs.Common.{subst, ◌∙◌, ◌⊎◌, inl, inr, arith, append-nil, append_assoc, length-append}
-use Rattle.std.proofs.lemmas.{Bool.{and_parts, or_parts, not-true, Decides.eqb_tells}, List.Elements.All-head}
+use Rattle.std.proofs.Common.{◌∙◌, arith, append-nil, append_assoc, length-append}
+use Rattle.std.proofs.lemmas.{Bool.{and_parts, or_parts, not-true}, List.Elements.All-head}
 use Rattle.std.proofs.lemmas.{List.{Elements.All-tail, Folds.list_any-append}, Option.none-some}
 use Rattle.std.specs.{List.{concat, list_all}, Option.{option_and_then, ForSome}, Prelude.{All, ◌==◌}}
 use Rattle.std.specs.Str.{bytes_eq}
@@ -25,17 +26,14 @@ use Rattle.crx_rinex.specs.meaning.SatelliteLines.{flags_at, flags_in, row_with,
 use Rattle.crx_rinex.specs.meaning.{SatelliteLines.{IsSoundRow, HasItsTypes}, Units.Observation}
 use Rattle.crx_header.{proofs.Apart.other_way, specs.meaning.EpochColumns.{begins_epoch, is_event_flag}}
 use Rattle.crx_header.specs.meaning.EpochColumns.{is_observation_flag, satellites_in, satellites_of}
-use Rattle.crx_header.specs.meaning.{EpochColumns.epoch_count, ObservationTypes.{Count, is_system}}
+use Rattle.crx_header.specs.meaning.{EpochColumns.epoch_count, ObservationTypes.{Count}}
 use Rattle.crx_header.specs.meaning.Satellites.{types_of_satellite}
 
 -- ---- a field
 
 given : {X : Type 0} (P : X → Type 0) (o : Option X) → IfSome o P → ForSome o P
 given P None h x e = absurd (none-some x e)
-given P (Some y) h x e = subst P (some-same y x e) h
-  where
-    some-same : {X : Type 0} (y x : X) → Some y ≡ Some x → y ≡ x
-    some-same y x e = cc
+given P (Some y) h x e = grind (arith, common_steps)
 
 tested : {A : Type 0} (b : Bool) (o : Option A) (y : A) → cond b o None ≡ Some y → b ≡ true
 tested true o y h = refl
@@ -48,8 +46,7 @@ unfolding number_of
 decimal-width width decimals text o h = grind arith
 
 pub value-back : (value : Option ℤ) → IsValue value → observation_of (observation_text value) ≡ Some value
-value-back value h = number_of-number_text _ _ value
-    (omega arith) (omega arith) (omega arith) (given _ value h)
+value-back value h = grind (arith, common_steps, number_of-number_text, given)
 
 value-width : (value : Option ℤ) → IsValue value → length (observation_text value) ≡ 14
 value-width value h = decimal-width _ OBSERVATION_DECIMALS _ value (value-back value h)
@@ -83,8 +80,7 @@ first-cell line rest k value a b fits same =
 cells-are : (values : List (Option ℤ)) (flags : List ℕ) (value : Option ℤ) (a b : ℕ)
     → printed_cells (value ∷ values) (a ∷ b ∷ flags) ≡ observation_text value
     ++ a ∷ b ∷ printed_cells values flags
-cells-are values flags value a b = append_assoc (observation_text value) (a ∷ b ∷ [])
-    (printed_cells values flags)
+cells-are values flags value a b = grind (arith, common_steps, append_assoc, observation_text, printed_cells)
 
 -- the place that is counted from, and those after it
 from-next : {X : Type 0} (n k : ℕ) (f : ℕ → X)
@@ -147,22 +143,12 @@ name-length row h = grind arith
 -- a row's columns
 pub length-row : (row : Row) → IsSoundRow row
     → length (row.name ++ printed_cells row.values row.flags) ≡ 16 * length row.values + 3
-length-row row h =
-    let three : length row.name ≡ 3 = name-length row h in
-    let all : length (row.name ++ printed_cells row.values row.flags) ≡ length row.name + length
-    (printed_cells row.values row.flags) = length-append row.name (printed_cells row.values row.flags) in
-    let cells : length (printed_cells row.values row.flags) ≡ 16 * length row.values =
-    length-cells row.values row.flags h.paired h.ranged in
-    omega (arith, all, cells, three)
+length-row row h = grind (arith, common_steps, name-length, printed_cells, length-append, length-cells)
 
 after-text : (line text : List ℕ) (n : ℕ)
     → length text ≡ n → ((p : ℕ) → at line p ≡ at text p) → list_all is_blank (drop n line) ≡ true
 after-text line text n e same =
-    list_all-from_at is_blank (drop n line)
-    (λ k. ap is_blank (at-drop n line k ∙ same (n + k) ∙ past text n k e))
-  where
-    past : (text : List ℕ) (n k : ℕ) → length text ≡ n → at text (n + k) ≡ 32
-    past text n k e = ap (λ t. at t (n + k)) (sym (append-nil text)) ∙ at-append_past text [] n k e
+    grind (arith, common_steps, list_all-from_at, is_blank, at-drop, append-nil, at-append_past)
 
 row-chosen : (m : ℕ) (line name flags : List ℕ) (values : List (Option ℤ))
     → list_all is_blank (drop (16 * m + 3) line)
@@ -205,8 +191,7 @@ head-chosen : (line head : List ℕ) (count : ℕ) (clock : Option ℤ) → begi
 head-chosen line head count clock begins flag same counted blank reads = grind arith
 
 clock-back : (clock : Option ℤ) → IsClockOffset clock → clock_of (clock_text clock) ≡ Some clock
-clock-back clock h = number_of-number_text _ _ clock
-    (omega arith) (omega arith) (omega arith) (given _ clock h)
+clock-back clock h = grind (arith, common_steps, number_of-number_text, given)
 
 clock-width : (clock : Option ℤ) → IsClockOffset clock → length (clock_text clock) ≡ 15
 clock-width clock h = decimal-width _ CLOCK_DECIMALS _ clock (clock-back clock h)
@@ -214,13 +199,7 @@ clock-width clock h = decimal-width _ CLOCK_DECIMALS _ clock (clock-back clock h
 -- an epoch line's columns
 pub length-head : (head : ObservationHead) → IsObservationHead head
     → length (head.head ++ clock_text head.clock) ≡ 56
-length-head head h =
-    let all : length (head.head ++ clock_text head.clock) ≡ length head.head + length (clock_text head.clock)
-    =
-    length-append head.head (clock_text head.clock) in
-    let wide : length head.head ≡ 41 = h.width in
-    let reads : length (clock_text head.clock) ≡ 15 = clock-width head.clock h.ranged in
-    omega (arith, all, wide, reads)
+length-head head h = grind (arith, common_steps, clock_text, length-append, clock-width)
 
 head-of_text : (head : ObservationHead) (line : List ℕ)
     → IsObservationHead head → ((p : ℕ) → at line p ≡ at (head.head ++ clock_text head.clock) p)
@@ -252,21 +231,8 @@ head-back head h = head-of_text head _ h (λ p. at-without_end_blanks _ p)
 
 -- ---- an epoch
 
--- no satellite line begins as an epoch line does
-system-other : (c : ℕ) → ((c == 62) ≡ true) × (c ≡ 62) ⊎ ((c == 62) ≡ false) × (c ≢ 62)
-    → is_system c ≡ true → (c == 62) ≡ false
-system-other c (inl is) h = grind arith
-system-other c (inr is) h = is.0
-
 row-begins : (row : Row) → IsSoundRow row → begins_epoch (printed_row row) ≡ false
-row-begins row h =
-    let three = name-length row h in
-    let rest =
-    (and_parts _ _ h.named).1 in
-    let system =
-    (and_parts _ _ rest).0 in
-    ap (λ c. c == 62) (at-without_end_blanks (row.name ++ printed_cells _ _) 0 ∙ at-append row.name
-    (printed_cells row.values row.flags) 0 (omega (arith, three))) ∙ system-other _ (eqb_tells _ 62) system
+row-begins row h = grind (arith, common_steps)
 
 -- a row isn't among those before it
 row-new : (rows : List Row) (row : Row) (rest : List Row)
@@ -284,10 +250,7 @@ row-new (r ∷ rows) row rest h =
 
 next-read : (so_far : OpenEpoch) (row : Row) → IsSoundRow row → HasItsTypes so_far.types row
     → has_satellite row.name so_far.rows ≡ false → next_row so_far (printed_row row) ≡ Ok row
-next-read so_far row h typed new =
-    let begins = row-begins row h in
-    let read = row-back _ row h typed in
-    rw (begins, read, new) refl
+next-read so_far row h typed new = grind (arith, common_steps, row-begins, row-back)
 
 row-then : (so_far : OpenEpoch) (row : Row) (count : ℕ) (line : List ℕ) (lines : List ReadLine)
     → next_row so_far line ≡ Ok row → rows_at so_far (suc count) (Content line ∷ lines) ≡ after_lines 1
@@ -302,8 +265,7 @@ rows-back : (so_far : OpenEpoch) (rows : List Row) (lines : List ReadLine)
     → All IsSoundRow rows → All (HasItsTypes so_far.types) rows → are_different (so_far.rows ++ rows) ≡ true
     → rows_at so_far (length rows) (map Content (map printed_row rows) ++ lines)
     ≡ Here (epoch_of (with_rows so_far rows)) (length rows)
-rows-back so_far [] lines h typed apart =
-    ap (λ (rows : List Row). Here (epoch_of (record so_far { rows = rows })) 0) (sym (append-nil so_far.rows))
+rows-back so_far [] lines h typed apart = grind (arith, common_steps, epoch_of, append-nil)
 rows-back so_far (row ∷ rows) lines h typed apart =
     let sound : IsSoundRow row = All-head IsSoundRow row rows h in
     let its : HasItsTypes so_far.types row = All-head (HasItsTypes so_far.types) row rows typed in

@@ -1,7 +1,8 @@
 -- Rows of different satellites, one after another.
+use Rattle.std.proofs.lemmas.Grind.{common_steps}
 use Rattle.std.proofs.Common.{◌≡◌, ℕ, ◌≤◌, Bool, true, false, ◌&&◌, List, [], ◌∷◌, ◌++◌, length}
 use Rattle.std.proofs.Common.{take, map}
-use Rattle.std.proofs.Common.{◌||◌, refl, ap, sym, ◌∙◌, inl, inr, arith, Option, Some, None, unwrap_or, cond}
+use Rattle.std.proofs.Common.{◌||◌, refl, ap, sym, ◌∙◌, arith, Option, Some, None, unwrap_or, cond}
 use Rattle.std.proofs.Common.{leb}
 use Rattle.std.specs.List.{list_all, list_any}
 use Rattle.std.specs.Str.{bytes_eq}
@@ -42,11 +43,7 @@ sound-with_row epoch row h sound room new =
 few : (b : Bool) (o : Option ℕ)
     → unwrap_or (cond b (option_and_then count_within_limit o) None) 0 ≤ SATELLITES_LIMIT
 few true None = omega arith
-few true (Some n) =
-    elim (cases_Bool (leb n SATELLITES_LIMIT)) [
-      | inl t ↦ let e = leb-true n SATELLITES_LIMIT t in rw t e
-      | inr f ↦ rw f (omega arith)
-    ]
+few true (Some n) = grind (arith, common_steps, cases_Bool, leb, leb-true)
 few false o = omega arith
 
 -- columns announce no more satellites than the limit
@@ -62,10 +59,7 @@ pub by_names : (epoch : Epoch) (names : List (List ℕ)) (rows : List Row) (coun
     → take (length rows) names ≡ map (λ (row : Row). row.name) rows
     → is_among (λ (n : List ℕ). n) name' (take count names) ≡ b → has_satellite name epoch.rows ≡ b
 by_names epoch names rows count name name' b is e long h new =
-    ap (has_satellite name) (sym e) ∙ sym (among-map (λ (n : List ℕ). n) (λ (row : Row). row.name) name rows)
-    ∙ ap (is_among (λ (n : List ℕ). n) name) (sym h)
-    ∙ ap (λ (n : ℕ). is_among (λ (m : List ℕ). m) name (take n names)) (sym long)
-    ∙ ap (λ (n : List ℕ). is_among (λ (m : List ℕ). m) n (take count names)) (sym is) ∙ new
+    grind (arith, common_steps, has_satellite, among-map, is_among)
 
 -- the parts of an epoch that isn't full with one more row, of a new satellite, and its identifier
 pub parts-more : (head : ObservationHead) (names : List (List ℕ)) (rows : List Row) (row : Row)
@@ -82,10 +76,7 @@ parts-more head names rows row parts unfilled sound new = (
 )
 
 same-both_ways : (xs ys : List ℕ) → bytes_eq xs ys ≡ bytes_eq ys xs
-same-both_ways xs ys = elim (cases_Bool (bytes_eq xs ys)) [
-  | inl t ↦ t ∙ sym ((bytes_eq-Decides ys xs).1 (sym ((bytes_eq-Decides xs ys).0 t)))
-  | inr f ↦ f ∙ sym (other_way xs ys f)
-]
+same-both_ways xs ys = grind (arith, common_steps, cases_Bool, bytes_eq, bytes_eq-Decides, other_way)
 
 -- whether a satellite is among the rows, by their identifiers
 pub among-names : (names : List (List ℕ)) (rows : List Row) (name : List ℕ)

@@ -8,7 +8,7 @@ use Rattle.std.specs.{List.AllByRecursion, Prelude.{⊤, All}}
 use Rattle.crx_text.proofs.{Characters.length-columns, EachPlace.{each_place-all, length-each_place}}
 use Rattle.crx_text.specs.meaning.{Columns.{character_at, columns, is_blank}, EachPlace.each_place}
 use Rattle.crx_text.specs.meaning.{Numbers.{observation_of, clock_of, IsValue}, Texts.is_kept}
-use Rattle.crx_base.specs.declared.fault.Fault.{Fault, TheVariants.{NotAnEpoch, BadEpoch, RepeatedSatellite}}
+use Rattle.crx_base.specs.declared.fault.Fault.{Fault, TheVariants.{NotAnEpoch, BadEpoch}}
 use Rattle.crx_base.specs.declared.fault.Fault.TheVariants.{BadField, BadClock, BadFlags, Truncated}
 use Rattle.crx_base.specs.{declared.limits.TheConstants.SATELLITES_LIMIT, meaning.Seen.{ReadLine, Content}}
 use Rattle.crx_base.specs.meaning.Seen.{Overlong}
@@ -213,12 +213,6 @@ IsNext so_far (Err fault) = ⊤
 IsNext so_far (Ok row) = IsSoundRow row × HasItsTypes so_far.types row
     × (has_satellite row.name so_far.rows ≡ false)
 
-new_case : (so_far : OpenEpoch) (row : Row) → IsSoundRow row → HasItsTypes so_far.types row
-    → (b : Bool) → has_satellite row.name so_far.rows ≡ b
-    → IsNext so_far (cond b (Err RepeatedSatellite) (Ok row))
-new_case so_far row s t true h = tt
-new_case so_far row s t false h = (s, t, h)
-
 new_row : (so_far : OpenEpoch) (r : Result Row Fault)
     → IsSoundRead so_far.types r → IsNext so_far (row_if_new so_far.rows r)
 new_row so_far (Err fault) h = tt
@@ -253,12 +247,6 @@ AreGood types total count (Here epoch n) = IsWholeEpoch types epoch × (n ≡ co
     × (length epoch.rows ≡ total)
 AreGood types total count (Wrong k fault) = ⊤
 AreGood types total count Wanted = ⊤
-
-good_after : (types : List Count) (total count : ℕ) (p : Place Epoch)
-    → AreGood types total count p → AreGood types total (suc count) (after_lines 1 p)
-good_after types total count (Here epoch n) h = let e = h.1 in (h.0, omega (arith, e), h.2)
-good_after types total count (Wrong k fault) h = tt
-good_after types total count Wanted h = tt
 
 good_row : (count : ℕ) (so_far : OpenEpoch) (line : List ℕ) (lines : List ReadLine)
     → ((row : Row) → IsNext so_far (Ok row)

@@ -1,6 +1,7 @@
 -- Steady places: one after another, and their parts.
-use Rattle.std.proofs.Common.{◌≡◌, ℕ, ◌+◌, ◌<◌, suc, List, [], ◌∷◌, ◌++◌, length, drop, Result, Ok, Err, refl}
-use Rattle.std.proofs.{Common.{subst, arith}, lemmas.List.{drop-append-le, length-drop}}
+use Rattle.std.proofs.lemmas.Grind.{common_steps}
+use Rattle.std.proofs.Common.{ℕ, ◌+◌, suc, List, [], ◌∷◌, ◌++◌, length, Result, Ok, Err, refl}
+use Rattle.std.proofs.{Common.{arith}, lemmas.List.{drop-append-le, length-drop}}
 use Rattle.crx_base.specs.{declared.fault.Fault.Fault, meaning.Seen.{ReadLine, Content, Overlong}}
 use Rattle.crx_rinex.specs.{Steady.{IsSteady, Remains, IsDecidedAfter}, meaning.Places.{Place, Here, Wrong}}
 use Rattle.crx_rinex.specs.meaning.Places.{Wanted, after_lines, then_place, one_line, first_line}
@@ -39,23 +40,12 @@ remains_after count lines (Here x n) later h = grind arith
 remains_after count lines (Wrong k fault) later h = grind arith
 remains_after count lines Wanted later h = decided_after count lines later h
 
-decided_at : {X : Type 0} (count lines : ℕ) (p : Place X) → count < lines
-    → IsDecidedAfter count (after_lines lines p)
-decided_at count lines (Here x n) h = omega (arith, h)
-decided_at count lines (Wrong k fault) h = omega (arith, h)
-decided_at count lines Wanted h = tt
-
 then_remains : {X Y : Type 0} (next : X
     → List ReadLine → Place Y) (steady : (x : X) → IsSteady (next x)) (lines more : List ReadLine)
     (now later : Place X) → Remains (length lines) now later
     → Remains (length lines) (then_place now lines next) (then_place later (lines ++ more) next)
 then_remains next steady lines more (Here x n) later h =
-    let within = h.0 in
-    let split : n + length (drop n lines) ≡ length lines = omega (arith, within, length-drop n lines) in
-    let same = drop-append-le n lines more within in
-    rw h.1 (rw same (subst (λ count. Remains count (after_lines n (next x (drop n lines)))
-    (after_lines n (next x (drop n lines ++ more)))) split (remains_after (length (drop n lines)) n
-    (next x (drop n lines)) (next x (drop n lines ++ more)) (steady x _ more))))
+    grind (arith, common_steps, length-drop, drop-append-le, after_lines, remains_after)
 then_remains next steady lines more (Wrong k fault) later h = (h.0, rw h.1 refl)
 then_remains next steady lines more Wanted (Here x n) h = grind arith
 then_remains next steady lines more Wanted (Wrong k fault) h = h
@@ -64,5 +54,4 @@ then_remains next steady lines more Wanted Wanted h = tt
 -- one place, and then another
 pub steady-then : {X Y : Type 0} (first : List ReadLine → Place X) (next : X → List ReadLine → Place Y)
     → IsSteady first → ((x : X) → IsSteady (next x)) → IsSteady (λ lines. then_place (first lines) lines next)
-steady-then first next h steady lines more =
-    then_remains next steady lines more _ _ (h lines more)
+steady-then first next h steady lines more = grind (arith, common_steps, then_remains)

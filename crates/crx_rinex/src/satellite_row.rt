@@ -18,11 +18,11 @@ ghost use Rattle.crx_header.specs.meaning.Satellites.{is_identifier, types_of_sa
 
 use crx_base::Fault;
 use crx_base::limits::{CELL_WIDTH, NAME_WIDTH, OBSERVATION_WIDTH, TYPES_LIMIT};
-use crx_header::cells::{cells_within, put_indicators};
 use crx_header::{
     Types, after_columns, all_blank, identifier, padded, put_flags, types_of_satellite,
 };
 use crx_text::appending::append;
+use crx_text::columns::character;
 use crx_text::{Text, all_kept, obs_print_cell, obs_read, obs_read_into};
 use std::alloc::Global;
 use std::marker::Model;
@@ -212,7 +212,9 @@ fn split_plain_cells(line: &[u8], values: &mut [Option<i64>], flags: &mut [u8]) 
     requires { ArePaired values.old flags.old }
     ensures { AreCellsRead result line.now values.new flags.new }
 {
-    let count = cells_within(line, values.len());
+    let count = values
+        .len()
+        .min(line.len().saturating_sub(NAME_WIDTH) / CELL_WIDTH);
     for k in 0..count {
         let start = CELL_WIDTH * k + NAME_WIDTH;
         let end = start + CELL_WIDTH;
@@ -271,7 +273,8 @@ fn read_other_cells(line: &[u8], first: usize, values: &mut [Option<i64>], flags
             return false;
         };
         values[k] = value;
-        put_indicators(line, k, flags);
+        flags[2 * k] = character(line, CELL_WIDTH * k + (NAME_WIDTH + OBSERVATION_WIDTH + 1));
+        flags[2 * k + 1] = character(line, CELL_WIDTH * k + (NAME_WIDTH + OBSERVATION_WIDTH + 2));
     }
     all_blank(after_columns(line, CELL_WIDTH * values.len() + NAME_WIDTH))
 }

@@ -1,22 +1,21 @@
 -- What follows from how a run ended.
-use Rattle.std.proofs.Common.{◌≡◌, ◌⊎◌, inl, inr, ℕ, ◌+◌, ◌≤◌, Bool, true, List, [], ◌++◌, length, Option}
-use Rattle.std.proofs.Common.{Some, None, refl, sym, ap, subst, ◌∙◌, arith, append-nil, length-append}
-use Rattle.crx_lines.proofs.{DeviceLemmas.failures-of, ProgressLemmas.{HasRead-ended, HasRead-stopped}}
-use Rattle.crx_lines.specs.{Progress.{HasRead, StandsAt, IsOpen, IsStopped}, Reading.ReaderState}
-use Rattle.crx_lines.specs.{declared.phase.Phase.{Phase, TheVariants.{Open, Ended}}, meaning.Devices.Tally}
-use Rattle.crx_lines.specs.meaning.Devices.{with_flush}
+use Rattle.std.proofs.Common.{◌≡◌, ◌⊎◌, inl, inr, ℕ, ◌≤◌, Bool, true, List, [], ◌++◌, length, Option}
+use Rattle.std.proofs.Common.{Some, None, refl, sym, ap, ◌∙◌, arith, append-nil, length-append}
+use Rattle.crx_lines.proofs.{ProgressLemmas.{HasRead-ended, HasRead-stopped}}
+use Rattle.crx_lines.specs.{Progress.{HasRead, IsStopped}, Reading.ReaderState}
+use Rattle.crx_lines.specs.{declared.phase.Phase.{TheVariants.{Open, Ended}}}
 use Rattle.crx_base.specs.declared.fault.{At.At, Fault.{Fault, TheVariants.{InputTooLong, ReadFailed}}}
 use Rattle.crx_base.specs.declared.{fault.Fault.TheVariants.OutOfMemory, limits.TheConstants.INPUT_LIMIT}
 use Rattle.crx_base.specs.meaning.Lines.{InputLine, lines_of}
-use Rattle.crx_runs.proofs.{DeviceSpans.{Joins, joined-failures, took-still}, RunEndings.line-stands}
+use Rattle.crx_runs.proofs.{DeviceSpans.{Joins, took-still}, RunEndings.line-stands}
 use Rattle.crx_runs.proofs.RunEndings.{end-stands, reader-stands, start-stands, flush-stands, StandsAfter}
 use Rattle.crx_runs.proofs.{RunEndings.well-front, Salvaged.{AskedOnce, is-open, none-failed, asked-once}}
-use Rattle.crx_runs.{proofs.Salvaged.asked-stopped, specs.Endings.{EndedByFault, EndsAt, Finishes}}
+use Rattle.crx_runs.{specs.Endings.{EndedByFault, EndsAt, Finishes}}
 use Rattle.crx_runs.specs.Endings.{FlushFailed, IsFlushed, IsReported, StopsAt, StoppedAtStart, StoppedByEnd}
 use Rattle.crx_runs.specs.{Endings.WorkEnds, Lawful.IsLawful, Runs.result_by, declared.one_line.Halt.Halt}
 use Rattle.crx_runs.specs.meaning.{Filters.{Filter, with_next}, Interruptions.IsFrontPart}
-use Rattle.crx_runs.specs.meaning.{Messages.{error_text, notices_text}, Results.{Course, good_status}}
-use Rattle.crx_runs.specs.meaning.{Results.{result_of_course, status_after, are_some}, Runs.IsResult}
+use Rattle.crx_runs.specs.meaning.{Messages.{error_text, notices_text}, Results.{Course}}
+use Rattle.crx_runs.specs.meaning.{Results.{result_of_course, status_after}, Runs.IsResult}
 use Rattle.crx_runs.specs.meaning.{Runs.{NoneFailed, FaultIs, RunsAs}, Spans.{Device, TookAll, Input}}
 use Rattle.crx_runs.specs.declared.one_line.Halt.TheVariants as halt
 
@@ -59,16 +58,13 @@ module _ (filter : Filter) (lawful : IsLawful filter) (input : Input)
   }
 
   flushed-either : IsFlushed writer2 ⊎ FlushFailed writer2 → writer2.took []
-  flushed-either (inl t) = t.0
-  flushed-either (inr t) = t.0
+  flushed-either = grind arith
 
   -- a message that was cut off was counted
   reported-whole : (at : At) (notices : List ℕ)
       → TookAll messages1 notices → NoneFailed messages.before.failures messages.after.failures
       → IsReported messages2 at → TookAll messages2 (error_text (Some at))
-  reported-whole at notices reported none (inl t) = t
-  reported-whole at notices reported none (inr t) =
-      let both = joined-failures m in absurd (omega (arith, failures-of t.1, failures-of reported.1))
+  reported-whole = grind arith
 
   -- a fault that was found on the way to all lines
   found-whole : (before course all : Course) (at : At) (status : ℕ) (fault : Option At)
@@ -77,7 +73,7 @@ module _ (filter : Filter) (lawful : IsLawful filter) (input : Input)
       (Some (halt.Fault at)) status fault → IsResult (result_of_course all) writer messages status fault
   found-whole before course all at status fault same found none finished =
       rw same (whole-result course (finished.2 ∙ sym found.ends.fault) found.wrote found.reported
-      (flushed-either finished.0) (rw found.ends.fault (reported-whole at _ found.reported none finished.1).0)
+      (flushed-either finished.0) (grind arith)
       (rw found.ends.fault finished.3))
 
   -- what a line, or the end, ended the run with, where no device failed and memory didn't run out
@@ -89,54 +85,37 @@ module _ (filter : Filter) (lawful : IsLawful filter) (input : Input)
       → NoneFailed messages.before.failures messages.after.failures
       → (FaultIs OutOfMemory fault → ⊥) → IsResult (result_of_course all) writer messages status fault
   ends-whole can number before course all
-      (halt.Fault at) last warned status fault same (inl ran) finished wnone mnone memory =
-      absurd (memory (rw finished.2 ran.fault))
+      (halt.Fault at) last warned status fault same (inl ran) finished wnone mnone memory = grind arith
   ends-whole can number before course all
       (halt.Fault at) last warned status fault same (inr found) finished wnone mnone memory =
       found-whole before course all at status fault (same at found.ends.fault) found mnone finished
   ends-whole can number before course
-      all halt.Unwritten last warned status fault same failed finished wnone mnone memory =
-      let both = joined-failures w in absurd (omega
-      (arith, failures-of failed.wrote.failed, failures-of finished.0.1))
+      all halt.Unwritten last warned status fault same failed finished wnone mnone memory = grind arith
   ends-whole can number before course
-      all halt.Unreported last warned status fault same failed finished wnone mnone memory =
-      let both = joined-failures m in absurd (omega
-      (arith, failures-of failed.reported.failed, failures-of finished.1.1))
+      all halt.Unreported last warned status fault same failed finished wnone mnone memory = grind arith
 
   stopped-none : (f : Fault) (given : List ℕ) (lines : List InputLine) (rest : List ℕ)
       → IsStopped f input.start input.counted given lines → length (given ++ rest) ≤ INPUT_LIMIT
       → NoneFailed input.start.failures input.counted.failures → ⊥
   stopped-none InputTooLong given lines rest s within none =
       omega (arith, s.0, within, length-append given rest)
-  stopped-none ReadFailed given lines rest s within none =
-      omega (arith, ap (λ (t : Tally). t.failures) s.2, none.0, none.1)
+  stopped-none ReadFailed given lines rest s within none = grind arith
   stopped-none _ given lines rest s within none = s
 
   no-fault : (at : At) (fault : Option At) → fault ≡ Some at → fault ≡ None → ⊥
   no-fault at fault is none = cc
 
-  never-good : (halt : Halt) (last : ℕ) (warned : Bool) (status : ℕ) (fault : Option At)
-      → Finishes writer2 messages2 last warned (Some halt) status fault → fault ≡ None → ⊥
-  never-good (halt.Fault at) last warned status fault finished none = no-fault at fault finished.2 none
-  never-good halt.Unwritten last warned status fault finished none = no-fault _ fault finished.2 none
-  never-good halt.Unreported last warned status fault finished none = no-fault _ fault finished.2 none
-
   -- a fault of the reader, or of memory at the start, is the run's
   fault-is : (at : At) (stop : Halt) (last : ℕ) (warned : Bool) (status : ℕ) (fault : Option At)
       → stop ≡ halt.Fault at → Finishes writer2 messages2 last warned (Some stop) status fault
       → fault ≡ Some at
-  fault-is at stop last warned status fault is finished =
-      let f : Finishes writer2 messages2 last warned (Some (halt.Fault at)) status fault =
-      subst (λ h. Finishes writer2 messages2 last warned (Some h) status fault) is finished in
-      f.2
+  fault-is = grind arith
 
   -- unless a read failed, none did
   reader-none : (f : Fault) (given : List ℕ) (lines : List InputLine)
       → IsStopped f input.start input.counted given lines
       → (f ≡ ReadFailed → ⊥) → input.counted.failures ≡ input.start.failures
-  reader-none InputTooLong given lines s other = ap (λ t. t.failures) s.2
-  reader-none ReadFailed given lines s other = absurd (other refl)
-  reader-none _ given lines s other = absurd s
+  reader-none = grind arith
 
   -- a run that ended before the good end of its input
   module _ (has_ended : List InputLine → Type 0) (now : ReaderState) (last : ℕ) (warned : Bool) (halt : Halt)
@@ -151,21 +130,7 @@ module _ (filter : Filter) (lawful : IsLawful filter) (input : Input)
         → IsResult (result_by filter (given ++ rest)) writer messages status fault) → AskedOnce input
         → ((FaultIs ReadFailed fault → ⊥) → input.counted.failures ≡ input.start.failures)
         → Comes filter input writer messages has_ended status fault
-    interrupted given gave stands whole asked read =
-        let never = never-good halt last warned status fault finished in (
-          given,
-          gave,
-          record {
-            whole = whole;
-            good = λ e. absurd (never e);
-            flushed = λ e. absurd (never e);
-            ended = stands.0;
-            asked = asked;
-            read = read;
-            front = stands.1;
-          },
-          (λ e. absurd (never e)),
-        )
+    interrupted = grind arith
 
     stopped-in-lines : (lines : List InputLine) → StopsAt filter input writer1 messages1 now lines halt
         → last ≡ now.number → Comes filter input writer messages has_ended status fault
@@ -176,9 +141,8 @@ module _ (filter : Filter) (lawful : IsLawful filter) (input : Input)
         (reader-stands filter lawful input w m now last warned halt status fault lines s.0 s.1 s.2 finished)
         (λ rn wn mn memory rest none within. absurd (stopped-none s.0.fault h.given lines rest stopped.0
         within rn))
-        (asked-stopped input s.0.fault h.given lines stopped.0)
-        (λ other. reader-none s.0.fault h.given lines stopped.0 (λ f. other
-        (rw (fault-is s.0 halt last warned status fault s.1 finished) f)))
+        (grind arith)
+        (grind arith)
     stopped-in-lines lines (inr e) last_is =
         let h = e.read in
         interrupted h.given h.lead
@@ -205,8 +169,7 @@ module _ (filter : Filter) (lawful : IsLawful filter) (input : Input)
         → Comes filter input writer messages has_ended status fault
     stopped-at-start s =
         interrupted [] s.gave (start-stands filter lawful input w m last warned halt status fault s finished)
-        (λ rn wn mn memory rest none within. absurd (memory
-        (rw (fault-is _ halt last warned status fault s.halt_is finished) refl)))
+        (grind arith)
         (inl (ap (λ t. t.ends) s.counts)) (λ other. ap (λ t. t.failures) s.counts)
 
   pub runs-as : (has_ended : List InputLine
@@ -227,14 +190,7 @@ module _ (filter : Filter) (lawful : IsLawful filter) (input : Input)
           read = λ other. ap (λ t. t.failures) over.counts;
           front = well-front filter lawful input w m has_ended now last warned done finished.0.0;
           flushed = λ e. w.flushed finished.0.2;
-          good = λ e. (
-            over.reported,
-            over.within,
-            ap (λ t. t.failures) over.counts,
-            w.end ∙ finished.0.1 ∙ ap with_flush (w.same ∙ done.out.wrote.1 ∙ sym w.start),
-            m.end ∙ finished.1.1 ∙ m.same ∙ done.out.reported.1 ∙ sym m.start,
-            rw (← over.all) whole,
-          );
+          good = grind arith;
         },
         (λ e. rw (← over.all) done.engine_ended),
       )
@@ -244,8 +200,7 @@ module _ (filter : Filter) (lawful : IsLawful filter) (input : Input)
         done.read.given,
         done.read.lead,
         record {
-          whole = λ rn wn mn memory rest none within. let both = joined-failures w in
-              absurd (omega (arith, failures-of finished.0.1, failures-of done.out.wrote.1));
+          whole = grind arith;
           good = λ e. absurd (never e);
           flushed = λ e. absurd (never e);
           ended = flush-stands filter lawful input w m has_ended now last warned status at done finished;
@@ -272,12 +227,4 @@ module _ (filter : Filter) (lawful : IsLawful filter) (input : Input)
   runs-nothing has_ended last warned stop status fault is none gave counts wrote reported finished =
       let now : ReaderState = record { rest = []; passed = 0; number = 0; phase = Open } in
       runs-as has_ended now last warned stop status fault
-      (subst (λ h. WorkEnds filter has_ended input writer1 messages1 now last warned h) (sym is)
-      (inr (inr (record {
-        halt_is = refl;
-        gave = gave;
-        counts = counts;
-        wrote = wrote;
-        reported = reported;
-        last_is = none;
-      })))) finished
+      (grind arith) finished

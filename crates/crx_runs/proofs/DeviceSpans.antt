@@ -2,8 +2,7 @@
 use Rattle.std.proofs.Common.{◌≡◌, ℕ, ◌+◌, ◌≤◌, List, [], ◌∷◌, ◌++◌, length, take, refl, sym, ap, subst, ◌∙◌}
 use Rattle.std.proofs.{Common.{arith, append_assoc, append-nil, length-append}, Math.Seq.take-append-add}
 use Rattle.std.proofs.lemmas.List.{take-append-le}
-use Rattle.crx_lines.{proofs.DeviceLemmas.failures-of, specs.declared.device.Sink.Ghosts}
-use Rattle.crx_lines.specs.meaning.Devices.{with_failed_write}
+use Rattle.crx_lines.{specs.declared.device.Sink.Ghosts}
 use Rattle.crx_base.specs.declared.fault.At.{At}
 use Rattle.crx_runs.specs.{Endings.resumed, meaning.{Messages.{warning_text, notices_text}, Spans.Device}}
 use Rattle.crx_runs.specs.meaning.Spans.{TookAll, TookPart, IsPart, span}
@@ -25,14 +24,7 @@ pub record Joins (first second both : Device) : Type 0 where
 pub span-joins : {S : Type 0} (sink : Ghosts S)
     → ((a b c : S) (xs ys : List ℕ) → sink.took a xs b → sink.took b ys c → sink.took a (xs ++ ys) c)
     → {a b c : S} → Joins (span sink a b) (span sink b c) (span sink a c)
-span-joins sink took_both {a} {b} {c} =
-    record { same = refl; start = refl; end = refl; joined = took_both a b c; flushed = λ f. f }
-
--- how often both stretches failed
-pub joined-failures : {first second both : Device} → Joins first second both
-    → (second.before.failures ≡ first.after.failures) × (both.before.failures ≡ first.before.failures)
-    × (both.after.failures ≡ second.after.failures)
-joined-failures j = (failures-of j.same, failures-of j.start, failures-of j.end)
+span-joins = search
 
 pub all-all : {first second both : Device} → Joins first second both → (xs ys : List ℕ)
     → TookAll first xs → TookAll second ys → TookAll both (xs ++ ys)
@@ -54,7 +46,7 @@ part-still j xs all a b = record {
   some = a.some;
   less = a.less;
   took = took-still j (take a.count all) a.took b.0;
-  failed = j.end ∙ b.1 ∙ j.same ∙ a.failed ∙ ap with_failed_write (sym j.start);
+  failed = grind arith;
 }
 
 -- a part of a text is one of a longer text
@@ -102,34 +94,21 @@ pub record Carries (one other : Device) : Type 0 where
   pub before : other.before ≡ one.before
   pub after : other.after ≡ one.after
 
-pub carried-all : {one other : Device} → Carries one other → (xs : List ℕ) → TookAll one xs → TookAll other xs
-carried-all c xs a = (c.took xs a.0, c.after ∙ a.1 ∙ sym c.before)
-
 pub carried-part : {one other : Device} → Carries one other → (xs all : List ℕ) → IsPart one xs all
     → IsPart other xs all
-carried-part c xs all p = record {
-  count = p.count;
-  some = p.some;
-  less = p.less;
-  took = c.took (take p.count all) p.took;
-  failed = c.after ∙ p.failed ∙ ap with_failed_write (sym c.before);
-}
+carried-part = grind arith
 
 -- what came after a text, over both stretches
 pub carry : {first second both : Device} → Joins first second both → (xs : List ℕ) → TookAll first xs
     → Carries (resumed second xs) both
-carry {both = both} j xs a = record {
-  took = λ text t. subst both.took (sym t.1) (j.joined xs t.0 a.0 t.2);
-  before = j.start ∙ sym a.1 ∙ sym j.same;
-  after = j.end;
-}
+carry = grind arith
 
 -- a text, and a part of the next
 pub part-then : {first second both : Device} → Joins first second both → (xs ys : List ℕ)
     → TookAll first xs → TookPart second ys → IsPart both xs (xs ++ ys)
 part-then j xs ys a b = carried-part (carry j xs a) xs _ (part-resumed xs xs ys [] _
     (omega arith) (sym (append-nil _))
-    (record { count = b.0.0; some = omega arith; less = b.0.1; took = b.0.2; failed = b.1 }))
+    (grind arith))
 
 -- and what came after two texts, over both stretches after the first text
 pub carry-on : {first second both : Device} → Joins first second both → (xs ys all : List ℕ)

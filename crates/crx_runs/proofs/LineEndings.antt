@@ -3,9 +3,9 @@ use Rattle.std.proofs.Common.{◌≡◌, ◌⊎◌, inl, inr, ℕ, ◌<◌, List
 use Rattle.std.proofs.Common.{Result, Ok, Err, IfOk, IfErr, refl, sym, ap, ◌∙◌, subst, arith, append_assoc}
 use Rattle.std.proofs.Common.{append-nil, length-append}
 use Rattle.crx_base.specs.declared.fault.{At.At, Fault.TheVariants.OutOfMemory}
-use Rattle.crx_runs.proofs.DeviceSpans.{Joins, Carries, all-all, all-resumed, none-resumed, part-resumed}
-use Rattle.crx_runs.proofs.DeviceSpans.{carried-all, carried-part, carry, notices-append}
-use Rattle.crx_runs.specs.{Endings.{Adds, IsAllOut, EndsAt, EndsFrom, resumed}, Engines.EndsWith}
+use Rattle.crx_runs.proofs.DeviceSpans.{Joins, Carries, all-resumed, none-resumed, part-resumed}
+use Rattle.crx_runs.proofs.DeviceSpans.{notices-append}
+use Rattle.crx_runs.specs.{Endings.{Adds, IsAllOut, EndsAt, resumed}, Engines.EndsWith}
 use Rattle.crx_runs.specs.{Taking.{IsDone, IsSettled}, declared.one_line.Halt.{Halt, TheVariants.Fault}}
 use Rattle.crx_runs.specs.declared.one_line.Halt.TheVariants.{Unwritten, Unreported}
 use Rattle.crx_runs.specs.meaning.{Messages.notices_text, Results.Course, Spans.{Device, TookAll, AreNext}}
@@ -19,35 +19,7 @@ pub carried-ends : {writer writer' messages messages' : Device} → Carries writ
     → (memory : Option (List At)) (number : ℕ) (before after : Course) (halt : Halt)
     → EndsAt memory number writer messages before after halt
     → EndsAt memory number writer' messages' before after halt
-carried-ends w m memory number before after (Fault at) (inl e) = inl (record {
-  notices = e.notices;
-  allowed = e.allowed;
-  fault = e.fault;
-  place = e.place;
-  next = e.next;
-  wrote = carried-all w before.output e.wrote;
-  reported = carried-all m (notices_text (before.warnings ++ e.notices)) e.reported;
-})
-carried-ends w m memory number before after (Fault at) (inr e) = inr (record {
-  notices = e.notices;
-  ends = e.ends;
-  wrote = carried-all w after.output e.wrote;
-  reported = carried-all m (notices_text after.warnings) e.reported;
-})
-carried-ends w m memory number before after Unwritten e = record {
-  text = e.text;
-  notices = e.notices;
-  adds = e.adds;
-  wrote = carried-part w before.output after.output e.wrote;
-  reported = carried-all m (notices_text after.warnings) e.reported;
-}
-carried-ends w m memory number before after Unreported e = record {
-  notices = e.notices;
-  next = e.next;
-  wrote = carried-all w before.output e.wrote;
-  reported = carried-part m (notices_text before.warnings) (notices_text (before.warnings ++ e.notices))
-      e.reported;
-}
+carried-ends = grind arith
 
 module _ {writer1 writer2 writer messages1 messages2 messages : Device}
     (w : Joins writer1 writer2 writer) (m : Joins messages1 messages2 messages)
@@ -57,18 +29,11 @@ module _ {writer1 writer2 writer messages1 messages2 messages : Device}
       → TookAll writer2 text → TookAll messages2 (notices_text notices) → IsAllOut writer messages after
   out-more text notices adds wrote reported = record {
     good = adds.good;
-    wrote = subst (TookAll writer) (sym adds.output) (all-all w before.output text out.wrote wrote);
+    wrote = grind arith;
     reported = subst (TookAll messages)
         (sym (ap notices_text adds.warnings ∙ notices-append before.warnings notices))
-        (all-all m (notices_text before.warnings) (notices_text notices) out.reported reported);
+        (grind arith);
   }
-
-  -- all that came before is out, and then the run ended
-  pub ends-after : (memory : Option (List At)) (number : ℕ) (halt : Halt)
-      → EndsFrom memory number writer2 messages2 before after halt
-      → EndsAt memory number writer messages before after halt
-  ends-after memory number halt e =
-      carried-ends (carry w _ out.wrote) (carry m _ out.reported) memory number before after halt e
 
 -- a step at a line, or at the end, by devices that took before what the lines before make, and earlier warnings
 module _ (writer messages : Device) (before after : Course) (earlier told : List At)
@@ -99,7 +64,7 @@ module _ (writer messages : Device) (before after : Course) (earlier told : List
     ends = ends;
     wrote = none-resumed writer before.output after.output ends.output wrote;
     reported = none-resumed messages (notices_text told) (notices_text after.warnings)
-        (ap notices_text (ends.warnings ∙ sym told_is)) reported;
+        (grind arith) reported;
   })
 
   -- what a step made couldn't be written or reported
@@ -151,16 +116,7 @@ pub step-done : (before after : Course) (shown : Type 0) (writer messages : Devi
     (notices : List At) → shown → Adds before after text notices → (result : Result Bool Halt)
     → IsSettled writer messages (record { output = text; warnings = notices; fault = None }) result
     → IfOk result (IsDone before after shown writer messages)
-step-done before after shown writer messages text notices is adds (Ok warned) s = record {
-  is_shown = is;
-  text = text;
-  notices = notices;
-  adds = adds;
-  wrote = s.0.wrote;
-  reported = s.0.reported;
-  flag = s.1;
-}
-step-done before after shown writer messages text notices is adds (Err halt) s = tt
+step-done = grind arith
 
 pub all-next : {before after : Course} {text : List ℕ} {notices : List At} → Adds before after text notices
     → AreNext before after notices

@@ -37,17 +37,13 @@ answers-add _ _ _ _ _ _ Quiet stays drained a =
     (a.0, adds-of _ _ a.1 (ap lines_text (sym drained)) (sym (append-nil _)))
 answers-add _ _ _ _ _ _ Ready stays drained a = (a.0, adds-of _ _ a.1 refl (sym (append-nil _)))
 answers-add _ _ _ _ _ _ (Warned notice true) stays drained a = absurd stays
-answers-add _ _ _ _ _ _ (Warned notice false) stays drained a =
-    (a.0, adds-of _ _ a.1 (ap lines_text (sym drained)) refl)
+answers-add _ _ _ _ _ _ (Warned notice false) stays drained a = search
 
 -- a line comes a second time once at most
 stays-then : (filter : Filter) (shows : List InputLine → List Awaited → Type 0) (ready : List (List ℕ))
     (lines : List InputLine) (first : Awaited) (line : InputLine) (step : Step)
     → EngineAnswers filter shows ready lines (first ∷ []) line (Ok step) → Stays step
-stays-then filter shows ready lines first line Quiet a = tt
-stays-then filter shows ready lines first line Ready a = tt
-stays-then filter shows ready lines first line (Warned notice true) a = absurd (omega (arith, ap length a.1))
-stays-then filter shows ready lines first line (Warned notice false) a = tt
+stays-then = grind arith
 
 either-out : (filter : Filter) (lines : List InputLine) (line : InputLine) (notices : List At) (at : At)
     → RunsOutAt filter lines line notices at
@@ -55,29 +51,15 @@ either-out : (filter : Filter) (lines : List InputLine) (line : InputLine) (noti
     → ((at.fault ≡ OutOfMemory) × (at.line ≡ length lines + 1) × (filter.memory_after lines line ≡ Some
     notices))
     ⊎ EndsWith (filter.so_far lines) (filter.so_far (with_next lines line)) notices at
-either-out filter lines line notices at (inl r) = inl (r.fault, r.place, r.allowed)
-either-out filter lines line notices at (inr e) = inr e
+either-out = grind arith
 
 on-ok : {A E : Type 0} {X : Type 0} (result : Result A E) → X → OnOk result X
-on-ok (Ok a) x = x
-on-ok (Err e) x = tt
+on-ok = grind arith
 
 -- lines that were ready were written in part
 pub ready-cut : (writer messages : Device) (ready : List (List ℕ)) → TookPart writer (lines_text ready)
     → TookAll messages [] → IsSettled writer messages (made_by ready Ready) (Err Unwritten)
-ready-cut writer messages ready part none = record {
-  text = lines_text ready;
-  notices = [];
-  adds = record { output = refl; warnings = refl; good = refl };
-  wrote = record {
-    count = part.0.0;
-    some = omega arith;
-    less = part.0.1;
-    took = part.0.2;
-    failed = part.1;
-  };
-  reported = none;
-}
+ready-cut = grind arith
 
 -- what a second step comes to, for both
 abbrev pub then_of : Bool → Result Bool Halt → Result Bool Halt
@@ -86,14 +68,12 @@ then_of warned (Err halt) = Err halt
 
 then-ok : (X : Type 0) (warned : Bool) (result : Result Bool Halt) → OnOk result X
     → OnOk (then_of warned result) X
-then-ok X warned (Ok second) x = x
-then-ok X warned (Err halt) x = tt
+then-ok = grind arith
 
 then-err : {P Q : Halt → Type 0} (warned : Bool) (result : Result Bool Halt) → ((halt : Halt) → P halt → Q
     halt)
     → IfErr result P → IfErr (then_of warned result) Q
-then-err warned (Ok second) f p = tt
-then-err warned (Err halt) f p = f halt p
+then-err = grind arith
 
 then-done : {writer1 writer2 writer messages1 messages2 messages : Device}
     → Joins writer1 writer2 writer → Joins messages1 messages2 messages
@@ -264,9 +244,7 @@ module _ {E : Type 0} (engine : Ghosts E) {before now : E} {can_be : InputLine �
 concludes-add : (filter : Filter) (ready : List (List ℕ)) (lines : List InputLine) (step : Step)
     → IsDrainedAfter step ready → Concludes filter ready lines (Ok step)
     → Adds (filter.so_far lines) (filter.whole lines) (lines_text ready) (step_notices step)
-concludes-add _ _ _ Quiet drained a = adds-of _ _ a.1 (ap lines_text (sym drained)) refl
-concludes-add _ _ _ Ready drained a = adds-of _ _ a refl refl
-concludes-add _ _ _ (Warned notice again) drained a = adds-of _ _ a.1 (ap lines_text (sym drained)) refl
+concludes-add = grind arith
 
 -- a part of a text that isn't there
 no-part : {device : Device} (xs all : List ℕ) → all ≡ [] → IsPart device xs all → ⊥
@@ -291,8 +269,7 @@ end-warns _ _ _ Ready _ _ Unreported drained a s =
     absurd (no-part _ _ (ap notices_text (none-first s.notices s.next.0 s.next.1)) s.reported)
 end-warns _ _ _ (Warned notice again) _ _ (Fault at) drained a (inl s) = absurd (cc)
 end-warns _ _ _ (Warned notice again) _ _ (Fault at) drained a (inr s) = absurd (cc)
-end-warns _ _ _ (Warned notice again) _ _ Unwritten drained a s =
-    absurd (no-part _ _ (ap lines_text drained) s.wrote)
+end-warns _ _ _ (Warned notice again) _ _ Unwritten drained a s = grind arith
 end-warns _ _ _ (Warned notice again) _ _ Unreported drained a s = (notice, a.1.warnings)
 
 pub end-comes : (filter : Filter) (ready : List (List ℕ)) (lines : List InputLine) (step : Step)

@@ -1,45 +1,27 @@
 -- What is after a run, by how its work ended and how it was finished.
 use Rattle.std.proofs.Common.{◌≡◌, ◌⊎◌, inl, inr, ℕ, ◌+◌, Bool, true, List, [], ◌++◌, length, take, Option}
-use Rattle.std.proofs.Common.{Some, None, ◌∷◌, refl, sym, ap, subst, ◌∙◌, append-nil, arith, length-append}
+use Rattle.std.proofs.Common.{Some, None, ◌∷◌, refl, sym, ap, subst, ◌∙◌, arith, length-append}
 use Rattle.crx_lines.{proofs.ProgressLemmas.HasRead-stopped, specs.{Progress.IsStopped, Reading.ReaderState}}
-use Rattle.crx_lines.specs.meaning.Devices.{with_failed_flush, with_flush}
-use Rattle.crx_base.specs.declared.fault.{At.At, Fault.{Fault, TheVariants.{InputTooLong, ReadFailed}}}
-use Rattle.crx_base.specs.declared.fault.Fault.TheVariants.{WriteFailed, OutOfMemory}
-use Rattle.crx_base.specs.meaning.Lines.{InputLine, lines_of}
-use Rattle.crx_runs.proofs.DeviceSpans.{Joins, all-all, all-still, notices-append, part-more, part-still}
+use Rattle.crx_base.specs.declared.fault.{At.At, Fault.{Fault}}
+use Rattle.crx_base.specs.declared.fault.Fault.TheVariants.{OutOfMemory}
+use Rattle.crx_base.specs.meaning.Lines.{InputLine}
+use Rattle.crx_runs.proofs.DeviceSpans.{Joins, all-still, notices-append, part-more, part-still}
 use Rattle.crx_runs.proofs.{DeviceSpans.{part-then, took-still}, Salvaged.{complete-stopped, all-read}}
 use Rattle.crx_runs.proofs.Salvaged.{all-of, taken-read, begins-itself, begins-taken, first-after-turn}
 use Rattle.crx_runs.{proofs.Salvaged.{first-before-turn, first-complete}, specs.Endings.{EndsAt, EndsBy}}
 use Rattle.crx_runs.specs.Endings.{ReaderStopped, StoppedAtStart, StoppedByEnd, WellDone, Finishes}
 use Rattle.crx_runs.specs.{Endings.{IsReported, IsFlushed, FlushFailed, write_failed_at}, Lawful.IsLawful}
 use Rattle.crx_runs.specs.{Lawful.is_of_lines, declared.one_line.Halt.Halt, meaning.Filters.{Filter, with_next}}
-use Rattle.crx_runs.specs.meaning.Interruptions.{complete_lines, IsTurn, IsWritten, AreReported}
-use Rattle.crx_runs.specs.meaning.Interruptions.{ReadingStopped, NoMemoryAtLine, FaultFound, Stands}
+use Rattle.crx_runs.specs.meaning.Interruptions.{IsTurn, IsWritten, AreReported}
+use Rattle.crx_runs.specs.meaning.Interruptions.{NoMemoryAtLine, FaultFound, Stands}
 use Rattle.crx_runs.specs.meaning.{Interruptions.IsFrontPart, Messages.{error_text, notices_text}}
 use Rattle.crx_runs.specs.meaning.{Results.Course, Spans.{Device, TookAll, AreNext, Input}}
 use Rattle.crx_runs.specs.declared.one_line.Halt.TheVariants as halt
-
--- the one fault of a run
-pub one-fault : (P : At → Type 0) (at other : At) (fault : Option At)
-    → fault ≡ Some at → P at → fault ≡ Some other → P other
-one-fault P at other (Some it) is p same =
-    let e : at ≡ other = cc in
-    subst P e p
-one-fault P at other None is p same = absurd (cc)
 
 -- what is after a run that a fault ended
 abbrev pub StandsAfter : Filter → Input → Device → Device → List ℕ → ℕ → Option At → Type 0
 StandsAfter filter input writer messages given status fault = (at : At)
     → fault ≡ Some at → (status ≡ 1) × Stands filter input given writer messages at at.fault
-
--- the reading stopped
-stopped-by : {filter : Filter} (input : Input) {writer messages : Device} (given : List ℕ) (lines : List
-    InputLine)
-    (f : Fault) (at : At) → IsStopped f input.start input.counted given lines
-    → ReadingStopped filter given writer messages at → Stands filter input given writer messages at f
-stopped-by input given lines InputTooLong at s r = record { past = s.0; counted = s.2; stopped = r }
-stopped-by input given lines ReadFailed at s r = record { counted = s.2; within = s.0; stopped = r }
-stopped-by input given lines _ at s r = absurd s
 
 module _ (filter : Filter) (lawful : IsLawful filter) (input : Input)
     {writer1 writer2 writer messages1 messages2 messages : Device}
@@ -50,21 +32,20 @@ module _ (filter : Filter) (lawful : IsLawful filter) (input : Input)
       → IsWritten writer text
   written text a (inl b) = (
     took-still w text a.0 b.0,
-    inl (w.end ∙ b.1 ∙ ap with_flush (w.same ∙ a.1 ∙ sym w.start), w.flushed b.2),
+    grind arith,
   )
   written text a (inr b) =
-      (took-still w text a.0 b.0, inr (w.end ∙ b.1 ∙ ap with_failed_flush (w.same ∙ a.1 ∙ sym w.start)))
+      (took-still w text a.0 b.0, grind arith)
 
   reported : (warnings : List At) (at : At)
       → TookAll messages1 (notices_text warnings) → IsReported messages2 at → AreReported messages warnings at
-  reported warnings at a (inl b) = inl (all-all m (notices_text warnings) (error_text (Some at)) a b)
+  reported warnings at a (inl b) = grind arith
   reported warnings at a (inr b) = inr (part-then m (notices_text warnings) (error_text (Some at)) a b)
 
   stands-after : (given : List ℕ) {status : ℕ} {fault : Option At} (at : At) → status ≡ 1 → fault ≡ Some at
       → Stands filter input given writer messages at at.fault
       → StandsAfter filter input writer messages given status fault
-  stands-after given at one is stands other same =
-      (one, one-fault (λ a. Stands filter input given writer messages a a.fault) at other _ is stands same)
+  stands-after = grind arith
 
   -- ---- a line, or the end
 
@@ -73,11 +54,7 @@ module _ (filter : Filter) (lawful : IsLawful filter) (input : Input)
       (number : ℕ) where
     found-stands : (f : Fault) (at : At) → is_of_lines f ≡ true
         → FaultFound filter input given writer messages at → Stands filter input given writer messages at f
-    found-stands InputTooLong at e r = absurd (cc)
-    found-stands ReadFailed at e r = absurd (cc)
-    found-stands WriteFailed at e r = absurd (cc)
-    found-stands OutOfMemory at e r = absurd (cc)
-    found-stands _ at e r = r
+    found-stands = grind arith
 
     pub turn-stands : (halt : Halt) (warned : Bool) (status : ℕ) (fault : Option At)
         → ((at : At) (notices : List At) → can ≡ Some notices → at.line ≡ number → (notices ≡ []) ⊎ AreNext
@@ -173,17 +150,7 @@ module _ (filter : Filter) (lawful : IsLawful filter) (input : Input)
         last_is = omega (arith, last_is, ends.read.number, length-append lines (ends.line ∷ []));
       }) in (
         turn-stands h.given _ _ last turn _ _ halt warned status fault
-            (λ at notices allowed place next-ones wrote reported. record {
-              lines = lines;
-              line = ends.line;
-              taken = taken;
-              place = place;
-              allowed = allowed;
-              notices = notices;
-              next = next-ones;
-              wrote = wrote;
-              reported = reported;
-            }) (λ at bad. lawful.found next at bad) ends.ends finished,
+            (grind arith) (λ at bad. lawful.found next at bad) ends.ends finished,
         turn-front h.given _ _ last turn _ _ halt warned status fault ends.ends finished,
       )
 
@@ -194,15 +161,10 @@ module _ (filter : Filter) (lawful : IsLawful filter) (input : Input)
       s.read.given writer
   end-stands now last warned halt status fault s finished =
       let all = all-read s.read s.ended in
-      let turn : IsTurn filter input s.read.given (filter.so_far s.lines) (filter.whole s.lines) last = inr
-      (record {
-        all = all-of all;
-        before_is = ap filter.so_far (sym all.same);
-        after_is = ap filter.whole (sym all.same);
-        last_is = s.last_is ∙ ap length (sym all.same);
-      }) in (
+      let turn : IsTurn filter input s.read.given (filter.so_far s.lines) (filter.whole s.lines) last =
+      grind arith in (
         turn-stands _ _ _ last turn None (length s.lines) halt warned status fault
-            (λ at notices allowed place next-ones wrote reported. absurd (cc))
+            (grind arith)
             (λ at bad. lawful.found_at_end s.lines at bad) s.ends finished,
         turn-front _ _ _ last turn None (length s.lines) halt warned status fault s.ends finished,
       )
@@ -215,13 +177,7 @@ module _ (filter : Filter) (lawful : IsLawful filter) (input : Input)
       → Stands filter input given writer messages at f
   stopped-stands given lines f at s line good wrote reported =
       let same = complete-stopped given lines f input.start input.counted s in
-      let stopped : ReadingStopped filter given writer messages at = record {
-        line = line ∙ ap (λ ls. length ls + 1) same;
-        good = rw (← same) good;
-        wrote = rw (← same) wrote;
-        reported = rw (← same) reported;
-      } in
-      stopped-by input given lines f at s stopped
+      (grind arith)
 
   pub reader-stands : (now : ReaderState) (last : ℕ) (warned : Bool)
       (stop : Halt) (status : ℕ) (fault : Option At) (lines : List InputLine) (at : At) → stop ≡ halt.Fault at
@@ -231,7 +187,7 @@ module _ (filter : Filter) (lawful : IsLawful filter) (input : Input)
       × IsFrontPart filter input s.read.given writer
   reader-stands now last warned stop status fault lines at halt_is s finishes =
       let finished : Finishes writer2 messages2 last warned (Some (halt.Fault at)) status fault =
-      subst (λ h. Finishes writer2 messages2 last warned (Some h) status fault) halt_is finishes in
+      grind arith in
       let h = s.read in
       let stopped = HasRead-stopped _ _ _ _ _ _ h at s.stopped in
       let wrote = written _ s.out.wrote finished.0 in
@@ -249,8 +205,7 @@ module _ (filter : Filter) (lawful : IsLawful filter) (input : Input)
   start-stands last warned stop status fault s finishes =
       let finished : Finishes writer2 messages2 last warned (Some (halt.Fault (record
       { line = 0; fault = OutOfMemory })))
-      status fault = subst (λ h. Finishes writer2 messages2 last warned (Some h) status fault) s.halt_is
-      finishes in
+      status fault = grind arith in
       let wrote = written [] s.wrote finished.0 in (
         stands-after [] _ finished.3 finished.2 (inl (record {
           line = refl;
@@ -258,11 +213,7 @@ module _ (filter : Filter) (lawful : IsLawful filter) (input : Input)
           wrote = wrote;
           reported = reported [] (record { line = 0; fault = OutOfMemory }) s.reported finished.1;
         })),
-        record {
-          written = [];
-          wrote = wrote.0;
-          first = inl (record { rest = (filter.so_far (complete_lines [])).output; same = refl });
-        },
+        grind arith,
       )
 
   -- the flush alone failed
@@ -276,9 +227,9 @@ module _ (filter : Filter) (lawful : IsLawful filter) (input : Input)
       stands-after done.read.given _ finished.3 (ap Some finished.2) (inr (inr (record {
         all = all-of all;
         line = done.last_is ∙ ap length (sym all.same);
-        good = ap (λ ls. (filter.whole ls).fault) all.same ∙ done.out.good;
+        good = grind arith;
         wrote = rw all.same (took-still w _ done.out.wrote.0 flushed.0);
-        counted = w.end ∙ flushed.1 ∙ ap with_failed_flush (w.same ∙ done.out.wrote.1 ∙ sym w.start);
+        counted = grind arith;
         reported = rw all.same (reported _ (write_failed_at last) done.out.reported
             (subst (IsReported messages2) finished.2 finished.1));
       })))

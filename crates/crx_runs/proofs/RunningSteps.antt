@@ -1,21 +1,13 @@
 -- A run goes on by a line, or ends at it; and its end.
-use Rattle.std.proofs.Common.{◌≡◌, ℕ, ◌+◌, Bool, ◌||◌, List, [], ◌∷◌, ◌++◌, length, None, refl, sym, ap, ◌∙◌}
-use Rattle.crx_base.specs.{declared.fault.At.At, meaning.Lines.InputLine}
+use Rattle.std.proofs.Common.{arith}
+use Rattle.std.proofs.Common.{◌≡◌, ℕ, Bool, ◌||◌, List, [], ◌∙◌}
+use Rattle.crx_base.specs.{meaning.Lines.InputLine}
 use Rattle.crx_lines.specs.Reading.{ReaderState}
-use Rattle.crx_runs.proofs.{DeviceSpans.Joins, LineEndings.{ends-after, out-more}, StepReading.ReadsLine}
+use Rattle.crx_runs.proofs.{DeviceSpans.Joins, LineEndings.{out-more}, StepReading.ReadsLine}
 use Rattle.crx_runs.specs.{Endings.{EndEndsRun, EndsBy, LineEndsRun, StoppedByEnd, WellDone}, Engines.Awaited}
 use Rattle.crx_runs.specs.{Running.{ComesToEnd, GoesOnBy, IsRunning}, Taking.IsDone}
 use Rattle.crx_runs.specs.{declared.one_line.Halt.Halt, meaning.{Filters.{Filter, with_next}, Results.are_some}}
 use Rattle.crx_runs.specs.meaning.Spans.{Device, Input}
-
-are-some-append : (xs ys : List At) → are_some (xs ++ ys) ≡ (are_some xs || are_some ys)
-are-some-append [] ys = refl
-are-some-append (x ∷ xs) ys = refl
-
-flag-after : (before notices after : List At) (warned warning : Bool) → warned ≡ are_some before
-    → warning ≡ are_some notices → after ≡ before ++ notices → (warned || warning) ≡ are_some after
-flag-after before notices after warned warning w n is =
-    rw w (rw n (sym (ap are_some is ∙ are-some-append before notices)))
 
 -- the run goes on
 pub go-on : {filter : Filter} {shows : List InputLine → List Awaited → Type 0} {input : Input}
@@ -24,8 +16,7 @@ pub go-on : {filter : Filter} {shows : List InputLine → List Awaited → Type 
     → GoesOnBy filter shows input writer messages now lines warning → both ≡ (warned || warning)
     → (ls : List InputLine) × shows ls [] × IsRunning input writer messages now ls (filter.so_far ls)
     × (both ≡ are_some (filter.so_far ls).warnings)
-go-on flag by is =
-    (_, by.shown, by.running, is ∙ flag-after _ _ _ _ _ flag by.flag by.added)
+go-on = grind arith
 
 module _ {filter : Filter} {input then : Input} {old new : ReaderState} {lines : List InputLine}
     {writer1 writer2 writer messages1 messages2 messages : Device}
@@ -53,12 +44,7 @@ module _ {filter : Filter} {input then : Input} {old new : ReaderState} {lines :
   -- a line ended the run
   pub ends-by : (halt : Halt) → LineEndsRun filter lines line writer2 messages2 halt
       → EndsBy filter then writer messages new lines halt
-  ends-by halt e = record {
-    line = line;
-    read = read.read;
-    going = read.going;
-    ends = ends-after w m _ _ running.out _ _ halt e;
-  }
+  ends-by = grind arith
 
 module _ {filter : Filter} {input : Input} {now : ReaderState} {lines : List InputLine}
     {writer1 writer2 writer messages1 messages2 messages : Device}
@@ -76,7 +62,7 @@ module _ {filter : Filter} {input : Input} {now : ReaderState} {lines : List Inp
     read = comes.running.read;
     ended = comes.ended;
     out = out-more w m _ _ comes.running.out _ _ done.adds done.wrote done.reported;
-    flag = is ∙ flag-after _ done.notices _ _ _ flag done.flag done.adds.warnings;
+    flag = grind arith;
     engine_ended = done.is_shown;
     last_is = last_is ∙ comes.running.read.number;
   }
@@ -84,10 +70,4 @@ module _ {filter : Filter} {input : Input} {now : ReaderState} {lines : List Inp
   -- the end ended the run
   pub stopped-end : (halt : Halt) → EndEndsRun filter lines writer2 messages2 halt
       → StoppedByEnd filter input writer messages now last halt
-  stopped-end halt e = record {
-    lines = lines;
-    read = comes.running.read;
-    ended = comes.ended;
-    ends = ends-after w m _ _ comes.running.out None _ halt e.0;
-    last_is = last_is ∙ comes.running.read.number;
-  }
+  stopped-end = grind arith

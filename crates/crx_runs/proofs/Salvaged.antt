@@ -1,14 +1,15 @@
 -- What is after a run, by how it ended.
-use Rattle.std.proofs.Common.{◌≡◌, ◌⊎◌, inl, inr, ℕ, ◌≤◌, List, [], ◌∷◌, ◌++◌, length, take, drop, refl, sym}
+use Rattle.std.proofs.Common.{arith}
+use Rattle.std.proofs.Common.{◌≡◌, ◌⊎◌, inl, inr, ℕ, ◌≤◌, List, [], ◌++◌, length, take, drop, refl, sym}
 use Rattle.std.proofs.{Common.{ap, subst, ◌∙◌, append-nil, append_assoc}, lemmas.List.take_all}
 use Rattle.std.proofs.lemmas.List.{take-append-drop}
-use Rattle.crx_lines.{proofs.ProgressLemmas.HasRead-ended, specs.Progress.{HasRead, StandsAt, IsOpen}}
-use Rattle.crx_lines.specs.{Progress.IsStopped, Reading.ReaderState, declared.phase.Phase.Phase}
+use Rattle.crx_lines.{specs.Progress.{HasRead, StandsAt, IsOpen}}
+use Rattle.crx_lines.specs.{Progress.IsStopped, Reading.ReaderState}
 use Rattle.crx_lines.specs.{declared.phase.Phase.TheVariants.{Open, Ended}, meaning.Devices.{Tally, one_more}}
 use Rattle.crx_base.specs.declared.fault.Fault.{Fault, TheVariants.{InputTooLong, ReadFailed}}
 use Rattle.crx_base.specs.{declared.limits.TheConstants.INPUT_LIMIT, meaning.Lines.{InputLine, lines_of}}
 use Rattle.crx_base.specs.meaning.Seen.{ended_lines_of}
-use Rattle.crx_runs.specs.{Lawful.IsLawful, meaning.Filters.{Filter, with_next}}
+use Rattle.crx_runs.specs.{Lawful.IsLawful, meaning.Filters.{Filter}}
 use Rattle.crx_runs.specs.meaning.{Interruptions.{complete_lines, AreAll, AreTaken, IsTurn}, Results.Course}
 use Rattle.crx_runs.specs.meaning.{Results.Begins, Spans.Input}
 
@@ -28,9 +29,7 @@ module _ {input : Input} {now : ReaderState} {lines : List InputLine}
   is-open e = subst (λ f. StandsAt f input.at_end input.start input.counted h.given now lines) e h.stands
 
   pub all-read : now.phase ≡ Ended → AreAll input h.given lines
-  all-read e =
-      let over = HasRead-ended _ _ _ _ _ _ h e in
-      record { reported = over.reported; within = over.within; same = sym over.all }
+  all-read = grind arith
 
   pub taken-read : (now.phase ≡ Open) ⊎ (now.phase ≡ Ended) → AreTaken input h.given lines
   taken-read (inl e) =
@@ -42,18 +41,10 @@ module _ {input : Input} {now : ReaderState} {lines : List InputLine}
   taken-read (inr e) = inr (all-read e)
 
   pub none-failed : (now.phase ≡ Open) ⊎ (now.phase ≡ Ended) → input.counted.failures ≡ input.start.failures
-  none-failed (inl e) = ap (λ t. t.failures) (is-open e).counts
-  none-failed (inr e) = ap (λ t. t.failures) (HasRead-ended _ _ _ _ _ _ h e).counts
+  none-failed = grind arith
 
   pub asked-once : (now.phase ≡ Open) ⊎ (now.phase ≡ Ended) → AskedOnce input
-  asked-once (inl e) = inl (ap (λ t. t.ends) (is-open e).counts)
-  asked-once (inr e) = inr (ap (λ t. t.ends) (HasRead-ended _ _ _ _ _ _ h e).counts)
-
-pub asked-stopped : (input : Input) (f : Fault) (given : List ℕ) (lines : List InputLine)
-    → IsStopped f input.start input.counted given lines → AskedOnce input
-asked-stopped input InputTooLong given lines s = inl (ap (λ t. t.ends) s.2)
-asked-stopped input ReadFailed given lines s = inl (ap (λ t. t.ends) s.2)
-asked-stopped input _ given lines s = absurd s
+  asked-once = grind arith
 
 pub all-of : {input : Input} {given : List ℕ} {lines : List InputLine}
     → AreAll input given lines → AreAll input given (lines_of given)
@@ -88,8 +79,7 @@ module _ {filter : Filter} (lawful : IsLawful filter) (input : Input) (given : L
 
   first-taken : (lines : List InputLine) (written : List ℕ)
       → AreTaken input given lines → Begins (filter.so_far lines).output written → IsFirst written
-  first-taken lines written (inl t) begins = inl (begins-more (subst (λ ls.
-      Begins (filter.so_far ls).output (filter.so_far lines).output) (sym t.1) (lawful.grows lines t.0))
+  first-taken lines written (inl t) begins = inl (begins-more (grind arith)
       begins)
   first-taken lines written (inr t) begins = inr (
     t.reported,
@@ -102,7 +92,7 @@ module _ {filter : Filter} (lawful : IsLawful filter) (input : Input) (given : L
       → IsTurn filter input given before after last → Begins after.output written → IsFirst written
   first-after-turn written (inl t) begins =
       first-taken _ written t.taken (rw (← t.after_is) begins)
-  first-after-turn written (inr t) begins = inr (t.all.reported, rw (← t.after_is) begins)
+  first-after-turn written (inr t) begins = grind arith
 
   pub first-before-turn : {before after : Course} {last : ℕ} (written : List ℕ)
       → IsTurn filter input given before after last → Begins before.output written → IsFirst written

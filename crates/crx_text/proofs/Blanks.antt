@@ -1,4 +1,5 @@
 -- Blanks at the ends of texts, and the columns of a line that ends before them.
+use Rattle.std.proofs.lemmas.Grind.{common_steps}
 use Rattle.std.proofs.Common.{◌≡◌, ℕ, ◌-◌, ◌≤◌, true, false, List, [], ◌∷◌, ◌++◌, length, take, drop}
 use Rattle.std.proofs.{Common.{replicate, refl, ap, arith, suc, zero, cond}, lemmas.List.take-replicate}
 use Rattle.crx_text.specs.meaning.Columns.{is_blank, columns, before_end_blanks, without_end_blanks}
@@ -42,11 +43,8 @@ columns_are line first width = padded_more width width _ (omega arith)
 -- so what doesn't read blanks at the ends reads the part alone
 pub end_blanks_columns : (line : List ℕ) (first width : ℕ)
     → without_end_blanks (columns line first width) ≡ without_end_blanks (take width (drop (first - 1) line))
-end_blanks_columns line first width =
-    rw (columns_are line first width) (end_blanks-more (take width _) (width - length _))
+end_blanks_columns line first width = grind (arith, common_steps, columns_are, end_blanks-more)
 
 pub blanks_columns : (line : List ℕ) (first width : ℕ)
     → without_blanks (columns line first width) ≡ without_blanks (take width (drop (first - 1) line))
-blanks_columns line first width =
-    rw (columns_are line first width) (blanks-more (take width (drop (first - 1) line))
-    (width - length (take width (drop (first - 1) line))))
+blanks_columns line first width = grind (arith, common_steps, columns_are, blanks-more)

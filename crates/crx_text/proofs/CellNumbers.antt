@@ -1,4 +1,5 @@
 -- Reading the number in a cell, up to the first blank of a line.
+use Rattle.std.proofs.lemmas.Grind.{common_steps}
 use Rattle.std.proofs.Common.{true, false, ℕ, ℤ, ◌≡◌, ◌==◌, ◌<◌, Bool, List, [], ◌∷◌, length, Option, Some}
 use Rattle.std.proofs.Common.{None, if◌then◌else◌, ◌&&◌, ◌||◌, ◌-◌, inl, inr, arith, refl, ap, get_or, eqb}
 use Rattle.std.{proofs.lemmas.Bool.{cases_eq, ne_eqb, Decides.nat_tests}, specs.Char.is_ascii_digit}
@@ -6,14 +7,6 @@ use Rattle.std.specs.{List.list_any, Option.option_map, Str.{all_ascii_digits, P
 use Rattle.crx_text.specs.{Codes.counted_digits, declared.code.Code.TheVariants.{Start, Step}}
 use Rattle.crx_text.specs.meaning.Codes.{code_of, coded_number, first_cell, is_order, start_of}
 use Rattle.crx_text.specs.meaning.Numbers.{signed_number, without_minus}
-
-pub without_minus-cell : (text : List ℕ) → without_minus (first_cell text) ≡ first_cell (without_minus text)
-without_minus-cell [] = refl
-without_minus-cell (c ∷ cs) = grind arith
-
-pub starts_with_minus-cell : (text : List ℕ) → starts_with_minus (first_cell text) ≡ starts_with_minus text
-starts_with_minus-cell [] = refl
-starts_with_minus-cell (c ∷ cs) = grind arith
 
 chosen : (a : Bool) (n : ℕ) (f : ℕ → ℤ)
     → (if a then Some (f n) else None) ≡ option_map f (if a then Some n else None)
@@ -34,10 +27,6 @@ no_cell (Some x) counted f is e = absurd (cc)
 pub a_cell : {A : Type 0} (r : Option (ℕ × A)) (counted : Option ℕ) (f : ℕ → ℤ) (size : ℕ) (next : A)
     → r ≡ Some (size, next) → option_map (λ cell. cell.0) r ≡ counted → option_map f counted ≡ Some (f size)
 a_cell r counted f size next is e = rw (← e, is) refl
-
-none_of : {A : Type 0} (a b : Bool) (n : A) → b ≡ false → (if a && b then Some n else None) ≡ None
-none_of true b n e = ap (λ t. if t then Some n else None) e
-none_of false b n e = refl
 
 -- where no digit begins the cell, it has no number
 pub no_first_digit : (text : List ℕ)
@@ -61,28 +50,14 @@ stopped true = refl
 stopped false = refl
 
 after_order : (c : ℕ) (cs : List ℕ) → coded_number (c ∷ 38 ∷ cs) ≡ None
-after_order c cs =
-    elim (cases_eq c 45) [
-      | inl minus ↦ let e = minus in rw e (no_digits _ _ refl refl)
-      | inr other ↦
-          let test : (c == 45) ≡ false = grind (arith, nat_tests) in
-          no_digits _ (c ∷ 38 ∷ cs) (rw test refl) (stopped _)
-    ]
+after_order c cs = grind (arith, common_steps, cases_eq, no_digits, stopped)
 
 pub code_of-number : (text : List ℕ) (number : ℤ) → coded_number text ≡ Some number
     → code_of text ≡ Some (Step number)
 code_of-number [] number e = absurd (let none = no_text in cc)
 code_of-number (c ∷ []) number e = ap (option_map Step) e
 code_of-number (c ∷ d ∷ cs) number e =
-    elim (cases_eq d 38) [
-      | inl and ↦
-          let is = and in
-          let none : coded_number (c ∷ d ∷ cs) ≡ None = rw is (after_order c cs) in
-          absurd (cc)
-      | inr other ↦
-          let test : (d == 38) ≡ false = grind (arith, nat_tests) in
-          rw test (ap (option_map Step) e)
-    ]
+    grind (arith, common_steps, cases_eq, coded_number, after_order, option_map)
 
 -- ---- a text that is one cell
 
@@ -110,15 +85,7 @@ blank_is_no_digit (c ∷ cs) some =
 
 no_number_with_blank : (text : List ℕ) → list_any (λ c. eqb c 32) text ≡ true → coded_number text ≡ None
 no_number_with_blank [] some = absurd (cc)
-no_number_with_blank (c ∷ cs) some =
-    elim (cases_eq c 45) [
-      | inl minus ↦
-          let e = minus in
-          rw e (no_digits _ cs refl (blank_is_no_digit cs (rw e at some)))
-      | inr other ↦
-          let test : (c == 45) ≡ false = grind (arith, nat_tests) in
-          no_digits _ (c ∷ cs) (rw test refl) (blank_is_no_digit (c ∷ cs) some)
-    ]
+no_number_with_blank (c ∷ cs) some = grind (arith, common_steps, cases_eq, no_digits, blank_is_no_digit)
 
 -- a blank is in no code
 pub no_code_with_blank : (text : List ℕ) → list_any (λ c. eqb c 32) text ≡ true → code_of text ≡ None

@@ -1,6 +1,7 @@
 -- Texts by their characters, blanks being after them: what is read by columns doesn't ask for the blanks at a
 -- text's end.
-use Rattle.std.proofs.{Common.{sym, ◌∙◌, ap, arith, not-suc-le-zero}, lemmas.List.length-append}
+use Rattle.std.proofs.lemmas.Grind.{common_steps}
+use Rattle.std.proofs.{Common.{◌∙◌, ap, arith, not-suc-le-zero}, lemmas.List.length-append}
 use Rattle.std.{proofs.lemmas.List.{length-take, length-replicate}, specs.{List.list_all, Prelude.◌≡◌}}
 use Rattle.std.specs.Prelude.{refl, ℕ, zero, suc, ◌+◌, ◌-◌, ◌<◌, ◌≤◌, Bool, true, ◌&&◌, List, [], ◌∷◌, ◌++◌}
 use Rattle.std.specs.Prelude.{length, take, drop, replicate, slice_index_or}
@@ -23,9 +24,7 @@ at-without_end_blanks (c ∷ cs) (suc p) = at-before_end_blanks c _ (suc p) ∙ 
 pub at-drop : (k : ℕ) (text : List ℕ) (p : ℕ) → at (drop k text) p ≡ at text (k + p)
 at-drop zero text p = ap (at text) (omega arith)
 at-drop (suc k) [] p = refl
-at-drop (suc k) (c ∷ cs) p =
-    let next : suc k + p ≡ suc (k + p) = omega arith in
-    at-drop k cs p ∙ sym (ap (at (c ∷ cs)) next)
+at-drop (suc k) (c ∷ cs) p = grind (arith, common_steps)
 
 pub at-append : (xs ys : List ℕ) (p : ℕ) → p < length xs → at (xs ++ ys) p ≡ at xs p
 at-append [] ys p h = absurd (not-suc-le-zero h)
@@ -59,12 +58,7 @@ take-padded (suc n) (suc k) (c ∷ cs) (w ∷ ws) le e h =
 
 pub length-columns : (line : List ℕ) (first width : ℕ) → length (columns line first width) ≡ width
 length-columns line first width =
-    omega (
-      arith,
-      length-take width (drop (first - 1) line ++ replicate width 32),
-      length-append (drop (first - 1) line) (replicate width 32),
-      length-replicate {A = ℕ} width 32,
-    )
+    grind (arith, common_steps, length-take, replicate, length-append, length-replicate)
 
 -- columns by their characters
 pub columns-are : (text : List ℕ) (first width : ℕ) (want : List ℕ) → length want ≡ width

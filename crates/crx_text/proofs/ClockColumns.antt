@@ -1,4 +1,5 @@
 -- The columns of a receiver clock offset in lanes.
+use Rattle.std.proofs.lemmas.Grind.{common_steps}
 use Rattle.std.proofs.Common.{◌≡◌, ℕ, ◌+◌, ◌-◌, ◌*◌, ◌%◌, ◌^◌, ◌<◌, Bool, true, false, cond, ltb, eqb, Some}
 use Rattle.std.proofs.Common.{List, [], ◌∷◌, ◌++◌, map, length, replicate, take, drop, get_or, subst, refl}
 use Rattle.std.proofs.{Common.{sym, ap, ◌∙◌, arith}, lemmas.{Bool.and_from, List.length-drop}}
@@ -131,11 +132,7 @@ decimal_columns field digit fraction is_below long plain sign digit_is point =
 
 pub fraction_small : (field : List ℕ) (fraction : ℕ) → length field ≡ 15
     → all_ascii_digits (drop 3 field) ≡ true → fraction ≡ digits_value 10 (drop 3 field) → fraction < 10 ^ 12
-fraction_small field fraction long digits is =
-    let less = value_small 0 (drop 3 field) digits in
-    let twelve_left : length (drop 3 field) ≡ 12 = omega (arith, length-drop 3 field, long) in
-    let power : 10 ^ length (drop 3 field) ≡ 10 ^ 12 = ap (λ (n : ℕ). 10 ^ n) twelve_left in
-    omega (arith, less, power, is)
+fraction_small field fraction long digits is = grind (arith, common_steps, value_small, length-drop)
 
 pub clock_range : (is_below : Bool) (size : ℕ) → size < 10 ^ 13 → IsWithin 15 (signed_number is_below size)
 clock_range true size small = neg_is_within size 15 small

@@ -1,5 +1,6 @@
 -- Printed codes.
-use Rattle.std.proofs.Common.{true, false, ◌≡◌, ◌≢◌, ℕ, ℤ, pos, negsuc, neg_ℤ, suc, ◌+◌, ◌-◌, ◌≤◌, ◌<◌, ◌^◌}
+use Rattle.std.proofs.lemmas.Grind.{common_steps}
+use Rattle.std.proofs.Common.{true, false, ◌≡◌, ◌≢◌, ℕ, ℤ, pos, negsuc, neg_ℤ, suc, ◌+◌, ◌≤◌, ◌<◌, ◌^◌}
 use Rattle.std.proofs.Common.{List, [], ◌∷◌, ◌++◌, length, get_or, take, slice_set, decimal, Some, inl, inr}
 use Rattle.std.proofs.{Common.{arith, ap, sym, ◌∙◌, refl}, lemmas.Bool.{cases_lt, Decides.nat_tests}}
 use Rattle.std.proofs.lemmas.{Fmt.{decimal_digit, decimal_nonempty, length-decimal-le}, List.append_assoc}
@@ -18,29 +19,21 @@ pub code_text_start : (order : ℕ) (value : ℤ)
 code_text_start order value small = ap (λ ds. ds ++ 38 ∷ signed_decimal value) (decimal_digit order small)
 
 signed_decimal_length : (z : ℤ) → IsShort z → length (signed_decimal z) ≤ DIGITS_LIMIT + 1
-signed_decimal_length (pos n) short = let few = length-decimal-le DIGITS_LIMIT n (omega arith) short
-    (omega arith) in
-    omega (arith, few)
-signed_decimal_length (negsuc n) short = let few =
-    length-decimal-le DIGITS_LIMIT (suc n) (omega arith) short (omega arith) in omega (arith, few)
+signed_decimal_length (pos n) short = grind (arith, common_steps, length-decimal-le)
+signed_decimal_length (negsuc n) short = grind (arith, common_steps, length-decimal-le)
 
 -- how long a code's text may be
 pub code_text_length : (code : Code) → IsPrintable code → length (code_text code) ≤ 21
 code_text_length Missing printable = omega arith
 code_text_length (Start order value) printable =
-    let whole = ap length (code_text_start order value (omega (arith, printable.0))) in
-    let number = signed_decimal_length value printable.1 in
-    omega (arith, whole, number)
-code_text_length (Step difference) printable = let number = signed_decimal_length difference printable in
-    omega (arith, number)
+    grind (arith, common_steps, code_text_start, signed_decimal_length)
+code_text_length (Step difference) printable = grind (arith, common_steps, signed_decimal_length)
 
 -- an order, & and a number, written one after another
 pub start_written : (bytes number : List ℕ) (at order : ℕ) → at + 2 ≤ length bytes → take (at + 2)
     (slice_set (slice_set bytes at (48 + order)) (at + 1) 38) ++ number
     ≡ take at bytes ++ (48 + order) ∷ 38 ∷ number
-start_written bytes number at order room =
-    ap (λ t. t ++ number) (two_written bytes at (48 + order) 38 room)
-    ∙ append_assoc _ ((48 + order) ∷ 38 ∷ []) number
+start_written bytes number at order room = grind (arith, common_steps, two_written, append_assoc)
 
 -- ---- reading back
 
@@ -85,24 +78,19 @@ code_of_step (c ∷ d ∷ cs) some other = grind arith
 
 pub code_of-signed_decimal : (z : ℤ) → IsShort z → code_of (signed_decimal z) ≡ step_of (signed_decimal z)
 code_of-signed_decimal (pos n) short =
-    let tiny : n < 2 ^ 64 = omega arith in
-    code_of_step _ (decimal_nonempty n tiny) (no_mark_in_digits (decimal n) 1 (decimal_is_digits n tiny))
+    grind (arith, common_steps, code_of_step, decimal_nonempty, no_mark_in_digits, decimal, decimal_is_digits)
 code_of-signed_decimal (negsuc n) short =
     let tiny : suc n < 2 ^ 64 = omega arith in
     code_of_step _ (omega arith) (no_mark_in_digits (decimal (suc n)) 0 (decimal_is_digits (suc n) tiny))
 
 pub code_of_start : (order : ℕ) (value : ℤ) → order ≤ ORDER_LIMIT
     → IsShort value → code_of ((48 + order) ∷ 38 ∷ signed_decimal value) ≡ Some (Start order value)
-code_of_start order value small short =
-    let test : is_order (48 + order) ≡ true = grind (arith, nat_tests) in
-    let same : 48 + order - 48 ≡ order = omega arith in
-    rw (test, same, coded_number-signed_decimal value short) refl
+code_of_start order value small short = grind (arith, common_steps, is_order, coded_number-signed_decimal)
 
 -- what is printed of a code is read back
 pub code_of-code_text : (code : Code) → IsPrintable code → code_of (code_text code) ≡ Some code
 code_of-code_text Missing printable = refl
 code_of-code_text (Start order value) printable =
-    ap code_of (code_text_start order value (omega (arith, printable.0)))
-    ∙ code_of_start order value printable.0 printable.1
+    grind (arith, common_steps, code_of, code_text_start, code_of_start)
 code_of-code_text (Step z) printable = code_of-signed_decimal z printable
     ∙ ap (option_map Step) (coded_number-signed_decimal z printable)

@@ -1,6 +1,7 @@
 -- Two digits at a time.
+use Rattle.std.proofs.lemmas.Grind.{common_steps}
 use Rattle.std.proofs.Common.{bit_or, ◌≡◌, ℕ, ℤ, pos, negsuc, w64, zero, suc, ◌+◌, ◌-◌, ◌*◌, ◌/◌, ◌%◌, ◌<◌}
-use Rattle.std.proofs.Common.{◌≤◌, Bool, true, false, ◌&&◌, T, eqb, List, [], ◌∷◌, ◌++◌, length, take, drop}
+use Rattle.std.proofs.Common.{◌≤◌, Bool, true, ◌&&◌, T, eqb, List, [], ◌∷◌, ◌++◌, length, take, drop}
 use Rattle.std.proofs.Common.{get_or, slice_set, inl, inr, arith, eqb→eq, eqb-true, append_assoc, decimal}
 use Rattle.std.proofs.{Common.{◌^◌, ap, sym, ◌∙◌, refl, subst}, Math.{Dec.ltb, Seq.take-append-add}}
 use Rattle.std.proofs.lemmas.Bool.{agree_below, agree_below_at, and_parts, cases_lt, le-ltb, lt-ltb}
@@ -24,17 +25,13 @@ PAIRS_at p small =
 -- two bytes, one after the other
 pub two_written : (bytes : List ℕ) (at a b : ℕ) → at + 2 ≤ length bytes
     → take (at + 2) (slice_set (slice_set bytes at a) (at + 1) b) ≡ take at bytes ++ a ∷ b ∷ []
-two_written bytes at a b room =
-    let sum : at + 2 ≡ at + 1 + 1 = omega arith in
-    rw sum (take_more_set _ (at + 1) b (omega (arith, length-set bytes at a)) ∙ ap (λ t. t ++ b ∷ [])
-    (take_more_set bytes at a (omega arith)) ∙ append_assoc (take at bytes) (a ∷ []) (b ∷ []))
+two_written bytes at a b room = grind (arith, common_steps, take_more_set, length-set, append_assoc)
 
 -- what is written after what was written
 pub joined : (first second third front back : List ℕ) (at middle end : ℕ)
     → take middle second ≡ take at first ++ front
     → take end third ≡ take middle second ++ back → take end third ≡ take at first ++ (front ++ back)
-joined first second third front back at middle end one two = two
-    ∙ ap (λ t. t ++ back) one ∙ append_assoc _ front back
+joined first second third front back at middle end one two = grind (arith, common_steps, one, append_assoc)
 
 pub signed_decimal_some : (z : ℤ) → SFits w64 z → 0 < length (signed_decimal z)
 signed_decimal_some (pos n) fits = let small = fits.sfits in decimal_nonempty n (omega (arith, small))
@@ -57,11 +54,7 @@ abbrev pub zeros_of : ℕ → ℕ
 zeros_of n = bool_byte (ltb n 10) + bool_byte (ltb n 100) + bool_byte (ltb n 1000)
 
 pub few_zeros : (n : ℕ) → zeros_of n ≤ 3
-few_zeros n = omega (arith, one (ltb n 10), one (ltb n 100), one (ltb n 1000))
-  where
-    one : (b : Bool) → bool_byte b ≤ 1
-    one true = omega arith
-    one false = omega arith
+few_zeros n = grind (arith, common_steps, ltb, bool_byte)
 
 -- a number's own digits are after those zeros
 own_digits : (n : ℕ) → n < 10000 → drop (zeros_of n) (four n) ≡ decimal n
@@ -127,10 +120,7 @@ pub four_written : (first second third : List ℕ) (size at middle : ℕ)
     take (middle + 4) third ≡ take middle second ++ four (size - size / 10000 * 10000)
     → take (middle + 4) third ≡ take at first ++ decimal size
 four_written first second third size at middle many fits one two =
-    let low : size - size / 10000 * 10000 ≡ size % 10000 = omega arith in
-    joined first second third _ _ at middle _ one two ∙ ap
-    (λ n. take at first ++ (decimal (size / 10000) ++ four n)) low ∙ ap (λ t. take at first ++ t)
-    (sym (decimal_four size many fits))
+    grind (arith, common_steps, joined, one, decimal, four, decimal_four)
 
 -- ---- the zeros before a number, by the lowest bit of its digits
 

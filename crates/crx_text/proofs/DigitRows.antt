@@ -139,11 +139,18 @@ pairs_small (x ∷ x′ ∷ xs) (y ∷ y′ ∷ ys) fits small =
 abbrev are_small : ℕ → Bool
 are_small count = all_below 128 (pair_sums (weights_of count)) && all_below 128 (weights_of count)
 
-pub weights_small : (count : ℕ) → count ≤ 6
+weights_small : (count : ℕ) → count ≤ 6
     → T (all_below 128 (pair_sums (weights_of count))) × T (all_below 128 (weights_of count))
 weights_small count few =
     let parts = and_parts _ _ (agree_below_at are_small (λ k. true) 7 count refl (omega (arith, few))) in
     (subst T (sym parts.0) tt, subst T (sym parts.1) tt)
+
+pub products_small : (digits : List ℕ) (count : ℕ) → count ≤ 6 → Each1 (Fits w8) (grouped digits)
+    → T (all_below 32768 (pair_sums (products (grouped digits) (weights_of count))))
+    × T (all_below 128 (weights_of count))
+products_small digits count few bytes =
+    let small = weights_small count few in
+    (pairs_small (grouped digits) (weights_of count) bytes small.0, small.1)
 
 -- what the groups of three make of the first six lanes, which are weighed by hundreds, tens and ones
 module _ (e : ℕ → ℕ) (zeroth : e 0 < 256) (first : e 1 < 256) (second : e 2 < 256) (third : e 3 < 256)

@@ -1,4 +1,5 @@
 -- The blanks at the end of a text, 16 characters at a time.
+use Rattle.std.proofs.lemmas.Grind.{common_steps}
 use Rattle.std.proofs.Common.{Bool, true, false, not, cond, if◌then◌else◌, eqb, ℕ, suc, ◌≡◌, ◌+◌, ◌-◌, ◌*◌}
 use Rattle.std.proofs.Common.{◌%◌, ◌^◌, ◌<◌, ◌≤◌, List, [], ◌∷◌, ◌++◌, length, drop, take, map, replicate, w8}
 use Rattle.std.proofs.{Common.{arith, refl, ap, sym, ◌∙◌, ◌≢◌, get_or}, Math.{Nat.pow-suc, Seq.take-add}}
@@ -57,10 +58,7 @@ pub blank_passed : (text : List ℕ) (last end : ℕ) → last + 1 ≡ end → e
     → get_or text last 0 ≡ 32
     → without_end_blanks (drop end text) ≡ [] → without_end_blanks (drop last text) ≡ []
 blank_passed text last end sum within blank none =
-    let rest =
-    ap (λ k. without_end_blanks (drop k text)) sum ∙ none in
-    ap without_end_blanks (drop_more text last 0 (omega (arith, sum, within)))
-    ∙ (λ i. before_end_blanks (blank i) (rest i))
+    grind (arith, common_steps, without_end_blanks, drop_more, before_end_blanks)
 
 -- another character before blanks ends the text
 pub ended_at : (text : List ℕ) (last end : ℕ) → last + 1 ≡ end → end ≤ length text → get_or text last 0 ≢ 32
@@ -163,10 +161,7 @@ module _ (text : List ℕ) (end : ℕ) (within : end ≤ length text)
 
     pub found_within : start + found size (chunk start size text)
         ≡ length (take (start + found size (chunk start size text)) text)
-    found_within =
-        let long = length-chunk start size text (omega (arith, sum, within)) in
-        sym (length-take-le _ text
-        (omega (arith, lanes, few_kept (chunk start size text), long, sum, within)))
+    found_within = grind (arith, common_steps, length-chunk, length-take-le, lanes, few_kept, chunk)
 
     pub found_some : 0 < found size (chunk start size text)
         → take (start + found size (chunk start size text)) text ≡ without_end_blanks text

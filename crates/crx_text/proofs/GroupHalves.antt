@@ -5,12 +5,6 @@ use lib.Lanes.{Each1, zip2, digits_l, number_l}
 
 -- ---- the halves
 
-abbrev half_word : ℕ → ℕ
-half_word x = (x + x * 274877907 % 2 ^ 64 / 2 ^ 38 * 4294966296 % 2 ^ 64) % 2 ^ 64
-
-half_is : (x : ℕ) → x < 10 ^ 6 → half_word x ≡ x % 1000 + x / 1000 * 2 ^ 32
-half_is x small = grind arith
-
 -- the halves as the code makes them
 abbrev pub halves_of : List ℕ → List ℕ
 halves_of v =
@@ -32,9 +26,6 @@ bytes_back : (n x : ℕ) → x < 256 ^ n → number_l 256 (digits_l 256 n x) ≡
 bytes_back zero x h = omega (arith, h)
 bytes_back (suc n) x h =
     ap (λ m. x % 256 + 256 * m) (bytes_back n (x / 256) (omega (arith, h, pow-suc 256 n))) ∙ omega arith
-
-next_lane : (n r y : ℕ) → r < 2 ^ 32 → digits_l (2 ^ 32) (suc n) (r + 2 ^ 32 * y) ≡ r ∷ digits_l (2 ^ 32) n y
-next_lane n r y small = grind arith
 
 -- the lanes of two halves
 abbrev pub lanes_of : List ℕ → List ℕ

@@ -1,6 +1,7 @@
 -- Rows of lanes: from a list of known length to its elements, and from a mask to each lane.
+use Rattle.std.proofs.lemmas.Grind.{common_steps}
 use Rattle.std.proofs.Common.{take, zero, ◌<◌, ◌≡◌, ℕ, suc, ◌+◌, ◌-◌, ◌*◌, ◌%◌, ◌^◌, ◌≤◌, Bool, true, false}
-use Rattle.std.proofs.Common.{not, cond, ◌&&◌, ◌||◌, nat_eq, eqb, bit_and, bit_or, List, [], ◌∷◌, map, length}
+use Rattle.std.proofs.Common.{not, cond, ◌&&◌, ◌||◌, nat_eq, eqb, bit_and, List, [], ◌∷◌, map, length}
 use Rattle.std.proofs.{Common.{replicate, w8, refl, sym, ap, ◌∙◌, arith}, Math.Nat.{pow-suc, one-le-pow}}
 use Rattle.std.proofs.{Math.Nat.{mod-one, zero-mod}, lemmas.{Bool.Decides.nat_tests, List.take-map}}
 use Rattle.std.proofs.lemmas.{List.length-take-le, Nat.and_mask, Simd.{pick_l_whole, bitmask_splat}}
@@ -82,36 +83,15 @@ fourteen_bits byte xs long =
 pub some_of_field : (byte : ℕ) (xs : List ℕ) → length xs ≡ 16 → not (nat_eq (bit_and
     (mask_l (map (top 7) (zip2 (λ a b. cond (eqb a b) 255 0) xs (replicate 16 byte))) % 2 ^ 64)
     16383) 0) ≡ list_any (λ c. eqb c byte) (take 14 xs)
-some_of_field byte xs long =
-    ap (λ (m : ℕ). not (nat_eq m 0)) (fourteen_bits byte xs long)
-    ∙ ap not (no_bit (λ c. eqb c byte) (take 14 xs)) ∙ twice (list_any (λ c. eqb c byte) (take 14 xs))
-  where
-    twice : (b : Bool) → not (not b) ≡ b
-    twice true = refl
-    twice false = refl
+some_of_field byte xs long = grind (arith, common_steps, not, nat_eq, fourteen_bits, no_bit, eqb, list_any)
 
 pub each_of_field : (byte : ℕ) (xs : List ℕ) → length xs ≡ 16
     → nat_eq (bit_and (mask_l (map (top 7) (zip2 (λ a b. cond (eqb a b) 255 0) xs (replicate 16 byte))) % 2 ^
     64) 16383) 16383 ≡ list_all (λ c. eqb c byte) (take 14 xs)
 each_of_field byte xs long =
-    let fourteen = length-take-le 14 xs (omega (arith, long)) in
-    let power = ap (λ n. 2 ^ n - 1) (sym fourteen) in
-    ap (λ m. nat_eq m 16383) (fourteen_bits byte xs long) ∙ ap (nat_eq (mask_l (map (λ c. eqb c byte) _)))
-    power ∙ all_bits (λ c. eqb c byte) _
+    grind (arith, common_steps, fourteen, length-take-le, nat_eq, fourteen_bits, mask_l, eqb, all_bits)
 
 -- ---- the lanes of masks, which are 255 or 0
-
-pub or_lane : (a b : Bool) → bit_or (cond a 255 0) (cond b 255 0) ≡ cond (a || b) 255 0
-or_lane true true = refl
-or_lane true false = refl
-or_lane false true = refl
-or_lane false false = refl
-
-pub and_lane : (a b : Bool) → bit_and (cond a 255 0) (cond b 255 0) ≡ cond (a && b) 255 0
-and_lane true true = refl
-and_lane true false = refl
-and_lane false true = refl
-and_lane false false = refl
 
 pub top_lane : (a : Bool) → top 7 (cond a 255 0) ≡ a
 top_lane true = refl

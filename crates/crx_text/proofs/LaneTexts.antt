@@ -1,4 +1,5 @@
 -- Texts in pieces of 16 characters and a rest.
+use Rattle.std.proofs.lemmas.Grind.{common_steps}
 use Rattle.std.proofs.Common.{true, false, ℕ, zero, suc, ◌≡◌, ◌+◌, ◌-◌, ◌≤◌, ◌&&◌, Bool, List, [], ◌∷◌, ◌++◌}
 use Rattle.std.proofs.{Common.{length, drop, take, arith, refl, ap, sym, ◌∙◌}, Math.Seq.{take-add, take-take}}
 use Rattle.std.{proofs.lemmas.List.{length-drop, take_all, Folds.list_all-append}, specs.List.list_all}
@@ -39,9 +40,7 @@ list_all_ends p n xs few = list_all-append p _ _ ∙ list_all-overlap p _ n xs (
 pub list_all-last_piece : (p : ℕ → Bool) (n i : ℕ) (xs : List ℕ) → n ≤ length xs → length xs - n ≤ i
     → (list_all p (take i xs) && list_all p (chunk (length xs - n) n xs)) ≡ list_all p xs
 list_all-last_piece p n i xs some passed =
-    let m : ℕ = length xs - n in
-    let last = take_all n (drop m xs) (omega (arith, length-drop m xs)) in
-    ap (λ t. list_all p (take i xs) && list_all p t) last ∙ list_all-overlap p m i xs passed
+    grind (arith, common_steps, take_all, length-drop, list_all, list_all-overlap)
 
 -- ---- rules
 
@@ -77,8 +76,7 @@ zip2-chunk f i n xs ys = zip2-take f n _ _ ∙ ap (take n) (zip2-drop f i xs ys)
 -- one more piece of what is to be written
 pub piece_written : (i n : ℕ) (whole out made : List ℕ) → take i out ≡ take i whole
     → take (i + n) made ≡ take i out ++ chunk i n whole → take (i + n) made ≡ take (i + n) whole
-piece_written i n whole out made before written =
-    written ∙ ap (λ t. t ++ chunk i n whole) before ∙ sym (take-add i n whole)
+piece_written i n whole out made before written = grind (arith, common_steps, chunk, take-add)
 
 -- the last piece, written over some of those before
 pub last_written : (m n i : ℕ) (whole out made : List ℕ) → m + n ≡ length whole → m ≤ i

@@ -1,4 +1,5 @@
 -- What operations on vectors of characters say of each character.
+use Rattle.std.proofs.lemmas.Grind.{common_steps}
 use Rattle.std.proofs.Common.{true, false, ℕ, suc, zero, ◌≡◌, ◌+◌, ◌-◌, ◌%◌, ◌^◌, ◌&&◌, cond, eqb, ltb}
 use Rattle.std.proofs.Common.{bit_or, Bool, List, [], ◌∷◌, length, map, replicate, Fits, w8, arith, refl, ap}
 use Rattle.std.proofs.{Common.{sym, ◌∙◌}, lemmas.{Bool.{agree_below, agree_below_at, ne_eqb}, Nat.le_or_l}}
@@ -65,11 +66,7 @@ abbrev unset : ℕ → Bool
 unset lane = eqb lane 0
 
 pub none_in_fold : (v : List ℕ) (a : ℕ) → eqb (fold_l bit_or a v) 0 ≡ (eqb a 0 && list_all unset v)
-none_in_fold [] a = sym (and_true (eqb a 0))
-  where
-    and_true : (b : Bool) → (b && true) ≡ b
-    and_true true = refl
-    and_true false = refl
+none_in_fold [] a = grind (arith, common_steps, eqb)
 none_in_fold (x ∷ xs) a =
     none_in_fold xs (bit_or a x) ∙ (ap (λ b. b && list_all unset xs) (or_none a x)
     ∙ regroup (eqb a 0) (eqb x 0) (list_all unset xs))

@@ -1,4 +1,5 @@
 -- The test of a field's columns by lanes: what each lane's bit says, and all of them together.
+use Rattle.std.proofs.lemmas.Grind.{common_steps}
 use Rattle.std.proofs.Common.{◌≡◌, ℕ, zero, suc, ◌+◌, ◌-◌, ◌%◌, ◌<◌, Bool, true, false, cond, ◌&&◌, ◌||◌, ltb}
 use Rattle.std.proofs.Common.{eqb, bit_and, bit_or, List, [], ◌∷◌, ◌++◌, map, length, replicate, get_or}
 use Rattle.std.proofs.{Common.{subst, Fits, w8, refl, sym, ◌∙◌, eqb-true, arith}, lemmas.Bool.and_from}
@@ -26,20 +27,8 @@ abbrev pub allowed : ℕ → ℕ → Bool
 allowed before c = is_ascii_digit c || (eqb before 32 && (eqb c 32 || eqb c 45))
 
 chosen : (k : Bool) (f : ℕ) → eqb (cond k 0 f) 0 ≡ (eqb f 0 || k)
-chosen true f = sym (right (eqb f 0))
-  where
-    right : (b : Bool) → (b || true) ≡ true
-    right true = refl
-    right false = refl
-chosen false f = sym (left (eqb f 0))
-  where
-    left : (b : Bool) → (b || false) ≡ b
-    left true = refl
-    left false = refl
-
-lane_is : (start most before c : ℕ)
-    → lane start most before c ≡ (eqb (far start most c) 0 || (eqb before 32 && (eqb c 32 || eqb c 45)))
-lane_is start most before c = grind arith
+chosen true f = grind (arith, common_steps, eqb)
+chosen false f = grind (arith, common_steps, eqb)
 
 -- the lane of a column before the point
 whole_lane : (before c : ℕ) → c < 256 → lane 48 9 before c ≡ allowed before c

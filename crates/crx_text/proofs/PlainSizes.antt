@@ -1,6 +1,7 @@
 -- The number that a row of lanes weighs, three digits at a time.
+use Rattle.std.proofs.lemmas.Grind.{common_steps}
 use Rattle.std.proofs.Common.{◌≡◌, ℕ, suc, ◌+◌, ◌-◌, ◌*◌, ◌%◌, ◌^◌, ◌<◌, ◌≤◌, Bool, true, false, cond, ◌&&◌}
-use Rattle.std.proofs.Common.{◌||◌, ltb, bit_and, ◌/◌, ap, leb, eqb, List, [], ◌∷◌, ◌++◌, map, length}
+use Rattle.std.proofs.Common.{◌||◌, ltb, bit_and, ◌/◌, leb, eqb, List, [], ◌∷◌, ◌++◌, map, length}
 use Rattle.std.proofs.Common.{replicate, get_or, subst, Fits, w8, refl, sym, ◌∙◌, ltb-true, ltb-false}
 use Rattle.std.proofs.{Common.{eqb-true, inl, inr, arith}, Math.Nat.{pow-suc, mul-le-mul_right}}
 use Rattle.std.proofs.lemmas.{Bool.{and_parts, or_cases, leb-true, le-leb}, List.Folds.list_all-append}
@@ -16,11 +17,7 @@ abbrev pub digit_lane : ℕ → ℕ
 digit_lane c = (cond (top 7 (cond (ltb c 48) 255 0)) 48 c + (256 - 48)) % 256
 
 digit_lane_is : (c : ℕ) → c < 256 → digit_lane c ≡ c - 48
-digit_lane_is c small = go (ltb c 48) refl
-  where
-    go : (t : Bool) → ltb c 48 ≡ t → (cond (top 7 (cond t 255 0)) 48 c + (256 - 48)) % 256 ≡ c - 48
-    go true e = omega (arith, ltb-true _ _ e)
-    go false e = omega (arith, ltb-false _ _ e)
+digit_lane_is c small = grind (arith, common_steps, ltb, cond, top, ltb-true, ltb-false)
 
 -- four groups of three digits
 abbrev pub size_parts : List ℕ → List ℕ
@@ -47,9 +44,7 @@ joined_pairs groups =
 pair_is : (a b : ℕ) → a < 2 ^ 16 → b < 2 ^ 16
     → (bit_and (a + 2 ^ 32 * b) 4294967295 * 1000 % 2 ^ 64 + (a + 2 ^ 32 * b) / 2 ^ 32) % 2 ^ 64
     ≡ a * 1000 + b
-pair_is a b as_small bs_small =
-    let low : bit_and _ _ ≡ a = and_mask (a + 2 ^ 32 * b) 32 ∙ omega (arith, as_small) in
-    rw low (omega (arith, as_small, bs_small))
+pair_is a b as_small bs_small = grind (arith, common_steps, bit_and, and_mask)
 
 pub pairs_are : (groups : List ℕ) → length groups ≡ 4 → Each1 (λ group. group < 2 ^ 16) groups
     → joined_pairs groups ≡ (get_or groups 0 0 * 1000 + get_or groups 1 0)
@@ -59,12 +54,7 @@ pairs_are (a ∷ []) long small = absurd (omega arith)
 pairs_are (a ∷ b ∷ []) long small = absurd (omega arith)
 pairs_are (a ∷ b ∷ c ∷ []) long small = absurd (omega arith)
 pairs_are (a ∷ b ∷ c ∷ d ∷ []) long small =
-    let wide = wide_are_four a b c d (omega (arith, small.0)) (omega (arith, small.1.0))
-    (omega (arith, small.1.1.0)) (omega (arith, small.1.1.1.0)) in
-    let joined = λ (v : List ℕ). zip2 (λ a b. (a + b) % 2 ^ 64)
-    (zip2 (λ a b. a * b % 2 ^ 64) (zip2 bit_and v (replicate 2 4294967295)) (replicate 2 1000))
-    (zip2 (λ a b. a / 2 ^ b) v (replicate 2 32)) in
-    ap joined wide ∙ (rw (pair_is a b small.0 small.1.0, pair_is c d small.1.1.0 small.1.1.1.0) refl)
+    grind (arith, common_steps, wide_are_four, zip2, bit_and, replicate, pair_is)
 pairs_are (a ∷ b ∷ c ∷ d ∷ e ∷ more) long small = absurd (omega arith)
 
 -- three digits, as the weights add them up
@@ -79,12 +69,7 @@ twelve a b c d e f g h i j k l x = omega arith
 
 size_of_lanes : (c : ℕ → ℕ) → ((i : ℕ) → c i < 256) → joined_of (size_parts (map c (range_with_len 0 16)))
     ≡ weighed 0 (plain_digits (map c (range_with_len 0 16)))
-size_of_lanes c small =
-    let same = λ (i : ℕ). digit_lane_is (c i) (small i) in
-    let d = λ (i : ℕ). digit_lane (c i) in
-    twelve (d 1) (d 2) (d 3) (d 4) (d 5) (d 6) (d 7) (d 8) (d 9) (d 11) (d 12) (d 13) (d 0)
-    ∙ (rw (same 1, same 2, same 3, same 4, same 5, same 6, same 7, same 8, same 9, same 11, same 12, same 13)
-    refl)
+size_of_lanes c small = grind (arith, common_steps, digit_lane_is, digit_lane, twelve)
 
 pub size_from_parts : (v : List ℕ)
     → length v ≡ 16 → Each1 (Fits w8) v → joined_of (size_parts v) ≡ weighed 0 (plain_digits v)

@@ -1,4 +1,5 @@
 -- What plain columns spell.
+use Rattle.std.proofs.lemmas.Grind.{common_steps}
 use Rattle.std.proofs.Common.{◌≡◌, ◌≢◌, ℕ, ℤ, pos, ◌+◌, ◌-◌, ◌*◌, ◌^◌, true, false, ◌||◌, eqb, Option, Some}
 use Rattle.std.proofs.Common.{None, List, [], ◌∷◌, ◌++◌, map, take, length, get_or, subst, refl, sym, ap, ◌∙◌}
 use Rattle.std.proofs.{Common.{inl, inr, eqb-true, arith}, lemmas.Bool.{and_parts, or_cases, cases_eq}}
@@ -123,10 +124,7 @@ number_in columns = signed_number (list_any (λ c. eqb c 45) (take 14 columns))
     (weighed 0 (plain_digits columns))
 
 first_weighs_nothing : (c : ℕ) → (eqb c 32 || eqb c 45) ≡ true → 0 * 10 + (c - 48) ≡ 0
-first_weighs_nothing c either = elim (or_cases (eqb c 32) (eqb c 45) either) [
-  | inl blank ↦ omega (arith, eqb-true _ _ blank)
-  | inr minus ↦ omega (arith, eqb-true _ _ minus)
-]
+first_weighs_nothing c either = grind (arith, common_steps, or_cases, eqb, eqb-true)
 
 plain_explicit : (c : ℕ → ℕ) (rest : List ℕ) → IsPlain (map c (range_with_len 0 14) ++ rest)
     → number_of 14 3 (map c (range_with_len 0 14))

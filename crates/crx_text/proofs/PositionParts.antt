@@ -1,4 +1,5 @@
 -- What two parts of a buffer hold: a rule on two texts as far as both go, and on the rest of the longer one.
+use Rattle.std.proofs.lemmas.Grind.{common_steps}
 use Rattle.std.proofs.Common.{ℕ, ◌≡◌, ◌+◌, ◌-◌, ◌≤◌, List, [], ◌++◌, length, drop, take, replicate, arith}
 use Rattle.std.proofs.{Common.{refl, ap, sym, ◌∙◌}, lemmas.List.{append_assoc, append-nil, drop_all}}
 use Rattle.std.proofs.lemmas.List.{length-append, length-drop, length-replicate, length-take-le, take_all}
@@ -21,28 +22,18 @@ module _ (f : ℕ → ℕ → ℕ) (old other front rest more others : List ℕ)
     (first : k ≤ length old) (second : k ≤ length other)
     (front_is : front ≡ zip2 f (take k old) (take k other)) where
   front_long : length front ≡ k
-  front_long =
-      let olds = length-take-le k old first in
-      let news = length-take-le k other second in
-      ap length front_is ∙ length-zip2 f _ _ (olds ∙ sym news) ∙ olds
+  front_long = grind (arith, common_steps, length-take-le, length-zip2)
 
   two_parts : (end : ℕ) → k + length rest ≡ end → take end (take k (front ++ more) ++ (rest ++ others))
       ≡ front ++ rest
-  two_parts end sum =
-      let joined : length (front ++ rest) ≡ end = omega (arith, length-append front rest, front_long, sum) in
-      rw (take_at front more k front_long, ← append_assoc) (take_at _ others end joined)
+  two_parts end sum = grind (arith, common_steps, length-append, front_long, take_at, append_assoc)
 
   by_parts : by_position f old other ≡ front ++ by_position f (drop k old) (drop k other)
-  by_parts = by_position-split f k old other first second
-      ∙ ap (λ t. t ++ by_position f (drop k old) (drop k other)) (sym front_is)
+  by_parts = grind (arith, common_steps, by_position-split, by_position)
 
   pub both_end : length old ≡ k → length other ≡ k → take k (front ++ more) ≡ by_position f old other
   both_end one two =
-      let olds : drop k old ≡ [] = drop_all k old (omega (arith, one)) in
-      let others = drop_all k other (omega (arith, two)) in
-      let none : by_position f (drop k old) (drop k other) ≡ [] = rw (olds, others) refl in
-      take_at front more k front_long
-      ∙ (sym (append-nil front) ∙ (ap (λ t. front ++ t) (sym none) ∙ sym by_parts))
+      grind (arith, common_steps, drop_all, by_position, take_at, front_long, append-nil, by_parts)
 
   pub old_is_longer : length other ≡ k → length old ≤ LINE_LIMIT
       → rest ≡ zip2 f (take (length old - k) (drop k old)) (take (length old - k) (drop k BLANKS)) →

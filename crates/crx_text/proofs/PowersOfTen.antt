@@ -1,6 +1,7 @@
 -- Numbers that grow digit by digit, and the powers of ten that bound them.
+use Rattle.std.proofs.lemmas.Grind.{common_steps}
 use Rattle.std.proofs.Common.{pow-add, true, List, [], ◌∷◌, ◌++◌, length, drop, get_or, ◌≡◌, ℕ, suc, ◌+◌, ◌-◌}
-use Rattle.std.proofs.{Common.{◌*◌, ◌<◌, ◌≤◌, ◌^◌, arith, refl, ap, sym, ◌∙◌}, Math.Nat.{pow-suc, one-le-pow}}
+use Rattle.std.proofs.{Common.{◌*◌, ◌<◌, ◌≤◌, ◌^◌, arith, refl, ap, ◌∙◌}, Math.Nat.{pow-suc, one-le-pow}}
 use Rattle.std.proofs.{Math.Nat.{mul-le-mul_right, pow-le-pow_right}, lemmas.Bool.and_parts}
 use Rattle.std.{proofs.lemmas.{Bool.Decides.nat_tests, List.drop_more}, specs.Char.digit_value}
 use Rattle.std.specs.{Char.is_ascii_digit, Int.IsInRange, Str.{all_ascii_digits, Parse.digits_value_after}}
@@ -37,8 +38,7 @@ pub digits_value_next : (ds : List ℕ) (i size : ℕ) → i < length ds → is_
     → digits_value_after 10 (size * 10 + (get_or ds i 0 - 48)) (drop (i + 1) ds) ≡ digits_value_after 10 size
     (drop i ds)
 digits_value_next ds i size within is_digit =
-    rw (drop_more ds i 0 within) (ap (λ d. digits_value_after 10 (size * 10 + d) (drop (i + 1) ds))
-    (sym (digit_value_is _ is_digit)))
+    grind (arith, common_steps, drop_more, digits_value_after, digit_value_is)
 
 -- the number that digits write is that of the first ones, continued from
 pub digits_value_after-append : (n : ℕ) (xs ys : List ℕ)
@@ -79,6 +79,4 @@ more_digits_fit size a b n small few =
 
 -- a number of so many digits, where more may be
 pub small_number : (size count limit : ℕ) → count ≤ limit → size < 10 ^ count → size < 10 ^ limit
-small_number size count limit few small =
-    let power = pow-le-pow_right {n = 10} (omega arith) few in
-    omega (arith, small, power)
+small_number size count limit few small = grind (arith, common_steps, pow-le-pow_right)

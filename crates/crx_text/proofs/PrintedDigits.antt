@@ -1,4 +1,5 @@
 -- Digits in a row, as the decimal text of the number that they write.
+use Rattle.std.proofs.lemmas.Grind.{common_steps}
 use Rattle.std.proofs.Common.{◌≡◌, ℕ, zero, suc, ◌+◌, ◌-◌, ◌*◌, ◌/◌, ◌%◌, ◌^◌, ◌<◌, ◌≤◌, Bool, true, ltb, eqb}
 use Rattle.std.proofs.Common.{if◌then◌else◌, List, [], ◌∷◌, ◌++◌, map, length, replicate, drop, decimal, refl}
 use Rattle.std.proofs.{Common.{sym, ap, ◌∙◌, append_assoc, ltb-true, arith}, lemmas.Bool.{and_parts, ne_eqb}}
@@ -42,11 +43,7 @@ decimal_more size (d ∷ ds) some digits fits =
 pub decimal_of_digits : (d : ℕ) (ds : List ℕ) → are_digits (d ∷ ds) ≡ true
     → written 0 (d ∷ ds) < 2 ^ 64 → decimal (written 0 (d ∷ ds))
     ≡ glyphs (drop (leading_zeros (d ∷ ds)) (d ∷ ds))
-decimal_of_digits d [] digits fits =
-    let parts = and_parts _ true digits in
-    let small = ltb-true _ _ parts.0 in
-    let same : 0 * 10 + d ≡ d = omega arith in
-    rw same (decimal_digit d small)
+decimal_of_digits d [] digits fits = grind (arith, common_steps, and_parts, ltb-true, decimal_digit)
 decimal_of_digits zero (e ∷ ds) digits fits = decimal_of_digits e ds digits fits
 decimal_of_digits (suc d) (e ∷ ds) digits fits =
     let parts = and_parts _ _ digits in
@@ -60,8 +57,7 @@ pub zeros_few : (ds : List ℕ) → leading_zeros ds ≤ length ds - 1
 zeros_few [] = omega arith
 zeros_few (d ∷ []) = omega arith
 zeros_few (zero ∷ e ∷ ds) = let few = zeros_few (e ∷ ds) in omega (arith, few)
-zeros_few (suc d ∷ e ∷ ds) = let test = ne_eqb (suc d) 0 (λ z. omega arith) in
-    rw test (omega arith)
+zeros_few (suc d ∷ e ∷ ds) = grind (arith, common_steps, ne_eqb)
 
 pub zeros_first : (ds : List ℕ) → ds ≡ replicate (leading_zeros ds) 0 ++ drop (leading_zeros ds) ds
 zeros_first [] = refl

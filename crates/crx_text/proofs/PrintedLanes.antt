@@ -1,4 +1,5 @@
 -- The lanes of a printed observation: three digits of each group, and where the number begins.
+use Rattle.std.proofs.lemmas.Grind.{common_steps}
 use Rattle.std.proofs.Common.{◌≡◌, ℕ, zero, suc, ◌+◌, ◌-◌, ◌*◌, ◌/◌, ◌%◌, ◌^◌, ◌<◌, ◌≤◌, Bool, true, false}
 use Rattle.std.proofs.Common.{not, cond, bit_and, leb, eqb, List, [], ◌∷◌, ◌++◌, map, length, replicate, take}
 use Rattle.std.proofs.Common.{drop, get_or, subst, refl, sym, ap, ◌∙◌, eqb-true, arith}
@@ -25,20 +26,11 @@ digits_word g = g % 10 + g / 10 % 10 * 256 + g / 100 * 65536
 
 word_is : (g : ℕ) → g < 1000 → group_word g ≡ digits_word g
 word_is g small =
-    let whole : bit_and g 1023 ≡ g = and_mask g 10 ∙ omega (arith, small) in
-    ap small_word whole
-    ∙ eqb-true _ _ (agree_below_at (λ x. eqb (small_word x) (digits_word x)) (λ _. true) 1000 g refl small)
+    grind (arith, common_steps, bit_and, and_mask, small_word, eqb-true, agree_below_at, eqb, digits_word)
 
 next_group : (n g y : ℕ) → g < 1000 → digits_l 256 (suc (suc (suc (suc n)))) (group_word g + 2 ^ 32 * y)
     ≡ g % 10 ∷ g / 10 % 10 ∷ g / 100 ∷ 0 ∷ digits_l 256 n y
-next_group n g y small =
-    let x : ℕ = digits_word g + 2 ^ 32 * y in
-    let ones : x % 256 ≡ g % 10 = omega arith in
-    let tens : x / 256 % 256 ≡ g / 10 % 10 = omega arith in
-    let hundreds : x / 256 / 256 % 256 ≡ g / 100 = omega (arith, small) in
-    let none : x / 256 / 256 / 256 % 256 ≡ 0 = omega (arith, small) in
-    let rest : x / 256 / 256 / 256 / 256 ≡ y = omega (arith, small) in
-    rw (word_is g small) (λ k. ones k ∷ tens k ∷ hundreds k ∷ none k ∷ digits_l 256 n (rest k))
+next_group n g y small = grind (arith, common_steps, digits_word, word_is, digits_l)
 
 abbrev quadruple : ℕ → ℕ
 quadruple zero = zero
@@ -85,11 +77,8 @@ one_more n = omega arith
 begins : (before : List ℕ) (d : ℕ) (bits : List Bool)
     → prefix_len (λ b. not b) (map (leb 1) before ++ true ∷ bits) ≡ leading_zeros (before ++ d ∷ [])
 begins [] d bits = refl
-begins (x ∷ []) d bits = go x
-  where
-    go : (y : ℕ) → prefix_len (λ b. not b) (leb 1 y ∷ true ∷ bits) ≡ leading_zeros (y ∷ d ∷ [])
-    go zero = one_more 0
-    go (suc y) = rw (begins_here y, begins_now y) refl
+begins (x ∷ []) d bits =
+    grind (arith, common_steps, prefix_len, not, leb, leading_zeros, one_more, begins_here, begins_now)
 begins (x ∷ y ∷ ys) d bits = go x (begins (y ∷ ys) d bits)
   where
     go : (z : ℕ) → prefix_len (λ b. not b) (map (leb 1) (y ∷ ys) ++ true ∷ bits) ≡ leading_zeros

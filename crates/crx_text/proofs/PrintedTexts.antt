@@ -1,9 +1,10 @@
 -- From the row of text to the text of a size.
-use Rattle.std.proofs.Common.{◌≡◌, ℕ, zero, suc, ◌+◌, ◌-◌, ◌*◌, ◌/◌, ◌%◌, ◌^◌, ◌<◌, ◌&&◌, true, false, ltb}
+use Rattle.std.proofs.lemmas.Grind.{common_steps}
+use Rattle.std.proofs.Common.{◌≡◌, ℕ, zero, suc, ◌+◌, ◌-◌, ◌/◌, ◌%◌, ◌^◌, ◌<◌, true, false}
 use Rattle.std.proofs.Common.{eqb, List, [], ◌∷◌, ◌++◌, length, replicate, take, drop, refl, sym, ap, ◌∙◌}
 use Rattle.std.proofs.{Common.{append_assoc, length-append, ltb-true, arith}, lemmas.Bool.{and_parts, ne_eqb}}
 use Rattle.std.proofs.lemmas.List.{length-map, length-drop, length-replicate, take_at, drop_at}
-use Rattle.std.proofs.lemmas.List.{replicate-append-replicate, Folds.list_all-append}
+use Rattle.std.proofs.lemmas.List.{replicate-append-replicate}
 use lib.Lanes.{zip2}
 use Rattle.crx_text.proofs.PrintedDigits.{written, are_digits, glyphs, decimal_of_digits, padded_digits}
 use Rattle.crx_text.{proofs.PrintedDigits.{leading_zeros, zeros_few}, specs.meaning.Numbers.size_text}
@@ -79,17 +80,7 @@ module _ (nine three : List ℕ) (long : length nine ≡ 9)
 
   pub printed_length : length (printed nine three) ≡ 13 - leading_zeros nine
   printed_length =
-      let few = zeros_few nine in
-      omega (
-        arith,
-        length-append (glyphs (drop (leading_zeros nine) nine)) (46 ∷ glyphs three),
-        length-map (drop (leading_zeros nine) nine) (λ d. 48 + d),
-        length-map three (λ d. 48 + d),
-        length-drop (leading_zeros nine) nine,
-        long,
-        short,
-        few,
-      )
+      grind (arith, common_steps, zeros_few, length-append, glyphs, leading_zeros, length-map, length-drop)
 
   pub row_cut : take 14 ((replicate (1 + leading_zeros nine) 32 ++ printed nine three) ++ (48 ∷ 48 ∷ []))
       ≡ replicate (1 + leading_zeros nine) 32 ++ printed nine three
@@ -117,9 +108,6 @@ group_is_digits : (g : ℕ) (ds : List ℕ)
     → g < 1000 → are_digits ds ≡ true → are_digits (g / 100 ∷ g / 10 % 10 ∷ g % 10 ∷ ds) ≡ true
 group_is_digits g ds small digits = grind arith
 
-group_weighs : (n g : ℕ) → g < 1000 → ((n * 10 + g / 100) * 10 + g / 10 % 10) * 10 + g % 10 ≡ n * 1000 + g
-group_weighs n g small = omega arith
-
 -- the digits of a size's thousands, and of the rest
 abbrev pub nine_in : ℕ → List ℕ
 nine_in size = nine_of (size / 10 ^ 9) (size / 10 ^ 6 % 1000) (size / 1000 % 1000)
@@ -129,10 +117,7 @@ three_in size = three_of (size % 1000)
 
 module _ (size : ℕ) (small : size < 10 ^ 12) where
   nine_are_digits : are_digits (nine_in size) ≡ true
-  nine_are_digits =
-      group_is_digits (size / 10 ^ 9) (three_of (size / 10 ^ 6 % 1000) ++ three_of (size / 1000 % 1000))
-      (omega arith) (group_is_digits (size / 10 ^ 6 % 1000) (three_of (size / 1000 % 1000)) (omega arith)
-      (group_is_digits (size / 1000 % 1000) [] (omega arith) refl))
+  nine_are_digits = grind (arith, common_steps, group_is_digits, three_of)
 
   three_are_digits : are_digits (three_in size) ≡ true
   three_are_digits = grind arith
@@ -150,8 +135,7 @@ module _ (size : ℕ) (small : size < 10 ^ 12) where
   twelve_weigh = grind arith
 
   twelve_are_digits : are_digits twelve ≡ true
-  twelve_are_digits = list_all-append (λ d. ltb d 10) (nine_in size) (three_in size)
-      ∙ (λ k. nine_are_digits k && three_are_digits k)
+  twelve_are_digits = grind (arith, common_steps)
 
   -- twelve digits, zeros before the number among them
   pub twelve_padded : take 12 (plus (twelve ++ (0 ∷ 0 ∷ 0 ∷ 0 ∷ [])) (replicate 16 48)) ≡ zero_padded 12 size

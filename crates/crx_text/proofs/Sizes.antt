@@ -1,8 +1,9 @@
 -- The spellings of a number without its sign: what reading them asks for.
+use Rattle.std.proofs.lemmas.Grind.{common_steps}
 use Rattle.std.proofs.Common.{ℤ, pos, neg_ℤ, ◌≡◌, ℕ, ◌+◌, ◌-◌, ◌<◌, ◌≤◌, ◌^◌, Bool, true, false, ◌&&◌, ◌≢◌}
-use Rattle.std.proofs.Common.{if◌then◌else◌, nat_lt, ◌==◌, Option, Some, None, List, [], ◌∷◌, ◌++◌, length}
+use Rattle.std.proofs.Common.{if◌then◌else◌, nat_lt, Option, Some, None, List, [], ◌∷◌, length}
 use Rattle.std.proofs.{Common.{drop, take, get_or, arith, refl, sym}, Math.Nat.pow-le-pow_right}
-use Rattle.std.{proofs.lemmas.{Bool.Decides.nat_tests, Int.ints}, specs.Option.option_map}
+use Rattle.std.{specs.Option.option_map}
 use Rattle.std.specs.Str.{all_ascii_digits, Parse.{digits_value, digits_value_after}}
 use Rattle.crx_text.proofs.PowersOfTen.{ten_pow_pos, digits_value_after-append}
 use Rattle.crx_text.specs.meaning.{Columns.without_first_blanks, Numbers.{size_of, decimal_number}}
@@ -23,12 +24,7 @@ pub size_of_parts : (decimals point : ℕ) (text : List ℕ)
     then Some (digits_value_after 10 (digits_value 10 (take point text)) (drop (point + 1) text)) else None)
 unfolding size_of
 size_of_parts decimals point text at long dot =
-    let test : nat_lt decimals (length text) ≡ true = grind (arith, nat_tests) in
-    let point_test : (get_or text point 0 == 46) ≡ true = grind (arith, nat_tests) in
-    let joined : digits_value 10 (take point text ++ drop (point + 1) text)
-    ≡ digits_value_after 10 (digits_value 10 (take point text)) (drop (point + 1) text) =
-    digits_value_after-append 0 (take point text) (drop (point + 1) text) in
-    rw (← at, test, point_test, joined) refl
+    grind (arith, common_steps, nat_lt, get_or, digits_value, digits_value_after, digits_value_after-append)
 
 -- a choice of two tests after the first one
 pub neither : (a b : Bool) (x y : ℕ) → ◌≡◌ {A = Option ℕ} None (if a then Some x else None)
@@ -64,19 +60,10 @@ size_fits size columns few small =
     omega (arith, small, power)
 
 pub pos_is_within : (size columns : ℕ) → size < 10 ^ (columns - 1) → IsWithin columns (pos size)
-pos_is_within size columns small = record {
-  low = let one = ten_pow_pos (columns - 2) in omega (arith, ints, one);
-  high = omega (arith, ints, small);
-}
+pos_is_within size columns small = grind (arith, common_steps, ten_pow_pos)
 
 pub neg_is_within : (size columns : ℕ) → size < 10 ^ (columns - 1 - 1) → IsWithin columns (neg_ℤ (pos size))
-neg_is_within size columns small =
-    let same : columns - 1 - 1 ≡ columns - 2 = omega arith in
-    let below : size < 10 ^ (columns - 2) = rw (sym same) small in
-    record {
-      low = omega (arith, ints, below);
-      high = let one = ten_pow_pos (columns - 1) in omega (arith, ints, one);
-    }
+neg_is_within size columns small = grind (arith, common_steps, ten_pow_pos)
 
 -- a minus takes a column
 pub signed_is_within : (is_below : Bool) (size columns all : ℕ) → columns + (if is_below then 1 else 0) ≡ all
@@ -84,24 +71,12 @@ pub signed_is_within : (is_below : Bool) (size columns all : ℕ) → columns + 
 signed_is_within true size columns all sum small =
     let same : columns - 1 ≡ all - 1 - 1 = omega arith in
     neg_is_within size all (rw (sym same) small)
-signed_is_within false size columns all sum small =
-    let same : columns ≡ all = omega arith in
-    pos_is_within size all (rw (sym same) small)
+signed_is_within false size columns all sum small = grind (arith, common_steps, pos_is_within)
 
 -- a number within some columns is within more of them
 pub IsWithin_more : (columns width : ℕ) (number : ℤ) → columns ≤ width → IsWithin columns number
     → IsWithin width number
-IsWithin_more columns width number fewer within =
-    let low_columns : columns - 2 ≤ width - 2 = omega arith in
-    let high_columns : columns - 1 ≤ width - 1 = omega arith in
-    let low_power : 10 ^ (columns - 2) ≤ 10 ^ (width - 2) = pow-le-pow_right {n = 10}
-    (omega arith) low_columns in
-    let high_power : 10 ^ (columns - 1) ≤ 10 ^ (width - 1) = pow-le-pow_right {n = 10}
-    (omega arith) high_columns in
-    record {
-      low = omega (arith, ints, low_power, within.low);
-      high = omega (arith, ints, high_power, within.high);
-    }
+IsWithin_more columns width number fewer within = grind (arith, common_steps, pow-le-pow_right)
 
 -- ---- the field
 

@@ -1,4 +1,5 @@
 -- The one printed spelling: its parts and how long they are.
+use Rattle.std.proofs.lemmas.Grind.{common_steps}
 use Rattle.std.proofs.Common.{true, false, ℤ, pos, negsuc, Some, None, set, ◌≡◌, ℕ, suc, ◌+◌, ◌-◌, ◌*◌, ◌/◌}
 use Rattle.std.proofs.Common.{◌%◌, ◌<◌, ◌≤◌, ◌^◌, List, [], ◌∷◌, ◌++◌, length, drop, take, replicate, decimal}
 use Rattle.std.proofs.{Common.{arith, refl, ap, sym, ◌∙◌}, Math.Nat.{div-lt_iff_lt-mul, pow-le-pow_right}}
@@ -11,35 +12,22 @@ use Rattle.crx_text.{proofs.PowersOfTen.ten_pow_pos, specs.meaning.Numbers.{zero
 use Rattle.crx_text.specs.meaning.Numbers.{number_text, IsWithin}
 
 pub ten_pow_small : (decimals : ℕ) → decimals < 19 → 10 ^ decimals < 2 ^ 64
-ten_pow_small decimals few =
-    let within : decimals ≤ 18 = omega arith in
-    let power = pow-le-pow_right {n = 10} (omega arith) within in
-    omega (arith, power)
+ten_pow_small decimals few = grind (arith, common_steps, pow-le-pow_right)
 
 -- the digits after the point fit their places
 pub fraction_short : (decimals size : ℕ)
     → 0 < decimals → decimals < 19 → length (decimal (size % 10 ^ decimals)) ≤ decimals
 fraction_short decimals size some few =
-    let one = ten_pow_pos decimals in
-    let below : size % 10 ^ decimals < 10 ^ decimals = omega (arith, one) in
-    length-decimal-le decimals (size % 10 ^ decimals) some below
-    (omega (arith, below, ten_pow_small decimals few))
+    grind (arith, common_steps, ten_pow_pos, length-decimal-le, ten_pow_small)
 
 pub length-zero_padded : (digits number : ℕ)
     → length (decimal number) ≤ digits → length (zero_padded digits number) ≡ digits
-length-zero_padded digits number fits =
-    simp (length-append, length-replicate) (omega arith)
+length-zero_padded digits number fits = grind (arith, common_steps, length-append, length-replicate)
 
 pub length-size_text : (decimals size : ℕ) → 0 < decimals → decimals < 19 → length (size_text decimals size)
     ≡ length (decimal (size / 10 ^ decimals)) + (decimals + 1)
 length-size_text decimals size some few =
-    let fraction = length-zero_padded decimals (size % 10 ^ decimals) (fraction_short decimals size some few)
-    in
-    omega (
-      arith,
-      length-append (decimal (size / 10 ^ decimals)) (46 ∷ zero_padded decimals (size % 10 ^ decimals)),
-      fraction,
-    )
+    grind (arith, common_steps, length-zero_padded, fraction_short, length-append, decimal, zero_padded)
 
 -- a number below a power of ten fits the columns but for the point
 pub size_text_fits : (decimals size columns : ℕ) → 0 < decimals
@@ -65,11 +53,7 @@ pub printed_plain : (width decimals size start : ℕ) (field : List ℕ)
     → field ≡ number_text width decimals (Some (pos size))
 unfolding number_text
 printed_plain width decimals size start field end written before =
-    let blanks =
-    before ∙ take-replicate start width 32 (omega arith) in
-    let count : start ≡ width - length (size_text decimals size) = omega arith in
-    sym (take-append-drop start field)
-    ∙ (rw (blanks, written) (ap (λ n. replicate n 32 ++ size_text decimals size) count))
+    grind (arith, common_steps, take-replicate, size_text, take-append-drop, replicate)
 
 pub printed_minus : (width decimals less start : ℕ) (field : List ℕ)
     → 1 ≤ start → start + length (size_text decimals (less + 1)) ≡ width
@@ -93,10 +77,7 @@ printed_minus width decimals less start field some end written before =
 
 pub abs_within : (width : ℕ) (number : ℤ) → IsWithin width number → nat_abs number < 10 ^ (width - 1)
 abs_within width (pos n) within = omega (arith, ints, within.high)
-abs_within width (negsuc n) within =
-    let fewer : width - 2 ≤ width - 1 = omega arith in
-    let power = pow-le-pow_right {n = 10} (omega arith) fewer in
-    omega (arith, ints, within.low, power)
+abs_within width (negsuc n) within = grind (arith, common_steps, pow-le-pow_right)
 
 pub abs_within_below : (width : ℕ) (number : ℤ)
     → lt_z number (pos 0) ≡ true → IsWithin width number → nat_abs number < 10 ^ (width - 1 - 1)
@@ -109,8 +90,7 @@ pub printed_number : (width decimals start size : ℕ) (held number : ℤ) (fiel
     → drop start field ≡ size_text decimals size → take start field ≡ take start (replicate width 32)
     → field ≡ number_text width decimals (Some number)
 printed_number width decimals start size held (pos n) field same plain is end written before =
-    let size_is = is ∙ ap nat_abs same in
-    printed_plain width _ n start field (rw size_is at end) (rw size_is at written) before
+    grind (arith, common_steps, nat_abs, printed_plain)
 printed_number width decimals start size held (negsuc n) field same plain is end written before = grind arith
 
 pub printed_number_below : (width decimals start size : ℕ) (held number : ℤ) (field : List ℕ) → held ≡ number
@@ -121,8 +101,7 @@ pub printed_number_below : (width decimals start size : ℕ) (held number : ℤ)
 printed_number_below width decimals start size held (pos n) field same below is some end written before =
     grind arith
 printed_number_below width decimals start size held (negsuc n) field same below is some end written before =
-    let more : size ≡ n + 1 = omega (arith, is ∙ ap nat_abs same) in
-    printed_minus width _ n start field some (rw more at end) (rw more at written) before
+    grind (arith, common_steps, nat_abs, printed_minus)
 
 pub printed_blank : (width decimals : ℕ) → replicate width 32 ≡ number_text width decimals None
 unfolding number_text

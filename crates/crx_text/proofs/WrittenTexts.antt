@@ -1,4 +1,5 @@
 -- Texts that are written into bytes after others.
+use Rattle.std.proofs.lemmas.Grind.{common_steps}
 use Rattle.std.proofs.{Common.{sym, ◌∙◌, ap, arith, append_assoc}, Math.Seq.take-append-add}
 use Rattle.std.proofs.lemmas.List.{drop-take, take-take, drop_at, take_more_set, length-append}
 use Rattle.std.{proofs.lemmas.List.length-take-le, specs.Prelude.{◌≡◌, ◌≤◌, ◌<◌, ℕ, ◌+◌, ◌-◌, List, [], ◌∷◌}}
@@ -43,8 +44,7 @@ line-written bytes old cells marks at end written long room =
 pub line-ended : (new old line : List ℕ) (at count : ℕ)
     → take (at + count) new ≡ take at old ++ line → at + count < length new
     → take (at + count + 1) (set new (at + count) 10) ≡ take at old ++ (line ++ 10 ∷ [])
-line-ended new old line at count written room =
-    take_more_set new _ 10 room ∙ ap (λ t. t ++ 10 ∷ []) written ∙ append_assoc _ line _
+line-ended new old line at count written room = grind (arith, common_steps, take_more_set, append_assoc)
 
 pub counted-line : (new old line : List ℕ) (at count : ℕ)
     → take (at + count) new ≡ take at old ++ line → at + count < length new → at ≤ length old

@@ -148,12 +148,6 @@ pub fn step_before_blank(line: &[u8]) -> Option<(i64, usize)>
     Some((signed(is_below, size), next + usize::from(is_below)))
 }
 
-/// A law: what is printed of a code is read back.
-pub fn code_is_read_back(code: Code)
-    requires { IsPrintable code }
-    ensures reads_back { code_of (code_text code) ≡ Some code }
-{}
-
 // The number up to a text's first blank, and the index after that blank; None where it is none.
 #[inline(always)]
 fn number_before_blank(text: &[u8]) -> Option<(i64, usize)>

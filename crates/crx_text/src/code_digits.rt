@@ -7,7 +7,6 @@ ghost use Rattle.std.specs.Int.{to_le_bytes, w32};
 ghost use Rattle.std.specs.Option.{option_map};
 ghost use Rattle.std.specs.List.{prefix_len};
 ghost use Rattle.std.specs.Str.Parse.{digits_value};
-ghost use Rattle.crx_text.specs.Digits.{written};
 ghost use Rattle.crx_text.specs.meaning.Codes.{after_cell, first_cell};
 ghost use Rattle.crx_text.specs.Codes.{counted_digits};
 ghost use Rattle.crx_text.specs.FirstDigits.{HasFirstDigits};
@@ -109,28 +108,6 @@ const FEW: usize = 6;
 // The first number of a lane that ends the digits; the lane after the seventh digit ends them in any case.
 const ENDS: [u8; 16] = [10, 10, 10, 10, 10, 10, 10, 0, 0, 0, 0, 0, 0, 0, 0, 0];
 
-// The number that the digits at a row's beginning write, and how many they are; None where it begins with none, or with more than `FEW`.
-// What the lanes hold is how far a character is above `0`, and after the row bytes 0, which are no digits.
-#[inline(always)]
-fn row_number(text: &[u8]) -> Option<(u64, usize)>
-    requires { ROW ≤ length text.now }
-    ensures few { IfSome result (λ cell. (0 < cell.1) × (cell.1 ≤ FEW)) }
-    ensures count { IfSome result (λ cell. cell.1 ≡ prefix_len is_ascii_digit (take ROW text.now)) }
-    ensures size { IfSome result (λ cell. cell.0 ≡ digits_value 10 (take cell.1 (take ROW text.now))) }
-{
-    let row = u8x8::from_slice(text).shuffle(
-        u8x8::splat(0),
-        [0, 1, 2, 3, 4, 5, 6, 7, 8, 9, 10, 11, 12, 13, 14, 15],
-    );
-    let digits = row - u8x16::splat(b'0');
-    let ends = digits.simd_ge(u8x16::from_array(ENDS)).to_bitmask();
-    let count = ends.trailing_zeros() as usize;
-    if count == 0 || count > FEW {
-        return None;
-    }
-    Some((row_size(digits, count), count))
-}
-
 // What each digit of a row weighs in its group of three, for each count of digits.
 #[rattlefmt::skip]
 static WEIGHTS: [u8; 8 * (FEW + 1)] = [
@@ -154,13 +131,26 @@ static SCALES: [u64; FEW + 1] = [
     (1000 << 32) + 1,
 ];
 
-// The number that so many digits write, which a row begins with. The two groups of three digits are weighed by one product, whose
-// upper half is their sum.
+// The number that the digits at a row's beginning write, and how many they are; None where it begins with none, or with more than `FEW`.
+// What the lanes hold is how far a character is above `0`, and after the row bytes 0, which are no digits. The two groups of three digits
+// are weighed by one product, whose upper half is their sum.
 #[inline(always)]
-fn row_size(digits: u8x16, count: usize) -> u64
-    requires { count ≤ FEW }
-    ensures { result ≡ written 0 (take count digits) }
+fn row_number(text: &[u8]) -> Option<(u64, usize)>
+    requires { ROW ≤ length text.now }
+    ensures few { IfSome result (λ cell. (0 < cell.1) × (cell.1 ≤ FEW)) }
+    ensures count { IfSome result (λ cell. cell.1 ≡ prefix_len is_ascii_digit (take ROW text.now)) }
+    ensures size { IfSome result (λ cell. cell.0 ≡ digits_value 10 (take cell.1 (take ROW text.now))) }
 {
+    let row = u8x8::from_slice(text).shuffle(
+        u8x8::splat(0),
+        [0, 1, 2, 3, 4, 5, 6, 7, 8, 9, 10, 11, 12, 13, 14, 15],
+    );
+    let digits = row - u8x16::splat(b'0');
+    let ends = digits.simd_ge(u8x16::from_array(ENDS)).to_bitmask();
+    let count = ends.trailing_zeros() as usize;
+    if count == 0 || count > FEW {
+        return None;
+    }
     let weights = u8x8::from_slice(&WEIGHTS[8 * count..]).shuffle(
         u8x8::splat(0),
         [0, 1, 2, 3, 4, 5, 6, 7, 8, 9, 10, 11, 12, 13, 14, 15],
@@ -172,7 +162,7 @@ fn row_size(digits: u8x16, count: usize) -> u64
         )
         .dot4(weights);
     let pairs = u64x2::from_le_bytes(groups.to_le_bytes()).to_array();
-    pairs[0].wrapping_mul(SCALES[count]) >> 32
+    Some((pairs[0].wrapping_mul(SCALES[count]) >> 32, count))
 }
 
 static PAIRS: [u8; 200] =

@@ -15,6 +15,7 @@ mod digits;
 mod field;
 mod field_text;
 mod lanes;
+pub mod laws;
 pub mod number;
 pub mod text;
 

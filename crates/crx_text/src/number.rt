@@ -175,18 +175,6 @@ pub fn clock_print(value: Option<i64>, field: &mut [u8; CLOCK_WIDTH])
 // A size below it has one digit before the point of a clock offset.
 const SHORT_CLOCK: u64 = 10_000_000_000_000;
 
-/// A law: what is printed of an observation is read back.
-pub fn obs_is_read_back(value: Option<i64>)
-    requires { ForSome value IsObservation }
-    ensures reads_back { observation_of (observation_text value) ≡ Some value }
-{}
-
-/// A law: what is printed of a receiver clock offset is read back.
-pub fn clock_is_read_back(value: Option<i64>)
-    requires { ForSome value IsClock }
-    ensures reads_back { clock_of (clock_text value) ≡ Some value }
-{}
-
 // Reads a number of so many columns, column by column.
 #[inline(never)]
 #[tactic(auto, using(crate::proofs::Sizes::number_of_other_width))]

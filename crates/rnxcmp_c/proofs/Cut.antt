@@ -49,19 +49,7 @@ module _ (before after : Course) (output then_output kept then_kept : Pending) w
   pub kept-where_done : (shown : Type 0) (warned : Bool)
       → IsDone before after shown (kept-by output then_output) (kept-by kept then_kept) warned
       → IsKept before after shown output then_output kept then_kept warned
-  kept-where_done shown warned done = record {
-    is_shown = done.is_shown;
-    good = done.adds.good;
-    text = done.text;
-    notices = done.notices;
-    output_is = done.adds.output;
-    warnings_are = done.adds.warnings;
-    wrote = done.wrote.0;
-    reported = done.reported.0;
-    output_good = ap (λ (t : SinkTally). t.failures) done.wrote.1;
-    messages_good = ap (λ (t : SinkTally). t.failures) done.reported.1;
-    flag = done.flag;
-  }
+  kept-where_done = grind arith
 
   pub cut-stops : (memory : Option (List At)) (number : ℕ) (halt : Halt)
       → EndsFrom memory number (kept-by output then_output) (kept-by kept then_kept) before after halt

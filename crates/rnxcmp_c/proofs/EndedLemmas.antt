@@ -1,9 +1,9 @@
 -- What the result of a run brings back, saves and judges follows from what it is, by the laws.
 use Rattle.std.proofs.Common.{arith}
 use Rattle.rnxcmp_c.proofs.{Kept.{brings-back, judges-status, saves-all_else}, Lossless.brings-back_passed}
-use Rattle.rnxcmp_c.proofs.Words.{◌≡◌, ◌⊎◌, inl, inr, ℕ, List, true, ap, sym, ◌∙◌, subst, code_of_fault}
+use Rattle.rnxcmp_c.proofs.Words.{◌≡◌, ◌⊎◌, ℕ, List, true, ap, sym, ◌∙◌, code_of_fault}
 use Rattle.rnxcmp_c.proofs.Words.{InputTooLong, Choices, expanded, checked, what-passes, FilterResult, Answer}
-use Rattle.rnxcmp_c.proofs.Words.{OUTPUT_LIMIT, BothTexts, HasNoMemory, fault_code_in, LacksLastMessage}
+use Rattle.rnxcmp_c.proofs.Words.{OUTPUT_LIMIT, BothTexts, HasNoMemory}
 use Rattle.rnxcmp_c.proofs.Words.{RunHasEnded, RunHasResult, StopsAtLimit, StopsForMemory, StopsWhenFull}
 use Rattle.rnxcmp_c.proofs.Words.{Task, run_for, CallBringsBackWhatPasses, CallBringsBackWhatWasCompacted}
 use Rattle.rnxcmp_c.{proofs.Words.CallSavesAllElse, specs.meaning.Ended.{CheckPromises, ExpansionPromises}}
@@ -45,30 +45,10 @@ module _ (fed : List ℕ) (made kept : BothTexts) (answer : Answer) where
       ⊎ (StopsForMemory is_line (run_for task) fed result ⊎ StopsWhenFull (run_for task) fed result))
 
   module _ (is_line : ℕ → Type 0) (task : Task) (memory : HasNoMemory answer → ⊥) where
-    lacks-none : (result : FilterResult) → LacksLastMessage result made kept answer → ⊥
-    lacks-none result lacks = grind arith
-
-    code-is : (result then : FilterResult) → Has result → result ≡ then
-        → answer.code ≡ fault_code_in then.fault
-    code-is result then has is = grind arith
-
-    has-where : (answer.status ≡ OUTPUT_LIMIT → ⊥) → (result : FilterResult) → Has result
-        → Early is_line task result → Has ((run_for task).result fed)
-    has-where few result has (inl whole) = subst Has whole has
-    has-where few result has (inr (inl limit)) = grind arith
-    has-where few result has (inr (inr short)) = grind arith
-
     -- a run has its result where neither memory nor a limit ended it
     pub result-where : (answer.status ≡ OUTPUT_LIMIT → ⊥) → RunHasEnded (Early is_line task) made kept answer
         → Has ((run_for task).result fed)
     result-where few ended = grind arith
-
-    not-full : (result : FilterResult) → Has result → (answer.code ≡ code_of_fault InputTooLong → ⊥)
-        → Late is_line task result → Early is_line task result
-    not-full result has long (inl whole) = inl whole
-    not-full result has long (inr (inl limit)) = inr (inl limit)
-    not-full result has long (inr (inr (inl short))) = inr (inr short)
-    not-full result has long (inr (inr (inr full))) = grind arith
 
     -- and where its input wasn't too long
     pub ended-where : (answer.code ≡ code_of_fault InputTooLong → ⊥)

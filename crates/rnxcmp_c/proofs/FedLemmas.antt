@@ -1,5 +1,5 @@
 -- What became of a run by some bytes, of which it may have as many as an input may have.
-use Rattle.rnxcmp_c.proofs.Words.{◌≡◌, ℕ, ◌-◌, ◌<◌, false, List, length, take, Option, Some, None, is_some}
+use Rattle.rnxcmp_c.proofs.Words.{◌≡◌, ℕ, ◌-◌, ◌<◌, false, List, length, take, Option, None, is_some}
 use Rattle.rnxcmp_c.proofs.Words.{ap, ◌∙◌, subst, arith, length-take, INPUT_LIMIT, Outcome, FeedsBy}
 use Rattle.rnxcmp_c.proofs.Words.{FeedsBytes, HasFed, ReaderRuns, StandsBy, answer_now, HandlePast, fed_with}
 use Rattle.rnxcmp_c.proofs.Words.{Task, StopsSoon, allowed_after, filter_for, Answer, Reader}
@@ -35,27 +35,15 @@ module _ (task : Task) (old new : Reader) (past : HandlePast) (bytes allowed : L
   -- there are some, and an input may have none of them
   pub passed-bytes : 0 < length bytes → length allowed ≡ 0 → used ≡ 0 → ReaderHasPassed task new past
       → FeedsBytes task old new past bytes used answer
-  passed-bytes some empty none passed = record {
-    answers = answers;
-    within = omega (arith, none);
-    over = λ more full. (none, passed);
-    fed = λ h. absurd (omega (arith, h some, empty, ap length same));
-    some = λ h. absurd (omega (arith, h, empty, ap length same));
-    all = λ goes_on h. absurd (omega (arith, h, empty, ap length same));
-    soon = λ goes_on h. absurd (omega (arith, h, none));
-    still = λ h. absurd (omega (arith, h, empty, ap length same));
-    ended = λ h. absurd (omega (arith, h, empty, ap length same));
-  }
+  passed-bytes = grind arith
 
 -- a run that hasn't ended goes on
 pub runs-where_none : (task : Task) (reader : Reader) (past : HandlePast) (outcome : Option Outcome)
     → is_some outcome ≡ false → StandsBy task reader past outcome → ReaderRuns task reader past
-runs-where_none task reader past None none runs = runs
-runs-where_none task reader past (Some outcome) none stands = absurd (cc)
+runs-where_none = grind arith
 
 pub fed-by : (task : Task) (old new : Reader) (past : HandlePast) (bytes : List ℕ) (used : ℕ) (answer :
     Answer)
     (outcome : Option Outcome) → is_some outcome ≡ false → FeedsBytes task old new past bytes used answer
     → FeedsBy task old new past bytes used answer outcome
-fed-by task old new past bytes used answer None none feeds = feeds
-fed-by task old new past bytes used answer (Some outcome) none feeds = absurd (cc)
+fed-by = grind arith

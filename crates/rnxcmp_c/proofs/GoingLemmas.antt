@@ -1,6 +1,6 @@
 -- A run goes on by the bytes that are fed.
 use Rattle.rnxcmp_c.proofs.{PieceLemmas.none-where_none, Words.{Some, ◌≡◌, inl, inr, ℕ, ◌+◌, ◌-◌, ◌<◌, ◌≤◌}}
-use Rattle.rnxcmp_c.proofs.Words.{true, false, ◌||◌, List, [], ◌∷◌, ◌++◌, length, take, drop, None, refl, sym}
+use Rattle.rnxcmp_c.proofs.Words.{true, false, List, [], ◌∷◌, ◌++◌, length, take, drop, None, refl, sym}
 use Rattle.rnxcmp_c.proofs.Words.{ap, ◌∙◌, subst, arith, append-nil, Option, append_assoc, is_some}
 use Rattle.rnxcmp_c.proofs.Words.{length-append, length-take, take-append-add, take-append-drop}
 use Rattle.rnxcmp_c.proofs.Words.{take-append-le, InputLine, lines_of, ended_lines_of, HasNoFeed, At}
@@ -78,10 +78,6 @@ notices-both (x ∷ xs) ys =
     ap (λ t. warning_text x ++ t) (notices-both xs ys) ∙ sym (append_assoc (warning_text x) (notices_text xs)
     (notices_text ys))
 
-some-both : (xs ys : List At) → are_some (xs ++ ys) ≡ (are_some xs || are_some ys)
-some-both [] ys = refl
-some-both (x ∷ xs) ys = refl
-
 -- texts grow at their ends
 more-text : (whole taken kept more then : List ℕ) (after : List ℕ) → after ≡ whole ++ more
     → whole ≡ taken ++ kept → then ≡ kept ++ more → after ≡ taken ++ then
@@ -92,10 +88,7 @@ more-text whole taken kept more then after grows is was =
 text-kept : {course : Course} {old new : Held} {past : HandlePast} → IsText course old past
     → waiting new.output ≡ waiting old.output → waiting new.messages ≡ waiting old.messages
     → IsText course new past
-text-kept {course} {old} {new} {past} text output messages = record {
-  wrote = text.wrote ∙ ap (λ t. past.output ++ t) (sym output);
-  reported = text.reported ∙ ap (λ t. past.messages ++ t) (sym messages);
-}
+text-kept = grind arith
 
 -- whatever was fed since
 text-fed : {course : Course} {held : Held} {past : HandlePast} {fed : List ℕ} → IsText course held past
@@ -293,10 +286,7 @@ module _ (filter : Filter) (shows : List InputLine → List Awaited → Type 0)
     mid-text = text-kept is.text same.output same.messages
 
     mid-good : AreUnfailed mid
-    mid-good = record {
-      output = same.output_good ∙ is.unfailed.output;
-      messages = same.messages_good ∙ is.unfailed.messages;
-    }
+    mid-good = grind arith
 
     pub goes-on : (then : List InputLine → List Awaited → Type 0) (new : Held)
         → MovesWithin (filter.so_far lines) (filter.so_far (with_next lines line)) (then (with_next lines
@@ -446,21 +436,7 @@ module _ (filter : Filter) (shows : List InputLine → List Awaited → Type 0)
 pub breaks-after : (filter : Filter) (before then : List ℕ) (held : Held) (past : HandlePast) (stop : Stop)
     → length (ended_lines_of before) ≤ length (ended_lines_of then) → RunBreaks then filter held past stop
     → RunBreaks before filter held past stop
-breaks-after filter before then held past (Fault at) few (inl ran, kept) = (
-  inl (record {
-    fault = ran.fault;
-    there = (omega (arith, few, ran.there.0), ran.there.1);
-    lines = ran.lines;
-    line = ran.line;
-    first = ran.first;
-    number = ran.number;
-    cut = ran.cut;
-    lacking = ran.lacking;
-  }),
-  kept,
-)
-breaks-after filter before then held past (Fault at) few (inr broken, kept) = (inr broken, kept)
-breaks-after filter before then held past Limit few passes = passes
+breaks-after = grind arith
 
 -- lines that were ended stay so
 pub ended-more : (filter : Filter) (shows : List InputLine → List Awaited → Type 0) (held : Held)
@@ -529,16 +505,7 @@ module _ {filter : Filter} {mid : Held} {past : HandlePast} {lines : List InputL
     })),
     adds-kept (filter.so_far lines) mid new past is.text.wrote is.left adds,
   )
-  stopped-after others first decided number reached last Limit passes = record {
-    lines = lines;
-    others = others;
-    first = first;
-    good = is.sound;
-    limited = omega (arith, passes.limited, passes.limit);
-    within = omega (arith, is.left passes.limited, passes.limit);
-    over = omega (arith, is.left passes.limited, passes.over, passes.limit);
-    text = text-kept is.text passes.output_is passes.messages_are;
-  }
+  stopped-after others first decided number reached last Limit passes = grind arith
 
   pub ends-stopped : lines_of past.fed ≡ lines → (stop : Stop)
       → StepStops mid.number None (filter.so_far lines) (filter.whole lines) mid new stop
@@ -562,14 +529,7 @@ module _ (filter : Filter) (shows : List InputLine → List Awaited → Type 0)
       ∙ append-nil ended
 
   pub held-going : IsHeldAfter filter held past ended
-  held-going = record {
-    text = is.text;
-    sound = is.good;
-    flag = is.flag;
-    unfailed = is.unfailed;
-    left = is.left;
-    number = is.number;
-  }
+  held-going = grind arith
 
   abbrev last : List InputLine
   last = with_next ended (piece_line is.tail false)

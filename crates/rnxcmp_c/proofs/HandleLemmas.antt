@@ -1,22 +1,17 @@
 -- A handle stays sound from call to call.
 use Rattle.rnxcmp_c.proofs.{PieceLemmas.none-or, Words.{◌≡◌, inl, inr, ℕ, ◌<◌, ◌≤◌, List, [], ◌∷◌, length}}
-use Rattle.rnxcmp_c.proofs.Words.{Option, Some, None, is_some, true, false, take, ◌++◌, arith, sym, ap, ◌∙◌}
+use Rattle.rnxcmp_c.proofs.Words.{Option, Some, None, take, ◌++◌, arith, sym, ap, ◌∙◌}
 use Rattle.rnxcmp_c.proofs.Words.{subst, append-nil, length-append, ⊎_elim, lines_of, ended_lines_of}
 use Rattle.rnxcmp_c.proofs.Words.{ended_lines-come_first, Outcome, ReaderRuns, FeedsBy, HasEndedBy, HasFedBy}
-use Rattle.rnxcmp_c.proofs.Words.{HasPassedBy, ReaderIsOver, ReaderStands, RunIsOverLimit, ReaderHasEnded}
-use Rattle.rnxcmp_c.proofs.Words.{answer_now, StandsBy, RunIsOutOfMemory, HandlePast, fed_with, limit_for}
-use Rattle.rnxcmp_c.proofs.Words.{nothing_fed, result_for, Task, allowed_after, IsLineEnded, bare_answer}
-use Rattle.rnxcmp_c.{proofs.Words.{Answer, AnyEngine, Held, Reader, MISUSED}, specs.Handles.IsFresh}
+use Rattle.rnxcmp_c.proofs.Words.{HasPassedBy, ReaderIsOver, ReaderStands, RunIsOverLimit}
+use Rattle.rnxcmp_c.proofs.Words.{StandsBy, RunIsOutOfMemory, HandlePast, fed_with, limit_for}
+use Rattle.rnxcmp_c.proofs.Words.{nothing_fed, result_for, Task, allowed_after, IsLineEnded}
+use Rattle.rnxcmp_c.{proofs.Words.{Answer, AnyEngine, Held, Reader}, specs.Handles.IsFresh}
 use Rattle.rnxcmp_c.specs.{Handles.ReaderEndsBy, Holding.HoldsNothing}
 
 first_or : Reader → List Reader → Reader
 first_or other [] = other
 first_or other (reader ∷ more) = reader
-
--- a handle holds one reader
-pub one-held : (held : List Reader) (a b : Reader) → held ≡ a ∷ [] → held ≡ b ∷ [] → a ≡ b
-unfolding first_or
-one-held held a b first second = ap (first_or a) (sym first ∙ second)
 
 -- the lines that an LF ends are no more than all
 ended-within : (fed : List ℕ) → length (ended_lines_of fed) ≤ length (lines_of fed)
@@ -62,8 +57,7 @@ ended-stands task reader past (Some outcome) (inr (inr over)) = inr (inr (inr ov
 
 passed-stands : (task : Task) (reader : Reader) (past : HandlePast) (outcome : Option Outcome)
     → HasPassedBy task reader past outcome → StandsBy task reader past outcome
-passed-stands task reader past None passed = absurd passed
-passed-stands task reader past (Some outcome) long = inr (inr (inl long))
+passed-stands = grind arith
 
 -- where nothing was taken, nothing more was fed
 pub none-fed : (past : HandlePast) (bytes : List ℕ) (used : ℕ) → used ≡ 0
@@ -93,30 +87,6 @@ pub ends-stands : (task : Task) (old new : Reader) (past : HandlePast) (answer :
     → ReaderStands task new past
 ends-stands task old new past answer None stands ends = ended-stands task new past _ ends.0
 ends-stands task old new past answer (Some outcome) stands ends = grind arith
-
--- whether the run had ended before
-module _ (task : Task) (old new : Reader) (past : HandlePast) (answer : Answer) where
-  pub feeds-answer : (bytes : List ℕ) (used : ℕ) (outcome : Option Outcome) → is_some outcome ≡ false
-      → FeedsBy task old new past bytes used answer outcome → answer ≡ answer_now new
-  feeds-answer bytes used None runs feeds = feeds.answers
-  feeds-answer bytes used (Some outcome) runs feeds = absurd (cc)
-
-  pub feeds-misused : (bytes : List ℕ) (used : ℕ) (outcome : Option Outcome) → is_some outcome ≡ true
-      → FeedsBy task old new past bytes used answer outcome → (answer ≡ bare_answer MISUSED 0 0)
-      × (used ≡ 0) × (new ≡ old)
-  feeds-misused bytes used None ended feeds = absurd (cc)
-  feeds-misused bytes used (Some outcome) ended feeds = feeds
-
-  pub ends-answer : (outcome : Option Outcome) → is_some outcome ≡ false
-      → ReaderEndsBy task old new past answer outcome → ReaderHasEnded task new past
-      × (answer ≡ answer_now new)
-  ends-answer None runs ends = ends
-  ends-answer (Some outcome) runs ends = absurd (cc)
-
-  pub ends-misused : (outcome : Option Outcome) → is_some outcome ≡ true
-      → ReaderEndsBy task old new past answer outcome → (answer ≡ bare_answer MISUSED 0 0) × (new ≡ old)
-  ends-misused None ended ends = absurd (cc)
-  ends-misused (Some outcome) ended ends = ends
 
 -- before the first byte
 pub fresh-stands : (task : Task) (engine : AnyEngine) (held : Held) (limit : ℕ) → IsFresh task engine

@@ -1,9 +1,9 @@
 -- What the answers of calls bring back, save and judge follows from what they are, by the laws.
 use Rattle.std.{proofs.Common.arith, specs.Prelude.◌↔◌}
-use Rattle.rnxcmp_c.proofs.Words.{ℕ, ◌≡◌, ◌≤◌, List, length, Option, Some, None, refl, ap, sym, subst, ◌∙◌}
+use Rattle.rnxcmp_c.proofs.Words.{ℕ, ◌≡◌, List, Option, None, ap, sym, subst, ◌∙◌}
 use Rattle.rnxcmp_c.proofs.Words.{true, lines_of, Choices, compacted, expanded, FilterResult, checked}
-use Rattle.rnxcmp_c.proofs.Words.{checked_by, findings_of, report_status, BothTexts, IsAnswer, status_in}
-use Rattle.rnxcmp_c.proofs.Words.{CallBringsBackWhatWasCompacted, CallSavesAllElse, Answer}
+use Rattle.rnxcmp_c.proofs.Words.{checked_by, findings_of, report_status}
+use Rattle.rnxcmp_c.proofs.Words.{CallBringsBackWhatWasCompacted, CallSavesAllElse}
 use Rattle.rnxcmp_c.specs.meaning.Promises.{CallJudgesStandard}
 use Rattle.crx_filter.proofs.{damage.DamageStays.saved-lines, standard.CheckStandard.named-where_not}
 use Rattle.crx_filter.proofs.wayback.{Standard.{normal-comes_back, standard-comes_back}, WayBack.comes-back}
@@ -36,13 +36,7 @@ both-ways : {P Q R : Type 0} → P ↔ Q → Q ↔ R → P ↔ R
 both-ways first second = grind arith
 
 none-where_0 : (named : Option ℕ) → (report_status named ≡ 0) ↔ (named ≡ None)
-none-where_0 None = (λ e. refl, λ e. refl)
-none-where_0 (Some number) = (λ e. absurd (cc), λ e. absurd (cc))
-
--- where the output fits, the status is the result's
-pub status-where_it_fits : (result : FilterResult) (room : ℕ)
-    → length result.output ≤ room → status_in result room ≡ result.status
-status-where_it_fits result room fits = grind arith
+none-where_0 = grind arith
 
 pub judges-status : (file : List ℕ) (status : ℕ) → status ≡ (checked file).status
     → CallJudgesStandard status file
@@ -52,11 +46,3 @@ judges-status file status is good =
     is ∙ ap (λ o. FilterResult.status (checked_by o found)) good in
     both-ways (both-ways (λ zero. sym same ∙ zero, λ zero. same ∙ zero) (none-where_0 _))
     (named-where_not file good)
-
-pub judges-standard : (file : List ℕ) (answer : Answer) (before after : BothTexts)
-    → IsAnswer (checked file) answer before after → answer.output_length ≤ length before.output
-    → CallJudgesStandard answer.status file
-judges-standard file answer before after is fits =
-    let room : ℕ = length _ in
-    judges-status file _ (IsAnswer.status is
-    ∙ status-where_it_fits (checked file) room (subst (λ n. n ≤ room) (IsAnswer.output_length is) fits))

@@ -120,8 +120,7 @@ answer_by outcome reader = handle_answer (status_now outcome) (fault_now outcome
 ended-as : (P Q : FilterResult → Type 0) (made kept : BothTexts) (answer : Answer)
     → ((result : FilterResult) → P result → Q result) → RunHasEnded P made kept answer
     → RunHasEnded Q made kept answer
-ended-as P Q made kept answer weaker ended =
-    record { result = ended.result; is = weaker ended.result ended.is; ends = ended.ends }
+ended-as = grind arith
 
 -- ---- memory
 
@@ -136,14 +135,11 @@ Asks filter lines others notices = ((next : InputLine) × (more : List InputLine
 asks : (filter : Filter) (lines others : List InputLine) (notices : List At)
     → AsksMemory (memory_next filter lines others) (filter.so_far lines) (with_one_more filter lines others)
     notices → Asks filter lines others notices
-asks filter lines [] notices (inl takes) = absurd (cc)
-asks filter lines (next ∷ more) notices (inl takes) = inl (next, more, refl, takes)
-asks filter lines others notices (inr adds) = inr adds
+asks = grind arith
 
 -- a fault that there is
 some-at : (fault : Option At) → is_some fault ≡ true → (at : At) × (fault ≡ Some at)
-some-at None is = absurd (cc)
-some-at (Some at) is = (at, refl)
+some-at = grind arith
 
 -- ---- the cases
 
@@ -288,15 +284,7 @@ module _ (task : Task) (reader : Reader) (past : HandlePast) where
   has-result : (outcome : Outcome) (input : List ℕ)
       → ReaderIsOver (limit_for task) (result_for task input) reader outcome past
       → Ended (Whole input) (Some outcome)
-  has-result outcome input over = record {
-    result = result_for task input;
-    is = refl;
-    ends = inl (record {
-      answered = answered-by outcome over.status over.fault;
-      output = over.output;
-      messages = over.messages;
-    });
-  }
+  has-result = grind arith
 
   -- how a run stands that has ended
   abbrev Any : FilterResult → Type 0
@@ -306,12 +294,7 @@ module _ (task : Task) (reader : Reader) (past : HandlePast) where
   promise-by : (outcome : Outcome) → Ended Any (Some outcome)
       → (0 < limit_for task → length made.output ≤ limit_for task)
       → HandlePromise (Some outcome) (run_for task) past.fed made kept (answer_by (Some outcome) reader)
-  promise-by outcome ended within = record {
-    goes_on = λ none. absurd (cc);
-    answered = λ (other : Outcome) is. ap (λ (o : Option Outcome). answer_by o reader) is;
-    ended = λ some. ended;
-    within = within;
-  }
+  promise-by = grind arith
 
   stands-by : (outcome : Option Outcome) → StandsBy task reader past outcome
       → HandlePromise outcome (run_for task) past.fed made kept (answer_by outcome reader)
@@ -324,8 +307,7 @@ module _ (task : Task) (reader : Reader) (past : HandlePast) where
       (λ limited. omega (arith, over.within, ap length over.made.output))
   stands-by (Some outcome) (inr (inr (inl long))) = promise-by outcome
       (ended-as _ Any made kept _ (λ result is. inr (inr (inr is))) (is-full outcome long)) long.within
-  stands-by (Some outcome) (inr (inr (inr over))) = promise-by outcome
-      (ended-as _ Any made kept _ (λ result is. inl is) (has-result outcome past.fed over)) over.within
+  stands-by (Some outcome) (inr (inr (inr over))) = grind arith
 
   pub reader-promise : ReaderStands task reader past
       → HandlePromise reader.outcome (run_for task) past.fed made kept (answer_now reader)
@@ -346,8 +328,7 @@ module _ (task : Task) (reader : Reader) (past : HandlePast) where
   )
   ended-by (Some outcome) (inr (inl over)) =
       (refl, ended-as _ Last made kept _ (λ result is. inr (inl is)) (over-limit outcome past.fed over))
-  ended-by (Some outcome) (inr (inr over)) =
-      (refl, ended-as _ Last made kept _ (λ result is. inl is) (has-result outcome past.fed over))
+  ended-by (Some outcome) (inr (inr over)) = grind arith
 
   pub reader-ended : ReaderHasEnded task reader past
       → (is_some reader.outcome ≡ true) × RunHasEnded Last made kept (answer_now reader)
@@ -378,12 +359,10 @@ module _ (task : Task) (reader : Reader) (past : HandlePast) where
   passed-ended : (left : List ℕ) → 0 < length left → (outcome : Option Outcome)
       → HasPassedBy task reader past outcome
       → RunWasEnded (run_for task) past.fed past.fed left made kept (answer_by outcome reader)
-  passed-ended left some None passed = absurd passed
-  passed-ended left some (Some outcome) long = inr (some, refl, is-full outcome long)
+  passed-ended = grind arith
 
   passed-some : (outcome : Option Outcome) → HasPassedBy task reader past outcome → is_some outcome ≡ true
-  passed-some None passed = absurd passed
-  passed-some (Some outcome) long = refl
+  passed-some = grind arith
 
 -- what bytes have ended
 module _ (task : Task) (old new : Reader) (fed : List ℕ) (taken : BothTexts) (bytes : List ℕ) (used : ℕ)
@@ -420,16 +399,10 @@ module _ (task : Task) (old new : Reader) (fed : List ℕ) (taken : BothTexts) (
     ap (λ (o : Option Outcome). is_some o) is,
     omega (arith, feeds.all is less, length-append (waiting new.held.output) (waiting new.held.messages)),
   )
-  takes-all (Some outcome) is feeds less =
-      absurd (omega (
-        arith,
-        less,
-        feeds.ended (omega (arith, less)) (ap (λ (o : Option Outcome). is_some o) is),
-      ))
+  takes-all (Some outcome) is feeds less = grind arith
 
   none-is : (outcome : Option Outcome) → is_some outcome ≡ false → outcome ≡ None
-  none-is None is = refl
-  none-is (Some outcome) is = absurd (cc)
+  none-is = grind arith
 
   takes-bytes : (outcome : Option Outcome) → is_some outcome ≡ false
       → FeedsBy task old new past bytes used answer outcome

@@ -2,32 +2,23 @@
 use Rattle.rnxcmp_c.proofs.Words.{◌≡◌, ◌⊎◌, inl, inr, ⊎_elim, ℕ, List, [], ◌++◌, Option, Some, None, refl}
 use Rattle.rnxcmp_c.proofs.Words.{sym, ap, ◌∙◌, subst, ◌<◌, ◌≤◌, ◌+◌, ◌∷◌, is_some, arith, length, append-nil}
 use Rattle.rnxcmp_c.proofs.Words.{append_assoc, length-append, take, InputLine, lines_of, INPUT_LIMIT, At}
-use Rattle.rnxcmp_c.proofs.Words.{InputTooLong, OutOfMemory, expansion_filter, IsLawful, Filter, with_next}
-use Rattle.rnxcmp_c.proofs.Words.{error_text, notices_text, Begins, Course, result_of_course, Findings}
-use Rattle.rnxcmp_c.proofs.Words.{checked_by, findings_of, report_status, check-lawful, compaction-lawful}
+use Rattle.rnxcmp_c.proofs.Words.{InputTooLong, OutOfMemory, IsLawful, Filter, with_next}
+use Rattle.rnxcmp_c.proofs.Words.{error_text, notices_text, Begins, Course, result_of_course}
+use Rattle.rnxcmp_c.proofs.Words.{check-lawful, compaction-lawful}
 use Rattle.rnxcmp_c.proofs.Words.{expansion-lawful, Outcome, FaultIs, IsMemoryLacking, waiting, IsAll}
 use Rattle.rnxcmp_c.proofs.Words.{IsCutBy, IsGoing, IsText, IsPastLimit, RunBreaks, RunFails, Stop, Fault}
 use Rattle.rnxcmp_c.proofs.Words.{Limit, ReaderIsOver, ReaderRuns, RunIsOutOfMemory, RunIsOverLimit}
 use Rattle.rnxcmp_c.proofs.Words.{RunIsTooLong, shows_of, too_long_after, HasFedBy, HasEndedBy, engine_filter}
 use Rattle.rnxcmp_c.proofs.Words.{has_ended_of, KeepsToLimit, line_in, HandlePast, limit_for, result_for}
 use Rattle.rnxcmp_c.proofs.Words.{Task, Compact, Expand, Check, filter_for, memory_next, with_one_more}
-use Rattle.rnxcmp_c.proofs.Words.{AnyEngine, Compacting, Expanding, Checking, Held, Reader, HidesFault}
-use Rattle.rnxcmp_c.{proofs.Words.{texts_made, texts_of_held, line_reached}, specs.Going.LineFails}
+use Rattle.rnxcmp_c.proofs.Words.{AnyEngine, Compacting, Expanding, Checking, Held, Reader}
+use Rattle.rnxcmp_c.{proofs.Words.{line_reached}, specs.Going.LineFails}
 use Rattle.rnxcmp_c.specs.{Going.{EndsPastLimit, Breaks}, Handles.{IsOf, IsPut, EndsRunBy, EngineGoesOn}}
 use Rattle.rnxcmp_c.specs.Handles.{status_at_end}
-use Rattle.crx_filter.specs.meaning.{Directions.report_unless, Standard.whole_of}
 use Rattle.crx_runs.specs.meaning.Results.{good_status, status_after}
 
 pub filter-is : (task : Task) (engine : AnyEngine) → IsOf task engine → engine_filter engine ≡ filter_for task
-filter-is (Compact choices limit) (Compacting e) is = is
-filter-is (Compact choices limit) (Expanding e) is = absurd is
-filter-is (Compact choices limit) (Checking e) is = absurd is
-filter-is (Expand choices limit) (Compacting e) is = absurd is
-filter-is (Expand choices limit) (Expanding e) is = is
-filter-is (Expand choices limit) (Checking e) is = absurd is
-filter-is Check (Compacting e) is = absurd is
-filter-is Check (Expanding e) is = absurd is
-filter-is Check (Checking e) is = refl
+filter-is = grind arith
 
 -- a run goes on by an engine, and by what it is
 pub going-as : {one other : AnyEngine} {held : Held} {past : HandlePast} → one ≡ other
@@ -41,50 +32,21 @@ lawful-for Check = check-lawful
 
 -- ---- a fault
 
-checked-faulty : (fault : Option At) (found : Findings) (at : At) → fault ≡ Some at
-    → result_of_course (record { output = report_unless fault found; warnings = []; fault = fault })
-    ≡ checked_by fault found
-checked-faulty (Some other) found at is = refl
-checked-faulty None found at is = absurd (cc)
-
-result-faulty : (task : Task) (input : List ℕ) (at : At) → ((filter_for task).whole (lines_of input)).fault
-    ≡ Some at → result_of_course ((filter_for task).whole (lines_of input)) ≡ result_for task input
-result-faulty (Compact choices limit) input at is = refl
-result-faulty (Expand choices limit) input at is = refl
-result-faulty Check input at is = grind arith
-
--- the status of a result that has a fault is 1
-checked-status : (fault : Option At) (found : Findings) (at : At) → (checked_by fault found).fault ≡ Some at
-    → (checked_by fault found).status ≡ 1
-checked-status (Some other) found at is = refl
-checked-status None found at is = absurd (cc)
-
 pub faulty-status : (task : Task) (input : List ℕ) (at : At) → (result_for task input).fault ≡ Some at
     → (result_for task input).status ≡ 1
-faulty-status (Compact choices limit) input at is = grind arith
-faulty-status (Expand choices limit) input at is =
-    ap (status_after ((expansion_filter choices).whole (lines_of input)).warnings) is
-faulty-status Check input at is = checked-status (whole_of input).fault (findings_of (lines_of input)) at is
+faulty-status = grind arith
 
 -- ---- memory
-
-checked-output : (fault : Option At) (found : Findings)
-    → (checked_by fault found).output ≡ report_unless fault found
-checked-output (Some at) found = refl
-checked-output None found = refl
 
 -- the output of a result is that of the filter
 pub output-for : (task : Task) (input : List ℕ) → (result_for task input).output ≡ ((filter_for task).whole
     (lines_of input)).output
-output-for (Compact choices limit) input = refl
-output-for (Expand choices limit) input = refl
-output-for Check input = grind arith
+output-for = grind arith
 
 -- a fault that says that memory ran out, by its line
 pub fault-at : (fault : Option At) → FaultIs OutOfMemory fault
     → fault ≡ Some (record { line = line_in fault; fault = OutOfMemory })
-fault-at None is = absurd is
-fault-at (Some at) is = grind arith
+fault-at = grind arith
 
 -- the line that was reached is the last of those with the next one
 reached-lines : (lines others : List InputLine) → line_reached lines others ≡ length (lines ++ take 1 others)
@@ -186,20 +148,7 @@ module _ (task : Task) (reader : Reader) (mid : Held) (outcome : Outcome) (past 
         → outcome.fault ≡ Some (record { line = at.line; fault = OutOfMemory })
         → waiting reader.held.messages ≡ waiting mid.messages
         → RunIsOutOfMemory task is_line input reader outcome past
-    fault-hidden is_line hidden messages = record {
-      memory = subst (FaultIs OutOfMemory) (sym hidden) refl;
-      status = put.status;
-      made = inr (subst (λ r. HidesFault r (line_in outcome.fault) (texts_made past (texts_of_held
-          reader.held)))
-          same-result (record {
-            faulty = ap (λ (f : Option At). is_some f) fault;
-            line_is = ap line_in hidden ∙ ap line_in (sym fault);
-            output_is = text.wrote ∙ ap (λ t. past.output ++ t) (sym put.output);
-            messages_are = ap (λ t. t ++ error_text course.fault)
-                (text.reported ∙ ap (λ t. past.messages ++ t) (sym messages));
-          }));
-      within = kept;
-    }
+    fault-hidden = grind arith
 
   breaks-over : (before : List ℕ) → Breaks before (filter_for task) mid past at
       → HasFedBy before task reader past (Some outcome)
@@ -368,20 +317,6 @@ course-well limit course reader outcome past limited none status all = record {
       ∙ append-nil (notices_text course.warnings) ∙ all.text.reported;
   within = subst (λ n. KeepsToLimit n (past.output ++ waiting reader.held.output)) limited all.within;
 }
-
-checked-well : (fault : Option At) (found : Findings) (reader : Reader) (outcome : Outcome)
-    (past : HandlePast)
-    → fault ≡ None → outcome.fault ≡ None → outcome.status ≡ report_status found.not_standard
-    → IsText (record { output = report_unless fault found; warnings = []; fault = fault }) reader.held past
-    → ReaderIsOver 0 (checked_by fault found) reader outcome past
-checked-well None found reader outcome past good none status text = record {
-  status = status;
-  fault = none;
-  output = text.wrote;
-  messages = text.reported;
-  within = λ limited. absurd (omega (arith, limited));
-}
-checked-well (Some at) found reader outcome past good none status text = absurd (cc)
 
 module _ (engine : AnyEngine) (reader : Reader) (outcome : Outcome) (past : HandlePast)
     (none : outcome.fault ≡ None) where

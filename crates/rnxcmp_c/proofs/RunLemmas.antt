@@ -1,7 +1,7 @@
 -- What was collected of a whole run is its result, or its output is longer than it may be.
 use Rattle.rnxcmp_c.proofs.{GoingLemmas.begins-then, PieceLemmas.within-or, ReaderLemmas.lawful-for}
 use Rattle.rnxcmp_c.proofs.{ReaderLemmas.output-for, Words.{◌≡◌, ⊎_elim, inl, inr, ℕ, ◌<◌, ◌≤◌, List, []}}
-use Rattle.rnxcmp_c.proofs.Words.{◌++◌, length, take, Option, Some, None, sym, ap, ◌∙◌, subst, arith}
+use Rattle.rnxcmp_c.proofs.Words.{◌++◌, length, take, Option, sym, ap, ◌∙◌, subst, arith}
 use Rattle.rnxcmp_c.proofs.Words.{append-nil, length-append, length-take, take_all, lines_of, ended_lines_of}
 use Rattle.rnxcmp_c.proofs.Words.{code_of_fault, At, OutOfMemory, INPUT_LIMIT, ended_lines-come_first}
 use Rattle.rnxcmp_c.proofs.Words.{Outcome, Begins, FilterResult, FaultIs, Device, Answer, NO_ROOM}
@@ -15,8 +15,7 @@ use Rattle.crx_runs.specs.meaning.{Runs.RunsAs, Spans.Input}
 
 not-memory : (fault : Option At) → (fault_code_in fault ≡ code_of_fault OutOfMemory → ⊥)
     → FaultIs OutOfMemory fault → ⊥
-not-memory None other is = is
-not-memory (Some at) other is = other (ap code_of_fault is)
+not-memory = grind arith
 
 -- what a sink kept and counted of a text
 module _ (room most : ℕ) (before after : Counted) (empty : IsEmpty room most before) (text : List ℕ)
@@ -37,8 +36,7 @@ module _ {outcome : Outcome} {output messages : Counted} {most : ℕ} {answer : 
   -- an answer that says that memory ran out has no texts
   pub answers-alone : AnswersRun outcome output messages most answer before after → HasNoMemory answer
       → AnswersAlone 1 answer.line (code_of_fault OutOfMemory) answer before after
-  answers-alone (inl is) memory = grind arith
-  answers-alone (inr (ends, same)) memory = grind arith
+  answers-alone = grind arith
 
 -- what a run wrote and reported for a task, to sinks with the rooms of a call
 module _ (task : Task) {input : Input} {given : List ℕ} {writer messages : Device} {outcome : Outcome}

@@ -1,17 +1,14 @@
 -- The output stays within its limit, or what a line made is let go of.
 use Rattle.rnxcmp_c.proofs.Words.{◌≡◌, ℕ, ◌+◌, ◌<◌, List, [], ◌++◌, length, take, refl, sym, ap, ◌∙◌, subst}
-use Rattle.rnxcmp_c.proofs.Words.{arith, length-append, ◌⊎◌, inl, inr, ⊎_elim, append-nil, is_some, Bool}
+use Rattle.rnxcmp_c.proofs.Words.{arith, length-append, ◌⊎◌, inl, inr, ⊎_elim, append-nil, Bool}
 use Rattle.rnxcmp_c.proofs.Words.{◌||◌, Option, IfErr, IfOk, At, OutOfMemory, Halt, Unwritten, Unreported}
-use Rattle.rnxcmp_c.proofs.Words.{notices_text, Begins, Course, EndsThere, IsKept, MovesOn, MovesWithin}
-use Rattle.rnxcmp_c.proofs.Words.{PassesLimit, RanOutAt, StepStops, StopsBy, StopsShort, StopsCounted}
+use Rattle.rnxcmp_c.proofs.Words.{notices_text, Begins, Course, IsKept, MovesOn, MovesWithin}
+use Rattle.rnxcmp_c.proofs.Words.{PassesLimit, StepStops, StopsBy, StopsShort, StopsCounted}
 use Rattle.rnxcmp_c.{proofs.Words.{waiting, Held, Stop, Fault, Limit, take_at}, specs.Going.LosesText}
 use Rattle.rnxcmp_c.specs.Holding.{AreCutTo, IsCounted, IsCutBack, StaysWithin, IsMark, IsMarkWithin}
 use Rattle.rnxcmp_c.specs.declared.held.Mark.{Mark}
 use Rattle.std.proofs.{Common.{Result, Ok, Err}, lemmas.Result.{IfErr-at_err, IfOk-at_ok}}
 use Rattle.crx_runs.specs.declared.one_line.Halt.TheVariants.{Fault as Faulty}
-
-ok-not-err : {T : Type 0} (done : T) (halt : Halt) → ◌≡◌ {A = Result T Halt} (Ok done) (Err halt) → ⊥
-ok-not-err done halt e = cc
 
 -- a text that was cut back to where it was
 cut-to : (old mid new more : List ℕ) (mark : ℕ) → mid ≡ old ++ more → mark ≡ length old → new ≡ take mark mid
@@ -70,13 +67,7 @@ module _ (number : ℕ) (memory : Option (List At)) (before after : Course) (old
 
   lost-part : LosesText before after old.output mid.output old.messages mid.messages
       → HasPart before after old mid
-  lost-part loses = record {
-    text = loses.text;
-    told = loses.told;
-    wrote = loses.wrote;
-    first = loses.first;
-    reported = loses.reported;
-  }
+  lost-part = grind arith
 
   pub part-of : (halt : Halt) → Stops halt → HasPart before after old mid
   part-of (Faulty at) (inl lacks) = record {
@@ -95,25 +86,6 @@ module _ (number : ℕ) (memory : Option (List At)) (before after : Course) (old
   }
   part-of Unwritten loses = lost-part loses
   part-of Unreported loses = lost-part loses
-
-  -- what ended the run at a line, once it is counted
-  fault-stops : (new : Held) (at : At) → new ≡ record mid { left = new.left } → Stops (Faulty at)
-      → (RanOutAt number at × StopsShort memory before after old new)
-      ⊎ EndsThere before after old.output new.output old.messages new.messages at
-  fault-stops new at same (inl lacks) = inl (
-    lacks.0,
-    record {
-      notices = lacks.1.notices;
-      asked = inl lacks.1.allowed;
-      own = lacks.1.own;
-      wrote = ap (λ (h : Held). waiting h.output) same ∙ lacks.1.wrote;
-      reported = ap (λ (h : Held). waiting h.messages) same ∙ lacks.1.reported;
-      lacking = inl (ap (λ (m : Option (List At)). is_some m) lacks.1.allowed);
-    },
-  )
-  fault-stops new at same (inr ends) =
-      inr (subst (λ (h : Held). EndsThere before after old.output h.output old.messages h.messages at)
-      (sym same) ends)
 
   lost-stops : (new counted : Held) (mark : Mark) → IsMark mark old → counted ≡ record mid
       { left = counted.left }
@@ -136,22 +108,6 @@ module _ (number : ℕ) (memory : Option (List At)) (before after : Course) (old
 
   module _ (new : Held) (mark : Mark) (marked : IsMark mark old) (limit : mid.limit ≡ old.limit)
       (left : mid.left ≡ old.left) where
-    stops-within : (at : At) → Stops (Faulty at) → StaysWithin mark.output mid new
-        → StepStops number memory before after old new (Fault at)
-    stops-within at stopped stays = (
-      fault-stops new at stays.same stopped,
-      record {
-        limit = ap (λ (h : Held). h.limit) stays.same ∙ limit;
-        left = λ limited. omega (
-          arith,
-          stays.left (subst (λ (n : ℕ). 0 < n) (sym limit) limited),
-          marked.output,
-          left,
-          ap (λ (h : Held). length (waiting h.output)) stays.same,
-        );
-      },
-    )
-
     stops-lost : (at : At) → at ≡ record { line = number; fault = OutOfMemory }
         → LosesText before after old.output mid.output old.messages mid.messages
         → (counted : Held) → StaysWithin mark.output mid counted → AreCutTo mark counted new
@@ -232,10 +188,8 @@ module _ (number : ℕ) (memory : Option (List At)) (before after : Course) (sho
     step-stops taken kept stopped Limit back =
         stops-over number memory before after old mid new mark marked limit left
         (part-either taken kept stopped) back
-    step-stops (Ok warned) kept stopped (Fault at) (inl stays) =
-        absurd (ok-not-err warned _ stays.0)
-    step-stops (Ok warned) kept stopped (Fault at) (inr lost) =
-        ⊎_elim (λ e. absurd (ok-not-err warned _ e)) (λ e. absurd (ok-not-err warned _ e)) lost.0
+    step-stops (Ok warned) kept stopped (Fault at) (inl stays) = grind arith
+    step-stops (Ok warned) kept stopped (Fault at) (inr lost) = grind arith
     step-stops (Err halt) kept stopped (Fault at) (inl stays) = grind arith
     step-stops (Err halt) kept stopped (Fault at) (inr lost) =
         stops-lost number memory before after old mid new mark marked limit left at lost.1

@@ -18,12 +18,6 @@ pub record IsEmpty (room most : ℕ) (sink : Counted) : Type 0 where
   pub good : sink.failures ≡ 0
   pub kept : sink.lost ≡ false
 
--- what is counted beside them is the same
-pub record IsCountedAlike (before after : Counted) : Type 0 where
-  pub failures : after.failures ≡ before.failures
-  pub flushes : after.flushes ≡ before.flushes
-  pub flushed : after.flushed ≡ before.flushed
-
 -- a call answered the outcome of a run, whose output isn't longer than it may be, and put what was collected of
 -- both texts into the rooms; memory ran out nowhere
 pub record IsCollected (outcome : Outcome) (output messages : Counted) (most : ℕ) (answer : Answer)

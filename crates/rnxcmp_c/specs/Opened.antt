@@ -2,14 +2,16 @@
 use Rattle.std.specs.Prelude.{◌≡◌, ◌⊎◌, ℕ, Bool, true, false, List, [], ◌∷◌, length, drop}
 use Rattle.std.specs.Prelude.{Option, None, is_some}
 use Rattle.crx_base.specs.declared.fault.Fault.TheVariants.{OutOfMemory}
+use Rattle.crx_base.specs.meaning.Choices.{Choices}
 use Rattle.crx_base.specs.meaning.Faults.{code_of_fault}
 use Rattle.crx_runs.specs.declared.outcome.Outcome.{Outcome}
 use Rattle.rnxcmp_c.specs.Handles.{Ends, Feeds, ReaderStands, fault_now, status_now}
 use Rattle.rnxcmp_c.specs.Past.{past_of}
-use Rattle.rnxcmp_c.specs.meaning.Answers.{BothTexts, bare_answer, placed}
-use Rattle.rnxcmp_c.specs.meaning.Handles.{Task, handle_answer}
+use Rattle.rnxcmp_c.specs.meaning.Answers.{BothTexts, HasNoMemory, bare_answer, placed}
+use Rattle.rnxcmp_c.specs.meaning.Ended.{ExpansionPromises}
+use Rattle.rnxcmp_c.specs.meaning.Handles.{Task, handle_answer, joined_texts}
 use Rattle.rnxcmp_c.specs.declared.answer.Answer.{Answer}
-use Rattle.rnxcmp_c.specs.declared.answer.TheConstants.{MISUSED}
+use Rattle.rnxcmp_c.specs.declared.answer.TheConstants.{MISUSED, OUTPUT_LIMIT}
 use Rattle.rnxcmp_c.specs.declared.handle.Handle.{Handle}
 use Rattle.rnxcmp_c.specs.declared.reader.Reader.{Reader}
 use Rattle.rnxcmp_c.specs.Waiting.{waiting}
@@ -90,6 +92,15 @@ pub record KeepsHandle (old new : Handle) (answer : Answer) : Type 0 where
 -- all went well, or there was no memory
 abbrev pub AnswersOpening : Answer → Type 0
 AnswersOpening answer = (answer ≡ bare_answer 0 0 0) ⊎ (answer ≡ bare_answer 1 0 (code_of_fault OutOfMemory))
+
+-- this is so where neither memory nor the limit of the output ended a run
+abbrev pub WhereItEnded : Answer → Type 0 → Type 0
+WhereItEnded answer is_so = (HasNoMemory answer → ⊥) → (answer.status ≡ OUTPUT_LIMIT → ⊥) → is_so
+
+-- all that was made of these bytes is as an expansion promises, some of it taken and the others kept
+abbrev pub KeepsExpansion : Choices → List ℕ → BothTexts → Handle → Answer → Type 0
+KeepsExpansion choices fed taken handle answer =
+    ExpansionPromises choices fed (joined_texts taken (texts_kept handle)) (texts_kept handle) answer
 
 -- what became of a handle's run by some bytes
 pub record FeedsHandle (task : Task) (old new : Handle) (fed : List ℕ) (taken : BothTexts) (bytes : List ℕ)

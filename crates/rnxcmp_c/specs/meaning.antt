@@ -1,5 +1,6 @@
 -- What has to be believed: the definitions that the promises stand on. docs/READING.md gives their order.
 pub mod Answers
+pub mod Calls
 pub mod Ended
 pub mod Handles
 pub mod Lossless

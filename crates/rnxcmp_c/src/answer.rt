@@ -1,7 +1,6 @@
 //! What a call answers, and how its texts come into the caller's memory.
 
 ghost use Rattle.std.specs.Prelude.{◌≡◌};
-ghost use Rattle.crx_base.specs.declared.fault.Fault.TheVariants.{InputTooLong, OutOfMemory};
 ghost use Rattle.crx_base.specs.meaning.Faults.{code_of_fault};
 ghost use Rattle.rnxcmp_c.specs.meaning.Answers.{bare_answer, fault_code_in, line_in, placed};
 
@@ -48,37 +47,21 @@ pub(crate) fn bare(status: u32, line: u64, code: u32) -> Answer
     }
 }
 
-/// The input is longer than the limit.
-pub(crate) fn too_long() -> Answer
-    ensures { result ≡ bare_answer 1 0 (code_of_fault InputTooLong) }
+/// The answer of a run that a fault ended at this line, without texts.
+pub(crate) fn failed(line: u64, fault: Fault) -> Answer
+    ensures { result ≡ bare_answer 1 line (code_of_fault fault) }
 {
-    bare(1, 0, u32::from(Fault::InputTooLong.code()))
+    bare(1, line, u32::from(fault.code()))
 }
 
-/// Memory ran out at this line.
-pub(crate) fn out_of_memory(line: u64) -> Answer
-    ensures { result ≡ bare_answer 1 line (code_of_fault OutOfMemory) }
-{
-    bare(1, line, u32::from(Fault::OutOfMemory.code()))
-}
-
-/// The number of the fault that ended a run, 0 where none did.
-pub(crate) fn code_in(fault: Option<At>) -> u32
-    ensures { result ≡ fault_code_in fault }
+/// The line and the number of the fault that ended a run; 0 for both where none did.
+pub(crate) fn line_and_code(fault: Option<At>) -> (u64, u32)
+    ensures line { result.0 ≡ line_in fault }
+    ensures code { result.1 ≡ fault_code_in fault }
 {
     match fault {
-        None => 0,
-        Some(at) => u32::from(at.fault.code()),
-    }
-}
-
-/// The line of the fault that ended a run, 0 where none did.
-pub(crate) fn line_in(fault: Option<At>) -> u64
-    ensures { result ≡ line_in fault }
-{
-    match fault {
-        None => 0,
-        Some(at) => at.line,
+        None => (0, 0),
+        Some(at) => (at.line, u32::from(at.fault.code())),
     }
 }
 

@@ -74,7 +74,7 @@ pub struct Counted {
 }
 
 impl Counted {
-    ghost use Rattle.rnxcmp_c.specs.Collecting.{IsCountedAlike, IsEmpty};
+    ghost use Rattle.rnxcmp_c.specs.Collecting.{IsEmpty};
     ghost use Rattle.rnxcmp_c.specs.Counting.{Took};
 
     /// A sink that took no byte yet, with this much room, which takes so many bytes at most.
@@ -92,28 +92,6 @@ impl Counted {
             lost: false,
         }
     }
-
-    /// Takes so many of some bytes; `false` says that there was no memory for those that are to be kept.
-    fn take_first(&mut self, bytes: &[u8], some: usize) -> bool
-        requires some { some ≤ length bytes.now }
-        requires within { self.old.count + some ≤ self.old.most }
-        ensures took { result ≡ true → Took self.old (take some bytes.now) self.new }
-        ensures none { result ≡ false → Took self.old [] self.new }
-        ensures lost { result ≡ false → self.new.lost ≡ true }
-        ensures counts { IsCountedAlike self.old self.new }
-    {
-        let kept = some.min(self.room - self.bytes.len());
-        if self.lost || self.bytes.reserve(kept).is_err() {
-            self.lost = true;
-            return false;
-        }
-        match self.bytes.extend_from_slice(&bytes[..kept]) {
-            Ok(()) => {}
-            Err(_) => unreachable!(),
-        }
-        self.count += some;
-        true
-    }
 }
 
 impl Sink for Counted {
@@ -130,9 +108,18 @@ impl Sink for Counted {
     fn write(&mut self, bytes: &[u8]) -> Result<usize, WriteFailed> {
         self.flushed = false;
         let some = bytes.len().min(self.most - self.count);
-        let is_full = some == 0 && !bytes.is_empty();
-        if !is_full && self.take_first(bytes, some) {
-            return Ok(some);
+        if some > 0 || bytes.is_empty() {
+            let kept = some.min(self.room - self.bytes.len());
+            // What was lost once stays so: the bytes that are kept are the first ones.
+            if !self.lost && self.bytes.reserve(kept).is_ok() {
+                match self.bytes.extend_from_slice(&bytes[..kept]) {
+                    Ok(()) => {}
+                    Err(_) => unreachable!(),
+                }
+                self.count += some;
+                return Ok(some);
+            }
+            self.lost = true;
         }
         self.failures = self.failures.saturating_add(1);
         Err(WriteFailed)

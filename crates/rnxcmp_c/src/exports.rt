@@ -4,24 +4,23 @@
 //! and lengths are those of the defined result of the input, for every choice of options. A text that doesn't fit is in its room as
 //! far as it does. Else, and where the output is longer than it may be, nothing in the caller's rooms is changed.
 
-ghost use Rattle.std.specs.Prelude.{◌≡◌, ◌<◌, ◌≤◌, length, Some, true, false};
+ghost use Rattle.std.specs.Prelude.{◌≡◌, ◌≤◌, length, Some, true, false};
 ghost use Rattle.crx_filter.specs.meaning.Lossless.{SaysThatItComesBack};
 ghost use Rattle.crx_base.specs.meaning.Choices.{Choices, choices_of, is_date};
 ghost use Rattle.crx_filter.specs.meaning.Compacted.{compacted};
 ghost use Rattle.crx_filter.specs.meaning.Expanded.{expanded};
 ghost use Rattle.crx_filter.specs.meaning.Standard.{checked};
-ghost use Rattle.crx_base.specs.declared.fault.Fault.TheVariants.{InputTooLong, OutOfMemory};
-ghost use Rattle.crx_base.specs.declared.limits.TheConstants.{INPUT_LIMIT};
-ghost use Rattle.crx_base.specs.meaning.Faults.{code_of_fault};
 ghost use Rattle.rnxcmp_c.specs.meaning.Lossless.{CallBringsBackWhatPasses};
-ghost use Rattle.rnxcmp_c.specs.meaning.Answers.{AnswersAlone, AnswersWithin, HasNoMemory, IsAnswer, rooms};
+ghost use Rattle.rnxcmp_c.specs.meaning.Calls.{KeepsWhereItRan, RefusesForMemory, RefusesLong, WhereItRan};
+ghost use Rattle.rnxcmp_c.specs.meaning.Answers.{AnswersAlone, AnswersWithin, IsAnswer, rooms};
 ghost use Rattle.rnxcmp_c.specs.declared.answer.TheConstants.{BAD_DATE};
 ghost use Rattle.rnxcmp_c.specs.meaning.Promises.{CallBringsBackWhatWasCompacted, CallJudgesStandard, CallSavesAllElse};
 ghost use Rattle.rnxcmp_c.specs.meaning.Stretches.{CallKeepsUndamaged, CallWritesWholeUnits};
 
-use crate::answer::{Answer, BAD_DATE, bare, too_long};
+use crate::answer::{Answer, BAD_DATE, bare, failed};
 use crate::devices::{Counted, Given};
 use crate::runs::{answer_of, taken_at_most};
+use crx_base::Fault;
 use crx_base::limits::INPUT_LIMIT;
 use crx_filter::{Options, check, compact, expand};
 use std::alloc::Global;
@@ -41,21 +40,18 @@ pub extern "C" fn rnxcmp_c_compact(
 ) -> Answer
     ensures date { is_date date.now ≡ false
         → AnswersAlone BAD_DATE 0 0 result (rooms output.old messages.old) (rooms output.new messages.new) }
-    ensures long { is_date date.now ≡ true → INPUT_LIMIT < length input.now
-        → AnswersAlone 1 0 (code_of_fault InputTooLong) result
-        (rooms output.old messages.old) (rooms output.new messages.new) }
-    ensures memory { HasNoMemory result
-        → AnswersAlone 1 result.line (code_of_fault OutOfMemory) result
-        (rooms output.old messages.old) (rooms output.new messages.new) }
-    ensures runs { is_date date.now ≡ true → length input.now ≤ INPUT_LIMIT → (HasNoMemory result → ⊥)
-        → AnswersWithin max_output (compacted input.now (choices_of (Some every) skip date.now)) result
-        (rooms output.old messages.old) (rooms output.new messages.new) }
+    ensures long { is_date date.now ≡ true
+        → RefusesLong input.now result (rooms output.old messages.old) (rooms output.new messages.new) }
+    ensures memory { RefusesForMemory result (rooms output.old messages.old) (rooms output.new messages.new) }
+    ensures runs { is_date date.now ≡ true → WhereItRan input.now result
+        (AnswersWithin max_output (compacted input.now (choices_of (Some every) skip date.now)) result
+        (rooms output.old messages.old) (rooms output.new messages.new)) }
 {
     let Ok(options) = Options::new(Some(every), skip, date) else {
         return bare(BAD_DATE, 0, 0);
     };
     if input.len() as u64 > INPUT_LIMIT {
-        return too_long();
+        return failed(0, Fault::InputTooLong);
     }
     let mut reader = Given::new(input);
     let mut written = Counted::new(alloc, output.len(), taken_at_most(max_output));
@@ -85,34 +81,24 @@ pub extern "C" fn rnxcmp_c_expand(
     output: &mut [u8],
     messages: &mut [u8],
 ) -> Answer
-    ensures long { INPUT_LIMIT < length input.now
-        → AnswersAlone 1 0 (code_of_fault InputTooLong) result
+    ensures long { RefusesLong input.now result (rooms output.old messages.old) (rooms output.new messages.new) }
+    ensures memory { RefusesForMemory result (rooms output.old messages.old) (rooms output.new messages.new) }
+    ensures runs { (choices : Choices) → choices.skip ≡ skip → WhereItRan input.now result
+        (AnswersWithin max_output (expanded input.now choices) result
+        (rooms output.old messages.old) (rooms output.new messages.new)) }
+    ensures lossless { KeepsWhereItRan CallBringsBackWhatPasses input.now max_output result
         (rooms output.old messages.old) (rooms output.new messages.new) }
-    ensures memory { HasNoMemory result
-        → AnswersAlone 1 result.line (code_of_fault OutOfMemory) result
+    ensures way_back { KeepsWhereItRan CallBringsBackWhatWasCompacted input.now max_output result
         (rooms output.old messages.old) (rooms output.new messages.new) }
-    ensures runs { length input.now ≤ INPUT_LIMIT
-        → (HasNoMemory result → ⊥) → (choices : Choices) → choices.skip ≡ skip
-        → AnswersWithin max_output (expanded input.now choices) result
+    ensures salvage { skip ≡ true → KeepsWhereItRan CallSavesAllElse input.now max_output result
         (rooms output.old messages.old) (rooms output.new messages.new) }
-    ensures lossless { length input.now ≤ INPUT_LIMIT → (HasNoMemory result → ⊥)
-        → CallBringsBackWhatPasses (λ whole. AnswersWithin max_output whole result
-        (rooms output.old messages.old) (rooms output.new messages.new)) input.now }
-    ensures way_back { length input.now ≤ INPUT_LIMIT → (HasNoMemory result → ⊥)
-        → CallBringsBackWhatWasCompacted (λ whole.
-        AnswersWithin max_output whole result (rooms output.old messages.old) (rooms output.new messages.new)) input.now }
-    ensures salvage { length input.now ≤ INPUT_LIMIT → (HasNoMemory result → ⊥) → skip ≡ true
-        → CallSavesAllElse (λ whole. AnswersWithin max_output whole result
-        (rooms output.old messages.old) (rooms output.new messages.new)) input.now }
-    ensures damage { length input.now ≤ INPUT_LIMIT → (HasNoMemory result → ⊥) → skip ≡ true
-        → CallKeepsUndamaged (λ whole. AnswersWithin max_output whole result
-        (rooms output.old messages.old) (rooms output.new messages.new)) input.now }
-    ensures whole_units { length input.now ≤ INPUT_LIMIT → (HasNoMemory result → ⊥)
-        → CallWritesWholeUnits (λ whole. AnswersWithin max_output whole result
-        (rooms output.old messages.old) (rooms output.new messages.new)) input.now }
+    ensures damage { skip ≡ true → KeepsWhereItRan CallKeepsUndamaged input.now max_output result
+        (rooms output.old messages.old) (rooms output.new messages.new) }
+    ensures whole_units { KeepsWhereItRan CallWritesWholeUnits input.now max_output result
+        (rooms output.old messages.old) (rooms output.new messages.new) }
 {
     if input.len() as u64 > INPUT_LIMIT {
-        return too_long();
+        return failed(0, Fault::InputTooLong);
     }
     let mut reader = Given::new(input);
     let mut written = Counted::new(alloc, output.len(), taken_at_most(max_output));
@@ -135,22 +121,16 @@ pub extern "C" fn rnxcmp_c_check(
     output: &mut [u8],
     messages: &mut [u8],
 ) -> Answer
-    ensures long { INPUT_LIMIT < length input.now
-        → AnswersAlone 1 0 (code_of_fault InputTooLong) result
-        (rooms output.old messages.old) (rooms output.new messages.new) }
-    ensures memory { HasNoMemory result
-        → AnswersAlone 1 result.line (code_of_fault OutOfMemory) result
-        (rooms output.old messages.old) (rooms output.new messages.new) }
-    ensures runs { length input.now ≤ INPUT_LIMIT → (HasNoMemory result → ⊥)
-        → IsAnswer (checked input.now) result
-        (rooms output.old messages.old) (rooms output.new messages.new) }
-    ensures lossless { length input.now ≤ INPUT_LIMIT → (HasNoMemory result → ⊥)
-        → SaysThatItComesBack result.status input.now }
-    ensures standard { length input.now ≤ INPUT_LIMIT → (HasNoMemory result → ⊥)
-        → result.output_length ≤ length output.old → CallJudgesStandard result.status input.now }
+    ensures long { RefusesLong input.now result (rooms output.old messages.old) (rooms output.new messages.new) }
+    ensures memory { RefusesForMemory result (rooms output.old messages.old) (rooms output.new messages.new) }
+    ensures runs { WhereItRan input.now result
+        (IsAnswer (checked input.now) result (rooms output.old messages.old) (rooms output.new messages.new)) }
+    ensures lossless { WhereItRan input.now result (SaysThatItComesBack result.status input.now) }
+    ensures standard { WhereItRan input.now result
+        (result.output_length ≤ length output.old → CallJudgesStandard result.status input.now) }
 {
     if input.len() as u64 > INPUT_LIMIT {
-        return too_long();
+        return failed(0, Fault::InputTooLong);
     }
     let mut reader = Given::new(input);
     let mut written = Counted::new(alloc, output.len(), usize::MAX);

@@ -12,19 +12,20 @@ ghost use Rattle.crx_base.specs.meaning.Lines.{lines_of};
 ghost use Rattle.rnxcmp_c.specs.Handles.{IsFresh};
 ghost use Rattle.rnxcmp_c.specs.meaning.Handles.{HandlePromise, RunHasEnded, RunWasEnded, StopsAtLimit, StopsForMemory, TakesBytes, Task, joined_texts, run_for};
 ghost use Rattle.rnxcmp_c.specs.Holding.{HoldsNothing};
-ghost use Rattle.rnxcmp_c.specs.Opened.{AnswersOpening, ByItsPast, EndsHandle, FeedsHandle, HandleStands, Holds, IsSoundHandle, IsUnchanged, KeepsHandle, OnceItHasEnded, RefusesMisuse, WhileItGoesOn, has_ended, messages_kept, output_kept, run_state, texts_kept};
+ghost use Rattle.rnxcmp_c.specs.Opened.{AnswersOpening, ByItsPast, EndsHandle, FeedsHandle, HandleStands, Holds, IsSoundHandle, IsUnchanged, KeepsHandle, OnceItHasEnded, RefusesMisuse, KeepsExpansion, WhereItEnded, WhileItGoesOn, has_ended, messages_kept, output_kept, run_state, texts_kept};
 ghost use Rattle.rnxcmp_c.specs.declared.reader.Reader.{Reader};
-ghost use Rattle.rnxcmp_c.specs.meaning.Answers.{BothTexts, HasNoMemory, bare_answer, placed, rooms};
-ghost use Rattle.rnxcmp_c.specs.meaning.Ended.{CheckPromises, ExpansionPromises};
-ghost use Rattle.rnxcmp_c.specs.declared.answer.TheConstants.{MISUSED, OUTPUT_LIMIT};
+ghost use Rattle.rnxcmp_c.specs.meaning.Answers.{BothTexts, bare_answer, placed, rooms};
+ghost use Rattle.rnxcmp_c.specs.meaning.Ended.{CheckPromises};
+ghost use Rattle.rnxcmp_c.specs.declared.answer.TheConstants.{MISUSED};
 
-use crate::answer::{Answer, BAD_DATE, MISUSED, bare, out_of_memory};
+use crate::answer::{Answer, BAD_DATE, MISUSED, bare, failed};
 use crate::engines::AnyEngine;
 use crate::exports::expansion_options;
 use crate::held::Held;
 use crate::loose::Loose;
 use crate::place::Place;
 use crate::reader::Reader;
+use crx_base::Fault;
 use crx_filter::checker::Checker;
 use crx_filter::{Compactor, Expander, Options};
 use std::alloc::Global;
@@ -83,7 +84,7 @@ fn open(alloc: Global, handle: &mut Handle, engine: AnyEngine, held: Held) -> An
             put_in(handle, reader);
             bare(0, 0, 0)
         }
-        None => out_of_memory(0),
+        None => failed(0, Fault::OutOfMemory),
     }
 }
 
@@ -123,11 +124,11 @@ pub extern "C" fn rnxcmp_c_open_compact(
         return bare(BAD_DATE, 0, 0);
     };
     let Ok(held) = Held::new(alloc, max_output) else {
-        return out_of_memory(0);
+        return failed(0, Fault::OutOfMemory);
     };
     match Compactor::new(alloc, options) {
         Ok(compactor) => open(alloc, handle, AnyEngine::Compacting(compactor), held),
-        Err(_) => out_of_memory(0),
+        Err(_) => failed(0, Fault::OutOfMemory),
     }
 }
 
@@ -149,11 +150,11 @@ pub extern "C" fn rnxcmp_c_open_expand(
         return bare(MISUSED, 0, 0);
     }
     let Ok(held) = Held::new(alloc, max_output) else {
-        return out_of_memory(0);
+        return failed(0, Fault::OutOfMemory);
     };
     match Expander::new(alloc, expansion_options(skip)) {
         Ok(expander) => open(alloc, handle, AnyEngine::Expanding(expander), held),
-        Err(_) => out_of_memory(0),
+        Err(_) => failed(0, Fault::OutOfMemory),
     }
 }
 
@@ -169,7 +170,7 @@ pub extern "C" fn rnxcmp_c_open_check(alloc: Global, handle: &mut Handle) -> Ans
         return bare(MISUSED, 0, 0);
     }
     let Ok(held) = Held::new(alloc, 0) else {
-        return out_of_memory(0);
+        return failed(0, Fault::OutOfMemory);
     };
     open(
         alloc,
@@ -234,12 +235,10 @@ pub extern "C" fn rnxcmp_c_end(alloc: Global, handle: &mut Handle) -> Answer
         ((result ≡ bare_answer MISUSED 0 0) × (handle.new.place.held ≡ handle.old.place.held)) }
     ensures expansion { (choices : Choices) (limit : ℕ) (fed : List ℕ) (taken : BothTexts)
         → HandleStands (Task.Expand choices limit) handle.old fed taken → has_ended handle.old ≡ false
-        → (HasNoMemory result → ⊥) → (result.status ≡ OUTPUT_LIMIT → ⊥)
-        → ExpansionPromises choices fed
-        (joined_texts taken (texts_kept handle.new)) (texts_kept handle.new) result }
+        → WhereItEnded result (KeepsExpansion choices fed taken handle.new result) }
     ensures check { (fed : List ℕ) (taken : BothTexts)
         → HandleStands Task.Check handle.old fed taken → has_ended handle.old ≡ false
-        → (HasNoMemory result → ⊥) → (result.status ≡ OUTPUT_LIMIT → ⊥) → CheckPromises fed result }
+        → WhereItEnded result (CheckPromises fed result) }
     ensures sound { IsSoundHandle handle.new }
 {
     if !handle.is_open {
@@ -282,14 +281,11 @@ pub extern "C" fn rnxcmp_c_take(
         (texts_kept handle.new) result) }
     ensures expansion { (choices : Choices) (limit : ℕ) (fed : List ℕ) (taken : BothTexts)
         → HandleStands (Task.Expand choices limit) handle.new fed taken → has_ended handle.new ≡ true
-        → (HasNoMemory result → ⊥) → (result.status ≡ OUTPUT_LIMIT → ⊥)
-        → (result.code ≡ code_of_fault InputTooLong → ⊥)
-        → ExpansionPromises choices fed
-        (joined_texts taken (texts_kept handle.new)) (texts_kept handle.new) result }
+        → WhereItEnded result ((result.code ≡ code_of_fault InputTooLong → ⊥)
+        → KeepsExpansion choices fed taken handle.new result) }
     ensures check { (fed : List ℕ) (taken : BothTexts)
         → HandleStands Task.Check handle.new fed taken → has_ended handle.new ≡ true
-        → (HasNoMemory result → ⊥) → (result.status ≡ OUTPUT_LIMIT → ⊥)
-        → (result.code ≡ code_of_fault InputTooLong → ⊥) → CheckPromises fed result }
+        → WhereItEnded result ((result.code ≡ code_of_fault InputTooLong → ⊥) → CheckPromises fed result) }
     ensures sound { IsSoundHandle handle.new }
 {
     if !handle.is_open {

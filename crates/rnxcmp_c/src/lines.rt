@@ -20,23 +20,20 @@ use crx_lines::feed::feed_from;
 use crx_runs::Engine;
 use crx_runs::one_line::{Halt, take_end, take_line, take_overlong};
 
-/// Whether a CR ends some bytes.
-fn has_return(bytes: &[u8]) -> bool
-    ensures { result ≡ ends_with_return bytes.now }
+/// A line's bytes without the CR that may end them, and whether one does.
+fn content_of(bytes: &[u8]) -> (&[u8], bool)
+    ensures content { result.0.now ≡ without_return bytes.now }
+    ensures has_return { result.1 ≡ ends_with_return bytes.now }
 {
     match bytes.split_last() {
-        Some((last, _)) => *last == b'\r',
-        None => false,
-    }
-}
-
-/// A line's bytes without the CR that may end them.
-fn content_of(bytes: &[u8]) -> &[u8]
-    ensures { result.now ≡ without_return bytes.now }
-{
-    match bytes.split_last() {
-        Some((last, front)) => { if *last == b'\r' { front } else { bytes } }
-        None => bytes,
+        Some((last, front)) => {
+            if *last == b'\r' {
+                (front, true)
+            } else {
+                (bytes, false)
+            }
+        }
+        None => (bytes, false),
     }
 }
 
@@ -58,11 +55,11 @@ fn offer_line<E: Engine>(
         → bytes.now ≡ take LINE_ROOM whole → LineIsGiven result (E.filter engine.old) (E.shows engine.new) lines
         (piece_line whole is_ended) output.old output.new messages.old messages.new }
 {
-    let content = content_of(bytes);
+    let (content, has_return) = content_of(bytes);
     if content.len() > LINE_LIMIT {
         return take_overlong(engine, output, messages, number);
     }
-    let is_plain = is_ended && !has_return(bytes);
+    let is_plain = is_ended && !has_return;
     take_line(
         engine,
         output,

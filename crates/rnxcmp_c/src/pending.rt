@@ -89,23 +89,13 @@ impl Pending {
     {
         let passed = self.passed;
         place(&self.bytes[passed..], room);
-        let count = self.count().min(room.len());
-        self.keep_from(passed + count);
-    }
-
-    /// Lets go of the bytes before this place.
-    fn keep_from(&mut self, passed: usize)
-        requires within { passed ≤ length self.old.bytes.items }
-        requires bounded { length self.old.bytes.items ≤ passed + WAITING_LIMIT }
-        ensures left { waiting self.new ≡ drop passed self.old.bytes.items }
-        ensures counts { CountsAlike self.old self.new }
-    {
-        let left = self.bytes.len() - passed;
-        if passed <= left {
-            self.passed = passed;
+        let handed = passed + self.count().min(room.len());
+        let left = self.bytes.len() - handed;
+        if handed <= left {
+            self.passed = handed;
             return;
         }
-        self.bytes.copy_within(passed.., 0);
+        self.bytes.copy_within(handed.., 0);
         self.bytes.truncate(left);
         self.passed = 0;
     }

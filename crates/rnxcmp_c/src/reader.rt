@@ -1,15 +1,15 @@
 //! A run that goes on from call to call.
 
-ghost use Rattle.std.specs.Prelude.{◌≡◌, ◌<◌, ◌≤◌, ◌+◌, ◌-◌, false, true, [], ◌∷◌, length, take, None};
+ghost use Rattle.std.specs.Prelude.{◌≡◌, ◌<◌, ◌≤◌, ◌+◌, ◌-◌, [], ◌∷◌, length, take, None};
 ghost use Rattle.crx_base.specs.declared.limits.TheConstants.{INPUT_LIMIT};
-ghost use Rattle.rnxcmp_c.specs.Handles.{Ends, Feeds, HasFed, IsFed, IsPut, EndsRunBy, ReaderHasEnded, ReaderHasPassed, ReaderRuns, ReaderStands, answer_now};
+ghost use Rattle.rnxcmp_c.specs.Handles.{Ends, Feeds, HasFed, IsFed, IsPut, EndsRunBy, ReaderHasEnded, ReaderRuns, ReaderStands, answer_now};
 ghost use Rattle.rnxcmp_c.specs.Opened.{HandsOut};
 ghost use Rattle.rnxcmp_c.specs.Past.{HandlePast, StopsSoon, fed_with, filter_for, taken_with};
 ghost use Rattle.rnxcmp_c.specs.meaning.Handles.{Task};
 ghost use Rattle.rnxcmp_c.specs.Waiting.{waiting};
 ghost use Rattle.rnxcmp_c.specs.meaning.Answers.{rooms};
 
-use crate::answer::{Answer, MISUSED, OUTPUT_LIMIT, bare, code_in, line_in};
+use crate::answer::{Answer, MISUSED, OUTPUT_LIMIT, bare, line_and_code};
 use crate::engines::{AnyEngine, end_engine, feed_engine, status_at_end};
 use crate::held::Held;
 use crate::stop::Stop;
@@ -63,14 +63,6 @@ fn outcome_of(held: &mut Held, stop: Stop) -> Outcome
     }
 }
 
-/// Whether there are bytes, and an input may have none of them.
-fn is_past(allowed: &[u8], bytes: &[u8]) -> bool
-    ensures past { result ≡ true → (length allowed.now ≡ 0) × (0 < length bytes.now) }
-    ensures within { result ≡ false → 0 < length bytes.now → 0 < length allowed.now }
-{
-    allowed.is_empty() && !bytes.is_empty()
-}
-
 impl Reader {
     /// Takes some bytes of the input, as long as little enough waits to be taken, and answers how many.
     fn feed(&mut self, bytes: &[u8]) -> usize
@@ -112,19 +104,6 @@ impl Reader {
         }
     }
 
-    /// Ends the run since there are more bytes than an input may have.
-    fn end_at_limit(&mut self)
-        requires { self.old.held.number ≤ INPUT_LIMIT }
-        ensures { (task : Task) (past : HandlePast) → ReaderRuns task self.old past
-            → length past.fed ≡ INPUT_LIMIT → ReaderHasPassed task self.new past }
-    {
-        let at = At {
-            line: self.held.number + 1,
-            fault: Fault::InputTooLong,
-        };
-        self.outcome = Some(put_down(&mut self.held, at));
-    }
-
     /// Its state.
     fn answer(&self) -> Answer
         ensures { result ≡ answer_now self.now }
@@ -133,12 +112,13 @@ impl Reader {
             None => (0, None),
             Some(outcome) => (u32::from(outcome.status), outcome.fault),
         };
+        let (line, code) = line_and_code(fault);
         Answer {
-            line: line_in(fault),
+            line,
             output_length: self.held.output.count(),
             messages_length: self.held.messages.count(),
             status,
-            code: code_in(fault),
+            code,
         }
     }
 
@@ -162,8 +142,12 @@ impl Reader {
             return (0, bare(MISUSED, 0, 0));
         }
         let allowed = self.allowed(bytes);
-        if is_past(allowed, bytes) {
-            self.end_at_limit();
+        if allowed.is_empty() && !bytes.is_empty() {
+            let at = At {
+                line: self.held.number + 1,
+                fault: Fault::InputTooLong,
+            };
+            self.outcome = Some(put_down(&mut self.held, at));
             return (0, self.answer());
         }
         let used = self.feed(allowed);

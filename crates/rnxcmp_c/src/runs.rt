@@ -4,7 +4,7 @@ ghost use Rattle.std.specs.Prelude.{◌≡◌, ◌+◌, ◌-◌, ◌^◌, ◌<�
 ghost use Rattle.rnxcmp_c.specs.meaning.Answers.{rooms};
 ghost use Rattle.rnxcmp_c.specs.Collecting.{AnswersRun};
 
-use crate::answer::{Answer, NO_ROOM, OUTPUT_LIMIT, bare, code_in, line_in, out_of_memory, place};
+use crate::answer::{Answer, NO_ROOM, OUTPUT_LIMIT, bare, failed, line_and_code, place};
 use crate::devices::Counted;
 use crx_base::Fault;
 use crx_runs::Outcome;
@@ -37,15 +37,16 @@ pub(crate) fn answer_of(
     if most > 0 && output.count as u64 > most {
         return bare(OUTPUT_LIMIT, 0, 0);
     }
-    let no_memory = code_in(outcome.fault) == u32::from(Fault::OutOfMemory.code());
+    let (line, code) = line_and_code(outcome.fault);
+    let no_memory = code == u32::from(Fault::OutOfMemory.code());
     if no_memory || output.failures != 0 || messages.failures != 0 {
-        return out_of_memory(line_in(outcome.fault));
+        return failed(line, Fault::OutOfMemory);
     }
     place(&output.bytes, output_room);
     place(&messages.bytes, messages_room);
     let fits = output.count <= output_room.len();
     Answer {
-        line: line_in(outcome.fault),
+        line,
         output_length: output.count,
         messages_length: messages.count,
         status: if fits {
@@ -53,6 +54,6 @@ pub(crate) fn answer_of(
         } else {
             NO_ROOM
         },
-        code: code_in(outcome.fault),
+        code,
     }
 }

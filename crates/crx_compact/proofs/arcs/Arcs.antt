@@ -17,10 +17,7 @@ values-left [] = refl
 values-left (o ∷ os) = ap (arc_of_value o) (values-left os) ∙ sym (arc-next o os)
 
 pub codes-of_values : (value : Option ℤ) (older : List (Option ℤ)) → CodesOfValues value older
-codes-of_values value older = record {
-  tail = values-left older;
-  code = cc (values-left older, code-next value older);
-}
+codes-of_values value older = grind (arith, common_steps, values-left, code-next)
 
 codes-left : (width : ℕ) (codes : List Code)
     → arc_of_codes width codes ≡ started_tail (since_start (accepted width codes))

@@ -1,5 +1,5 @@
 -- Differences of values within their columns are numbers that a code can hold.
-use Rattle.std.specs.Prelude.{◌↔◌, ◌≡◌, ℕ, zero, suc, ◌+◌, ◌-◌, ◌^◌, ◌<◌, ◌≤◌, min, true, ℤ, pos, negsuc}
+use Rattle.std.specs.Prelude.{◌↔◌, ◌≡◌, ℕ, zero, suc, ◌+◌, ◌-◌, ◌^◌, ◌<◌, ◌≤◌, min, true, ℤ, pos}
 use Rattle.std.specs.Prelude.{neg_ℤ, ◌-ℤ◌, ◌≤ℤ◌, List, [], ◌∷◌, length}
 use Rattle.std.specs.List.{AllByRecursion}
 use Rattle.std.proofs.Common.{sym, subst, arith}
@@ -35,17 +35,22 @@ near-more b c z le h = record { low = omega (arith, ints, h.low, le); high = ome
 near-zero : (b : ℕ) → IsNear b (pos 0)
 near-zero b = record { low = omega (arith, ints); high = omega (arith, ints) }
 
-near-along : (b : ℕ) (x y : ℤ) → x ≡ y → IsNear b x → IsNear b y
-near-along b x y e h = let P : ℤ → Type 0 = λ z. IsNear b z in subst P e h
-
 pub difference-near : (k b : ℕ) (xs : List ℤ) → AllByRecursion (IsNear b) xs
     → IsNear (doubled k b) (difference k xs)
 difference-near zero b [] h = near-zero b
-difference-near zero b (x ∷ xs) h = near-along b x (difference 0 (x ∷ xs)) (sym (difference-zero x xs)) h.0
+difference-near zero b (x ∷ xs) h =
+    let P : ℤ → Type 0 = λ z. IsNear b z in subst P (sym (difference-zero x xs)) h.0
 difference-near (suc k) b [] h = near-zero (doubled k b + doubled k b)
-difference-near (suc k) b (x ∷ xs) h = near-along _
-    (difference k (x ∷ xs) -ℤ difference k xs) _ (sym (difference-suc k x xs)) (near-sub (doubled k b)
-    (difference k (x ∷ xs)) (difference k xs) (difference-near k b (x ∷ xs) h) (difference-near k b xs h.1))
+difference-near (suc k) b (x ∷ xs) h =
+    grind (
+      arith,
+      common_steps,
+      difference-suc,
+      near-sub,
+      difference-near k b (x ∷ xs) h,
+      difference-near k b
+          xs h.1,
+    )
 
 pub doubled-more : (k n b : ℕ) → k ≤ n → doubled k b ≤ doubled n b
 doubled-more zero zero b h = omega arith
@@ -54,15 +59,13 @@ doubled-more (suc k) zero b h = absurd (omega (arith, h))
 doubled-more (suc k) (suc n) b h = omega (arith, doubled-more k n b (omega (arith, h)))
 
 short : (b : ℕ) (z : ℤ) → b < 10 ^ DIGITS_LIMIT → IsNear b z → IsShort z
-short b (pos n) h k = omega (arith, ints, h, k.high)
-short b (negsuc n) h k = omega (arith, ints, h, k.low)
+short b z h k = grind arith
 
 -- the code of an arc within a bound
 pub code-printable : (b : ℕ) (xs : List ℤ) → doubled WRITTEN_ORDER b < 10 ^ DIGITS_LIMIT
     → AllByRecursion (IsNear b) xs → IsPrintable (code_at WRITTEN_ORDER xs)
 code-printable b [] h k = tt
-code-printable b (x ∷ []) h k =
-    (omega arith, short b x (omega (arith, h, doubled-more 0 WRITTEN_ORDER b (omega arith))) k.0)
+code-printable b (x ∷ []) h k = grind arith
 code-printable b (x ∷ y ∷ ys) h k =
     let order = min (length (y ∷ ys)) WRITTEN_ORDER in
     short _ (difference order (x ∷ y ∷ ys)) h (near-more (doubled order b) (doubled WRITTEN_ORDER b)
@@ -78,7 +81,4 @@ near-within width z h = grind (arith, common_steps, ten-more)
 
 -- the test of a value's columns and the fact
 pub within-is : (width : ℕ) (z : ℤ) → (is_within width z ≡ true) ↔ IsWithin width z
-within-is width z = (
-  (λ h. record { low = grind (arith, ints, h); high = grind (arith, ints, h) }),
-  (λ h. grind (arith, ints, h.low, h.high)),
-)
+within-is width z = grind arith

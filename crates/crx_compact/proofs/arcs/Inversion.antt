@@ -55,8 +55,6 @@ difference-steps (suc k) x y (z ∷ zs) h =
 
 -- the numbers but the oldest are those of the steps, of the order below
 pub numbers-steps : (n : ℕ) (xs : List ℤ) → without_oldest (numbers_of (suc n) xs) ≡ numbers_of n (steps xs)
-numbers-steps n [] = refl
-numbers-steps n (x ∷ []) = refl
 numbers-steps n (x ∷ y ∷ ys) =
     let order : min (length (y ∷ ys)) (suc n) ≡ suc (min (length ys) n) = omega arith in
     let same = ap (λ m. min m n) (length-steps y ys) in
@@ -64,21 +62,18 @@ numbers-steps n (x ∷ y ∷ ys) =
     (ap (λ k. difference k (x ∷ y ∷ ys)) order ∙ difference-steps (min (length ys) n) x y ys (omega arith)
     ∙ ap (λ k. difference k (steps (x ∷ y ∷ ys))) (sym same)) ∙
     ap (λ r. difference (min (length (steps (y ∷ ys))) n) (steps (x ∷ y ∷ ys)) ∷ r) (numbers-steps n (y ∷ ys))
+numbers-steps n xs = refl
 
 -- ---- the recurrence of the values
 
 take-nil : (n : ℕ) → take {A = ℤ} n [] ≡ []
-take-nil zero = refl
-take-nil (suc n) = refl
+take-nil n = grind arith
 
 -- a last number whose weight is 0 does not count
 last-without_weight : (w : ℕ → ℤ) (n : ℕ) (r : List ℤ) (x : ℤ)
     → w (length r) ≡ pos 0 → weighted w (take n (r ++ x ∷ [])) ≡ weighted w (take n r)
 last-without_weight w zero r x h = refl
-last-without_weight w (suc n) [] x h = grind (arith, common_steps, take-nil, zero_times)
-  where
-    zero_times : (x : ℤ) → (pos 0 *ℤ x) +ℤ pos 0 ≡ pos 0
-    zero_times x = omega (arith, ints)
+last-without_weight w (suc n) [] x h = grind (arith, common_steps, take-nil)
 last-without_weight w (suc n) (y ∷ r) x h = cc (last-without_weight (λ i. w (suc i)) n r x h)
 
 pos-add : (m n : ℕ) → pos (m + n) ≡ pos m +ℤ pos n
@@ -137,10 +132,6 @@ laters-step m (suc e) x c =
     turn : (a b : ℤ) → a +ℤ b ≡ b +ℤ a
     turn a b = omega (arith, ints)
 
--- the later sum doesn't reach a list's oldest number
-laters-oldest : (m d : ℕ) (b : List ℤ) (z : ℤ) → d ≤ length b → laters m d (b ++ z ∷ []) ≡ laters m d b
-laters-oldest m d b z h = ap (weighted (λ i. pos (binomial (i + m) m))) (take-append-le d b (z ∷ []) h)
-
 -- one step of the first sum
 firsts-step : (n : ℕ) (z x : ℤ) (r : List ℤ) → firsts (suc (length r)) (suc n) (z ∷ (r ++ x ∷ []))
     ≡ firsts (length r) (suc n) (z ∷ r) +ℤ firsts (length r) n (r ++ x ∷ [])
@@ -190,7 +181,8 @@ value-recurs (suc m) x b z =
     let below = value_parts m (x ∷ b) (length (reverse b))
     (length b - m) (reverse b ++ x ∷ []) (omega (arith, same)) (omega arith) (reverse-first x b) in
     let later = laters-step m _ x _ ∙ ap (λ v. laters (suc m) (length b - m - 1) (b ++ z ∷ []) +ℤ v)
-    (laters-oldest m (length b - m) (x ∷ b) z (omega arith)) in
+    (ap (weighted (λ i. pos (binomial (i + m) m))) (take-append-le (length b - m) (x ∷ b) (z ∷ []) (omega
+    arith))) in
     let first = firsts-step (suc m) z x (reverse b) in
     left ∙ ap (λ v. v +ℤ laters (suc m) (length b - m) (x ∷ (b ++ z ∷ []))) first ∙ ap (λ v. (firsts (length
     (reverse b)) (suc (suc m)) (z ∷ reverse b) +ℤ firsts (length (reverse b)) (suc m) (reverse b ++ x ∷ []))
@@ -217,9 +209,7 @@ value-first n d = search rules
 
 -- the numbers of an arc's codes give its newest value
 pub value-numbers : (n : ℕ) (xs : List ℤ) (x : ℤ) → value_at n (numbers_of n (x ∷ xs)) ≡ x
-value-numbers zero xs x =
-    let none : min (length xs) 0 ≡ 0 = omega arith in
-    ap (λ k. difference k (x ∷ xs)) none ∙ difference-zero x xs
+value-numbers zero xs x = grind (arith, common_steps, difference, difference-zero)
 value-numbers (suc n) [] x = grind (arith, common_steps, value-first, difference-zero)
 value-numbers (suc n) (y ∷ ys) x = value-step n (difference (min (length (y ∷ ys)) (suc n)) (x ∷ y ∷ ys))
     (difference (min (length ys) (suc n)) (y ∷ ys)) (numbers_of (suc n) ys)

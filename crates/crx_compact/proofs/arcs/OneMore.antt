@@ -20,14 +20,12 @@ HasNumbers None = ⊤
 HasNumbers (Some arc) = 0 < length arc.numbers
 
 numbers-onto : (d : ℤ) (o : Option Started) → HasNumbers o → HasNumbers (option_map (onto_started d) o)
-numbers-onto d None h = tt
-numbers-onto d (Some arc) h = omega arith
+numbers-onto d o h = grind arith
 
 has-numbers : (cs : List Code) → HasNumbers (since_start cs)
-has-numbers [] = tt
-has-numbers (Missing ∷ cs) = tt
 has-numbers (Start n v ∷ cs) = omega arith
 has-numbers (Step d ∷ cs) = numbers-onto d (since_start cs) (has-numbers cs)
+has-numbers cs = tt
 
 value-start : (n : ℕ) (v : ℤ) → value_at n (v ∷ []) ≡ v
 value-start zero v = refl

@@ -27,14 +27,10 @@ order_bound zero = value_bound
 order_bound (suc k) = order_bound k + order_bound k
 
 order-bound-more : (k j : ℕ) → order_bound k ≤ order_bound (j + k)
-order-bound-more k zero =
-    let e : zero + k ≡ k = omega arith in
-    let P : ℕ → Type 0 = λ n. order_bound k ≤ order_bound n in
-    rw e (omega arith)
+order-bound-more k zero = grind arith
 order-bound-more k (suc j) =
     let e : suc j + k ≡ suc (j + k) = omega arith in
     let below = order-bound-more k j in
-    let P : ℕ → Type 0 = λ n. order_bound k ≤ order_bound n in
     rw e (omega arith)
 
 -- the largest of all, of order 9
@@ -58,9 +54,8 @@ after-below bound value (d ∷ ds) h hs =
     }
 
 pub take-below : (bound n : ℕ) (ds : List ℤ) → AreBelow bound ds → AreBelow bound (take n ds)
-take-below bound zero ds h = tt
-take-below bound (suc n) [] h = tt
 take-below bound (suc n) (d ∷ ds) h = (h.0, take-below (bound + bound) n ds h.1)
+take-below bound n ds h = tt
 
 -- ---- steps
 
@@ -70,32 +65,18 @@ total [] = pos 0
 total (d ∷ ds) = d +ℤ total ds
 
 newest-sum : (d : ℤ) (ds : List ℤ) → newest (onto_sum d ds) ≡ d +ℤ newest ds
-newest-sum d [] = omega (arith, ints)
-newest-sum d (e ∷ es) = refl
+newest-sum d ds = grind arith
 
 -- the value that the number of a code leads to: the number and all lower differences together
 pub newest-by : (number : ℤ) (ds : List ℤ) → newest (differences_by number ds) ≡ number +ℤ total ds
 newest-by number [] = omega (arith, ints)
 newest-by number (d ∷ ds) = omega (arith, ints, newest-by number ds, newest-sum d (differences_by number ds))
 
-some-by : (number : ℤ) (ds : List ℤ) → (onto : ℤ) → onto_sum onto (differences_by number ds)
-    ≡ (onto +ℤ newest (differences_by number ds)) ∷ differences_by number ds
-some-by number [] onto = refl
-some-by number (d ∷ ds) onto = some-sum onto d _
-  where
-    some-sum : (o d : ℤ) (es : List ℤ)
-        → onto_sum o (onto_sum d es) ≡ (o +ℤ newest (onto_sum d es)) ∷ onto_sum d es
-    some-sum o d [] = refl
-    some-sum o d (e ∷ es) = refl
-
 -- the differences by a number are those at the value that it leads to
 pub by-after : (number : ℤ) (ds : List ℤ)
     → differences_by number ds ≡ differences_after (newest (differences_by number ds)) ds
 by-after number [] = refl
-by-after number (d ∷ ds) =
-    let v = newest (differences_by number ds) in
-    let back : (d +ℤ v) -ℤ d ≡ v = omega (arith, ints) in
-    cc (some-by number ds d, by-after number ds, back, some-by number ds d)
+by-after number (d ∷ ds) = grind (arith, by-after number ds)
 
 -- only the lower differences count for those up to an order
 pub take-after : (n : ℕ) (value : ℤ) (ds : List ℤ)
@@ -111,18 +92,12 @@ pub drop-index : (ds : List ℤ) (k : ℕ) → k < length ds
     → drop k ds ≡ slice_index_or ds k (pos 0) ∷ drop (k + 1) ds
 drop-index ds k h = grind (arith, common_steps)
 
-pub below-fits : (bound : ℕ) (value : ℤ) → bound ≤ 2 ^ 63 → IsBelow bound value → FitsSigned w64 value
-below-fits bound value h f = omega (arith, ints, f.low, f.high)
-
 record NextBelow (k : ℕ) (ds : List ℤ) : Type 0 where
   first : IsBelow (order_bound k) (slice_index_or ds k (pos 0))
   rest : AreBelow (order_bound (k + 1)) (drop (k + 1) ds)
 
 next-below : (k : ℕ) (ds : List ℤ) → k < length ds → AreBelow (order_bound k) (drop k ds) → NextBelow k ds
-next-below k ds h hs =
-    let P : List ℤ → Type 0 = λ xs. AreBelow (order_bound k) xs in
-    let split = subst P (drop-index ds k h) hs in
-    search rules
+next-below k ds h hs = search (rules, drop-index)
 
 -- a number that fits is what its bits stand for
 pub same-bits : (value : ℤ) → FitsSigned w64 value → to_z w64 (of_z w64 value) ≡ value
@@ -130,13 +105,11 @@ same-bits value h = to_z-of_z w64 value h
 
 pub first-fits : (k : ℕ) (ds : List ℤ) → k < length ds
     → k ≤ 9 → AreBelow (order_bound k) (drop k ds) → FitsSigned w64 (slice_index_or ds k (pos 0))
-first-fits k ds h few hs =
-    grind (arith, common_steps, order_bound, order-bound-within, below-fits, slice_index_or, next-below)
+first-fits k ds h few hs = search (rules, order-bound-within, slice_index_or, next-below)
 
 pub difference-fits : (k : ℕ) (ds : List ℤ) (next : ℤ) → k < length ds → k ≤ 9 → IsBelow (order_bound k) next
     → AreBelow (order_bound k) (drop k ds) → FitsSigned w64 (next -ℤ slice_index_or ds k (pos 0))
-difference-fits k ds next h few f hs =
-    grind (arith, common_steps, order_bound, order-bound-within, slice_index_or, next-below)
+difference-fits k ds next h few f hs = search (rules, order-bound-within, slice_index_or, next-below)
 
 -- one place more of the differences at a next value
 pub record Advanced (k : ℕ) (target ds : List ℤ) (next : ℤ) : Type 0 where
@@ -152,7 +125,6 @@ advance-step k target ds next h a =
     let g = b.first in
     let more : k + 1 ≡ suc k = omega arith in
     let later = drop-set-lt (k + 1) ds k next (omega arith) in
-    let P : List ℤ → Type 0 = λ xs. AreBelow (order_bound (k + 1)) xs in
     let Q : ℕ → Type 0 = λ n. IsBelow (order_bound n) (next -ℤ slice_index_or ds k (pos 0)) in
     let small : IsBelow (order_bound (suc k)) (next -ℤ slice_index_or ds k (pos 0)) =
     record { low = omega (arith, ints, f.low, g.high); high = omega (arith, ints, f.high, g.low) } in
@@ -172,9 +144,6 @@ pub record ToThird (value : ℤ) (ds : List ℤ) : Type 0 where
 
 pub to-third : (value : ℤ) (ds : List ℤ)
     → 3 < length ds → IsBelow value_bound value → AreBelow value_bound (take 3 ds) → ToThird value ds
-to-third value [] h f hs = absurd (omega (arith, h))
-to-third value (a ∷ []) h f hs = absurd (omega (arith, h))
-to-third value (a ∷ b ∷ []) h f hs = absurd (omega (arith, h))
 to-third value (a ∷ b ∷ c ∷ ds) h f hs =
     let v = f in
     let x = hs.0 in
@@ -188,24 +157,19 @@ to-third value (a ∷ b ∷ c ∷ ds) h f hs =
       second = omega (arith, ints, v.low, v.high, x.low, x.high, y.low, y.high);
       third = omega (arith, ints, v.low, v.high, x.low, x.high, y.low, y.high, z.low, z.high);
     }
+to-third value ds h f hs = absurd (omega (arith, h))
 
 -- the first four of some numbers, put in place one after another
 pub set-four : (ds : List ℤ) (v a b c : ℤ) → 3 < length ds
     → take 4 (slice_set (slice_set (slice_set (slice_set ds 0 v) 1 a) 2 b) 3 c) ≡ v ∷ a ∷ b ∷ c ∷ []
-set-four [] v a b c h = absurd (omega (arith, h))
-set-four (d ∷ []) v a b c h = absurd (omega (arith, h))
-set-four (d ∷ e ∷ []) v a b c h = absurd (omega (arith, h))
-set-four (d ∷ e ∷ f ∷ []) v a b c h = absurd (omega (arith, h))
 set-four (d ∷ e ∷ f ∷ g ∷ ds) v a b c h = refl
+set-four ds v a b c h = absurd (omega (arith, h))
 
 pub after-three : (ds : List ℤ) (value : ℤ)
     → 3 < length ds → differences_after value (take 3 ds) ≡ value ∷ (value -ℤ slice_index_or ds 0 (pos 0))
     ∷ (value -ℤ slice_index_or ds 0 (pos 0) -ℤ slice_index_or ds 1 (pos 0)) ∷
     (value -ℤ slice_index_or ds 0 (pos 0) -ℤ slice_index_or ds 1 (pos 0) -ℤ slice_index_or ds 2 (pos 0)) ∷ []
-after-three [] value h = absurd (omega (arith, h))
-after-three (d ∷ []) value h = absurd (omega (arith, h))
-after-three (d ∷ e ∷ []) value h = absurd (omega (arith, h))
-after-three (d ∷ e ∷ f ∷ ds) value h = refl
+after-three ds value h = grind arith
 
 -- a number and the three sums that it leads to, the highest order first, are numbers of 64 bits
 pub record OntoThird (number : ℤ) (ds : List ℤ) : Type 0 where
@@ -222,9 +186,6 @@ pub record OntoThird (number : ℤ) (ds : List ℤ) : Type 0 where
 
 pub onto-third : (number : ℤ) (ds : List ℤ)
     → 3 < length ds → IsBelow (10 ^ 18) number → AreBelow value_bound (take 3 ds) → OntoThird number ds
-onto-third number [] h f hs = absurd (omega (arith, h))
-onto-third number (a ∷ []) h f hs = absurd (omega (arith, h))
-onto-third number (a ∷ b ∷ []) h f hs = absurd (omega (arith, h))
 onto-third number (a ∷ b ∷ c ∷ ds) h f hs =
     let n = f in
     let x = hs.0 in
@@ -239,6 +200,7 @@ onto-third number (a ∷ b ∷ c ∷ ds) h f hs =
       value = omega (arith, ints, n.low, n.high, x.low, x.high, y.low, y.high, z.low, z.high);
       sums = refl;
     }
+onto-third number ds h f hs = absurd (omega (arith, h))
 
 -- one place more of the value by a number
 pub record Summed (k : ℕ) (target value : ℤ) (ds : List ℤ) : Type 0 where
@@ -248,8 +210,7 @@ pub record Summed (k : ℕ) (target value : ℤ) (ds : List ℤ) : Type 0 where
 
 pub sum-fits : (k : ℕ) (target value : ℤ) (ds : List ℤ)
     → k < length ds → k ≤ 9 → Summed k target value ds → FitsSigned w64 (value +ℤ slice_index_or ds k (pos 0))
-sum-fits k target value ds h few s =
-    grind (arith, common_steps, order_bound, order-bound-within, slice_index_or, next-below)
+sum-fits k target value ds h few s = search (rules, order-bound-within, slice_index_or, next-below)
 
 pub sum-step : (k : ℕ) (target value : ℤ) (ds : List ℤ) → k < length ds
     → Summed k target value ds → Summed (k + 1) target (value +ℤ slice_index_or ds k (pos 0)) ds
@@ -258,7 +219,6 @@ sum-step k target value ds h s =
     let f = s.value_below in
     let g = b.first in
     let more : k + 1 ≡ suc k = omega arith in
-    let Q : ℕ → Type 0 = λ n. IsBelow (10 ^ 18 + order_bound n) (value +ℤ slice_index_or ds k (pos 0)) in
     let small : IsBelow (10 ^ 18 + order_bound (suc k)) (value +ℤ slice_index_or ds k (pos 0)) =
     record { low = omega (arith, ints, f.low, g.low); high = omega (arith, ints, f.high, g.high) } in
     record {
@@ -272,23 +232,13 @@ sum-step k target value ds h s =
 
 -- the last one of some differences is the highest
 pub highest-last : (ds : List ℤ) (d : ℤ) → highest (ds ++ d ∷ []) ≡ d
-highest-last [] d = refl
-highest-last (e ∷ []) d = refl
 highest-last (e ∷ f ∷ fs) d = highest-last (f ∷ fs) d
+highest-last ds d = refl
 
 take-take : (n m : ℕ) (ds : List ℤ) → take n (take m ds) ≡ take (min n m) ds
-take-take zero m ds =
-    let none : min 0 m ≡ 0 = omega arith in
-    sym (ap (λ k. take k ds) none)
-take-take (suc n) zero ds =
-    let none : min (suc n) 0 ≡ 0 = omega arith in
-    sym (ap (λ k. take k ds) none)
-take-take (suc n) (suc m) [] =
-    let more : min (suc n) (suc m) ≡ suc (min n m) = omega arith in
-    sym (ap (λ k. take k []) more)
-take-take (suc n) (suc m) (d ∷ ds) =
-    let more : min (suc n) (suc m) ≡ suc (min n m) = omega arith in
-    cc (take-take n m ds, more)
+take-take (suc n) (suc m) [] = grind (arith, common_steps)
+take-take (suc n) (suc m) (d ∷ ds) = grind (arith, common_steps, take-take n m ds)
+take-take n m ds = grind arith
 
 -- a value that fits its columns is below the bound of all
 pub within-below : (width : ℕ) (value : ℤ) → width ≤ 15 → IsWithin width value → IsBelow value_bound value
@@ -300,8 +250,7 @@ within-below width value few h =
     record { low = omega (arith, ints, h.low); high = omega (arith, ints, h.high) }
 
 pub below-short : (bound : ℕ) (value : ℤ) → bound ≤ 10 ^ 18 → IsBelow bound value → IsShort value
-below-short bound (pos n) room h = omega (arith, ints, h.high)
-below-short bound (negsuc n) room h = omega (arith, ints, h.low)
+below-short bound value room h = grind arith
 
 length-after : (value : ℤ) (ds : List ℤ) → length (differences_after value ds) ≡ suc (length ds)
 length-after value [] = refl
@@ -319,7 +268,6 @@ lower-taken order count last ds e = take-take order count ds ∙ ap (λ k. take 
 pub lower-below : (order count last : ℕ) (ds : List ℤ)
     → IsLast order count last → AreBelow value_bound (take count ds) → AreBelow value_bound (take last ds)
 lower-below order count last ds e h =
-    let P : List ℤ → Type 0 = λ xs. AreBelow value_bound xs in
     rw (← lower-taken order count last ds e) (take-below value_bound order (take count ds) h)
 
 -- the same of an arc of order 3 that has all of its differences
@@ -329,8 +277,7 @@ module _ (width order count : ℕ) (ds : List ℤ) (third : (order ≡ 3) × (co
   third-last = record { least = omega (arith, third.0, third.1) }
 
   pub to-third-kept : (value : ℤ) → IsWithin width value → ToThird value ds
-  to-third-kept value h = to-third value ds (omega (arith, long))
-      (within-below width value kept.few_columns h) (lower-below order count 3 ds third-last kept.below)
+  to-third-kept value h = search (rules, to-third, within-below, lower-below, third-last)
 
   pub onto-third-kept : (number : ℤ) → IsShort number → OntoThird number ds
   onto-third-kept number h = onto-third number ds
@@ -355,12 +302,11 @@ pub record GoesOn (order count last : ℕ) (value : ℤ) (ds : List ℤ) : Type 
 
 pub goes-on : (order count last : ℕ) (value : ℤ) (ds : List ℤ)
     → IsLast order count last → 0 < count → 0 < length ds → GoesOn order count last value ds
-goes-on order zero last value ds e h l = absurd (omega arith)
-goes-on order (suc count) last value [] e h l = absurd (omega arith)
 goes-on order (suc count) last value (d ∷ ds) e h l =
     let after = take-after order value (take (suc count) (d ∷ ds))
     ∙ ap (differences_after value) (lower-taken order (suc count) last (d ∷ ds) e) in
     record { code = cc (after); tail = cc (some-kept order value (take last (d ∷ ds)), after) }
+goes-on order count last value ds e h l = absurd (omega arith)
 
 -- the arc after a next value in range is kept as well
 newest-after : (width : ℕ) (value : ℤ) (ds : List ℤ)
@@ -372,14 +318,7 @@ pub goes-on-kept : (width order count last : ℕ) (ds ds' : List ℤ) (value : �
     → IsArcInRange width order count (take count ds) → IsWithin width value → take (last + 1) ds'
     ≡ differences_after value (take last ds) → IsArcInRange width order (last + 1) (take (last + 1) ds')
 goes-on-kept width order count last ds ds' value e k h after =
-    let P : List ℤ → Type 0 = λ xs. AreBelow value_bound xs in
-    record {
-      few_columns = k.few_columns;
-      order_within = k.order_within;
-      counted = omega arith;
-      below = grind (arith, common_steps, after-below, value_bound, within-below, lower-below);
-      newest = rw after (newest-after width value (take last ds) h);
-    }
+    grind (arith, after-below, within-below, lower-below, newest-after)
 
 -- an arc that has its first value alone
 pub begun-list : (ds : List ℤ) (value : ℤ) → 0 < length ds → take 1 (slice_set ds 0 value) ≡ value ∷ []
@@ -393,15 +332,7 @@ begun-tail order count ds ds' value l e = cc (begun-list ds value l, e)
 
 pub begun-kept : (width order : ℕ) (ds : List ℤ) (value : ℤ) → 0 < length ds → width ≤ 15
     → order ≤ 9 → IsWithin width value → IsArcInRange width order 1 (take 1 (slice_set ds 0 value))
-begun-kept width order ds value l few o h =
-    let P : List ℤ → Type 0 = λ xs. IsArcInRange width order 1 xs in
-    rw (begun-list ds value l) (record {
-      few_columns = few;
-      order_within = o;
-      counted = omega arith;
-      below = (within-below width value few h, tt);
-      newest = h;
-    })
+begun-kept width order ds value l few o h = grind (arith, common_steps, begun-list, within-below, newest)
 
 -- an arc that has values goes on by the number of its next code
 pub record StepsOn (width order count last : ℕ) (number value : ℤ) (ds : List ℤ) : Type 0 where
@@ -412,8 +343,6 @@ pub record StepsOn (width order count last : ℕ) (number value : ℤ) (ds : Lis
 pub steps-on : (width order count last : ℕ) (number value : ℤ) (ds : List ℤ)
     → IsLast order count last → 0 < count → 0 < length ds
     → value ≡ newest (differences_by number (take last ds)) → StepsOn width order count last number value ds
-steps-on width order zero last number value ds e h l v = absurd (omega arith)
-steps-on width order (suc count) last number value [] e h l v = absurd (omega arith)
 steps-on width order (suc count) last number value (d ∷ ds) e h l v =
     let lower = lower-taken order _ last _ e in
     record {
@@ -422,6 +351,7 @@ steps-on width order (suc count) last number value (d ∷ ds) e h l v =
           (record { order = order; differences = xs })) (ap (λ x. differences_after x (take last (d ∷ ds))) v
           ∙ sym (by-after number (take last (d ∷ ds))) ∙ ap (differences_by number) (sym lower));
     }
+steps-on width order count last number value ds e h l v = absurd (omega arith)
 
 -- what the number of a next code leads to
 pub stepped : (width order count last : ℕ) (number value : ℤ) (ds : List ℤ) → last ≡ min order count
@@ -449,9 +379,7 @@ refused width value b e h f = in-range-by width value false (cc (h, e, same-bits
 highest-below : (k : ℕ) (ds : List ℤ) → length ds + k ≤ 10 → AreBelow (order_bound k) ds
     → IsShort (highest ds)
 highest-below k [] few h = omega arith
-highest-below k (d ∷ []) few h =
-    let room = order-bound-within k (omega arith) in
-    below-short _ d (omega arith) h.0
+highest-below k (d ∷ []) few h = grind (arith, common_steps, order-bound-within, below-short)
 highest-below k (d ∷ e ∷ es) few h = highest-below (suc k) (e ∷ es) (omega arith) h.1
 
 pub highest-short : (width order count last : ℕ) (value : ℤ) (ds : List ℤ)

@@ -78,9 +78,6 @@ differences-by_each (suc k) f g h =
     add_back : (a b c : ℤ) → a ≡ b -ℤ c → c +ℤ a ≡ b
     add_back a b c h = omega (arith, ints, h)
 
-head-numbers : (a b : ℤ) (as' bs : List ℤ) → a ∷ as' ≡ b ∷ bs → a ≡ b
-head-numbers a b as' bs e = ap newest e
-
 -- the differences of an arc's values after a next number
 pub values-differences : (n : ℕ) (c b : ℤ) (older : List ℤ) → differences_of n (values_of n (c ∷ b ∷ older))
     ≡ differences_by c (take n (differences_of n (values_of n (b ∷ older))))
@@ -89,8 +86,7 @@ values-differences n c b older =
     let w = value_at n (b ∷ older) in
     let vs = values_of n older in
     let k = min (length (w ∷ vs)) n in
-    let number = head-numbers
-    (difference k (v ∷ w ∷ vs)) c (numbers_of n (w ∷ vs)) (b ∷ older) (numbers-values n (c ∷ b ∷ older)) in
+    let number = ap newest (numbers-values n (c ∷ b ∷ older)) in
     let all = differences-by_each k
     (λ i. difference i (v ∷ w ∷ vs)) (λ i. difference i (w ∷ vs)) (λ i. difference-suc i v (w ∷ vs)) in
     let count : min (length (v ∷ w ∷ vs) - 1) n ≡ k = omega arith in

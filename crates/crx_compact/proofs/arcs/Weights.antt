@@ -9,8 +9,7 @@ use Rattle.std.proofs.lemmas.Grind.{common_steps}
 -- ---- weighted sums
 
 pub weighted-same : (v w : ℕ → ℤ) → ((i : ℕ) → v i ≡ w i) → (xs : List ℤ) → weighted v xs ≡ weighted w xs
-weighted-same v w same [] = refl
-weighted-same v w same (x ∷ xs) = search rules
+weighted-same v w same i = grind arith
 
 -- one more on the second summand, and one less
 mul-add_up : (a b x : ℤ) → (a +ℤ b) *ℤ x ≡ (a *ℤ x) +ℤ (b *ℤ x)
@@ -27,10 +26,6 @@ mul-add_down a b x h =
     let first = ap (λ n. n *ℤ x) less ∙ pred_ℤ-*ℤ (a +ℤ b) x in
     omega (arith, ints, ap (λ n. n *ℤ x) (-ℤ_one b) ∙ pred_ℤ-*ℤ b x, h)
 
-pub mul-add : (a b x : ℤ) → (a +ℤ b) *ℤ x ≡ (a *ℤ x) +ℤ (b *ℤ x)
-mul-add a b x = ℤ_ind (λ n. (a +ℤ n) *ℤ x ≡ (a *ℤ x) +ℤ (n *ℤ x)) (cc (+ℤ_idr a, zero-*ℤ x, +ℤ_idr (a *ℤ x)))
-    (λ n h. mul-add_up a (pos n) x h) (λ n h. mul-add_down a (neg_ℤ (pos n)) x h) b
-
 pub mul-neg : (a x : ℤ) → neg_ℤ a *ℤ x ≡ neg_ℤ (a *ℤ x)
 mul-neg a x = search rules
 
@@ -43,7 +38,12 @@ weighted-add v w [] = refl
 weighted-add v w (x ∷ xs) =
     let first =
     four (v zero *ℤ x) (w zero *ℤ x) (weighted (λ i. v (suc i)) xs) (weighted (λ i. w (suc i)) xs) in
-    cc (weighted-add (λ i. v (suc i)) (λ i. w (suc i)) xs, mul-add (v zero) (w zero) x)
+    cc (
+      weighted-add (λ i. v (suc i)) (λ i. w (suc i)) xs,
+      (ℤ_ind (λ n. ((v zero) +ℤ n) *ℤ x ≡ ((v zero) *ℤ x)
+          +ℤ (n *ℤ x)) (cc (+ℤ_idr (v zero), zero-*ℤ x, +ℤ_idr ((v zero) *ℤ x))) (λ n h. mul-add_up (v zero)
+          (pos n) x h) (λ n h. mul-add_down (v zero) (neg_ℤ (pos n)) x h) (w zero)),
+    )
 
 pub weighted-neg : (w : ℕ → ℤ) (xs : List ℤ) → weighted (λ i. neg_ℤ (w i)) xs ≡ neg_ℤ (weighted w xs)
 weighted-neg w [] = refl

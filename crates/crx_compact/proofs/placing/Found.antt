@@ -1,20 +1,20 @@
 -- A satellite is found by its identifier, or added behind the others.
 use Rattle.std.proofs.Common.{◌≡◌, ℕ, ◌<◌, List, [], ◌∷◌, ◌++◌, length, take, slice_get, get_or, position}
 use Rattle.std.proofs.Common.{Option, Some, None, IfSome, is_some, refl, ap, sym, ◌∙◌, inl, inr}
-use Rattle.std.proofs.Common.{arith, Bool, false}
+use Rattle.std.proofs.Common.{◌⊎◌, arith, Bool, false, true}
 use Rattle.std.specs.Str.{bytes_eq}
 use Rattle.std.specs.Map.{keys_of, lookup}
 use Rattle.std.proofs.lemmas.Bool.{cases_Bool, false≢true}
 use Rattle.std.proofs.lemmas.List.{take-append-le, length-map}
 use Rattle.std.proofs.lemmas.List.Quantifiers.{position-Some}
-use Rattle.std.proofs.lemmas.Option.{get_or_from_slice_get, none-some, slice_get-map}
+use Rattle.std.proofs.lemmas.Option.{get_or_from_slice_get, none-some, same_Some, slice_get-map}
 use Rattle.std.proofs.lemmas.Slice.Eq.{bytes_eq-Decides}
 use Rattle.crx_header.specs.meaning.Satellites.{is_among}
 use Rattle.crx_header.proofs.Apart.{other_way}
 use Rattle.crx_compact.specs.Entries.{Entry, IsFound, key_of}
 use Rattle.crx_compact.specs.Placing.{SatelliteTail}
 use Rattle.crx_compact.proofs.placing.PutNext.{there-is}
-use Rattle.crx_compact.proofs.placing.Rooms.{rooms-kept}
+use Rattle.crx_compact.proofs.placing.Rooms.{known-room, room-from_look_up, rooms-kept}
 
 pub found-there : (name : List ℕ) (i : ℕ) (es : List Entry) (satellite : SatelliteTail)
     → slice_get es i ≡ Some (name, satellite) → IsFound name i es es
@@ -24,6 +24,7 @@ found-there name i es satellite there = record {
   front = λ count within. refl;
   known = λ within. refl;
   rooms = λ other count has. has;
+  only = λ other count has. inl has;
 }
 
 -- where another identifier is there, which is the same
@@ -58,9 +59,22 @@ look_up-more test (e ∷ es) more satellite h = elim (cases_Bool (test e.0)) [
   | inr f ↦ rw f (look_up-more test es more _ (rw f at h))
 ]
 
+-- what is found once one was added was there, or is that one
+look_up-added : (test : List ℕ → Bool) (es : List Entry) (name : List ℕ) (satellite found : SatelliteTail)
+    → lookup test (es ++ (name, satellite) ∷ []) ≡ Some found
+    → (lookup test es ≡ Some found) ⊎ ((test name ≡ true) × (satellite ≡ found))
+look_up-added test [] name satellite found h = elim (cases_Bool (test name)) [
+  | inl t ↦ inr (t, same_Some satellite found (rw t at h))
+  | inr f ↦ absurd (none-some found (rw f at h))
+]
+look_up-added test (e ∷ es) name satellite found h = elim (cases_Bool (test e.0)) [
+  | inl t ↦ inl (rw t (rw t at h))
+  | inr f ↦ rw f (look_up-added test es name satellite found (rw f at h))
+]
+
 pub found-added : (name : List ℕ) (satellite : SatelliteTail) (es new : List Entry)
-    → new ≡ es ++ (name, satellite) ∷ [] → IsFound name (length es) es new
-found-added name satellite es new is = record {
+    → new ≡ es ++ (name, satellite) ∷ [] → satellite.room ≡ 0 → IsFound name (length es) es new
+found-added name satellite es new is none = record {
   satellite = satellite;
   there = ap (λ xs. slice_get xs (length es)) is ∙ at-seam es _;
   front = λ count within. ap (take count) is ∙ take-append-le count es _ within;
@@ -71,11 +85,19 @@ found-added name satellite es new is = record {
         ∙ look_up-more (bytes_eq other) es ((name, satellite) ∷ []) found known,
     omega arith,
   ));
+  only = λ other count has.
+      let known = known-room other count new has in
+      elim (look_up-added (bytes_eq other) es name satellite known.0
+      (ap (lookup (bytes_eq other)) (sym is) ∙ known.1)) [
+        | inl there ↦ inl (room-from_look_up other count es known.0 there known.2)
+        | inr added ↦
+            let room = ap (λ (s : SatelliteTail). s.room) added.1 in
+            inr ((bytes_eq-Decides other name).0 added.0, omega (arith, none, room, known.2))
+      ];
 }
 
 pub none-there : {X : Type 0} (r : Option X) → is_some r ≡ false → r ≡ None
-none-there None h = refl
-none-there (Some x) h = absurd (false≢true (sym h))
+none-there r h = grind arith
 
 -- where no look-up finds it, it isn't among them
 pub not-found : (name : List ℕ) (es : List Entry) → is_some (lookup (bytes_eq name) es) ≡ false

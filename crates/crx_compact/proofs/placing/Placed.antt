@@ -1,6 +1,6 @@
 -- What is answered of a satellite that comes.
 use Rattle.std.proofs.Common.{◌≡◌, ℕ, ◌+◌, ◌<◌, ◌≤◌, Bool, true, false, not, List, length, slice_get, Some}
-use Rattle.std.proofs.Common.{None, IsTrue, ◌↔◌, ap, arith, refl, sym, true≢false, ◌∙◌, rules}
+use Rattle.std.proofs.Common.{None, IsTrue, ◌↔◌, ap, arith, refl, sym, true≢false, rules}
 use Rattle.std.specs.Str.{bytes_eq}
 use Rattle.indexmap.specs.IndexMap.{IndexMap, IsUnique}
 use Rattle.crx_header.specs.meaning.Satellites.{is_among}
@@ -18,15 +18,7 @@ same-rooms rooms = record { forth = λ name count has. has; back = λ name count
 -- it isn't known
 pub placed-unknown : {name : List ℕ} {count : ℕ} (placed live : ℕ) (es : List Entry) → is_among key_of name es
     ≡ false → AnswersPlacing name count (placed_rows placed live es) (placed_rows placed live es) None
-placed-unknown {name} {count} placed live es none = record {
-  placed = tt;
-  unplaced = λ out. record {
-    absent = unknown-no_row name placed es none;
-    unchanged = refl;
-    known = unknown name count es none;
-  };
-  rooms = same-rooms _;
-}
+placed-unknown {name} {count} placed live es none = search (rules, unknown-no_row, unknown, same-rooms)
 
 module _ {S : Type 0} (m : IndexMap (List ℕ) SatelliteTail S) {name : List ℕ} {placed live found : ℕ}
     (is : IsFound name found m.entries m.entries) (unique : IsUnique bytes_eq m)
@@ -105,7 +97,4 @@ module _ {S : Type 0} (m : IndexMap (List ℕ) SatelliteTail S) {name : List ℕ
 pub placed-asked : {name : List ℕ} {count : ℕ} {old asked new : PlacedRows} {is_new : Bool}
     → is_among (λ (row : RowTail). row.name) name old.rows ≡ false → HasAskedRoom old asked
     → IsPlaced name count asked new is_new → IsPlaced name count old new is_new
-placed-asked {name} {count} {old} {asked} {new} {is_new} absent same placed =
-    let answer = placed.answer
-    ∙ ap (λ (rows : List RowTail). not (is_among (λ (row : RowTail). row.name) name rows)) same.rows in
-    search rules
+placed-asked {name} {count} {old} {asked} {new} {is_new} absent same placed = grind arith

@@ -8,13 +8,12 @@ use Rattle.indexmap.specs.IndexMap.{set_value_at}
 use Rattle.crx_compact.specs.Entries.{Entry, IsFound}
 use Rattle.crx_compact.specs.Placing.{SatelliteTail, row_of_entry}
 use Rattle.crx_compact.proofs.placing.EntryChanges.{changed-is}
+use Rattle.std.proofs.lemmas.Grind.{common_steps}
 
 -- all that were there are still there
 pub none-lost : (name : List ℕ) (found : ℕ) (old new : List Entry) → IsFound name found old new
     → length old ≤ length new
-none-lost name found old new is =
-    let same = ap length (is.front (length old) (omega arith)) in
-    omega (arith, same, length-take (length old) new, length-take (length old) old)
+none-lost name found old new is = grind (arith, common_steps, length-take)
 
 -- an entry that shows the same row changes no row
 pub rows-same : (es : List Entry) (i : ℕ) (name : List ℕ) (before after : SatelliteTail)

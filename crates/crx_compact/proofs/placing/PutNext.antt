@@ -29,9 +29,7 @@ take-there (y ∷ xs) (suc i) x there = ap (λ (zs : List _). y ∷ zs) (take-th
 
 -- where it is there already
 pub put-same : (placed : ℕ) (es : List Entry) → IsPutNext placed placed es es
-put-same placed es =
-    let next : placed + 1 ≡ suc placed = omega arith in
-    grind (arith, common_steps, take-there, key_of, rest-next)
+put-same placed es = grind (arith, common_steps, take-there, key_of, rest-next)
 
 -- where it is brought from further behind
 pub put-brought : (placed found : ℕ) (old new : List Entry) → placed < found

@@ -1,11 +1,11 @@
 -- Entries of a map in ranges, one after the other: where an identifier is, and what a swap leaves of them.
 use Rattle.std.proofs.Common.{◌≡◌, ℕ, zero, suc, ◌<◌, ◌≤◌, true, false, List, [], ◌∷◌, take, drop, set, map}
-use Rattle.std.proofs.Common.{swap, slice_get, Some, None, option_map, refl, ap, sym, ◌∙◌, inl, inr}
+use Rattle.std.proofs.Common.{swap, slice_get, Some, None, option_map, refl, ap, sym, ◌∙◌}
 use Rattle.std.proofs.Common.{arith, rules}
 use Rattle.std.specs.Str.{bytes_eq}
 use Rattle.std.specs.List.{AllByRecursion, IsDistinct}
 use Rattle.std.specs.Map.{keys_of}
-use Rattle.std.proofs.lemmas.Bool.{cases_Bool, or_parts}
+use Rattle.std.proofs.lemmas.Bool.{or_parts}
 use Rattle.std.proofs.lemmas.Map.Keys.{IsDistinct-head, IsDistinct-tail}
 use Rattle.std.proofs.lemmas.Option.{get_or_from_slice_get, none-some, same_Some}
 use Rattle.crx_header.specs.meaning.Satellites.{is_among}
@@ -23,10 +23,7 @@ swap-is (x ∷ xs) i j a b here there =
 pub named-map : {X Y : Type 0} (f : Y → List ℕ) (g : X → Y) (name : List ℕ) (xs : List X)
     → named f name (map g xs) ≡ option_map g (named (λ x. f (g x)) name xs)
 named-map f g name [] = refl
-named-map f g name (x ∷ xs) = elim (cases_Bool (bytes_eq (f (g x)) name)) [
-  | inl t ↦ rw t refl
-  | inr f' ↦ rw f' (named-map f g name xs)
-]
+named-map f g name (x ∷ xs) = grind (arith, named-map f g name xs)
 
 -- where none is of an identifier, none is found
 pub none-named : {X : Type 0} (f : X → List ℕ) (name : List ℕ) (count : ℕ) (xs : List X)
@@ -34,8 +31,7 @@ pub none-named : {X : Type 0} (f : X → List ℕ) (name : List ℕ) (count : �
 none-named f name zero [] h = refl
 none-named f name (suc count) [] h = refl
 none-named f name zero (x ∷ xs) h =
-    let parts = or_parts (bytes_eq (f x) name) (is_among f name xs) h in
-    rw parts.0 (none-named f name zero xs parts.1)
+    grind (arith, none-named f name zero xs (or_parts (bytes_eq (f x) name) (is_among f name xs) h).1)
 none-named f name (suc count) (x ∷ xs) h =
     none-named f name count xs (or_parts (bytes_eq (f x) name) (is_among f name xs) h).1
 
@@ -53,24 +49,20 @@ module _ {V : Type 0} where
   -- one that is at an index isn't among those before it
   pub not-before : (n : ℕ) (es : List (List ℕ × V)) (i : ℕ) (e : List ℕ × V) → IsDistinct bytes_eq
       (keys_of es) → slice_get es i ≡ Some e → n ≤ i → is_among name_of e.0 (take n es) ≡ false
-  not-before zero es i e h there before = refl
-  not-before (suc n) [] i e h there before = refl
   not-before (suc n) (x ∷ es) zero e h there before = absurd (omega (arith, before))
   not-before (suc n) (x ∷ es) (suc i) e h there before =
       rw (apart-at x.0 es i e (IsDistinct-head bytes_eq x.0 (keys_of es) h) there)
       (not-before n es i e (IsDistinct-tail bytes_eq x.0 (keys_of es) h) there (omega (arith, before)))
+  not-before n es i e h there before = refl
 
   -- and is among those up to it
   pub among-up_to : (n : ℕ) (es : List (List ℕ × V)) (i : ℕ) (e : List ℕ × V)
       → slice_get es i ≡ Some e → i < n → is_among name_of e.0 (take n es) ≡ true
   among-up_to zero es i e there within = absurd (omega (arith, within))
   among-up_to (suc n) [] i e there within = absurd (none-some e there)
-  among-up_to (suc n) (x ∷ es) zero e there within =
-      rw (ap (λ (y : List ℕ × V). bytes_eq y.0 e.0) (same_Some x e there) ∙ bytes_eq-same e.0) refl
-  among-up_to (suc n) (x ∷ es) (suc i) e there within = elim (cases_Bool (bytes_eq x.0 e.0)) [
-    | inl t ↦ rw t refl
-    | inr f ↦ rw f (among-up_to n es i e there (omega (arith, within)))
-  ]
+  among-up_to (suc n) (x ∷ es) zero e there within = search (rules, bytes_eq, same_Some, bytes_eq-same)
+  among-up_to (suc n) (x ∷ es) (suc i) e there within =
+      grind (arith, among-up_to n es i e there (omega (arith, within)))
 
   -- one in a range is found there
   pub found-in_range : (start end : ℕ) (es : List (List ℕ × V)) (i : ℕ) (e : List ℕ × V)
@@ -92,8 +84,7 @@ module _ {V : Type 0} where
       → start ≤ end → slice_get es end ≡ Some e → bytes_eq e.0 other ≡ false
       → named name_of other (drop start (take (suc end) es)) ≡ named name_of other (drop start (take end es))
   rest-one_more start end [] e other within there differs = absurd (none-some e there)
-  rest-one_more zero zero (x ∷ es) e other within there differs =
-      rw (ap (λ (y : List ℕ × V). bytes_eq y.0 other) (same_Some x e there) ∙ differs) refl
+  rest-one_more zero zero (x ∷ es) e other within there differs = grind arith
   rest-one_more (suc start) zero (x ∷ es) e other within there differs = absurd (omega (arith, within))
   rest-one_more zero (suc end) (x ∷ es) e other within there differs =
       cc (rest-one_more zero end es e other (omega arith) there differs)
@@ -106,8 +97,7 @@ module _ {V : Type 0} where
       → named name_of other (drop (suc start) (take end es)) ≡ named name_of other (drop start (take end es))
   rest-next start end [] e other within there differs = absurd (none-some e there)
   rest-next start zero (x ∷ es) e other within there differs = absurd (omega (arith, within))
-  rest-next zero (suc end) (x ∷ es) e other within there differs =
-      rw (ap (λ (y : List ℕ × V). bytes_eq y.0 other) (same_Some x e there) ∙ differs) refl
+  rest-next zero (suc end) (x ∷ es) e other within there differs = grind arith
   rest-next (suc start) (suc end) (x ∷ es) e other within there differs =
       rest-next start end es e other (omega (arith, within)) there differs
 
@@ -117,13 +107,9 @@ module _ {V : Type 0} where
       b.0 other ≡ false → named name_of other (take end (set es i a)) ≡ named name_of other (a ∷ take end es)
   in_place end i [] a b other within there new differs = absurd (none-some b there)
   in_place zero i (x ∷ es) a b other within there new differs = absurd (omega (arith, within))
-  in_place (suc end) zero (x ∷ es) a b other within there new differs =
-      rw (ap (λ (y : List ℕ × V). bytes_eq y.0 other) (same_Some x b there) ∙ differs) refl
+  in_place (suc end) zero (x ∷ es) a b other within there new differs = grind arith
   in_place (suc end) (suc i) (x ∷ es) a b other within there new differs =
-      elim (cases_Bool (bytes_eq x.0 other)) [
-        | inl t ↦ search rules
-        | inr f ↦ rw f (in_place end i es a b other (omega (arith, within)) there new.1 differs)
-      ]
+      search (rules, in_place end i es a b other (omega (arith, within)) there new.1 differs)
 
   -- the same in a range that loses its first one, which is put in the place of the other
   pub rest-brought : (start end i : ℕ) (es : List (List ℕ × V)) (a b : List ℕ × V) (other : List ℕ)
@@ -131,10 +117,6 @@ module _ {V : Type 0} where
       → IsDistinct bytes_eq (keys_of es) → bytes_eq b.0 other ≡ false → named name_of other
       (drop (suc start) (take end (set es i a))) ≡ named name_of other (drop start (take end es))
   rest-brought start end i [] a b other after before here there h differs = absurd (none-some b there)
-  rest-brought start zero i (x ∷ es) a b other after before here there h differs =
-      absurd (omega (arith, before))
-  rest-brought start (suc end) zero (x ∷ es) a b other after before here there h differs =
-      absurd (omega (arith, after))
   rest-brought zero (suc end) (suc i) (x ∷ es) a b other after before here there h differs =
       let same = same_Some x a here in
       in_place end i es a b other (omega (arith, before)) there (rw (← same) (IsDistinct-head bytes_eq x.0
@@ -142,3 +124,4 @@ module _ {V : Type 0} where
   rest-brought (suc start) (suc end) (suc i) (x ∷ es) a b other after before here there h differs =
       rest-brought start end i es a b other (omega (arith, after)) (omega (arith, before)) here there
       (IsDistinct-tail bytes_eq x.0 (keys_of es) h) differs
+  rest-brought start end i (x ∷ es) a b other after before here there h differs = grind arith

@@ -1,6 +1,6 @@
 -- A satellite that comes back is the first one behind those that mean something, with nothing stored.
-use Rattle.std.proofs.Common.{◌≡◌, ℕ, ◌<◌, ◌≤◌, List, [], length, take, set, slice_get, swap, Option, Some}
-use Rattle.std.proofs.Common.{ap, sym, ◌∙◌, arith, length-set, refl, rules}
+use Rattle.std.proofs.Common.{◌≡◌, ℕ, ◌<◌, ◌≤◌, List, [], length, set, slice_get, swap, Some}
+use Rattle.std.proofs.Common.{ap, sym, ◌∙◌, arith, length-set, refl}
 use Rattle.std.specs.Str.{bytes_eq}
 use Rattle.std.specs.Map.{lookup}
 use Rattle.std.proofs.lemmas.List.{take-set-le}
@@ -19,17 +19,9 @@ use Rattle.std.proofs.lemmas.Grind.{common_steps}
 abbrev pub emptied : SatelliteTail → SatelliteTail
 emptied satellite = record satellite { flags = []; cells = [] }
 
-abbrev entry_of : List ℕ → SatelliteTail → Option Entry
-entry_of name satellite = Some (name, satellite)
-
 module _ {S : Type 0} (m : IndexMap (List ℕ) SatelliteTail S) (found : ℕ) (name : List ℕ)
     (before after : SatelliteTail) (unique : IsUnique bytes_eq m)
     (there : slice_get m.entries found ≡ Some (name, before)) (is : after ≡ emptied before) where
-  -- the one that is found is the one that is emptied
-  emptied-is : (other : List ℕ) (satellite : SatelliteTail) → slice_get m.entries found
-      ≡ Some (other, satellite) → entry_of name after ≡ entry_of other (emptied satellite)
-  emptied-is other satellite also = search rules
-
   set-is : set_value_at m.entries found after ≡ set m.entries found (name, after)
   set-is = changed-is m.entries found name before after there
 
@@ -44,14 +36,7 @@ module _ {S : Type 0} (m : IndexMap (List ℕ) SatelliteTail S) (found : ℕ) (n
 
   -- it is there already
   pub revived-there : IsRevived found found m.entries (set_value_at m.entries found after)
-  revived-there = record {
-    there = λ other satellite also. ap (λ es. slice_get es found) set-is
-        ∙ set-there _ found _ within ∙ emptied-is other _ also;
-    front = ap (take found) set-is ∙ take-set-le found _ found _ (omega arith);
-    counted = length-set_value_at _ found after;
-    rooms = rooms-changed m found name before after unique there (rooms after.room refl);
-    back = rooms-changed-back m found name before after unique there fewer;
-  }
+  revived-there = grind (arith, common_steps, set-is, set-there, within, rooms-changed, rooms-changed-back)
 
   -- it is brought from further behind
   pub revived-brought : (live : ℕ) (new : List Entry) → live < found → new
@@ -68,7 +53,7 @@ module _ {S : Type 0} (m : IndexMap (List ℕ) SatelliteTail S) (found : ℕ) (n
       let made : new ≡ set (set es found a) live (name, after) =
       swapped ∙ swap-is es found live (name, after) a here first.1 in
       record {
-        there = grind (arith, common_steps, slice_get, set-there, length-set, emptied-is);
+        there = grind (arith, common_steps, slice_get, set-there, length-set);
         front = grind (arith, common_steps, take-set-le, set-is);
         counted = ap length swapped ∙ length-swap es found live ∙ counted;
         rooms = λ other count has.

@@ -1,6 +1,6 @@
 -- The room of the satellites that are known, by look-ups in their map.
-use Rattle.std.proofs.Common.{◌≡◌, ℕ, ◌≤◌, false, List, [], ◌∷◌, Option, Some, None, option_map, refl}
-use Rattle.std.proofs.Common.{ap, sym, ◌∙◌, inl, inr, arith, subst, rules}
+use Rattle.std.proofs.Common.{◌≡◌, ℕ, ◌≤◌, false, List, [], ◌∷◌, Some, None, option_map, refl}
+use Rattle.std.proofs.Common.{sym, ◌∙◌, inl, inr, arith, subst, rules}
 use Rattle.std.specs.Str.{bytes_eq}
 use Rattle.std.specs.Map.{lookup}
 use Rattle.std.proofs.lemmas.Bool.{cases_Bool, false≢true}
@@ -10,6 +10,7 @@ use Rattle.crx_header.proofs.Apart.{other_way}
 use Rattle.crx_compact.specs.Entries.{Entry, key_of, rooms_of}
 use Rattle.crx_compact.specs.Placing.{HasRoom, KeepsRooms, SatelliteTail}
 use Rattle.crx_compact.specs.meaning.Sequences.{named}
+use Rattle.std.proofs.lemmas.Grind.{common_steps}
 
 abbrev pub room_as : List ℕ → SatelliteTail → List ℕ × ℕ
 room_as name satellite = (name, satellite.room)
@@ -18,21 +19,12 @@ room_as name satellite = (name, satellite.room)
 pub room-by_look_up : (name : List ℕ) (es : List Entry) → named (λ (r : List ℕ × ℕ). r.0) name (rooms_of es)
     ≡ option_map (room_as name) (lookup (bytes_eq name) es)
 room-by_look_up name [] = refl
-room-by_look_up name (e ∷ es) = elim (cases_Bool (bytes_eq e.0 name)) [
-  | inl t ↦ search rules
-  | inr f ↦ rw (f, other_way e.0 name f) (room-by_look_up name es)
-]
+room-by_look_up name (e ∷ es) = search (rules, cases_Bool, bytes_eq, other_way, room-by_look_up name es)
 
 -- what has room is known, and so is how much
 pub known-room : (name : List ℕ) (count : ℕ) (es : List Entry) → HasRoom name count (rooms_of es)
     → (satellite : SatelliteTail) × (lookup (bytes_eq name) es ≡ Some satellite) × (count ≤ satellite.room)
-known-room name count es h = by (lookup (bytes_eq name) es) refl (sym (room-by_look_up name es) ∙ h.there)
-  where
-    by : (r : Option SatelliteTail) → lookup (bytes_eq name) es ≡ r → option_map
-        (room_as name) (lookup (bytes_eq name) es) ≡ Some (name, h.room) → (satellite : SatelliteTail)
-        × (lookup (bytes_eq name) es ≡ Some satellite) × (count ≤ satellite.room)
-    by None is e = absurd (none-some (name, h.room) (ap (option_map (room_as name)) (sym is) ∙ e))
-    by (Some satellite) is e = search rules
+known-room name count es h = grind (arith, common_steps, lookup, bytes_eq, room-by_look_up)
 
 pub room-from_look_up : (name : List ℕ) (count : ℕ) (es : List Entry) (satellite : SatelliteTail)
     → lookup (bytes_eq name) es ≡ Some satellite → count ≤ satellite.room → HasRoom name count (rooms_of es)

@@ -1,6 +1,6 @@
 -- What is stored of one satellite among those that have come changes: its row, and no other one.
 use Rattle.std.proofs.Common.{◌≡◌, ℕ, zero, suc, ◌-◌, ◌<◌, ◌≤◌, List, [], ◌∷◌, ◌++◌, length, map, take}
-use Rattle.std.proofs.Common.{slice_get, drop, Option, Some, None, option_map, refl, ap, sym, ◌∙◌, arith}
+use Rattle.std.proofs.Common.{slice_get, drop, Option, Some, None, refl, ap, ◌∙◌, arith}
 use Rattle.std.proofs.Common.{slice_set, slice_index_or}
 use Rattle.std.specs.Prelude.{flat_map}
 use Rattle.std.specs.Str.{bytes_eq}
@@ -12,17 +12,17 @@ use Rattle.crx_text.specs.meaning.Columns.{without_end_blanks}
 use Rattle.crx_text.specs.meaning.EachPlace.{each_place}
 use Rattle.crx_text.specs.meaning.Texts.{text_difference}
 use Rattle.crx_rinex.specs.meaning.Observations.{Row}
-use Rattle.crx_compact.specs.ArcSteps.{arc_of_value, code_of_value}
 use Rattle.crx_compact.specs.ArcTails.{ArcTail}
 use Rattle.crx_compact.specs.Cells.{arcs_of_cells, codes_of_cells}
 use Rattle.indexmap.specs.IndexMap.{IndexMap, IsUnique, set_value_at}
 use Rattle.indexmap.specs.Layout.{length-set_value_at}
-use Rattle.crx_compact.proofs.placing.EntryChanges.{changed-is, rooms-changed}
+use Rattle.crx_compact.proofs.placing.EntryChanges.{changed-is, rooms-changed, rooms-changed-back}
 use Rattle.crx_compact.specs.Entries.{Entry, placed_rows}
 use Rattle.crx_compact.specs.meaning.Cells.{cell_text}
 use Rattle.crx_compact.specs.Placing.{KeepsRest, SatelliteTail, cells_for, padded, row_tail_of, row_of_entry}
 use Rattle.crx_compact.specs.Steps.{flags_held, row_line_after, row_tail_after}
 use Rattle.crx_compact.specs.Tails.{RowTail}
+use Rattle.std.proofs.lemmas.Grind.{common_steps}
 
 get-take : {X : Type 0} (n i : ℕ) (xs : List X) → i < n → slice_get (take n xs) i ≡ slice_get xs i
 get-take zero i xs within = absurd (omega (arith, within))
@@ -38,8 +38,7 @@ pub rows-counted : (placed : ℕ) (es : List Entry) → placed ≤ length es →
 rows-counted placed es within = length-map (take placed es) row_of_entry ∙ length-take-le placed es within
 
 pub among-placed : (placed i : ℕ) (es : List Entry) → i < length (rows_of placed es) → i < placed
-among-placed placed i es within =
-    omega (arith, within, length-map (take placed es) row_of_entry, length-take placed es)
+among-placed placed i es within = grind (arith, common_steps, length-map, row_of_entry, length-take)
 
 -- the row at an index is that of the entry there
 pub record IsRowAt (placed i : ℕ) (es : List Entry) (e : Entry) : Type 0 where
@@ -49,11 +48,7 @@ pub record IsRowAt (placed i : ℕ) (es : List Entry) (e : Entry) : Type 0 where
 
 pub row-at : (placed : ℕ) {i : ℕ} {es : List Entry} {e : Entry} → i < length (rows_of placed es)
     → slice_get es i ≡ Some e → IsRowAt placed i es e
-row-at placed {i} {es} {e} within entry =
-    let below = among-placed placed i es within in
-    let there =
-    slice_get-map _ (take placed es) i ∙ ap (option_map row_of_entry) (get-take placed i es below ∙ entry) in
-    record { below = below; there = there; is = λ row also. same_Some _ row (sym there ∙ also) }
+row-at placed {i} {es} {e} within entry = grind (arith, common_steps, slice_get-map, get-take)
 
 -- ---- what is stored of the satellite at an index changes
 
@@ -66,15 +61,13 @@ module _ {S : Type 0} (m : IndexMap (List ℕ) SatelliteTail S) (placed live : �
     (there : slice_get m.entries i ≡ Some (name, before)) (after : SatelliteTail) where
   pub rows-changed : rows_of placed (set_value_at m.entries i after)
       ≡ slice_set (rows_of placed m.entries) i (row_tail_of name after)
-  rows-changed = ap (rows_of placed) (changed-is m.entries i name before after there) ∙ ap (map row_of_entry)
-      (take-set-lt placed m.entries i (name, after) (among-placed placed i m.entries within))
-      ∙ map-set _ _ i (name, after)
+  rows-changed = grind (arith, common_steps, changed-is, row_of_entry, take-set-lt, among-placed, map-set)
 
   -- and the rest stays
   pub rest-kept : (placed ≤ live) × (live ≤ length m.entries)
-      → IsUnique bytes_eq m → before.room ≤ after.room → KeepsRest
+      → IsUnique bytes_eq m → before.room ≡ after.room → KeepsRest
       (placed_rows placed live m.entries) (placed_rows placed live (set_value_at m.entries i after))
-  rest-kept order unique more =
+  rest-kept order unique same =
       let below = among-placed placed i _ within in
       let few = order.0 in
       record {
@@ -82,22 +75,19 @@ module _ {S : Type 0} (m : IndexMap (List ℕ) SatelliteTail S) (placed live : �
             (changed-is m.entries i name before after there) ∙ ap (λ es. map row_of_entry (drop placed es))
             (take-set-lt live m.entries i (name, after) (omega (arith, below, few)))
             ∙ ap (map row_of_entry) (drop-set-lt placed (take live m.entries) i (name, after) below);
-        rooms = rooms-changed m i name before after unique there more;
+        rooms = record {
+          forth = rooms-changed m i name before after unique there (omega (arith, same));
+          back = rooms-changed-back m i name before after unique there (omega (arith, same));
+        };
       }
 
 -- ---- the last row
 
 pub last-is : {X : Type 0} (xs ys : List X) (x y : X) (i : ℕ) → xs ≡ ys ++ y ∷ [] → i ≡ length xs - 1
     → (slice_get xs i ≡ Some y) × (slice_set xs i x ≡ ys ++ x ∷ [])
-last-is xs [] x y i e is =
-    let at : i ≡ 0 = omega (arith, ap length e, is) in
-    (rw (at, e) refl, rw (at, e) refl)
+last-is xs [] x y i e is = grind arith
 last-is [] (z ∷ ys) x y i e is = absurd (none-some z (ap (λ (zs : List _). slice_get zs 0) e))
-last-is (w ∷ xs) (z ∷ ys) x y zero e is = absurd (many ys y (omega (arith, ap length e, is)))
-  where
-    many : {X : Type 0} (ys : List X) (y : X) → length (ys ++ y ∷ []) ≡ 0 → ⊥
-    many [] y h = absurd (omega (arith, h))
-    many (z ∷ ys) y h = absurd (omega (arith, h))
+last-is (w ∷ xs) (z ∷ ys) x y zero e is = grind (arith, common_steps)
 last-is (w ∷ xs) (z ∷ ys) x y (suc i) e is =
     let next = last-is xs ys x y i (ap (λ (zs : List _). drop_one zs) e) (omega (arith, is)) in
     (next.0, rw (same_Some w z (ap (λ (zs : List _). slice_get zs 0) e), next.1) refl)
@@ -115,10 +105,7 @@ pub padded-is : (name : List ℕ) (count : ℕ) (satellite after : SatelliteTail
 padded-is name count satellite after is = ap (row_tail_of name) is
 
 pub ends-same : {X : Type 0} (xs ys : List X) (x y : X) → xs ++ x ∷ [] ≡ ys ++ y ∷ [] → x ≡ y
-ends-same xs ys x y e =
-    let all = xs ++ x ∷ [] in
-    same_Some x y (sym (last-is all xs x x (length all - 1) refl refl).0
-    ∙ (last-is all ys y y (length all - 1) e refl).0)
+ends-same xs ys x y e = grind (arith, common_steps, same_Some, last-is)
 
 pub has-last : {X : Type 0} (xs : List X) → 0 < length xs
     → (before : List X) × (x : X) × (xs ≡ before ++ x ∷ [])
@@ -146,13 +133,7 @@ pub written-row : (row : Row) (satellite marked after : SatelliteTail) → marke
   cells = cells_for (length row.values) satellite.cells;
 } → after ≡ record marked { cells = arcs_of_cells marked.cells row.values }
     → row_tail_of row.name after ≡ row_tail_after (Some (row_tail_of row.name satellite)) row
-written-row row satellite marked after marks arcs =
-    let n = length _ in
-    let cells : arcs_of_cells marked.cells row.values ≡ arcs_of_cells satellite.cells row.values =
-    ap (λ (s : SatelliteTail). arcs_of_cells s.cells row.values) marks ∙ each_place-below n _ _ (λ k
-    within. ap (arc_of_value (slice_index_or row.values k None)) (cell-there n k satellite.cells within)) in
-    ap (row_tail_of row.name) arcs
-    ∙ (λ j. record { name = row.name; flags = (marks j).flags; cells = cells j })
+written-row row satellite marked after marks arcs = grind (arith, each_place-below, cell-there)
 
 -- and its line
 pub written-line : (row : Row) (satellite marked : SatelliteTail) (part : List ℕ)
@@ -162,9 +143,4 @@ pub written-line : (row : Row) (satellite marked : SatelliteTail) (part : List �
     } → part ≡ text_difference satellite.flags row.flags
     → without_end_blanks (flat_map cell_text (codes_of_cells marked.cells row.values) ++ part)
     ≡ row_line_after (Some (row_tail_of row.name satellite)) row
-written-line row satellite marked part marks is =
-    let n = length _ in
-    let codes : codes_of_cells marked.cells row.values ≡ codes_of_cells satellite.cells row.values =
-    ap (λ (s : SatelliteTail). codes_of_cells s.cells row.values) marks ∙ each_place-below n _ _ (λ k
-    within. ap (code_of_value (slice_index_or row.values k None)) (cell-there n k satellite.cells within)) in
-    (λ j. without_end_blanks (flat_map cell_text (codes j) ++ is j))
+written-line row satellite marked part marks is = grind (arith, each_place-below, cell-there)

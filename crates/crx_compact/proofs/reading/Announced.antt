@@ -1,7 +1,7 @@
 -- The satellites of an open epoch stay those that its text announces, each with its count of types.
-use Rattle.crx_compact.proofs.Words.{◌≡◌, ◌≤◌, refl, ℕ, zero, suc, List, [], ◌∷◌, length, map, Option, Some}
-use Rattle.crx_compact.proofs.Words.{All, slice_get, slice_set, unwrap_or, subst, arith}
-use Rattle.crx_compact.proofs.Words.{length-map, All-head, All-tail, same_Some, columns, HEAD_WIDTH}
+use Rattle.crx_compact.proofs.Words.{◌≡◌, ◌≤◌, refl, ℕ, zero, suc, List, [], ◌∷◌, length, map, Some}
+use Rattle.crx_compact.proofs.Words.{All, slice_get, slice_set, unwrap_or, arith}
+use Rattle.crx_compact.proofs.Words.{length-map, All-head, All-tail, same_Some, columns}
 use Rattle.crx_compact.proofs.Words.{SATELLITES_LIMIT, satellites_few, IsAwaitedSatellite}
 use Rattle.crx_compact.proofs.Words.{IsAnnounced, IsRowRead, OpenHistory, satellite_of, RowTail}
 use Rattle.std.proofs.lemmas.List.Elements.{All-cons}
@@ -20,15 +20,10 @@ satellites-set (r ∷ rs) zero row left there name sized = cc (name, sized, same
 satellites-set (r ∷ rs) (suc place) row left there name sized =
     cc (satellites-set rs place row left there name sized)
 
-announced-same : (old new : OpenHistory) → new.text ≡ old.text → map satellite_of new.satellites.rows
-    ≡ map satellite_of old.satellites.rows → IsAnnounced old → IsAnnounced new
-announced-same old new text satellites h = search rules
-
 -- a row that was read
 pub row-announced : (old new : OpenHistory) (place : ℕ) (line : List ℕ)
     → IsRowRead place line old new → IsAnnounced old → IsAnnounced new
-row-announced old new place line read h =
-    grind (arith, common_steps, announced-same, satellite_of, satellites-set)
+row-announced old new place line read h = search (rules, satellite_of, satellites-set)
 
 -- ---- what they are
 
@@ -45,7 +40,4 @@ rows-allowed history h = each history.satellites.rows h.satellites
 -- they are as few as an epoch may have
 pub rows-few : (history : OpenHistory) → IsAnnounced history
     → length history.satellites.rows ≤ SATELLITES_LIMIT
-rows-few history h =
-    let few = subst (λ (o : Option ℕ). unwrap_or o 0 ≤ SATELLITES_LIMIT) h.announced.counted
-    (satellites_few (columns history.text 1 HEAD_WIDTH)) in
-    omega (arith, few, length-map history.satellites.rows satellite_of)
+rows-few history h = grind (arith, common_steps, unwrap_or, satellites_few, columns, length-map, satellite_of)

@@ -1,7 +1,7 @@
 -- Epochs that are read line by line, by the raw epochs that were accepted.
 use Rattle.crx_compact.proofs.Words.{◌≡◌, ℕ, suc, ◌+◌, List, [], ◌∷◌, ◌++◌, length, Option, Some, None}
 use Rattle.crx_compact.proofs.Words.{Result, Ok, Err, IfOk, sym, ◌∙◌, ap, arith, inl, inr, ◌⊎◌, ReadLine}
-use Rattle.crx_compact.proofs.Words.{Content, Fault, OutOfMemory, Epoch, Count, Place, Here, Wrong, Wanted}
+use Rattle.crx_compact.proofs.Words.{Content, Fault, OutOfMemory, Epoch, Count, Place, Here, Wrong}
 use Rattle.crx_compact.proofs.Words.{RawEpoch, epoch_at, Tail, tail_left, ColumnsState, HasMade, HeldEpoch}
 use Rattle.crx_compact.proofs.Words.{RawStep, epoch_after, first_step, held_after, next_step, place_of_step}
 use Rattle.crx_compact.proofs.Words.{placed_as, step_in}
@@ -12,14 +12,13 @@ use Rattle.crx_compact.specs.ReadBlocks.{HasReadTo, IsReading}
 use Rattle.crx_compact.proofs.soundness.Soundness.{reads-soundly}
 use Rattle.crx_compact.proofs.reading.RawTailing.{place-by_tail, left-by_tail}
 use Rattle.crx_compact.proofs.reading.LineByLine.{steps-agree, steps-from_open}
+use Rattle.std.proofs.lemmas.Grind.{common_steps}
 
 -- ---- places
 
 placed-wrong : {X Y : Type 0} (f : X → Y) (place : Place X) (offset : ℕ) (fault : Fault)
     → placed_as f place ≡ Wrong offset fault → place ≡ Wrong offset fault
-placed-wrong f (Here x count) offset fault e = cc
-placed-wrong f (Wrong o q) offset fault e = cc
-placed-wrong f Wanted offset fault e = cc
+placed-wrong f place offset fault e = grind arith
 
 record IsPlaced {X Y : Type 0} (f : X → Y) (place : Place X) (thing : Y) (count : ℕ) : Type 0 where
   from : X
@@ -28,16 +27,9 @@ record IsPlaced {X Y : Type 0} (f : X → Y) (place : Place X) (thing : Y) (coun
 
 placed-here : {X Y : Type 0} (f : X → Y) (place : Place X) (thing : Y) (count : ℕ)
     → placed_as f place ≡ Here thing count → IsPlaced f place thing count
-placed-here f (Here x n) thing count e = record { from = x; here = cc; same = cc }
-placed-here f (Wrong o q) thing count e = cc
-placed-here f Wanted thing count e = cc
+placed-here f place thing count e = grind arith
 
 -- ---- the epoch line
-
-begun-reading : (types : List Count) (older : List RawEpoch)
-    (tail : Option Tail) (line : List ℕ) (after : ColumnsState) → tail ≡ tail_left older → HasMade
-    (first_step types tail (Content line)) after None → IsReading types older (Content line ∷ []) after
-begun-reading types older tail line after e h = grind arith
 
 begun-wrong : (types : List Count) (older : List RawEpoch) (tail : Option Tail) (line : List ℕ)
     (fault : Fault) → tail ≡ tail_left older → (first_step types tail (Content line) ≡ Faulty fault) ⊎
@@ -54,8 +46,7 @@ pub begun-block : (result : Result (Unit {0}) Fault)
     (types : List Count) (older : List RawEpoch) (tail : Option Tail) (line : List ℕ) (after : ColumnsState)
     → tail ≡ tail_left older → IfOk result (λ u. HasMade (first_step types tail (Content line)) after None)
     → IfOk result (λ u. IsReading types older (Content line ∷ []) after)
-begun-block (Ok u) types older tail line after e h = begun-reading types older tail line after e h
-begun-block (Err fault) types older tail line after e h = h
+begun-block result types older tail line after e h = grind arith
 
 pub begun-refused : (result : Result (Unit {0}) Fault) (types : List Count)
     (older : List RawEpoch) (tail : Option Tail) (line : List ℕ) → tail ≡ tail_left older → IfErr result
@@ -110,8 +101,7 @@ pub more-block : (result : Result (Option Epoch) Fault) (types : List Count) (ol
     (lines : List ReadLine) (line : List ℕ) (state after : ColumnsState) → IsReading types older lines state
     → IfOk result (λ given. HasMade (step_in state (Content line)) after given)
     → IfOk result (λ given. HasReadTo types older (lines ++ Content line ∷ []) after given)
-more-block (Ok given) types older lines line state after r h =
-    more-lines types older lines line state after given r h
+more-block (Ok given) types older lines line state after r h = grind (arith, common_steps, more-lines)
 more-block (Err fault) types older lines line state after r h = h
 
 pub more-refused : (result : Result (Option Epoch) Fault) (types : List Count) (older : List RawEpoch)

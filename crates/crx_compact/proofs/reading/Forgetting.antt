@@ -1,14 +1,15 @@
 -- A line that begins with > forgets what was read before it.
-use Rattle.crx_compact.proofs.Words.{◌≡◌, ℕ, true, List, [], ◌∷◌, drop, Option, Some, None, Result, Ok, Err}
+use Rattle.crx_compact.proofs.Words.{◌≡◌, ℕ, true, List, [], ◌∷◌, drop, Option, Some, None, Result, Ok}
 use Rattle.crx_compact.proofs.Words.{if◌then◌else◌, ◌∙◌, ap, ReadLine, Content, Fault, NotAnEpoch, Count}
-use Rattle.crx_compact.proofs.Words.{Place, Here, then_place, one_line, first_line, begins_epoch, RawEpoch}
-use Rattle.crx_compact.proofs.Words.{block_of, Past, past_of_block, past_of_epochs, past_of_line}
-use Rattle.crx_compact.proofs.Words.{BegunEpoch, epoch_begun, ReadCell, clock_line_read}
-use Rattle.crx_compact.proofs.Words.{rows_read, ReadEpoch, epoch_of_rows, epoch_after_line, epoch_at}
+use Rattle.crx_compact.proofs.Words.{Here, one_line, begins_epoch, RawEpoch}
+use Rattle.crx_compact.proofs.Words.{block_of, Past, past_of_line}
+use Rattle.crx_compact.proofs.Words.{BegunEpoch, epoch_begun}
+use Rattle.crx_compact.proofs.Words.{ReadEpoch, epoch_after_line, epoch_at}
 use Rattle.crx_compact.specs.ReadingLaws.{Forgets}
-use Rattle.crx_compact.proofs.soundness.Soundness.{thing_here, then-comes}
+use Rattle.crx_compact.proofs.soundness.Soundness.{then-comes}
 use Rattle.crx_compact.proofs.Results.{no-err, ok-same, and_then-ok}
 use Rattle.std.proofs.Common.{rules}
+use Rattle.std.proofs.Common.{arith}
 
 begun-line : (types : List Count) (line : List ℕ) (past : Option Past) (begun : BegunEpoch)
     → epoch_begun types line past ≡ Ok begun → begun.line ≡ line
@@ -18,16 +19,11 @@ begun-line types line (Some past) begun e =
     cc (ok-same (record { line = line; past = past; satellites = step.from }) begun step.next)
 
 one-ok : {X : Type 0} (r : Result X Fault) (x : X) (n : ℕ) → one_line r ≡ Here x n → r ≡ Ok x
-one-ok (Ok y) x n e = ap {B = Result _ Fault} Ok (ap (thing_here y) e)
-one-ok (Err q) x n e = cc
+one-ok r x n e = grind arith
 
 after-line : (begun : BegunEpoch) (lines : List ReadLine) (read : ReadEpoch) (count : ℕ)
     → epoch_after_line begun lines ≡ Here read count → read.raw.line ≡ begun.line
-after-line begun lines read count e =
-    let rows_next : ReadCell → List ReadLine → Place ReadEpoch = λ clock others. then_place (rows_read
-    begun.past begun.satellites others) others (λ rows rest. Here (epoch_of_rows begun clock rows) 0) in
-    let one = then-comes (first_line lines (clock_line_read begun.past)) lines rows_next read count e in
-    search rules
+after-line begun lines read count e = grind arith
 
 read-line : (types : List Count)
     (older : List RawEpoch) (line : List ℕ) (lines : List ReadLine) (read : ReadEpoch) (count : ℕ)
@@ -42,8 +38,6 @@ pub forgets : (types : List Count) (older : List RawEpoch) (line : List ℕ) (li
     → begins_epoch line ≡ true → Forgets types older line lines
 forgets types older line lines h = record {
   place =
-      let new : (os : List RawEpoch) → past_of_line os line ≡ Some (past_of_block []) =
-      λ os. ap {B = Option Past} (λ b. if b then Some (past_of_block []) else past_of_epochs os) h in
       search rules;
   block = λ read count e. ap {B = List RawEpoch} (λ b. read.raw ∷ (if b then [] else block_of older))
       (ap begins_epoch (read-line types older line lines read count e) ∙ h);

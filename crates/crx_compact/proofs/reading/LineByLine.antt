@@ -1,13 +1,13 @@
 -- The steps of a reader, line by line, agree with what is at all lines so far.
 use Rattle.crx_compact.proofs.Words.{◌≡◌, refl, ℕ, suc, ◌+◌, List, [], ◌∷◌, ◌++◌, map, length, Option, Some}
-use Rattle.crx_compact.proofs.Words.{None, Result, Ok, Err, slice_get, unwrap_or, ℤ, option_map, sym, ◌∙◌, ap}
-use Rattle.crx_compact.proofs.Words.{arith, true≢false, take_all, map-map, patched, columns, ReadLine}
-use Rattle.crx_compact.proofs.Words.{Content, Overlong, Fault, HEAD_WIDTH, Count, Row, Place, Here, Wrong}
-use Rattle.crx_compact.proofs.Words.{Wanted, then_place, after_lines, one_line, and_then, Satellite, RawEpoch}
-use Rattle.crx_compact.proofs.Words.{RawRow, BegunEpoch, epoch_begun, ReadCell, clock_line_read, ReadRow}
+use Rattle.crx_compact.proofs.Words.{None, Result, Ok, Err, slice_get, option_map, sym, ◌∙◌, ap}
+use Rattle.crx_compact.proofs.Words.{arith, true≢false, take_all, map-map, patched, ReadLine}
+use Rattle.crx_compact.proofs.Words.{Content, Fault, Count, Place, Here, Wrong}
+use Rattle.crx_compact.proofs.Words.{Wanted, then_place, after_lines, one_line, and_then, Satellite}
+use Rattle.crx_compact.proofs.Words.{BegunEpoch, epoch_begun, ReadCell, clock_line_read, ReadRow}
 use Rattle.crx_compact.proofs.Words.{satellite_line_read, rows_read, epoch_of_rows, epoch_after_line, ArcTail}
-use Rattle.crx_compact.proofs.Words.{arc_of_code, shown_value, RowTail, Tail, no_tail, raw_row_tail_after}
-use Rattle.crx_compact.proofs.Words.{raw_tail_after, tail_named, held_row, HeldRow, past_of_tail, padded}
+use Rattle.crx_compact.proofs.Words.{arc_of_code, shown_value, RowTail, Tail}
+use Rattle.crx_compact.proofs.Words.{tail_named, held_row, HeldRow, past_of_tail, padded}
 use Rattle.crx_compact.proofs.Words.{shown_row, tail_for_line, HeldEpoch, RawStep, before_clock, with_rows}
 use Rattle.crx_compact.proofs.Words.{opened_raw, opening, whole_epoch, whole_or_awaiting, tail_opened}
 use Rattle.crx_compact.proofs.Words.{raw_step_with_row, row_step, step_with_rows, next_step, placed_as}
@@ -16,12 +16,13 @@ use Rattle.std.specs.Option.{is_some}
 use Rattle.std.proofs.lemmas.List.{append_assoc, length-append}
 use Rattle.crx_compact.specs.OpenEpochs.{OpenRawEpoch, rows_before, raw_step_with_clock, place_of_steps}
 use Rattle.crx_compact.specs.OpenEpochs.{open_raw_after}
-use Rattle.crx_compact.specs.OpenEpochs.RawStep.{Going, Whole, Faulty}
+use Rattle.crx_compact.specs.OpenEpochs.RawStep.{Going}
 use Rattle.crx_compact.specs.ReadingLaws.{is_wanted, StepsAgree, WantedWhereOpen, StepsFromOpen}
 use Rattle.crx_compact.proofs.ShownRows.{set-next}
 use Rattle.crx_compact.proofs.reading.PaddedRows.{row-opened, row-shows}
 use Rattle.crx_compact.proofs.soundness.Soundness.{Paired, RowFacts, rows-facts}
 use Rattle.std.proofs.lemmas.Grind.{common_steps}
+use Rattle.std.proofs.Common.{rules}
 
 -- ---- the satellite lines
 
@@ -46,10 +47,8 @@ one-more : (before : Tail) (text : List ℕ) (arc : Option ArcTail)
     (rows : List RowTail) (read : ReadRow) (lines : List ReadLine) (count : ℕ) (p : Place (List ReadRow))
     → after_lines (suc (suc count)) (rows_placed before text arc (rows ++ (held_row before read).tail ∷ []) p)
     ≡ after_lines (suc count) (rows_placed before text arc rows (after_lines 1 (row_onto read lines p)))
-one-more before text arc rows read lines count (Here more n) =
-    grind (arith, append_assoc rows ((held_row before read).tail ∷ []) (rows_left before more))
-one-more before text arc rows read lines count (Wrong n q) =
-    ap {B = Place HeldEpoch} (λ k. Wrong k q) (omega arith)
+one-more before text arc rows read lines count (Here more n) = search (rules, append_assoc, held_row)
+one-more before text arc rows read lines count (Wrong n q) = grind arith
 one-more before text arc rows read lines count Wanted = refl
 
 -- what is behind the first rows
@@ -66,15 +65,7 @@ rows-steps : (before : Tail) (text : List ℕ) (arc : Option ArcTail) (rows : Li
     (awaited : List Satellite) (count : ℕ) (lines : List ReadLine) → place_of_steps count
     (step_with_rows (tail_with text arc (rows ++ rows_before before awaited)) (length rows)) lines ≡
     after_lines (suc count) (rows_placed before text arc rows (rows_read (past_of_tail before) awaited lines))
-rows-steps before text arc rows [] count lines =
-    grind (arith, common_steps, place_of_steps, whole_or_awaiting, tail_with, none-left, whole_epoch)
-rows-steps before text arc rows (s ∷ ss) count [] = ap {B = Place HeldEpoch} (λ (o : Option RowTail).
-    place_of_steps count (whole_or_awaiting (tail_with text arc (rows ++ rows_before before (s ∷ ss)))
-    (length rows) o) []) (get-next rows (rows_before before ss) (padded s (tail_named s.name before)))
-rows-steps before text arc rows (s ∷ ss) count (Overlong ∷ lines) =
-    ap {B = Place HeldEpoch} (λ (o : Option RowTail). place_of_steps count (whole_or_awaiting
-    (tail_with text arc (rows ++ rows_before before (s ∷ ss))) (length rows) o) (Overlong ∷ lines))
-    (get-next rows (rows_before before ss) (padded s (tail_named s.name before))) ∙ grind arith
+rows-steps before text arc rows [] count lines = grind (arith, tail_with, none-left)
 rows-steps before text arc rows (s ∷ ss) count (Content line ∷ lines) =
     let row : RowTail = padded s (tail_named s.name before) in
     let tail : Tail = tail_with text arc (rows ++ rows_before before (s ∷ ss)) in
@@ -111,6 +102,7 @@ rows-steps before text arc rows (s ∷ ss) count (Content line ∷ lines) =
         (padded s (tail_named s.name before)) left) ∙ ap {B = Place HeldEpoch} (λ n. place_of_steps
         (suc count) (step_with_rows (tail_with text arc ((rows ++ left ∷ []) ++ opened)) n) lines) many ∙ next
         read ∙ one-more before text arc rows read lines count (rows_read (past_of_tail before) ss lines)
+rows-steps before text arc rows (s ∷ ss) count lines = grind (arith, get-next)
 
 -- ---- the clock line and the epoch line
 
@@ -124,9 +116,8 @@ rows-shown : (before : Tail) (satellites : List Satellite) (rows : List ReadRow)
     → Paired (RowFacts (past_of_tail before)) satellites rows
     → map (λ (r : ReadRow). r.row) rows ≡ map shown_row (rows_left before rows)
 rows-shown before [] [] h = refl
-rows-shown before [] (r ∷ rs) h = absurd h
-rows-shown before (s ∷ ss) [] h = absurd h
 rows-shown before (s ∷ ss) (r ∷ rs) h = cc (row-shows before s r h.0, rows-shown before ss rs h.1)
+rows-shown before satellites rows h = absurd h
 
 -- a clock is shown by what it leaves
 clock-shown : (before : Tail) (line : List ℕ) (cell : ReadCell) → clock_line_read (past_of_tail before) line
@@ -139,27 +130,7 @@ held-same : (before : Tail)
     → map (λ (r : ReadRow). r.row) rows ≡ map shown_row (rows_left before rows)
     → held_after tail (epoch_of_rows (read_begun before line satellites) cell rows) ≡ whole_epoch
     (tail_with (patched before.text line) (arc_of_code cell.code before.clock) (rows_left before rows))
-held-same before line satellites cell rows tail h clock shown =
-    let raw : RawEpoch = (epoch_of_rows (read_begun before line satellites) cell rows).raw in
-    let text = patched before.text line in
-    let head = columns text 1 HEAD_WIDTH in
-    let arc = arc_of_code cell.code before.clock in
-    let read = map (λ (r : ReadRow). r.row) rows in
-    let left = rows_left before rows in
-    ap {B = HeldEpoch} (λ (o : Option Tail). record {
-      epoch = record { head = head; clock = cell.value; rows = read };
-      tail = raw_tail_after (unwrap_or o no_tail) raw;
-    }) h ∙ ap {B = HeldEpoch} (λ (rs : List RowTail). record {
-      epoch = record { head = head; clock = cell.value; rows = read };
-      tail = tail_with text arc rs;
-    }) (map-map (λ (r : RawRow). raw_row_tail_after (tail_named r.name before) r)
-    (λ (r : ReadRow). r.raw) rows) ∙ ap {B = HeldEpoch} (λ (value : Option ℤ). record {
-      epoch = record { head = head; clock = value; rows = read };
-      tail = tail_with text arc left;
-    }) (sym clock) ∙ ap {B = HeldEpoch} (λ (rs : List Row). record {
-      epoch = record { head = head; clock = shown_value arc; rows = rs };
-      tail = tail_with text arc left;
-    }) (shown ∙ ap (map shown_row) (sym (take_all (length left) left (omega arith))))
+held-same before line satellites cell rows tail h clock shown = grind (arith, map-map, take_all)
 
 read_rows-held : (before : Tail) (line : List ℕ) (satellites : List Satellite) (cell : ReadCell)
     (tail : Option Tail) (lines : List ReadLine) (p : Place (List ReadRow)) → tail_for_line tail line
@@ -172,16 +143,13 @@ read_rows-held before line satellites cell tail lines (Here rows n) h clock e = 
   held-same before line satellites cell rows tail h clock (rows-shown before satellites rows
       (rows-facts (past_of_tail before) satellites lines rows n e).each),
 )
-read_rows-held before line satellites cell tail lines (Wrong n q) h clock e =
-    ap {B = Place HeldEpoch} (λ k. Wrong k q) (omega arith)
+read_rows-held before line satellites cell tail lines (Wrong n q) h clock e = grind arith
 read_rows-held before line satellites cell tail lines Wanted h clock e = refl
 
 clock-steps : (before : Tail) (line : List ℕ) (satellites : List Satellite)
     (tail : Option Tail) (lines : List ReadLine) → tail_for_line tail line ≡ Some before
     → placed_as (held_after tail) (after_lines 1 (epoch_after_line (read_begun before line satellites) lines))
     ≡ place_of_steps 0 (Going (before_clock (tail_opened before line satellites))) lines
-clock-steps before line satellites tail [] h = refl
-clock-steps before line satellites tail (Overlong ∷ lines) h = refl
 clock-steps before line satellites tail (Content text ∷ lines) h =
     step (clock_line_read (past_of_tail before) text) refl
   where
@@ -194,11 +162,10 @@ clock-steps before line satellites tail (Content text ∷ lines) h =
     step (Ok cell) e = read_rows-held before line satellites cell tail lines (rows_read
         (past_of_tail before) satellites lines) h (clock-shown before text cell e) refl ∙ sym (rows-steps
         before (patched before.text line) (arc_of_code cell.code before.clock) [] satellites 1 lines)
+clock-steps before line satellites tail lines h = refl
 
 pub steps-agree : (types : List Count) (tail : Option Tail) (lines : List ReadLine)
     → StepsAgree types tail lines
-steps-agree types tail [] = refl
-steps-agree types tail (Overlong ∷ lines) = refl
 steps-agree types tail (Content line ∷ lines) = by_tail _ refl
   where
     by_line : (before : Tail) (r : Result (List Satellite) Fault) → tail_for_line tail line ≡ Some before →
@@ -213,20 +180,17 @@ steps-agree types tail (Content line ∷ lines) = by_tail _ refl
         (λ b others. epoch_after_line b others)) ≡ place_of_steps 0 (opening (opened_raw types line t)) lines
     by_tail None h = refl
     by_tail (Some before) h = by_line before _ h
+steps-agree types tail lines = refl
 
 -- ---- the open epoch
 
 wanted-steps : (count : ℕ) (s : RawStep) (lines : List ReadLine)
     → is_wanted (place_of_steps count s lines) ≡ is_some (open_raw_after s lines)
-wanted-steps count (Going begun) [] = refl
 wanted-steps count (Going begun) (line ∷ lines) = wanted-steps (suc count) (next_step begun line) lines
-wanted-steps count (Whole held) lines = refl
-wanted-steps count (Faulty q) lines = refl
+wanted-steps count s lines = refl
 
 wanted-placed : {X Y : Type 0} (f : X → Y) (p : Place X) → is_wanted (placed_as f p) ≡ is_wanted p
-wanted-placed f (Here x n) = refl
-wanted-placed f (Wrong n q) = refl
-wanted-placed f Wanted = refl
+wanted-placed f p = grind arith
 
 pub wanted-where_open : (types : List Count) (tail : Option Tail) (lines : List ReadLine)
     → WantedWhereOpen types tail lines
@@ -241,15 +205,13 @@ step-more : (count : ℕ) (s : RawStep) (lines : List ReadLine) (line : ReadLine
 step-more count (Going so_far) [] line begun h = grind arith
 step-more count (Going so_far) (l ∷ ls) line begun h = step-more (suc count)
     (next_step so_far l) ls line begun h ∙ ap (λ n. place_of_step n (next_step begun line)) (omega arith)
-step-more count (Whole held) lines line begun h = absurd (true≢false (sym (ap is_some h)))
-step-more count (Faulty q) lines line begun h = absurd (true≢false (sym (ap is_some h)))
+step-more count s lines line begun h = absurd (true≢false (sym (ap is_some h)))
 
 open-more : (s : RawStep) (lines : List ReadLine) (line : ReadLine) (begun : OpenRawEpoch) → open_raw_after
     s lines ≡ Some begun → open_raw_after s (lines ++ line ∷ []) ≡ open_raw_after (next_step begun line) []
 open-more (Going so_far) [] line begun h = cc
 open-more (Going so_far) (l ∷ ls) line begun h = open-more (next_step so_far l) ls line begun h
-open-more (Whole held) lines line begun h = absurd (true≢false (sym (ap is_some h)))
-open-more (Faulty q) lines line begun h = absurd (true≢false (sym (ap is_some h)))
+open-more s lines line begun h = absurd (true≢false (sym (ap is_some h)))
 
 pub steps-from_open : StepsFromOpen
 steps-from_open types tail [] line begun h = absurd (true≢false (sym (ap is_some h)))

@@ -1,15 +1,14 @@
 -- That memory ran out is no fault of a clock line or a satellite's line.
-use Rattle.crx_compact.proofs.Words.{◌≡◌, ℕ, suc, ℤ, List, [], ◌∷◌, Bool, true, false, Option, None, Some}
+use Rattle.crx_compact.proofs.Words.{◌≡◌, ℕ, suc, ℤ, List, [], ◌∷◌, Bool, true, false, Option, None}
 use Rattle.crx_compact.proofs.Words.{Result, Ok, Err, not, if◌then◌else◌, slice_index_or, ◌∙◌, ap, Code}
-use Rattle.crx_compact.proofs.Words.{Missing, Start, Step, code_of, Fault, BadField, BadFlags, OutOfMemory}
+use Rattle.crx_compact.proofs.Words.{code_of, Fault, BadField, BadFlags, OutOfMemory}
 use Rattle.crx_compact.proofs.Words.{Truncated, OBSERVATION_WIDTH, begins_epoch, and_then, before_all}
 use Rattle.crx_compact.proofs.Words.{Satellite, ReadCell, cell_read, cells_read, cells_of, ReadRow, are_marks}
 use Rattle.crx_compact.proofs.Words.{after_cells, row_of_cells, satellite_line_read, Past, HeldRow}
 use Rattle.crx_compact.proofs.Words.{arcs_of_tail, held_from, past_of_row, row_held, value_at_place}
 use Rattle.crx_compact.proofs.Words.{flags_of_tail, value_of_code, ArcTail, RowTail}
-use Rattle.crx_base.specs.declared.fault.Fault.TheVariants.{OutOfRange}
-use Rattle.crx_compact.specs.meaning.ArcValues.{in_range}
 use Rattle.crx_compact.proofs.Marks.{row_of_line, row_with_marks}
+use Rattle.std.proofs.Common.{arith}
 
 abbrev fault_in : {X : Type 0} → Result X Fault → Fault
 fault_in (Ok x) = Truncated
@@ -21,27 +20,14 @@ NoMemory r = fault_in r ≡ OutOfMemory → ⊥
 
 and-then-none : {X Y : Type 0} (r : Result X Fault) (f : X → Result Y Fault)
     → NoMemory r → ((x : X) → NoMemory (f x)) → NoMemory (and_then r f)
-and-then-none (Ok x) f h k = k x
-and-then-none (Err fault) f h k = h
-
-range-none : (width : ℕ) (number : ℤ) → NoMemory (in_range width number)
-range-none width number = by_range _
-  where
-    by_range : (b : Bool) → NoMemory {X = Option ℤ} (if b then Ok (Some number) else Err OutOfRange)
-    by_range true = λ e. cc
-    by_range false = λ e. cc
+and-then-none r f h k = grind arith
 
 value-none : (width : ℕ) (code : Code) (arc : Option ArcTail) → NoMemory (value_of_code width code arc)
-value-none width Missing arc = λ e. cc
-value-none width (Start order number) arc = range-none width number
-value-none width (Step number) None = λ e. cc
-value-none width (Step number) (Some arc) = range-none width _
+value-none width code arc = grind arith
 
 cell-none : (malformed : Fault) (value : Code → Result (Option ℤ) Fault) → (malformed ≡ OutOfMemory → ⊥) →
     ((code : Code) → NoMemory (value code)) → (code : Option Code) → NoMemory (cell_read malformed value code)
-cell-none malformed value m h None = m
-cell-none malformed value m h (Some code) = and-then-none {Y = ReadCell}
-    (value code) (λ v. Ok (record { code = code; value = v })) (h code) (λ v e. cc)
+cell-none malformed value m h code = grind arith
 
 cells-none : (value : ℕ → Code → Result (Option ℤ) Fault) → ((place : ℕ) (code : Code)
     → NoMemory (value place code)) → (texts : List (List ℕ)) → NoMemory (cells_read value texts)

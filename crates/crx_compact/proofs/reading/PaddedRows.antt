@@ -13,7 +13,6 @@ use Rattle.crx_compact.proofs.Words.{shown_value, value_of_code, RowTail, Tail, 
 use Rattle.crx_compact.proofs.Words.{flags_of_tail, tail_named, value_at_place, HeldRow, arcs_of_tail}
 use Rattle.crx_compact.proofs.Words.{held_from, held_row, past_of_row, past_of_tail, row_held, padded}
 use Rattle.crx_compact.proofs.Words.{satellite_of, shown_row}
-use Rattle.crx_compact.specs.Cells.{arcs_of_codes}
 use Rattle.crx_compact.specs.HeldRows.{row_after}
 use Rattle.crx_compact.proofs.CellsRead.{cells-within, shown-code}
 use Rattle.crx_compact.proofs.Characters.{at-by_position, at-take_past, same_characters, within-or_past}
@@ -21,6 +20,7 @@ use Rattle.crx_compact.proofs.Marks.{cell-by_kept, cells-count, columns-held, ro
 use Rattle.crx_compact.proofs.PlaceByPlace.{at-take}
 use Rattle.crx_compact.proofs.soundness.Soundness.{AreReadCells, RowFacts}
 use Rattle.std.proofs.lemmas.Grind.{common_steps}
+use Rattle.std.proofs.Common.{rules}
 
 -- ---- the row that an epoch line leaves
 
@@ -34,8 +34,7 @@ each_place-within (suc n) f g h = ap (λ x. x ∷ each_place n (λ i. f (suc i))
 -- its cells are those that are kept
 padded-cell : (s : Satellite) (kept : Option RowTail) (place : ℕ) → place < s.count
     → slice_index_or (padded s kept).cells place None ≡ slice_index_or (arcs_of_tail kept) place None
-padded-cell s kept place h = index-each_place _ place _ None (λ le. absurd (omega (arith, h, le)))
-    ∙ sym (cell-by_kept kept place)
+padded-cell s kept place h = grind (arith, common_steps, index-each_place, cell-by_kept)
 
 -- indicators past those of its types don't matter to those of its types
 flags-padded : (count : ℕ) (flags marks : List ℕ)
@@ -68,19 +67,7 @@ cells-padded : (s : Satellite) (kept : Option RowTail) (marks : List ℕ) (cells
     ≡ held_from (arcs_of_tail kept) (flags_of_tail kept)
     (row_of_cells (past_of_row (arcs_of_tail kept) (flags_of_tail kept)) s.name marks cells)
 cells-padded s kept marks cells many =
-    let codes : List Code = map (λ (c : ReadCell). c.code) cells in
-    let coded : length codes ≡ s.count = length-map cells (λ (c : ReadCell). c.code) ∙ many in
-    let old : List ℕ = flags_of_tail kept in
-    let new : List ℕ = flags_held s.count old in
-    let shown : columns (patched new marks) 1 (2 * length cells)
-    ≡ columns (patched old marks) 1 (2 * length cells) = ap (λ n. columns (patched new marks) 1 (2 * n)) many
-    ∙ columns-padded s.count old marks ∙ sym (ap (λ n. columns (patched old marks) 1 (2 * n)) many) in
-    let held : flags_held (length codes) (patched new marks) ≡ flags_held (length codes) (patched old marks) =
-    ap (λ n. flags_held n (patched new marks)) coded
-    ∙ flags-padded s.count old marks ∙ sym (ap (λ n. flags_held n (patched old marks)) coded) in
-    let left : arcs_of_codes (padded s kept).cells codes ≡ arcs_of_codes (arcs_of_tail kept) codes =
-    grind (arith, common_steps, each_place-within, arc_of_code, slice_index_or, arcs_of_tail, padded-cell) in
-    cc (shown, held, left)
+    grind (arith, length-map, columns-padded, flags-padded, each_place-within, padded-cell)
 
 pub row-padded : (s : Satellite) (kept : Option RowTail) (line : List ℕ)
     → row_held (Some (padded s kept)) s line ≡ row_held kept s line
@@ -112,17 +99,12 @@ row-padded s kept line =
     decided false false (Ok cells) many = refl
     decided false true (Ok cells) many = cc (cells-padded s kept marked cells (many cells refl))
 
--- the satellite of the row
-pub satellite-padded : (s : Satellite) (kept : Option RowTail) → satellite_of (padded s kept) ≡ s
-satellite-padded s kept = ap {B = Satellite} (λ n. record { name = s.name; count = n })
-    (length-each_place s.count (λ k. cell_of_tail k kept))
-
 -- a satellite's line after the row that the epoch line leaves is one after all of the history
 pub row-opened : (before : Tail) (s : Satellite) (line : List ℕ)
     → row_held (Some (padded s (tail_named s.name before)))
     (satellite_of (padded s (tail_named s.name before))) line ≡ row_after before s line
 row-opened before s line =
-    grind (arith, common_steps, tail_named, row_held, satellite-padded, row-padded, row-by_tail)
+    search (rules, tail_named, row_held, length-each_place, cell_of_tail, row-padded, row-by_tail)
 
 -- ---- the row that a line leaves
 

@@ -1,12 +1,12 @@
 -- The tail of a block of raw epochs decides what the next one stands for, and the next tail.
 use Rattle.crx_compact.proofs.Words.{◌≡◌, refl, ℕ, Bool, true, false, List, [], ◌∷◌, ◌*◌, map, length, Option}
 use Rattle.crx_compact.proofs.Words.{Some, None, if◌then◌else◌, unwrap_or, option_map, sym, ◌∙◌, ap}
-use Rattle.crx_compact.proofs.Words.{get_or_past, patched, ReadLine, OBSERVATION_WIDTH, CLOCK_WIDTH, Count}
+use Rattle.crx_compact.proofs.Words.{get_or_past, patched, ReadLine, Count}
 use Rattle.crx_compact.proofs.Words.{stretch, RawRow, RawEpoch, block_of, overlaid, raw_row_named, raw_run_of}
 use Rattle.crx_compact.proofs.Words.{marks_of, code_in, since_start, Past, past_of_block, past_of_epochs}
 use Rattle.crx_compact.proofs.Words.{past_of_line, epoch_at, RowTail, tail_left, no_tail, tail_named}
 use Rattle.crx_compact.proofs.Words.{cell_of_tail, flags_of_tail, flags_held, raw_row_tail_after}
-use Rattle.crx_compact.proofs.Words.{raw_tail_after, value_of_code, arc_of_code, past_of_tail, tail_for_line}
+use Rattle.crx_compact.proofs.Words.{raw_tail_after, arc_of_code, past_of_tail, tail_for_line}
 use Rattle.crx_compact.proofs.Words.{epoch_after, HasSingleLines, each_place-same, index-each_place}
 use Rattle.std.proofs.Math.Path.{fun_ext}
 use Rattle.crx_compact.specs.Tails.{raw_row_tail, tail_of_block}
@@ -17,7 +17,6 @@ use Rattle.crx_compact.proofs.wayback.Overlays.{overlaid-patched}
 use Rattle.crx_compact.proofs.wayback.Cuts.{overlaid-take}
 use Rattle.crx_compact.proofs.wayback.Runs.{named-made}
 use Rattle.crx_compact.proofs.arcs.OneMore.{value-next, number-next}
-use Rattle.std.proofs.lemmas.Grind.{common_steps}
 use Rattle.std.proofs.Common.{arith, rules}
 
 -- ---- what a tail holds of a satellite
@@ -26,13 +25,11 @@ cell-found : (rest : List (Option RawRow)) (found : Option RawRow) (j : ℕ)
     → cell_of_tail j (option_map (raw_row_tail (stretch (found ∷ rest))) found)
     ≡ started_tail (since_start (map (code_in j) (stretch (found ∷ rest))))
 cell-found rest None j = refl
-cell-found rest (Some r) j =
-    grind (arith, common_steps, index-each_place, started_tail, since_start, code_in, get_or_past)
+cell-found rest (Some r) j = grind (arith, index-each_place, get_or_past)
 
 flags-found : (rest : List (Option RawRow)) (found : Option RawRow) → flags_of_tail
     (option_map (raw_row_tail (stretch (found ∷ rest))) found) ≡ overlaid (marks_of (stretch (found ∷ rest)))
-flags-found rest None = refl
-flags-found rest (Some r) = refl
+flags-found rest found = grind arith
 
 cell-left : (name : List ℕ) (block : List RawEpoch) (j : ℕ) → cell_of_tail j (tail_named name
     (tail_of_block block)) ≡ started_tail (since_start (map (code_in j) (raw_run_of name block)))
@@ -56,8 +53,6 @@ row-tail raw block r own =
     let n = length r.codes in
     let rs = raw_run_of r.name block in
     let found = tail_named r.name (tail_of_block block) in
-    let run =
-    ap (λ (o : Option RawRow). stretch (o ∷ map (λ (q : RawEpoch). raw_row_named r.name q.rows) block)) own in
     let cells = each_place-same n (λ j. started_tail (since_start (map (code_in j) (r ∷ rs))))
     (λ j. arc_of_code (code_in j r) (cell_of_tail j found)) (λ j. number-next
     (code_in j r) (map (code_in j) rs) ∙ ap (arc_of_code (code_in j r)) (sym (cell-left r.name block j))) in
@@ -68,32 +63,13 @@ row-tail raw block r own =
 -- ---- one epoch more
 
 pub raw-by_tail : (raw : RawEpoch) (block : List RawEpoch) → HasSingleLines raw → RawByTail raw block
-raw-by_tail raw block own =
-    cc (
-      overlaid-patched raw.line (map (λ (q : RawEpoch). q.line) block),
-      number-next raw.clock (map (λ (q : RawEpoch). q.clock) block),
-      mapped-same (λ (r : RawRow). raw_row_tail (raw_run_of r.name (raw ∷ block)) r)
-          (λ (r : RawRow). raw_row_tail_after (tail_named r.name (tail_of_block block)) r)
-          (λ r here. row-tail raw block r here) raw.rows own,
-    )
+raw-by_tail raw block own = grind (arith, overlaid-patched, number-next, mapped-same, row-tail)
 
 -- ---- what the tail gives to the next lines
 
 -- a block gives to the next lines what its tail does
 past-left : (block : List RawEpoch) → past_of_block block ≡ past_of_tail (tail_of_block block)
-past-left block =
-    let clocks = map (λ (q : RawEpoch). q.clock) block in
-    let lines = map (λ (q : RawEpoch). q.line) block in
-    let tail = tail_of_block block in
-    rw (
-      fun_ext (λ line. overlaid-patched line lines),
-      fun_ext (λ code. value-next CLOCK_WIDTH code clocks),
-      fun_ext (λ name. fun_ext (λ place. fun_ext
-          (λ code. value-next OBSERVATION_WIDTH code (map (code_in place) (raw_run_of name block))
-          ∙ ap (value_of_code OBSERVATION_WIDTH code) (sym (cell-left name block place))))),
-      fun_ext (λ name. fun_ext (λ marks. overlaid-patched marks (marks_of (raw_run_of name block))
-          ∙ ap (λ t. patched t marks) (sym (flags-left name block)))),
-    )
+past-left block = grind (arith, fun_ext, overlaid-patched, value-next, cell-left, flags-left)
 
 epochs-left : (older : List RawEpoch) → past_of_epochs older ≡ option_map past_of_tail (tail_left older)
 epochs-left [] = refl

@@ -7,7 +7,7 @@ use Rattle.crx_compact.proofs.Words.{first_step, is_idle, opening, step_in, step
 use Rattle.crx_compact.proofs.Words.{tail_for_line, tail_held, tail_opened, with_rows, columns_state, step_at}
 use Rattle.crx_compact.proofs.Words.{OpenHistory, tail_of_history, Tail, Stage, Rows}
 use Rattle.crx_compact.specs.OpenEpochs.{awaits_row, is_faulty, makes_epoch}
-use Rattle.crx_compact.specs.declared.columns.Stage.TheVariants.{Clock, Unbegun}
+use Rattle.crx_compact.specs.declared.columns.Stage.TheVariants.{Unbegun}
 use Rattle.crx_compact.proofs.reading.StepsByCode.{rows-whole}
 use Rattle.std.proofs.Common.{rules}
 
@@ -15,9 +15,7 @@ use Rattle.std.proofs.Common.{rules}
 
 pub stage-idle : (is_kept : Bool) (stage : Stage) (count : ℕ) (history : OpenHistory) (state : ColumnsState)
     → columns_state is_kept stage count history ≡ state → is_idle state ≡ true → stage ≡ Unbegun
-stage-idle is_kept Unbegun count history state e idle = refl
-stage-idle is_kept Clock count history state e idle = absurd (true≢false (sym (ap is_idle e ∙ idle)))
-stage-idle is_kept Rows count history state e idle = absurd (true≢false (sym (ap is_idle e ∙ idle)))
+stage-idle is_kept stage count history state e idle = grind arith
 
 pub tail-idle : (is_kept : Bool) (stage : Stage) (count : ℕ) (history : OpenHistory) (state : ColumnsState)
     → columns_state is_kept stage count history ≡ state → is_idle state ≡ true
@@ -44,13 +42,7 @@ line-good types line held before e good =
 pub step-by-stage : (is_kept : Bool) (stage : Stage) (count : ℕ) (history : OpenHistory)
     (state : ColumnsState) (line : List ℕ) → columns_state is_kept stage count history ≡ state
     → step_in state (Content line) ≡ step_at stage count history (Content line)
-step-by-stage is_kept stage count history state line e = cc (e, kept stage)
-  where
-    kept : (stage : Stage) → step_in (columns_state is_kept stage count history) (Content line)
-        ≡ step_in (columns_state true stage count history) (Content line)
-    kept Unbegun = refl
-    kept Clock = refl
-    kept Rows = refl
+step-by-stage is_kept stage count history state line e = grind arith
 
 pub state-rows : (is_kept : Bool) (stage : Stage) (count : ℕ) (history : OpenHistory) → stage ≡ Rows
     → columns_state is_kept stage count history ≡ Reading (with_rows (tail_of_history history) count)

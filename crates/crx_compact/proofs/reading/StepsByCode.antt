@@ -1,32 +1,23 @@
 -- What a line makes of an open epoch, by what was read of it into a history.
 use Rattle.crx_compact.proofs.Words.{◌≡◌, refl, ◌≤◌, ◌<◌, ℕ, ◌+◌, true, List, [], ◌∷◌, length, map, Option}
-use Rattle.crx_compact.proofs.Words.{Some, None, Result, Ok, Err, slice_get, ◌∙◌, arith, add-one, columns}
+use Rattle.crx_compact.proofs.Words.{Some, None, Err, slice_get, ◌∙◌, arith, columns}
 use Rattle.crx_compact.proofs.Words.{Fault, HEAD_WIDTH, Content, Epoch, printed_epoch, printed_head}
-use Rattle.crx_compact.proofs.Words.{printed_row, shown_value, HeldRow, row_held, HasMade, HasPrintedLines}
-use Rattle.crx_compact.proofs.Words.{RawStep, Reading, next_step, raw_step_with_row, step_with_rows}
+use Rattle.crx_compact.proofs.Words.{printed_row, shown_value, row_held, HasMade, HasPrintedLines}
+use Rattle.crx_compact.proofs.Words.{RawStep, Reading, next_step, step_with_rows}
 use Rattle.crx_compact.proofs.Words.{whole_epoch, with_rows, IsRowRead, OpenHistory, satellite_of}
 use Rattle.crx_compact.proofs.Words.{tail_of_history, shown_epoch, shown_row, RowTail, Tail}
 use Rattle.std.proofs.lemmas.Option.{slice_get-get_or, slice_get_past}
-use Rattle.crx_compact.specs.OpenEpochs.{Idle, Whole, Going, Faulty}
+use Rattle.crx_compact.specs.OpenEpochs.{Idle, Whole, Faulty}
 use Rattle.crx_compact.specs.Placing.{empty_row}
 use Rattle.std.proofs.lemmas.Grind.{common_steps}
 use Rattle.std.proofs.Common.{rules}
 
 -- ---- satellite lines
 
--- what the line of the row at a place makes
-row-here : (tail : Tail) (count : ℕ) (line : List ℕ) (row : RowTail) (read : Result HeldRow Fault)
-    → slice_get tail.rows count ≡ Some row → row_held (Some row) (satellite_of row) line ≡ read
-    → next_step (with_rows tail count) (Content line) ≡ raw_step_with_row (with_rows tail count) read
-row-here tail count line row read there e = search rules
-
 pub row-stepped : (old new : OpenHistory) (count : ℕ) (line : List ℕ) → IsRowRead count line old new
     → next_step (with_rows (tail_of_history old) count) (Content line)
     ≡ step_with_rows (tail_of_history new) (count + 1)
-row-stepped old new count line h =
-    let first = row-here (tail_of_history old) count line h.row
-    (Ok (record { row = shown_row h.left; tail = h.left })) h.there h.read in
-    cc (add-one count, h.rows, h.text, h.clock)
+row-stepped old new count line h = grind arith
 
 -- the row that is awaited
 pub row-awaited : (rows : List RowTail) (count : ℕ)
@@ -43,13 +34,9 @@ pub row-faulty : (tail : Tail) (count : ℕ) (line : List ℕ) (fault : Fault) �
     ≡ Err fault) → next_step (with_rows tail count) (Content line) ≡ Faulty fault
 row-faulty tail count line fault h e =
     let awaited = row-awaited _ count h in
-    row-here tail count line awaited.0 (Err fault) awaited.1 (e awaited.0 awaited.1)
+    (search rules)
 
 -- ---- more rows, or a whole epoch
-
-rows-awaited : (tail : Tail) (count : ℕ)
-    → count < length tail.rows → step_with_rows tail count ≡ Going (with_rows tail count)
-rows-awaited tail count h = cc ((row-awaited tail.rows count h).1)
 
 pub rows-whole : (tail : Tail) (count : ℕ)
     → length tail.rows ≤ count → step_with_rows tail count ≡ Whole (whole_epoch tail)
@@ -57,7 +44,7 @@ rows-whole tail count h = cc (slice_get_past tail.rows count h)
 
 pub made-more : (step : RawStep) (tail : Tail) (count : ℕ) → step ≡ step_with_rows tail count
     → count < length tail.rows → HasMade step (Reading (with_rows tail count)) None
-made-more step tail count e h = (with_rows tail count, e ∙ rows-awaited tail count h, refl)
+made-more step tail count e h = (with_rows tail count, e ∙ (cc ((row-awaited tail.rows count h).1)), refl)
 
 pub made-whole : (step : RawStep) (tail : Tail) (count : ℕ) (epoch : Epoch) → step ≡ step_with_rows tail count
     → length tail.rows ≤ count → epoch ≡ shown_epoch tail (length tail.rows)
@@ -74,5 +61,4 @@ printed-shown tail = grind (arith, common_steps)
 pub printed-whole : (step : RawStep) (tail : Tail) (count : ℕ) (lines : List (List ℕ))
     → step ≡ step_with_rows tail count → length tail.rows ≤ count → lines
     ≡ printed_epoch (shown_epoch tail (length tail.rows)) → HasPrintedLines step (Idle (Some tail)) true lines
-printed-whole step tail count lines e h printed =
-    (whole_epoch tail, e ∙ rows-whole tail count h, printed, refl)
+printed-whole step tail count lines e h printed = grind (arith, common_steps, whole_epoch, rows-whole)

@@ -5,11 +5,11 @@ use Rattle.crx_compact.proofs.Words.{Some, None, Result, Ok, IfSome, if◌then�
 use Rattle.crx_compact.proofs.Words.{AllByRecursion, sym, ◌∙◌, ap, subst, arith, length-map, and_parts}
 use Rattle.crx_compact.proofs.Words.{and_from, columns, character_at, is_blank, IsMissingOrWithin, IsValue}
 use Rattle.crx_compact.proofs.Words.{Row, Count, is_system, IsAllowedCount, types_of_satellite}
-use Rattle.crx_compact.proofs.Words.{IsSoundRow, HasItsTypes, apart-map, satellites_few, Code, Missing, Start}
-use Rattle.crx_compact.proofs.Words.{Step, Fault, OBSERVATION_WIDTH, CLOCK_WIDTH, is_kept, is_printable}
-use Rattle.crx_compact.proofs.Words.{stretch, Satellite, RawRow, RawEpoch, block_of, latest_mark, shown}
-use Rattle.crx_compact.proofs.Words.{overlaid, raw_row_named, raw_run_of, marks_of, code_in, since_start}
-use Rattle.crx_compact.proofs.Words.{value_since, value_of, Past, past_of_block, ReadCell, ReadRow, ReadEpoch}
+use Rattle.crx_compact.proofs.Words.{IsSoundRow, HasItsTypes, apart-map, satellites_few, Code}
+use Rattle.crx_compact.proofs.Words.{Fault, OBSERVATION_WIDTH, CLOCK_WIDTH, is_kept, is_printable}
+use Rattle.crx_compact.proofs.Words.{stretch, Satellite, RawRow, RawEpoch, block_of, latest_mark}
+use Rattle.crx_compact.proofs.Words.{overlaid, raw_row_named, raw_run_of, marks_of, code_in}
+use Rattle.crx_compact.proofs.Words.{value_of, Past, past_of_block, ReadCell, ReadRow, ReadEpoch}
 use Rattle.crx_compact.proofs.Words.{each_place-all, length-each_place, length-columns, list_all-from_at}
 use Rattle.std.specs.Prelude.{OnSome}
 use Rattle.std.proofs.lemmas.List.Elements.{All-from_recursion}
@@ -17,16 +17,13 @@ use Rattle.crx_header.specs.meaning.ObservationTypes.{count_of}
 use Rattle.crx_header.specs.ObservationTypes.{AreCounts}
 use Rattle.crx_header.specs.meaning.Satellites.{has_number}
 use Rattle.crx_header.proofs.Counts.{allowed_of, system_of}
-use Rattle.crx_base.specs.declared.fault.Fault.TheVariants.{NoArc}
-use Rattle.crx_compact.specs.meaning.ArcValues.{Started}
 use Rattle.crx_compact.specs.ReadingLaws.{HasPrintableMarks, IsGood, ReadsWholeEpochs}
 use Rattle.crx_compact.proofs.Lists.{all-from}
 use Rattle.crx_compact.proofs.wayback.Overlays.{at-overlaid}
 use Rattle.crx_compact.proofs.Characters.{all-take, list_all-at, list_all-append}
-use Rattle.crx_compact.proofs.Results.{no-err, ok-same}
 use Rattle.crx_compact.proofs.soundness.Soundness.{AreReadCells, RowFacts, Paired, block_for, epoch-facts}
 use Rattle.crx_compact.proofs.EpochLines.{names_of, differ}
-use Rattle.std.proofs.lemmas.Grind.{common_steps}
+use Rattle.std.proofs.Common.{rules}
 
 -- ---- columns
 
@@ -41,8 +38,7 @@ all-blanks p (suc n) e = and_from (p 32) (list_all p (replicate n 32)) e (all-bl
 
 all-columns : (p : ℕ → Bool) (text : List ℕ) (first width : ℕ)
     → p 32 ≡ true → list_all p text ≡ true → list_all p (columns text first width) ≡ true
-all-columns p text first width e h =
-    grind (arith, common_steps, all-take, list_all-append, all-drop, all-blanks)
+all-columns p text first width e h = search (rules, all-take, list_all-append, all-drop, all-blanks)
 
 -- ---- marks
 
@@ -54,12 +50,9 @@ latest-printable : (marks : List (List ℕ)) (p : ℕ) → ArePrintable marks
 latest-printable [] p h = refl
 latest-printable (w ∷ ws) p h = grind (arith, list_all-at _ refl w h.0 p, latest-printable ws p h.1)
 
-shown-kept : (c : ℕ) → is_printable c ≡ true → is_kept (shown c) ≡ true
-shown-kept c h = grind (arith, h)
-
 overlaid-kept : (marks : List (List ℕ)) → ArePrintable marks → list_all is_kept (overlaid marks) ≡ true
 overlaid-kept marks h = list_all-from_at is_kept (overlaid marks)
-    (λ p. ap is_kept (at-overlaid marks p) ∙ shown-kept (latest_mark marks p) (latest-printable marks p h))
+    (λ p. ap is_kept (at-overlaid marks p) ∙ (grind (arith, (latest-printable marks p h))))
 
 -- ---- the marks of a run
 
@@ -101,17 +94,9 @@ raw_run-printable name (e ∷ es) h =
 
 -- ---- values
 
-since-fits : (width : ℕ) (o : Option Started) (v : Option ℤ) → value_since width o ≡ Ok v
-    → IsMissingOrWithin width v
-since-fits width None v e = absurd (no-err NoArc v e)
-since-fits width (Some arc) v e = grind arith
-
 value_of-fits : (width : ℕ) (codes : List Code) (v : Option ℤ) → value_of width codes ≡ Ok v
     → IsMissingOrWithin width v
-value_of-fits width [] v e = subst (IsMissingOrWithin width) (ok-same None v e) tt
-value_of-fits width (Missing ∷ cs) v e = subst (IsMissingOrWithin width) (ok-same None v e) tt
-value_of-fits width (Start n x ∷ cs) v e = since-fits width (since_start (Start n x ∷ cs)) v e
-value_of-fits width (Step d ∷ cs) v e = since-fits width (since_start (Step d ∷ cs)) v e
+value_of-fits width codes v e = grind arith
 
 -- every value of some cells fits
 cells-fit : (value : ℕ → Code → Result (Option ℤ) Fault)
@@ -148,7 +133,6 @@ row-sound types block satellite read counts printable known h =
     let Q : Option ℕ → Type 0 = λ o. OnSome o (is_system (character_at name 1) ≡ true) in
     let marks : list_all is_printable read.raw.marks ≡ true = (and_parts (list_all is_printable
     read.raw.marks) (list_all is_blank (drop (2 * satellite.count) read.raw.marks)) h.marks_ok).0 in
-    let R : ℕ → Type 0 = λ n. IsAllowedCount n in
     let S : ReadRow → Type 0 = λ r. IsSoundRow r.row × HasItsTypes types r.row in
     rw (← h.is_read) (
       record {
@@ -184,30 +168,24 @@ rows-sound : (types : List Count) (block : List RawEpoch) (satellites : List Sat
     → AreKnown types satellites → Paired (RowFacts (past_of_block block)) satellites rows
     → AllByRecursion (λ (r : Row). IsSoundRow r × HasItsTypes types r) (map (λ (r : ReadRow). r.row) rows)
 rows-sound types block [] [] counts printable known h = tt
-rows-sound types block [] (r ∷ rs) counts printable known h = absurd h
-rows-sound types block (s ∷ ss) [] counts printable known h = absurd h
 rows-sound types block (s ∷ ss) (r ∷ rs) counts printable known h = (
   row-sound types block s r counts printable known.0 h.0,
   rows-sound types block ss rs counts printable known.1 h.1,
 )
+rows-sound types block satellites rows counts printable known h = absurd h
 
 rows-marks : (past : Past) (satellites : List Satellite) (rows : List ReadRow)
     → Paired (RowFacts past) satellites rows → AllByRecursion
     (λ (r : RawRow). list_all is_printable r.marks ≡ true) (map (λ (r : ReadRow). r.raw) rows)
 rows-marks past [] [] h = tt
-rows-marks past [] (r ∷ rs) h = absurd h
-rows-marks past (s ∷ ss) [] h = absurd h
-rows-marks past (s ∷ ss) (r ∷ rs) h = (
-  (and_parts _ (list_all is_blank (drop (2 * s.count) r.raw.marks)) h.0.marks_ok).0,
-  rows-marks past ss rs h.1,
-)
+rows-marks past (s ∷ ss) (r ∷ rs) h = grind (arith, rows-marks past ss rs h.1)
+rows-marks past satellites rows h = absurd h
 
 row-names : (past : Past) (satellites : List Satellite) (rows : List ReadRow) → Paired (RowFacts past)
     satellites rows → map (λ (r : Row). r.name) (map (λ (r : ReadRow). r.row) rows) ≡ names_of satellites
 row-names past [] [] h = refl
-row-names past [] (r ∷ rs) h = absurd h
-row-names past (s ∷ ss) [] h = absurd h
 row-names past (s ∷ ss) (r ∷ rs) h = cc (h.0.is_read, row-names past ss rs h.1)
+row-names past satellites rows h = absurd h
 
 -- ---- the epoch
 

@@ -1,10 +1,10 @@
 -- What follows of an epoch from its having been read.
-use Rattle.crx_compact.proofs.Words.{◌≡◌, refl, ℕ, suc, ◌+◌, ◌*◌, Bool, true, false, ℤ, List, [], ◌∷◌, map}
-use Rattle.crx_compact.proofs.Words.{length, slice_index_or, drop, Option, Some, None, Result, Ok, Err, not}
+use Rattle.crx_compact.proofs.Words.{◌≡◌, refl, ℕ, suc, ◌+◌, ◌*◌, Bool, true, ℤ, List, [], ◌∷◌, map}
+use Rattle.crx_compact.proofs.Words.{length, slice_index_or, drop, Option, Some, None, Result, Ok, not}
 use Rattle.crx_compact.proofs.Words.{if◌then◌else◌, AllByRecursion, sym, ◌∙◌, ap, subst, arith, length-map}
-use Rattle.crx_compact.proofs.Words.{columns, code_of, ReadLine, Content, Overlong, Row}
+use Rattle.crx_compact.proofs.Words.{columns, code_of, ReadLine, Row}
 use Rattle.crx_compact.proofs.Words.{Epoch, Count, apart-map, Place, Here, Wrong, Wanted, then_place}
-use Rattle.crx_compact.proofs.Words.{after_lines, first_line, one_line, Code, Missing, Fault, NotAnEpoch}
+use Rattle.crx_compact.proofs.Words.{first_line, Code, Missing, Fault, NotAnEpoch}
 use Rattle.crx_compact.proofs.Words.{BadField, BadFlags, Truncated, each_place, and_then}
 use Rattle.crx_compact.proofs.Words.{before_all, begins_epoch, Satellite, RawRow, RawEpoch, block_of}
 use Rattle.crx_compact.proofs.Words.{raw_row_named, raw_run_of, marks_of, Past, past_of_block, past_of_epochs}
@@ -45,18 +45,9 @@ pub record Comes {X Y : Type 0} (p : Place X) (lines : List ReadLine) (next : X
   pub later : next from (drop count lines) ≡ Here y more
   pub counted : n ≡ count + more
 
-after-comes : {X Y : Type 0} (x : X) (k : ℕ) (lines : List ReadLine) (next : X
-    → List ReadLine → Place Y) (q : Place Y) (y : Y) (n : ℕ)
-    → next x (drop k lines) ≡ q → after_lines k q ≡ Here y n → Comes (Here x k) lines next y n
-after-comes x k lines next (Here z m) y n h e = grind arith
-after-comes x k lines next (Wrong m f) y n h e = cc
-after-comes x k lines next Wanted y n h e = cc
-
 pub then-comes : {X Y : Type 0} (p : Place X) (lines : List ReadLine) (next : X → List ReadLine → Place Y)
     (y : Y) (n : ℕ) → then_place p lines next ≡ Here y n → Comes p lines next y n
-then-comes (Here x k) lines next y n e = after-comes x k lines next (next x (drop k lines)) y n refl e
-then-comes (Wrong k f) lines next y n e = cc
-then-comes Wanted lines next y n e = cc
+then-comes p lines next y n e = grind arith
 
 -- what a first line is read as
 pub record Reads {X : Type 0} (lines : List ReadLine) (read : List ℕ → Result X Fault) (x : X)
@@ -65,16 +56,9 @@ pub record Reads {X : Type 0} (lines : List ReadLine) (read : List ℕ → Resul
   pub ok : read line ≡ Ok x
   pub one : n ≡ 1
 
-result-reads : {X : Type 0} (lines : List ReadLine) (read : List ℕ → Result X Fault) (line : List ℕ)
-    (r : Result X Fault) (x : X) (n : ℕ) → read line ≡ r → one_line r ≡ Here x n → Reads lines read x n
-result-reads lines read line (Ok z) x n h e = grind arith
-result-reads lines read line (Err f) x n h e = cc
-
 pub line-reads : {X : Type 0} (lines : List ReadLine) (read : List ℕ → Result X Fault) (x : X) (n : ℕ)
     → first_line lines read ≡ Here x n → Reads lines read x n
-line-reads [] read x n e = cc
-line-reads (Overlong ∷ lines) read x n e = cc
-line-reads (Content line ∷ lines) read x n e = result-reads _ read line _ x n refl e
+line-reads lines read x n e = grind arith
 
 -- ---- cells
 
@@ -175,7 +159,6 @@ rows-facts past [] lines rows count e = grind arith
 rows-facts past (s ∷ ss) lines rows count e =
     let one = then-comes (first_line lines (satellite_line_read past s)) lines (λ row others. then_place
     (rows_read past ss others) others (λ more rest. Here (row ∷ more) 0)) rows count e in
-    let line = line-reads lines (satellite_line_read past s) one.from one.count one.first in
     let others = drop one.count lines in
     let two = then-comes (rows_read past ss others) others (λ more rest. Here (one.from ∷ more) 0) rows
     one.more one.later in
@@ -188,9 +171,8 @@ rows-facts past (s ∷ ss) lines rows count e =
 pub raw-names : (past : Past) (satellites : List Satellite) (rows : List ReadRow) → Paired (RowFacts past)
     satellites rows → map (λ (r : RawRow). r.name) (map (λ (r : ReadRow). r.raw) rows) ≡ names_of satellites
 raw-names past [] [] h = refl
-raw-names past [] (r ∷ rs) h = absurd h
-raw-names past (s ∷ ss) [] h = absurd h
 raw-names past (s ∷ ss) (r ∷ rs) h = cc (raw-name past s r h.0, raw-names past ss rs h.1)
+raw-names past satellites rows h = absurd h
 
 -- ---- the epoch
 
@@ -226,9 +208,7 @@ IsOfBlock block (Some past) = past ≡ past_of_block block
 
 past-found_if : (b : Bool) (os : List RawEpoch)
     → IsOfBlock (if b then [] else block_of os) (if b then Some (past_of_block []) else past_of_epochs os)
-past-found_if true os = refl
-past-found_if false [] = tt
-past-found_if false (o ∷ os) = refl
+past-found_if b os = grind arith
 
 begun-facts : (types : List Count) (older : List RawEpoch) (line : List ℕ) (begun : BegunEpoch)
     → epoch_begun types line (past_of_line older line) ≡ Ok begun → Begun types older begun
@@ -293,7 +273,6 @@ epoch-facts types older lines read count e =
 rows-single : (types : List Count) (older : List RawEpoch) (read : ReadEpoch) (count : ℕ)
     → EpochFacts types older read count → HasSingleLines read.raw
 rows-single types older read count h =
-    let P : ReadEpoch → Type 0 = λ r. HasSingleLines r.raw in
     let raws = map _ h.rows in
     let apart = sym (apart-map (λ (n : List ℕ). n) _ raws) ∙ ap differ (raw-names (past_of_block (block_for
     read.raw.line older)) h.satellites h.rows h.rows_ok ∙ h.line_ok.named.same) ∙ h.line_ok.named.apart in
@@ -304,15 +283,8 @@ rows-meant : (block : List RawEpoch) (raw : RawEpoch) (satellites : List Satelli
     (λ (r : RawRow). raw_row_named r.name raw.rows ≡ Some r) (map (λ (r : ReadRow). r.raw) rows)
     → rows_from (raw ∷ block) (map (λ (r : ReadRow). r.raw) rows) ≡ Ok (map (λ (r : ReadRow). r.row) rows)
 rows-meant block raw [] [] h own = refl
-rows-meant block raw [] (r ∷ rs) h own = absurd h
-rows-meant block raw (s ∷ ss) [] h own = absurd h
-rows-meant block raw (s ∷ ss) (r ∷ rs) h own = grind (
-  arith,
-  own.0,
-  raw-name _ s r h.0,
-  row-meant block s r h.0,
-  rows-meant block raw ss rs h.1 own.1,
-)
+rows-meant block raw (s ∷ ss) (r ∷ rs) h own = grind (arith, row-meant, rows-meant block raw ss rs h.1 own.1)
+rows-meant block raw satellites rows h own = absurd h
 
 epoch-meant : (types : List Count) (older : List RawEpoch) (read : ReadEpoch) (count : ℕ)
     → EpochFacts types older read count → epoch_from read.raw older ≡ Ok read.epoch

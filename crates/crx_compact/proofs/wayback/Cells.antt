@@ -1,11 +1,12 @@
 -- The cells of a satellite line are read back from it.
 use Rattle.crx_compact.proofs.Words.{◌≡◌, refl, ℕ, true, List, [], ◌∷◌, ◌++◌, length, map, list_all}
-use Rattle.crx_compact.proofs.Words.{AllByRecursion, ◌∙◌, ap, arith, without_end_blanks, Code, code_text}
+use Rattle.crx_compact.proofs.Words.{AllByRecursion, arith, without_end_blanks, Code, code_text}
 use Rattle.crx_compact.proofs.Words.{cell_text, cells_of, after_cells}
 use Rattle.std.specs.Prelude.{flat_map}
 use Rattle.std.proofs.lemmas.List.{append_assoc}
 use Rattle.crx_text.specs.meaning.Codes.{first_cell, after_cell}
 use Rattle.crx_compact.proofs.wayback.CodeTexts.{is_code_character}
+use Rattle.std.proofs.lemmas.Grind.{common_steps}
 
 -- ---- blanks at a line's end do not change its cells
 
@@ -36,25 +37,24 @@ AreWritten codes = AllByRecursion (λ (c : Code). list_all is_code_character (co
 
 pub one_cell : (c : Code) (cs : List Code) (marks : List ℕ)
     → flat_map cell_text (c ∷ cs) ++ marks ≡ code_text c ++ 32 ∷ (flat_map cell_text cs ++ marks)
-one_cell c cs marks = append_assoc (code_text c ++ 32 ∷ []) (flat_map cell_text cs) marks
-    ∙ append_assoc (code_text c) (32 ∷ []) (flat_map cell_text cs ++ marks)
+one_cell c cs marks = grind (arith, common_steps, append_assoc, code_text, flat_map, cell_text)
 
 pub cells-written : (codes : List Code) (marks : List ℕ) → AreWritten codes
     → cells_of (length codes) (without_end_blanks (flat_map cell_text codes ++ marks)) ≡ map code_text codes
 cells-written [] marks h = refl
 cells-written (c ∷ cs) marks h =
-    let line = flat_map cell_text (c ∷ cs) ++ marks in
-    let first = first_cell-trimmed line ∙ ap first_cell (one_cell c cs marks)
-    ∙ first_cell-text (code_text c) (flat_map cell_text cs ++ marks) h.0 in
-    let after = after_cell-trimmed line ∙ ap without_end_blanks (ap after_cell (one_cell c cs marks)
-    ∙ after_cell-text (code_text c) (flat_map cell_text cs ++ marks) h.0) in
-    cc (first, after, cells-written cs marks h.1)
+    grind (
+      arith,
+      first_cell-trimmed,
+      one_cell,
+      first_cell-text,
+      after_cell-trimmed,
+      after_cell-text,
+      cells-written cs marks h.1,
+    )
 
 pub marks-written : (codes : List Code) (marks : List ℕ) → AreWritten codes → after_cells
     (length codes) (without_end_blanks (flat_map cell_text codes ++ marks)) ≡ without_end_blanks marks
 marks-written [] marks h = refl
 marks-written (c ∷ cs) marks h =
-    let line = flat_map cell_text (c ∷ cs) ++ marks in
-    ap (after_cells (length cs))
-    (after_cell-trimmed line ∙ ap without_end_blanks (ap after_cell (one_cell c cs marks)
-    ∙ after_cell-text (code_text c) (flat_map cell_text cs ++ marks) h.0)) ∙ marks-written cs marks h.1
+    grind (arith, after_cell-trimmed, one_cell, after_cell-text, marks-written cs marks h.1)

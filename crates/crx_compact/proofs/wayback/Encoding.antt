@@ -1,5 +1,5 @@
 -- An epoch coded after any others.
-use Rattle.crx_compact.proofs.Words.{◌≡◌, refl, Bool, true, false, List, [], ◌∷◌, Option, Epoch, Marked}
+use Rattle.crx_compact.proofs.Words.{◌≡◌, Bool, List, ◌∷◌, Option, Epoch, Marked}
 use Rattle.crx_compact.proofs.Words.{compact_epoch, Tail, tail_of, lines_after_tail, tail_after}
 use Rattle.crx_compact.proofs.Words.{tail_written_after}
 use Rattle.crx_rinex.specs.meaning.Epochs.{IsSoundEpoch}
@@ -7,12 +7,11 @@ use Rattle.crx_compact.specs.Tails.{tail_or_nothing}
 use Rattle.crx_compact.specs.Laws.{tail_before}
 use Rattle.crx_compact.proofs.wayback.Runs.{marked}
 use Rattle.crx_compact.proofs.wayback.Tailing.{epoch-by_tail}
+use Rattle.std.proofs.Common.{arith}
 
 written-before : (full : Bool) (epoch : Epoch) (epochs : List Marked)
     → tail_written_after full (tail_or_nothing epochs) ≡ tail_before (marked full epoch) epochs
-written-before true epoch epochs = refl
-written-before false epoch [] = refl
-written-before false epoch (m ∷ older) = refl
+written-before full epoch epochs = grind arith
 
 pub lines-coded : (full : Bool) (epoch : Epoch) (held : Option Tail) (epochs : List Marked)
     → IsSoundEpoch epoch → held ≡ tail_or_nothing epochs

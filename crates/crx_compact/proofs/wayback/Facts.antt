@@ -1,5 +1,5 @@
 -- What follows of an epoch and its rows from their being ones that can be written.
-use Rattle.crx_compact.proofs.Words.{◌≡◌, refl, ◌≢◌, ℕ, suc, ◌+◌, ◌-◌, ◌*◌, ◌<◌, true, not, ◌&&◌, ◌==◌}
+use Rattle.crx_compact.proofs.Words.{◌≡◌, refl, ℕ, suc, ◌+◌, ◌-◌, ◌*◌, ◌<◌, true, not, ◌&&◌}
 use Rattle.crx_compact.proofs.Words.{nat_eq, List, [], ◌∷◌, length, map, Ok, list_all, AllByRecursion}
 use Rattle.crx_compact.proofs.Words.{◌∙◌, ap, arith, and_parts, not-true, character_at}
 use Rattle.crx_compact.proofs.Words.{without_end_blanks, columns, text_difference, mark_of}
@@ -7,7 +7,7 @@ use Rattle.crx_compact.proofs.Words.{is_kept, is_printable, Row, Epoch, has_sate
 use Rattle.crx_compact.proofs.Words.{IsWholeEpoch, each_place, begins_epoch, is_observation_flag}
 use Rattle.crx_compact.proofs.Words.{Satellite, satellites_named, Count, epoch_text, each_place-same, at}
 use Rattle.crx_compact.proofs.Words.{at-without_end_blanks, columns-are, list_all-from_at, name-length}
-use Rattle.std.specs.Prelude.{nat_le, flat_map}
+use Rattle.std.specs.Prelude.{flat_map}
 use Rattle.std.proofs.lemmas.List.{length-append}
 use Rattle.crx_header.specs.meaning.EpochColumns.{satellites_in}
 use Rattle.crx_compact.proofs.Identifiers.{AreNew, new-after}
@@ -17,20 +17,12 @@ use Rattle.crx_compact.proofs.Characters.{if_some}
 use Rattle.crx_compact.proofs.wayback.Runs.{IsUnmarked}
 use Rattle.crx_text.proofs.Characters.{at-append, at-append_past}
 use Rattle.std.proofs.lemmas.Grind.{common_steps}
+use Rattle.std.proofs.Common.{rules}
 
 -- ---- tests of all characters
 
-kept-unmarked : (c : ℕ) → is_kept c ≡ true → c ≢ 38
-kept-unmarked c h e = cc
-
 pub unmarked : (text : List ℕ) → list_all is_kept text ≡ true → IsUnmarked text
-unmarked text h p = kept-unmarked (at text p) (list_all-at is_kept refl text h p)
-
-kept-printable : (c : ℕ) → is_kept c ≡ true → is_printable c ≡ true
-kept-printable c h = (and_parts (nat_le 32 c && nat_le c 126) (not (c == 38)) h).0
-
-mark-printable : (a b : ℕ) → is_printable b ≡ true → is_printable (mark_of a b) ≡ true
-mark-printable a b h = grind (arith, h)
+unmarked text h p = (grind (arith, common_steps))
 
 pub at-difference : (old new : List ℕ) (p : ℕ)
     → at (text_difference old new) p ≡ mark_of (at old p) (at new p)
@@ -39,22 +31,13 @@ at-difference old new p = at-without_end_blanks _ p ∙ at-by_position mark_of r
 -- the marks of a text that may be written are printable
 pub difference-printable : (old new : List ℕ)
     → list_all is_kept new ≡ true → list_all is_printable (text_difference old new) ≡ true
-difference-printable old new h =
-    list_all-from_at is_printable (text_difference old new) (λ p. ap is_printable (at-difference old new p)
-    ∙ mark-printable (at old p) (at new p) (kept-printable (at new p) (list_all-at is_kept refl new h p)))
+difference-printable old new h = grind (arith, list_all-from_at, at-difference, list_all-at)
 
 -- ---- an epoch's head and text
 
-pub head_tests : (types : List Count) (e : Epoch) → IsWholeEpoch types e
-    → (begins_epoch e.head && is_observation_flag (character_at e.head 32) && list_all is_kept e.head) ≡ true
-head_tests types e h = if_some _ (satellites_in e.head) (length e.rows) (head-counted types e h)
-
 pub head-kept : (types : List Count) (e : Epoch) → IsWholeEpoch types e → list_all is_kept e.head ≡ true
 head-kept types e h = (and_parts (begins_epoch e.head && is_observation_flag (character_at e.head 32))
-    _ (head_tests types e h)).1
-
-head-begins : (types : List Count) (e : Epoch) → IsWholeEpoch types e → begins_epoch e.head ≡ true
-head-begins types e h = grind (arith, common_steps)
+    _ (if_some _ (satellites_in e.head) (length e.rows) (head-counted types e h))).1
 
 names-kept : (types : List Count) (rows : List Row)
     → AllByRecursion (IsTypedRow types) rows → list_all is_kept (flat_map (λ (r : Row). r.name) rows) ≡ true
@@ -63,24 +46,19 @@ names-kept types (r ∷ rs) h = list_all-append _ r.name _ (sound-name_kept r h.
 
 pub text-kept : (types : List Count) (e : Epoch) → IsWholeEpoch types e
     → list_all is_kept (epoch_text e) ≡ true
-text-kept types e h =
-    list_all-append _ e.head _ (head-kept types e h) (names-kept types e.rows (typed-rows types e h))
+text-kept types e h = search (rules, list_all-append, head-kept, names-kept, typed-rows)
 
 pub text-head : (types : List Count) (e : Epoch)
     → IsWholeEpoch types e → (p : ℕ) → p < 41 → at (epoch_text e) p ≡ at e.head p
 text-head types e h p less = at-append e.head _ p (omega (arith, less, h.sound.head_sound.width))
 
 pub text-begins : (types : List Count) (e : Epoch) → IsWholeEpoch types e → at (epoch_text e) 0 ≡ 62
-text-begins types e h = grind (arith, common_steps, nat_eq, head-begins, text-head, is_same)
-  where
-    is_same : (c : ℕ) → nat_eq c 62 ≡ true → c ≡ 62
-    is_same c h = grind (arith, h)
+text-begins types e h = grind (arith, common_steps, nat_eq, text-head)
 
 length-names : (types : List Count) (rows : List Row)
     → AllByRecursion (IsTypedRow types) rows → length (flat_map (λ (r : Row). r.name) rows) ≡ 3 * length rows
 length-names types [] h = refl
-length-names types (r ∷ rs) h =
-    grind (arith, length-append r.name (flat_map (λ (q : Row). q.name) rs), length-names types rs h.1)
+length-names types (r ∷ rs) h = search (rules, length-append, flat_map, length-names types rs h.1)
 
 pub length-text : (types : List Count) (e : Epoch)
     → IsWholeEpoch types e → length (epoch_text e) ≡ 41 + 3 * length e.rows
@@ -131,7 +109,6 @@ pub satellites-good : (types : List Count) (earlier : List (List ℕ)) (rows : L
     ≡ true → satellites_named types earlier (map (λ (r : Row). r.name) rows) ≡ Ok (satellites_of_rows rows)
 satellites-good types earlier [] h new k = refl
 satellites-good types earlier (r ∷ rs) h new k =
-    let others = satellites_named types (r.name ∷ earlier) (map (λ (q : Row). q.name) rs) in
     let rest = satellites-good types (r.name ∷ earlier) rs h.1 (new-after (λ (q : Row). q.name)
     r.name earlier rs new.1 (not-true (has_satellite r.name rs) (and_parts (not (has_satellite r.name rs))
     (are_different rs) k).0)) (and_parts (not (has_satellite r.name rs)) (are_different rs) k).1 in

@@ -1,12 +1,13 @@
 -- Texts by their characters: what a difference marks comes back, and marks laid over one another are patches
 -- in turn.
 use Rattle.crx_compact.proofs.Words.{◌≡◌, refl, ◌≢◌, ℕ, zero, suc, ◌≤◌, if◌then◌else◌, List, [], ◌∷◌, length}
-use Rattle.crx_compact.proofs.Words.{All, sym, ◌∙◌, ap, arith, not-suc-le-zero, le_of_suc-le-suc, is_blank}
+use Rattle.crx_compact.proofs.Words.{All, ◌∙◌, ap, arith, not-suc-le-zero, le_of_suc-le-suc, is_blank}
 use Rattle.crx_compact.proofs.Words.{without_end_blanks, by_position, mark_of, text_difference, character_of}
 use Rattle.crx_compact.proofs.Words.{patched, each_place, latest_mark, shown, longest, overlaid, at}
 use Rattle.crx_compact.proofs.Words.{at-without_end_blanks, index-each_place}
 use Rattle.crx_compact.specs.Laws.{patched_in_turn}
 use Rattle.crx_compact.proofs.Characters.{same_characters, at-by_position}
+use Rattle.std.proofs.Common.{rules}
 
 -- ---- patch after difference
 
@@ -48,10 +49,8 @@ character-shown : (old c : ℕ) → character_of (shown old) c ≡ shown (if is_
 character-shown old c = grind arith
 
 pub overlaid-patched : (w : List ℕ) (ws : List (List ℕ)) → overlaid (w ∷ ws) ≡ patched (overlaid ws) w
-overlaid-patched w ws = same_characters (each_place (longest (w ∷ ws)) (λ q. shown (latest_mark (w ∷ ws) q)))
-    (by_position character_of (overlaid ws) w)
-    (λ p. at-longest (w ∷ ws) p ∙ sym (at-by_position character_of refl (overlaid ws) w p
-    ∙ ap (λ n. character_of n (at w p)) (at-overlaid ws p) ∙ character-shown (latest_mark ws p) (at w p)))
+overlaid-patched w ws =
+    search (rules, same_characters, at-longest, at-by_position, at-overlaid, character-shown)
 
 pub overlaid-in_turn : (marks : List (List ℕ)) → overlaid marks ≡ patched_in_turn marks
 overlaid-in_turn [] = refl

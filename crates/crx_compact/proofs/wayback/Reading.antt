@@ -16,7 +16,7 @@ use Rattle.crx_compact.proofs.Words.{IsWholeEpoch, raw_row, raw_of, raws_of, Are
 use Rattle.crx_compact.proofs.Words.{few_kept, at, at-without_end_blanks, columns-are}
 use Rattle.std.proofs.Common.{drop_of_length-le}
 use Rattle.std.proofs.lemmas.List.{length-append, append_assoc}
-use Rattle.crx_compact.specs.ReadingLaws.{EpochReadsBack, read_of, lines_of_epoch, EachReadsBack, text_lines}
+use Rattle.crx_compact.specs.ReadingLaws.{read_of, lines_of_epoch, EachReadsBack, text_lines}
 use Rattle.crx_compact.specs.ReadingLaws.{epochs_at, marked_of, counts_of, reads_of, ReadsBack}
 use Rattle.crx_compact.proofs.Lists.{all-from}
 use Rattle.crx_compact.proofs.wayback.Writable.{head-counted, typed-rows}
@@ -30,6 +30,7 @@ use Rattle.crx_compact.proofs.wayback.Facts.{difference-printable}
 use Rattle.crx_compact.proofs.wayback.Rows.{run-begins, rows-of_run, clock-printable, satellite_of, row-read}
 use Rattle.crx_compact.proofs.Identifiers.{each-own, none-earlier}
 use Rattle.crx_compact.proofs.EpochLines.{satellites_counted}
+use Rattle.std.proofs.Common.{rules}
 
 -- ---- the epochs of a block
 
@@ -39,8 +40,7 @@ epochs-begin types epochs h = all-from (λ (e : Epoch). at (epoch_text e) 0 ≡ 
 
 pub epochs-unmarked : (types : List Count) (epochs : List Epoch)
     → AreWhole types epochs → AllByRecursion (λ (e : Epoch). (p : ℕ) → at (epoch_text e) p ≢ 38) epochs
-epochs-unmarked types epochs h = all-from _
-    (λ e whole. unmarked (epoch_text e) (text-kept types e whole)) epochs h
+epochs-unmarked types epochs h = search (rules, all-from, unmarked, epoch_text, text-kept)
 
 -- ---- what is before the line in its block
 
@@ -49,18 +49,16 @@ before full older = if full then [] else raw_block older
 
 not-empty : (raws : List RawEpoch) (raw : RawEpoch) (block : List RawEpoch)
     → block_of raws ≡ raw ∷ block → past_of_epochs raws ≡ Some (past_of_block (block_of raws))
-not-empty [] raw block e = cc
-not-empty (x ∷ xs) raw block e = refl
+not-empty raws raw block e = grind arith
 
 -- what the lines of an epoch are read against
 past-found : (full : Bool) (e : Epoch) (older : List Marked) (raws : List RawEpoch)
     → Begins (marked full e ∷ older) → (full ≡ false → block_of raws ≡ block_of (raws_of older))
     → past_of_line raws (epoch_line (marked full e) older) ≡ Some (past_of_block (before full older))
-past-found true e older raws h k = cc (begins_full (epoch_text e) h.0)
-past-found false e [] raws h k = cc (begins_full (epoch_text e) h.0)
 past-found false e (m ∷ older) raws h k =
     let block = k refl ∙ block-raws (m ∷ older) h.1 in
     rw (begins_later _ _ h.1.0 h.0, not-empty raws _ _ block, block)
+past-found full e older raws h k = cc (begins_full (epoch_text e) h.0)
 
 block-found : (full : Bool) (e : Epoch) (older : List Marked) (raws : List RawEpoch)
     → Begins (marked full e ∷ older) → (full ≡ false → block_of raws ≡ block_of (raws_of older))
@@ -95,8 +93,7 @@ text-good types e h =
 text-good_line : (types : List Count) (full : Bool) (e : Epoch) (older : List Marked)
     → AreWhole types (since_full (marked full e ∷ older)) → overlaid (epoch_line (marked full e) older ∷ map
     (λ (q : RawEpoch). q.line) (before full older)) ≡ without_end_blanks (epoch_text e)
-text-good_line types full e older h =
-    text-read (marked full e ∷ older) (epochs-unmarked types (since_full (marked full e ∷ older)) h)
+text-good_line types full e older h = search (rules, text-read, marked, epochs-unmarked, since_full)
 
 line-good : (types : List Count) (full : Bool) (e : Epoch) (older : List Marked)
     → AreWhole types (since_full (marked full e ∷ older)) → satellites_of_line types
@@ -114,18 +111,14 @@ text-other (c ∷ cs) h = grind arith
 
 no-end_blanks : (text : List ℕ) → list_all is_code_character text ≡ true → without_end_blanks text ≡ text
 no-end_blanks [] h = refl
-no-end_blanks (c ∷ cs) h = grind (
-  arith,
-  no-end_blanks cs (and_parts (is_code_character c) (list_all is_code_character cs) h).1,
-  (and_parts (is_code_character c) (list_all is_code_character cs) h).0,
-)
+no-end_blanks (c ∷ cs) h =
+    grind (arith, no-end_blanks cs (and_parts (is_code_character c) (list_all is_code_character cs) h).1)
 
 clock-good : (types : List Count) (full : Bool) (e : Epoch) (older : List Marked) → AreWhole types
     (since_full (marked full e ∷ older)) → clock_line_read (past_of_block (before full older))
     (code_text (code_at WRITTEN_ORDER (clock_arc (marked full e ∷ older))))
     ≡ Ok (record { code = code_at WRITTEN_ORDER (clock_arc (marked full e ∷ older)); value = e.clock })
 clock-good types full e older h =
-    let past = past_of_block (before full older) in
     let code = code_at WRITTEN_ORDER (clock_arc (marked full e ∷ older)) in
     let printable = clock-printable types (since_full (marked full e ∷ older)) h in
     let characters = code-characters code printable in
@@ -186,7 +179,6 @@ epoch-good types full e older raws rest h k =
     let code = code_at WRITTEN_ORDER (clock_arc (marked full e ∷ older)) in
     let begun : BegunEpoch = record { line = line; past = past; satellites = satellites_of_rows e.rows } in
     let clock : ReadCell = record { code = code; value = e.clock } in
-    let later = Content (code_text code) ∷ (map Content (map (line_in ms) e.rows) ++ rest) in
     let first = ap (epoch_begun types line)
     (past-found full e older raws (epochs-begin types (since_full (marked full e ∷ older)) h) k)
     ∙ ap {B = Result BegunEpoch Fault} (λ r. and_then r (λ satellites. Ok (record {
@@ -212,16 +204,8 @@ epoch-good types full e older raws rest h k =
     counted : (n : ℕ) → 1 + (1 + (n + 0)) ≡ 2 + n
     counted n = omega arith
 
-each-reads : (types : List Count) (m : Marked) (older : List Marked) (raws : List RawEpoch)
-    → AreWhole types (since_full (m ∷ older))
-    → (m.in_full ≡ false → block_of raws ≡ block_of (raws_of older)) → EpochReadsBack types m older raws
-each-reads types m older raws h k = record {
-  reads = λ rest. epoch-good types _ _ older raws rest h k;
-  block = block-found _ m.epoch older raws (epochs-begin types (since_full (m ∷ older)) h) k;
-}
-
 pub each-reads_back : EachReadsBack
-each-reads_back types m older raws h k = each-reads types m older raws h k
+each-reads_back types m older raws h k = (search (rules, epoch-good, block-found, epochs-begin, since_full))
 
 -- ---- the epochs of a list
 

@@ -1,11 +1,11 @@
 -- A satellite's line reads as its row.
 use Rattle.crx_compact.proofs.Words.{◌≡◌, refl, ℕ, zero, suc, ◌+◌, ◌-◌, ◌*◌, ◌^◌, ◌<◌, ◌≤◌, ℤ, Bool, true}
 use Rattle.crx_compact.proofs.Words.{false, cond, nat_eq, List, [], ◌∷◌, ◌++◌, length, map, slice_index_or}
-use Rattle.crx_compact.proofs.Words.{drop, All, Option, Some, None, Result, Ok, list_all, AllByRecursion}
+use Rattle.crx_compact.proofs.Words.{All, Option, Some, None, Result, Ok, list_all, AllByRecursion}
 use Rattle.crx_compact.proofs.Words.{bytes_eq, sym, ◌∙◌, ap, subst, arith, not-suc-le-zero, get_or_past}
 use Rattle.crx_compact.proofs.Words.{All-head, All-tail, IsWithin, IsMissingOrWithin, IsValue, begins_epoch}
-use Rattle.crx_compact.proofs.Words.{is_blank, without_end_blanks, text_difference, mark_of, by_position}
-use Rattle.crx_compact.proofs.Words.{code_text, IsPrintable, Row, Epoch, value_in, Code, Missing, Fault}
+use Rattle.crx_compact.proofs.Words.{without_end_blanks, text_difference, mark_of, by_position}
+use Rattle.crx_compact.proofs.Words.{code_text, IsPrintable, Row, Epoch, value_in, Code, Fault}
 use Rattle.crx_compact.proofs.Words.{WRITTEN_ORDER, OBSERVATION_WIDTH, CLOCK_WIDTH, each_place, stretch}
 use Rattle.crx_compact.proofs.Words.{code_at, Marked, run_of, since_full, row_named, arc_of}
 use Rattle.crx_compact.proofs.Words.{indicators_before, codes_of, satellite_line, cell_text, Satellite}
@@ -29,6 +29,7 @@ use Rattle.crx_compact.proofs.arcs.Bounds.{IsNear, near-within, code-printable}
 use Rattle.crx_compact.proofs.wayback.Facts.{unmarked, at-difference, difference-printable, trimmed-again}
 use Rattle.crx_text.proofs.Characters.{at-drop}
 use Rattle.std.proofs.Common.{rules}
+use Rattle.std.proofs.lemmas.Grind.{common_steps}
 
 -- ---- rows of a run
 
@@ -52,8 +53,7 @@ found-row types name (q ∷ qs) h r found =
 run-rows_step : (types : List Count) (name : List ℕ) (o : Option Row) (os : List (Option Row))
     → ((r : Row) → o ≡ Some r → IsRowOf types name r) → AllByRecursion (IsRowOf types name) (stretch os)
     → AllByRecursion (IsRowOf types name) (stretch (o ∷ os))
-run-rows_step types name None os h next = tt
-run-rows_step types name (Some r) os h next = (h r refl, next)
+run-rows_step types name o os h next = grind arith
 
 pub run-rows : (types : List Count) (name : List ℕ) (epochs : List Epoch) → AreWhole types epochs
     → AllByRecursion (IsRowOf types name) (stretch (map (λ (e : Epoch). row_named name e.rows) epochs))
@@ -86,9 +86,8 @@ lines-each P types ms each h (r ∷ rs) k =
 
 pub stretch-within : (width : ℕ) (os : List (Option ℤ))
     → AllByRecursion (IsMissingOrWithin width) os → AllByRecursion (IsWithin width) (stretch os)
-stretch-within width [] h = tt
-stretch-within width (None ∷ os) h = tt
 stretch-within width (Some x ∷ os) h = (h.0, stretch-within width os h.1)
+stretch-within width os h = tt
 
 pub near-all : (width : ℕ) (xs : List ℤ)
     → AllByRecursion (IsWithin width) xs → AllByRecursion (IsNear (10 ^ (width - 1))) xs
@@ -148,36 +147,19 @@ first_other (c ∷ cs) rest h = grind arith
 pub line-begins : (codes : List Code) (marks : List ℕ) → 0 < length codes → AreWritten codes
     → begins_epoch (without_end_blanks (flat_map cell_text codes ++ marks)) ≡ false
 line-begins [] marks less h = absurd (not-suc-le-zero less)
-line-begins (c ∷ cs) marks less h =
-    let first = first_other (code_text c) (flat_map cell_text cs ++ marks) h.0 in
-    cc (at-without_end_blanks _ 0, one_cell c cs marks)
+line-begins (c ∷ cs) marks less h = grind (arith, first_other, at-without_end_blanks, one_cell)
 
 -- ---- the marks of a line
 
--- nothing but blanks is past the longer of two texts
-difference-past : (n : ℕ) (old new : List ℕ)
-    → length old ≤ n → length new ≤ n → list_all is_blank (drop n (text_difference old new)) ≡ true
-difference-past n old new h k = list_all-from_at is_blank (drop n (text_difference old new)) (λ p.
-    let a = at_past old (n + p) (omega (arith, h)) in
-    let b = at_past new (n + p) (omega (arith, k)) in
-    ap is_blank (at-drop n (text_difference old new) p
-    ∙ at-difference old new (n + p) ∙ ap (λ c. mark_of c (at new (n + p))) a ∙ ap (mark_of 32) b))
-
 before-short : (types : List Count) (name : List ℕ) (r : Row) (rs : List Row)
     → AllByRecursion (IsRowOf types name) (r ∷ rs) → length (indicators_before (r ∷ rs)) ≤ 2 * length r.values
-before-short types name r [] h = omega arith
-before-short types name r (q ∷ qs) h = grind arith
+before-short types name r rs h = grind arith
 
 marks-good : (types : List Count) (name : List ℕ) (r : Row) (rs : List Row)
     → AllByRecursion (IsRowOf types name) (r ∷ rs)
     → are_marks (length r.values) (text_difference (indicators_before (r ∷ rs)) r.flags) ≡ true
 marks-good types name r rs h =
-    cc (
-      difference-printable (indicators_before (r ∷ rs)) r.flags h.0.is_row.0.kept,
-      difference-past
-          (2 * length r.values) (indicators_before (r ∷ rs)) r.flags (before-short types name r rs h)
-          (omega (arith, h.0.is_row.0.paired)),
-    )
+    grind (arith, difference-printable, list_all-from_at, at_past, at-drop, at-difference, before-short)
 
 -- ---- a line and its row
 
@@ -186,19 +168,16 @@ codes_at run j = code_at WRITTEN_ORDER (arc_of j run)
 
 pub written-codes : (types : List Count) (name : List ℕ) (n : ℕ) (run : List Row)
     → AllByRecursion (IsRowOf types name) run → AreWritten (codes_of n run)
-written-codes types name n run h =
-    each_place-all _ n _ (λ j. code-characters (codes_at run j) (run-printable types name run h j))
+written-codes types name n run h = search (rules, each_place-all, code-characters, run-printable)
 
 -- the value at a place, by the codes of a run
 value-good : (types : List Count) (name : List ℕ) (r : Row) (rs : List Row)
     → AllByRecursion (IsRowOf types name) (r ∷ rs)
     → (j : ℕ) → value_of OBSERVATION_WIDTH (map (code_in j) (raw_run (r ∷ rs))) ≡ Ok (value_in j r)
-value-good types name r rs h j = ap (value_of OBSERVATION_WIDTH) (codes-read j (r ∷ rs))
-    ∙ value-back OBSERVATION_WIDTH _ (map (value_in j) rs) (value-fits r.values j h.0.is_row.0.ranged)
+value-good types name r rs h j = search (rules, value_of, codes-read, value-back, value_in, value-fits)
 
 first-code : (r : Row) (rs : List Row) (i : ℕ) → code_in i (raw_row (r ∷ rs) r) ≡ codes_at (r ∷ rs) i
-first-code r rs i = index-each_place (length r.values) i (codes_at (r ∷ rs)) Missing (λ le. ap (λ (o : Option
-    ℤ). code_at WRITTEN_ORDER (stretch (o ∷ map (value_in i) rs))) (get_or_past r.values i None le))
+first-code r rs i = grind (arith, common_steps, index-each_place, code_at, stretch, value_in, get_or_past)
 
 values-again : (vs : List (Option ℤ)) → each_place (length vs) (λ j. slice_index_or vs j None) ≡ vs
 values-again [] = refl
@@ -206,10 +185,7 @@ values-again (v ∷ vs) = ap (λ r. v ∷ r) (values-again vs)
 
 pub flags-run : (types : List Count) (name : List ℕ) (run : List Row)
     → AllByRecursion (IsRowOf types name) run → AllByRecursion HasFlags run
-flags-run types name run h = all-from _ (λ r q. record {
-  unmarked = unmarked r.flags q.is_row.0.kept;
-  counted = q.is_row.0.paired;
-}) run h
+flags-run types name run h = search (rules, all-from, unmarked)
 
 abbrev pub satellite_of : Row → Satellite
 satellite_of r = record { name = r.name; count = length r.values }

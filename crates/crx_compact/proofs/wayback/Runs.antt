@@ -1,9 +1,9 @@
 -- Runs and arcs of what was written, as a reader finds them.
-use Rattle.crx_compact.proofs.Words.{◌≡◌, refl, ◌≢◌, ℕ, ◌*◌, ℤ, Bool, true, false, cond, nat_eq, List, []}
+use Rattle.crx_compact.proofs.Words.{◌≡◌, refl, ◌≢◌, ℕ, ◌*◌, ℤ, Bool, true, false, nat_eq, List, []}
 use Rattle.crx_compact.proofs.Words.{◌∷◌, length, map, take, Option, Some, None, Ok, if◌then◌else◌}
-use Rattle.crx_compact.proofs.Words.{AllByRecursion, option_map, bytes_eq, ◌∙◌, ap, arith, get_or_past}
+use Rattle.crx_compact.proofs.Words.{AllByRecursion, option_map, ◌∙◌, ap, arith, get_or_past}
 use Rattle.crx_compact.proofs.Words.{without_end_blanks, text_difference, mark_of, by_position, patched}
-use Rattle.crx_compact.proofs.Words.{character_of, Row, Epoch, value_in, Code, Missing, WRITTEN_ORDER}
+use Rattle.crx_compact.proofs.Words.{Row, Epoch, value_in, Code, WRITTEN_ORDER}
 use Rattle.crx_compact.proofs.Words.{back_to, stretch, code_at, Marked, epoch_text, row_named, since_full}
 use Rattle.crx_compact.proofs.Words.{run_of, arc_of, codes_of, indicators_before, newest_text}
 use Rattle.crx_compact.proofs.Words.{RawRow, RawEpoch, block_of, raw_row_named, raw_run_of, marks_of, code_in}
@@ -14,9 +14,10 @@ use Rattle.crx_compact.specs.meaning.Sequences.{named}
 use Rattle.crx_compact.specs.ArcLaws.{codes_of_arc}
 use Rattle.crx_compact.proofs.arcs.Bounds.{within-is}
 use Rattle.crx_compact.proofs.arcs.Inversion.{value-numbers, started-codes}
-use Rattle.crx_compact.proofs.Characters.{at-by_position, same_characters, bytes_eq-is}
+use Rattle.crx_compact.proofs.Characters.{at-by_position, same_characters}
 use Rattle.crx_compact.proofs.wayback.Overlays.{character-mark, overlaid-patched}
 use Rattle.crx_compact.proofs.wayback.Cuts.{overlaid-take, trimmed-within}
+use Rattle.std.proofs.Common.{rules}
 
 -- ---- the block that a reader finds
 
@@ -32,8 +33,7 @@ abbrev pub Begins : List Marked → Type 0
 Begins ms = AllByRecursion (λ (e : Epoch). at (epoch_text e) 0 ≡ 62) (since_full ms)
 
 first_mark : (old new : List ℕ) → at (text_difference old new) 0 ≡ mark_of (at old 0) (at new 0)
-first_mark old new = at-without_end_blanks (by_position mark_of old new) 0
-    ∙ at-by_position mark_of refl old new 0
+first_mark old new = search (rules, at-without_end_blanks, by_position, mark_of, at-by_position)
 
 -- whether an epoch's line begins with >, where its text does and the one before does
 pub begins_full : (text : List ℕ) → at text 0 ≡ 62 → nat_eq (at (text_difference [] text) 0) 62 ≡ true
@@ -66,14 +66,7 @@ pub named-made : {X Y : Type 0} (name_x : X → List ℕ) (name_y : Y → List �
     → ((n : List ℕ) (x : X) → name_y (make n x) ≡ name_x x) → (name : List ℕ) (xs : List X)
     → named name_y name (map (λ x. make (name_x x) x) xs) ≡ option_map (make name) (named name_x name xs)
 named-made name_x name_y make h name [] = refl
-named-made name_x name_y make h name (x ∷ xs) =
-    cc (h (name_x x) x, step (bytes_eq (name_x x) name) refl (named-made name_x name_y make h name xs))
-  where
-    step : (b : Bool) → bytes_eq (name_x x) name ≡ b → named name_y name (map (λ y. make (name_x y) y) xs)
-        ≡ option_map (make name) (named name_x name xs) → cond b (Some (make (name_x x) x)) (named name_y name
-        (map (λ y. make (name_x y) y) xs)) ≡ option_map (make name) (cond b (Some x) (named name_x name xs))
-    step true e next = cc (bytes_eq-is (name_x x) name e)
-    step false e next = next
+named-made name_x name_y make h name (x ∷ xs) = search (rules, named-made name_x name_y make h name xs)
 
 -- the rows of a satellite in the epochs before one, back to the latest in full; none before one in full
 abbrev pub rows_before : Bool → List ℕ → List Marked → List Row
@@ -84,9 +77,7 @@ run-step : (full : Bool) (name : List ℕ) (e : Epoch) (older : List Marked) (fo
     name e.rows ≡ found → raw_run_of name (raw_block older) ≡ raw_run (run_of name older) → stretch
     (option_map (raw_row (run_of name (marked full e ∷ older))) found ∷ map (λ (q : RawEpoch). raw_row_named
     name q.rows) (if full then [] else raw_block older)) ≡ raw_run (run_of name (marked full e ∷ older))
-run-step full name e older None h next = cc
-run-step true name e older (Some r) h next = cc
-run-step false name e older (Some r) h next = cc
+run-step full name e older found h next = grind arith
 
 -- a reader finds the runs that were written
 pub runs-read : (name : List ℕ) (ms : List Marked) → raw_run_of name (raw_block ms) ≡ raw_run (run_of name ms)
@@ -109,8 +100,7 @@ clock-step : (full : Bool) (e : Epoch) (older : List Marked) → map (λ (q : Ra
     (raw_block older) ≡ codes_of_values (map (λ (q : Epoch). q.clock) (since_full older))
     → map (λ (q : RawEpoch). q.clock) (raw_block (marked full e ∷ older))
     ≡ codes_of_values (map (λ (q : Epoch). q.clock) (since_full (marked full e ∷ older)))
-clock-step true e older next = refl
-clock-step false e older next = cc
+clock-step full e older next = grind arith
 
 pub clocks-read : (ms : List Marked) → map (λ (q : RawEpoch). q.clock) (raw_block ms)
     ≡ codes_of_values (map (λ (q : Epoch). q.clock) (since_full ms))
@@ -120,25 +110,17 @@ clocks-read (m ∷ older) = clock-step m.in_full m.epoch older (clocks-read olde
 pub codes-read : (j : ℕ) (run : List Row)
     → map (code_in j) (raw_run run) ≡ codes_of_values (map (value_in j) run)
 codes-read j [] = refl
-codes-read j (r ∷ rs) =
-    cc (
-      index-each_place (length r.values) j (λ i. code_at WRITTEN_ORDER (arc_of i (r ∷ rs))) Missing
-          (λ le. ap (λ (o : Option ℤ). code_at WRITTEN_ORDER (stretch (o ∷ map (value_in j) rs)))
-          (get_or_past r.values j None le)),
-      codes-read j rs,
-    )
+codes-read j (r ∷ rs) = grind (arith, index-each_place, get_or_past, codes-read j rs)
 
 -- the codes since a present value's start are those of its arc
 pub started-values : (x : ℤ) (os : List (Option ℤ))
     → since_start (codes_of_values (Some x ∷ os)) ≡ since_start (codes_of_arc WRITTEN_ORDER (x ∷ stretch os))
-started-values x [] = refl
-started-values x (None ∷ os) = refl
 started-values x (Some y ∷ os) = cc (started-values y os)
+started-values x os = refl
 
 value-present : (width : ℕ) (x : ℤ) (arc : List ℤ) (cs : List Code) → value_of width (code_at WRITTEN_ORDER
     (x ∷ arc) ∷ cs) ≡ value_since width (since_start (code_at WRITTEN_ORDER (x ∷ arc) ∷ cs))
-value-present width x [] cs = refl
-value-present width x (y ∷ ys) cs = refl
+value-present width x arc cs = grind arith
 
 -- a value within its columns comes back from its code and those before it
 pub value-back : (width : ℕ) (o : Option ℤ) (os : List (Option ℤ))
@@ -162,11 +144,8 @@ IsUnmarked text = (p : ℕ) → at text p ≢ 38
 -- a patch of a text whose end blanks are gone
 pub patched-back : (old new : List ℕ)
     → IsUnmarked new → patched (without_end_blanks old) (text_difference old new) ≡ without_end_blanks new
-patched-back old new h = same_characters (by_position character_of (without_end_blanks old) (text_difference
-    old new)) new (λ p. at-by_position character_of refl (without_end_blanks old) (text_difference old new) p
-    ∙ ap (λ c. character_of c (at (text_difference old new) p)) (at-without_end_blanks old p)
-    ∙ ap (character_of (at old p)) (at-without_end_blanks (by_position mark_of old new) p
-    ∙ at-by_position mark_of refl old new p) ∙ character-mark (at old p) (at new p) (h p))
+patched-back old new h =
+    search (rules, same_characters, at-by_position, at-without_end_blanks, character-mark)
 
 first_overlay : (new : List ℕ) → IsUnmarked new
     → overlaid (text_difference [] new ∷ []) ≡ without_end_blanks new
@@ -174,8 +153,7 @@ first_overlay new h = overlaid-patched (text_difference [] new) [] ∙ patched-b
 
 next_overlay : (old new : List ℕ) (marks : List (List ℕ)) → IsUnmarked new → overlaid marks
     ≡ without_end_blanks old → overlaid (text_difference old new ∷ marks) ≡ without_end_blanks new
-next_overlay old new marks h e =
-    cc (overlaid-patched (text_difference old new) marks, e, patched-back old new h)
+next_overlay old new marks h e = search (rules, overlaid-patched, text_difference, patched-back)
 
 abbrev pub AreUnmarked : List Marked → Type 0
 AreUnmarked ms = AllByRecursion (λ (e : Epoch). IsUnmarked (epoch_text e)) (since_full ms)
@@ -186,10 +164,8 @@ lines_of raws = map (λ (q : RawEpoch). q.line) raws
 text-step : (full : Bool) (e : Epoch) (older : List Marked) → (AreUnmarked older → overlaid (lines_of
     (raw_block older)) ≡ without_end_blanks (newest_text older)) → AreUnmarked (marked full e ∷ older)
     → overlaid (lines_of (raw_block (marked full e ∷ older))) ≡ without_end_blanks (epoch_text e)
-text-step true e older next h = first_overlay (epoch_text e) h.0
-text-step false e [] next h = first_overlay (epoch_text e) h.0
-text-step false e (m ∷ older) next h =
-    next_overlay (epoch_text m.epoch) _ (lines_of (raw_block (m ∷ older))) h.0 (next h.1)
+text-step false e (m ∷ older) next h = search (rules, next_overlay, epoch_text)
+text-step full e older next h = first_overlay (epoch_text e) h.0
 
 -- a reader finds the newest epoch's text
 pub text-read : (ms : List Marked)
@@ -216,8 +192,7 @@ marks-cut r rs h e =
 pub marks-new : (r : Row) (rs : List Row) → AllByRecursion HasFlags (r ∷ rs) → overlaid (text_difference
     (indicators_before (r ∷ rs)) r.flags ∷ marks_of (raw_run rs)) ≡ without_end_blanks r.flags
 marks-new r [] h = first_overlay r.flags h.0.unmarked
-marks-new r (q ∷ qs) h = next_overlay q.flags r.flags
-    (marks_of (raw_run (q ∷ qs))) h.0.unmarked (marks-cut q qs h.1.0 (marks-new q qs h.1))
+marks-new r (q ∷ qs) h = search (rules, next_overlay, marks_of, marks-cut, marks-new q qs h.1)
 
 pub marks-read : (r : Row) (rs : List Row)
     → AllByRecursion HasFlags (r ∷ rs) → overlaid (marks_of (raw_run (r ∷ rs))) ≡ without_end_blanks r.flags

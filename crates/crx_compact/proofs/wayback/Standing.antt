@@ -1,11 +1,11 @@
 -- The compact lines of an epoch can be in a file.
-use Rattle.crx_compact.proofs.Words.{◌≡◌, refl, ℕ, Bool, true, false, ◌&&◌, ◌||◌, List, [], ◌∷◌, ◌++◌, length}
+use Rattle.crx_compact.proofs.Words.{◌≡◌, refl, ℕ, Bool, true, false, ◌&&◌, ◌||◌, List, [], ◌∷◌}
 use Rattle.crx_compact.proofs.Words.{map, if◌then◌else◌, list_all, AllByRecursion, ◌∙◌, ap, arith, and_parts}
 use Rattle.crx_compact.proofs.Words.{character_at, without_end_blanks, text_difference, mark_of, is_printable}
-use Rattle.crx_compact.proofs.Words.{code_text, Code, WRITTEN_ORDER, Row, Epoch, Count, begins_epoch}
-use Rattle.crx_compact.proofs.Words.{is_observation_flag, Marked, epoch_text, since_full, arc_of, newest_text}
-use Rattle.crx_compact.proofs.Words.{indicators_before, codes_of, satellite_line, epoch_line, cell_text}
-use Rattle.crx_compact.proofs.Words.{code_at, AreWhole, length-each_place, IsWholeEpoch, at}
+use Rattle.crx_compact.proofs.Words.{code_text, Code, Row, Epoch, Count, begins_epoch}
+use Rattle.crx_compact.proofs.Words.{is_observation_flag, Marked, epoch_text, since_full, newest_text}
+use Rattle.crx_compact.proofs.Words.{satellite_line, epoch_line, cell_text}
+use Rattle.crx_compact.proofs.Words.{AreWhole, length-each_place, IsWholeEpoch, at}
 use Rattle.crx_compact.proofs.Words.{at-without_end_blanks, list_all-from_at}
 use Rattle.std.specs.Prelude.{flat_map}
 use Rattle.crx_header.specs.meaning.EpochColumns.{is_event_flag, is_event_line}
@@ -21,23 +21,19 @@ use Rattle.crx_compact.proofs.wayback.Facts.{text-begins, at-difference, differe
 use Rattle.crx_compact.proofs.wayback.Rows.{IsRowOf, clock-printable, line-begins, lines-each, written-codes}
 use Rattle.crx_compact.proofs.wayback.Reading.{text-other}
 use Rattle.std.proofs.lemmas.Grind.{common_steps}
+use Rattle.std.proofs.Common.{rules}
 
 -- ---- characters
 
 code-printable : (text : List ℕ) → list_all is_code_character text ≡ true → list_all is_printable text ≡ true
 code-printable [] h = refl
-code-printable (c ∷ cs) h = grind (
-  arith,
-  (and_parts (is_code_character c) (list_all is_code_character cs) h).0,
-  code-printable cs (and_parts (is_code_character c) (list_all is_code_character cs) h).1,
-)
+code-printable (c ∷ cs) h =
+    grind (arith, code-printable cs (and_parts (is_code_character c) (list_all is_code_character cs) h).1)
 
 cells-printable : (codes : List Code) → AreWritten codes → list_all is_printable (flat_map cell_text codes)
     ≡ true
 cells-printable [] h = refl
-cells-printable (c ∷ cs) h = list_all-append is_printable (code_text c ++ 32 ∷ []) (flat_map cell_text cs)
-    (list_all-append is_printable (code_text c) (32 ∷ []) (code-printable (code_text c) h.0) refl)
-    (cells-printable cs h.1)
+cells-printable (c ∷ cs) h = grind (arith, list_all-append, code-printable, cells-printable cs h.1)
 
 pub trimmed-printable : (text : List ℕ)
     → list_all is_printable text ≡ true → list_all is_printable (without_end_blanks text) ≡ true
@@ -46,29 +42,17 @@ trimmed-printable text h = list_all-from_at is_printable (without_end_blanks tex
 
 -- ---- satellite lines
 
-row-printable : (types : List Count) (name : List ℕ) (run : List Row) (r : Row) → AllByRecursion
-    (IsRowOf types name) run → IsTypedRow types r → list_all is_printable (satellite_line run r) ≡ true
-row-printable types name run r h k = trimmed-printable (flat_map cell_text (codes_of (length r.values) run)
-    ++ text_difference (indicators_before run) r.flags) (list_all-append is_printable
-    (flat_map cell_text (codes_of (length r.values) run)) (text_difference (indicators_before run) r.flags)
-    (cells-printable (codes_of (length r.values) run) (written-codes types name (length r.values) run h))
-    (difference-printable (indicators_before run) r.flags k.0.kept))
-
 row-begins : (types : List Count) (name : List ℕ) (run : List Row) (r : Row) → AllByRecursion
     (IsRowOf types name) run → IsTypedRow types r → begins_epoch (satellite_line run r) ≡ false
-row-begins types name run r h k =
-    let count = length-each_place (length r.values) (λ j. code_at WRITTEN_ORDER (arc_of j run)) in
-    grind (arith, common_steps, line-begins, codes_of, text_difference, indicators_before, written-codes)
+row-begins types name run r h k = grind (arith, length-each_place, line-begins, written-codes)
 
 -- ---- the epoch line
 
 line-begins_epoch : (types : List Count) (full : Bool) (e : Epoch) (older : List Marked)
     → AreWhole types (since_full (marked full e ∷ older))
     → begins_epoch (epoch_line (marked full e) older) ≡ (full || has_no_epochs older)
-line-begins_epoch types true e older h = begins_full (epoch_text e) (text-begins types e h.0)
-line-begins_epoch types false e [] h = begins_full (epoch_text e) (text-begins types e h.0)
-line-begins_epoch types false e (m ∷ older) h = begins_later
-    (epoch_text m.epoch) (epoch_text e) (text-begins types m.epoch h.1.0) (text-begins types e h.0)
+line-begins_epoch types false e (m ∷ older) h = search (rules, begins_later, epoch_text, text-begins)
+line-begins_epoch types full e older h = begins_full (epoch_text e) (text-begins types e h.0)
 
 -- the flag of an epoch's text is one of observations, and so is its mark in a line from the empty text
 flag-mark : (c : ℕ) → is_observation_flag c ≡ true → is_event_flag (mark_of 32 c) ≡ false
@@ -88,9 +72,8 @@ full-no_event types e h =
 
 line-no_event : (types : List Count) (full : Bool) (e : Epoch) (older : List Marked) → AreWhole types
     (since_full (marked full e ∷ older)) → is_event_line (epoch_line (marked full e) older) ≡ false
-line-no_event types true e older h = full-no_event types e h.0
-line-no_event types false e [] h = full-no_event types e h.0
 line-no_event types false e (m ∷ older) h = cc (line-begins_epoch types false e (m ∷ older) h)
+line-no_event types full e older h = full-no_event types e h.0
 
 -- ---- all lines
 
@@ -108,7 +91,14 @@ lines-stand types full e older h =
     ) in
     let first = difference-printable (if full then [] else newest_text older) (epoch_text e)
     (text-kept types e h.0) in
-    let printable = lines-each _ types ms (row-printable types) h e.rows rows in
+    let printable = lines-each _ types ms (λ name run r h k. grind (
+      arith,
+      trimmed-printable,
+      list_all-append,
+      cells-printable,
+      written-codes,
+      difference-printable,
+    )) h e.rows rows in
     let no_event = all-from (λ (line : List ℕ). is_event_line line ≡ false)
     (λ line begins. ap (λ b. b && is_event_flag (character_at line 32)) begins) (text ∷ lines) others in
     record {

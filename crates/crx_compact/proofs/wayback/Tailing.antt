@@ -1,11 +1,11 @@
 -- The tail of the epochs decides the next epoch's lines and the next tail.
-use Rattle.crx_compact.proofs.Words.{◌≡◌, refl, ℕ, ℤ, Bool, true, false, List, [], ◌∷◌, map, length, Option}
+use Rattle.crx_compact.proofs.Words.{◌≡◌, refl, ℕ, ℤ, Bool, true, false, List, [], ◌∷◌, map, Option}
 use Rattle.crx_compact.proofs.Words.{Some, None, if◌then◌else◌, option_map, sym, ◌∙◌, ap, get_or_past}
 use Rattle.crx_compact.proofs.Words.{without_end_blanks, text_difference, Row, Epoch, value_in, WRITTEN_ORDER}
-use Rattle.crx_compact.proofs.Words.{back_to, stretch, code_at, Marked, epoch_text, row_named, run_of, arc_of}
+use Rattle.crx_compact.proofs.Words.{back_to, stretch, Marked, epoch_text, row_named, run_of, arc_of}
 use Rattle.crx_compact.proofs.Words.{newest_text, indicators_before, satellite_line, RowTail, Tail, tail_of}
 use Rattle.crx_compact.proofs.Words.{no_tail, tail_named, cell_of_tail, flags_of_tail, row_line_in}
-use Rattle.crx_compact.proofs.Words.{row_tail_in, code_of_value, arc_of_value, each_place-same}
+use Rattle.crx_compact.proofs.Words.{row_tail_in}
 use Rattle.crx_compact.proofs.Words.{index-each_place, are_different}
 use Rattle.crx_compact.specs.Tails.{row_tail}
 use Rattle.crx_compact.specs.ArcTails.{arc_tail}
@@ -16,6 +16,8 @@ use Rattle.crx_compact.proofs.wayback.Rows.{run-begins}
 use Rattle.crx_compact.proofs.SoundTexts.{before-trimmed}
 use Rattle.crx_compact.proofs.Identifiers.{each-own}
 use Rattle.crx_compact.proofs.arcs.OneMore.{code-next, arc-next}
+use Rattle.std.proofs.Common.{rules}
+use Rattle.std.proofs.Common.{arith}
 
 -- ---- what a tail holds of a satellite
 
@@ -36,25 +38,22 @@ cell-found name rest (Some r) j = index-each_place _ j _ None (λ le. ap (λ (o 
 
 flags-found : (rest : List (Option Row)) (found : Option Row) → flags_of_tail
     (option_map (row_tail (stretch (found ∷ rest))) found) ≡ head_flags (stretch (found ∷ rest))
-flags-found rest None = refl
-flags-found rest (Some r) = refl
+flags-found rest found = grind arith
 
 cell-left : (full : Bool) (name : List ℕ) (older : List Marked) (j : ℕ) → cell_of_tail j
     (tail_named name (start full older)) ≡ arc_tail WRITTEN_ORDER (arc_of j (rows_before full name older))
-cell-left true name older j = refl
-cell-left false name [] j = refl
 cell-left false name (m ∷ older) j = ap (cell_of_tail j) (named-made (λ (r : Row). r.name)
     (λ (t : RowTail). t.name) (λ n r. row_tail (run_of n (m ∷ older)) r) (λ n r. refl) name m.epoch.rows)
     ∙ cell-found name _ _ j
+cell-left full name older j = refl
 
 flags-left : (full : Bool) (name : List ℕ) (older : List Marked)
     → flags_of_tail (tail_named name (start full older)) ≡ head_flags (rows_before full name older)
-flags-left true name older = refl
-flags-left false name [] = refl
 flags-left false name (m ∷ older) = ap flags_of_tail (named-made (λ (r : Row). r.name)
     (λ (t : RowTail). t.name) (λ n r. row_tail (run_of n (m ∷ older)) r) (λ n r. refl) name m.epoch.rows)
     ∙ flags-found (map (λ (q : Epoch). row_named name q.rows) (map (λ (k : Marked). k.epoch)
     (if m.in_full then [] else back_to (λ (k : Marked). k.in_full) older))) (row_named name m.epoch.rows)
+flags-left full name older = refl
 
 -- ---- one row more
 
@@ -70,21 +69,7 @@ record RowByTail (full : Bool) (ms older : List Marked) (r : Row) : Type 0 where
 row-by_tail : (full : Bool) (e : Epoch) (older : List Marked) (r : Row)
     → row_named r.name e.rows ≡ Some r → RowByTail full (marked full e ∷ older) older r
 row-by_tail full e older r own =
-    let rs = rows_before full r.name older in
-    let run = run-begins full e older r own in
-    let found = tail_named r.name (start full older) in
-    let codes = each_place-same (length r.values) (λ j. code_at WRITTEN_ORDER (arc_of j (r ∷ rs)))
-    (λ j. code_of_value (value_in j r) (cell_of_tail j found)) (λ j. code-next (value_in j r)
-    (map (value_in j) rs) ∙ ap (code_of_value (value_in j r)) (sym (cell-left full r.name older j))) in
-    let flags =
-    before-flags r rs ∙ ap (λ t. text_difference t r.flags) (sym (flags-left full r.name older)) in
-    record {
-      line = ap (λ q. satellite_line q r) run ∙ rw (codes, flags);
-      tail = ap (λ q. row_tail q r) run
-          ∙ rw (each_place-same (length r.values) (λ j. arc_tail WRITTEN_ORDER (arc_of j (r ∷ rs)))
-          (λ j. arc_of_value (value_in j r) (cell_of_tail j found)) (λ j. arc-next (value_in j r)
-          (map (value_in j) rs) ∙ ap (arc_of_value (value_in j r)) (sym (cell-left full r.name older j))));
-    }
+    search (rules, run-begins, code-next, cell-left, before-flags, flags-left, arc-next)
 
 -- ---- one epoch more
 
@@ -94,8 +79,7 @@ clocks_before full older = map (λ (q : Epoch). q.clock)
 
 clock-left : (full : Bool) (older : List Marked)
     → arc_tail WRITTEN_ORDER (stretch (clocks_before full older)) ≡ (start full older).clock
-clock-left true older = refl
-clock-left false older = refl
+clock-left full older = grind arith
 
 text-left : (full : Bool) (older : List Marked) (new : List ℕ) → text_difference
     (if full then [] else newest_text older) new ≡ text_difference (start full older).text new

@@ -8,8 +8,7 @@ use Words.{Place, Here, Wrong, Wanted, FileUnit, Observation, ReadEpoch, epoch_a
 use Words.{types_in_force, Reading, AtLines, Looking, is_skipped, looked_for, reading_within, reading_from}
 use Words.{is_skippable, raws_kept, as_observation, compact_epoch_place, compact_place, IsBetweenUnits}
 use Rattle.crx_filter.proofs.reading.Resuming.{by_place, here-within, wrong-stays, within-here, within-wrong}
-use Rattle.crx_filter.proofs.reading.Resuming.{within-wanted, fault-skipped, looked-on}
-use Rattle.crx_filter.proofs.following.Following.{body-place}
+use Rattle.crx_filter.proofs.reading.Resuming.{within-wanted, fault-skipped}
 use Rattle.crx_filter.proofs.reading.ForwardCompact.{compact-forward}
 use Rattle.crx_filter.proofs.reading.EpochFaults.{IsSkippableAt, epoch-skippable, place-observation}
 use Rattle.crx_filter.proofs.damage.CutOff.{epoch-cut}
@@ -45,8 +44,7 @@ block-drop (suc count) (Content line ∷ lines) some h = all-drop IsInside count
 
 pub place-between : (items : List (Item ReadEpoch)) (lines : List ReadLine) → IsBetweenUnits items
     → compact_place items lines ≡ compact_epoch_place (types_in_force items) (raws_kept items) lines
-place-between items lines h = body-place (λ (before : List (Item ReadEpoch)).
-    compact_epoch_place (types_in_force before) (raws_kept before)) items lines h.header h.none
+place-between items lines h = grind arith
 
 pub place-inside : (items : List (Item ReadEpoch)) (line : List ℕ) (lines : List ReadLine)
     → IsBetweenUnits items → is_event_line line ≡ false → compact_place items (Content line ∷ lines)
@@ -126,8 +124,7 @@ none-found : (read : ℕ → List ReadLine → Reading ReadEpoch)
 none-found read items number [] h = (number, refl)
 none-found read items number (Overlong ∷ lines) h = absurd h.0
 none-found read items number (Content line ∷ lines) h =
-    let rest = none-found read items (number + 1) lines h.1 in
-    (rest.0, looked-on read items number (Content line) lines h.0 ∙ rest.1)
+    grind (arith, none-found read items (number + 1) lines h.1)
 
 pub within-block : (units : ℕ) (items : List (Item ReadEpoch)) (number : ℕ) (lines : List ReadLine)
     → length lines < units → IsBetweenUnits items → IsBlockText lines

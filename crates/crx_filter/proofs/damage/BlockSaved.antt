@@ -1,12 +1,11 @@
 -- What is read after a damaged block is what the undamaged text has there.
 use Rattle.crx_filter.proofs.Words
 use Words.{ℕ, ◌≡◌, ◌+◌, ◌≤◌, true, false, cond, List, [], ◌∷◌, ◌++◌, map, length, Option, None, refl, ap, sym}
-use Words.{◌∙◌, append_assoc, append-nil, and_parts, pieces_of, lines_of, ReadLine, Content, Overlong}
-use Words.{seen, At, Epoch, begins_epoch, is_event_line, Observation, ReadEpoch, Choices, Item, Accepted}
-use Words.{Warned, header_has_ended, records_announced, records_left, types_in_force, Reading, WholeReading}
+use Words.{◌∙◌, append_assoc, append-nil, and_parts, pieces_of, lines_of, ReadLine, Content, Overlong, seen}
+use Words.{At, Epoch, begins_epoch, is_event_line, Observation, ReadEpoch, Choices, Item, Accepted, Warned}
+use Words.{header_has_ended, records_announced, records_left, types_in_force, Reading, WholeReading}
 use Words.{reading_from, ended_reading, continued_reading, AreInPlace, compact_unit, compact_lines}
-use Words.{version_line, program_line, compact_place, HaveNoReturns, IsBetweenUnits, starts_anew}
-use Words.{lines_of_epochs, with_epochs, IsDamaged}
+use Words.{compact_place, HaveNoReturns, IsBetweenUnits, starts_anew, lines_of_epochs, with_epochs, IsDamaged}
 use Rattle.crx_filter.proofs.reading.Resuming.{within-wanted, resumed}
 use Rattle.crx_filter.proofs.reading.Anew.{depends-on_types}
 use Rattle.crx_filter.proofs.reading.ForwardCompact.{compact-forward}
@@ -66,10 +65,7 @@ epochs-lines choices before (epoch ∷ later) = epochs-lines choices _ later
 
 pub back-between : (every : Option ℕ) (items : List (Item Epoch)) → AreInPlace items
     → header_has_ended items ≡ true → records_left items ≡ 0 → IsBetweenUnits (read_back every items)
-back-between every items h header none = record {
-  header = header-same _ items ∙ header;
-  none = left-same _ items h ∙ none;
-}
+back-between every items h header none = search (header-same, left-same)
 
 pub up_to : (every : Option ℕ) (items : List (Item Epoch)) (more : List ReadLine) → AreInPlace items
     → reading_from compact_place true [] 3 (map Content (lines_back every items) ++ more)
@@ -178,7 +174,4 @@ placed input choices damaged d = record {
 pub text-parts : (choices : Choices) (after block : List (Item Epoch)) → AreInPlace (after ++ block)
     → header_has_ended (after ++ block) ≡ true → header_has_ended block ≡ true → compact_lines choices
     (after ++ block) ≡ compact_lines choices block ++ lines_on choices.every after block
-text-parts choices after block h all header = lines-same choices _ h (started (after ++ block) all)
-    ∙ ap (λ ls. version_line ∷ program_line choices.date ∷ ls) (written-on choices.every after block)
-    ∙ sym (ap (λ ls. ls ++ lines_on choices.every after block)
-    (lines-same choices block (rest-in_place after block h) (started block header)))
+text-parts choices after block h all header = search (lines-same, started, written-on, rest-in_place)

@@ -4,7 +4,7 @@ use Rattle.crx_filter.proofs.Words.{Ok, Err, refl, ap, sym, ◌∙◌, subst, ar
 use Rattle.crx_filter.proofs.Words.{ReadLine, Content, Overlong, Fault, Truncated, begins_epoch, Count, Place}
 use Rattle.crx_filter.proofs.Words.{Here, Wrong, Wanted, after_lines, then_place, one_line, first_line}
 use Rattle.crx_filter.proofs.Words.{IsSteady, Remains, Satellite, RawEpoch, Past, BegunEpoch, clock_line_read}
-use Rattle.crx_filter.proofs.Words.{satellite_line_read, rows_read, epoch_of_rows, epoch_after_line, epoch_at}
+use Rattle.crx_filter.proofs.Words.{satellite_line_read, rows_read, epoch_after_line, epoch_at}
 use Rattle.crx_rinex.proofs.Steady.{steady-first_line}
 use Rattle.crx_compact.proofs.Marks.{row_of_line}
 use Rattle.crx_compact.proofs.reading.SteadyEpochs.{steady-rows_read}
@@ -68,20 +68,14 @@ rows-cut past (satellite ∷ satellites) = cut-then (λ lines. first_line lines 
     ∷ rows) 0) (steady-rows_read past satellites) (rows-cut past satellites) (λ rows. cut-here (row ∷ rows)))
 
 after_line-cut : (begun : BegunEpoch) → IsCutOff (epoch_after_line begun)
-after_line-cut begun = cut-then (λ lines. first_line lines (clock_line_read begun.past)) (λ clock others.
-    then_place (rows_read begun.past begun.satellites others) others (λ rows rest. Here (epoch_of_rows begun
-    clock rows) 0)) (steady-first_line (clock_line_read begun.past)) (cut-first (clock_line_read begun.past)
-    (clock-cut begun.past)) (λ clock. cut-then (rows_read begun.past begun.satellites)
-    (λ rows rest. Here (epoch_of_rows begun clock rows) 0) (steady-rows_read begun.past begun.satellites)
-    (rows-cut begun.past begun.satellites) (λ rows. cut-here (epoch_of_rows begun clock rows)))
+after_line-cut begun =
+    search (cut-then, steady-first_line, cut-first, clock-cut, steady-rows_read, rows-cut, cut-here)
 
 begun-cut : (r : Result BegunEpoch Fault) (first : ReadLine) (lines : List ReadLine) (line : List ℕ)
     → begins_epoch line ≡ true → then_place (one_line r) (first ∷ lines) (λ begun others.
     epoch_after_line begun others) ≡ Wanted → then_place (one_line r) (first ∷ (lines ++ Content line ∷ []))
     (λ begun others. epoch_after_line begun others) ≡ Wrong (suc (length lines)) Truncated
-begun-cut (Ok begun) first lines line begins e =
-    let counted : 1 + length lines ≡ suc (length lines) = omega arith in
-    cc (after_line-cut begun lines line begins (after-wanted _ _ e), counted)
+begun-cut (Ok begun) first lines line begins e = grind (arith, after_line-cut, after-wanted)
 begun-cut (Err fault) first lines line begins e = absurd (cc)
 
 -- an epoch whose first line has come

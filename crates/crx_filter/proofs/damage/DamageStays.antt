@@ -6,10 +6,10 @@ use Words.{Option, None, refl, ap, sym, ◌∙◌, subst, append_assoc, append-n
 use Words.{list_all, map-append, drop-append_seam, Piece, pieces_of, lines_of, ReadLine, Content, seen, At}
 use Words.{Epoch, IsWholeEpoch, printed_epoch, lines_text, Observation, epoch_line, ReadEpoch, LinesCanStand}
 use Words.{Choices, is_date, Item, Accepted, header_has_ended, records_left, types_in_force, Reading}
-use Words.{WholeReading, reading_from, ended_reading, notices_text, warnings_in, result_of, marked_epochs}
-use Words.{compact_unit, compact_lines, version_line, program_line, compact_place, expanded_unit}
-use Words.{whole_compact, expanded, expanded_lines, printed_items, AreInPlace, IsBetweenUnits}
-use Words.{lines_of_epochs, with_epochs, lines_after, IsDamaged}
+use Words.{reading_from, ended_reading, notices_text, warnings_in, result_of, marked_epochs, compact_unit}
+use Words.{compact_lines, version_line, program_line, compact_place, expanded_unit, whole_compact, expanded}
+use Words.{expanded_lines, printed_items, AreInPlace, IsBetweenUnits, lines_of_epochs, with_epochs}
+use Words.{lines_after, IsDamaged, WholeReading}
 use Rattle.std.proofs.lemmas.List.{append_cancel_left, take-append-drop}
 use Rattle.crx_runs.specs.meaning.Results.{status_after}
 use Rattle.crx_filter.specs.meaning.Damage.{IsSalvaged}
@@ -116,8 +116,7 @@ module _ (choices : Choices) (before : List (Item Epoch)) (first : Epoch)
 
   pub after-same : lines_after choices (block_of before first others)
       (after ++ (block_of before first others)) ≡ lines_on choices.every after (block_of before first others)
-  after-same = ap (drop (length (compact_lines choices (block_of before first others)))) lines-parts
-      ∙ drop-append_seam (compact_lines choices (block_of before first others)) _
+  after-same = search (lines-parts, drop-append_seam)
 
   pub block-parts : compact_lines choices (block_of before first others)
       ≡ compact_lines choices before ++ lines_of_epochs choices before (first ∷ others)

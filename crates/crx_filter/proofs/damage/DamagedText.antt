@@ -3,8 +3,8 @@
 use Rattle.crx_filter.proofs.Words.{ℕ, ◌≡◌, ◌≢◌, ◌⊎◌, inl, inr, Bool, true, false, not, cond, List, [], ◌∷◌}
 use Rattle.crx_filter.proofs.Words.{◌++◌, map, refl, ap, sym, ◌∙◌, append_assoc, append-nil, ◌==◌}
 use Rattle.crx_filter.proofs.Words.{AllByRecursion, list_all, eqb_tells, map-append, flat_map-append}
-use Rattle.crx_filter.proofs.Words.{and_parts, Piece, InputLine, pieces_of, onto_first, line_of, lines_of}
-use Rattle.crx_filter.proofs.Words.{is_long, Content, seen, begins_epoch, lines_text, not-true}
+use Rattle.crx_filter.proofs.Words.{and_parts, Piece, InputLine, pieces_of, onto_first, lines_of, is_long}
+use Rattle.crx_filter.proofs.Words.{Content, seen, begins_epoch, lines_text, not-true}
 use Rattle.crx_lines.proofs.PieceLemmas.{EachEnded, pieces-first}
 use Rattle.crx_filter.specs.meaning.Damage.{may_replace}
 use Rattle.crx_filter.proofs.wayback.Cut.{IsClean, seen-clean}
@@ -53,20 +53,14 @@ pieces-append (b ∷ one) two e = byte-append b one two (pieces-append one two) 
 
 pub lines-append : (one two : List ℕ) → EachEnded (pieces_of one) → map seen (lines_of (one ++ two))
     ≡ map seen (lines_of one) ++ map seen (lines_of two)
-lines-append one two e = ap (λ ps. map seen (map line_of ps)) (pieces-append one two e)
-    ∙ ap (map seen) (map-append line_of (pieces_of one) (pieces_of two)) ∙ map-append seen _ _
+lines-append one two e = search (pieces-append, map-append)
 
 -- ---- written lines before a text
 
 pub front-cut : (lines : List (List ℕ)) (text : List ℕ) → AllByRecursion IsClean lines
     → map seen (lines_of (lines_text lines ++ text)) ≡ map Content lines ++ map seen (lines_of text)
 front-cut [] text h = refl
-front-cut (line ∷ lines) text h =
-    let same = ap (λ t. t ++ text) (append_assoc line (10 ∷ []) (lines_text lines))
-    ∙ append_assoc line (10 ∷ lines_text lines) text in
-    ap (λ t. map seen (lines_of t)) same ∙ ap (λ ps. map seen (map line_of ps)) (pieces-first line (lines_text
-    lines ++ text) (IsClean.one_line h.0)) ∙ ap (λ l. l ∷ map seen (lines_of (lines_text lines ++ text)))
-    (seen-clean line h.0) ∙ ap (λ ls. Content line ∷ ls) (front-cut lines text h.1)
+front-cut (line ∷ lines) text h = search (front-cut lines text h.1, append_assoc, pieces-first, seen-clean)
 
 -- the lines before a block and its first, those that come in place of the others, and those after it
 pub damaged-cut : (front : List (List ℕ)) (instead : List ℕ) (rest : List (List ℕ)) → AllByRecursion

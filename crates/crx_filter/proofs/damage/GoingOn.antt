@@ -2,11 +2,10 @@
 -- it.
 use Rattle.crx_filter.proofs.Words
 use Words.{ℕ, suc, ◌≡◌, ◌+◌, ◌≤◌, max, inl, inr, true, false, List, [], ◌∷◌, ◌++◌, length, drop, Some, None}
-use Words.{refl, ap, sym, ◌∙◌, subst, arith, length-append, drop-append_seam, ReadLine, Content, Overlong, At}
-use Words.{Truncated, begins_epoch, is_event_line, Wanted, ReadEpoch, Item, Warned, header_has_ended}
-use Words.{records_left, types_in_force, Reading, WholeReading, AtLines, is_skipped, looked_for}
-use Words.{reading_within, reading_from, fault_at_end, ended_with, ended_reading, continued_reading}
-use Words.{compact_place, IsBetweenUnits}
+use Words.{refl, ap, ◌∙◌, arith, length-append, drop-append_seam, ReadLine, Content, Overlong, At, Truncated}
+use Words.{begins_epoch, is_event_line, Wanted, ReadEpoch, Item, Warned, types_in_force, Reading}
+use Words.{WholeReading, AtLines, is_skipped, looked_for, reading_within, reading_from, ended_with}
+use Words.{ended_reading, continued_reading, compact_place, IsBetweenUnits}
 use Rattle.crx_filter.proofs.reading.Resuming.{enough-units, within-wrong, fault-skipped, looked-here}
 use Rattle.crx_filter.proofs.reading.ForwardCompact.{compact-forward}
 use Rattle.crx_filter.proofs.damage.BlockReading.{IsBlockText, EndsBlock, IsBlockRead, with_reads}
@@ -20,8 +19,7 @@ with_warnings (at ∷ older) items = Warned at ∷ with_warnings older items
 pub warned-between : (warnings : List At) (items : List (Item ReadEpoch))
     → IsBetweenUnits items → IsBetweenUnits (with_warnings warnings items)
 warned-between [] items h = h
-warned-between (at ∷ older) items h =
-    record { header = IsBetweenUnits.header (warned-between older items h); none = refl }
+warned-between (at ∷ older) items h = search (warned-between older items h)
 
 pub warned-types : (warnings : List At) (items : List (Item ReadEpoch))
     → types_in_force (with_warnings warnings items) ≡ types_in_force items
@@ -71,15 +69,12 @@ cut-goes_on : (items : List (Item ReadEpoch))
 cut-goes_on items number [] line tail h text e begins =
     record { warnings = []; few = omega arith; number = number; same = refl }
 cut-goes_on items number (Overlong ∷ rest) line tail h text e begins = absurd text
-cut-goes_on items number (Content first ∷ rest) line tail h text e begins =
-    open-goes_on items number first rest line tail h text.0 e begins
+cut-goes_on items number (Content first ∷ rest) line tail h text e begins = grind (arith, open-goes_on)
 
 goes_on : (items : List (Item ReadEpoch)) (r : Reading ReadEpoch) (line : List ℕ) (tail : List ReadLine)
     → IsBetweenUnits items → EndsBlock items r → begins_epoch line ≡ true
     → GoesOnAt items (Content line ∷ tail) (continued_reading compact_place true r (Content line ∷ tail))
-goes_on items r line tail h (inl (number, rest, text, e, is)) begins = subst (λ (s : Reading ReadEpoch).
-    GoesOnAt items (Content line ∷ tail) (continued_reading compact_place true s (Content line ∷ tail)))
-    (sym is) (cut-goes_on _ _ _ _ _ h text e begins)
+goes_on items r line tail h (inl (number, rest, text, e, is)) begins = grind (arith, cut-goes_on)
 goes_on items r line tail h (inr (at, number, is)) begins = record {
   warnings = at ∷ [];
   few = omega arith;
@@ -92,8 +87,7 @@ goes_on items r line tail h (inr (at, number, is)) begins = record {
 pub block-goes_on : (items : List (Item ReadEpoch)) (r : Reading ReadEpoch) (h : IsBlockRead items r) (line
     : List ℕ) (tail : List ReadLine) → IsBetweenUnits items → begins_epoch line ≡ true → GoesOnAt (with_reads
     items h.reads) (Content line ∷ tail) (continued_reading compact_place true r (Content line ∷ tail))
-block-goes_on items r h line tail between begins =
-    goes_on _ r line tail (reads-between items h.reads between) h.ends begins
+block-goes_on items r h line tail between begins = search (goes_on, reads-between)
 
 -- ---- the end of the input
 
@@ -107,11 +101,7 @@ pub record EndsAfter (items : List (Item ReadEpoch)) (whole : WholeReading ReadE
 pub ends-well : (items : List (Item ReadEpoch)) (number : ℕ) → IsBetweenUnits items → ended_reading true
     (record { items = items; stop = AtLines number [] }) ≡ record { items = items; fault = None }
 ends-well [] number h = let never = h.header in absurd (cc)
-ends-well (item ∷ before) number h = cc (good h.header h.none)
-  where
-    good : header_has_ended (item ∷ before) ≡ true
-        → records_left (item ∷ before) ≡ 0 → fault_at_end (item ∷ before) [] ≡ None
-    good a b = rw (a, b) refl
+ends-well (item ∷ before) number h = grind arith
 
 pub ends-inside : (items : List (Item ReadEpoch)) (number : ℕ) (line : ReadLine) (rest : List ReadLine)
     → IsBetweenUnits items
@@ -131,8 +121,7 @@ ends-inside (item ∷ before) number line rest h =
 
 ends-after : (items : List (Item ReadEpoch)) (r : Reading ReadEpoch)
     → IsBetweenUnits items → EndsBlock items r → EndsAfter items (ended_reading true r)
-ends-after items r h (inl (number, [], text, e, is)) =
-    record { warnings = []; few = omega arith; same = cc (is, ends-well items number h) }
+ends-after items r h (inl (number, [], text, e, is)) = grind arith
 ends-after items r h (inl (number, line ∷ rest, text, e, is)) = rw is (ends-inside items number line rest h)
 ends-after items r h (inr (at, number, is)) = record { warnings = at ∷ []; few = omega arith; same = cc }
 

@@ -1,9 +1,9 @@
 -- What is written and reported after damage: the texts of items one after another, and the epochs among them.
 use Rattle.crx_filter.proofs.Words
-use Words.{ℕ, ◌≡◌, ◌≤◌, ◌-◌, inl, inr, List, [], ◌∷◌, ◌++◌, map, length, reverse, Option, refl, ap, sym, ◌∙◌}
+use Words.{ℕ, ◌≡◌, ◌≤◌, inl, inr, List, [], ◌∷◌, ◌++◌, map, length, reverse, Option, refl, ap, sym, ◌∙◌}
 use Words.{arith, append_assoc, append-nil, AllByRecursion, flat_map, At, Epoch, IsWholeEpoch, printed_epoch}
-use Words.{EventRecord, Observation, ReadEpoch, IsGood, Item, Accepted, Warned, records_left, types_in_force}
-use Words.{Reading, warnings_in, compact_place, expanded_unit, expanded_lines, ItemsAreRead, with_epochs}
+use Words.{Observation, ReadEpoch, Item, Accepted, Warned, records_left, types_in_force, Reading, warnings_in}
+use Words.{compact_place, expanded_lines, ItemsAreRead, with_epochs}
 use Rattle.crx_filter.proofs.wayback.ExpandedWhole.{AreGoodEpochs, epochs-good}
 use Rattle.crx_filter.proofs.wayback.Items.{read_back}
 use Rattle.crx_filter.proofs.damage.BlockReading.{EndsBlock, with_reads}
@@ -17,8 +17,7 @@ epochs_in reads = map (λ (read : ReadEpoch). read.epoch) reads
 pub lines-append : (later before : List (Item ReadEpoch))
     → expanded_lines (later ++ before) ≡ expanded_lines before ++ expanded_lines later
 lines-append [] before = sym (append-nil (expanded_lines before))
-lines-append (Accepted unit ∷ later) before = ap (λ ls. ls ++ expanded_unit before unit) (lines-append
-    later before) ∙ append_assoc (expanded_lines before) (expanded_lines later) (expanded_unit before unit)
+lines-append (Accepted unit ∷ later) before = search (lines-append later before, append_assoc)
 lines-append (Warned at ∷ later) before = lines-append later before
 
 pub lines-warned : (warnings : List At) (items : List (Item ReadEpoch))
@@ -65,9 +64,7 @@ few-reversed (at ∷ next ∷ older) few = absurd (omega (arith, few))
 pub left-append : (later one two : List (Item ReadEpoch))
     → records_left one ≡ records_left two → records_left (later ++ one) ≡ records_left (later ++ two)
 left-append [] one two e = e
-left-append (Accepted (EventRecord line) ∷ later) one two e = ap (λ n. n - 1) (left-append later one two e)
-left-append (Warned at ∷ later) one two e = refl
-left-append (Accepted unit ∷ later) one two e = refl
+left-append (item ∷ later) one two e = grind (arith, left-append later one two e)
 
 -- ---- the epochs are whole
 
@@ -79,9 +76,7 @@ good-before items (read ∷ later) h = (good-before (Accepted (Observation read)
 whole-reads : (items : List (Item ReadEpoch)) (reads : List ReadEpoch) → AreGoodEpochs
     (with_reads items reads) → AllByRecursion (IsWholeEpoch (types_in_force items)) (epochs_in reads)
 whole-reads items [] h = tt
-whole-reads items (read ∷ later) h =
-    let one = good-before _ later h in
-    (IsGood.whole one.0, whole-reads _ later h)
+whole-reads items (read ∷ later) h = grind (arith, whole-reads _ later h, good-before)
 
 read-ends : (items : List (Item ReadEpoch)) (r : Reading ReadEpoch)
     → EndsBlock items r → ItemsAreRead compact_place r.items → ItemsAreRead compact_place items

@@ -3,13 +3,12 @@
 use Rattle.crx_filter.proofs.Words
 use Words.{ℕ, zero, suc, ◌≡◌, ◌+◌, ◌-◌, ◌<◌, Bool, true, false, cond, List, [], ◌∷◌, ◌++◌, map, length}
 use Words.{Option, refl, ap, sym, ◌∙◌, arith, length-append, append-nil, append_assoc, ◌||◌, map-append}
-use Words.{length-map, and_parts, character_at, ReadLine, Content, Epoch, begins_epoch, is_event_flag}
-use Words.{is_event_line, Here, HeaderLine, EventLine, EventRecord, Observation, compact_epoch, epoch_line}
-use Words.{Choices, Item, Accepted, Warned, header_has_ended, records_announced, records_left, AtLines}
-use Words.{reading_from, continued_reading, AreInPlace, written_lines, is_interrupted, is_at_every}
-use Words.{is_in_full, marked_epochs, epochs_accepted, compact_place, starts_anew, BeginsAnew}
+use Words.{length-map, and_parts, ReadLine, Content, Epoch, begins_epoch, is_event_line, Here, HeaderLine}
+use Words.{EventLine, EventRecord, Observation, compact_epoch, epoch_line, Choices, Item, Accepted, Warned}
+use Words.{header_has_ended, records_announced, records_left, AtLines, reading_from, continued_reading}
+use Words.{AreInPlace, written_lines, is_in_full, marked_epochs, compact_place, starts_anew, BeginsAnew}
 use Rattle.crx_compact.specs.Laws.{has_no_epochs}
-use Rattle.crx_filter.proofs.reading.Resuming.{within-wanted, resumed}
+use Rattle.crx_filter.proofs.reading.Resuming.{resumed}
 use Rattle.crx_filter.proofs.reading.ForwardCompact.{compact-forward}
 use Rattle.crx_filter.proofs.wayback.Carried.{one-unit, at-line}
 use Rattle.crx_filter.proofs.wayback.Items.{marked_now, body_unit, unit_back, read_back, unit-here}
@@ -27,9 +26,7 @@ module _ (every : Option ℕ) where
   pub written-on : (later before : List (Item Epoch)) → written_lines (body_unit every) (later ++ before)
       ≡ written_lines (body_unit every) before ++ lines_on every later before
   written-on [] before = sym (append-nil (written_lines (body_unit every) before))
-  written-on (Accepted unit ∷ later) before = ap (λ ls. ls ++ body_unit every (later ++ before) unit)
-      (written-on later before) ∙ append_assoc (written_lines (body_unit every) before)
-      (lines_on every later before) (body_unit every (later ++ before) unit)
+  written-on (Accepted unit ∷ later) before = search (written-on later before, append_assoc)
   written-on (Warned at ∷ later) before = written-on later before
 
   -- ---- they are read as their units
@@ -40,8 +37,7 @@ module _ (every : Option ℕ) where
         items = read_back every (later ++ before);
         stop = AtLines (number + length (lines_on every later before)) [];
       }
-  reads-on skip number [] before h = within-wanted compact_place skip 0 _ number []
-      (compact-forward.wants (read_back every before)) ∙ at-line _ number _ (omega arith)
+  reads-on skip number [] before h = grind arith
   reads-on skip number (Warned at ∷ later) before h = reads-on skip number later before h.1
   reads-on skip number (Accepted unit ∷ later) before h =
       let first = lines_on every later before in
@@ -68,42 +64,22 @@ has_observation (Accepted unit ∷ before) = has_observation before
 begins-rest : (choices : Choices) (block : List (Item Epoch)) (item : Item Epoch) (items : List (Item Epoch))
     → BeginsAnew choices block (item ∷ items) → BeginsAnew choices block items
 begins-rest choices block item [] h = tt
-begins-rest choices block (Accepted (HeaderLine line)) (next ∷ items) h = h
-begins-rest choices block (Accepted (EventLine line)) (next ∷ items) h = h
-begins-rest choices block (Accepted (EventRecord line)) (next ∷ items) h = h
-begins-rest choices block (Accepted (Observation epoch)) (next ∷ items) h = h
-begins-rest choices block (Warned at) (next ∷ items) h = h
-
-interrupted-full : (every : Option ℕ) (items : List (Item Epoch))
-    → is_interrupted items ≡ true → is_in_full every items ≡ true
-interrupted-full every items e = ap (λ b. b || is_at_every every (epochs_accepted items)) e
+begins-rest choices block item (next ∷ items) h = grind arith
 
 -- the first epoch after a block is in full
 first-full : (choices : Choices) (block : List (Item Epoch)) (epoch : Epoch) (items : List (Item Epoch))
     → BeginsAnew choices block (Accepted (Observation epoch) ∷ items) → has_observation items ≡ false
     → is_in_full choices.every (items ++ block) ≡ true
 first-full choices block epoch [] h none = h
-first-full choices block epoch (Accepted (HeaderLine line) ∷ items) h none =
-    interrupted-full choices.every (Accepted (HeaderLine line) ∷ (items ++ block)) refl
-first-full choices block epoch (Accepted (EventLine line) ∷ items) h none =
-    interrupted-full choices.every (Accepted (EventLine line) ∷ (items ++ block)) refl
-first-full choices block epoch (Accepted (EventRecord line) ∷ items) h none =
-    interrupted-full choices.every (Accepted (EventRecord line) ∷ (items ++ block)) refl
-first-full choices block epoch (Accepted (Observation other) ∷ items) h none = absurd (cc)
-first-full choices block epoch (Warned at ∷ items) h none =
-    interrupted-full choices.every (Warned at ∷ (items ++ block)) refl
+first-full choices block epoch (item ∷ items) h none = grind arith
 
 pub one-more : (first : List (List ℕ)) (line : List ℕ) (more : List ReadLine)
     → map Content (first ++ line ∷ []) ++ more ≡ map Content first ++ Content line ∷ more
-one-more first line more =
-    cc (map-append Content first (line ∷ []), append_assoc (map Content first) (Content line ∷ []) more)
-
-event-begins : (line : List ℕ) → is_event_line line ≡ true → begins_epoch line ≡ true
-event-begins line e = (and_parts (begins_epoch line) (is_event_flag (character_at line 32)) e).0
+one-more first line more = search (map-append, append_assoc)
 
 anew-event : (line : List ℕ) (more : List ReadLine) → is_event_line line ≡ true
     → starts_anew 0 (Content line ∷ more) ≡ starts_anew (records_announced line) more
-anew-event line more e = cc (event-begins line e, e)
+anew-event line more e = grind (arith, and_parts)
 
 anew-epoch : (line : List ℕ) (more : List ReadLine)
     → begins_epoch line ≡ true → is_event_line line ≡ false → starts_anew 0 (Content line ∷ more) ≡ true

@@ -1,4 +1,5 @@
 -- A check line by line reads as the whole reading does, and keeps its totals.
+use Rattle.std.proofs.lemmas.Grind.{common_steps}
 use Rattle.crx_filter.proofs.Words.{ℕ, ◌+◌, false, List, [], length, refl, arith, ReadLine, Epoch, FileUnit}
 use Rattle.crx_filter.proofs.Words.{printed_unit, epoch_place, Item, types_in_force, warnings_in}
 use Rattle.crx_filter.proofs.Words.{IsEndedBy, rinex_place, whole_rinex, rinex_reading, rinex_open, seen_of}
@@ -14,12 +15,7 @@ abbrev pub printed_after : List (Item Epoch) → FileUnit Epoch → List (List �
 printed_after before = printed_unit
 
 check-same : AreSame checking totals_of printed_after no_choices
-check-same = record {
-  same = λ items lines epoch count here. record {
-    kept = λ number phase types kept either. cc (either-same either);
-    lines = λ number phase types kept either. refl;
-  };
-}
+check-same = grind (arith, common_steps, either-same)
 
 pub check-carried_out : IsCarriedOut (λ (before : List (Item Epoch)). epoch_place (types_in_force before))
     checking rinex_open totals_of printed_after no_choices

@@ -1,4 +1,5 @@
 -- A check is given one line more.
+use Rattle.std.proofs.lemmas.Grind.{common_steps}
 use Rattle.crx_filter.proofs.Words
 use Words.{ℕ, ◌≡◌, ◌+◌, true, false, cond, List, [], ◌∷◌, ◌++◌, map, length, Option, Some, None, refl, ap}
 use Words.{sym, ◌∙◌, subst, arith, length-append, append-nil, append_assoc, map-append, length-map, none-some}
@@ -25,9 +26,7 @@ same-seen lines = cc (length-map lines seen)
 
 once-again : (lines : List ReadLine) (line : ReadLine)
     → is_again (seen_next checking (reading_seen lines) line).answer ≡ false
-once-again lines line =
-    let s = reading_seen lines in
-    never-again (length lines) s.phase s.types s.kept line (made_in checking s.phase s.types s.kept line)
+once-again lines line = grind (arith, common_steps, reading_seen, never-again, made_in, checking)
 
 -- the printed lines of a reading
 abbrev pub printed_of : List ReadLine → List (List ℕ)

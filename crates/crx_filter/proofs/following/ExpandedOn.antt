@@ -1,17 +1,18 @@
 -- An expansion is given one line more.
+use Rattle.std.proofs.lemmas.Grind.{common_steps}
 use Rattle.crx_filter.proofs.Words
 use Words.{ℕ, ◌≡◌, ◌+◌, Bool, List, [], ◌∷◌, ◌++◌, length, drop, Option, Some, None, Result, Ok, Err, refl}
 use Words.{sym, subst, arith, length-append, drop-append-le, length-drop, ReadLine, Content, Overlong, Fault}
 use Words.{LineTooLong, Place, Here, Wrong, Wanted, Remains, ReadEpoch, OpenRawEpoch, Tail, Choices, Reading}
-use Words.{AtFault, AtLines, reading_from, IsFollowed, Fed, fed, fed_once, fault_of_stop, is_skippable}
+use Words.{AtFault, AtLines, reading_from, IsFollowed, Fed, fed, fed_once, fault_of_stop}
 use Words.{warnings_in, Phase, InFirstLines, Ended, Seen, Fails, made_in, step_of_made, seen_next, seen_of}
 use Words.{compact_place, crinex_version, crinex_program, first_lines, expanded_lines, expansion}
 use Words.{compact_open, tail_of_items}
 use Rattle.crx_filter.specs.Laws.{IsExpandedOn}
 use Rattle.crx_filter.proofs.reading.ForwardCompact.{steady-first_lines}
-use Rattle.crx_filter.proofs.following.Following.{seen_in, fed-once, failed-ends}
+use Rattle.crx_filter.proofs.following.Following.{seen_in, fed-once}
 use Rattle.crx_filter.proofs.following.MoreLines.{more-line}
-use Rattle.crx_filter.proofs.following.Lines.{quiet-elsewhere, never-before}
+use Rattle.crx_filter.proofs.following.Lines.{quiet-elsewhere}
 use Rattle.crx_filter.proofs.following.Expansion.{expansion-carried_out}
 
 -- ---- the reading by where the first two lines are
@@ -57,9 +58,7 @@ module _ (choices : Choices) where
   by-once : (lines : List ReadLine) (line : ReadLine) → FollowsOnce choices lines line
       → FollowsBy choices lines line Wanted (first_lines (lines ++ line ∷ []))
   by-once lines line once =
-      let seen = seen_by choices lines Wanted in
-      rw (fed-once expansion seen line (quiet-elsewhere expansion seen line
-      (made_in expansion seen.phase seen.types seen.kept line) refl)) once
+      grind (arith, common_steps, seen_by, fed-once, expansion, quiet-elsewhere, made_in)
 
   -- a fault in the first two lines is never skipped
   ends : (count : ℕ) (line : ReadLine) (fault : Fault) → fed_once (step_of_made expansion
@@ -69,8 +68,7 @@ module _ (choices : Choices) where
         handed_out = [];
         next = seen_in choices (count + 1) (Ended (record { line = count + 1; fault = fault })) [] None;
       }
-  ends count line fault = cc (failed-ends expansion (seen_in choices count (InFirstLines count) [] None)
-      line fault (never-before choices.skip (is_skippable fault)))
+  ends count line fault = grind (arith, common_steps)
 
   -- the first line
   first-line : (line : ReadLine) → FollowsBy choices [] line (first_lines []) (first_lines (line ∷ []))
@@ -113,17 +111,10 @@ pub data IsBeforeHeader (lines : List ReadLine) : Type 0 where
 
 two-lines : (first : List ℕ) (line : ReadLine) (lines : List ReadLine) (r : Result (List ℕ) Fault)
     → crinex_version first ≡ r → first_lines (Content first ∷ line ∷ lines) ≡ Wanted → ⊥
-two-lines first line lines (Err fault) e wanted =
-    let at : first_lines (Content first ∷ line ∷ lines) ≡ Wrong 0 fault = rw e refl in absurd (cc)
-two-lines first Overlong lines (Ok version) e wanted =
-    let at : first_lines (Content first ∷ Overlong ∷ lines) ≡ Wrong 1 LineTooLong = rw e refl in absurd (cc)
-two-lines first (Content second) lines (Ok version) e wanted = decided (crinex_program second) refl
-  where
-    decided : (q : Result (List ℕ) Fault) → crinex_program second ≡ q → ⊥
-    decided (Ok program) h = let at : first_lines (Content first ∷ Content second ∷ lines)
-        ≡ Here (version ∷ program ∷ []) 2 = rw e (rw h refl) in absurd (cc)
-    decided (Err fault) h = let at : first_lines (Content first ∷ Content second ∷ lines) ≡ Wrong 1 fault =
-        rw e (rw h refl) in absurd (cc)
+two-lines first line lines (Err fault) e wanted = grind (arith, common_steps, first_lines)
+two-lines first Overlong lines (Ok version) e wanted = grind (arith, common_steps, first_lines)
+two-lines first (Content second) lines (Ok version) e wanted =
+    grind (arith, common_steps, crinex_program, first_lines)
 
 before-header : (lines : List ReadLine) → first_lines lines ≡ Wanted → IsBeforeHeader lines
 before-header [] wanted = NoLine refl

@@ -1,4 +1,6 @@
 -- Expansion line by line reads, keeps and writes as the expansion of all lines does.
+use Rattle.std.proofs.lemmas.Grind.{common_steps}
+use Rattle.std.proofs.Common.{arith}
 use Rattle.crx_filter.proofs.Words
 use Words.{ℕ, suc, ◌≡◌, Bool, true, false, cond, List, [], ◌∷◌, ◌++◌, length, Option, Some, None, Result, Ok}
 use Words.{Err, refl, ap, sym, ◌∙◌, true≢false, is_some, none-some, ReadLine, Content, Overlong, Fault}
@@ -121,10 +123,7 @@ agree-begins choices items (Content content) = agree-content choices items conte
 -- where an epoch is open, no event began
 no-event : (items : List (Item ReadEpoch)) (lines : List ReadLine) (so_far : OpenRawEpoch) (b : Bool)
     → begins_event lines ≡ b → compact_open items lines ≡ Some so_far → begins_event lines ≡ false
-no-event items lines so_far true e opens = absurd (none-some so_far (sym (closed lines e) ∙ opens))
-  where
-    closed : (ls : List ReadLine) → begins_event ls ≡ true → compact_open items ls ≡ None
-    closed ls e = rw e refl
+no-event items lines so_far true e opens = grind (arith, common_steps, none-some, begins_event, compact_open)
 no-event items lines so_far false e opens = e
 
 by-steps : (items : List (Item ReadEpoch)) (lines : List ReadLine) → begins_event lines ≡ false
@@ -164,11 +163,8 @@ observation-wanted p e = absurd (cc)
 event-not_wanted : (items : List (Item ReadEpoch)) (line : ReadLine) (lines : List ReadLine)
     → begins_event (line ∷ lines) ≡ true → compact_beginning items (line ∷ lines) ≡ Wanted → ⊥
 event-not_wanted items Overlong lines e wanted = absurd (true≢false (sym e))
-event-not_wanted items (Content content) lines e wanted = one_line-decided _ (sym (at_event e) ∙ wanted)
-  where
-    at_event : is_event_line content ≡ true
-        → compact_beginning items (Content content ∷ lines) ≡ one_line (event_line content)
-    at_event h = rw h refl
+event-not_wanted items (Content content) lines e wanted =
+    grind (arith, common_steps, one_line-decided, is_event_line, compact_beginning, one_line, event_line)
 
 no-lines : (items : List (Item ReadEpoch)) (lines : List ReadLine)
     → compact_beginning items lines ≡ Wanted → compact_open items lines ≡ None → lines ≡ []

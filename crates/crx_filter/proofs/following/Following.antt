@@ -1,21 +1,21 @@
 -- One line more, as it is fed and as it is read: the same in both directions.
+use Rattle.std.proofs.lemmas.Grind.{common_steps}
 use Rattle.crx_filter.proofs.Words
-use Words.{ℕ, zero, suc, ◌≡◌, ◌⊎◌, inl, inr, ◌+◌, ◌-◌, max, ◌<◌, ◌≤◌, Bool, true, false, cond, List, [], ◌∷◌}
+use Words.{ℕ, zero, suc, ◌≡◌, ◌⊎◌, inl, inr, ◌+◌, ◌-◌, max, ◌<◌, ◌≤◌, Bool, true, false, List, [], ◌∷◌}
 use Words.{◌++◌, length, drop, Option, Some, None, refl, ap, sym, subst, ◌∙◌, arith, length-append}
-use Words.{append-nil, ◌&&◌, drop-append_seam, ReadLine, Fault, At, is_end_of_header, Count, Place, Here}
+use Words.{append-nil, ◌&&◌, drop-append_seam, ReadLine, Fault, At, Count, Place, Here}
 use Words.{Wrong, Wanted, IsDecidedAfter, FileUnit, HeaderLine, EventLine, EventRecord, Observation, Choices}
 use Words.{Item, Accepted, Warned, is_at_start, header_has_ended, records_announced, records_left}
 use Words.{counts_types, records_count_types, types_in_force, unit_place, Reading, AtFault, AtLines, Looking}
 use Words.{is_skipped, can_go_on, looked_for, reading_within, is_skippable, written_lines, warnings_in, Phase}
-use Words.{InHeader, BetweenUnits, InEvent, InEpoch, Ended, Seen, Made, Completes, Moves, Fails, Direction}
+use Words.{InHeader, InEvent, InEpoch, Ended, Seen, Made, Completes, Moves, Fails, Direction}
 use Words.{Notice, Failed, Step, with_records_left, phase_after, types_after, may_skip, is_in_epoch}
 use Words.{is_skipped_in, kept_in, with_phase, after_warning, failed_step, step_of_made, seen_next}
 use Words.{phase_in_body, phase_after_items, seen_of, IsReadForward, IsFollowed, Fed, fed, fed_once}
 use Words.{fed_twice, is_again, fault_of_stop}
-use Rattle.std.proofs.Math.Seq.{drop-length}
 use Rattle.crx_filter.specs.LineByLine.{Quiet, Ready, after_record, after_unit}
 use Rattle.crx_filter.proofs.Choosing.{by_bool}
-use Rattle.crx_filter.proofs.reading.Resuming.{here-within, wrong-within, within-here, within-wrong}
+use Rattle.crx_filter.proofs.reading.Resuming.{here-within, wrong-within, within-wrong}
 use Rattle.crx_filter.proofs.reading.Resuming.{within-wanted, fault-skipped, fault-ends, looked-here}
 use Rattle.crx_filter.proofs.reading.Resuming.{looked-on}
 
@@ -120,8 +120,7 @@ module _ {U O K : Type 0} (direction : Direction U O K) where
 
   kept-after_unit : (phase : Phase O) (unit : FileUnit U) (kept : K)
       → kept_in direction (phase_after phase unit) kept ≡ kept
-  kept-after_unit phase (HeaderLine line) kept = elim (is_end_of_header line) as (λ b. kept_in direction
-      (cond b BetweenUnits (InHeader false)) kept ≡ kept) [ true ↦ refl | false ↦ refl ]
+  kept-after_unit phase (HeaderLine line) kept = grind (arith, common_steps)
   kept-after_unit phase (EventLine line) kept =
       kept-with_records (records_announced line) (counts_types line) kept
   kept-after_unit phase (EventRecord line) kept = kept-after_record phase kept
@@ -194,10 +193,7 @@ module _ {E : Type 0} {place : List (Item E) → List ReadLine → Place (FileUn
         (line : ReadLine) (unit : FileUnit E) (count : ℕ) → place items rest ≡ Wanted → place items
         (rest ++ line ∷ []) ≡ Here unit count → reading_within place skip (suc units) items number
         (rest ++ line ∷ []) ≡ record { items = Accepted unit ∷ items; stop = AtLines (number + count) [] }
-    last-here skip units items number rest line unit count wanted e = within-here place skip units items
-        number (rest ++ line ∷ []) unit count e ∙ ap (reading_within place skip units (Accepted unit ∷ items)
-        (number + count)) (ap (λ n. drop n (rest ++ line ∷ [])) ((here-last _ _ _ _ _ wanted e)
-        ∙ sym (length-append rest (line ∷ []))) ∙ drop-length (rest ++ line ∷ [])) ∙ within-nothing _ _ _ _
+    last-here skip units items number rest line unit count wanted e = grind (arith, common_steps)
 
     -- a fault that ends the run
     pub last-ends : (skip : Bool) (units : ℕ) (items : List (Item E)) (number count : ℕ)
@@ -205,11 +201,8 @@ module _ {E : Type 0} {place : List (Item E) → List ReadLine → Place (FileUn
         → place items (rest ++ line ∷ []) ≡ Wrong offset fault → is_skipped skip items fault ≡ false → number
         + length rest ≡ count + 1 → reading_within place skip (suc units) items number (rest ++ line ∷ [])
         ≡ record { items = items; stop = AtFault (record { line = count + 1; fault = fault }) }
-    last-ends skip units items number count rest line offset fault wanted e off counted = within-wrong place
-        skip units items number (rest ++ line ∷ []) offset fault e
-        ∙ fault-ends skip (reading_within place skip units) items number (rest ++ line ∷ []) offset fault off
-        ∙ ap (λ (n : ℕ). record { items = items; stop = AtFault (record { line = n; fault = fault }) })
-        (omega (arith, wrong-last _ _ _ _ _ wanted e, counted))
+    last-ends skip units items number count rest line offset fault wanted e off counted =
+        grind (arith, common_steps, within-wrong, place, fault-ends, reading_within, wrong-last)
 
     -- a fault that is skipped
     pub last-skipped : (skip : Bool) (units : ℕ) (items : List (Item E)) (number count : ℕ)
@@ -230,9 +223,7 @@ module _ {E : Type 0} {place : List (Item E) → List ReadLine → Place (FileUn
 
 looked-through-later : (first : ReadLine) (rest : List ReadLine) (line : ReadLine)
     → drop (max (length (first ∷ rest)) 1) ((first ∷ rest) ++ line ∷ []) ≡ line ∷ []
-looked-through-later first rest line =
-    let same : max (length (first ∷ rest)) 1 ≡ length (first ∷ rest) = omega arith in
-    cc (same, drop-append_seam (first ∷ rest) (line ∷ []))
+looked-through-later first rest line = grind (arith, common_steps, max, drop-append_seam)
 
 -- ---- what a step comes to
 
@@ -246,8 +237,7 @@ pub skipped-same : {E O K : Type 0} (choices : Choices)
     (count : ℕ) (phase : Phase O) (types : List Count) (kept : K) (items : List (Item E)) (fault : Fault)
     → header_has_ended items ≡ true → records_left items ≡ 0 → may_skip phase ≡ true
     → is_skipped choices.skip items fault ≡ is_skipped_in (seen_in choices count phase types kept) fault
-skipped-same choices count phase types kept items fault ended none may = cc
-    (body-skipped choices.skip items fault ended none, may)
+skipped-same choices count phase types kept items fault ended none may = grind (arith, common_steps)
 
 module _ {E U O K : Type 0} {beginning : List (Item E) → List ReadLine → Place (FileUnit E)}
     {direction : Direction U O K} {open_with : List (Item E) → List ReadLine → Option O}
@@ -334,15 +324,7 @@ module _ {E U O K : Type 0} {beginning : List (Item E) → List ReadLine → Pla
         handed_out = [];
         next = with_phase direction (seen_at count phase items kept) (InEpoch so_far);
       }))
-  followed-open count n items lines phase kept so_far ended none opens keeps =
-      let here = body-phase items (open_with items lines) ended none
-      ∙ ap (λ o. phase_in_body 0 (records_count_types items) o) opens in
-      record {
-        next = seen-same choices (count + 1) _ _ _ _ _ _ here refl (cc);
-        handed_out = sym (append-nil (written_lines unit_lines items));
-        warned = refl;
-        failed = refl;
-      }
+  followed-open count n items lines phase kept so_far ended none opens keeps = grind (arith, common_steps)
 
   -- ---- where an epoch or an event may begin, and in an epoch
 
@@ -385,11 +367,8 @@ module _ {E U O K : Type 0} {beginning : List (Item E) → List ReadLine → Pla
       → looked_for (reads units (Warned at ∷ items)) (Warned at ∷ items) (number + max (length rest) 1) (drop
       (max (length rest) 1) (rest ++ line ∷ [])) ≡ reads units (Warned at ∷ items) (count + 1) (line ∷ [])
   skipped-again units items number count [] line at some counted on = absurd (omega (arith, some))
-  skipped-again units items number count (first ∷ rest) line at some counted on = ap (looked_for
-      (reads units (Warned at ∷ items)) (Warned at ∷ items) (number + max (length (first ∷ rest)) 1))
-      (looked-through-later first rest line) ∙ looked-here (reads units (Warned at ∷ items))
-      (Warned at ∷ items) (number + max (length (first ∷ rest)) 1) line [] on
-      ∙ ap (λ n. reads units (Warned at ∷ items) n (line ∷ [])) (omega (arith, counted))
+  skipped-again units items number count (first ∷ rest) line at some counted on =
+      grind (arith, common_steps, looked_for, reads, max, looked-through-later, looked-here)
 
   -- the next line, where it is given once
   pub body-once : (units : ℕ) (items : List (Item E)) (number count : ℕ) (rest : List ReadLine)

@@ -1,8 +1,9 @@
 -- One line more, wherever a reading has stopped.
+use Rattle.std.proofs.lemmas.Grind.{common_steps}
 use Rattle.crx_filter.proofs.Words
 use Words.{ℕ, zero, suc, ◌≡◌, inl, inr, ◌+◌, ◌<◌, Bool, true, false, not, cond, List, [], ◌∷◌, ◌++◌, length}
 use Words.{Option, Some, None, Result, Ok, Err, refl, ap, sym, subst, ◌∙◌, arith, length-append, append-nil}
-use Words.{append_assoc, rules, ◌||◌, ◌&&◌, ◌==◌, ⊤, nat_lt, ReadLine, Content, Overlong, Fault, LineTooLong}
+use Words.{append_assoc, ◌||◌, ◌&&◌, ◌==◌, ⊤, nat_lt, ReadLine, Content, Overlong, Fault, LineTooLong}
 use Words.{At, is_end_of_header, Count, types_of, with_line, none-some, Place, Wanted, one_line, first_line}
 use Words.{FileUnit, HeaderLine, EventRecord, Choices, Item, Accepted, Warned, is_at_start, header_has_ended}
 use Words.{records_left, records_count_types, declaring_lines, types_in_force, unless_wrong, types_fault}
@@ -27,8 +28,7 @@ use Rattle.crx_filter.proofs.following.Following.{body-once}
 pub quiet-elsewhere : {U O K : Type 0} (direction : Direction U O K) (seen : Seen O K) (line : ReadLine)
     (made : Made U O) → is_in_epoch seen.phase ≡ false → is_again
     (step_of_made direction seen line made).answer ≡ false
-quiet-elsewhere direction seen line (Fails fault) e = by_bool (is_skipped_in seen fault) (λ on. cc
-    (failed-skipped direction seen line fault on, e)) (λ off. cc (failed-ends direction seen line fault off))
+quiet-elsewhere direction seen line (Fails fault) e = grind (arith, common_steps)
 quiet-elsewhere direction seen line made e = refl
 
 -- ---- lines of the header, and an event's records
@@ -47,8 +47,7 @@ header-phase {E = E} {O = O} items is_first line e =
     (λ b. cond (not (b || false)) inside outside ≡ cond b outside inside) [ true ↦ refl | false ↦ refl ])
 
 pub never-in-event : (skip : Bool) (left : ℕ) (b : Bool) → (skip && ((suc left == 0) && b)) ≡ false
-never-in-event skip left b = let some : (suc left == 0) ≡ false = search rules in
-    rw some (never-before skip b)
+never-in-event skip left b = grind (arith, common_steps, never-before)
 
 record-types : (counted : Bool) (lines : List (List ℕ)) (line : List ℕ) → types_of (cond counted
     (lines ++ line ∷ []) lines) ≡ cond counted (with_line (types_of lines) line) (types_of lines)
@@ -69,8 +68,7 @@ pub record-place : {E : Type 0} (beginning : List (Item E) → List ReadLine →
     (items : List (Item E))
     (left : ℕ) (lines : List ReadLine) → header_has_ended items ≡ true → records_left items ≡ suc left
     → unit_place beginning items lines ≡ first_line lines (event_record (records_count_types items))
-record-place beginning items left lines ended some = let more : nat_lt 0 (suc left) ≡ true = search rules in
-    rw (ended, some, more) refl
+record-place beginning items left lines ended some = grind (arith, common_steps, nat_lt)
 
 -- ---- where a reading has stopped
 
@@ -118,12 +116,7 @@ module _ {E U O K : Type 0} {beginning : List (Item E) → List ReadLine → Pla
   followed-twice : (count : ℕ) (items : List (Item E)) (at : At) (r : Reading E) (next : Seen O K)
       (two : Step O K) → Follows h count (Warned at ∷ items) r (fed_once two) → Follows h count items r
       (fed_twice (record { answer = Notice at true; handed_out = []; next = next }) two)
-  followed-twice count items at r next two f = record {
-    next = f.next;
-    handed_out = f.handed_out;
-    warned = f.warned ∙ sym (append_assoc _ (at ∷ []) (warnings_in items));
-    failed = f.failed;
-  }
+  followed-twice count items at r next two f = grind (arith, common_steps, append_assoc, warnings_in)
 
   -- the next line where an epoch or an event may begin or in an epoch, given a second time where it is to
   -- come again
@@ -222,11 +215,8 @@ module _ {E U O K : Type 0} {beginning : List (Item E) → List ReadLine → Pla
       → is_in_epoch phase ≡ false → Follows h (count + 1) items r
       (fed_once (seen_next direction (seen_at h count phase items (kept_of items)) line))
       → Follows h (count + 1) items r (fed direction (seen_at h count phase items (kept_of items)) line)
-  line-once count items line phase r outside follows = rw (fed-once direction seen line (quiet-elsewhere
-      direction seen line (made_in direction phase seen.types seen.kept line) outside)) follows
-    where
-      seen : Seen O K
-      seen = seen_at h count phase items (kept_of items)
+  line-once count items line phase r outside follows =
+      grind (arith, common_steps, fed-once, quiet-elsewhere, made_in, phase, seen_at)
 
   -- the next line in the header
   header-line : (units : ℕ) (items : List (Item E)) (count : ℕ) (line : ReadLine) → header_has_ended items
@@ -362,12 +352,7 @@ module _ {E U O K : Type 0} {beginning : List (Item E) → List ReadLine → Pla
       → IsStopped (place h) items stop (count + 1) → Follows h (count + 1) items (continued_reading
       (place h) choices.skip (record { items = items; stop = stop }) (line ∷ [])) (fed direction
       (seen_of direction open_with kept_of choices count (record { items = items; stop = stop })) line)
-  next-line items (AtFault at) count line stopped = record {
-    next = refl;
-    handed_out = sym (append-nil (written_lines unit_lines items));
-    warned = refl;
-    failed = refl;
-  }
+  next-line items (AtFault at) count line stopped = grind (arith, common_steps, append-nil, written_lines)
   next-line items (AtLines number rest) count line stopped =
       lines-line items number count rest line stopped.0 stopped.1
   next-line items (Looking number) count line stopped = by_bool (can_go_on line)

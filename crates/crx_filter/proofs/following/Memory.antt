@@ -1,4 +1,5 @@
 -- Where memory may run out at a line by what is seen before it, it may by what is there.
+use Rattle.std.proofs.lemmas.Grind.{common_steps}
 use Rattle.crx_filter.proofs.Words
 use Words.{ℕ, suc, ◌≡◌, ◌+◌, Bool, true, false, not, cond, List, [], ◌∷◌, ◌++◌, length, Option, Some, None}
 use Words.{refl, ap, sym, subst, ◌∙◌, arith, ◌&&◌, nat_lt, is_some, ReadLine, Content, Overlong, Fault, At}
@@ -9,7 +10,6 @@ use Words.{is_skipped, can_go_on, event_record, header_line, header_line_fault, 
 use Words.{is_again, Answer, BetweenUnits, Direction, Failed, Fails, InEpoch, InEvent, InHeader, Made, Notice}
 use Words.{Phase, Seen, Step, after_warning, is_in_epoch, is_skipped_in, kept_in, phase_after_items}
 use Words.{seen_next, seen_of, step_of_made, may_take_memory, takes_memory, rules, none-some, and_parts}
-use Words.{not-true}
 use Rattle.std.specs.Prelude.{is_none}
 use Rattle.crx_header.specs.meaning.ObservationTypes.{count_of_types_line}
 use Rattle.crx_filter.specs.meaning.Memory.{line_takes, takes_after_warning}
@@ -85,9 +85,7 @@ module _ {E U O K : Type 0} {beginning : List (Item E) → List ReadLine → Pla
   begins-takes : (items : List (Item E)) (line : List ℕ) → header_has_ended items ≡ true
       → records_left items ≡ 0 → (not (is_event_line line) && direction.memory_first (types_in_force items)
       (kept_of items) line) ≡ true → line_takes (place h) takes items [] (Content line) ≡ true
-  begins-takes items line ended none e = ap (place_takes takes items 0) (body-place beginning items
-      (Content line ∷ []) ended none) ∙ t.first items line (not-true (is_event_line line)
-      (and_parts (not (is_event_line line)) _ e).0) (and_parts (not (is_event_line line)) _ e).1
+  begins-takes items line ended none e = grind (arith, common_steps)
 
   -- by the content of a line, where an overlong one takes nothing
   by_content : (items : List (Item E)) (rest : List ReadLine) (phase : Phase O) (line : ReadLine)
@@ -121,10 +119,8 @@ module _ {E U O K : Type 0} {beginning : List (Item E) → List ReadLine → Pla
       → memory_allowed (place h) takes choices.skip (record { items = items; stop = stop }) line ≡ Some []
   allowed-first items (AtFault at) count (Content line) stopped e = false-true e
   allowed-first items (AtLines number rest) count line stopped e = cc (lines-take _ _ _ stopped.0 e)
-  allowed-first items (Looking number) count (Content line) stopped e = cc (
-    (and_parts (begins_epoch line) _ e).0,
-    begins-takes items line stopped.1 stopped.2 (and_parts (begins_epoch line) _ e).1,
-  )
+  allowed-first items (Looking number) count (Content line) stopped e =
+      grind (arith, common_steps, and_parts, begins_epoch, begins-takes)
   allowed-first items stop count Overlong stopped e = false-true e
 
   -- a line that cuts an epoch off, and is read anew after the warning

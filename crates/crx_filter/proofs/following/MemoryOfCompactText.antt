@@ -1,4 +1,5 @@
 -- The memory that an expansion takes, by what is at its lines.
+use Rattle.std.proofs.lemmas.Grind.{common_steps}
 use Rattle.crx_filter.proofs.Words
 use Words.{ℕ, ◌≡◌, Bool, true, false, List, [], ◌∷◌, ◌++◌, length, Option, Some, None, Result, Ok, Err, refl}
 use Words.{ap, sym, ◌∙◌, none-some, ReadLine, Content, Overlong, Fault, Count, ReadEpoch, satellites_of_line}
@@ -53,8 +54,7 @@ opened-clock line before (Err fault) = refl
 by-tail : (types : List Count) (line : List ℕ) (tail : Option Tail)
     → clock_read (opening (opened_raw types line tail)) ≡ false
 by-tail types line None = refl
-by-tail types line (Some before) = opened-clock line before
-    (satellites_of_line types (past_of_tail before) line)
+by-tail types line (Some before) = grind (arith, common_steps, opened-clock, satellites_of_line, past_of_tail)
 
 -- after its first line no epoch has a clock
 first-clock : (types : List Count) (tail : Option Tail) (line : ReadLine)

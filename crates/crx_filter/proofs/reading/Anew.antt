@@ -1,30 +1,24 @@
 -- Where the reading of compact text starts anew, it depends on the types in force alone.
 use Rattle.crx_filter.proofs.Words
-use Words.{ℕ, zero, suc, ◌≡◌, ◌+◌, ◌-◌, ◌<◌, max, Bool, true, cond, List, [], ◌∷◌, ◌++◌, drop, Option, Some}
-use Words.{None, refl, ap, sym, ◌∙◌, arith, subst, append_assoc, and_parts, ⊤, ReadLine, Content, Overlong}
-use Words.{Fault, At, begins_epoch, is_event_line, records_in, Count, with_line, Place, Here, Wanted}
-use Words.{one_line, first_line, FileUnit, HeaderLine, EventLine, EventRecord, Observation, RawEpoch}
-use Words.{block_of, Past, past_of_block, past_of_epochs, ReadEpoch, epoch_at, Item, Accepted, Warned}
-use Words.{header_has_ended, records_announced, records_left, records_count_types, declaring_lines}
-use Words.{types_in_force, unless_wrong, types_fault, event_record, Reading, Stop, AtFault, AtLines, Looking}
-use Words.{is_skipped, can_go_on, looked_for, reading_within, after_fault, raws_kept, empties_state}
-use Words.{event_line, as_observation, compact_epoch_place, compact_place, starts_anew, GoOnAlike}
+use Words.{[], ℕ, zero, suc, ◌≡◌, ◌+◌, ◌<◌, max, Bool, true, cond, List, ◌∷◌, ◌++◌, drop, Option, Some, None}
+use Words.{refl, sym, ◌∙◌, arith, subst, append_assoc, and_parts, ⊤, ReadLine, Content, Overlong, Fault, At}
+use Words.{begins_epoch, is_event_line, records_in, Count, Place, Here, one_line, first_line, FileUnit}
+use Words.{HeaderLine, EventLine, EventRecord, Observation, block_of, ReadEpoch, epoch_at, Item, Accepted}
+use Words.{Warned, header_has_ended, records_announced, records_left, records_count_types, types_in_force}
+use Words.{unless_wrong, types_fault, event_record, Reading, Stop, AtFault, AtLines, Looking, is_skipped}
+use Words.{looked_for, reading_within, after_fault, raws_kept, empties_state, event_line, as_observation}
+use Words.{compact_place, starts_anew, GoOnAlike, ap}
 use Rattle.crx_header.proofs.Counts.{types_of-push}
 use Rattle.crx_compact.proofs.reading.Forgetting.{forgets}
 use Rattle.crx_filter.specs.Anew.{DependsOnTypes}
 use Rattle.crx_filter.proofs.Choosing.{by_bool}
 use Rattle.crx_filter.proofs.reading.Resuming.{by_place}
-use Rattle.crx_filter.proofs.reading.WhatStands.{OfHere, first-line, unless-wrong, of-compact}
+use Rattle.crx_filter.proofs.reading.WhatStands.{OfHere, of-unit, of-compact}
 use Rattle.crx_filter.proofs.following.Following.{body-place}
 use Rattle.crx_filter.proofs.following.Lines.{record-place}
 use Rattle.crx_filter.proofs.reading.ForwardCompact.{compact_beginning}
 
 -- ---- the types after a record
-
-record-types : (items : List (Item ReadEpoch)) (line : List ℕ) → types_in_force (Accepted (EventRecord line)
-    ∷ items) ≡ cond (records_count_types items) (with_line (types_in_force items) line) (types_in_force items)
-record-types items line = by_bool (records_count_types items)
-    (λ on. rw on (types_of-push (declaring_lines items) line)) (λ off. rw off refl)
 
 -- ---- two lists of items that are alike
 
@@ -50,15 +44,8 @@ MayFollow items unit = ⊤
 pub alike-unit : (a b : List (Item ReadEpoch)) (unit : FileUnit ReadEpoch)
     → MayFollow a unit → AreAlike a b → AreAlike (Accepted unit ∷ a) (Accepted unit ∷ b)
 alike-unit a b (HeaderLine line) f h = absurd f
-alike-unit a b (EventRecord line) f h = record {
-  one = h.one;
-  two = h.two;
-  left = ap (λ n. n - 1) h.left;
-  counts = λ still. h.counts f;
-  types = cc (record-types a line, record-types b line, h.counts f, h.types);
-}
-alike-unit a b unit f h =
-    record { one = h.one; two = h.two; left = refl; counts = λ some. refl; types = h.types }
+alike-unit a b (EventRecord line) f h = grind (arith, types_of-push)
+alike-unit a b unit f h = grind arith
 
 same-unit : (a b : List (Item ReadEpoch)) (unit : FileUnit ReadEpoch)
     → MayFollow a unit → AreSame a b → AreSame (Accepted unit ∷ a) (Accepted unit ∷ b)
@@ -73,33 +60,9 @@ same-unit a b unit f h = record { alike = alike-unit a b unit f h.alike; block =
     block-same (Observation read) f = rw h.block refl
 
 same-warned : (a b : List (Item ReadEpoch)) (at : At) → AreAlike a b → AreSame (Warned at ∷ a) (Warned at ∷ b)
-same-warned a b at h = record {
-  alike = record { one = h.one; two = h.two; left = refl; counts = λ some. refl; types = h.types };
-  block = refl;
-}
+same-warned a b at h = grind arith
 
 -- ---- the same is at the same lines
-
--- what the lines of a block give depends on the block alone
-abbrev past-of : (block : List RawEpoch) → Option Past
-past-of [] = None
-past-of (e ∷ older) = Some (past_of_block (e ∷ older))
-
-past-by_block : (raws : List RawEpoch) → past_of_epochs raws ≡ past-of (block_of raws)
-past-by_block [] = refl
-past-by_block (e ∷ older) = refl
-
-epoch-by_block : (types : List Count) (one two : List RawEpoch) (lines : List ReadLine)
-    → block_of one ≡ block_of two → epoch_at types one lines ≡ epoch_at types two lines
-epoch-by_block types one two lines e =
-    let same : past_of_epochs one ≡ past_of_epochs two = cc (past-by_block one, e, past-by_block two) in
-    rw same refl
-
-begin-by_block : (types : List Count) (one two : List RawEpoch) (lines : List ReadLine)
-    → block_of one ≡ block_of two → compact_epoch_place types one lines ≡ compact_epoch_place types two lines
-begin-by_block types one two [] e = refl
-begin-by_block types one two (Overlong ∷ lines) e = cc (epoch-by_block types one two (Overlong ∷ lines) e)
-begin-by_block types one two (Content line ∷ lines) e = rw (epoch-by_block _ _ _ _ e) refl
 
 event-same : (a b : List (Item ReadEpoch)) (left : ℕ) (lines : List ReadLine)
     → AreAlike a b → records_left a ≡ suc left → compact_place a lines ≡ compact_place b lines
@@ -109,32 +72,17 @@ event-same a b left lines h some = record-place compact_beginning a left lines h
 
 place-same : (a b : List (Item ReadEpoch)) (lines : List ReadLine)
     → AreSame a b → (n : ℕ) → records_left a ≡ n → compact_place a lines ≡ compact_place b lines
-place-same a b lines h zero none = body-place compact_beginning a lines h.alike.one none
-    ∙ begin-by_block (types_in_force a) (raws_kept a) (raws_kept b) lines h.block
-    ∙ ap (λ types. compact_epoch_place types (raws_kept b) lines) h.alike.types
-    ∙ sym (body-place compact_beginning b lines h.alike.two (sym h.alike.left ∙ none))
+place-same a b lines h zero none = grind arith
 place-same a b lines h (suc left) some = event-same a b left lines h.alike some
 
 -- ---- which units can be there
 
-epoch-follows : (items : List (Item ReadEpoch)) (p : Place ReadEpoch)
-    → OfHere (MayFollow items) (as_observation p)
-epoch-follows items (Here read count) = tt
-epoch-follows items p = tt
-
-begun-follows : (items : List (Item ReadEpoch)) (types : List Count) (raws : List RawEpoch)
-    (lines : List ReadLine) → OfHere (MayFollow items) (compact_epoch_place types raws lines)
-begun-follows items types raws lines = of-compact (OfHere (MayFollow items)) types raws lines tt tt
-    (λ line rest e. tt) (epoch-follows items (epoch_at types raws lines))
-
 unit-follows : (items : List (Item ReadEpoch)) (lines : List ReadLine) → header_has_ended items ≡ true
-    → (n : ℕ) → records_left items ≡ n → OfHere (MayFollow items) (compact_place items lines)
-unit-follows items lines ended zero none = rw (body-place compact_beginning items lines ended none)
-    (begun-follows items (types_in_force items) (raws_kept items) lines)
-unit-follows items lines ended (suc left) some = rw (record-place compact_beginning items left lines
-    ended some) (first-line (MayFollow items) (event_record (records_count_types items)) lines
-    (λ line. unless-wrong (MayFollow items) (EventRecord line)
-    (cond (records_count_types items) (types_fault line) None) (λ good. omega (arith, some))))
+    → OfHere (MayFollow items) (compact_place items lines)
+unit-follows items lines ended = of-unit (OfHere (MayFollow items)) tt (λ offset fault. tt) compact_beginning
+    items lines (λ line rest is open_header good. absurd (cc)) (λ line rest is on some good. some)
+    (λ on none. of-compact (OfHere (MayFollow items)) tt (λ offset fault. tt) (types_in_force items)
+    (raws_kept items) lines (λ line rest is event counted. tt) (λ read count e. tt))
 
 -- ---- the same units are read
 
@@ -160,8 +108,7 @@ looked : (a b : List (Item ReadEpoch)) (one two : ℕ → List ReadLine → Read
     (lines : List ReadLine) → ((n : ℕ) (ls : List ReadLine) → GoOnAlike a b (one n ls) (two n ls))
     → GoOnAlike a b (looked_for one a number lines) (looked_for two b number lines)
 looked a b one two number [] h = stopped (Looking number)
-looked a b one two number (line ∷ lines) h = by_bool (can_go_on line) (λ on. rw (on, looked_for)
-    (h number (line ∷ lines))) (λ off. rw (off, looked_for) (looked a b one two (number + 1) lines h))
+looked a b one two number (line ∷ lines) h = grind (arith, looked a b one two (number + 1) lines h)
 
 -- after the one and the other items, so many units are read alike
 abbrev ReadAlike : Bool → ℕ → List (Item ReadEpoch) → List (Item ReadEpoch) → ℕ → List ReadLine → Type 0
@@ -192,7 +139,7 @@ reads-same skip zero a b number lines h = stopped (AtLines number lines)
 reads-same skip (suc units) a b number lines h = one-step skip units a b number lines h.alike
     (place-same a b lines h (records_left a) refl) (λ unit count e. reads-same skip units
     (Accepted unit ∷ a) (Accepted unit ∷ b) (number + count) (drop count lines) (same-unit a b unit
-    (subst (OfHere (MayFollow a)) e (unit-follows a lines h.alike.one (records_left a) refl)) h))
+    (subst (OfHere (MayFollow a)) e (unit-follows a lines h.alike.one)) h))
     (λ at n ls. reads-same skip units (Warned at ∷ a) (Warned at ∷ b) n ls (same-warned a b at h.alike))
 
 -- ---- where all starts anew
@@ -212,9 +159,7 @@ module _ (skip : Bool) (units : ℕ) (ih : IsAnew skip units)
 
   alike-step : (lines : List ReadLine) (p : Place (FileUnit ReadEpoch)) → compact_place a lines ≡ p
       → compact_place b lines ≡ p → Next lines p → ReadAlike skip (suc units) a b number lines
-  alike-step lines p e f next = one-step skip units a b number lines h (e ∙ sym f)
-      (λ unit count is. subst (Next lines) (sym e ∙ is) next)
-      (λ at n ls. reads-same skip units (Warned at ∷ a) (Warned at ∷ b) n ls (same-warned a b at h))
+  alike-step lines p e f next = grind (arith, one-step, reads-same, same-warned)
 
   -- an epoch whose line begins with > is its block's first
   anew-observed : (line : List ℕ) (lines : List ReadLine) (types : List Count) (p : Place ReadEpoch)
@@ -237,9 +182,7 @@ module _ (skip : Bool) (units : ℕ) (ih : IsAnew skip units)
   anew-event : (line : List ℕ) (lines : List ReadLine) (o : Option ℕ) → records_in line ≡ o → starts_anew
       (records_announced line) lines ≡ true → Next (Content line ∷ lines) (one_line (event_line line))
   anew-event line lines None is anew = rw (is, event_line) tt
-  anew-event line lines (Some n) is anew =
-      rw (is, event_line) (ih (Accepted (EventLine line) ∷ a) (Accepted (EventLine line) ∷ b)
-      (number + 1) lines (records_announced line) (alike-unit a b (EventLine line) tt h) refl anew)
+  anew-event line lines (Some n) is anew = grind arith
 
   anew-line : (line : List ℕ) (lines : List ReadLine) → records_left a ≡ 0 → begins_epoch line ≡ true
       → cond (is_event_line line) (starts_anew (records_announced line) lines) true ≡ true
@@ -257,12 +200,9 @@ module _ (skip : Bool) (units : ℕ) (ih : IsAnew skip units)
 
   anew-step : (lines : List ReadLine) (left : ℕ) → records_left a ≡ left → starts_anew left lines ≡ true
       → ReadAlike skip (suc units) a b number lines
-  anew-step [] zero e anew = alike-step [] Wanted (body-place compact_beginning a [] h.one e)
-      (body-place compact_beginning b [] h.two (sym h.left ∙ e)) tt
+  anew-step [] zero e anew = grind (arith, alike-step, body-place)
   anew-step (Overlong ∷ lines) zero e anew = absurd (cc)
-  anew-step (Content line ∷ lines) zero e anew =
-      let both = and_parts (begins_epoch line) _ anew in
-      anew-line line lines e both.0 both.1
+  anew-step (Content line ∷ lines) zero e anew = grind (arith, and_parts, anew-line)
   anew-step lines (suc left) e anew = alike-step lines (first_line lines
       (event_record (records_count_types a))) (record-place compact_beginning a left lines h.one e) (sym
       (event-same a b left lines h e) ∙ record-place compact_beginning a left lines h.one e) (next lines anew)
@@ -276,15 +216,7 @@ module _ (skip : Bool) (units : ℕ) (ih : IsAnew skip units)
 
 reads-anew : (skip : Bool) (units : ℕ) → IsAnew skip units
 reads-anew skip zero a b number lines left h e anew = stopped (AtLines number lines)
-reads-anew skip (suc units) a b number lines left h e anew =
-    anew-step skip units (reads-anew skip units) a b h number lines left e anew
+reads-anew skip (suc units) a b number lines left h e anew = search (reads-anew skip units, anew-step)
 
 pub depends-on_types : DependsOnTypes
-depends-on_types skip before other number lines one two types anew = reads-anew _ _ before other number lines
-    0 (record {
-      one = one.header;
-      two = two.header;
-      left = cc;
-      counts = λ some. (absurd (omega (arith, some, one.none)));
-      types = types;
-    }) one.none anew
+depends-on_types skip before other number lines one two types anew = grind (arith, reads-anew)

@@ -10,7 +10,7 @@ use Rattle.crx_filter.proofs.reading.Prefixes.{AreMore, text-more, reading-items
 from-none : (items : List (Item ReadEpoch)) → AreMore [] items
 from-none items = record { news = items; same = sym (append-nil items) }
 
-remains : (lines more : List ReadLine) (p : Place (List (List ℕ)))
+pub remains : (lines more : List ReadLine) (p : Place (List (List ℕ)))
     → first_lines lines ≡ p → Remains (length lines) p (first_lines (lines ++ more))
 remains lines more p e = rw e at (steady-first_lines lines more)
 

@@ -1,15 +1,14 @@
 -- The end of the input, in both directions.
 use Rattle.crx_filter.proofs.Words.{ℕ, ◌≡◌, ◌+◌, Bool, List, [], length, drop, Some, refl, subst, arith}
-use Rattle.crx_filter.proofs.Words.{append-nil, length-drop, ReadLine, Place, Here, Wrong, Wanted}
-use Rattle.crx_filter.proofs.Words.{Remains, ReadEpoch, Choices, WholeReading, reading_from}
-use Rattle.crx_filter.proofs.Words.{ended_reading, is_skippable, warnings_in, seen_end, rinex_place}
-use Rattle.crx_filter.proofs.Words.{compact_unit, rinex_reading, compaction, rinex_open, written_of}
-use Rattle.crx_filter.proofs.Words.{compact_place, first_lines, fault_in_first_lines, expanded_unit}
-use Rattle.crx_filter.proofs.Words.{expanded_lines, expansion, compact_open, tail_of_items, IsEndedBy}
+use Rattle.crx_filter.proofs.Words.{append-nil, length-drop, ReadLine, Place, Here, Wrong, Wanted, Remains}
+use Rattle.crx_filter.proofs.Words.{ReadEpoch, Choices, WholeReading, reading_from, ended_reading}
+use Rattle.crx_filter.proofs.Words.{warnings_in, seen_end, rinex_place, compact_unit, rinex_reading}
+use Rattle.crx_filter.proofs.Words.{compaction, rinex_open, written_of, compact_place, first_lines}
+use Rattle.crx_filter.proofs.Words.{fault_in_first_lines, expanded_unit, expanded_lines, expansion}
+use Rattle.crx_filter.proofs.Words.{compact_open, tail_of_items, IsEndedBy}
 use Rattle.crx_filter.specs.Laws.{IsCompactionEnded, IsExpansionEnded}
 use Rattle.crx_filter.proofs.reading.Forward.{rinex-forward}
 use Rattle.crx_filter.proofs.reading.ForwardCompact.{compact-forward, steady-first_lines, compact_beginning}
-use Rattle.crx_filter.proofs.following.Lines.{never-before}
 use Rattle.crx_filter.proofs.reading.Stopping.{reading-stopped}
 use Rattle.crx_filter.proofs.following.Compaction.{compaction-carried_out}
 use Rattle.crx_filter.proofs.following.Expansion.{expansion-carried_out}
@@ -51,11 +50,8 @@ by-first_lines choices lines (Here two count) e =
     (drop count lines) (omega (arith, length-drop count lines, remains.0)) in
     next-end compact_beginning expansion compact_open tail_of_items expanded_unit choices
     (expansion-carried_out choices) r.items r.stop (length lines) stopped
-by-first_lines choices lines (Wrong offset fault) e =
-    record { once = refl; handed_out = refl; written = refl; warned = refl; failed = refl }
-by-first_lines choices lines Wanted e = rw (never-before choices.skip (is_skippable
-    (fault_in_first_lines (length lines))))
-    (record { once = refl; handed_out = refl; written = refl; warned = refl; failed = refl })
+by-first_lines choices lines (Wrong offset fault) e = grind arith
+by-first_lines choices lines Wanted e = grind arith
 
 pub expansion-ended : (choices : Choices) (lines : List ReadLine) → IsExpansionEnded choices lines
 expansion-ended choices lines = by-first_lines choices lines (first_lines lines) refl

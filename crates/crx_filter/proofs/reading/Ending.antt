@@ -2,17 +2,17 @@
 use Rattle.crx_filter.proofs.Words
 use Words.{ℕ, zero, suc, ◌≡◌, ◌+◌, Bool, true, false, cond, List, [], ◌∷◌, length, Option, Some, None, refl}
 use Words.{ap, sym, ◌∙◌, rules, ◌&&◌, ◌==◌, nat_lt, none-some, ReadLine, Fault, MissingVersion, Truncated}
-use Words.{Place, Wanted, first_line, Count, FileUnit, Choices, Item, is_at_start, header_has_ended}
-use Words.{records_left, records_count_types, types_in_force, header_line, event_record, unit_place}
-use Words.{WholeReading, Stop, AtLines, is_skipped, fault_at_end, ended_with, ended_reading, is_skippable}
-use Words.{written_lines, warnings_in, Phase, InHeader, BetweenUnits, InEvent, InEpoch, Direction, Step}
-use Words.{is_skipped_in, kept_in, seen_end, phase_in_body, phase_after_items, seen_of, IsEndedBy}
+use Words.{Place, Wanted, Count, FileUnit, Choices, Item, is_at_start, header_has_ended, records_left}
+use Words.{records_count_types, types_in_force, header_line, event_record, unit_place, WholeReading, Stop}
+use Words.{AtLines, is_skipped, fault_at_end, ended_with, ended_reading, is_skippable, written_lines}
+use Words.{warnings_in, Phase, InHeader, BetweenUnits, InEvent, InEpoch, Direction, Step, is_skipped_in}
+use Words.{kept_in, seen_end, phase_in_body, phase_after_items, seen_of, IsEndedBy}
 use Rattle.crx_base.specs.declared.fault.Fault.TheVariants.{NoEndOfHeader}
 use Rattle.crx_filter.specs.LineByLine.{end_step}
 use Rattle.crx_filter.proofs.Choosing.{by_bool}
 use Rattle.crx_filter.proofs.following.Following.{seen_in, IsCarriedOut, skipped-same, body-place, body-phase}
 use Rattle.crx_filter.proofs.following.Lines.{IsStopped, only_none, never-before, never-in-event}
-use Rattle.crx_filter.proofs.following.Lines.{record-place}
+use Rattle.crx_filter.proofs.following.Lines.{record-place, header-place}
 
 -- the end after some items, and as it is fed
 abbrev EndsAs : {E O K : Type 0}
@@ -79,16 +79,12 @@ lines-end {E = E} {O = O} beginning direction open_with kept_of unit_lines choic
     rw (
       phase,
       ap (λ ls. fault_at_end items ls) (only_none (header_line {E = E} (is_at_start items)) rest
-          (sym (at_header rest in_header) ∙ wanted)) ∙ in-header items in_header,
+          (sym (header-place beginning items rest in_header) ∙ wanted)) ∙ in-header items in_header,
       counted,
     ) (ends-same direction unit_lines choices items count (InHeader (is_at_start items))
     (types_in_force items) (kept_of items) (Some (cond (is_at_start items) MissingVersion NoEndOfHeader))
     (λ f. rw in_header (never-before choices.skip ((records_left items == 0) && is_skippable f))
     ∙ sym (never-before choices.skip (is_skippable f))))
-  where
-    at_header : (ls : List ReadLine) → header_has_ended items ≡ false
-        → unit_place beginning items ls ≡ first_line ls (header_line (is_at_start items))
-    at_header ls e = rw e refl
 lines-end {O = O} beginning direction open_with kept_of unit_lines choices h items number count rest wanted
     counted true has_ended (suc left) e_left so_far e_open =
     let phase : phase_after_items items (open_with items rest) ≡ InEvent (suc left)

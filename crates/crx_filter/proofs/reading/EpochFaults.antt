@@ -1,14 +1,13 @@
 -- The faults of an epoch of compact text can all be skipped.
 use Rattle.crx_filter.proofs.Words
-use Words.{ℕ, ℤ, suc, ◌≡◌, ◌+◌, ◌*◌, Bool, true, List, [], ◌∷◌, map, drop, Option, Some, None, Result, Ok}
-use Words.{Err, refl, ⊤, not, list_all, bytes_eq, columns, is_blank, without_end_blanks, code_of, ReadLine}
-use Words.{Content, Overlong, HEAD_WIDTH, NAME_WIDTH, CLOCK_WIDTH, OBSERVATION_WIDTH, Fault, BadEpoch}
-use Words.{BadClock, RepeatedSatellite, BadField, BadFlags, Truncated, LineTooLong, epoch_count, begins_epoch}
-use Words.{Count, Place, Here, Wrong, Wanted, after_lines, then_place, one_line, first_line}
-use Words.{types_of_satellite, BegunEpoch, satellites_of_line, epoch_begun, clock_line_read, cell_read}
-use Words.{satellite_line_read, rows_read, epoch_of_rows, epoch_after_line, epoch_at, Satellite, is_printable}
-use Words.{RawEpoch, block_of, Past, past_of_block, past_of_epochs, past_of_line, and_then, is_skippable}
-use Words.{as_observation}
+use Words.{ℕ, ℤ, suc, ◌≡◌, ◌+◌, ◌*◌, Bool, true, List, [], ◌∷◌, drop, Option, Some, None, Result, Ok, Err}
+use Words.{refl, ⊤, not, list_all, bytes_eq, columns, is_blank, without_end_blanks, code_of, ReadLine}
+use Words.{Content, Overlong, HEAD_WIDTH, NAME_WIDTH, Fault, BadEpoch, BadClock, RepeatedSatellite, BadFlags}
+use Words.{Truncated, LineTooLong, epoch_count, begins_epoch, Count, Place, Here, Wrong, Wanted, after_lines}
+use Words.{then_place, one_line, first_line, types_of_satellite, BegunEpoch, satellites_of_line, epoch_begun}
+use Words.{clock_line_read, cell_read, satellite_line_read, rows_read, epoch_after_line, epoch_at, Satellite}
+use Words.{is_printable, RawEpoch, block_of, Past, past_of_block, past_of_epochs, past_of_line, and_then}
+use Words.{is_skippable, as_observation, BadField}
 use Rattle.std.specs.List.{list_any}
 use Rattle.crx_text.specs.declared.code.Code.{Code}
 use Rattle.crx_text.specs.declared.code.Code.TheVariants.{Missing, Start, Step}
@@ -18,7 +17,6 @@ use Rattle.crx_compact.specs.meaning.Cells.{cells_of, after_cells, cells_read}
 use Rattle.crx_compact.specs.meaning.Differences.{value_at}
 use Rattle.crx_compact.specs.meaning.EpochText.{satellite_before, satellites_named, names_in}
 use Rattle.crx_compact.specs.meaning.ArcValues.{Started, is_within, value_since, value_of, since_start}
-use Rattle.crx_compact.specs.meaning.Expansion.{code_in, raw_run_of}
 use Rattle.crx_compact.specs.meaning.Sequences.{before_all}
 use Rattle.crx_compact.proofs.EpochLines.{satellites_counted}
 use Rattle.crx_compact.proofs.Marks.{row_with_marks, row_of_line}
@@ -90,8 +88,7 @@ since-skippable width (Some arc) = chosen IsSkippableResult (is_within width (va
 value-skippable : (width : ℕ) (cells : List Code) → IsSkippableResult (value_of width cells)
 value-skippable width [] = tt
 value-skippable width (Missing ∷ older) = tt
-value-skippable width (Start order value ∷ older) = since-skippable width
-    (since_start (Start order value ∷ older))
+value-skippable width (Start order value ∷ older) = search (since-skippable)
 value-skippable width (Step number ∷ older) = since-skippable width (since_start (Step number ∷ older))
 
 -- what is given to the lines of an epoch refuses them by faults that can be skipped
@@ -100,11 +97,7 @@ record IsSkippablePast (past : Past) : Type 0 where
   value : (name : List ℕ) (place : ℕ) (code : Code) → IsSkippableResult (past.value name place code)
 
 block-skippable : (block : List RawEpoch) → IsSkippablePast (past_of_block block)
-block-skippable block = record {
-  clock = λ code. value-skippable CLOCK_WIDTH (code ∷ map (λ (e : RawEpoch). e.clock) block);
-  value = λ name place code. value-skippable OBSERVATION_WIDTH
-      (code ∷ map (code_in place) (raw_run_of name block));
-}
+block-skippable block = search (value-skippable)
 
 abbrev IsSkippableOption : Option Past → Type 0
 IsSkippableOption None = ⊤
@@ -198,12 +191,8 @@ rows_read-skippable past h (satellite ∷ satellites) lines =
 
 begun_line-skippable : (r : Result BegunEpoch Fault) → IsBegunWell r → (lines : List ReadLine)
     → IsSkippableAt (then_place (one_line r) lines (λ begun others. epoch_after_line begun others))
-begun_line-skippable (Ok begun) h lines = place-after is_skippable 1 (epoch_after_line begun (drop 1 lines))
-    (place-then is_skippable (first_line (drop 1 lines) (clock_line_read begun.past)) (drop 1 lines) _
-    (place-first is_skippable refl (drop 1 lines) (clock_line_read begun.past)
-    (clock_line-skippable begun.past h)) (λ clock others. place-then is_skippable
-    (rows_read begun.past begun.satellites others) others (λ rows rest. Here (epoch_of_rows begun clock rows)
-    0) (rows_read-skippable begun.past h begun.satellites others) (λ rows rest. tt)))
+begun_line-skippable (Ok begun) h lines =
+    search (place-after, place-then, place-first, clock_line-skippable, rows_read-skippable)
 begun_line-skippable (Err fault) h lines = h
 
 pub epoch-skippable : (types : List Count) (older : List RawEpoch) (lines : List ReadLine)

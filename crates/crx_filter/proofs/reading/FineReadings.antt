@@ -67,8 +67,7 @@ with-fine skip items number (Some fault) h = by_bool (is_skipped skip items faul
 ended-fine : {E : Type 0} (skip : Bool) (items : List (Item E)) (stop : Stop)
     → IsFineStop stop → IsFineEnd (ended_reading skip (record { items = items; stop = stop })).fault
 ended-fine skip items (AtFault at) h = h
-ended-fine skip items (AtLines number lines) h =
-    with-fine skip items (number + length lines) (fault_at_end items lines) (at_end-fine items lines)
+ended-fine skip items (AtLines number lines) h = search (with-fine, at_end-fine)
 ended-fine skip items (Looking number) h = tt
 
 whole-fine : {E : Type 0} (place : List (Item E) → List ReadLine → Place (FileUnit E)) → IsFinePlace place

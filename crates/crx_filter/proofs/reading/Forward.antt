@@ -1,9 +1,7 @@
 -- What is at a line is certain as soon as its last line has come, in both directions.
-use Rattle.crx_filter.proofs.Words.{◌≡◌, Bool, true, false, not, cond, List, [], refl, ReadLine, Place}
-use Rattle.crx_filter.proofs.Words.{Wanted, first_line, IsSteady, FileUnit, Epoch, epoch_place, Item}
-use Rattle.crx_filter.proofs.Words.{is_at_start, header_has_ended, records_left, records_count_types}
-use Rattle.crx_filter.proofs.Words.{types_in_force, header_line, event_record, unit_place, rinex_place}
-use Rattle.crx_filter.proofs.Words.{IsReadForward, nat_lt}
+use Rattle.crx_filter.proofs.Words.{◌≡◌, Bool, true, false, cond, List, [], refl, ReadLine, Place, Wanted}
+use Rattle.crx_filter.proofs.Words.{IsSteady, FileUnit, Epoch, epoch_place, Item, types_in_force, unit_place}
+use Rattle.crx_filter.proofs.Words.{rinex_place, IsReadForward}
 use Rattle.crx_rinex.proofs.Steady.{steady-first_line}
 use Rattle.crx_rinex.proofs.OpenEpochs.{steady-epoch_place}
 
@@ -25,17 +23,7 @@ chosen_wanted false one two h k = k
 pub unit_place-forward : {E : Type 0} (beginning : List (Item E) → List ReadLine → Place (FileUnit E))
     → ((items : List (Item E)) → IsSteady (beginning items))
     → ((items : List (Item E)) → beginning items [] ≡ Wanted) → IsReadForward (unit_place beginning)
-unit_place-forward beginning steady wants = record {
-  steady = λ items. chosen_steady (not (header_has_ended items))
-      (λ lines. first_line lines (header_line (is_at_start items))) (λ lines. cond
-      (nat_lt 0 (records_left items)) (first_line lines (event_record (records_count_types items)))
-      (beginning items lines)) (steady-first_line (header_line (is_at_start items))) (chosen_steady
-      (nat_lt 0 (records_left items)) (λ lines. first_line lines (event_record (records_count_types items)))
-      (beginning items) (steady-first_line (event_record (records_count_types items))) (steady items));
-  wants = λ items. chosen_wanted (not (header_has_ended items)) Wanted
-      (cond (nat_lt 0 (records_left items)) Wanted (beginning items [])) refl
-      (chosen_wanted (nat_lt 0 (records_left items)) Wanted (beginning items []) refl (wants items));
-}
+unit_place-forward beginning steady wants = search (chosen_steady, steady-first_line, chosen_wanted)
 
 pub rinex-forward : IsReadForward rinex_place
 rinex-forward = unit_place-forward _ (λ items. steady-epoch_place (types_in_force items)) (λ items. refl)

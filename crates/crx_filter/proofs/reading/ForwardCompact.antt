@@ -1,10 +1,10 @@
 -- What is at a line of compact text is certain as soon as its last line has come.
 use Rattle.crx_filter.proofs.Words
 use Words.{ℕ, suc, ◌<◌, List, [], ◌∷◌, ◌++◌, length, Result, Ok, Err, refl, ap, arith, ReadLine, Content}
-use Words.{Overlong, FileUnit, Fault, Place, Here, Wanted, then_place, one_line, first_line, IsSteady}
-use Words.{Remains, IsDecidedAfter, is_event_line, Count, RawEpoch, past_of_line, ReadEpoch, epoch_begun}
-use Words.{epoch_after_line, epoch_at, Item, types_in_force, raws_kept, event_line, as_observation}
-use Words.{compact_epoch_place, compact_place, crinex_version, crinex_program, first_lines, IsReadForward}
+use Words.{Overlong, FileUnit, Fault, Place, Wanted, one_line, first_line, IsSteady, Remains, IsDecidedAfter}
+use Words.{is_event_line, Count, RawEpoch, past_of_line, ReadEpoch, epoch_begun, epoch_after_line, epoch_at}
+use Words.{Item, types_in_force, raws_kept, event_line, as_observation, compact_epoch_place, compact_place}
+use Words.{first_lines, IsReadForward}
 use Rattle.crx_rinex.proofs.Steady.{steady-here, steady-first_line, steady-then}
 use Rattle.crx_filter.proofs.Choosing.{by_bool}
 use Rattle.crx_filter.proofs.reading.Forward.{unit_place-forward}
@@ -42,14 +42,11 @@ line-remains count (Err fault) h = (omega (arith, h), refl)
 
 steady-compact : (types : List Count) (older : List RawEpoch) → IsSteady (compact_epoch_place types older)
 steady-compact types older [] [] = tt
-steady-compact types older [] (Overlong ∷ more) = observation-decided 0
-    (epoch_at types older (Overlong ∷ more)) (steady-epoch_at types older [] (Overlong ∷ more))
+steady-compact types older [] (Overlong ∷ more) = grind arith
 steady-compact types older [] (Content line ∷ more) = by_bool (is_event_line line)
     (λ on. rw on (line-decided (event_line {E = ReadEpoch} line))) (λ off. rw off (observation-decided 0
     (epoch_at types older (Content line ∷ more)) (steady-epoch_at types older [] (Content line ∷ more))))
-steady-compact types older (Overlong ∷ lines) more =
-    observation-remains (length (Overlong ∷ lines)) (epoch_at types older (Overlong ∷ lines))
-    (epoch_at types older (Overlong ∷ (lines ++ more))) (steady-epoch_at types older (Overlong ∷ lines) more)
+steady-compact types older (Overlong ∷ lines) more = grind arith
 steady-compact types older (Content line ∷ lines) more = by_bool (is_event_line line)
     (λ on. rw on (line-remains (suc (length lines)) (event_line {E = ReadEpoch} line) (omega arith))) (λ off.
     rw off (observation-remains (suc (length lines)) (epoch_at types older (Content line ∷ lines)) (epoch_at
@@ -61,8 +58,4 @@ compact-forward = unit_place-forward _ (λ items. steady-compact _ _) (λ items.
 -- ---- the first two lines
 
 pub steady-first_lines : IsSteady first_lines
-steady-first_lines = steady-then (λ lines. first_line lines crinex_version) (λ version others. then_place
-    (first_line others crinex_program) others (λ program rest. Here (version ∷ program ∷ []) 0))
-    (steady-first_line crinex_version) (λ version. steady-then
-    (λ lines. first_line lines crinex_program) (λ program rest. Here (version ∷ program ∷ []) 0)
-    (steady-first_line crinex_program) (λ program. steady-here (version ∷ program ∷ [])))
+steady-first_lines = search (steady-then, steady-first_line, steady-here)

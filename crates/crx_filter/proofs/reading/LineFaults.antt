@@ -1,17 +1,17 @@
 -- The faults that a reading finds are those of lines, or of the end of the input.
 use Rattle.crx_filter.proofs.Words
-use Words.{ℕ, ℤ, zero, suc, ◌≡◌, ◌+◌, ◌*◌, Bool, true, cond, List, drop, Option, Some, None, Result, Ok, Err}
-use Words.{refl, ⊤, ◌==◌, ◌&&◌, not, list_all, bytes_eq, columns, character_at, is_blank, clock_of, ReadLine}
-use Words.{HEAD_WIDTH, NAME_WIDTH, CLOCK_WIDTH, Fault, OutOfMemory, MissingVersion, BadEpoch}
+use Words.{[], ℕ, ℤ, zero, suc, ◌≡◌, ◌∷◌, ◌+◌, ◌*◌, Bool, true, cond, List, drop, Option, Some, None, Result}
+use Words.{Ok, Err, refl, ⊤, ◌==◌, ◌&&◌, not, list_all, bytes_eq, columns, character_at, is_blank, clock_of}
+use Words.{ReadLine, HEAD_WIDTH, NAME_WIDTH, CLOCK_WIDTH, Fault, OutOfMemory, MissingVersion, BadEpoch}
 use Words.{RepeatedSatellite, BadField, BadFlags, Truncated, is_kept, HeadLine, is_event_flag, records_in}
 use Words.{epoch_count, begins_epoch, event_head, epoch_head, head_of, OpenEpoch, Beginning, EventBegins}
-use Words.{EpochBegins, opened, rows_wanted, with_next_row, next_row, rows_at, rest_at, begun_by}
-use Words.{beginning_of, unit_begun, epoch_place, has_satellite, Row, Epoch, Count, Place, Here, Wrong}
-use Words.{first_line, types_of_satellite, row_of, FileUnit, HeaderLine, EventRecord, Observation, ReadEpoch}
-use Words.{epoch_at, RawEpoch, CRINEX_PROGRAM_LABEL, Item, is_at_start, records_count_types, types_in_force}
-use Words.{unless_wrong, types_fault, header_line_fault, header_line, event_record, unit_place, rinex_place}
-use Words.{compact_epoch_place, compact_place, raws_kept, crinex_version, crinex_program, first_lines}
-use Words.{is_skippable, is_of_lines, EventHead, EpochHead}
+use Words.{EpochBegins, with_next_row, next_row, rows_at, begun_by, beginning_of, unit_begun, epoch_place}
+use Words.{has_satellite, Row, Epoch, Count, Place, Wrong, first_line, types_of_satellite, row_of, FileUnit}
+use Words.{HeaderLine, EventRecord, ReadEpoch, epoch_at, RawEpoch, CRINEX_PROGRAM_LABEL, Item, is_at_start}
+use Words.{records_count_types, unless_wrong, types_fault, header_line_fault, header_line, event_record}
+use Words.{unit_place, rinex_place, compact_epoch_place, compact_place, crinex_version, crinex_program}
+use Words.{first_lines, is_skippable, is_of_lines, EventHead, EpochHead, nat_lt, Content, Overlong}
+use Words.{is_event_line, event_line, as_observation, header_has_ended, records_left, one_line}
 use Rattle.crx_text.specs.meaning.Columns.{without_blanks}
 use Rattle.crx_base.specs.declared.limits.TheConstants.{CELL_WIDTH}
 use Rattle.crx_base.specs.declared.fault.Fault.TheVariants.{InputTooLong, ReadFailed, WriteFailed}
@@ -27,7 +27,7 @@ use Rattle.crx_header.specs.declared.crinex.TheConstants.{CRINEX_VERSION, CRINEX
 use Rattle.crx_filter.specs.meaning.UnitPlaces.{first_fault}
 use Rattle.crx_filter.proofs.reading.EpochFaults.{FaultsPass, FaultsPassAt, place-then, place-first}
 use Rattle.crx_filter.proofs.reading.EpochFaults.{IsSkippableAt, epoch-skippable, place-observation}
-use Rattle.crx_filter.proofs.reading.WhatStands.{chosen, of-unit, of-compact}
+use Rattle.crx_filter.proofs.reading.WhatStands.{chosen}
 use Rattle.crx_rinex.proofs.SoundEpochs.{with_clock}
 
 -- ---- results, options and places whose faults are those of lines
@@ -73,10 +73,10 @@ record-fine E counted line = fine-unless (EventRecord line) (cond counted (types
 unit-fine : {E : Type 0} (beginning : List (Item E) → List ReadLine → Place (FileUnit E))
     → ((items : List (Item E)) (lines : List ReadLine) → IsFineAt (beginning items lines))
     → (items : List (Item E)) (lines : List ReadLine) → IsFineAt (unit_place beginning items lines)
-unit-fine {E = E} beginning h items lines = of-unit IsFineAt beginning items lines
+unit-fine {E = E} beginning h items lines = chosen IsFineAt (not (header_has_ended items)) _ _
     (place-first is_of_lines refl lines (header_line (is_at_start items)) (header-fine E (is_at_start items)))
-    (place-first is_of_lines refl lines (event_record (records_count_types items))
-    (record-fine E (records_count_types items))) (h items lines)
+    (chosen IsFineAt (nat_lt 0 (records_left items)) _ _ (place-first is_of_lines refl lines
+    (event_record (records_count_types items)) (record-fine E (records_count_types items))) (h items lines))
 
 -- ---- RINEX
 
@@ -128,9 +128,7 @@ rows-fine so_far (suc count) lines = place-then is_of_lines (row_at so_far lines
 unit_begun-fine : (types : List Count) (beginning : Beginning) (lines : List ReadLine)
     → IsFineAt (unit_begun types beginning lines)
 unit_begun-fine types (EventBegins line) lines = tt
-unit_begun-fine types (EpochBegins head) lines = place-then is_of_lines
-    (rest_at (opened types head) lines) lines (λ epoch rest. Here (Observation epoch) 0)
-    (rows-fine (opened types head) (rows_wanted (opened types head)) lines) (λ epoch rest. tt)
+unit_begun-fine types (EpochBegins head) lines = search (place-then, rows-fine)
 
 epoch-fine : (types : List Count) (lines : List ReadLine) → IsFineAt (epoch_place types lines)
 epoch-fine types lines = place-then is_of_lines (first_line lines beginning_of) lines
@@ -141,8 +139,7 @@ epoch-fine types lines = place-then is_of_lines (first_line lines beginning_of) 
     (epoch_head-fine line (epoch_count (columns line 1 HEAD_WIDTH))))))) (unit_begun-fine types)
 
 pub rinex-fine : (items : List (Item Epoch)) (lines : List ReadLine) → IsFineAt (rinex_place items lines)
-rinex-fine items lines = unit-fine (λ (before : List (Item Epoch)). epoch_place (types_in_force before))
-    (λ before ls. epoch-fine (types_in_force before) ls) items lines
+rinex-fine items lines = search (unit-fine, epoch-fine)
 
 -- ---- compact text
 
@@ -158,17 +155,25 @@ place-skippable : {X : Type 0} (p : Place X) → IsSkippableAt p → IsFineAt p
 place-skippable (Wrong offset fault) h = skippable-fine fault h
 place-skippable p h = tt
 
+observation-fine : (types : List Count) (older : List RawEpoch) (lines : List ReadLine)
+    → IsFineAt (as_observation (epoch_at types older lines))
+observation-fine types older lines = search (place-observation, place-skippable, epoch-skippable)
+
+event-fine : (line : List ℕ) (o : Option ℕ) → records_in line ≡ o
+    → IsFineAt (one_line (event_line {E = ReadEpoch} line))
+event-fine line None e = rw (e, event_line) refl
+event-fine line (Some count) e = rw (e, event_line) tt
+
 compact_epoch-fine : (types : List Count) (older : List RawEpoch) (lines : List ReadLine)
     → IsFineAt (compact_epoch_place types older lines)
-compact_epoch-fine types older lines = of-compact IsFineAt types older lines tt refl (λ line rest e. tt)
-    (place-observation is_of_lines (epoch_at types older lines)
-    (place-skippable (epoch_at types older lines) (epoch-skippable types older lines)))
+compact_epoch-fine types older [] = tt
+compact_epoch-fine types older (Overlong ∷ lines) = observation-fine types older (Overlong ∷ lines)
+compact_epoch-fine types older (Content line ∷ lines) = chosen IsFineAt (is_event_line line) _ _
+    (event-fine line (records_in line) refl) (observation-fine types older (Content line ∷ lines))
 
 pub compact-fine : (items : List (Item ReadEpoch)) (lines : List ReadLine)
     → IsFineAt (compact_place items lines)
-compact-fine items lines = unit-fine
-    (λ (before : List (Item ReadEpoch)). compact_epoch_place (types_in_force before) (raws_kept before))
-    (λ before ls. compact_epoch-fine (types_in_force before) (raws_kept before) ls) items lines
+compact-fine items lines = search (unit-fine, compact_epoch-fine)
 
 pub first_lines-fine : (lines : List ReadLine) → IsFineAt (first_lines lines)
 first_lines-fine lines = place-then is_of_lines (first_line lines crinex_version) lines _

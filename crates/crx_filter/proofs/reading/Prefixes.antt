@@ -1,12 +1,12 @@
 -- What is written for some lines is at the beginning of what is written for more lines.
 use Rattle.crx_filter.proofs.Words
-use Words.{ℕ, ◌≡◌, ◌+◌, Bool, List, [], ◌∷◌, ◌++◌, length, Option, Some, None, refl, ap, sym, ◌∙◌}
-use Words.{append_assoc, append-nil, flat_map-append, ReadLine, Fault, Place, FileUnit, Item, Accepted}
-use Words.{Warned, Stop, AtFault, AtLines, Looking, is_skipped, reading_within, reading_from, ended_reading}
-use Words.{ended_with, whole_reading, continued_reading, IsReadForward, lines_text, Begins, written_lines}
-use Rattle.crx_filter.proofs.Choosing.{by_bool}
+use Words.{ℕ, ◌≡◌, ◌+◌, Bool, List, [], ◌∷◌, ◌++◌, length, refl, ap, sym, ◌∙◌, append_assoc, append-nil}
+use Words.{flat_map-append, ReadLine, Place, FileUnit, Item, Accepted, Warned, Stop, AtFault, AtLines}
+use Words.{Looking, reading_within, reading_from, ended_reading, whole_reading, continued_reading}
+use Words.{IsReadForward, lines_text, Begins, written_lines}
 use Rattle.crx_filter.proofs.reading.KeptThroughout.{IsKept, looked-kept, within-kept}
 use Rattle.crx_filter.proofs.reading.Resuming.{resumed}
+use Rattle.crx_filter.proofs.reading.WhatWasRead.{of-ended}
 
 -- some items with others before them
 pub record AreMore {E : Type 0} (items all : List (Item E)) : Type 0 where
@@ -29,11 +29,7 @@ more_of_more items some_more all h k = record {
 
 more-kept : {E : Type 0} (place : List (Item E) → List ReadLine → Place (FileUnit E)) (skip : Bool)
     (items : List (Item E)) → IsKept place skip (λ all lines. AreMore items all)
-more-kept place skip items = record {
-  here = λ all lines unit count e h. one_more (Accepted unit) items all h;
-  warned = λ all lines at on h. one_more (Warned at) items all h;
-  passed = λ all lines n h. h;
-}
+more-kept place skip items = search (one_more)
 
 within-items : {E : Type 0} (place : List (Item E) → List ReadLine
     → Place (FileUnit E)) (skip : Bool) (units : ℕ) (items : List (Item E)) (number : ℕ)
@@ -45,23 +41,15 @@ pub continued_reading-items : {E : Type 0} (place : List (Item E) → List ReadL
     (skip : Bool) (items : List (Item E)) (stop : Stop) (more : List ReadLine)
     → AreMore items (continued_reading place skip (record { items = items; stop = stop }) more).items
 continued_reading-items place skip items (AtFault at) more = no_more items
-continued_reading-items place skip items (AtLines number lines) more =
-    within-items place skip (length (lines ++ more) + 1) items number (lines ++ more)
+continued_reading-items place skip items (AtLines number lines) more = search (within-items)
 continued_reading-items place skip items (Looking number) more = (looked-kept place skip
     (λ all ls. AreMore items all) (more-kept place skip items) items (reading_from place skip items)
     number more (no_more items) (λ m ls h. (ls, within-items place skip (length ls + 1) items m ls))).1
 
-ended_with-items : {E : Type 0} (skip : Bool) (items : List (Item E)) (number : ℕ) (fault : Option Fault)
-    → AreMore items (ended_with skip items number fault).items
-ended_with-items skip items number None = no_more items
-ended_with-items skip items number (Some fault) = by_bool (is_skipped skip items fault)
-    (λ on. rw on (one_more (Warned (record { line = number; fault = fault })) items items (no_more items)))
-    (λ off. rw off (no_more items))
-
 pub ended-items : {E : Type 0} (skip : Bool) (items : List (Item E)) (stop : Stop)
     → AreMore items (ended_reading skip (record { items = items; stop = stop })).items
-ended-items skip items (AtLines number lines) = ended_with-items _ _ _ _
-ended-items skip items stop = no_more items
+ended-items skip items stop = of-ended (AreMore items) skip items stop (no_more items)
+    (λ at on. one_more (Warned at) items items (no_more items))
 
 -- ---- the text of more items
 

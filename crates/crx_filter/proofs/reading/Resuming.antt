@@ -85,9 +85,8 @@ looked-same : {E : Type 0} (items : List (Item E)) (one two : ℕ
     → ((number : ℕ) (lines : List ReadLine) → length lines < bound → one number lines ≡ two number lines)
     → length lines < bound → looked_for one items number lines ≡ looked_for two items number lines
 looked-same items one two bound number [] h short = refl
-looked-same items one two bound number (line ∷ lines) h short = by_bool (can_go_on line)
-    (λ on. rw (on, looked_for) (h number (line ∷ lines) short))
-    (λ off. rw (off, looked_for) (looked-same items one two bound (number + 1) lines h (omega arith)))
+looked-same items one two bound number (line ∷ lines) h short =
+    grind (arith, looked-same items one two bound (number + 1) lines h (omega arith))
 
 pub enough-units : {E : Type 0} (place : List (Item E) → List ReadLine → Place (FileUnit E))
     → IsReadForward place → (skip : Bool) (one two : ℕ)
@@ -121,11 +120,9 @@ looked-more : {E : Type 0} (place : List (Item E) → List ReadLine → Place (F
     → ((number : ℕ) (lines : List ReadLine) → length lines < suc (length more)
     → two number lines ≡ reading_from place skip items number lines) → length lines < bound → looked_for
     two items number (lines ++ more) ≡ continued_reading place skip (looked_for one items number lines) more
-looked-more place skip items one two bound number [] more h rest short =
-    looked-same items two (reading_from place skip items) (suc (length more)) number more rest (omega arith)
-looked-more place skip items one two bound number (line ∷ lines) more h rest short = by_bool
-    (can_go_on line) (λ on. rw (on, looked_for) (h number (line ∷ lines) short)) (λ off. rw (off, looked_for)
-    (looked-more place skip items one two bound (number + 1) lines more h rest (omega arith)))
+looked-more place skip items one two bound number [] more h rest short = grind (arith, looked-same)
+looked-more place skip items one two bound number (line ∷ lines) more h rest short =
+    grind (arith, looked-more place skip items one two bound (number + 1) lines more h rest (omega arith))
 
 pub resumed-within : {E : Type 0} (place : List (Item E) → List ReadLine → Place (FileUnit E)) → IsReadForward
     place → (skip : Bool) (one two : ℕ) (items : List (Item E)) (number : ℕ) (lines more : List ReadLine)
@@ -166,5 +163,4 @@ resumed-within place h skip (suc one) (suc two) items number lines more short_on
 -- the reading of some lines and more goes on from the reading of the first
 pub resumed : {E : Type 0} (place : List (Item E) → List ReadLine → Place (FileUnit E))
     → IsReadForward place → IsResumed place
-resumed place h skip items number lines more = resumed-within place h skip (length lines + 1) (length
-    (lines ++ more) + 1) items number lines more (omega arith) (omega (arith, length-append lines more))
+resumed place h skip items number lines more = grind (arith, resumed-within, length-append)

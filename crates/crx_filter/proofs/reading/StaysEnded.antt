@@ -1,15 +1,15 @@
 -- Once a fault has ended the run, more lines change nothing.
-use Rattle.crx_filter.proofs.Words.{ℕ, ◌≡◌, ◌+◌, Bool, List, [], ◌++◌, length, drop, Option, Some, refl, ap}
-use Rattle.crx_filter.proofs.Words.{sym, subst, ◌∙◌, drop-append-le, none-some, ReadLine, At, Place, Here}
-use Rattle.crx_filter.proofs.Words.{Wrong, Wanted, Remains, FileUnit, ReadEpoch, Item, Reading, Stop, AtFault}
-use Rattle.crx_filter.proofs.Words.{AtLines, reading_from, ended_reading, whole_reading, continued_reading}
-use Rattle.crx_filter.proofs.Words.{IsReadForward, fault_of_stop, rinex_place, whole_rinex, rinex_reading}
-use Rattle.crx_filter.proofs.Words.{compact_place, first_lines, whole_compact, compact_reading}
+use Rattle.crx_filter.proofs.Words.{ℕ, ◌≡◌, ◌+◌, Bool, List, [], ◌++◌, drop, Option, Some, refl, ap, sym, ◌∙◌}
+use Rattle.crx_filter.proofs.Words.{drop-append-le, none-some, ReadLine, At, Place, Here, Wrong, Wanted}
+use Rattle.crx_filter.proofs.Words.{FileUnit, ReadEpoch, Item, Reading, Stop, AtFault, AtLines, reading_from}
+use Rattle.crx_filter.proofs.Words.{ended_reading, whole_reading, continued_reading, IsReadForward}
+use Rattle.crx_filter.proofs.Words.{fault_of_stop, rinex_place, whole_rinex, rinex_reading, compact_place}
+use Rattle.crx_filter.proofs.Words.{first_lines, whole_compact, compact_reading}
 use Rattle.crx_filter.specs.Laws.{StaysEnded}
 use Rattle.crx_filter.proofs.reading.Resuming.{resumed}
 use Rattle.crx_filter.proofs.reading.Forward.{rinex-forward}
-use Rattle.crx_filter.proofs.reading.ForwardCompact.{compact-forward, steady-first_lines}
-use Rattle.crx_filter.proofs.reading.CompactPrefixes.{reading-at, whole-at}
+use Rattle.crx_filter.proofs.reading.ForwardCompact.{compact-forward}
+use Rattle.crx_filter.proofs.reading.CompactPrefixes.{remains, reading-at, whole-at}
 
 gone-same : {E : Type 0} (place : List (Item E) → List ReadLine → Place (FileUnit E))
     (skip : Bool) (items : List (Item E)) (stop : Stop) (more : List ReadLine) (at : At) → fault_of_stop stop
@@ -58,26 +58,21 @@ by-first_lines : (skip : Bool) (lines more : List ReadLine) (at : At) (p : Place
     → first_lines lines ≡ p → fault_of_stop (compact_reading skip lines).stop
     ≡ Some at → StaysEnded (compact_reading skip) (whole_compact skip) lines more at
 by-first_lines skip lines more at (Here two count) e f =
-    let h : Remains (length lines) (Here two count) (first_lines (lines ++ more)) =
-    subst (λ q. Remains (length lines) q (first_lines (lines ++ more))) e (steady-first_lines lines more) in
+    let h = remains lines more (Here two count) e in
     let split : drop count (lines ++ more) ≡ drop count lines ++ more = drop-append-le count lines more h.0 in
     let now : compact_reading skip lines ≡ reading_from compact_place skip [] (count + 1) (drop count lines) =
     reading-at skip lines two count e in
     let s = stays-from compact_place compact-forward skip (count + 1)
     (drop count lines) more at (sym (ap (λ (r : Reading ReadEpoch). fault_of_stop r.stop) now) ∙ f) in
     record {
-      same = reading-at skip (lines ++ more) two count h.1
-          ∙ ap (λ ls. reading_from compact_place skip [] (count + 1) ls) split ∙ s.same ∙ sym now;
-      ended = whole-at skip (lines ++ more) two count h.1
-          ∙ ap (λ ls. whole_reading compact_place skip (count + 1) ls) split ∙ s.ended
-          ∙ ap (λ (r : Reading ReadEpoch). record { items = r.items; fault = Some at }) (sym now);
+      same = cc (reading-at skip (lines ++ more) two count h.1, split, s.same, now);
+      ended = cc (whole-at skip (lines ++ more) two count h.1, split, s.ended, now);
     }
 by-first_lines skip lines more at (Wrong offset fault) e f =
-    let h : Remains (length lines) (Wrong offset fault) (first_lines (lines ++ more)) =
-    subst (λ q. Remains (length lines) q (first_lines (lines ++ more))) e (steady-first_lines lines more) in
+    let h = remains lines more (Wrong offset fault) e in
     let now = wrong-reading skip lines offset fault e in
     record {
-      same = wrong-reading skip (lines ++ more) offset fault h.1 ∙ sym now;
+      same = cc (wrong-reading skip (lines ++ more) offset fault h.1, now);
       ended = wrong-whole skip (lines ++ more) offset fault h.1 ∙ ap (λ (o : Option At). record
           { items = []; fault = o }) (sym (ap (λ (r : Reading ReadEpoch). fault_of_stop r.stop) now) ∙ f)
           ∙ ap (λ (r : Reading ReadEpoch). record { items = r.items; fault = Some at }) (sym now);

@@ -1,8 +1,8 @@
 -- Where a reading stops: more lines are wanted there, or a line is looked for after the last.
 use Rattle.crx_filter.proofs.Words.{ℕ, zero, suc, ◌≡◌, ◌+◌, max, ◌<◌, Bool, true, List, [], ◌∷◌, length, drop}
 use Rattle.crx_filter.proofs.Words.{refl, arith, length-drop, ReadLine, At, Place, FileUnit, Item, Accepted}
-use Rattle.crx_filter.proofs.Words.{Warned, header_has_ended, records_left, Reading, is_skipped, can_go_on}
-use Rattle.crx_filter.proofs.Words.{looked_for, after_fault, reading_within, reading_from, IsReadForward}
+use Rattle.crx_filter.proofs.Words.{Warned, header_has_ended, records_left, Reading, is_skipped, looked_for}
+use Rattle.crx_filter.proofs.Words.{after_fault, reading_within, reading_from, IsReadForward, can_go_on}
 use Rattle.crx_filter.proofs.Choosing.{by_bool}
 use Rattle.crx_filter.proofs.reading.Resuming.{by_place, here-within, wrong-within, within-here, within-wrong}
 use Rattle.crx_filter.proofs.reading.Resuming.{within-wanted}
@@ -50,5 +50,4 @@ pub reading-stopped : {E : Type 0} (place : List (Item E) → List ReadLine → 
     → IsReadForward place → (skip : Bool) (items : List (Item E)) (number next : ℕ) (lines : List ReadLine)
     → number + length lines ≡ next → IsStopped place (reading_from place skip items number lines).items
     (reading_from place skip items number lines).stop next
-reading-stopped place h skip items number next lines counted =
-    within-stopped place h skip (length lines + 1) items number next lines (omega arith) counted
+reading-stopped place h skip items number next lines counted = grind (arith, within-stopped)

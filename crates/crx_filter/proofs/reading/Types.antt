@@ -19,8 +19,7 @@ one-more lines line h = rw (types_of-push lines line) (by_bool (is_types_line li
 
 pub counts-in_force : {E : Type 0} (items : List (Item E)) → AreCounts (types_in_force items)
 counts-in_force [] = record { allowed = All-nil IsCount; apart = refl }
-counts-in_force (Accepted (HeaderLine line) ∷ before) = one-more (declaring_lines before) line
-    (counts-in_force before)
+counts-in_force (Accepted (HeaderLine line) ∷ before) = search (counts-in_force before, one-more)
 counts-in_force (Accepted (EventRecord line) ∷ before) = by_bool (records_count_types before)
     (λ on. rw on (one-more (declaring_lines before) line (counts-in_force before)))
     (λ off. rw off (counts-in_force before))

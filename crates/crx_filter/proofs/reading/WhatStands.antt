@@ -1,10 +1,16 @@
 -- What holds of each thing that can be at some lines holds of the one that is there.
 use Rattle.crx_filter.proofs.Words
-use Words.{ℕ, ◌≡◌, Bool, true, false, cond, List, [], ◌∷◌, Option, Some, None, Result, Ok, Err, refl, ⊤, not}
-use Words.{nat_lt, ReadLine, Content, Overlong, Fault, BadEpoch, is_event_line, records_in, Count, Place}
-use Words.{Here, Wrong, Wanted, one_line, first_line, FileUnit, EventLine, ReadEpoch, epoch_at, RawEpoch}
-use Words.{Item, is_at_start, header_has_ended, records_left, records_count_types, unless_wrong, header_line}
-use Words.{event_record, unit_place, event_line, as_observation, compact_epoch_place}
+use Words.{[], ℕ, zero, suc, ◌≡◌, ◌+◌, nat_lt, rules, ◌<◌, Bool, true, false, cond, List, ◌∷◌, Option, Some}
+use Words.{None, Result, Ok, Err, refl, ap, arith, ⊤, is_some, list_all, not, drop, clock_of, columns}
+use Words.{character_at, is_blank, ReadLine, Content, Overlong, Fault, BadEpoch, LineTooLong, HEAD_WIDTH}
+use Words.{CLOCK_WIDTH, begins_epoch, is_event_flag, is_event_line, records_in, epoch_count, event_head}
+use Words.{epoch_head, head_of, Count, Beginning, EventBegins, EpochBegins, opened, begun_by, beginning_of}
+use Words.{rest_at, unit_begun, epoch_place, Epoch, Place, Here, Wrong, Wanted, after_lines, then_place}
+use Words.{one_line, first_line, FileUnit, HeaderLine, EventLine, EventRecord, Observation, ReadEpoch}
+use Words.{epoch_at, RawEpoch, Item, is_at_start, header_has_ended, records_left, records_count_types}
+use Words.{unless_wrong, types_fault, header_line_fault, unit_place, event_line, as_observation}
+use Words.{compact_epoch_place}
+use Rattle.crx_rinex.proofs.SoundEpochs.{with_clock}
 use Rattle.crx_filter.proofs.Choosing.{by_bool}
 
 -- what holds of a thing that is somewhere
@@ -12,50 +18,130 @@ abbrev pub OfHere : {X : Type 0} → (X → Type 0) → Place X → Type 0
 OfHere P (Here x count) = P x
 OfHere P p = ⊤
 
-abbrev pub OfOk : {X : Type 0} → (X → Type 0) → Result X Fault → Type 0
-OfOk P (Ok x) = P x
-OfOk P (Err fault) = ⊤
-
 -- one of two things is chosen, and what holds of both holds of it
 pub chosen : {A : Type 0} (P : A → Type 0) (b : Bool) (x y : A) → P x → P y → P (cond b x y)
 chosen P true x y h k = h
 chosen P false x y h k = k
 
-pub one-line : {X : Type 0} (P : X → Type 0) (r : Result X Fault) → OfOk P r → OfHere P (one_line r)
-one-line P (Ok x) h = h
-one-line P (Err fault) h = tt
+-- ---- what may begin at a line of RINEX
 
-pub first-line : {X : Type 0} (P : X → Type 0) (read : List ℕ → Result X Fault) (lines : List ReadLine)
-    → ((line : List ℕ) → OfOk P (read line)) → OfHere P (first_line lines read)
-first-line P read [] h = tt
-first-line P read (Overlong ∷ lines) h = tt
-first-line P read (Content line ∷ lines) h = one-line P (read line) (h line)
+-- a line begins an event only where it is an event's first one
+abbrev IsBeginning : List ℕ → Result Beginning Fault → Type 0
+IsBeginning line (Ok (EventBegins event)) =
+    (event ≡ line) × (is_event_line line ≡ true) × (is_some (records_in line) ≡ true)
+IsBeginning line r = ⊤
 
-pub unless-wrong : {E : Type 0} (P : FileUnit E → Type 0) (unit : FileUnit E) (fault : Option Fault)
-    → (fault ≡ None → P unit) → OfOk P (unless_wrong unit fault)
-unless-wrong P unit None h = h refl
-unless-wrong P unit (Some fault) h = tt
+event-begun : (line : List ℕ) (o : Option ℕ) → is_event_line line ≡ true
+    → records_in line ≡ o → IsBeginning line (begun_by line (event_head (character_at line 32) o))
+event-begun line None e f = tt
+event-begun line (Some count) e f = (refl, e, ap is_some f)
 
--- wherever a unit may be
-pub of-unit : {E : Type 0} (P : Place (FileUnit E) → Type 0) (beginning : List (Item E) → List ReadLine
-    → Place (FileUnit E)) (items : List (Item E)) (lines : List ReadLine) → P (first_line lines
-    (header_line (is_at_start items))) → P (first_line lines (event_record (records_count_types items)))
-    → P (beginning items lines) → P (unit_place beginning items lines)
-of-unit P beginning items lines header records begun = chosen P (not (header_has_ended items))
-    (first_line lines (header_line (is_at_start items))) _ header (chosen P (nat_lt 0 (records_left items))
-    (first_line lines (event_record (records_count_types items))) (beginning items lines) records begun)
+clock-begun : (line head : List ℕ) (count : ℕ) (o : Option (Option _))
+    → IsBeginning line (begun_by line (with_clock head count o))
+clock-begun line head count None = tt
+clock-begun line head count (Some clock) = tt
+
+epoch-begun : (line : List ℕ) (o : Option ℕ) → IsBeginning line (begun_by line (epoch_head line o))
+epoch-begun line None = tt
+epoch-begun line (Some count) = chosen (λ r. IsBeginning line (begun_by line r))
+    (not (list_all is_blank (drop (HEAD_WIDTH + CLOCK_WIDTH) line))) (Err BadEpoch) (with_clock
+    (columns line 1 HEAD_WIDTH) count (clock_of (columns line (HEAD_WIDTH + 1) CLOCK_WIDTH))) tt (clock-begun
+    line (columns line 1 HEAD_WIDTH) count (clock_of (columns line (HEAD_WIDTH + 1) CLOCK_WIDTH)))
+
+line-begun : (line : List ℕ) → IsBeginning line (beginning_of line)
+line-begun line = by_bool (begins_epoch line) (λ on. by_bool (is_event_flag (character_at line 32))
+    (λ event. rw (on, event, head_of) (event-begun line (records_in line) (is_event on event) refl))
+    (λ other. rw (on, other, head_of) (epoch-begun line (epoch_count (columns line 1 HEAD_WIDTH)))))
+    (λ off. rw (off, head_of) tt)
+  where
+    is_event : begins_epoch line ≡ true → is_event_flag (character_at line 32) ≡ true
+        → is_event_line line ≡ true
+    is_event a b = rw (a, b) refl
+
+-- ---- what holds wherever a unit may be
+
+module _ {E : Type 0} (P : Place (FileUnit E) → Type 0) (wanted : P Wanted)
+    (wrong : (offset : ℕ) (fault : Fault) → P (Wrong offset fault)) where
+  -- a line that is copied, unless something is wrong with it
+  copied-line : (unit : List ℕ → FileUnit E) (fault_in : List ℕ → Option Fault) (lines : List ReadLine)
+      → ((line : List ℕ) (rest : List ReadLine) → lines ≡ Content line ∷ rest → fault_in line ≡ None
+      → P (Here (unit line) 1)) → P (first_line lines (λ line. unless_wrong (unit line) (fault_in line)))
+  copied-line unit fault_in [] h = wanted
+  copied-line unit fault_in (Overlong ∷ lines) h = wrong 0 LineTooLong
+  copied-line unit fault_in (Content line ∷ lines) h = by_fault (fault_in line) (h line lines refl)
+    where
+      by_fault : (o : Option Fault) → (o ≡ None → P (Here (unit line) 1))
+          → P (one_line (unless_wrong (unit line) o))
+      by_fault None good = good refl
+      by_fault (Some fault) good = wrong 0 fault
+
+  -- a header line, an event's record, or what may begin there
+  pub of-unit : (beginning : List (Item E) → List ReadLine → Place (FileUnit E)) (items : List (Item E))
+      (lines : List ReadLine) → ((line : List ℕ) (rest : List ReadLine) → lines ≡ Content line ∷ rest
+      → header_has_ended items ≡ false → header_line_fault (is_at_start items) line ≡ None
+      → P (Here (HeaderLine line) 1)) → ((line : List ℕ) (rest : List ReadLine) → lines ≡ Content line ∷ rest
+      → header_has_ended items ≡ true → 0 < records_left items
+      → cond (records_count_types items) (types_fault line) None ≡ None → P (Here (EventRecord line) 1))
+      → (header_has_ended items ≡ true → records_left items ≡ 0 → P (beginning items lines))
+      → P (unit_place beginning items lines)
+  of-unit beginning items lines header copied begun = by_bool (header_has_ended items)
+      (λ on. body on (records_left items) refl) (λ off. rw off (copied-line HeaderLine
+      (header_line_fault (is_at_start items)) lines (λ line rest is. header line rest is off)))
+    where
+      body : header_has_ended items ≡ true → (n : ℕ) → records_left items ≡ n
+          → P (unit_place beginning items lines)
+      body on zero none = rw (on, none) (begun on none)
+      body on (suc left) some =
+          let more : nat_lt 0 (suc left) ≡ true = search rules in
+          rw (on, some, more) (copied-line EventRecord
+          (λ line. cond (records_count_types items) (types_fault line) None) lines
+          (λ line rest is. copied line rest is on (omega (arith, some))))
+
+  observed : (p : Place E) → ((epoch : E) (count : ℕ) → p ≡ Here epoch count
+      → P (Here (Observation epoch) count)) → P (as_observation p)
+  observed (Here epoch count) h = h epoch count refl
+  observed (Wrong offset fault) h = wrong offset fault
+  observed Wanted h = wanted
+
+-- where an epoch or an event of RINEX may begin
+module _ (P : Place (FileUnit Epoch) → Type 0) (wanted : P Wanted)
+    (wrong : (offset : ℕ) (fault : Fault) → P (Wrong offset fault)) where
+  pub of-rinex : (types : List Count) (lines : List ReadLine) → ((line : List ℕ) (rest : List ReadLine)
+      → lines ≡ Content line ∷ rest → is_event_line line ≡ true → is_some (records_in line) ≡ true
+      → P (Here (EventLine line) 1)) → ((epoch : Epoch) (count : ℕ)
+      → epoch_place types lines ≡ Here (Observation epoch) count → P (Here (Observation epoch) count))
+      → P (epoch_place types lines)
+  of-rinex types [] event epoch = wanted
+  of-rinex types (Overlong ∷ lines) event epoch = wrong 0 LineTooLong
+  of-rinex types (Content line ∷ lines) event epoch = by_beginning (beginning_of line) refl (line-begun line)
+    where
+      by_rest : (head : _) → beginning_of line ≡ Ok (EpochBegins head) → (p : Place Epoch)
+          → rest_at (opened types head) lines ≡ p
+          → P (after_lines 1 (then_place p lines (λ (e : Epoch) rest. Here (Observation e) 0)))
+      by_rest head e (Here found count) f = epoch found _ (rw (e, f) refl)
+      by_rest head e (Wrong offset fault) f = wrong _ fault
+      by_rest head e Wanted f = wanted
+
+      by_beginning : (r : Result Beginning Fault) → beginning_of line ≡ r → IsBeginning line r
+          → P (then_place (one_line r) (Content line ∷ lines) (unit_begun types))
+      by_beginning (Err fault) e h = wrong 0 fault
+      by_beginning (Ok (EventBegins other)) e h = rw h.0 (event line lines refl h.1 h.2)
+      by_beginning (Ok (EpochBegins head)) e h = by_rest head e (rest_at (opened types head) lines) refl
 
 -- where an epoch or an event of compact text may begin
-of-event : (P : Place (FileUnit ReadEpoch) → Type 0) (line : List ℕ) (o : Option ℕ) → records_in line ≡ o
-    → P (Here (EventLine line) 1) → P (Wrong 0 BadEpoch) → P (one_line (event_line line))
-of-event P line None e event bad = rw (e, event_line) bad
-of-event P line (Some count) e event bad = rw (e, event_line) event
-
-pub of-compact : (P : Place (FileUnit ReadEpoch) → Type 0) (types : List Count) (raws : List RawEpoch)
-    (lines : List ReadLine) → P Wanted → P (Wrong 0 BadEpoch)
-    → ((line : List ℕ) (rest : List ReadLine) → lines ≡ Content line ∷ rest → P (Here (EventLine line) 1))
-    → P (as_observation (epoch_at types raws lines)) → P (compact_epoch_place types raws lines)
-of-compact P types raws [] wanted bad event read = wanted
-of-compact P types raws (Overlong ∷ lines) wanted bad event read = read
-of-compact P types raws (Content line ∷ lines) wanted bad event read = by_bool (is_event_line line)
-    (λ on. rw on (of-event P line (records_in line) refl (event line lines refl) bad)) (λ off. rw off read)
+module _ (P : Place (FileUnit ReadEpoch) → Type 0) (wanted : P Wanted)
+    (wrong : (offset : ℕ) (fault : Fault) → P (Wrong offset fault)) where
+  pub of-compact : (types : List Count) (raws : List RawEpoch) (lines : List ReadLine)
+      → ((line : List ℕ) (rest : List ReadLine) → lines ≡ Content line ∷ rest → is_event_line line ≡ true
+      → is_some (records_in line) ≡ true → P (Here (EventLine line) 1)) → ((read : ReadEpoch) (count : ℕ)
+      → epoch_at types raws lines ≡ Here read count → P (Here (Observation read) count))
+      → P (compact_epoch_place types raws lines)
+  of-compact types raws [] event read = wanted
+  of-compact types raws (Overlong ∷ lines) event read = observed P wanted wrong _ read
+  of-compact types raws (Content line ∷ lines) event read = by_bool (is_event_line line)
+      (λ on. rw on (by_count on (records_in line) refl)) (λ off. rw off (observed P wanted wrong _ read))
+    where
+      by_count : is_event_line line ≡ true → (o : Option ℕ) → records_in line ≡ o
+          → P (one_line (event_line line))
+      by_count on None e = rw (e, event_line) (wrong 0 BadEpoch)
+      by_count on (Some count) e = rw (e, event_line) (event line lines refl on (ap is_some e))

@@ -66,8 +66,7 @@ is-first : (items : List (Item Epoch)) → AreInPlace items → IsFirst items
 is-first [] h = record { version = refl; some = λ e. absurd (cc) }
 is-first (Accepted (HeaderLine line) ∷ []) h = record { version = refl; some = λ e. (line, [], refl) }
 is-first (Accepted (HeaderLine line) ∷ item ∷ before) h =
-    let k = is-first (item ∷ before) h.1 in
-    record { version = first-kept _ _ k refl; some = λ e. first-more _ _ k refl }
+    search (is-first (item ∷ before) h.1, first-kept, first-more)
 is-first (Accepted unit ∷ before) h =
     let k = is-first before h.1 in
     record {

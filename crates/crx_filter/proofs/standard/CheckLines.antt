@@ -3,14 +3,14 @@ use Rattle.crx_filter.proofs.Words
 use Words.{ℕ, zero, suc, ◌≡◌, ◌+◌, ◌-◌, Bool, true, false, cond, List, [], ◌∷◌, ◌++◌, length, drop, Option}
 use Words.{Some, None, Result, Ok, Err, refl, ap, sym, ◌∙◌, append-nil, ⊤, map-append, none-some, ReadLine}
 use Words.{Content, Overlong, Fault, is_end_of_header, Row, Epoch, Count, HeaderLine, EventRecord, last_line}
-use Words.{printed_row, printed_epoch, OpenEpoch, Beginning, EventBegins, EpochBegins, beginning_of, opened}
-use Words.{rows_wanted, epoch_of, with_next_row, next_row, after_row, when_wanted, Item, Accepted}
-use Words.{header_has_ended, records_left, records_count_types, records_announced, counts_types, unless_wrong}
-use Words.{types_fault, header_line_fault, Stop, AtFault, AtLines, Looking, reading_within}
-use Words.{rinex_place, rinex_reading, made_of_epoch_step, made_of_beginning, rinex_open, Phase, InFirstLines}
-use Words.{InHeader, BetweenUnits, InEvent, InEpoch, LookingOn, Closed, Ended, Made, Completes, Step}
-use Words.{made_of_unit, made_in, with_records_left, step_of_made, phase_in_body, phase_of, failed_by}
-use Words.{is_again, Totals, checking, printed_open, printed_made, no_choices}
+use Words.{printed_row, printed_epoch, OpenEpoch, Beginning, EventBegins, EpochBegins, opened, rows_wanted}
+use Words.{epoch_of, with_next_row, after_row, when_wanted, Item, Accepted, header_has_ended, records_left}
+use Words.{records_count_types, records_announced, counts_types, unless_wrong, Stop, AtFault, AtLines}
+use Words.{Looking, reading_within, rinex_place, rinex_reading, made_of_epoch_step, made_of_beginning}
+use Words.{rinex_open, Phase, InFirstLines, InHeader, BetweenUnits, InEvent, InEpoch, LookingOn, Closed}
+use Words.{Ended, Made, Completes, Step, made_of_unit, made_in, with_records_left, step_of_made}
+use Words.{phase_in_body, phase_of, failed_by, is_again, Totals, checking, printed_open, printed_made}
+use Words.{no_choices}
 use Rattle.crx_rinex.specs.meaning.Printing.{printed_head}
 use Rattle.crx_filter.proofs.Choosing.{by_bool}
 use Rattle.crx_filter.proofs.following.Following.{seen_in}
@@ -119,14 +119,10 @@ module _ (number : ℕ) (types : List Count) (kept : Totals) (content : List ℕ
 pub line-grows : (number : ℕ) (phase : Phase OpenEpoch) (types : List Count) (kept : Totals) (line : ReadLine)
     → IsReached phase → Grows number phase types kept line (made_in checking phase types kept line)
 line-grows number (InFirstLines count) types kept line h f = absurd h
-line-grows number (InHeader is_first) types kept (Content content) h f =
-    header-grows number is_first types kept content (header_line_fault is_first content) f
-line-grows number BetweenUnits types kept (Content content) h f =
-    beginning-grows number types kept content (beginning_of content) f
-line-grows number (InEvent left counted) types kept (Content content) h f =
-    record-grows number left counted types kept content (cond counted (types_fault content) None) f
-line-grows number (InEpoch so_far) types kept (Content content) h f =
-    row-grows number types kept content so_far (next_row so_far content) f
+line-grows number (InHeader is_first) types kept (Content content) h f = search (header-grows)
+line-grows number BetweenUnits types kept (Content content) h f = search (beginning-grows)
+line-grows number (InEvent left counted) types kept (Content content) h f = search (record-grows)
+line-grows number (InEpoch so_far) types kept (Content content) h f = search (row-grows)
 line-grows number LookingOn types kept line h f = absurd h
 line-grows number Closed types kept line h f = absurd h
 line-grows number (Ended at) types kept line h f = absurd (none-some at (sym f))

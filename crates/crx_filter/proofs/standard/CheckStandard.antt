@@ -1,9 +1,7 @@
 -- A file is named as standard exactly where it is; and that is where it comes back.
 use Rattle.crx_filter.proofs.Words.{ℕ, ◌≡◌, ◌+◌, Bool, true, List, [], ◌∷◌, length, Option, Some, None, refl}
-use Rattle.crx_filter.proofs.Words.{ap, sym, ◌∙◌, arith, list_all, bytes_eq, none-some, and_parts, InputLine}
-use Rattle.crx_filter.proofs.Words.{lines_of, Choices, FilterResult, printed_items, whole_of}
-use Rattle.crx_filter.proofs.Words.{is_standard_line, first_not_standard, findings_of, checked_by, checked}
-use Rattle.crx_filter.proofs.Words.{IsStandard}
+use Rattle.crx_filter.proofs.Words.{arith, list_all, bytes_eq, none-some, and_parts, InputLine, Choices}
+use Rattle.crx_filter.proofs.Words.{is_standard_line, first_not_standard}
 use Rattle.crx_compact.proofs.Characters.{bytes_eq-same, bytes_eq-is}
 use Rattle.crx_filter.specs.meaning.Standard.{report_status}
 use Rattle.crx_filter.specs.CheckingLaws.{IsNamedWhereNot, IsStandardExactlyWhereSame}
@@ -38,20 +36,9 @@ all-standard number (line ∷ lines) e =
     rw (both.0, bytes_eq-same line.content) (all-standard (number + 1) lines both.1)
 
 pub named-where_not : (input : List ℕ) → IsNamedWhereNot input
-named-where_not input good = (
-  λ none.
-      let both = none-named 1 (lines_of input)
-      (printed_items (whole_of input).items) (whole-many (lines_of input) good) none in
-      record { good = good; plain = both.0; given_back = both.1 },
-  λ standard. ap (first_not_standard 1 (lines_of input)) (sym (IsStandard.given_back standard))
-      ∙ all-standard 1 (lines_of input) (IsStandard.plain standard),
-)
+named-where_not input good = grind (arith, none-named, whole-many, all-standard)
 
 -- ---- the status
-
-status-is : (input : List ℕ) → (whole_of input).fault ≡ None
-    → (checked input).status ≡ report_status (findings_of (lines_of input)).not_standard
-status-is input good = ap (λ o. FilterResult.status (checked_by o (findings_of (lines_of input)))) good
 
 pub none-where_0 : (named : Option ℕ) → report_status named ≡ 0 → named ≡ None
 none-where_0 None e = refl
@@ -60,10 +47,4 @@ none-where_0 (Some number) e = absurd (cc)
 pub standard-exactly_where_same : (input : List ℕ) (compacting expanding : Choices)
     → IsStandardExactlyWhereSame input compacting expanding
 standard-exactly_where_same input compacting expanding dated good =
-    let named = named-where_not input good in (
-      λ zero_status. ap (λ (r : FilterResult). r.output)
-          (standard-comes_back input compacting expanding dated (named.0 (none-where_0
-          (findings_of (lines_of input)).not_standard (sym (status-is input good) ∙ zero_status)))),
-      λ same. status-is input good
-          ∙ ap report_status (named.1 (standard-where_same input compacting expanding dated good same)),
-    )
+    grind (arith, named-where_not, standard-comes_back, none-where_0, standard-where_same)

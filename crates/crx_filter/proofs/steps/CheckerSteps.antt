@@ -1,11 +1,13 @@
 -- A checker takes a line, by what its reader makes of it.
+use Rattle.std.proofs.lemmas.Grind.{common_steps}
+use Rattle.std.proofs.Common.{arith}
 use Rattle.crx_filter.proofs.Words.{map, ℕ, zero, suc, ◌≡◌, ◌⊎◌, inl, inr, ◌+◌, ◌-◌, Bool, true, false, cond}
 use Rattle.crx_filter.proofs.Words.{List, [], ◌∷◌, ◌++◌, Option, Some, None, refl, ap, sym, subst, ◌∙◌}
 use Rattle.crx_filter.proofs.Words.{InputLine, is_long, ReadLine, Content, Overlong, seen, Fault, LineTooLong}
 use Rattle.crx_filter.proofs.Words.{OpenEpoch, is_end_of_header, ObservationEpoch, Count, last_line}
-use Rattle.crx_filter.proofs.Words.{HeaderLine, EventLine, EventRecord, Observation, compaction, with_next}
-use Rattle.crx_filter.proofs.Words.{records_announced, counts_types, failed_by, Phase, InFirstLines, InHeader}
-use Rattle.crx_filter.proofs.Words.{BetweenUnits, InEvent, LookingOn, Closed, Ended, Seen, Step, Made, Moves}
+use Rattle.crx_filter.proofs.Words.{HeaderLine, EventLine, EventRecord, compaction, with_next}
+use Rattle.crx_filter.proofs.Words.{records_announced, counts_types, failed_by, Phase, InFirstLines}
+use Rattle.crx_filter.proofs.Words.{InEvent, LookingOn, Closed, Ended, Seen, Step, Made, Moves}
 use Rattle.crx_filter.proofs.Words.{Fails, made_in, with_records_left, phase_after, types_after, step_of_made}
 use Rattle.crx_filter.proofs.Words.{takes_memory, epoch_by_rows, reader_phase, made_at, Completed}
 use Rattle.crx_filter.proofs.Words.{CompletedEpoch, MovesReader, TakesRinexLine, is_standard_line, Totals}
@@ -52,52 +54,32 @@ completed-steps : (number : ℕ) (totals : Totals) (line : ReadLine)
     (before after : RinexReader) (made : Made ObservationEpoch OpenEpoch) (unit : Unit ObservationEpoch)
     → Completed made unit before after → StepsTo number totals line before after made
 completed-steps number totals line before after made unit h =
-    subst (StepsTo number totals line before after) (sym h.unit_made) (
-      refl,
-      ap (λ p. seen_in no_choices (number + 1) p (types_after (reader_phase before) before.types unit)
-          (totals_with totals (is_before_header (reader_phase before)) unit)) (sym h.phase_then)
-          ∙ ap (λ t. seen_in no_choices (number + 1) (reader_phase after) t
-          (totals_with totals (is_before_header (reader_phase before)) unit)) (sym h.types_then),
-    )
+    grind (arith, common_steps, seen_in, no_choices, types_after, reader_phase, totals_with, is_before_header)
 
 moved-steps : (number : ℕ) (totals : Totals) (line : ReadLine) (before after : RinexReader)
     (made : Made ObservationEpoch OpenEpoch)
     → MovesReader made before after → StepsTo number totals line before after made
 moved-steps number totals line before after made h =
-    subst (StepsTo number totals line before after) (sym h.moved) (
-      refl,
-      ap (λ k. seen_in no_choices (number + 1) (reader_phase after) before.types k)
-          (kept-always (reader_phase after) totals)
-          ∙ ap (λ t. seen_in no_choices (number + 1) (reader_phase after) t totals) (sym h.types_then),
-    )
+    grind (arith, common_steps, seen_in, no_choices, reader_phase, kept-always)
 
 epoch-steps : (number : ℕ) (totals : Totals) (line : ReadLine) (content : List ℕ) (before after : RinexReader)
     (made : Made ObservationEpoch OpenEpoch)
     → CompletedEpoch made content before after → StepsTo number totals line before after made
 epoch-steps number totals line content before after made h =
-    completed-steps number totals line before after made
-    (Observation (epoch_by_rows h.head after.rows.rows)) h.is
+    grind (arith, common_steps, completed-steps, epoch_by_rows)
 
 steps-to : (number : ℕ) (totals : Totals) (line : ReadLine)
     (content : List ℕ) (before after : RinexReader) (made : Made ObservationEpoch OpenEpoch)
     (step : RinexStep)
     → TakesRinexLine made before content step after → StepsTo number totals line before after made
-steps-to number totals line content before after made Nothing h =
-    moved-steps number totals line before after made h.0
-steps-to number totals line content before after made (Header is_first) h =
-    completed-steps number totals line before after made (HeaderLine content) h.0
-steps-to number totals line content before after made Event h =
-    completed-steps number totals line before after made (EventLine content) h
-steps-to number totals line content before after made Record h =
-    completed-steps number totals line before after made (EventRecord content) h
-steps-to number totals line content before after made Begun (none, inl opened) =
-    moved-steps number totals line before after made opened.1
-steps-to number totals line content before after made Begun (none, inr whole) =
-    epoch-steps number totals line content before after made whole.1
-steps-to number totals line content before after made Row h =
-    moved-steps number totals line before after made h.0
-steps-to number totals line content before after made Epoch h =
-    epoch-steps number totals line content before after made h
+steps-to number totals line content before after made Nothing h = grind (arith, common_steps, moved-steps)
+steps-to number totals line content before after made (Header is_first) h = grind (arith, common_steps)
+steps-to number totals line content before after made Event h = grind (arith, common_steps, completed-steps)
+steps-to number totals line content before after made Record h = grind (arith, common_steps, completed-steps)
+steps-to number totals line content before after made Begun (none, inl opened) = grind (arith, common_steps)
+steps-to number totals line content before after made Begun (none, inr whole) = grind (arith, common_steps)
+steps-to number totals line content before after made Row h = grind (arith, common_steps, moved-steps)
+steps-to number totals line content before after made Epoch h = grind (arith, common_steps, epoch-steps)
 
 -- ---- lines can come on
 
@@ -110,8 +92,7 @@ reached phase e = tt
 
 grows-printed : (number : ℕ) (phase : Phase OpenEpoch) (types : List Count) (kept : Totals) (line : ReadLine)
     (made : Made ObservationEpoch OpenEpoch) → Grows number phase types kept line made → HasPrinted made
-grows-printed number phase types kept line (Moves next) h =
-    (printed_open phase, last_line (printed_open next), h refl)
+grows-printed number phase types kept line (Moves next) h = grind (arith, common_steps)
 grows-printed number phase types kept line made h = tt
 
 pub has-printed : (before : RinexReader) (content : List ℕ)
@@ -131,8 +112,7 @@ left-reading (suc left) counted = refl
 
 unit-reading : (phase : Phase OpenEpoch) (unit : Unit ObservationEpoch)
     → is_reading phase ≡ true → is_reading (phase_after phase unit) ≡ true
-unit-reading phase (HeaderLine line) e = elim (is_end_of_header
-    line) as (λ b. is_reading (cond b BetweenUnits (InHeader false)) ≡ true) [ true ↦ refl | false ↦ refl ]
+unit-reading phase (HeaderLine line) e = grind (arith, common_steps, is_end_of_header, is_reading, cond)
 unit-reading phase (EventLine line) e = left-reading (records_announced line) (counts_types line)
 unit-reading (InEvent left counted) (EventRecord line) e = left-reading (left - 1) counted
 unit-reading phase unit e = refl
@@ -153,29 +133,22 @@ completed-reading before after made unit h e = ap is_reading h.phase_then
 
 moved-reading : (before after : RinexReader) (made : Made ObservationEpoch OpenEpoch)
     → MovesReader made before after → HasPrinted made → is_reading (reader_phase after) ≡ true
-moved-reading before after made h some =
-    let printed : HasPrinted (Moves (reader_phase after)) = subst HasPrinted h.moved some in
-    open-reading (reader_phase after) printed.0 printed.1 printed.2
+moved-reading before after made h some = grind (arith, common_steps, reader_phase, open-reading)
 
 pub still-reading : (before after : RinexReader)
     (content : List ℕ) (made : Made ObservationEpoch OpenEpoch) (step : RinexStep)
     → TakesRinexLine made before content step after
     → HasPrinted made → is_reading (reader_phase before) ≡ true → is_reading (reader_phase after) ≡ true
 still-reading before after content made Nothing h some e = moved-reading before after made h.0 some
-still-reading before after content made (Header is_first) h some e =
-    completed-reading before after made (HeaderLine content) h.0 e
+still-reading before after content made (Header is_first) h some e = grind (arith, common_steps)
 still-reading before after content made Event h some e =
     completed-reading before after made (EventLine content) h e
-still-reading before after content made Record h some e =
-    completed-reading before after made (EventRecord content) h e
-still-reading before after content made Begun (none, inl opened) some e =
-    moved-reading before after made opened.1 some
+still-reading before after content made Record h some e = grind (arith, common_steps, completed-reading)
+still-reading before after content made Begun (none, inl opened) some e = grind (arith, common_steps)
 still-reading before after content made Begun (none, inr whole) some e =
-    completed-reading before after made (Observation (epoch_by_rows whole.1.head after.rows.rows))
-    whole.1.is e
+    grind (arith, common_steps, completed-reading, epoch_by_rows)
 still-reading before after content made Row h some e = moved-reading before after made h.0 some
-still-reading before after content made Epoch h some e =
-    completed-reading before after made (Observation (epoch_by_rows h.head after.rows.rows)) h.is e
+still-reading before after content made Epoch h some e = grind (arith, common_steps)
 
 -- ---- what is seen then
 
@@ -262,14 +235,7 @@ refused-line before number totals named line lines fault short (inl fails) same 
     (seen-short line short)
     ∙ made-same (reader_phase before) before.types (totals_held totals) (Content line.content) ∙ fails) same)
 refused-line before number totals named line lines fault short (inr memory) same =
-    inl (record {
-      fault = memory.0;
-      place = ap (λ n. n + 1) (ap (λ (b : CheckSeen). b.reading.number) same);
-      allowed = check-allowed-of lines line
-          (ap (λ l. takes_memory checking (check_seen lines).reading l) (seen-short line short)
-          ∙ ap (λ (b : CheckSeen). takes_memory checking b.reading (Content line.content)) (sym same)
-          ∙ memory.1);
-    })
+    grind (arith, common_steps, check-allowed-of, takes_memory, checking, check_seen, seen-short)
 
 always-too_long : (phase : Phase OpenEpoch) (types : List Count) (kept : Totals)
     → is_reading phase ≡ true → made_in checking phase types kept Overlong ≡ Fails LineTooLong

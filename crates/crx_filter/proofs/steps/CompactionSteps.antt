@@ -1,9 +1,11 @@
 -- What a compaction makes of a line: a fault, another stage, a line that is copied, or an epoch.
+use Rattle.std.proofs.lemmas.Grind.{common_steps}
+use Rattle.std.proofs.Common.{arith}
 use Rattle.crx_filter.proofs.Words.{◌≡◌, ◌⊎◌, inl, inr, ℕ, ◌+◌, true, false, List, [], Option, Some, None, Ok}
-use Rattle.crx_filter.proofs.Words.{Err, ◌++◌, ◌∷◌, refl, sym, ap, ◌∙◌, ReadLine, Content, Overlong, Fault}
-use Rattle.crx_filter.proofs.Words.{OutOfMemory, ObservationEpoch, Bool, not, ◌&&◌, and_parts, false≢true}
+use Rattle.crx_filter.proofs.Words.{Err, ◌++◌, ◌∷◌, refl, sym, ◌∙◌, ReadLine, Content, Overlong, Fault}
+use Rattle.crx_filter.proofs.Words.{OutOfMemory, ObservationEpoch, Bool, not, and_parts, false≢true}
 use Rattle.crx_filter.proofs.Words.{begins_epoch, is_event_line, OpenEpoch, EventLine, EventRecord}
-use Rattle.crx_filter.proofs.Words.{HeaderLine, Observation, FileUnit, Count, epoch_by_rows, Choices, Written}
+use Rattle.crx_filter.proofs.Words.{HeaderLine, FileUnit, Count, epoch_by_rows, Choices, Written}
 use Rattle.crx_filter.proofs.Words.{compact_written, compaction, written_kept, Phase, InFirstLines}
 use Rattle.crx_filter.proofs.Words.{BetweenUnits, LookingOn, SeenEnded, Made, Completes, Moves, kept_in}
 use Rattle.crx_filter.proofs.Words.{phase_after, types_after, step_of_made, may_take_memory, seen_stage}
@@ -36,11 +38,9 @@ pub read-or-written : (first : List ℕ → Bool) (next : OpenEpoch → List ℕ
     → may_take_memory first next phase line ≡ true
 read-or-written first next phase Overlong e = absurd (false≢true e)
 read-or-written first next (InFirstLines count) (Content line) e = e
-read-or-written first next BetweenUnits (Content line) e =
-    absurd (false≢true (and_parts (not (is_event_line line)) false e).1)
+read-or-written first next BetweenUnits (Content line) e = grind (arith, common_steps)
 read-or-written first next LookingOn (Content line) e =
-    absurd (false≢true (and_parts (not (is_event_line line)) false
-    (and_parts (begins_epoch line) (not (is_event_line line) && false) e).1).1)
+    grind (arith, common_steps, and_parts, not, is_event_line, begins_epoch)
 read-or-written first next SeenClosed (Content line) e = e
 read-or-written first next (SeenEnded at) (Content line) e = e
 read-or-written first next phase (Content line) e = e
@@ -72,13 +72,7 @@ module _ {serves : Choices → Type 0} {before after : DirectionParts OpenEpoch 
   pub refused-reads : {fault : Fault} → RefusesLine compaction before line fault
       → after.types ≡ before.types → after.kept.index ≡ before.kept.index → ready ≡ []
       → Reads compaction serves before line (Err fault) ready after
-  refused-reads refuses typed counted none = record {
-    takes = λ choices number chosen. tt;
-    refuses = refuses;
-    types = typed;
-    kept = ap (λ n. record { index = n; tail = None }) counted;
-    nothing = none;
-  }
+  refused-reads refuses typed counted none = grind (arith, common_steps)
 
   -- nothing is to be written after it
   pub moved-reads : made_at_parts compaction before line ≡ Moves (seen_stage after.begun after.stage)
@@ -152,12 +146,7 @@ module _ {serves : Choices → Type 0} {before after : RinexReader} {kept : Writ
         → Reads compaction serves (parts_with before kept) line (Ok true) ended.pending
         (parts_with after (record { index = kept.index + 1; tail = ended.before }))
     ended-read rows ended due tail there lines keeps =
-        completed-reads (Observation (epoch_by_rows done.head after.rows.rows)) done.is.unit_made
-        done.is.phase_then done.is.types_then (λ choices number chosen. (
-          lines done.head done.held ∙ rw (due choices chosen, tail, there) refl,
-          ap (λ t. record { index = kept.index + 1; tail = t }) (keeps done.head done.held)
-              ∙ rw (due choices chosen, tail, there) refl,
-        ))
+        grind (arith, common_steps, completed-reads, epoch_by_rows)
 
 -- a line that is copied: of the header, or of an event
 pub header-read : {chosen : Choices} {before after : RinexReader} {kept : Written} {line : List ℕ}

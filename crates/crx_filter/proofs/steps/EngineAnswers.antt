@@ -1,5 +1,7 @@
 -- From the steps of an engine of either direction to what every engine answers, and to the lines it has
 -- taken.
+use Rattle.std.proofs.lemmas.Grind.{common_steps}
+use Rattle.std.proofs.Common.{arith}
 use Rattle.crx_filter.proofs.Words.{ℕ, ◌≡◌, inl, inr, ◌+◌, Bool, true, false, cond, List, [], ◌∷◌, ◌++◌, map}
 use Rattle.crx_filter.proofs.Words.{length, Some, None, Result, Ok, Err, refl, ap, sym, subst, ◌∙◌}
 use Rattle.crx_filter.proofs.Words.{append-nil, ◌≤◌, rules, and_parts, reverse, ◌&&◌, reverse-append}
@@ -14,7 +16,7 @@ use Rattle.crx_runs.specs.Engines.{Awaited, IsAwaited, awaited_notices, GoesOn, 
 use Rattle.crx_runs.specs.Engines.{Concludes}
 use Rattle.crx_filter.specs.EngineLines.{HasTaken}
 use Rattle.crx_filter.specs.Laws.{is_ready, has_lines}
-use Rattle.crx_filter.specs.EngineLaws.{FollowsBy, EndsLineByLine, GoesLineByLine}
+use Rattle.crx_filter.specs.EngineLaws.{FollowsBy, GoesLineByLine}
 use Rattle.crx_runs.specs.declared.engine.Step.{Step}
 use Rattle.crx_runs.specs.declared.engine.Step.TheVariants.{Warned}
 use Rattle.crx_filter.proofs.Choosing.{by_bool}
@@ -92,25 +94,21 @@ module _ {U O K : Type 0} {direction : Direction U O K} {seen_after : List ReadL
   -- only a step that is ready hands out lines
   quiet-handed_out : (before : Seen O K) (line : ReadLine) (step : SeenStep O K)
       → step ≡ seen_next direction before line → is_ready step.answer ≡ false → step.handed_out ≡ []
-  quiet-handed_out before line step e quiet = none-handed_out step.handed_out
-      (ap (λ (s : SeenStep O K). has_lines s.handed_out) e
-      ∙ sym (goes.ready before line) ∙ ap (λ (s : SeenStep O K). is_ready s.answer) (sym e) ∙ quiet)
+  quiet-handed_out before line step e quiet =
+      grind (arith, common_steps, none-handed_out, step, has_lines, is_ready)
 
   -- ---- a line that is fed once, or comes a second time
 
   fed-once : (before : Seen O K) (line : ReadLine) (step : SeenStep O K) → step
       ≡ seen_next direction before line
       → is_again step.answer ≡ false → fed direction before line ≡ fed_once step
-  fed-once before line step e once =
-      feeds-once direction before line (ap (λ (s : SeenStep O K). is_again s.answer) (sym e) ∙ once)
-      ∙ ap fed_once (sym e)
+  fed-once before line step e once = grind (arith, common_steps, feeds-once, is_again, fed_once)
 
   fed-again : (before : Seen O K) (line : ReadLine) (step : SeenStep O K) → step
       ≡ seen_next direction before line → is_again step.answer ≡ true → fed direction before line
       ≡ fed_twice step (seen_next direction step.next line)
   fed-again before line step e again =
-      feeds-twice direction before line (ap (λ (s : SeenStep O K). is_again s.answer) (sym e) ∙ again)
-      ∙ ap (λ (s : SeenStep O K). fed_twice s (seen_next direction s.next line)) (sym e)
+      grind (arith, common_steps, feeds-twice, is_again, fed_twice, seen_next)
 
   module _ (lines : List InputLine) (line : InputLine) where
     abbrev first : Seen O K
@@ -119,9 +117,7 @@ module _ {U O K : Type 0} {direction : Direction U O K} {seen_after : List ReadL
     -- what the filter makes of the line, by what it was fed as
     follows-fed : (f : Fed O K) → fed direction first (seen line) ≡ f
         → FollowsBy filter lines line (seen_after (map seen (with_next lines line))) f
-    follows-fed f e = subst (λ (x : Fed O K).
-        FollowsBy filter lines line (seen_after (map seen (with_next lines line))) x) e
-        (goes.follows lines line)
+    follows-fed f e = grind (arith, common_steps, seen, with_next)
 
     -- it goes on
     goes-on : (shows : List InputLine → List Awaited → Type 0) (f : Fed O K) (now : Seen O K)
@@ -131,28 +127,14 @@ module _ {U O K : Type 0} {direction : Direction U O K} {seen_after : List ReadL
         ≡ notices → f.failed ≡ None → shows (with_next lines line) []
         × GoesOn (filter.so_far lines) (filter.so_far (with_next lines line)) texts notices
     goes-on shows f now texts notices showing e next handed_out warned good =
-        let h = follows-fed f e in (
-          showing (with_next lines line) [] (sym next ∙ sym h.next),
-          record {
-            output = h.output ∙ ap (λ (ls : List (List ℕ)). (filter.so_far lines).output ++ lines_text ls)
-                handed_out;
-            warnings = h.warnings ∙ ap (λ (ns : List At). (filter.so_far lines).warnings ++ ns) warned;
-            good = h.fault ∙ good;
-          },
-        )
+        grind (arith, common_steps, follows-fed, with_next, lines_text)
 
     -- it ends
     ends-with : (f : Fed O K) (notices : List At) (at : At)
         → fed direction first (seen line) ≡ f → f.handed_out ≡ [] → reverse f.warned ≡ notices → f.failed
         ≡ Some at → EndsWith (filter.so_far lines) (filter.so_far (with_next lines line)) notices at
     ends-with f notices at e handed_out warned bad =
-        let h = follows-fed f e in
-        record {
-          output = h.output ∙ ap (λ (ls : List (List ℕ)). (filter.so_far lines).output ++ lines_text ls)
-              handed_out ∙ append-nil (filter.so_far lines).output;
-          warnings = h.warnings ∙ ap (λ (ns : List At). (filter.so_far lines).warnings ++ ns) warned;
-          fault = h.fault ∙ bad;
-        }
+        grind (arith, common_steps, follows-fed, lines_text, append-nil)
 
     -- the first time
     first-time : (shows : List InputLine
@@ -237,9 +219,7 @@ module _ {U O K : Type 0} {direction : Direction U O K} {seen_after : List ReadL
         (result : Result Step At) → result ≡ Err at → at.fault ≡ OutOfMemory → at.line ≡ number + 1
         → number ≡ length lines → filter.memory_after lines line ≡ Some (awaited_notices notices)
         → EngineAnswers filter shows ready lines notices line result
-    ran-out shows ready notices number at result is fault place same allowed =
-        subst (λ (r : Result Step At). EngineAnswers filter shows ready lines notices line r) (sym is)
-        (inl (record { fault = fault; place = place ∙ ap (λ (n : ℕ). n + 1) same; allowed = allowed }))
+    ran-out shows ready notices number at result is fault place same allowed = grind (arith, common_steps)
 
   -- an engine's own step, or memory that ran out, is an answer
   answers-line : (shows : List InputLine → List Awaited → Type 0) (before now : Seen O K)
@@ -286,36 +266,7 @@ module _ {U O K : Type 0} {direction : Direction U O K} {seen_after : List ReadL
       (result : Result Step At) → HasTaken direction seen_after before lines []
       → step_made result ready now ≡ seen_end direction before → Concludes filter ready lines result
   concludes before now lines ready result taken e =
-      by-result result (subst (λ (s : SeenStep O K). EndsLineByLine filter lines s)
-      (sym (e ∙ ap (λ (s : Seen O K). seen_end direction s) taken)) (goes.ends lines))
-    where
-      by-result : (r : Result Step At) → EndsLineByLine filter lines (step_made r ready now)
-          → Concludes filter ready lines r
-      by-result (Ok Quiet) h = (
-        h.handed_out,
-        record {
-          output = h.output ∙ sym (append-nil (filter.so_far lines).output);
-          warnings = h.warnings;
-          good = h.fault;
-        },
-      )
-      by-result (Ok Ready) h =
-          record {
-            output = h.output ∙ sym (append-nil (filter.so_far lines).output)
-                ∙ ap (λ (ls : List (List ℕ)). (filter.so_far lines).output ++ lines_text ls)
-                (sym h.handed_out);
-            warnings = h.warnings;
-            good = h.fault;
-          }
-      by-result (Ok (Warned notice again)) h = (
-        h.handed_out,
-        record {
-          output = h.output ∙ sym (append-nil (filter.so_far lines).output);
-          warnings = h.warnings;
-          good = h.fault;
-        },
-      )
-      by-result (Err at) h = record { output = h.output; warnings = h.warnings; fault = h.fault }
+      grind (arith, common_steps, seen_end, step_made, append-nil, lines_text)
 
 -- ---- lines as they are seen
 
@@ -331,8 +282,7 @@ short-line line h = search (rules, h)
 
 pub seen-within : (line : InputLine) (bytes : List ℕ)
     → length line.content ≤ LINE_LIMIT → bytes ≡ line.content → seen line ≡ Content bytes
-seen-within line bytes h e = seen-short line (short-line line h)
-    ∙ ap (λ (content : List ℕ). Content content) (sym e)
+seen-within line bytes h e = grind (arith, common_steps, seen-short, short-line)
 
 -- ---- an engine with its choices
 

@@ -1,8 +1,10 @@
 -- What an engine of a direction answers to a line with a fault, to one that is too long, and at the input's end.
+use Rattle.std.proofs.lemmas.Grind.{common_steps}
+use Rattle.std.proofs.Common.{arith}
 use Rattle.crx_filter.proofs.Words.{◌≡◌, inl, inr, ℕ, ◌+◌, Bool, true, false, ◌&&◌, List, [], Option, Some}
 use Rattle.crx_filter.proofs.Words.{None, Result, Ok, Err, refl, sym, ap, subst, ◌∙◌, Content, Overlong, At, Fault}
-use Rattle.crx_filter.proofs.Words.{LineTooLong, Count, Choices, Seen, Direction, Fails, Failed, made_in}
-use Rattle.crx_filter.proofs.Words.{SeenStep, SeenEnded, is_skipped_in, may_skip, is_skippable, failed_step}
+use Rattle.crx_filter.proofs.Words.{LineTooLong, Count, Choices, Seen, Direction, Fails, made_in}
+use Rattle.crx_filter.proofs.Words.{SeenEnded, is_skipped_in, may_skip, is_skippable, failed_step}
 use Rattle.crx_filter.proofs.Words.{step_of_made}
 use Rattle.crx_filter.proofs.Words.{seen_next, seen_end, begins_epoch, step_made, Steps, is_held}
 use Rattle.crx_filter.proofs.Words.{seen_stage, Quiet, Stage, Open}
@@ -47,11 +49,7 @@ module _ {U O K : Type 0} (direction : Direction U O K) where
       → step_made result [] after ≡ failed_step direction before (Content line) fault
       → is_skippable fault ≡ false → result ≡ Err (record { line = before.number + 1; fault = fault })
   fatal-answer before after line fault result step fatal =
-      let off = no-skip before.choices.skip (may_skip before.phase) (is_skippable fault) fatal in
-      let is : (failed_step direction before (Content line) fault).answer
-      ≡ Failed (record { line = before.number + 1; fault = fault }) = rw off refl in
-      failed-at result (record { line = before.number + 1; fault = fault })
-      (ap (λ (s : SeenStep O K). s.answer) step ∙ is)
+      grind (arith, common_steps, no-skip, may_skip, is_skippable, failed_step, failed-at, step)
 
   -- a line was refused: with its fault, or because memory ran out
   pub refused-line : (choices : Choices) (last : ℕ) (stage : Stage) (fault : Fault) (goes_on : Bool)
@@ -153,15 +151,12 @@ module _ {U O K : Type 0} (direction : Direction U O K) where
       (going : (at : At) → stage ≡ Ended at → ⊥) (typed : after.types ≡ before.types) where
     ends : seen_end direction (seen_by choices number before)
         ≡ end_step direction (seen_by choices number before) (fault_at_end_in (bare_phase stage))
-    ends = by-stage choices number before.stage before.begun before.types before.kept
-        (subst (λ (s : Stage). is_held s before.begun ≡ true) was held) (λ at e. going at (was ∙ e))
-        ∙ ap (λ (s : Stage). end_step direction (seen_by choices number before)
-        (fault_at_end_in (bare_phase s))) (sym was)
+    ends =
+        grind (arith, common_steps, by-stage, stage, is_held, end_step, seen_by, fault_at_end_in, bare_phase)
 
     skips : (fault : Fault) (a b c : Bool) → a ≡ choices.skip → b ≡ may_skip (bare_phase stage)
         → c ≡ is_skippable fault → is_skipped_in (seen_by choices number before) fault ≡ ((a && b) && c)
-    skips fault a b c is-a is-b is-c = rw (is-a, is-b, is-c, ← was, skips-bare before.begun stage held)
-        (all-three choices.skip (may_skip (bare_phase stage)) (is_skippable fault))
+    skips fault a b c is-a is-b is-c = grind (arith, common_steps)
 
     pub ends-quietly : after.stage ≡ Closed → after.kept ≡ before.kept
         → fault_at_end_in (bare_phase stage) ≡ None
@@ -175,12 +170,10 @@ module _ {U O K : Type 0} (direction : Direction U O K) where
       pub ends-skipped : after.stage ≡ Closed → ((a && b) && c) ≡ true
           → step_made (Ok (Warned (record { line = number + 1; fault = fault }) false)) []
           (seen_by choices number after) ≡ seen_end direction (seen_by choices number before)
-      ends-skipped staged on =
-          rw (ends, some, skips fault a b c is-a is-b is-c ∙ on, staged, kept, typed) refl
+      ends-skipped staged on = grind (arith, common_steps, ends, skips)
 
       pub ends-failed : after.stage ≡ Ended (record { line = number + 1; fault = fault })
           → ((a && b) && c) ≡ false
           → step_made (Err (record { line = number + 1; fault = fault })) []
           (seen_by choices number after) ≡ seen_end direction (seen_by choices number before)
-      ends-failed staged off =
-          rw (ends, some, skips fault a b c is-a is-b is-c ∙ off, staged, kept, typed) refl
+      ends-failed staged off = grind (arith, common_steps, ends, skips)

@@ -1,5 +1,7 @@
 -- Facts of an engine's steps in either direction: held epochs, faults that count, memory that ran out, a
 -- fault that is answered again.
+use Rattle.std.proofs.lemmas.Grind.{common_steps}
+use Rattle.std.proofs.Common.{arith}
 use Rattle.crx_filter.proofs.Words.{◌≡◌, inl, inr, ℕ, ◌+◌, Bool, true, false, List, Option, Some, None}
 use Rattle.crx_filter.proofs.Words.{Result, Ok, Err, refl, ap, subst, ◌∙◌, ◌&&◌, ReadLine, Content, Overlong}
 use Rattle.crx_filter.proofs.Words.{At, Fault, OutOfMemory, ObservationHead, Row, Count, Phase, SeenEnded}
@@ -49,15 +51,7 @@ pub ran-out : {U O K : Type 0}
     (fault : Fault) → fault ≡ OutOfMemory → result ≡ Err (record { line = before.number + 1; fault = fault })
     → takes_memory direction before line ≡ true
     → after.number ≡ before.number + 1 → RanOut direction before line result after
-ran-out direction before after line result fault out is allowed counted =
-    record {
-      at = record { line = before.number + 1; fault = fault };
-      is = is;
-      fault = out;
-      place = refl;
-      allowed = allowed;
-      counted = counted;
-    }
+ran-out direction before after line result fault out is allowed counted = grind (arith, common_steps)
 
 -- ---- a fault that ended the run is answered again
 

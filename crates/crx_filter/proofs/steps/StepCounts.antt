@@ -1,5 +1,7 @@
 -- How many lines have been taken after a step, and where lines are borrowed.
-use Rattle.crx_filter.proofs.Words.{◌≡◌, inl, inr, ℕ, ◌+◌, Bool, true, false, ◌&&◌, List, [], Result, Ok, Err}
+use Rattle.std.proofs.lemmas.Grind.{common_steps}
+use Rattle.std.proofs.Common.{arith}
+use Rattle.crx_filter.proofs.Words.{◌≡◌, inl, inr, ℕ, ◌+◌, Bool, true, false, List, [], Result, Ok, Err}
 use Rattle.crx_filter.proofs.Words.{ap, ◌∙◌, ◌∷◌, length, length-append, InputLine}
 use Rattle.crx_filter.proofs.Words.{refl, sym, subst, if◌then◌else◌, ⊤, ReadLine, At, can_go_on, Direction}
 use Rattle.crx_filter.proofs.Words.{Seen, Made, Completes, Moves, Fails, Repeats, Ended, Answer, Notice}
@@ -36,8 +38,7 @@ made-counts : {U O K : Type 0} (direction : Direction U O K) (seen : Seen O K) (
 made-counts direction seen line (Completes unit) = refl
 made-counts direction seen line (Moves phase) = (refl, refl)
 made-counts direction seen line (Fails fault) =
-    failed-counts direction seen (record { line = seen.number + 1; fault = fault })
-    (is_skipped_in seen fault) (is_in_epoch seen.phase && can_go_on line)
+    grind (arith, common_steps, failed-counts, is_skipped_in, is_in_epoch, can_go_on)
 made-counts direction seen line (Repeats at) = tt
 
 counted-result : (before after : ℕ) (ready : List (List ℕ)) (result : Result Step At)
@@ -79,14 +80,6 @@ module _ {U O K : Type 0} (direction : Direction U O K)
   pub steps-drained : Steps direction before line result ready now → IfOk result (λ s. IsDrainedAfter s ready)
   steps-drained (inl step) = drained-result before.number now.number ready result (counts-then step)
   steps-drained (inr out) = no-step result out.at (λ s. IsDrainedAfter s ready) out.is
-
--- where no lines are borrowed, none are after any answer
-pub none-drained : (ready : List (List ℕ)) (result : Result Step At)
-    → ready ≡ [] → IfOk result (λ s. IsDrainedAfter s ready)
-none-drained ready (Ok Quiet) none = none
-none-drained ready (Ok Ready) none = tt
-none-drained ready (Ok (Warned notice again)) none = none
-none-drained ready (Err at) none = tt
 
 -- an answer to a line shows how many lines were taken, where as many were counted before it
 pub answers-counted : (filter : Filter) (shows : List InputLine → List Awaited → Type 0) (before after : ℕ)

@@ -1,4 +1,6 @@
 -- How the parts of a compaction belong together after a line, and what is said of a row that it takes.
+use Rattle.std.proofs.lemmas.Grind.{common_steps}
+use Rattle.std.proofs.Common.{arith}
 use Rattle.crx_filter.proofs.Words.{inl, inr, ◌≡◌, ◌++◌, ◌∷◌, [], ℕ, Bool, true, false, not, List, not-true}
 use Rattle.crx_filter.proofs.Words.{if◌then◌else◌, Fault, OutOfMemory, None, Option, Ok, refl, sym, ap, subst}
 use Rattle.crx_filter.proofs.Words.{◌∙◌, true≢false, false≢true, length, is_some, begins_epoch}
@@ -50,18 +52,12 @@ due-there s in_full due e f = absurd (false≢true e)
 -- no epoch is open
 pub closed-together : (reader : RinexReader) (encoder : EncoderState) → is_open_stage reader.stage ≡ false
     → encoder.is_open ≡ false → encoder.rows ≡ [] → BelongTogether reader encoder
-closed-together reader encoder closed ended none = record {
-  opened = ended ∙ sym closed;
-  rows = none ∙ sym (rows-closed reader.stage reader.rows.rows closed);
-}
+closed-together reader encoder closed ended none = grind (arith, common_steps, rows-closed)
 
 -- an epoch is open
 open-together : (reader : RinexReader) (encoder : EncoderState) → is_open_stage reader.stage ≡ true
     → encoder.is_open ≡ true → encoder.rows ≡ reader.rows.rows → BelongTogether reader encoder
-open-together reader encoder opened begun rows = record {
-  opened = begun ∙ sym opened;
-  rows = rows ∙ sym (rows-opened reader.stage reader.rows.rows opened);
-}
+open-together reader encoder opened begun rows = grind (arith, common_steps, rows-opened)
 
 -- the encoder has the rows that the reader has
 pub rows-there : (reader : RinexReader) (encoder : EncoderState) → BelongTogether reader encoder
@@ -76,8 +72,7 @@ none-there reader encoder t closed = t.rows ∙ rows-closed reader.stage reader.
 -- they go on together where the reader is as it was
 pub same-together : (before after : RinexReader) (encoder : EncoderState) → BelongTogether before encoder
     → IsSameReader before after → BelongTogether after encoder
-same-together before after encoder t same =
-    record { opened = rw (same.stage) t.opened; rows = rw (same.stage, same.rows) t.rows }
+same-together before after encoder t same = grind (arith, common_steps)
 
 -- ---- a row
 
@@ -90,14 +85,12 @@ among answer row read rows there said same where_ = rw (← same, ← where_) sa
 pub row-new : (answer : Bool) (row read : ObservationRow) (rows there : List ObservationRow)
     → answer ≡ not (has_satellite row.name rows) → row ≡ read → rows ≡ there → answer ≡ true
     → has_satellite read.name there ≡ false
-row-new answer row read rows there said same where_ is =
-    not-true _ (sym (among answer row read rows there said same where_) ∙ is)
+row-new answer row read rows there said same where_ is = grind (arith, common_steps, not-true, among)
 
 pub row-repeated : (answer : Bool) (row read : ObservationRow) (rows there : List ObservationRow)
     → answer ≡ not (has_satellite row.name rows) → row ≡ read → rows ≡ there → answer ≡ false
     → has_satellite read.name there ≡ true
-row-repeated answer row read rows there said same where_ is =
-    not-false _ (sym (among answer row read rows there said same where_) ∙ is)
+row-repeated answer row read rows there said same where_ is = grind (arith, common_steps, not-false, among)
 
 -- a row that isn't the last one leaves the epoch open, and the last one ends it
 pub row-or-epoch : (step : RinexStep) → is_row step ≡ true → (step ≡ Row → ⊥) → step ≡ Epoch
@@ -134,33 +127,21 @@ module _ (before mid : RinexReader) (encoder new : EncoderState) (line : List �
   pub row-refused : (fault : Fault) → new ≡ encoder → encoder.pending ≡ []
       → ((kept : Written) → RefusesRinexLine (made_at before line kept) before line fault)
       → HasRefusedRow before encoder line fault mid new
-  row-refused fault is none refuses = record {
-    refuses = refuses;
-    types = same.types;
-    nothing = rw is none;
-    together = rw is (same-together before mid encoder together same);
-    full = λ due full. rw (same.stage, is) full;
-  }
+  row-refused fault is none refuses = grind (arith, common_steps, same-together)
 
   -- everything was forgotten
   pub row-lost : (after : RinexReader) (room : EncodingRoom) → new ≡ forgotten encoder [] room
       → after.types ≡ mid.types → is_open_stage after.stage ≡ false
       → ((kept : Written) → RefusesRinexLine (made_at before line kept) before line OutOfMemory)
       → HasRefusedRow before encoder line OutOfMemory after new
-  row-lost after room is typed closed refuses = rw is (record {
-    refuses = refuses;
-    types = typed ∙ same.types;
-    nothing = refl;
-    together = closed-together after (forgotten encoder [] room) closed refl refl;
-    full = λ due full. served-closed after.stage encoder.in_full due closed;
-  })
+  row-lost after room is typed closed refuses =
+      grind (arith, common_steps, closed-together, forgotten, served-closed)
 
 -- what an epoch's end asks for
 head-counted : (found : Option ObservationHead) (head : ObservationHead) (rows come : List ObservationRow)
     → found ≡ Some head → length come ≡ head.count → rows ≡ come
     → IfSome found (λ (h : ObservationHead). length rows ≡ h.count) × (is_some found ≡ true)
-head-counted found head rows come is counted same =
-    rw is (ap (λ (rs : List ObservationRow). length rs) same ∙ counted, refl)
+head-counted found head rows come is counted same = grind (arith, common_steps)
 
 -- ---- a row that was taken and written
 
@@ -217,13 +198,8 @@ module _ {made : Made ObservationEpoch OpenEpoch} {line : List ℕ} {before afte
   begun-rows = ap (λ (e : EncoderState). e.rows) begun ∙ sym begins.0
 
   pub begun-together : is_open_stage after.stage ≡ true → BelongTogether after new
-  begun-together opened =
-      open-together after new opened (ap (λ (e : EncoderState). e.is_open) begun) begun-rows
+  begun-together opened = grind (arith, common_steps, open-together, begun-rows)
 
   pub begun-asked : is_open_stage after.stage ≡ false → (new.is_open ≡ true)
       × (IfSome after.head (λ h. length new.rows ≡ h.count) × (is_some after.head ≡ true))
-  begun-asked closed =
-      let done = begun-whole made line before after begins closed in (
-        ap (λ (e : EncoderState). e.is_open) begun,
-        head-counted after.head done.head new.rows after.rows.rows done.held done.counted begun-rows,
-      )
+  begun-asked closed = grind (arith, common_steps, begun-whole, head-counted, begun-rows)

@@ -36,9 +36,7 @@ back-parts every (Warned at ∷ kept) block = back-parts every kept block
 pub back-printed : (every : Option ℕ) (kept block : List (Item Epoch))
     → expanded_lines (back_on every kept block) ≡ printed_items kept
 back-printed every [] block = refl
-back-printed every (Accepted (Observation epoch) ∷ kept) block = cc (back-printed every kept block)
-back-printed every (Accepted unit ∷ kept) block = cc (back-printed every kept block)
-back-printed every (Warned at ∷ kept) block = back-printed every kept block
+back-printed every (item ∷ kept) block = grind (arith, back-printed every kept block)
 
 -- ---- the same state after them
 
@@ -48,20 +46,17 @@ pub alike-on : (every : Option ℕ) (kept block : List (Item Epoch)) (items : Li
 alike-on every [] block items h header alike = alike
 alike-on every (Warned at ∷ kept) block items h header alike = alike-on every kept block items h.1 header
     alike
-alike-on every (Accepted (HeaderLine line) ∷ kept) block items h header alike =
-    let never = sym (h.0).0 ∙ header-append kept block header in absurd (cc)
-alike-on every (Accepted (EventLine line) ∷ kept) block items h header alike = alike-unit
-    (back_on every kept block ++ items) (back_on every kept block ++ read_back every block) (EventLine line)
-    tt (alike-on every kept block items h.1 header alike)
+alike-on every (Accepted (HeaderLine line) ∷ kept) block items h header alike = grind (arith, header-append)
+alike-on every (Accepted (EventLine line) ∷ kept) block items h header alike =
+    grind (arith, alike-on every kept block items h.1 header alike, alike-unit)
 alike-on every (Accepted (EventRecord line) ∷ kept) block items h header alike =
     let so_far = alike-on every kept block items h.1 header alike in
     alike-unit (back_on every kept block ++ items) (back_on every kept block ++ read_back every block)
     (EventRecord line) (subst (λ n. 0 < n)
     (cc (so_far.left, back-parts every kept block, left-same (known_back every) (kept ++ block) h.1)) (h.0).1)
     so_far
-alike-on every (Accepted (Observation epoch) ∷ kept) block items h header alike = alike-unit
-    (back_on every kept block ++ items) (back_on every kept block ++ read_back every block) (Observation
-    (known_back every (kept ++ block) epoch)) tt (alike-on every kept block items h.1 header alike)
+alike-on every (Accepted (Observation epoch) ∷ kept) block items h header alike =
+    grind (arith, alike-on every kept block items h.1 header alike)
 
 -- ---- where what is kept begins anew, it comes after whole units
 
@@ -129,8 +124,7 @@ module _ (every : Option ℕ) (kept block : List (Item Epoch)) (items : List (It
 
   after-alike : (news : List (Item ReadEpoch)) → AreEpochs news
       → AreAlike (back_on every kept block ++ (news ++ items)) (read_back every (kept ++ block))
-  after-alike news epochs = rw (back-parts every kept block)
-      (alike-on every kept block (news ++ items) h.in_place h.header (block-alike news epochs))
+  after-alike news epochs = search (back-parts, alike-on, block-alike)
 
   -- no lines are kept
   nothing-kept : (r : Reading ReadEpoch) → IsOpen items r → map Content (lines_on every kept block) ≡ []

@@ -3,11 +3,10 @@
 use Rattle.crx_filter.proofs.Words
 use Words.{ℕ, zero, suc, ◌≡◌, ◌+◌, ◌<◌, max, ◌⊎◌, inl, inr, true, false, List, [], ◌∷◌, ◌++◌, length, drop}
 use Words.{refl, ap, sym, ◌∙◌, subst, arith, append_assoc, ⊤, AllByRecursion, length-drop, is_skippable}
-use Words.{ReadLine, Content, Overlong, At, Fault, begins_epoch, is_event_line, records_in, BadEpoch}
-use Words.{announces_records, true≢false, Option, Some, None, is_some, Here, Wrong, Wanted, FileUnit}
-use Words.{Observation, ReadEpoch, epoch_at, Item, Accepted, Warned, types_in_force, Reading, AtLines}
-use Words.{Looking, can_go_on, looked_for, reading_within, reading_from, raws_kept, compact_place}
-use Words.{IsBetweenUnits, continued_reading}
+use Words.{ReadLine, Content, Overlong, At, Fault, begins_epoch, is_event_line, BadEpoch, announces_records}
+use Words.{true≢false, Option, Some, None, is_some, Here, Wrong, Wanted, FileUnit, Observation, ReadEpoch}
+use Words.{epoch_at, Item, Accepted, Warned, types_in_force, Reading, AtLines, Looking, can_go_on, looked_for}
+use Words.{reading_within, reading_from, raws_kept, compact_place, IsBetweenUnits, continued_reading}
 use Rattle.crx_filter.proofs.Choosing.{by_bool}
 use Rattle.crx_filter.proofs.reading.EpochFaults.{IsSkippableAt, epoch-skippable, place-observation}
 use Rattle.crx_filter.proofs.reading.ForwardCompact.{compact-forward}
@@ -53,8 +52,7 @@ pub epochs-between : (news items : List (Item ReadEpoch))
 epochs-between [] items h between = between
 epochs-between (Accepted (Observation read) ∷ news) items h between =
     record { header = IsBetweenUnits.header (epochs-between news items h between); none = refl }
-epochs-between (Warned at ∷ news) items h between =
-    record { header = IsBetweenUnits.header (epochs-between news items h between); none = refl }
+epochs-between (Warned at ∷ news) items h between = search (epochs-between news items h between)
 epochs-between (Accepted unit ∷ news) items h between = absurd h
 
 pub epochs-types : (news items : List (Item ReadEpoch))
@@ -83,8 +81,7 @@ no-records (Some count) e = absurd (true≢false e)
 bad-event : (items : List (Item ReadEpoch)) (line : List ℕ) (lines : List ReadLine) → IsBetweenUnits items
     → announces_records line ≡ false → is_event_line line ≡ true
     → compact_place items (Content line ∷ lines) ≡ Wrong 0 BadEpoch
-bad-event items line lines h text event = cc
-    (place-between items (Content line ∷ lines) h, event, no-records (records_in line) (cc (event, text)))
+bad-event items line lines h text event = grind (arith, place-between, no-records)
 
 -- where more lines are wanted, the first one is no event's
 wanted-no_event : (items : List (Item ReadEpoch)) (line : List ℕ) (lines : List ReadLine)
@@ -97,8 +94,7 @@ stretch-epoch : (items : List (Item ReadEpoch)) (lines : List ReadLine)
     (unit : FileUnit ReadEpoch) (count : ℕ) → IsBetweenUnits items → AllByRecursion IsNoEvent lines
     → compact_place items lines ≡ Here unit count → (read : ReadEpoch) × (unit ≡ Observation read)
 stretch-epoch items [] unit count h text e = let never = sym (place-between items [] h) ∙ e in absurd (cc)
-stretch-epoch items (Overlong ∷ lines) unit count h text e = observation-here (epoch_at (types_in_force items)
-    (raws_kept items) (Overlong ∷ lines)) unit count (sym (place-between items (Overlong ∷ lines) h) ∙ e)
+stretch-epoch items (Overlong ∷ lines) unit count h text e = grind arith
 stretch-epoch items (Content line ∷ lines) unit count h text e = by_bool (is_event_line line)
     (λ event. let never = sym (bad-event items line lines h text.0 event) ∙ e in absurd (cc))
     (λ other. observation-here (epoch_at (types_in_force items) (raws_kept items) (Content line ∷ lines))
@@ -108,10 +104,7 @@ stretch-fault : (items : List (Item ReadEpoch)) (lines : List ReadLine) (offset 
     → IsBetweenUnits items → AllByRecursion IsNoEvent lines → compact_place items lines ≡ Wrong offset fault
     → is_skippable fault ≡ true
 stretch-fault items [] offset fault h text e = let never = sym (place-between items [] h) ∙ e in absurd (cc)
-stretch-fault items (Overlong ∷ lines) offset fault h text e =
-    subst (λ p. IsSkippableAt p) (sym (place-between items (Overlong ∷ lines) h) ∙ e)
-    (place-observation is_skippable (epoch_at (types_in_force items) (raws_kept items) (Overlong ∷ lines))
-    (epoch-skippable (types_in_force items) (raws_kept items) (Overlong ∷ lines)))
+stretch-fault items (Overlong ∷ lines) offset fault h text e = grind arith
 stretch-fault items (Content line ∷ lines) offset fault h text e = by_bool (is_event_line line)
     (λ event. subst (λ p. IsSkippableAt p) (sym (bad-event items line lines h text.0 event) ∙ e) refl)
     (λ other. subst (λ p. IsSkippableAt p) (sym (place-inside items line lines h other) ∙ e)
@@ -125,8 +118,7 @@ looked-stretch : (read : ℕ → List ReadLine → Reading ReadEpoch) (items : L
     (bound number : ℕ) (lines : List ReadLine) → ((n : ℕ) (ls : List ReadLine) → length ls < bound
     → AllByRecursion IsNoEvent ls → IsStretchRead items (read n ls)) → length lines < bound
     → AllByRecursion IsNoEvent lines → IsStretchRead items (looked_for read items number lines)
-looked-stretch read items bound number [] h few text =
-    record { news = []; epochs = tt; stops = inr (number, refl) }
+looked-stretch read items bound number [] h few text = grind arith
 looked-stretch read items bound number (line ∷ lines) h few text = by_bool (can_go_on line)
     (λ on. rw (looked-here read items number line lines on) (h number (line ∷ lines) few text))
     (λ off. rw (looked-on read items number line lines off)
@@ -207,12 +199,7 @@ warned-epochs (at ∷ older) = warned-epochs older
 
 after-warnings : (items : List (Item ReadEpoch)) (lines : List ReadLine) (r : Reading ReadEpoch)
     → GoesOnAt items lines r → GoesOnAfter items lines r
-after-warnings items lines r g = record {
-  news = warned g.warnings;
-  epochs = warned-epochs g.warnings;
-  number = g.number;
-  same = cc (g.same, warned-same g.warnings items);
-}
+after-warnings items lines r g = grind (arith, warned-epochs, warned-same)
 
 pub open-continued : (items : List (Item ReadEpoch)) (r : Reading ReadEpoch) (line : List ℕ)
     (tail : List ReadLine) → IsBetweenUnits items → IsOpen items r → begins_epoch line ≡ true
@@ -223,11 +210,9 @@ open-continued items r line tail between (inl (number, [], none, e, is)) begins 
   number = number;
   same = cc (is);
 }
-open-continued items r line tail between (inl (number, Overlong ∷ rest, none, e, is)) begins =
-    let never = sym (place-between items (Overlong ∷ rest) between) ∙ e in absurd (cc)
+open-continued items r line tail between (inl (number, Overlong ∷ rest, none, e, is)) begins = grind arith
 open-continued items r line tail between (inl (number, Content first ∷ rest, none, e, is)) begins =
-    rw is (after-warnings items (Content line ∷ tail) _ (open-goes_on
-    items number first rest line tail between (wanted-no_event items first rest between none.0 e) e begins))
+    grind (arith, after-warnings, open-goes_on, wanted-no_event)
 open-continued items r line tail between (inr (number, is)) begins = record {
   news = [];
   epochs = tt;

@@ -1,11 +1,11 @@
 -- A text that is damaged in stretches, cut into lines: those that the compaction wrote, and those that come
 -- in the stretches.
 use Rattle.crx_filter.proofs.Words
-use Words.{ℕ, ◌≡◌, ◌⊎◌, inl, inr, true, List, [], ◌∷◌, ◌++◌, map, length, drop, refl, ap, sym, ◌∙◌}
-use Words.{append_assoc, append-nil, AllByRecursion, list_all, drop-append_seam, and_parts, not-true, Piece}
-use Words.{InputLine, pieces_of, lines_of, is_long, lines_text, Content, seen, Epoch, Choices, Item, Accepted}
-use Words.{Warned, header_has_ended, compact_lines, lines_after, OfCopiedLines, HaveNoReturns, AreInPlace}
-use Words.{Stretch, up_to_end, up_to_next, with_stretches, announces_records, IsStretch, AreStretches}
+use Words.{ℕ, ◌≡◌, ◌⊎◌, inl, inr, true, List, [], ◌∷◌, ◌++◌, map, refl, ap, sym, ◌∙◌, append_assoc}
+use Words.{append-nil, AllByRecursion, list_all, drop-append_seam, and_parts, not-true, Piece, InputLine}
+use Words.{pieces_of, lines_of, is_long, lines_text, Content, seen, Epoch, Choices, Item, Accepted, Warned}
+use Words.{header_has_ended, lines_after, OfCopiedLines, HaveNoReturns, AreInPlace, Stretch, up_to_end}
+use Words.{up_to_next, with_stretches, announces_records, IsStretch, AreStretches}
 use Rattle.crx_filter.proofs.Choosing.{by_bool}
 use Rattle.crx_filter.specs.meaning.Stretches.{stretches_text, begins_no_event}
 use Rattle.crx_filter.proofs.wayback.Cut.{IsClean, CanStand}
@@ -34,10 +34,8 @@ lines-allowed (line ∷ lines) e =
 pub stretches-allowed : (choices : Choices) (before : List (Item Epoch)) (stretches : List Stretch)
     → AreStretches choices before stretches → AllowLines stretches
 stretches-allowed choices before [] h = tt
-stretches-allowed choices before (s ∷ later) h = (
-  lines-allowed (lines_of s.instead) (IsStretch.allowed h.0),
-  stretches-allowed choices (up_to_next before s) later h.1,
-)
+stretches-allowed choices before (s ∷ later) h =
+    search (stretches-allowed choices (up_to_next before s) later h.1, lines-allowed)
 
 -- ---- the units of a file, and those before some of them
 
@@ -53,11 +51,7 @@ copied-rest P (Accepted unit ∷ later) before h = copied-rest P later before h.
 copied-rest P (Warned at ∷ later) before h = copied-rest P later before h
 
 pub good-before : (later before : List (Item Epoch)) → AreGood (later ++ before) → AreGood before
-good-before later before h = record {
-  in_place = rest-in_place later before h.in_place;
-  copied = copied-rest CanStand later before h.copied;
-  no_returns = copied-rest _ later before h.no_returns;
-}
+good-before later before h = search (rest-in_place, copied-rest)
 
 pub good-up_to : (before : List (Item Epoch)) (stretches : List Stretch)
     → AreGood (with_stretches before stretches) → AreGood before
@@ -71,9 +65,7 @@ good-up_to before (s ∷ later) h = good-before s.lost before
 pub kept-lines : (choices : Choices) (kept block : List (Item Epoch)) → AreInPlace (kept ++ block)
     → header_has_ended block ≡ true
     → lines_after choices block (kept ++ block) ≡ lines_on choices.every kept block
-kept-lines choices kept block h header = ap (drop (length (compact_lines choices block)))
-    (text-parts choices kept block h (header-append kept block header) header)
-    ∙ drop-append_seam (compact_lines choices block) (lines_on choices.every kept block)
+kept-lines choices kept block h header = search (text-parts, header-append, drop-append_seam)
 
 pub kept-clean : (choices : Choices) (kept block : List (Item Epoch)) → AreGood (kept ++ block)
     → AllByRecursion IsClean (lines_on choices.every kept block)
@@ -88,8 +80,7 @@ ended-cut : (instead : List ℕ) (lines : List (List ℕ)) (text : List ℕ) →
     → list_all (λ (piece : Piece). piece.is_ended) (pieces_of instead) ≡ true
     → map seen (lines_of (instead ++ (lines_text lines ++ text)))
     ≡ map seen (lines_of instead) ++ (map Content lines ++ map seen (lines_of text))
-ended-cut instead lines text clean ended = lines-append instead (lines_text lines ++ text) (each-ended
-    (pieces_of instead) ended) ∙ ap (λ ls. map seen (lines_of instead) ++ ls) (front-cut lines text clean)
+ended-cut instead lines text clean ended = search (lines-append, each-ended, front-cut)
 
 -- bytes with nothing after them
 last-cut : (choices : Choices) (before : List (Item Epoch)) (s : Stretch) (later : List Stretch) → s.kept ≡ []

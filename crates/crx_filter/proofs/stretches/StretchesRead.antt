@@ -105,9 +105,8 @@ one-stretch choices before s later so_far items h allowed sound come =
 news-printed : (news : List (Item ReadEpoch))
     → AreEpochs news → expanded_lines news ≡ flat_map printed_epoch (epochs_of news)
 news-printed [] h = refl
-news-printed (Accepted (Observation read) ∷ news) h = ap (λ ls. ls ++ printed_epoch read.epoch)
-    (news-printed news h) ∙ ap (λ ls. flat_map printed_epoch (epochs_of news) ++ ls) (sym (append-nil
-    (printed_epoch read.epoch))) ∙ sym (flat_map-append printed_epoch (epochs_of news) (read.epoch ∷ []))
+news-printed (Accepted (Observation read) ∷ news) h =
+    search (news-printed news h, append-nil, flat_map-append)
 news-printed (Warned at ∷ news) h = news-printed news h
 news-printed (Accepted unit ∷ news) h = absurd h
 
@@ -149,8 +148,7 @@ pub record AreSound (before : List (Item Epoch)) (stretches : List Stretch) : Ty
 pub in_place-up_to : (before : List (Item Epoch)) (stretches : List Stretch)
     → AreInPlace (with_stretches before stretches) → AreInPlace before
 in_place-up_to before [] h = h
-in_place-up_to before (s ∷ later) h = rest-in_place s.lost before
-    (rest-in_place s.kept (up_to_end before s) (in_place-up_to (up_to_next before s) later h))
+in_place-up_to before (s ∷ later) h = search (in_place-up_to (up_to_next before s) later h, rest-in_place)
 
 -- the units up to the next stretch, or the end, are whole
 pub next-closed : (choices : Choices) (next : List (Item Epoch)) (later : List Stretch)

@@ -2,11 +2,11 @@
 -- whole units.
 use Rattle.crx_filter.proofs.Words
 use Words.{ℕ, ◌≡◌, ◌+◌, Bool, true, false, List, [], ◌∷◌, ◌++◌, map, length, reverse, Option, None, refl, ap}
-use Words.{sym, ◌∙◌, subst, arith, append-nil, inl, inr, AllByRecursion, lines_of, lines_text, ReadLine}
-use Words.{Content, seen, version_line, program_line, Epoch, ReadEpoch, Choices, is_date, Item, is_at_start}
-use Words.{records_left, Reading, AtLines, reading_from, ended_reading, compact_lines, compact_place}
-use Words.{expanded_unit, whole_compact, expanded, printed_items, warnings_in, result_of, notices_text}
-use Words.{Begins, IsBetweenUnits, expanded_lines, expanded_so_far, AreInPlace, ItemsAreRead, IsWrittenFirst}
+use Words.{sym, ◌∙◌, subst, arith, append-nil, inl, inr, lines_of, lines_text, ReadLine, Content, seen}
+use Words.{version_line, program_line, Epoch, ReadEpoch, Choices, is_date, Item, is_at_start, records_left}
+use Words.{Reading, AtLines, reading_from, ended_reading, compact_lines, compact_place, expanded_unit}
+use Words.{whole_compact, expanded, printed_items, warnings_in, result_of, notices_text, Begins}
+use Words.{IsBetweenUnits, expanded_lines, expanded_so_far, AreInPlace, ItemsAreRead, IsWrittenFirst}
 use Words.{with_stretches}
 use Rattle.crx_filter.specs.meaning.Stretches.{read_of_file, IsReadWhole, HasStretches, KeepsTheRest}
 use Rattle.crx_filter.specs.meaning.Stretches.{BeginsWhole}
@@ -14,7 +14,6 @@ use Rattle.crx_filter.proofs.reading.CompactPrefixes.{expanded-first, reading-at
 use Rattle.crx_filter.proofs.reading.ForwardCompact.{compact-forward}
 use Rattle.crx_filter.proofs.reading.WhatWasRead.{items-read}
 use Rattle.crx_filter.proofs.wayback.Carried.{started, types-same, reads-again}
-use Rattle.crx_filter.proofs.wayback.Cut.{IsClean}
 use Rattle.crx_filter.proofs.wayback.ExpandedWhole.{AreGoodEpochs, epochs-good}
 use Rattle.crx_filter.proofs.wayback.First.{first-lines_read, version-clean, program-clean}
 use Rattle.crx_filter.proofs.wayback.Items.{body_unit, known_back, read_back, unit-here}
@@ -23,7 +22,7 @@ use Rattle.crx_filter.proofs.wayback.WayBack.{IsSettled, whole-settled, lines-sa
 use Rattle.crx_filter.proofs.wayback.WayBack.{whole-after}
 use Rattle.crx_filter.proofs.damage.BlockSaved.{back-between}
 use Rattle.crx_filter.proofs.damage.DamagedText.{front-cut}
-use Rattle.crx_filter.proofs.damage.GoingOn.{EndsAfter, ends-well, ends-inside, with_warnings}
+use Rattle.crx_filter.proofs.damage.GoingOn.{EndsAfter, ends-inside, with_warnings}
 use Rattle.crx_filter.proofs.damage.SavedText.{lines-append, lines-warned}
 use Rattle.crx_filter.proofs.stretches.OpenReading.{IsOpen}
 use Rattle.crx_filter.proofs.stretches.StretchesCut.{AreGood, good-before, good-up_to, stretches-allowed}
@@ -39,28 +38,18 @@ file-settled file choices h = whole-settled choices.skip file h.good
 
 pub file-good : (file : List ℕ) (choices : Choices) → IsReadWhole file choices
     → AreGood (read_of_file file choices).items
-file-good file choices h =
-    let settled = file-settled file choices h in
-    record { in_place = settled.in_place; copied = settled.copied; no_returns = h.no_returns }
+file-good file choices h = grind (arith, file-settled)
 
 -- ---- the first lines of a text
 
 abbrev pub front_lines : Choices → List (Item Epoch) → List (List ℕ)
 front_lines choices before = version_line ∷ program_line choices.date ∷ lines_back choices.every before
 
-front-clean : (choices : Choices) (before : List (Item Epoch)) → is_date choices.date ≡ true → AreGood before
-    → AllByRecursion IsClean (front_lines choices before)
-front-clean choices before dated h = (
-  version-clean,
-  (program-clean choices.date dated, lines-clean choices.every before h.in_place h.copied h.no_returns),
-)
-
 pub front-seen : (choices : Choices) (before : List (Item Epoch)) (text : List ℕ) → is_date choices.date
     ≡ true → AreGood before → is_at_start before ≡ false → map seen (lines_of (lines_text (compact_lines
     choices before) ++ text)) ≡ map Content (front_lines choices before) ++ map seen (lines_of text)
 front-seen choices before text dated h begun =
-    ap (λ ls. map seen (lines_of (lines_text ls ++ text))) (lines-same choices before h.in_place begun)
-    ∙ front-cut (front_lines choices before) text (front-clean choices before dated h)
+    grind (arith, lines-same, front-cut, version-clean, program-clean, lines-clean)
 
 pub front-read : (skip : Bool) (every : Option ℕ) (before : List (Item Epoch)) → AreInPlace before
     → reading_from compact_place skip [] 3 (map Content (lines_back every before))
@@ -72,13 +61,8 @@ front-read skip every before h = reads-again compact_place
 
 open-ends : (items : List (Item ReadEpoch)) (r : Reading ReadEpoch)
     → IsBetweenUnits items → IsOpen items r → EndsAfter items (ended_reading true r)
-open-ends items r between (inl (number, [], text, e, is)) = record {
-  warnings = [];
-  few = omega arith;
-  same = cc (is, ends-well items number between);
-}
-open-ends items r between (inl (number, line ∷ rest, text, e, is)) =
-    rw is (ends-inside items number line rest between)
+open-ends items r between (inl (number, [], text, e, is)) = grind arith
+open-ends items r between (inl (number, line ∷ rest, text, e, is)) = grind (arith, ends-inside)
 open-ends items r between (inr (number, is)) = record { warnings = []; few = omega arith; same = cc (is) }
 
 open-items : (items : List (Item ReadEpoch)) (r : Reading ReadEpoch) → IsOpen items r → r.items ≡ items

@@ -1,7 +1,7 @@
 -- Compact text is canonical: a file's normal form is compacted as the file, and comes back from that text.
-use Rattle.crx_filter.proofs.Words.{ℕ, ◌≡◌, List, None, map, ap, sym, ◌∙◌, Option, lines_of, seen, At, Epoch}
-use Rattle.crx_filter.proofs.Words.{Choices, compact_unit, compacted, expanded, WholeReading, normal_form}
-use Rattle.crx_filter.proofs.Words.{whole_of, HasNormalForm, result_of, FilterResult, IsResult, Device}
+use Rattle.crx_filter.proofs.Words.{ℕ, ◌≡◌, List, None, map, ap, sym, ◌∙◌, Option, lines_of, seen, At}
+use Rattle.crx_filter.proofs.Words.{Choices, compact_unit, compacted, expanded, normal_form, whole_of}
+use Rattle.crx_filter.proofs.Words.{HasNormalForm, result_of, FilterResult, IsResult, Device}
 use Rattle.crx_filter.specs.meaning.Canonical.{CompactsAsNormal, IsCanonical, DependsOnNormalForm}
 use Rattle.crx_filter.proofs.wayback.NormalForm.{read-as_normal}
 use Rattle.crx_filter.proofs.wayback.Standard.{same-reading, normal-comes_back}
@@ -12,10 +12,7 @@ pub compacted-by : (file : List ℕ) (choices : Choices) → (whole_of file).fau
 compacted-by file choices good = cc (same-reading choices.skip (map seen (lines_of file)) good)
 
 pub as-normal : (file : List ℕ) (choices : Choices) → CompactsAsNormal file choices
-as-normal file choices h =
-    let again : whole_of (normal_form file) ≡ whole_of file = read-as_normal file h in
-    compacted-by (normal_form file) choices (ap (λ (w : WholeReading Epoch). w.fault) again ∙ h.good)
-    ∙ ap (result_of (compact_unit choices)) again ∙ sym (compacted-by file choices h.good)
+as-normal file choices h = search (read-as_normal, compacted-by)
 
 same-compaction : (one other : List ℕ) (choices : Choices) → HasNormalForm one → HasNormalForm other
     → normal_form one ≡ normal_form other → compacted one choices ≡ compacted other choices

@@ -1,16 +1,14 @@
 -- What was accepted of a RINEX file, written again and read again: the units without the warnings between
 -- them, with the same header, events and types in force.
 use Rattle.crx_filter.proofs.Words
-use Words.{ℕ, zero, suc, ◌≡◌, ◌+◌, ◌-◌, ◌<◌, Bool, true, false, cond, List, [], ◌∷◌, map, length, None}
-use Words.{refl, ap, sym, ◌∙◌, arith, length-append, map-append, length-map, ReadLine, Content, Epoch, Place}
-use Words.{Here, first_line, FileUnit, HeaderLine, EventLine, EventRecord, Observation, types_of, Item}
-use Words.{Accepted, Warned, is_at_start, header_has_ended, records_left, records_count_types}
-use Words.{declaring_lines, types_in_force, types_fault, header_line_fault, event_record, unit_place, Reading}
-use Words.{AtLines, reading_within, reading_from, ended_reading, whole_reading, continued_reading}
-use Words.{IsReadForward, AreInPlace, written_lines}
+use Words.{ℕ, zero, suc, ◌≡◌, ◌+◌, ◌-◌, ◌<◌, Bool, true, false, cond, List, [], ◌∷◌, map, length, None, refl}
+use Words.{ap, sym, ◌∙◌, arith, length-append, map-append, length-map, ReadLine, Content, Epoch, Place, Here}
+use Words.{FileUnit, HeaderLine, EventLine, EventRecord, Observation, types_of, Item, Accepted, Warned}
+use Words.{is_at_start, header_has_ended, records_left, records_count_types, declaring_lines, types_in_force}
+use Words.{types_fault, header_line_fault, unit_place, Reading, AtLines, reading_from, ended_reading}
+use Words.{whole_reading, continued_reading, IsReadForward, AreInPlace, written_lines}
 use Rattle.std.proofs.lemmas.List.{drop_all}
 use Rattle.crx_filter.proofs.reading.Resuming.{within-here, within-wanted, enough-units, resumed}
-use Rattle.crx_filter.proofs.following.Lines.{record-place}
 use Rattle.crx_filter.proofs.reading.Ending.{closes-well}
 
 -- a unit with what is known of its epoch where it is read again
@@ -32,9 +30,7 @@ carried known (Warned at ∷ before) = carried known before
 pub header-same : {E : Type 0} (known : List (Item Epoch) → Epoch → E) (items : List (Item Epoch))
     → header_has_ended (carried known items) ≡ header_has_ended items
 header-same known [] = refl
-header-same known (Accepted (HeaderLine line) ∷ before) = cc (header-same known before)
-header-same known (Accepted unit ∷ before) = header-same known before
-header-same known (Warned at ∷ before) = header-same known before
+header-same known (item ∷ before) = grind (arith, header-same known before)
 
 pub started : {E : Type 0} (items : List (Item E)) → header_has_ended items ≡ true → is_at_start items ≡ false
 started [] e = absurd (cc)
@@ -78,17 +74,12 @@ pub header-here : {E : Type 0} (beginning : List (Item E) → List ReadLine → 
     ≡ None → unit_place beginning items (Content line ∷ []) ≡ Here (HeaderLine line) 1
 header-here beginning items line e f = rw (e, f) refl
 
-record-read : {E : Type 0} (b : Bool) (line : List ℕ) → cond b (types_fault line) None ≡ None
-    → first_line (Content line ∷ []) (event_record {E = E} b) ≡ Here (EventRecord line) 1
-record-read b line e = rw e refl
-
 pub record-here : {E : Type 0} (beginning : List (Item E) → List ReadLine → Place (FileUnit E))
     (items : List (Item E)) (line : List ℕ) (left : ℕ) → header_has_ended items ≡ true
     → records_left items ≡ left → 0 < left → cond (records_count_types items) (types_fault line) None ≡ None
     → unit_place beginning items (Content line ∷ []) ≡ Here (EventRecord line) 1
 record-here beginning items line zero ended_reading e some good = absurd (omega (arith, some))
-record-here beginning items line (suc left) ended_reading e some good = record-place beginning items left
-    (Content line ∷ []) ended_reading e ∙ record-read _ line good
+record-here beginning items line (suc left) ended_reading e some good = grind arith
 
 -- ---- one unit after another
 
@@ -97,11 +88,8 @@ pub one-unit : {E : Type 0} (place : List (Item E) → List ReadLine → Place (
     → (skip : Bool) (items : List (Item E)) (number : ℕ) (lines : List ReadLine) (unit : FileUnit E)
     → place items lines ≡ Here unit (length lines) → reading_from place skip items number lines
     ≡ record { items = Accepted unit ∷ items; stop = AtLines (number + length lines) [] }
-one-unit place h skip items number lines unit e = enough-units place h skip _ (suc (suc (length lines)))
-    items number lines (omega arith) (omega arith) ∙ within-here place skip (suc (length lines))
-    items number lines unit (length lines) e ∙ ap (λ ls. reading_within place skip (suc (length lines))
-    (Accepted unit ∷ items) (number + length lines) ls) (drop_all (length lines) lines (omega arith))
-    ∙ within-wanted place skip (length lines) _ _ [] (h.wants (Accepted unit ∷ items))
+one-unit place h skip items number lines unit e =
+    grind (arith, enough-units, within-here, drop_all, within-wanted)
 
 pub at-line : {E : Type 0} (items : List (Item E)) (m n : ℕ) → m ≡ n → ◌≡◌ {A = Reading E}
     (record { items = items; stop = AtLines m [] }) (record { items = items; stop = AtLines n [] })
@@ -120,8 +108,7 @@ module _ {E : Type 0} (place : List (Item E) → List ReadLine → Place (FileUn
       → (skip : Bool) (number : ℕ) (items : List (Item Epoch)) → AreInPlace items
       → reading_from place skip [] number (map Content (written_lines lines_of_unit items)) ≡ record
       { items = carried known items; stop = AtLines (number + length (written_lines lines_of_unit items)) [] }
-  reads-again forward stands skip number [] h =
-      within-wanted place skip 0 [] number [] (forward.wants []) ∙ at-line [] number _ (omega arith)
+  reads-again forward stands skip number [] h = grind arith
   reads-again forward stands skip number (Warned at ∷ before) h =
       reads-again forward stands skip number before h.1
   reads-again forward stands skip number (Accepted unit ∷ before) h =
@@ -141,6 +128,4 @@ module _ {E : Type 0} (place : List (Item E) → List ReadLine → Place (FileUn
       → header_has_ended items ≡ true → records_left items ≡ 0 → whole_reading place skip number
       (map Content (written_lines lines_of_unit items)) ≡ record { items = carried known items; fault = None }
   whole-again forward stands skip number items h header none =
-      let first =
-      closes-well (carried known items) (header-same known items ∙ header) (left-same known items h ∙ none) in
-      cc (reads-again forward stands skip number items h)
+      search (closes-well, header-same, left-same, reads-again)

@@ -3,17 +3,16 @@ use Rattle.crx_filter.proofs.Words
 use Words.{ℕ, ℤ, zero, suc, ◌≡◌, ◌+◌, ◌-◌, ◌<◌, ◌≤◌, true, false, List, [], ◌∷◌, ◌++◌, map, length, take}
 use Words.{drop, replicate, Option, Some, None, refl, ap, sym, ◌∙◌, arith, All, AllByRecursion, list_all}
 use Words.{All-head, All-tail, and_parts, and_from, clock_text, IsSoundRow, IsWholeEpoch, Count}
-use Words.{OBSERVATION_WIDTH, CLOCK_WIDTH, InputLine, ends_with_return, line_of, lines_of, HasNoFeed}
-use Words.{is_printable, is_kept, Row, Epoch, printed_row, printed_epoch, printed_cells, lines_text}
-use Words.{printed_unit, Observation, Choices, is_date, compacted, expanded, Item, Accepted, Warned}
-use Words.{types_in_force, WholeReading, FilterResult, printed_items, whole_of, IsStandard, AreInPlace}
-use Words.{OfCopiedLines, HaveNoReturns}
-use Rattle.std.proofs.Common.{pos, negsuc, ◌/◌, ◌%◌, ◌^◌, decimal}
+use Words.{OBSERVATION_WIDTH, CLOCK_WIDTH, InputLine, ends_with_return, lines_of, HasNoFeed, is_printable}
+use Words.{is_kept, Row, Epoch, printed_row, printed_epoch, printed_cells, lines_text, Observation, Choices}
+use Words.{is_date, compacted, expanded, Item, Accepted, Warned, types_in_force, WholeReading, FilterResult}
+use Words.{printed_items, whole_of, IsStandard, AreInPlace, OfCopiedLines, HaveNoReturns}
+use Rattle.std.proofs.Common.{pos, negsuc, ◌^◌, decimal}
 use Rattle.std.specs.Str.{all_ascii_digits}
 use Rattle.std.specs.Char.{is_ascii_digit}
 use Rattle.std.proofs.Math.Nat.{pow-le-pow_right}
-use Rattle.crx_text.specs.meaning.Numbers.{IsMissingOrWithin, number_text, size_text, zero_padded}
-use Rattle.crx_text.specs.meaning.Numbers.{observation_text, IsValue}
+use Rattle.crx_text.specs.meaning.Numbers.{IsMissingOrWithin, number_text, size_text, observation_text}
+use Rattle.crx_text.specs.meaning.Numbers.{IsValue}
 use Rattle.crx_text.proofs.Spellings.{abs_within}
 use Rattle.crx_compact.proofs.wayback.Writable.{sound-name_kept}
 use Rattle.crx_compact.proofs.wayback.Facts.{head-kept}
@@ -35,15 +34,10 @@ pub record IsPlainLine (line : List ℕ) : Type 0 where
 abbrev pub plain : List ℕ → InputLine
 plain line = record { content = line; is_plain = true }
 
-line-plain : (line : List ℕ) → IsPlainLine line → line_of (record { bytes = line; is_ended = true })
-    ≡ plain line
-line-plain line h = cc (return-kept line h.no_return, h.no_return)
-
 pub lines-plain : (lines : List (List ℕ))
     → AllByRecursion IsPlainLine lines → lines_of (lines_text lines) ≡ map plain lines
 lines-plain [] h = refl
-lines-plain (line ∷ lines) h = cc
-    (first-cut line lines (IsPlainLine.one_line h.0), line-plain line h.0, lines-plain lines h.1)
+lines-plain (line ∷ lines) h = grind (arith, lines-plain lines h.1, first-cut, return-kept)
 
 -- ---- what is printed is printable
 
@@ -53,19 +47,11 @@ replicate-text (suc n) c h = and_from _ _ h (replicate-text n c h)
 
 kept-text : (text : List ℕ) → list_all is_kept text ≡ true → list_all is_printable text ≡ true
 kept-text [] h = refl
-kept-text (c ∷ cs) h =
-    let both = and_parts (is_kept c) _ h in
-    and_from (is_printable c)
-    (list_all is_printable cs) (and_parts (is_printable c) _ both.0).0 (kept-text cs both.1)
-
-digit-printable : (c : ℕ) → is_ascii_digit c ≡ true → is_printable c ≡ true
-digit-printable c h = grind (arith, h)
+kept-text (c ∷ cs) h = grind (arith, kept-text cs (and_parts (is_kept c) _ h).1)
 
 digits-text : (text : List ℕ) → all_ascii_digits text ≡ true → list_all is_printable text ≡ true
 digits-text [] h = refl
-digits-text (c ∷ cs) h =
-    let both = and_parts (is_ascii_digit c) _ h in
-    and_from (is_printable c) (list_all is_printable cs) (digit-printable c both.0) (digits-text cs both.1)
+digits-text (c ∷ cs) h = grind (arith, digits-text cs (and_parts (is_ascii_digit c) _ h).1)
 
 drop-text : (n : ℕ) (text : List ℕ) → list_all is_printable text ≡ true
     → list_all is_printable (drop n text) ≡ true
@@ -80,12 +66,8 @@ small-size width size h k =
     omega (arith, k, pow-le-pow_right {n = 10} (omega arith) fewer)
 
 size-printable : (decimals size : ℕ) → size < 2 ^ 64 → list_all is_printable (size_text decimals size) ≡ true
-size-printable decimals size h = append-printable (decimal (size / 10 ^ decimals))
-    (46 ∷ zero_padded decimals (size % 10 ^ decimals)) (digits-text (decimal (size / 10 ^ decimals))
-    (decimal_is_digits (size / 10 ^ decimals) (grind (arith, h)))) (append-printable
-    (replicate (decimals - length (decimal (size % 10 ^ decimals))) 48) (decimal (size % 10 ^ decimals))
-    (replicate-text (decimals - length (decimal (size % 10 ^ decimals))) 48 refl) (digits-text
-    (decimal (size % 10 ^ decimals)) (decimal_is_digits (size % 10 ^ decimals) (grind (arith, h)))))
+size-printable decimals size h =
+    grind (arith, append-printable, decimal, digits-text, decimal_is_digits, replicate-text)
 
 number-printable : (width decimals : ℕ) (value : Option ℤ) → width ≤ 19
     → IsMissingOrWithin width value → list_all is_printable (number_text width decimals value) ≡ true
@@ -135,10 +117,7 @@ epoch-printable types epoch h = (
 printable-plain : (lines : List (List ℕ)) → AllByRecursion
     (λ (line : List ℕ). list_all is_printable line ≡ true) lines → AllByRecursion IsPlainLine lines
 printable-plain [] h = tt
-printable-plain (line ∷ lines) h = (
-  record { one_line = printable-no_feed line h.0; no_return = printable-no_return line h.0 },
-  printable-plain lines h.1,
-)
+printable-plain (line ∷ lines) h = search (printable-plain lines h.1, printable-no_feed, printable-no_return)
 
 pub printed-plain : (items : List (Item Epoch)) → AreInPlace items
     → OfCopiedLines CanStand items → HaveNoReturns items → AllByRecursion IsPlainLine (printed_items items)
@@ -146,8 +125,7 @@ printed-plain [] h k e = tt
 printed-plain (Accepted (Observation epoch) ∷ before) h k e =
     all-append IsPlainLine (printed_items before) (printed_epoch epoch) (printed-plain before h.1 k.1 e.1)
     (printable-plain (printed_epoch epoch) (epoch-printable (types_in_force before) epoch (h.0).2))
-printed-plain (Accepted unit ∷ before) h k e = all-append IsPlainLine (printed_items before) (printed_unit
-    unit) (printed-plain before h.1 k.1 e.1) (record { one_line = (k.0).0; no_return = e.0 }, tt)
+printed-plain (Accepted unit ∷ before) h k e = search (printed-plain before h.1 k.1 e.1, all-append)
 printed-plain (Warned at ∷ before) h k e = printed-plain before h.1 k e
 
 pub all-plain : (lines : List (List ℕ)) → list_all (λ (line : InputLine). line.is_plain)

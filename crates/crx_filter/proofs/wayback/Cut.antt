@@ -32,14 +32,12 @@ seen-clean line h =
 -- the first of some lines, cut off their text
 pub first-cut : (line : List ℕ) (lines : List (List ℕ)) → HasNoFeed line → pieces_of
     (lines_text (line ∷ lines)) ≡ record { bytes = line; is_ended = true } ∷ pieces_of (lines_text lines)
-first-cut line lines one =
-    cc (append_assoc line (10 ∷ []) (lines_text lines), pieces-first line (lines_text lines) one)
+first-cut line lines one = search (append_assoc, pieces-first)
 
 pub lines-cut : (lines : List (List ℕ))
     → AllByRecursion IsClean lines → map seen (lines_of (lines_text lines)) ≡ map Content lines
 lines-cut [] h = refl
-lines-cut (line ∷ lines) h = cc
-    (first-cut line lines (IsClean.one_line h.0), seen-clean line h.0, lines-cut lines h.1)
+lines-cut (line ∷ lines) h = search (lines-cut lines h.1, first-cut, seen-clean)
 
 -- ---- what is read of an input
 

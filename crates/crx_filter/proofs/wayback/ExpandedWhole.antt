@@ -1,15 +1,13 @@
 -- What was accepted of compact text: each epoch is whole, by the types in force where it was read.
-use Rattle.crx_filter.proofs.Words.{ℕ, ◌≡◌, cond, List, [], ◌∷◌, None, refl, ⊤, AllByRecursion, ReadLine}
-use Rattle.crx_filter.proofs.Words.{Count, Place, Here, FileUnit, HeaderLine, EventLine, EventRecord}
-use Rattle.crx_filter.proofs.Words.{Observation, RawEpoch, ReadEpoch, epoch_at, IsGood, Item, Accepted}
-use Rattle.crx_filter.proofs.Words.{Warned, is_at_start, records_count_types, types_in_force, types_fault}
-use Rattle.crx_filter.proofs.Words.{header_line_fault, header_line, event_record, raws_kept, empties_state}
-use Rattle.crx_filter.proofs.Words.{as_observation, compact_epoch_place, compact_place, ItemsAreRead}
+use Rattle.crx_filter.proofs.Words.{[], ℕ, ◌≡◌, List, ◌∷◌, ⊤, AllByRecursion, ReadLine, Count, Here, FileUnit}
+use Rattle.crx_filter.proofs.Words.{HeaderLine, EventLine, EventRecord, Observation, RawEpoch, ReadEpoch}
+use Rattle.crx_filter.proofs.Words.{epoch_at, IsGood, Item, Accepted, Warned, records_count_types}
+use Rattle.crx_filter.proofs.Words.{types_in_force, raws_kept, empties_state, compact_place, ItemsAreRead}
 use Rattle.crx_compact.specs.ReadingLaws.{HasPrintableMarks}
 use Rattle.crx_compact.proofs.soundness.Goodness.{reads-whole}
 use Rattle.crx_filter.proofs.reading.Types.{counts-in_force}
-use Rattle.crx_filter.proofs.reading.WhatStands.{OfHere, chosen, first-line, unless-wrong, of-unit}
-use Rattle.crx_filter.proofs.reading.WhatStands.{of-compact}
+use Rattle.crx_filter.proofs.reading.ForwardCompact.{compact_beginning}
+use Rattle.crx_filter.proofs.reading.WhatStands.{OfHere, chosen, of-unit, of-compact}
 
 -- an epoch stood at some lines
 abbrev StoodThere : List Count → List RawEpoch → FileUnit ReadEpoch → Type 0
@@ -17,26 +15,14 @@ StoodThere types raws (Observation read) = (lines : List ReadLine)
     × (count : ℕ) × (epoch_at types raws lines ≡ Here read count)
 StoodThere types raws unit = ⊤
 
-epoch-stood : (types : List Count) (raws : List RawEpoch) (lines : List ReadLine) (p : Place ReadEpoch)
-    → epoch_at types raws lines ≡ p → OfHere (StoodThere types raws) (as_observation p)
-epoch-stood types raws lines (Here read count) e = (lines, count, e)
-epoch-stood types raws lines p e = tt
-
-begun-stood : (types : List Count) (raws : List RawEpoch) (lines : List ReadLine)
-    → OfHere (StoodThere types raws) (compact_epoch_place types raws lines)
-begun-stood types raws lines = of-compact (OfHere (StoodThere types raws)) types raws lines tt tt
-    (λ line rest e. tt) (epoch-stood types raws lines (epoch_at types raws lines) refl)
-
 unit-stood : (items : List (Item ReadEpoch)) (lines : List ReadLine)
     → OfHere (StoodThere (types_in_force items) (raws_kept items)) (compact_place items lines)
 unit-stood items lines =
-    let P = StoodThere (types_in_force items) (raws_kept items) in
-    of-unit (OfHere P) (λ (before : List (Item ReadEpoch)). compact_epoch_place (types_in_force before)
-    (raws_kept before)) items lines (first-line P (header_line (is_at_start items)) lines
-    (λ line. unless-wrong P (HeaderLine line) (header_line_fault (is_at_start items) line) (λ good. tt)))
-    (first-line P (event_record (records_count_types items)) lines
-    (λ line. unless-wrong P (EventRecord line) (cond (records_count_types items) (types_fault line) None)
-    (λ good. tt))) (begun-stood (types_in_force items) (raws_kept items) lines)
+    let Stood = OfHere (StoodThere (types_in_force items) (raws_kept items)) in
+    of-unit Stood tt (λ offset fault. tt) compact_beginning items lines (λ line rest is open_header good. tt)
+    (λ line rest is ended some good. tt) (λ ended none. of-compact Stood tt (λ offset fault. tt)
+    (types_in_force items) (raws_kept items) lines (λ line rest is event counted. tt)
+    (λ read count e. (lines, count, e)))
 
 -- an epoch that was accepted stood at some lines
 pub epoch-read : (before : List (Item ReadEpoch)) (read : ReadEpoch) (lines : List ReadLine) (count : ℕ)

@@ -1,10 +1,9 @@
 -- The two lines that compact text begins with are read, and can be cut off again.
 use Rattle.crx_filter.proofs.Words.{ℕ, zero, suc, ◌≡◌, ◌≢◌, true, false, List, [], ◌∷◌, ◌++◌, take, drop}
-use Rattle.crx_filter.proofs.Words.{replicate, length, refl, ap, arith, subst, length-append, Ok, list_all}
-use Rattle.crx_filter.proofs.Words.{bytes_eq, drop-append_seam, All-cons, All-nil, ne_eqb, and_parts}
-use Rattle.crx_filter.proofs.Words.{and_from, HasNoFeed, ends_with_return, without_end_blanks, ReadLine}
-use Rattle.crx_filter.proofs.Words.{Content, is_printable, Here, CRINEX_PROGRAM_LABEL, is_date, version_line}
-use Rattle.crx_filter.proofs.Words.{program_line, crinex_program, first_lines}
+use Rattle.crx_filter.proofs.Words.{replicate, length, refl, arith, subst, length-append, Ok, list_all}
+use Rattle.crx_filter.proofs.Words.{drop-append_seam, All-nil, ne_eqb, and_parts, HasNoFeed, ends_with_return}
+use Rattle.crx_filter.proofs.Words.{ReadLine, Content, is_printable, Here, CRINEX_PROGRAM_LABEL, is_date}
+use Rattle.crx_filter.proofs.Words.{version_line, program_line, crinex_program, first_lines}
 use Rattle.std.specs.Prelude.{nat_le}
 use Rattle.std.proofs.lemmas.List.{length-take-le}
 use Rattle.crx_base.specs.declared.limits.TheConstants.{DATE_LIMIT}
@@ -22,10 +21,7 @@ drop-exact : (n : ℕ) (xs ys : List ℕ) → length xs ≡ n → drop n (xs ++ 
 drop-exact n xs ys e = subst (λ k. drop k (xs ++ ys) ≡ ys) e (drop-append_seam xs ys)
 
 program-read : (date : List ℕ) → crinex_program (program_line date) ≡ Ok (program_line date)
-program-read date =
-    let label = ap (λ t. bytes_eq t CRINEX_PROGRAM_LABEL) (ap (λ (t : List ℕ). without_end_blanks (take 20 (t
-    ++ replicate 20 32))) (drop-exact 20 (left_justified 20 date) CRINEX_PROGRAM_LABEL (date-width date))) in
-    rw label refl
+program-read date = search (drop-exact, date-width)
 
 pub first-lines_read : (date : List ℕ) (rest : List ReadLine) → first_lines (Content version_line ∷ Content
     (program_line date) ∷ rest) ≡ Here (version_line ∷ program_line date ∷ []) 2
@@ -35,14 +31,11 @@ first-lines_read date rest = rw (program-read date) refl
 
 -- a printable character is none that isn't
 pub printable-other : (c d : ℕ) → is_printable d ≡ false → is_printable c ≡ true → c ≢ d
-printable-other c d isn_t is_so is = let same = ap is_printable is in
-    absurd (cc)
+printable-other c d isn_t is_so is = grind arith
 
 pub printable-no_feed : (line : List ℕ) → list_all is_printable line ≡ true → HasNoFeed line
 printable-no_feed [] h = All-nil NoFeed
-printable-no_feed (c ∷ cs) h =
-    let both = and_parts (is_printable c) _ h in
-    All-cons NoFeed c cs (printable-other c 10 refl both.0) (printable-no_feed cs both.1)
+printable-no_feed (c ∷ cs) h = grind (arith, printable-no_feed cs (and_parts (is_printable c) _ h).1)
 
 pub printable-no_return : (line : List ℕ) → list_all is_printable line ≡ true → ends_with_return line ≡ false
 printable-no_return [] h = refl
@@ -53,17 +46,13 @@ printable-no_return (c ∷ d ∷ ds) h =
 pub append-printable : (a b : List ℕ)
     → list_all is_printable a ≡ true → list_all is_printable b ≡ true → list_all is_printable (a ++ b) ≡ true
 append-printable [] b h k = k
-append-printable (c ∷ cs) b h k =
-    let both = and_parts (is_printable c) _ h in
-    and_from _ (list_all is_printable (cs ++ b)) both.0 (append-printable cs b both.1 k)
+append-printable (c ∷ cs) b h k = grind (arith, append-printable cs b (and_parts (is_printable c) _ h).1 k)
 
 pub take-printable : (n : ℕ) (a : List ℕ) → list_all is_printable a ≡ true
     → list_all is_printable (take n a) ≡ true
 take-printable zero a h = refl
 take-printable (suc n) [] h = refl
-take-printable (suc n) (c ∷ cs) h =
-    let both = and_parts (is_printable c) _ h in
-    and_from _ (list_all is_printable (take n cs)) both.0 (take-printable n cs both.1)
+take-printable (suc n) (c ∷ cs) h = grind (arith, take-printable n cs (and_parts (is_printable c) _ h).1)
 
 pub program-printable : (date : List ℕ) → is_date date ≡ true
     → list_all is_printable (program_line date) ≡ true

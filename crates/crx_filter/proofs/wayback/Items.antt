@@ -1,12 +1,12 @@
 -- What was accepted by a compaction, and how its compact text is read: the same header, events and types in
 -- force.
 use Rattle.crx_filter.proofs.Words
-use Words.{ℕ, ◌≡◌, ◌+◌, Bool, true, false, List, [], ◌∷◌, map, length, Option, Some, None, Ok, refl, ap, sym}
-use Words.{◌∙◌, arith, append-nil, ◌||◌, drop, is_some, length-map, ReadLine, Content, Row, Epoch, Here}
-use Words.{FileUnit, HeaderLine, EventLine, EventRecord, Observation, is_event_line, records_in, Count}
-use Words.{Marked, compact_epoch, epoch_line, RawEpoch, block_of, ReadEpoch, epoch_at, LinesCanStand, Item}
-use Words.{Accepted, records_left, types_in_force, is_interrupted, is_in_full, marked_epochs, raws_kept}
-use Words.{event_line, as_observation, compact_epoch_place, compact_place, AreInPlace}
+use Words.{ℕ, ◌≡◌, ◌+◌, Bool, true, false, List, [], ◌∷◌, map, length, Option, Some, None, Ok, refl, arith}
+use Words.{append-nil, ◌||◌, is_some, length-map, ReadLine, Content, Row, Epoch, Here, FileUnit, HeaderLine}
+use Words.{EventLine, EventRecord, Observation, is_event_line, records_in, Count, Marked, compact_epoch}
+use Words.{RawEpoch, block_of, ReadEpoch, epoch_at, LinesCanStand, Item, Accepted, types_in_force}
+use Words.{is_interrupted, is_in_full, marked_epochs, raws_kept, event_line, as_observation}
+use Words.{compact_epoch_place, compact_place, AreInPlace}
 use Rattle.crx_compact.specs.meaning.Compaction.{since_full, run_of, satellite_line}
 use Rattle.crx_compact.specs.Laws.{AreWhole}
 use Rattle.crx_compact.specs.ReadingLaws.{raws_of, read_of, lines_of_epoch, EpochReadsBack}
@@ -16,7 +16,6 @@ use Rattle.crx_filter.proofs.Choosing.{by_bool}
 use Rattle.crx_filter.proofs.following.Following.{body-place}
 use Rattle.crx_filter.proofs.wayback.Carried.{carried_unit, carried, header-same, start-same, left-same}
 use Rattle.crx_filter.proofs.wayback.Carried.{count-same, types-same, header-here, record-here}
-use Rattle.crx_filter.proofs.reading.ForwardCompact.{compact_beginning}
 
 -- an epoch with its mark
 abbrev pub marked_now : Option ℕ → List (Item Epoch) → Epoch → Marked
@@ -78,8 +77,7 @@ block-same every items h e = absurd (cc)
 epoch-back : (every : Option ℕ) (before : List (Item Epoch)) (epoch : Epoch)
     → AreInPlace (Accepted (Observation epoch) ∷ before) → EpochReadsBack (types_in_force before)
     (marked_now every before epoch) (marked_epochs every before) (raws_kept (read_back every before))
-epoch-back every before epoch h = each-reads_back _ _ _ _ (whole-next every before epoch h)
-    (λ full. block-same every before h.1 (not-interrupted every before full))
+epoch-back every before epoch h = search (each-reads_back, whole-next, block-same, not-interrupted)
 
 pub epoch-stands : (every : Option ℕ) (before : List (Item Epoch)) (epoch : Epoch) → AreInPlace (Accepted
     (Observation epoch) ∷ before) → LinesCanStand (marked_now every before epoch) (marked_epochs every before)
@@ -107,15 +105,9 @@ epoch-begins types raws line rest e = rw e refl
 pub unit-here : (every : Option ℕ) (before : List (Item Epoch)) (unit : FileUnit Epoch)
     → AreInPlace (Accepted unit ∷ before) → compact_place (read_back every before) (map Content
     (body_unit every before unit)) ≡ Here (unit_back every before unit) (length (body_unit every before unit))
-unit-here every before (HeaderLine line) h = header-here compact_beginning (read_back every before) line
-    (header-same (known_back every) before ∙ (h.0).0) (cc (start-same (known_back every) before h.1, (h.0).1))
-unit-here every before (EventLine line) h = body-place compact_beginning
-    (read_back every before) (Content line ∷ []) (header-same (known_back every) before ∙ (h.0).0)
-    (left-same (known_back every) before h.1 ∙ (h.0).1) ∙ event-begins
-    (types_in_force (read_back every before)) (raws_kept (read_back every before)) line (h.0).2 (h.0).3
-unit-here every before (EventRecord line) h = record-here compact_beginning (read_back every before) line
-    (records_left before) (header-same (known_back every) before ∙ (h.0).0) (left-same
-    (known_back every) before h.1) (h.0).1 (cc (count-same (known_back every) before h.1 (h.0).1, (h.0).2))
+unit-here every before (HeaderLine line) h = search (header-here, header-same, start-same)
+unit-here every before (EventLine line) h = grind (arith, body-place, header-same, left-same, event-begins)
+unit-here every before (EventRecord line) h = search (record-here, header-same, left-same, count-same)
 unit-here every before (Observation epoch) h =
     let m = marked_now every before epoch in
     let older = marked_epochs every before in
@@ -125,9 +117,4 @@ unit-here every before (Observation epoch) h =
     let reads = EpochReadsBack.reads (epoch-back every before epoch h) [] in
     let counted : 2 + length epoch.rows ≡ length (compact_epoch (m ∷ older)) =
     omega (arith, length-map epoch.rows (λ (r : Row). satellite_line (run_of r.name (m ∷ older)) r)) in
-    body-place compact_beginning (read_back every before) lines (header-same (known_back every) before
-    ∙ (h.0).0) (left-same (known_back every) before h.1 ∙ (h.0).1) ∙ ap (λ types. compact_epoch_place
-    types raws lines) (types-same (known_back every) before h.1) ∙ epoch-begins (types_in_force before) raws
-    (epoch_line m older) (map Content (drop 1 (compact_epoch (m ∷ older)))) (stands.no_event).0
-    ∙ ap (λ ls. as_observation (epoch_at (types_in_force before) raws ls)) (sym (append-nil lines))
-    ∙ ap as_observation reads ∙ ap (λ n. Here (Observation (read_of m older)) n) counted
+    grind (arith, body-place, header-same, left-same, types-same, epoch-begins, append-nil)

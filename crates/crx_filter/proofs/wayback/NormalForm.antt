@@ -1,16 +1,16 @@
 -- What was accepted, printed and read again; the normal form of a file, and a file that is in order.
 use Rattle.crx_filter.proofs.Words
 use Words.{ℕ, ◌≡◌, ◌+◌, ◌*◌, ◌≤◌, true, false, List, [], ◌∷◌, ◌++◌, map, length, Option, Some, None, refl, ap}
-use Words.{sym, ◌∙◌, arith, append-nil, All, AllByRecursion, is_some, length-map, All-head, All-tail}
-use Words.{and_parts, lines_of, ReadLine, Content, seen, clock_text, without_end_blanks, Fault, LINE_LIMIT}
-use Words.{TYPES_LIMIT, Row, Epoch, Count, begins_epoch, is_event_line, records_in, IsSoundRow, IsWholeEpoch}
-use Words.{epoch_place, Here, printed_row, printed_epoch, printed_cells, lines_text, FileUnit, HeaderLine}
-use Words.{EventLine, EventRecord, Observation, printed_unit, Item, Accepted, Warned, records_left}
-use Words.{types_in_force, WholeReading, Stop, AtLines, fault_at_end, ended_with, ended_reading, warnings_in}
-use Words.{rinex_place, whole_rinex, rinex_reading, printed_items, whole_of, normal_form, IsStandard}
-use Words.{AreInPlace, OfCopiedLines, HaveNoReturns, HasNormalForm}
+use Words.{◌∙◌, arith, append-nil, All, AllByRecursion, is_some, length-map, All-head, All-tail, and_parts}
+use Words.{ReadLine, Content, clock_text, without_end_blanks, LINE_LIMIT, TYPES_LIMIT, Row, Epoch, Count}
+use Words.{is_event_line, records_in, IsSoundRow, IsWholeEpoch, epoch_place, Here, printed_row, printed_epoch}
+use Words.{printed_cells, lines_text, FileUnit, HeaderLine, EventLine, EventRecord, Observation, printed_unit}
+use Words.{Item, Accepted, Warned, types_in_force, WholeReading, warnings_in, rinex_place, whole_rinex}
+use Words.{rinex_reading, printed_items, whole_of, normal_form, IsStandard, AreInPlace, OfCopiedLines}
+use Words.{HaveNoReturns, HasNormalForm, sym}
 use Rattle.crx_header.specs.meaning.EpochColumns.{satellites_of}
 use Rattle.crx_rinex.proofs.ReadingBack.{epoch-back, length-row, length-head}
+use Rattle.crx_filter.proofs.reading.WhatWasRead.{of-ended}
 use Rattle.crx_filter.proofs.reading.KeptThroughout.{within-kept}
 use Rattle.crx_filter.proofs.reading.Forward.{rinex-forward, rinex_beginning}
 use Rattle.crx_filter.proofs.following.Following.{body-place}
@@ -35,19 +35,14 @@ accepted items = carried same_epoch items
 event-stands : (types : List Count) (line : List ℕ) (o : Option ℕ) → records_in line ≡ o → is_some o ≡ true
     → is_event_line line ≡ true → epoch_place types (Content line ∷ []) ≡ Here (EventLine line) 1
 event-stands types line None e h event = absurd (cc)
-event-stands types line (Some n) e h event =
-    let both = and_parts (begins_epoch line) _ event in
-    rw (both.0, both.1, e) refl
+event-stands types line (Some n) e h event = grind (arith, and_parts)
 
 pub stands : StandsAgain rinex_place same_epoch (λ before. printed_unit)
-stands before (HeaderLine line) h = header-here rinex_beginning (accepted before) line (header-same same_epoch
-    before ∙ (h.0).0) (cc (start-same same_epoch before h.1, (h.0).1))
+stands before (HeaderLine line) h = search (header-here, header-same, start-same)
 stands before (EventLine line) h = body-place rinex_beginning (accepted before) (Content line ∷ [])
     (header-same same_epoch before ∙ (h.0).0) (left-same same_epoch before h.1 ∙ (h.0).1)
     ∙ event-stands (types_in_force (accepted before)) line _ refl (h.0).3 (h.0).2
-stands before (EventRecord line) h = record-here rinex_beginning (accepted before) line (records_left before)
-    (header-same same_epoch before ∙ (h.0).0) (left-same same_epoch before h.1) (h.0).1
-    (cc (count-same same_epoch before h.1 (h.0).1, (h.0).2))
+stands before (EventRecord line) h = search (record-here, header-same, left-same, count-same)
 stands before (Observation epoch) h =
     let lines = map Content (printed_epoch epoch) in
     let counted : length epoch.rows + 1 ≡ length (printed_epoch epoch) = omega
@@ -59,24 +54,15 @@ stands before (Observation epoch) h =
 
 -- ---- where nothing is skipped, there are no warnings
 
-none-at-end : (items : List (Item Epoch)) (number : ℕ) (o : Option Fault)
-    → warnings_in (WholeReading.items (ended_with false items number o)) ≡ warnings_in items
-none-at-end items number None = refl
-none-at-end items number (Some fault) = refl
-
-none-ended : (items : List (Item Epoch)) (stop : Stop) → warnings_in
-    (WholeReading.items (ended_reading false (record { items = items; stop = stop }))) ≡ warnings_in items
-none-ended items (AtLines number lines) = none-at-end items (number + length lines) (fault_at_end items lines)
-none-ended items stop = refl
-
 pub whole-none : (lines : List ReadLine) → warnings_in (WholeReading.items (whole_rinex false lines)) ≡ []
 whole-none lines =
     let r = rinex_reading false lines in
-    none-ended _ r.stop ∙ (within-kept rinex_place false (λ items ls. warnings_in items ≡ []) (record {
+    let none = (within-kept rinex_place false (λ items ls. warnings_in items ≡ []) (record {
       here = λ items ls unit count e h. h;
       warned = λ items ls at on h. absurd (cc);
       passed = λ items ls n h. h;
-    }) (length lines + 1) [] 1 lines refl).1
+    }) (length lines + 1) [] 1 lines refl).1 in
+    of-ended (λ items. warnings_in items ≡ []) false r.items r.stop none (λ at on. absurd (cc))
 
 unit-same : (before : List (Item Epoch)) (unit : FileUnit Epoch) → carried_unit same_epoch before unit ≡ unit
 unit-same before (Observation epoch) = refl
@@ -130,10 +116,7 @@ printed-short (Warned at ∷ before) h k = printed-short before h.1 k
 both-clean : (lines : List (List ℕ))
     → AllByRecursion IsPlainLine lines → AllByRecursion IsShort lines → AllByRecursion IsClean lines
 both-clean [] h k = tt
-both-clean (line ∷ lines) h k = (
-  record { one_line = IsPlainLine.one_line h.0; no_return = IsPlainLine.no_return h.0; short = k.0 },
-  both-clean lines h.1 k.1,
-)
+both-clean (line ∷ lines) h k = search (both-clean lines h.1 k.1)
 
 -- what was accepted, printed and read again
 pub printed-again : (items : List (Item Epoch)) → IsSettled items → HaveNoReturns items → whole_of (lines_text
@@ -163,15 +146,10 @@ settled-standard items settled none =
 -- ---- the normal form
 
 pub read-as_normal : (input : List ℕ) → HasNormalForm input → whole_of (normal_form input) ≡ whole_of input
-read-as_normal input h =
-    let items = WholeReading.items (whole_of input) in
-    printed-again items (whole-settled false input h.good) h.no_returns
-    ∙ ap (λ (all : List (Item Epoch)). record { items = all; fault = None }) (accepted-all items
-    (whole-none (map seen (lines_of input)))) ∙ ap (λ f. record { items = items; fault = f }) (sym h.good)
+read-as_normal input h = grind (arith, printed-again, whole-settled, accepted-all, whole-none)
 
 pub standard-as_normal : (input : List ℕ) → HasNormalForm input → IsStandard (normal_form input)
-standard-as_normal input h =
-    settled-standard (WholeReading.items (whole_of input)) (whole-settled false input h.good) h.no_returns
+standard-as_normal input h = search (settled-standard, whole-settled)
 
 pub normal-for_good : (input : List ℕ)
     → HasNormalForm input → normal_form (normal_form input) ≡ normal_form input

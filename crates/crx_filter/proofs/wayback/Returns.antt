@@ -2,9 +2,9 @@
 -- copied line ends in CR. So a file that comes back has no such line.
 use Rattle.crx_filter.proofs.Words.{ℕ, zero, suc, ◌≡◌, ◌+◌, ◌<◌, ◌≤◌, true, cond, List, [], ◌∷◌, ◌++◌, map}
 use Rattle.crx_filter.proofs.Words.{take, drop, refl, arith, ◌==◌, AllByRecursion, list_all, ne_eqb}
-use Rattle.crx_filter.proofs.Words.{and_parts, Piece, InputLine, pieces_of, onto_first, ends_with_return}
-use Rattle.crx_filter.proofs.Words.{without_return, line_of, lines_of, is_long, HasNoFeed, ReadLine, Content}
-use Rattle.crx_filter.proofs.Words.{Overlong, seen, is_printable, lines_text}
+use Rattle.crx_filter.proofs.Words.{and_parts, Piece, InputLine, pieces_of, ends_with_return, without_return}
+use Rattle.crx_filter.proofs.Words.{line_of, lines_of, is_long, HasNoFeed, ReadLine, Content, Overlong, seen}
+use Rattle.crx_filter.proofs.Words.{is_printable, lines_text}
 use Rattle.crx_filter.proofs.Choosing.{by_bool}
 use Rattle.crx_filter.proofs.wayback.First.{printable-other}
 use Rattle.crx_filter.proofs.wayback.Cut.{first-cut}
@@ -49,11 +49,7 @@ in-append (x ∷ xs) ys = omega (arith, in-append xs ys)
 
 pub in-text : (lines : List (List ℕ)) → returns (lines_text lines) ≡ returns_in lines
 in-text [] = refl
-in-text (line ∷ lines) =
-    let all = returns-append (line ++ 10 ∷ []) (lines_text lines) in
-    let one = returns-append line (10 ∷ []) in
-    let rest = in-text lines in
-    omega (arith, all, one, rest)
+in-text (line ∷ lines) = grind (arith, in-text lines, returns-append)
 
 pub in-printable : (lines : List (List ℕ))
     → AllByRecursion (λ (line : List ℕ). list_all is_printable line ≡ true) lines → returns_in lines ≡ 0
@@ -85,19 +81,11 @@ returns_of (p ∷ ps) = returns p.bytes + returns_of ps
 
 read-pieces : (ps : List Piece) → returns_read (map seen (map line_of ps)) ≤ returns_of ps
 read-pieces [] = omega arith
-read-pieces (p ∷ ps) = omega
-    (arith, read-one (line_of p) (map seen (map line_of ps)), returns-kept p.bytes, read-pieces ps)
-
-onto : (b : ℕ) (ps : List Piece) → returns_of (onto_first b ps) ≡ cond (b == 13) 1 0 + returns_of ps
-onto b [] = omega arith
-onto b (p ∷ ps) = omega arith
+read-pieces (p ∷ ps) = grind (arith, read-pieces ps, read-one, returns-kept)
 
 of-pieces : (input : List ℕ) → returns_of (pieces_of input) ≤ returns input
 of-pieces [] = omega arith
-of-pieces (b ∷ bs) =
-    let rest = of-pieces bs in
-    by_bool (b == 10) (λ on. rw on (omega (arith, rest)))
-    (λ off. rw off (omega (arith, rest, onto b (pieces_of bs))))
+of-pieces (b ∷ bs) = grind (arith, of-pieces bs)
 
 -- what is read of an input has no more than the input
 pub read-input : (input : List ℕ) → returns_read (map seen (lines_of input)) ≤ returns input
@@ -120,7 +108,4 @@ left-kept (line ∷ lines) = omega (arith, returns-kept line, left-kept lines)
 pub read-written : (lines : List (List ℕ)) → AllByRecursion HasNoFeed lines
     → returns_read (map seen (lines_of (lines_text lines))) ≤ returns_left lines
 read-written [] h = omega arith
-read-written (line ∷ lines) h =
-    let one = read-one (line_of (record { bytes = line; is_ended = true })) (map seen
-    (lines_of (lines_text lines))) in
-    rw (first-cut line lines h.0) (omega (arith, one, read-written lines h.1))
+read-written (line ∷ lines) h = grind (arith, read-written lines h.1, read-one, first-cut)

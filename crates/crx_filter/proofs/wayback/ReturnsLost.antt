@@ -1,17 +1,15 @@
 -- A file comes back byte for byte only where no copied line ends in CR: else it comes back with fewer bytes
 -- 13. So it is standard.
 use Rattle.crx_filter.proofs.Words
-use Words.{ℕ, ◌≡◌, ◌+◌, ◌<◌, ◌≤◌, Bool, true, false, List, [], ◌∷◌, ◌++◌, map, drop, Option, Some, None, refl}
-use Words.{ap, sym, ◌∙◌, arith, ◌⊎◌, inl, inr, AllByRecursion, list_all, HasNoFeed, ends_with_return}
-use Words.{without_return, lines_of, ReadLine, seen, is_printable, Fault, Epoch, printed_epoch, lines_text}
-use Words.{HeaderLine, EventLine, EventRecord, Observation, ReadEpoch, compact_epoch, LinesCanStand, IsGood}
-use Words.{Choices, is_date, Item, Accepted, Warned, types_in_force, WholeReading, Stop, AtLines, is_skipped}
-use Words.{reading_from, ended_with, ended_reading, FilterResult, marked_epochs, compact_lines, version_line}
-use Words.{program_line, compact_place, first_lines, whole_compact, expanded, expanded_unit, expanded_lines}
-use Words.{whole_of, AreInPlace, OfCopiedLines, HaveNoReturns}
+use Words.{ℕ, ◌≡◌, ◌+◌, ◌<◌, ◌≤◌, Bool, true, false, List, [], ◌∷◌, ◌++◌, map, drop, Option, refl, arith, ◌⊎◌}
+use Words.{inl, AllByRecursion, list_all, HasNoFeed, ends_with_return, without_return, lines_of, ReadLine}
+use Words.{seen, is_printable, Epoch, printed_epoch, lines_text, HeaderLine, EventLine, EventRecord}
+use Words.{Observation, ReadEpoch, compact_epoch, LinesCanStand, IsGood, Choices, is_date, Item, Accepted}
+use Words.{Warned, types_in_force, WholeReading, reading_from, FilterResult, marked_epochs, compact_lines}
+use Words.{version_line, program_line, compact_place, first_lines, whole_compact, expanded, expanded_lines}
+use Words.{AreInPlace, OfCopiedLines, HaveNoReturns}
 use Rattle.crx_filter.specs.WayBack.{IsStandardWhereSame}
-use Rattle.crx_filter.proofs.Choosing.{by_bool}
-use Rattle.crx_filter.proofs.reading.WhatWasRead.{items-read}
+use Rattle.crx_filter.proofs.reading.WhatWasRead.{items-read, of-ended}
 use Rattle.crx_filter.proofs.wayback.Carried.{started}
 use Rattle.crx_filter.proofs.wayback.WayBack.{IsSettled, whole-settled, lines-same}
 use Rattle.crx_filter.proofs.wayback.Cut.{IsClean, CanStand}
@@ -39,36 +37,21 @@ written-returns (Accepted (Observation read) ∷ before) h =
     (printed_epoch read.epoch) (epoch-printable (types_in_force before) read.epoch (IsGood.whole h.0)) in
     let second = in-append (expanded_lines before) (printed_epoch read.epoch) in
     omega (arith, written-returns before h.1)
-written-returns (Accepted unit ∷ before) h = omega
-    (arith, in-append (expanded_lines before) (expanded_unit before unit), written-returns before h)
+written-returns (Accepted unit ∷ before) h = grind (arith, written-returns before h, in-append)
 written-returns (Warned at ∷ before) h = written-returns before h
-
-end-good : (skip : Bool) (items : List (Item ReadEpoch)) (number : ℕ) (o : Option Fault)
-    → AreGoodEpochs items → AreGoodEpochs (WholeReading.items (ended_with skip items number o))
-end-good skip items number None h = h
-end-good skip items number (Some fault) h =
-    by_bool (is_skipped skip items fault) (λ on. rw on h) (λ off. rw off h)
-
-ended-good : (skip : Bool) (items : List (Item ReadEpoch)) (stop : Stop) → AreGoodEpochs items
-    → AreGoodEpochs (WholeReading.items (ended_reading skip (record { items = items; stop = stop })))
-ended-good skip items (AtLines number lines) h = end-good skip items _ _ h
-ended-good skip items stop h = h
 
 pub whole-good : (skip : Bool) (lines : List ReadLine) → AreGoodEpochs
     (WholeReading.items (whole_compact skip lines))
 whole-good skip lines = by_place (first_lines lines) (λ two count e.
     let r = reading_from compact_place skip [] (count + 1) (drop count lines) in
-    rw (e, whole_compact) (ended-good skip r.items r.stop
-    (epochs-good r.items (items-read compact_place skip (count + 1) (drop count lines)))))
+    let good = epochs-good r.items (items-read compact_place skip (count + 1) (drop count lines)) in
+    rw (e, whole_compact) (of-ended AreGoodEpochs skip r.items r.stop good (λ at on. good)))
     (λ offset fault e. rw (e, whole_compact) tt) (λ e. rw (e, whole_compact) tt)
 
 -- an expansion writes no more of them than it reads
 expanded-returns : (text : List ℕ) (choices : Choices)
     → returns (FilterResult.output (expanded text choices)) ≤ returns_read (map seen (lines_of text))
-expanded-returns text choices =
-    let items = WholeReading.items (whole_compact choices.skip (map seen (lines_of text))) in
-    let first = written-returns items (whole-good choices.skip (map seen (lines_of text))) in
-    omega (arith, in-text (expanded_lines items), compact-within choices.skip (map seen (lines_of text)))
+expanded-returns text choices = search (written-returns, whole-good, in-text, compact-within)
 
 -- ---- compact text
 
@@ -96,19 +79,14 @@ KeepsOrLoses items = HaveNoReturns items ⊎ (left_copied items < returns_copied
 one-line : (line : List ℕ) (before : List (Item Epoch)) → KeepsOrLoses before
     → ((ends_with_return line ≡ false) × HaveNoReturns before)
     ⊎ (returns (without_return line) + left_copied before < returns line + returns_copied before)
-one-line line before h = by_bool _ (λ on. inr (omega (arith, returns-fewer line on, left-all before)))
-    (λ off. elim h [
-      | inl none ↦ inl (off, none)
-      | inr less ↦ inr (omega (arith, returns-kept line, less))
-    ])
+one-line line before h = grind (arith, returns-fewer, left-all, returns-kept)
 
 keeps-or_loses : (items : List (Item Epoch)) → KeepsOrLoses items
 keeps-or_loses [] = inl tt
 keeps-or_loses (Accepted (HeaderLine line) ∷ before) = one-line line before (keeps-or_loses before)
 keeps-or_loses (Accepted (EventLine line) ∷ before) = one-line line before (keeps-or_loses before)
 keeps-or_loses (Accepted (EventRecord line) ∷ before) = one-line line before (keeps-or_loses before)
-keeps-or_loses (Accepted (Observation epoch) ∷ before) =
-    elim (keeps-or_loses before) [ inl none ↦ inl (tt, none) | inr less ↦ inr (omega (arith, less)) ]
+keeps-or_loses (Accepted (Observation epoch) ∷ before) = grind (arith, keeps-or_loses before)
 keeps-or_loses (Warned at ∷ before) = keeps-or_loses before
 
 pub printable-lines : (lines : List (List ℕ)) → AllByRecursion
@@ -123,17 +101,11 @@ record AreBack (lines : List (List ℕ)) (n : ℕ) : Type 0 where
 
 copied-back : (lines : List (List ℕ)) (line : List ℕ) (n : ℕ)
     → HasNoFeed line → AreBack lines n → AreBack (lines ++ line ∷ []) (returns (without_return line) + n)
-copied-back lines line n h b = record {
-  no_feed = all-append _ lines _ b.no_feed (h, tt);
-  left = omega (arith, left-append lines (line ∷ []), b.left);
-}
+copied-back lines line n h b = grind (arith, all-append, left-append)
 
 epoch-back : (lines more : List (List ℕ)) (n : ℕ) → AllByRecursion
     (λ (line : List ℕ). list_all is_printable line ≡ true) more → AreBack lines n → AreBack (lines ++ more) n
-epoch-back lines more n h b = record {
-  no_feed = all-append _ _ _ b.no_feed (printable-lines more h);
-  left = omega (arith, left-append lines more, left-kept more, in-printable more h, b.left);
-}
+epoch-back lines more n h b = grind (arith, all-append, printable-lines, left-append, left-kept, in-printable)
 
 lines-back : (every : Option ℕ) (items : List (Item Epoch))
     → AreInPlace items → OfCopiedLines CanStand items → AreBack (lines_back every items) (left_copied items)
@@ -174,20 +146,14 @@ compacted-returns choices items dated h =
 
 pub standard-where_same : (input : List ℕ) (compacting expanding : Choices)
     → IsStandardWhereSame input compacting expanding
-standard-where_same input compacting expanding dated good same =
-    let lines = map seen (lines_of input) in
-    let items = WholeReading.items (whole_of input) in
-    let written = ap (λ (w : WholeReading Epoch). lines_text (compact_lines compacting w.items))
-    (same-reading compacting.skip lines good) in
-    elim (keeps-or_loses items) [
-      | inl none ↦ standard-where_kept input compacting expanding dated good none same
-      | inr less ↦ absurd (omega (
-        arith,
-        less,
-        expanded-returns (lines_text (compact_lines compacting items)) expanding,
-        compacted-returns compacting items dated (whole-settled false input good),
-        rinex-within false lines,
-        read-input input,
-        ap returns (ap (λ t. FilterResult.output (expanded t expanding)) (sym written) ∙ same),
-      ))
-    ]
+standard-where_same input compacting expanding dated good same = grind (
+  arith,
+  same-reading,
+  keeps-or_loses,
+  standard-where_kept,
+  expanded-returns,
+  compacted-returns,
+  whole-settled,
+  rinex-within,
+  read-input,
+)

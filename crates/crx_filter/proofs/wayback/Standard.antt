@@ -5,13 +5,13 @@ use Words.{ℕ, zero, suc, ◌≡◌, ◌≢◌, ◌+◌, Bool, true, false, con
 use Words.{drop, Option, Some, None, refl, ap, sym, ◌∙◌, subst, ◌==◌, AllByRecursion, list_all, eqb_tells}
 use Words.{and_parts, Piece, InputLine, pieces_of, onto_first, ends_with_return, line_of, lines_of, is_long}
 use Words.{ReadLine, seen, Fault, At, Epoch, Place, FileUnit, Choices, Item, Accepted, WholeReading}
-use Words.{Stop, AtLines, is_skipped, after_fault, reading_within, fault_at_end, ended_with, ended_reading}
-use Words.{lines_text, rinex_place, whole_rinex, rinex_reading, printed_items, OfCopiedLines, HaveNoReturns}
-use Words.{written_well, not-true}
+use Words.{after_fault, reading_within, fault_at_end, ended_with, ended_reading, lines_text, rinex_place}
+use Words.{whole_rinex, rinex_reading, OfCopiedLines, HaveNoReturns, written_well, not-true, printed_items}
 use Rattle.crx_lines.proofs.PieceLemmas.{EachEnded}
 use Rattle.crx_filter.proofs.Choosing.{by_bool}
 use Rattle.crx_filter.specs.WayBack.{NormalFormComesBack, StandardComesBack}
 use Rattle.crx_filter.proofs.reading.Resuming.{by_place}
+use Rattle.crx_filter.proofs.reading.WhatWasRead.{of-ended}
 use Rattle.crx_filter.proofs.wayback.Cut.{OfContent, return-kept}
 use Rattle.crx_filter.proofs.wayback.Reading.{items-copied}
 use Rattle.crx_filter.proofs.wayback.WayBack.{comes-back}
@@ -45,20 +45,12 @@ same-reading skip lines f = within-same rinex_place skip (length lines + 1) [] 1
 
 -- ---- no line ends in CR
 
-ended-copied : (P : List ℕ → Type 0) (skip : Bool) (items : List (Item Epoch)) (stop : Stop) → OfCopiedLines P
-    items → OfCopiedLines P (WholeReading.items (ended_reading skip (record { items = items; stop = stop })))
-ended-copied P skip items (AtLines number lines) h = at-end _
-  where
-    at-end : (o : Option Fault) → OfCopiedLines P (WholeReading.items
-        (ended_with skip items (number + length lines) o))
-    at-end None = h
-    at-end (Some fault) = by_bool (is_skipped skip items fault) (λ on. rw on h) (λ off. rw off h)
-ended-copied P skip items stop h = h
-
 pub whole-copied : (P : List ℕ → Type 0) (skip : Bool) (lines : List ReadLine)
     → AllByRecursion (OfContent P) lines → OfCopiedLines P (WholeReading.items (whole_rinex skip lines))
-whole-copied P skip lines h = let r = rinex_reading skip lines in
-    ended-copied P skip _ r.stop (items-copied P skip lines h)
+whole-copied P skip lines h =
+    let r = rinex_reading skip lines in
+    let copied = items-copied P skip lines h in
+    of-ended (OfCopiedLines P) skip r.items r.stop copied (λ at on. copied)
 
 abbrev pub NoReturn : List ℕ → Type 0
 NoReturn line = ends_with_return line ≡ false

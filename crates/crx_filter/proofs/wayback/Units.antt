@@ -1,10 +1,9 @@
 -- The two texts of units that make a file; and each standard file is such a text.
 use Rattle.crx_filter.proofs.Words
-use Words.{ℕ, ◌≡◌, false, List, [], ◌∷◌, map, Option, None, refl, ap, sym, ◌∙◌, subst, reverse, pieces_of}
-use Words.{lines_of, lines_text, seen, At, Epoch, FileUnit, HeaderLine, EventLine, EventRecord, Observation}
-use Words.{Choices, compact_unit, compacted, Item, Accepted, Warned, WholeReading, printed_items, whole_of}
-use Words.{IsStandard, OfCopiedLine, OfCopiedLines, HaveNoReturns, written_well, warnings_in, result_of}
-use Words.{expanded, result_of_course, IsResult, Device, AreInPlace}
+use Words.{ℕ, ◌≡◌, List, [], ◌∷◌, map, Option, None, refl, ap, sym, ◌∙◌, subst, lines_of, lines_text, seen}
+use Words.{At, Epoch, FileUnit, HeaderLine, EventLine, EventRecord, Observation, Choices, compacted, Item}
+use Words.{Accepted, Warned, WholeReading, printed_items, whole_of, IsStandard, OfCopiedLine, OfCopiedLines}
+use Words.{HaveNoReturns, written_well, warnings_in, expanded, IsResult, Device, AreInPlace}
 use Rattle.crx_filter.specs.meaning.UnitsAndText.{CanBeCopied, as_items, AreInOrder, MakeAFile, rinex_text}
 use Rattle.crx_filter.specs.meaning.UnitsAndText.{compact_text, TextsOfUnits, WritesUnits, ReadsUnits}
 use Rattle.crx_filter.specs.meaning.UnitsAndText.{IsStandardByUnits}
@@ -57,24 +56,15 @@ none-warned (unit ∷ before) = none-warned before
 
 whole-text : (units : List (FileUnit Epoch)) → MakeAFile units
     → whole_of (rinex_text units) ≡ record { items = as_items units; fault = None }
-whole-text units h = printed-again (as_items units) (settled units h) (no-returns units h) ∙ ap (λ (all : List
-    (Item Epoch)). record { items = all; fault = None }) (accepted-all (as_items units) (none-warned units))
+whole-text units h = search (printed-again, settled, no-returns, accepted-all, none-warned)
 
 compacts : (units : List (FileUnit Epoch)) (choices : Choices) → MakeAFile units
     → compacted (rinex_text units) choices ≡ written_well (compact_text choices units)
-compacts units choices h =
-    let whole = whole-text units h in
-    compacted-by (rinex_text units) choices (ap (λ (w : WholeReading Epoch). w.fault) whole)
-    ∙ ap (result_of (compact_unit choices)) whole ∙ ap (λ (w : List At). result_of_course
-    (record { output = compact_text choices units; warnings = reverse w; fault = None })) (none-warned units)
+compacts units choices h = search (whole-text, compacted-by, none-warned)
 
 pub texts-of_units : (units : List (FileUnit Epoch)) (compacting expanding : Choices)
     → TextsOfUnits units compacting expanding
-texts-of_units units compacting expanding h = record {
-  compaction = compacts units compacting h;
-  expansion = λ dated.
-      items-back (as_items units) compacting expanding dated (settled units h) (no-returns units h);
-}
+texts-of_units units compacting expanding h = search (compacts, items-back, settled, no-returns)
 
 -- ---- in runs
 
@@ -115,11 +105,7 @@ in-order (unit ∷ before) h k e = (h.0, both unit k.0 e.0, in-order before h.1 
 
 make-file : (units : List (FileUnit Epoch)) → IsSettled (as_items units) → HaveNoReturns (as_items units)
     → MakeAFile units
-make-file units h none = record {
-  in_order = in-order units h.in_place h.copied none;
-  header = h.header;
-  complete = h.none;
-}
+make-file units h none = search (in-order)
 
 all-accepted : (file : List ℕ)
     → as_items (units_in (WholeReading.items (whole_of file))) ≡ WholeReading.items (whole_of file)
@@ -127,10 +113,7 @@ all-accepted file = all-units (WholeReading.items (whole_of file)) (whole-none (
 
 -- the units that are read of a standard file
 pub read-units : (file : List ℕ) → IsStandard file → MakeAFile (units_in (WholeReading.items (whole_of file)))
-read-units file h =
-    let all = all-accepted file in
-    make-file _ (rw all (whole-settled false file h.good)) (rw all (whole-copied NoReturn false
-    (map seen (lines_of file)) (plain-no_return (pieces_of file) h.plain)))
+read-units file h = search (all-accepted, make-file, whole-settled, whole-copied, plain-no_return)
 
 units-of_standard : (file : List ℕ) → IsStandard file
     → (units : List (FileUnit Epoch)) × MakeAFile units × (file ≡ rinex_text units)

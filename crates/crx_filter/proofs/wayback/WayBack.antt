@@ -1,23 +1,22 @@
 -- What was compacted comes back.
 use Rattle.crx_filter.proofs.Words
 use Words.{ℕ, ◌≡◌, ◌+◌, ◌*◌, ◌≤◌, Bool, true, false, cond, List, [], ◌∷◌, map, length, Option, Some, None}
-use Words.{refl, ap, ◌∙◌, arith, nat_lt, not, AllByRecursion, list_all, ltb-false, lines_of, ends_with_return}
-use Words.{ReadLine, Content, seen, is_printable, Fault, At, TYPES_LIMIT, Epoch, lines_text, FileUnit}
-use Words.{HeaderLine, EventLine, EventRecord, Observation, compact_epoch, ReadEpoch, Choices, is_date, Item}
-use Words.{Accepted, Warned, is_at_start, header_has_ended, records_left, types_in_force, WholeReading, Stop}
-use Words.{AtFault, AtLines, Looking, is_skipped, reading_from, fault_at_end, ended_with, ended_reading}
-use Words.{warnings_in, written_lines, result_of, rinex_place, marked_epochs, whole_rinex, version_line}
-use Words.{program_line, compact_lines, rinex_reading, compact_place, whole_compact, expanded_unit, expanded}
-use Words.{printed_items, AreInPlace, OfCopiedLine, OfCopiedLines, HaveNoReturns, written_well}
+use Words.{refl, arith, nat_lt, not, AllByRecursion, list_all, ltb-false, lines_of, ends_with_return}
+use Words.{ReadLine, Content, seen, is_printable, Fault, TYPES_LIMIT, Epoch, lines_text, FileUnit, HeaderLine}
+use Words.{EventLine, EventRecord, Observation, compact_epoch, ReadEpoch, Choices, is_date, Item, Accepted}
+use Words.{Warned, is_at_start, header_has_ended, records_left, types_in_force, WholeReading, Stop, AtFault}
+use Words.{AtLines, Looking, is_skipped, reading_from, fault_at_end, ended_with, ended_reading, warnings_in}
+use Words.{written_lines, result_of, rinex_place, marked_epochs, whole_rinex, version_line, program_line}
+use Words.{compact_lines, rinex_reading, compact_place, whole_compact, expanded_unit, expanded, printed_items}
+use Words.{AreInPlace, OfCopiedLine, OfCopiedLines, HaveNoReturns, written_well, Place, ap, ◌∙◌}
 use Rattle.crx_compact.proofs.wayback.Lengths.{lines-short}
-use Rattle.crx_filter.specs.meaning.Expanded.{expansion_result}
 use Rattle.crx_filter.specs.WayBack.{ComesBack}
 use Rattle.crx_filter.proofs.Choosing.{by_bool}
 use Rattle.crx_filter.proofs.reading.Forward.{rinex-forward}
 use Rattle.crx_filter.proofs.following.Lines.{IsStopped}
 use Rattle.crx_filter.proofs.reading.Stopping.{reading-stopped}
 use Rattle.crx_filter.proofs.reading.InPlace.{items-in_place}
-use Rattle.crx_filter.proofs.reading.WhatWasRead.{items-read, allowed}
+use Rattle.crx_filter.proofs.reading.WhatWasRead.{items-read, allowed, of-ended}
 use Rattle.crx_filter.proofs.wayback.Cut.{IsClean, CanStand, lines-cut, input-stands}
 use Rattle.crx_filter.proofs.wayback.First.{first-lines_read, program-clean, version-clean, printable-no_feed}
 use Rattle.crx_filter.proofs.wayback.First.{printable-no_return}
@@ -27,6 +26,7 @@ use Rattle.crx_filter.proofs.wayback.Carried.{started, whole-again}
 use Rattle.crx_filter.proofs.reading.ForwardCompact.{compact-forward}
 use Rattle.crx_filter.proofs.wayback.Reading.{lines_back, items-copied}
 use Rattle.crx_filter.proofs.reading.Each.{all-append}
+use Rattle.crx_filter.specs.meaning.Expanded.{expansion_result}
 
 -- ---- the end of the compaction
 
@@ -50,39 +50,45 @@ pub end-means : {E : Type 0} (items : List (Item E)) (rest : List ReadLine)
     → fault_at_end items rest ≡ None → (header_has_ended items ≡ true) × (records_left items ≡ 0)
 end-means [] rest e = absurd (cc)
 end-means (item ∷ before) (line ∷ rest) e = absurd (cc)
-end-means (item ∷ before) [] e =
-    let both = end-body _ _ _ _ e in
-    (both.0, lt-none _ both.1)
+end-means (item ∷ before) [] e = grind arith
 
-end-settled : (skip : Bool) (items : List (Item Epoch)) (number : ℕ) (rest : List ReadLine) → AreInPlace items
-    → OfCopiedLines CanStand items → (o : Option Fault) → fault_at_end items rest ≡ o → WholeReading.fault
-    (ended_with skip items number o) ≡ None → IsSettled (WholeReading.items (ended_with skip items number o))
-end-settled skip items number rest h k None e f = let good = end-means items rest e in
-    record { in_place = h; copied = k; header = good.0; none = good.1 }
-end-settled skip items number rest h k (Some fault) e f = by_bool (is_skipped skip items fault) (λ on.
-    let facts = allowed skip items fault on in
-    rw on (record { in_place = (facts, h); copied = k; header = facts.0; none = refl })) (λ off.
-    let at : At = record { line = number; fault = fault } in
-    let never = rw off at f in
-    absurd (cc))
+abbrev IsClosed : {E : Type 0} → List (Item E) → Type 0
+IsClosed items = (header_has_ended items ≡ true) × (records_left items ≡ 0)
 
-settled : (skip : Bool) (items : List (Item Epoch)) (stop : Stop) (next : ℕ)
-    → AreInPlace items → OfCopiedLines CanStand items → IsStopped rinex_place items stop next
+-- where the end of the input is no fault, it comes after whole units
+pub closes : {E : Type 0} (place : List (Item E) → List ReadLine → Place (FileUnit E)) (skip : Bool)
+    (items : List (Item E)) (stop : Stop) (next : ℕ) → IsStopped place items stop next
     → WholeReading.fault (ended_reading skip (record { items = items; stop = stop })) ≡ None
-    → IsSettled (WholeReading.items (ended_reading skip (record { items = items; stop = stop })))
-settled skip items (AtFault at) next h k s f = absurd (cc)
-settled skip items (AtLines number rest) next h k s f = end-settled _ _ _ _ h k _ refl f
-settled skip items (Looking number) next h k s f =
-    record { in_place = h; copied = k; header = s.1; none = s.2 }
+    → IsClosed (WholeReading.items (ended_reading skip (record { items = items; stop = stop })))
+closes place skip items (AtFault at) next s f = absurd (cc)
+closes place skip items (Looking number) next s f = (s.1, s.2)
+closes place skip items (AtLines number rest) next s f = at_end (fault_at_end items rest) refl f
+  where
+    at_end : (o : Option Fault) → fault_at_end items rest ≡ o
+        → WholeReading.fault (ended_with skip items (number + length rest) o) ≡ None
+        → IsClosed (WholeReading.items (ended_with skip items (number + length rest) o))
+    at_end None e f = end-means items rest e
+    at_end (Some fault) e f = by_bool (is_skipped skip items fault)
+        (λ on. rw on ((allowed skip items fault on).0, refl)) (λ off.
+        let never = rw off at f in
+        absurd (cc))
 
 pub whole-settled : (skip : Bool) (input : List ℕ) → WholeReading.fault (whole_rinex skip (map seen
     (lines_of input))) ≡ None → IsSettled (WholeReading.items (whole_rinex skip (map seen (lines_of input))))
 whole-settled skip input f =
     let lines = map seen (lines_of input) in
     let r = rinex_reading skip lines in
-    settled skip r.items r.stop (1 + length lines) (items-in_place r.items
-    (items-read rinex_place skip 1 lines)) (items-copied CanStand skip lines (input-stands input))
-    (reading-stopped rinex_place rinex-forward skip [] 1 (1 + length lines) lines refl) f
+    let placed = items-in_place r.items (items-read rinex_place skip 1 lines) in
+    let copied = items-copied CanStand skip lines (input-stands input) in
+    let closed = closes rinex_place skip r.items r.stop (1 + length lines) (reading-stopped rinex_place
+    rinex-forward skip [] 1 (1 + length lines) lines refl) f in
+    record {
+      in_place = of-ended AreInPlace skip r.items r.stop placed (λ at on.
+          (allowed skip r.items at.fault on, placed));
+      copied = of-ended (OfCopiedLines CanStand) skip r.items r.stop copied (λ at on. copied);
+      header = closed.0;
+      none = closed.1;
+    }
 
 -- ---- the lines that are written
 
@@ -105,14 +111,8 @@ epoch-clean : (lines : List (List ℕ)) → AllByRecursion (λ (line : List ℕ)
     ≡ true) lines
     → AllByRecursion (λ (line : List ℕ). length line ≤ 18 * TYPES_LIMIT) lines → AllByRecursion IsClean lines
 epoch-clean [] h k = tt
-epoch-clean (line ∷ lines) h k = (
-  record {
-    one_line = printable-no_feed line h.0;
-    no_return = printable-no_return line h.0;
-    short = omega (arith, k.0);
-  },
-  epoch-clean lines h.1 k.1,
-)
+epoch-clean (line ∷ lines) h k =
+    grind (arith, epoch-clean lines h.1 k.1, printable-no_feed, printable-no_return)
 
 unit-clean : (every : Option ℕ) (before : List (Item Epoch)) (unit : FileUnit Epoch)
     → AreInPlace (Accepted unit ∷ before) → OfCopiedLine CanStand unit → OfCopiedLine (λ (line : List ℕ).
@@ -138,9 +138,7 @@ lines-clean every (Warned at ∷ before) h k e = lines-clean every before h.1 k 
 pub printed-same : (every : Option ℕ) (items : List (Item Epoch))
     → written_lines expanded_unit (read_back every items) ≡ printed_items items
 printed-same every [] = refl
-printed-same every (Accepted (Observation epoch) ∷ before) = cc (printed-same every before)
-printed-same every (Accepted unit ∷ before) = cc (printed-same every before)
-printed-same every (Warned at ∷ before) = printed-same every before
+printed-same every (item ∷ before) = grind (arith, printed-same every before)
 
 pub no-warnings : (every : Option ℕ) (items : List (Item Epoch)) → warnings_in (read_back every items) ≡ []
 no-warnings every [] = refl
@@ -176,6 +174,4 @@ items-back items compacting expanding dated h none =
     compacting.every items) _ (printed-same compacting.every items) (no-warnings compacting.every items)
 
 pub comes-back : (input : List ℕ) (compacting expanding : Choices) → ComesBack input compacting expanding
-comes-back input compacting expanding dated f none = items-back (WholeReading.items
-    (whole_rinex compacting.skip (map seen (lines_of input)))) compacting expanding dated
-    (whole-settled compacting.skip input f) none
+comes-back input compacting expanding dated f none = search (items-back, whole-settled)

@@ -1,16 +1,14 @@
 -- Lines that are written one after another, each with LF.
-use Rattle.std.proofs.Common.{◌≡◌, ℕ, ◌+◌, List, [], ◌∷◌, ◌++◌, length, take, drop, Some, sym, ap, ◌∙◌, subst}
+use Rattle.std.proofs.Common.{◌≡◌, ℕ, ◌+◌, List, [], ◌∷◌, ◌++◌, length, take, drop, Some, sym, ap, ◌∙◌}
 use Rattle.std.proofs.{Common.{arith, append_assoc, length-append}, Math.Seq.take-append-add}
 use Rattle.std.{proofs.lemmas.List.take-append-le, specs.Prelude.slice_get}
 use Rattle.crx_base.specs.meaning.Lines.{lines_text}
-use Rattle.crx_lines.specs.meaning.Devices.{with_failed_write}
 use Rattle.crx_runs.{proofs.DeviceSpans.Joins, specs.meaning.Spans.{Device, TookAll, TookPart}}
 
 -- the first of some lines, and the rest
 pub first-and-rest : (lines : List (List ℕ)) (line : List ℕ)
     → Some line ≡ slice_get lines 0 → lines ≡ line ∷ drop 1 lines
-first-and-rest [] line is = cc
-first-and-rest (l ∷ ls) line is = let same : line ≡ l = cc in ap (λ x. x ∷ ls) (sym same)
+first-and-rest = grind arith
 
 -- what is still to be written after a line and its LF
 pub one-written : (all written line : List ℕ) (lines : List (List ℕ))
@@ -31,7 +29,7 @@ part-after {both = both} j written text rest all whole a b =
       (
         length written + n,
         omega (arith, ap length whole, length-append written (text ++ rest), length-append text rest),
-        subst both.took (sym front) (j.joined written _ a.0 b.0.2),
+        grind arith,
       ),
-      j.end ∙ b.1 ∙ ap with_failed_write (j.same ∙ a.1 ∙ sym j.start),
+      grind arith,
     )

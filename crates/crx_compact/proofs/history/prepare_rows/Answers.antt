@@ -1,6 +1,6 @@
 use Rattle.crx_base.specs.declared.limits.TheConstants.{TYPES_LIMIT}
 use Rattle.crx_compact.proofs.Words.{◌≡◌, ◌≤◌, ℕ, ℤ, List, Option, ap, length, map, sum, sym, ◌∙◌, subst}
-use Rattle.crx_compact.proofs.Words.{take, arith, false≢true, Row, HasRoom, HaveRoom, row_room}
+use Rattle.crx_compact.proofs.Words.{take, arith, inl, inr, false≢true, Row, HasRoom, HaveRoom, row_room}
 use borrow.Author.Count.{falls}
 use Rattle.crx_compact.proofs.Making.{taken_all}
 use Rattle.crx_compact.proofs.PlaceByPlace.{some-there}
@@ -29,6 +29,15 @@ loop-row-preserved c =
       rest = c.prepare.ensures.asked.rest ∙ c.loop-row.invariant.rest;
       kept = λ name count has. c.prepare.ensures.asked.rooms name count
           (c.loop-row.invariant.kept name count has);
+      only = λ name count has. elim (c.prepare.ensures.only name count has) [
+        | inl before ↦ c.loop-row.invariant.only name count before
+        | inr asked ↦ inr (record {
+          index = index;
+          row = row;
+          there = sym c.in-Some.ensures.value;
+          asked = (asked.0 ∙ c.name.ensures.value, omega (arith, asked.1, many));
+        })
+      ];
       room = all-next (λ (r : Row). HasRoom r.name (length r.values) rooms) rows index row
           (all-of (λ (r : Row). HasRoom r.name (length r.values) c.loop-row.satellites.rooms)
           (λ (r : Row). HasRoom r.name (length r.values) rooms) (take index rows)
@@ -47,6 +56,23 @@ returns-clause-room c =
     subst (λ (rows : List Row). HaveRoom rows c.loop-row.satellites.rooms)
     (taken_all c.args.epoch.now.rows c.loop-row.index (sym c.in_default.ensures.value))
     c.loop-row.invariant.room
+
+pub returns-in_err-prepare-clause-asked : goal.returns-in_err-prepare-clause-asked
+returns-in_err-prepare-clause-asked c = record {
+  rows = c.prepare.ensures.asked.rows ∙ c.loop-row.invariant.rows;
+  rest = c.prepare.ensures.asked.rest ∙ c.loop-row.invariant.rest;
+  rooms = λ name count has.
+      c.prepare.ensures.asked.rooms name count (c.loop-row.invariant.kept name count has);
+}
+
+pub overflow_add-bytes-in-Some-2 : goal.overflow_add-bytes-in-Some-2
+overflow_add-bytes-in-Some-2 c =
+    let within = some-there c.args.epoch.now.rows c.loop-row.index c.in-Some.row.now
+    (sym c.in-Some.ensures.value) in
+    let few = c.row.ensures.within in
+    let counted = c.values-count.ensures.sound.counted.1 in
+    let many = ap length c.values-count.ensures.value in
+    omega (arith, c.loop-row.invariant.bounded, within, few, counted, many)
 
 pub overflow_add-index : goal.overflow_add-index
 overflow_add-index c =

@@ -1,5 +1,5 @@
 use Rattle.std.proofs.Common.{◌≡◌, ◌≤◌, ◌*◌, ◌-◌, length, map, sum, take}
-use Rattle.crx_compact.specs.Placing.{HaveRoom, KeepsRooms, row_room}
+use Rattle.crx_compact.specs.Placing.{GrowsOnly, HaveRoom, IsAskedAmong, KeepsRooms, row_room}
 use Rattle.crx_compact.proofs.history.prepare_rows.Given as goal
 
 abbrev pub invariant-loop-row : goal.invariant-loop-row
@@ -9,6 +9,7 @@ invariant-loop-row l = record {
   rows : l.satellites.rows ≡ l.initial.satellites.rows;
   rest : l.satellites.rest ≡ l.initial.satellites.rest;
   kept : KeepsRooms l.initial.satellites.rooms l.satellites.rooms;
+  only : GrowsOnly (IsAskedAmong l.epoch.rows) l.initial.satellites.rooms l.satellites.rooms;
   room : HaveRoom (take l.index l.epoch.rows) l.satellites.rooms;
 }
 

@@ -112,7 +112,7 @@ loop-place-preserved c =
     found.2 c.in_ok-place_name.ensures.ok.answer c.if-not-branch.false in
     let after = c.resize_last.new.self in
     let kept : KeepsRooms c.loop-place.satellites.rooms after.rooms = λ other count has.
-    c.resize_last.ensures.kept.rooms other count (c.place_name.ensures.rooms other count has) in
+    c.resize_last.ensures.kept.rooms.forth other count (c.place_name.ensures.rooms other count has) in
     let come : HasNameCome before (found.0 ++ satellite ∷ []) after =
     name-comes before found.0 name c.in-Some.cells c.loop-place.satellites c.place_name.new.satellites after
     found.2 found.3 fresh (c.in_ok-place_name.ensures.ok.come c.if-not-branch.false)
@@ -133,14 +133,14 @@ loop-place-preserved c =
           (λ (s : Satellite). HasRoom s.name s.count after.rooms) found.0
           (λ s has. kept s.name s.count has) found.6)
           (only (λ (s : Satellite). HasRoom s.name s.count after.rooms) satellite
-          (c.resize_last.ensures.kept.rooms name c.in-Some.cells
+          (c.resize_last.ensures.kept.rooms.forth name c.in-Some.cells
           (c.in_ok-place_name.ensures.ok.room c.if-not-branch.false))),
       elim found.7 [
         | inl good ↦ inl good
         | inr so_far ↦ elim c.in_ok-place_name.ensures.back [
           | inl good ↦ inl good
           | inr more ↦ inr (λ other count has. so_far other count (more other count
-              (c.resize_last.ensures.back other count has)))
+              (c.resize_last.ensures.kept.rooms.back other count has)))
         ]
       ],
     )

@@ -1,7 +1,8 @@
-use Rattle.std.proofs.Common.{refl, sym, subst, ◌∙◌}
+use Rattle.std.proofs.Common.{refl, ap, sym, subst, ◌∙◌}
 use Rattle.std.specs.Str.{bytes_eq}
 use Rattle.indexmap.proofs.CallerLemmas.{insert_entry-new}
 use Rattle.crx_compact.specs.Entries.{IsFound}
+use Rattle.crx_compact.specs.Placing.{SatelliteTail}
 use Rattle.crx_compact.proofs.placing.Found.{found-added, none-there, not-found}
 use Rattle.crx_compact.proofs.satellites.find_or_add.Goals as goal
 
@@ -12,7 +13,8 @@ returns-in-Ok-clause-found c =
     (found-added c.args.name c.new.result c.args.map.now.entries c.insert.new.self.entries
     (c.in-Ok.ensures.entries
     ∙ insert_entry-new bytes_eq c.args.map.now c.args.name c.new.result
-    (none-there _ (c.in_default.ensures.unknown refl))))
+    (none-there _ (c.in_default.ensures.unknown refl)))
+    (ap (λ (s : SatelliteTail). s.room) c.new.ensures.empty))
 
 pub returns-clause-unknown : goal.returns-clause-unknown
 returns-clause-unknown c = not-found c.args.name c.args.map.now.entries (c.in_default.ensures.unknown refl)

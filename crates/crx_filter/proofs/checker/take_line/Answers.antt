@@ -68,5 +68,5 @@ returns-in_default-clause-named c =
     let before = c.args.reader.now in
     let line = c.args.line.now in
     let kept : Written = record { index = 0; tail = None } in
-    are-named (made_at before line kept) before c.take.new.self line c.args.names.now c.take.result
+    are-named (made_at before line kept) before c.take.new.self line c.args.names.now.names c.take.result
     c.take.ensures.steps (c.take.ensures.takes kept)

@@ -32,8 +32,9 @@ returns-in-Ok-true-clause-takes c kept =
     let between = c.read_row.new.self in
     let line = c.args.line.now in
     let read = c.in_ok-read_row.ensures in
-    let new = has-come c.args.names.now before between c.row.result.now c.count.result c.name.result false
-    c.requires.named c.requires.open read.same c.count.ensures.rows c.name.ensures.value c.row.ensures.value
+    let new = has-come c.args.names.now.names before between c.row.result.now c.count.result c.name.result
+    false c.requires.named c.requires.open read.same c.count.ensures.rows c.name.ensures.value
+    c.row.ensures.value
     (c.in-Ok-true.ensures.new ∙ ap not c.in-Ok-true.field-0-test) in
     taken-from before between c.take_row.new.self line kept c.take_row.result c.take_row.ensures.steps
     read.same
@@ -43,7 +44,7 @@ returns-in-Ok-true-clause-takes c kept =
 pub returns-in-Ok-false-clause-refuses : goal.returns-in-Ok-false-clause-refuses
 returns-in-Ok-false-clause-refuses c kept =
     let read = c.in_ok-read_row.ensures in
-    inl (read.repeated kept (has-come c.args.names.now c.args.reader.now c.read_row.new.self
+    inl (read.repeated kept (has-come c.args.names.now.names c.args.reader.now c.read_row.new.self
     c.row.result.now c.count.result c.name.result true
     c.requires.named c.requires.open read.same c.count.ensures.rows c.name.ensures.value c.row.ensures.value
     (c.in-Ok-false.ensures.new ∙ ap not c.in-Ok-false.field-0-test)))
@@ -53,7 +54,7 @@ returns-in-Err-clause-refuses c kept =
     let read = c.in_ok-read_row.ensures in
     inr (
       refl,
-      read.memory (has-come c.args.names.now c.args.reader.now c.read_row.new.self
+      read.memory (has-come c.args.names.now.names c.args.reader.now c.read_row.new.self
           c.row.result.now c.count.result c.name.result false
           c.requires.named c.requires.open read.same c.count.ensures.rows c.name.ensures.value
           c.row.ensures.value

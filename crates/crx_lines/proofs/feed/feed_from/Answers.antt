@@ -1,12 +1,11 @@
+use Rattle.std.proofs.lemmas.Grind.{common_steps}
 use Rattle.std.proofs.{Common.{eqb, arith, ⊎_elim}, lemmas.Bool.{eqb-true, eqb-false, cases_lt}}
 use Rattle.std.proofs.lemmas.Simd.{run_in_chunk_fails, run_in_chunk_stops}
 use Rattle.crx_lines.proofs.FeedLemmas.{before_first, none_of_all}
 use Rattle.crx_lines.proofs.feed.feed_from.Goals as goal
 
 pub returns-then-feeds-ne0-clause-within : goal.returns-then-feeds-ne0-clause-within
-returns-then-feeds-ne0-clause-within c =
-    let found = before_first c.args.bytes.now c.loop-at.at (omega arith) (omega arith) in
-    (omega (arith, c.loop-at.invariant.0), omega (arith, found.0))
+returns-then-feeds-ne0-clause-within c = grind (arith, common_steps, before_first)
 
 pub returns-then-feeds-ne0-clause-found : goal.returns-then-feeds-ne0-clause-found
 returns-then-feeds-ne0-clause-found c =

@@ -1,12 +1,12 @@
-use Rattle.std.proofs.Common.{◌≡◌, ◌≤◌, ℕ, ◌+◌, ◌-◌, List, ◌++◌, length-take, length-drop, take, drop, sym}
-use Rattle.std.proofs.{Common.{ap, ◌∙◌, subst, arith, append-nil}, Math.Seq.take-add, lemmas.List.take-take}
+use Rattle.std.proofs.lemmas.Grind.{common_steps}
+use Rattle.std.proofs.Common.{◌≡◌, ◌≤◌, ℕ, ◌+◌, ◌-◌, List, ◌++◌, length-take, length-drop, take, drop}
+use Rattle.std.proofs.{Common.{◌∙◌, subst, arith, append-nil}, Math.Seq.take-add, lemmas.List.take-take}
 use Rattle.crx_lines.proofs.write.write_all_counted.Goals as goal
 
 -- what went out so far, and the next bytes after it
 take-rest : (bytes : List ℕ) (n k m : ℕ) → m ≤ k
     → take n bytes ++ take m (take k (drop n bytes)) ≡ take (n + m) bytes
-take-rest bytes n k m few =
-    ap (λ l. take n bytes ++ l) (take-take m k _ few) ∙ sym (take-add n m bytes)
+take-rest bytes n k m few = grind (arith, common_steps, take-take, take-add)
 
 pub loop-written-preserved : goal.loop-written-preserved
 loop-written-preserved g c =

@@ -1,3 +1,4 @@
+use Rattle.std.proofs.lemmas.Grind.{common_steps}
 use Rattle.std.proofs.Common.{◌+◌, ◌*◌, ◌≤◌, length, ap, sym, ◌∙◌, arith}
 use Rattle.crx_text.specs.meaning.Numbers.{observation_of}
 use Rattle.crx_rinex.proofs.Cells.{cells_kept, cells_more, inside, read_inside}
@@ -10,15 +11,13 @@ loop-k-preserved c =
     let values = c.loop-k.values in
     let test = c.loop-k-test.true in
     let same = c.loop-k.auto.values in
-    let room : 16 * k + 3 + 16 ≤ length line =
-    let at = c.cells_within-count.ensures.within k test in omega (arith, at) in
+    let room : 16 * k + 3 + 16 ≤ length line = omega (arith, test, c.min-count.ensures) in
     let field_is = read_inside line k 16 (omega arith) (omega (arith, room)) in
     cells_more line values c.loop-k.flags k _ _ c.obs_read_into.new.value c.loop-k.invariant
-    (omega (arith, test, same, c.cells_within-count.ensures.few))
+    (omega (arith, test, same, c.min-count.ensures))
     (ap observation_of (sym field_is) ∙ c.if-not-obs_read_into.ensures.value)
     c.if-not-obs_read_into.ensures.in_range (inside line _ (16 * k + 18) (omega (arith, room)) (omega arith))
     (inside line _ (16 * k + 19) (omega (arith, room)) (omega arith))
 
 pub returns-then-not-obs_read_into : goal.returns-then-not-obs_read_into
-returns-then-not-obs_read_into c =
-    cells_kept _ _ _ _ _ c.loop-k.invariant
+returns-then-not-obs_read_into c = grind (arith, common_steps, cells_kept)

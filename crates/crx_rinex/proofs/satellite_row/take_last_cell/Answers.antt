@@ -1,3 +1,4 @@
+use Rattle.std.proofs.lemmas.Grind.{common_steps}
 use Rattle.std.proofs.Common.{◌≡◌, ℕ, ◌+◌, ◌*◌, ◌-◌, ◌≤◌, List, length, take, drop, ap, sym, ◌∙◌, arith, Bool}
 use Rattle.std.proofs.{Common.{true, false, refl}, lemmas.{Bool.leb-true, List.{length-set, set-get_or}}}
 use Rattle.std.{proofs.lemmas.List.drop_all, specs.{Bool.OnTrue, List.list_all, Prelude.slice_set}}
@@ -36,19 +37,9 @@ on-true false X h = tt
 
 pub returns-then-first-values-clause-read : goal.returns-then-first-values-clause-read
 returns-then-first-values-clause-read c =
-    let line = c.args.line.now in
-    let values = c.args.values.now in
-    let first : ℕ = c.args.first in
-    let same = c.if-first-values.true in
-    on-true _ _ (λ t. let ends = leb-true _ _ t in
-    cells_whole line values _ first _ c.requires same refl
-    (nothing-after line (16 * length values + 3) (omega (arith, ends, same))))
+    grind (arith, common_steps, on-true, leb-true, cells_whole, nothing-after)
 
 -- ---- where the last one isn't taken
 
 pub returns-then-not-obs_read_into-clause-same : goal.returns-then-not-obs_read_into-clause-same
-returns-then-not-obs_read_into-clause-same c =
-    let values = c.args.values.now in (
-      ap (slice_set values _) c.if-not-obs_read_into.ensures.same ∙ set-get_or values c.args.first _,
-      refl,
-    )
+returns-then-not-obs_read_into-clause-same c = grind (arith, common_steps, slice_set, set-get_or)

@@ -1,5 +1,5 @@
-use Rattle.std.proofs.Common.{inr, ℕ, ◌<◌, List, length, take, subst, ap₂, ◌∙◌}
-use Rattle.crx_lines.specs.Devices.{sink_tally_of}
+use Rattle.std.proofs.Common.{arith}
+use Rattle.std.proofs.Common.{inr, ◌∙◌}
 use Rattle.crx_runs.proofs.finish.report.Goals as goal
 
 pub returns-in-Err-clause-reported : goal.returns-in-Err-clause-reported
@@ -9,9 +9,8 @@ returns-in-Err-clause-reported g c =
     inr (
       (
         n,
-        subst (λ t. n < length t) same c.in-Err.ensures.short,
-        subst (λ t. g.M.Sink.took c.args.messages.now (take n t)
-            c.write_all_counted.new.writer) same c.in-Err.ensures.part,
+        grind arith,
+        grind arith,
       ),
-      ap₂ sink_tally_of c.in-Err.ensures.counted c.in-Err.ensures.unasked,
+      grind arith,
     )

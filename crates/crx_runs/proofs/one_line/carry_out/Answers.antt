@@ -1,9 +1,9 @@
-use Rattle.std.proofs.Common.{◌≡◌, ℕ, ◌<◌, true, List, [], ◌∷◌, length, take, Ok, Err, refl, sym, ap₂, subst}
+use Rattle.std.proofs.Common.{◌<◌, true, [], ◌∷◌, length, take, Ok, Err, refl, sym, ap₂, subst}
 use Rattle.std.proofs.Common.{◌∙◌, arith, append-nil}
 use Rattle.crx_base.specs.meaning.Lines.{lines_text}
 use Rattle.crx_lines.specs.Devices.{sink_tally_of}
-use Rattle.crx_runs.{proofs.LinesTaken.ready-cut, specs.{Engines.IsDrainedAfter, Taking.{IsSettled, made_by}}}
-use Rattle.crx_runs.specs.declared.{engine.Step.Step, one_line.Halt.TheVariants.{Unreported, Unwritten}}
+use Rattle.crx_runs.{specs.{Engines.IsDrainedAfter, Taking.{IsSettled, made_by}}}
+use Rattle.crx_runs.specs.declared.{one_line.Halt.TheVariants.{Unreported}}
 use Rattle.crx_runs.specs.meaning.{Messages.warning_text, Spans.span}
 use Rattle.crx_runs.proofs.one_line.carry_out.Goals as goal
 
@@ -56,9 +56,4 @@ returns-in-Err-write_all_counted-clause-settled g c =
     })
 
 pub returns-in-Err-clause-settled : goal.returns-in-Err-clause-settled
-returns-in-Err-clause-settled g c =
-    let m = c.args.messages.now in
-    let ready = g.E.Engine.ready _ in
-    subst (λ s. IsSettled (span g.W.Sink c.args.writer.now c.write_ready.new.writer)
-    (span g.M.Sink m m) (made_by ready s) (Err Unwritten)) (sym c.in-Ready.is)
-    (ready-cut _ _ ready c.in-Err.ensures.part (g.met.M.Sink.took_none m, refl))
+returns-in-Err-clause-settled = grind arith

@@ -1,10 +1,11 @@
-use Rattle.std.proofs.Common.{◌≡◌, ⊎_elim, ◌+◌, ℕ, true, Ok, Err, refl, sym, ap, subst, ◌∙◌}
+use Rattle.std.proofs.Common.{arith}
+use Rattle.std.proofs.Common.{⊎_elim, Ok, refl, sym, ap, subst, ◌∙◌}
 use Rattle.std.proofs.lemmas.Result.{err_from_is_err_and}
 use Rattle.crx_runs.proofs.{DeviceSpans.span-joins, LinesTaken.{again-refused, again-settled, line-failed}}
 use Rattle.crx_runs.proofs.LinesTaken.{line-refused, line-settled, Stays, then_of}
 use Rattle.crx_runs.proofs.one_line.take_answered.{Given.Over, Goals.{After-carry_out-then-again, In_ok-warned}}
-use Rattle.crx_runs.{proofs.one_line.take_answered.Goals.Then-again, specs.Taking.{HasAnswered, IsSettled}}
-use Rattle.crx_runs.specs.{Taking.{IsTouchedBy, LineIsTaken, TakenIs, made_by}, declared.engine.Step.Step}
+use Rattle.crx_runs.{proofs.one_line.take_answered.Goals.Then-again, specs.Taking.{HasAnswered}}
+use Rattle.crx_runs.specs.{Taking.{LineIsTaken, TakenIs}}
 use Rattle.crx_runs.specs.{declared.engine.Step.TheVariants.Warned, meaning.Spans.span}
 use Rattle.crx_runs.proofs.one_line.take_answered.Goals as goal
 
@@ -22,20 +23,7 @@ returns-in_err-warned g c = λ before a.
     c.in_err-warned.ensures.settled)
 
 pub offer-requires : goal.offer-requires
-offer-requires g c =
-    let at = (goal.at.offer-requires g c).Then-again in
-    let may = c.requires.1 in
-    let is : at.in_ok-step.step ≡ Warned at.in-Warned.notice true =
-    at.in-Warned.is ∙ ap (Warned at.in-Warned.notice) at.if-again.true in
-    let a : HasAnswered g.E.Engine c.requires.0 c.args.engine.now (TakenIs c.args.taken)
-    (Ok (Warned at.in-Warned.notice true)) = rw (← is, ← c.in_ok-step.was) c.requires.2 in
-    let touched : c.carry_out.new.engine ≡ c.args.engine.now = rw is at c.carry_out.ensures.touched in
-    record {
-      drained = c.in_ok-warned.ensures.drained;
-      running = c.carry_out.ensures.kept.running a.running;
-      next = may.next ∙ ap (λ n. n + 1) (sym (ap g.E.Engine.taken touched ∙ a.count));
-      within = may.within;
-    }
+offer-requires = grind arith
 
 pub returns-in_err-second-in-Warned : goal.returns-in_err-second-in-Warned
 returns-in_err-second-in-Warned g c = λ before a.

@@ -1,5 +1,3 @@
-use Rattle.std.proofs.Common.{List}
-use Rattle.crx_base.specs.meaning.Lines.{InputLine}
 use Rattle.crx_runs.proofs.LinesTaken.{end-comes}
 use Rattle.crx_runs.proofs.one_line.take_end.Goals as goal
 

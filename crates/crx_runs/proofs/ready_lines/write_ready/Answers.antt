@@ -1,9 +1,9 @@
-use Rattle.std.proofs.Common.{◌≡◌, ℕ, List, [], ◌∷◌, ◌++◌, drop, sym, ap, ap₂, ◌∙◌, append_assoc}
-use Rattle.crx_base.specs.meaning.Lines.{InputLine, lines_text}
+use Rattle.std.proofs.Common.{◌≡◌, [], ◌∷◌, ◌++◌, drop, sym, ap, ap₂, ◌∙◌, append_assoc}
+use Rattle.crx_base.specs.meaning.Lines.{lines_text}
 use Rattle.crx_lines.specs.Devices.{sink_tally_of}
 use Rattle.crx_runs.proofs.{DeviceSpans.{all-all, span-joins}, output.ReadyLines.first-and-rest}
 use Rattle.crx_runs.proofs.{output.ReadyLines.{one-written, part-after}, ready_lines.write_ready.Given.Over}
-use Rattle.crx_runs.{proofs.ready_lines.write_ready.Goals.In-Some-next_line, specs.Engines.Awaited}
+use Rattle.crx_runs.{proofs.ready_lines.write_ready.Goals.In-Some-next_line}
 use Rattle.crx_runs.proofs.ready_lines.write_ready.Goals as goal
 
 -- What was ready at first is what was written, the next line, its LF and the others.

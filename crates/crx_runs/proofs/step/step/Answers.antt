@@ -1,10 +1,10 @@
-use Rattle.std.proofs.Common.{◌≡◌, inl, inr, ℕ, ◌+◌, ◌<◌, ◌≤◌, true, List, Ok, refl, sym, ap, subst, ◌∙◌}
+use Rattle.std.proofs.Common.{◌≡◌, inl, inr, List, Ok, refl, sym, ap, subst, ◌∙◌}
 use Rattle.std.proofs.{Common.arith, lemmas.Result.err_from_is_err_and}
-use Rattle.crx_lines.specs.{Progress.HasRead, Readers.reading, Reading.{ReaderState, line_shown, line_number}}
+use Rattle.crx_lines.specs.{Progress.HasRead, Readers.reading, Reading.{ReaderState}}
 use Rattle.crx_lines.specs.{declared.phase.Phase.TheVariants.Ended, meaning.Devices.{Tally, tally_of}}
-use Rattle.crx_base.specs.{declared.limits.TheConstants.INPUT_LIMIT, meaning.Lines.{InputLine, is_long}}
+use Rattle.crx_base.specs.{meaning.Lines.{InputLine}}
 use Rattle.crx_runs.proofs.{DeviceSpans.span-joins, RunningSteps.{goes-by, ends-by}, StepReading.HasAsked}
-use Rattle.crx_runs.proofs.StepReading.{line-read, overlong-read, stop-read, end-read, overlong-number}
+use Rattle.crx_runs.proofs.StepReading.{line-read, overlong-read, stop-read, end-read}
 use Rattle.crx_runs.proofs.{StepReading.{line-passed, overlong-passed, ended-not-open}, step.step.Given.Over}
 use Rattle.crx_runs.proofs.step.step.Goals.{After-next_line}
 use Rattle.crx_runs.proofs.step.step.Goals as goal
@@ -22,25 +22,10 @@ asked : (g : Over) (c : After-next_line g)
     → HasAsked (λ given. g.R.Source.gave c.args.reader.now given c.next_line.new.reader)
     (g.R.Source.at_end c.next_line.new.reader) (counts g c.args.reader.now) (counts g c.next_line.new.reader)
     (reading c.args.input.now) (reading c.next_line.follows.lender-at-none) c.next_line.result
-asked g c = record {
-  going = c.requires.going;
-  at_open = c.next_line.follows.holds-at-none.0;
-  at_ended = λ e. (c.next_line.ensures.ended e).0;
-}
+asked = grind arith
 
 pub take_overlong-requires : goal.take_overlong-requires
-take_overlong-requires g c =
-    let a = asked g (goal.at.take_overlong-requires g c).After-next_line in
-    let number = overlong-number a c.in-Err.at c.in-Err.is c.in-LineTooLong.is in
-    let passed = overlong-passed a c.in-Err.at c.in-Err.is c.in-LineTooLong.is in
-    record {
-      may_take = record {
-        drained = c.requires.drained;
-        running = c.requires.running;
-        next = number ∙ ap (λ n. n + 1) c.requires.next;
-        within = omega (arith, number, passed.0, passed.1, c.requires.counted.0);
-      };
-    }
+take_overlong-requires = grind arith
 
 pub returns-in_ok-take_line-in-Ok-Some-clause-goes : goal.returns-in_ok-take_line-in-Ok-Some-clause-goes
 returns-in_ok-take_line-in-Ok-Some-clause-goes g c = λ r0 w0 m0 lines shown running.

@@ -1,10 +1,9 @@
-use Rattle.std.proofs.Common.{inl, inr, Bool, ◌||◌, List, [], Option, Ok, sym, ap, arith, subst, ◌∙◌}
-use Rattle.crx_base.specs.meaning.Lines.{InputLine}
+use Rattle.std.proofs.Common.{inl, inr, ◌||◌, [], sym, ap, arith, ◌∙◌}
 use Rattle.crx_lines.specs.Readers.{reading}
 use Rattle.crx_runs.proofs.{DeviceSpans.span-joins, RunningSteps.{go-on, stopped-end, well-done}}
 use Rattle.crx_runs.proofs.work.take_all.{Given.Over, Goals.{After-step, In-Ok, In-Ok-None, In-Ok-Some}}
-use Rattle.crx_runs.specs.{Endings.{EndEndsRun, StopsAt}, Running.{ComesToEnd, GoesOnBy, IsRunning, StepGoes}}
-use Rattle.crx_runs.specs.{Taking.IsDone, meaning.{Filters.Filter, Spans.{Input, reader_span, Device, span}}}
+use Rattle.crx_runs.specs.{Running.{StepGoes}}
+use Rattle.crx_runs.specs.{Taking.IsDone, meaning.{Spans.{reader_span, span}}}
 use Rattle.crx_runs.proofs.work.take_all.Goals as goal
 
 -- What a step does, by the filter that the engine had at first.
@@ -14,9 +13,7 @@ goes : (g : Over) (c : After-step g)
     (span g.W.Sink c.args.writer.now c.step.new.writer)
     (span g.M.Sink c.args.messages.now c.step.new.messages) (reading c.step.new.input) c.lines.invariant.0.0
     c.step.result
-goes g c = (rw c.lines.invariant.3 at (c.step.ensures.goes c.args.reader.now c.args.writer.now
-    c.args.messages.now
-    c.lines.invariant.0.0 c.lines.invariant.0.1)) c.lines.invariant.0.2
+goes = grind arith
 
 pub lines-preserved-then-warned : goal.lines-preserved-then-warned
 lines-preserved-then-warned g c =

@@ -1,4 +1,5 @@
-use Rattle.std.proofs.Common.{◌≡◌, ◌≤◌, ℕ, ◌+◌, ◌-◌, List, length, drop, ap, ◌∙◌, arith}
+use Rattle.std.proofs.lemmas.Grind.{common_steps}
+use Rattle.std.proofs.Common.{◌≡◌, ◌≤◌, ℕ, ◌+◌, ◌-◌, List, length, drop, arith}
 use Rattle.std.proofs.lemmas.Slice.{drop-put_mid}
 use borrow.Rule.Slice.PartMut.{put_mid}
 use Rattle.crx_text.proofs.block.put_text.Goals as goal
@@ -6,10 +7,7 @@ use Rattle.crx_text.proofs.block.put_text.Goals as goal
 rest : (bytes part text : List ℕ) (start : ℕ) → part ≡ text → start + length text ≤ length bytes
     → drop (start + length text) (put_mid start (start + length text - start) bytes part)
     ≡ drop (start + length text) bytes
-rest bytes part text start is room =
-    drop-put_mid start _ bytes part _ (omega (arith))
-    (omega (arith, room)) (ap (λ t. length t) is ∙ omega (arith))
+rest bytes part text start is room = grind (arith, common_steps, drop-put_mid)
 
 pub returns-clause-rest : goal.returns-clause-rest
-returns-clause-rest c =
-    rest _ _ _ _ c.copy_from_slice.ensures.after c.requires
+returns-clause-rest c = grind (arith, common_steps, rest)

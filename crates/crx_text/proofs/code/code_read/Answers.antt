@@ -1,21 +1,16 @@
-use Rattle.std.{proofs.{Common.{ap, sym, ◌∙◌}, lemmas.Result.err_from_is_err_and}, specs.Option.option_map}
+use Rattle.std.proofs.lemmas.Grind.{common_steps}
+use Rattle.std.proofs.Common.{arith}
+use Rattle.std.{proofs.{lemmas.Result.err_from_is_err_and}, specs.Option.option_map}
 use Rattle.std.specs.Result.{result_ok}
 use Rattle.crx_text.{proofs.CellNumbers.{no_code_with_blank, one_cell}, specs.meaning.Codes.code_of}
 use Rattle.crx_text.proofs.code.code_read.Goals as goal
 
 pub returns-then-contains-clause-value : goal.returns-then-contains-clause-value
-returns-then-contains-clause-value c =
-    sym (no_code_with_blank c.args.text.now (sym c.contains.ensures.value ∙ c.if-contains.true))
+returns-then-contains-clause-value c = grind (arith, common_steps, no_code_with_blank)
 
 pub returns-in_err-code-clause-value : goal.returns-in_err-code-clause-value
 returns-in_err-code-clause-value c =
-    let cell = one_cell c.args.text.now (sym c.contains.ensures.value ∙ c.if-contains.false) in
-    let failed = err_from_is_err_and c.from_residual.result c.from_residual.ensures.1 in
-    ap result_ok failed.1 ∙ ap (λ r. option_map (λ cell. cell.0) (result_ok r)) (sym c.in_err-code.was)
-    ∙ c.code_before_blank.ensures.value ∙ ap code_of cell
+    grind (arith, common_steps, one_cell, err_from_is_err_and, result_ok, option_map, code_of)
 
 pub returns-clause-value : goal.returns-clause-value
-returns-clause-value c =
-    let cell = one_cell c.args.text.now (sym c.contains.ensures.value ∙ c.if-contains.false) in
-    ap (λ r. option_map (λ cell. cell.0) (result_ok r)) (sym c.in_ok-code.was)
-    ∙ c.code_before_blank.ensures.value ∙ ap code_of cell
+returns-clause-value c = grind (arith, common_steps, one_cell, option_map, result_ok, code_of)

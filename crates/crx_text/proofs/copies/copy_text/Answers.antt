@@ -1,3 +1,4 @@
+use Rattle.std.proofs.lemmas.Grind.{common_steps}
 use Rattle.std.proofs.Common.{◌≡◌, ◌+◌, ◌-◌, ◌≤◌, ◌++◌, ℕ, List, length, take, arith, ◌∙◌}
 use Rattle.std.proofs.lemmas.Simd.{length-chunk, length-put_chunk, take_more_put_chunk}
 use Rattle.std.specs.Simd.Lanes.{chunk, put_chunk}
@@ -7,20 +8,10 @@ use Rattle.crx_text.proofs.copies.copy_text.Goals as goal
 -- one vector more
 copied_more : (i : ℕ) (from to : List ℕ) → i + 16 ≤ length from → length to ≡ length from
     → take (i + 16) (put_chunk i to (chunk i 16 from)) ≡ take i to ++ chunk i 16 from
-copied_more i from to room same =
-    let long = length-chunk i 16 from room in
-    take_more_put_chunk i to _ (i + 16) (omega (arith, long)) (omega (arith, room, same))
+copied_more i from to room same = grind (arith, common_steps, length-chunk, take_more_put_chunk)
 
 pub loop-at-preserved : goal.loop-at-preserved
-loop-at-preserved c =
-    let i = c.loop-at.at in
-    let from = c.args.from.now in
-    let same = c.loop-at.invariant.1 in (
-      omega (arith, c.loop-at-test.true),
-      length-put_chunk i _ _ ∙ same,
-      piece_written i 16 from _ _ c.loop-at.invariant.2
-          (copied_more i from _ (omega (arith, c.loop-at-test.true)) same),
-    )
+loop-at-preserved c = grind (arith, common_steps, length-put_chunk, piece_written, copied_more)
 
 pub returns-then-count-ge-LANES : goal.returns-then-count-ge-LANES
 returns-then-count-ge-LANES c =

@@ -1,17 +1,11 @@
+use Rattle.std.proofs.lemmas.Grind.{common_steps}
 use Rattle.std.proofs.Common.{◌+◌, ◌-◌, ◌*◌, ◌≤◌, ◌^◌, length, get_or, ℕ, arith, sym, ◌∙◌}
 use Rattle.crx_text.proofs.PowersOfTen.{ten_pow_pos, one_more_digit, next_is_small, pow_left, digit_range}
 use Rattle.crx_text.proofs.PowersOfTen.{all_digits_next, digits_value_next}
 use Rattle.crx_text.proofs.digits.digits_read.Goals as goal
 
 pub overflow_mul-size : goal.overflow_mul-size
-overflow_mul-size c =
-    let i = c.loop-digit.digit-index in
-    let n = length _ in
-    let power : ℕ = 10 ^ (n - (i + 1)) in
-    let bound : (c.loop-digit.size + 1) * (power * 10) ≤ (c.args.before + 1) * 10 ^ n =
-    rw (sym (pow_left n i c.loop-digit-test.true)) c.loop-digit.invariant.2 in
-    let small = next_is_small _ power _ (ten_pow_pos _) bound in
-    omega (arith, small, c.requires)
+overflow_mul-size c = grind (arith, common_steps, pow_left, next_is_small, ten_pow_pos)
 
 pub overflow_add-size : goal.overflow_add-size
 overflow_add-size c =

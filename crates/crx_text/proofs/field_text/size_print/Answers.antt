@@ -1,3 +1,4 @@
+use Rattle.std.proofs.lemmas.Grind.{common_steps}
 use Rattle.std.proofs.Common.{◌≡◌, ◌+◌, ◌-◌, ◌/◌, ◌%◌, ◌^◌, ◌≤◌, ◌++◌, ◌∷◌, [], ℕ, List, length, replicate}
 use Rattle.std.proofs.{Common.{take, drop, ap, refl, sym, ◌∙◌, arith}, lemmas.List.{length-drop, length-take}}
 use Rattle.std.proofs.lemmas.Simd.{length-chunk, length-zip2, put_chunk_whole}
@@ -32,9 +33,7 @@ module _ (size : ℕ) (digits : List ℕ) (is : digits ≡ group_digits (size / 
   start_few = omega (arith, start_is, zeros_few (nine_in size))
 
 pub overflow_sub-text : goal.overflow_sub-text
-overflow_sub-text c =
-    let few = start_few _ _ c.digits.ensures in
-    omega (arith, few)
+overflow_sub-text c = grind (arith, common_steps, start_few)
 
 pub returns : goal.returns
 returns c =

@@ -1,3 +1,4 @@
+use Rattle.std.proofs.lemmas.Grind.{common_steps}
 use Rattle.std.proofs.{Common.{drop, take, w64, arith, rules, ap, ◌∙◌}, lemmas.Int.to_z-of_z}
 use Rattle.crx_text.proofs.{ClockTexts.text_long, Spellings.{printed_number, printed_number_below}}
 use Rattle.crx_text.proofs.Spellings.{printed_blank}
@@ -26,5 +27,4 @@ returns-else-number-lt0 c =
     }
 
 pub returns-in_default : goal.returns-in_default
-returns-in_default c = record
-    { written = rw c.in_default.is (c.copy_from_slice.ensures.after ∙ printed_blank 15 12) }
+returns-in_default c = grind (arith, common_steps, printed_blank)

@@ -1,3 +1,4 @@
+use Rattle.std.proofs.lemmas.Grind.{common_steps}
 use Rattle.std.proofs.Common.{◌≡◌, ◌-◌, ◌<◌, ◌^◌, length, ℕ, pos, take, replicate, true, w64, arith, rules}
 use Rattle.std.proofs.{Common.{ap, sym, ◌∙◌}, lemmas.Int.to_z-of_z}
 use lib.IntN.{nat_abs}
@@ -53,6 +54,4 @@ returns-else-number-lt0 c =
     (printed.ensures.before ∙ ap (take _) blank))
 
 pub returns-in_default : goal.returns-in_default
-returns-in_default c =
-    let blank : c.fill.new.self ≡ replicate {A = ℕ} _ 32 = search rules in
-    rw c.in_default.is (blank ∙ printed_blank _ _)
+returns-in_default c = grind (arith, common_steps, replicate, printed_blank)

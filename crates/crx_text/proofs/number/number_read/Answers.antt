@@ -1,3 +1,4 @@
+use Rattle.std.proofs.lemmas.Grind.{common_steps}
 use Rattle.std.proofs.Common.{◌≡◌, ◌<◌, ◌≤◌, length, Some, None, w64, arith, rules, ap, sym, ◌∙◌}
 use Rattle.std.{proofs.lemmas.{Bool.Decides.nat_tests, Int.to_z-of_z}, specs.Option.option_map}
 use mir.Val.{SFits}
@@ -8,10 +9,7 @@ use Rattle.crx_text.proofs.number.number_read.Goals as goal
 
 pub returns-then-is_empty-clause-value : goal.returns-then-is_empty-clause-value
 returns-then-is_empty-clause-value c =
-    let text = c.trim_start-text.result.now in
-    let empty : length text ≡ 0 = grind (arith, nat_tests) in
-    sym (number_of_width _ _ _ c.if-field-width.false ∙ ap (missing_or_number _)
-    (sym c.trim_start-text.ensures.value) ∙ missing_or_number_blank c.args.decimals text empty)
+    grind (arith, common_steps, number_of_width, missing_or_number, missing_or_number_blank)
 
 pub signed-requires : goal.signed-requires
 signed-requires c =

@@ -27,7 +27,7 @@ promised c within memory =
 
 -- of the choices alone whether faults are skipped counts
 pub returns-clause-runs : goal.returns-clause-runs
-returns-clause-runs c within memory choices same =
+returns-clause-runs c choices same within memory =
     subst (λ skip. AnswersWithin c.args.max_output (result_of expanded_unit
     (whole_compact skip (map seen (lines_of c.args.input.now)))) c.answer_of.result
     (rooms c.args.output.now c.args.messages.now)
@@ -44,12 +44,12 @@ returns-clause-way_back c within memory =
     (promised (goal.at.returns-clause-way_back c).After-answer_of within memory).way_back
 
 pub returns-clause-salvage : goal.returns-clause-salvage
-returns-clause-salvage c within memory skips =
+returns-clause-salvage c skips within memory =
     (promised (goal.at.returns-clause-salvage c).After-answer_of within memory).salvage
     (c.expansion_options.ensures ∙ skips)
 
 pub returns-clause-damage : goal.returns-clause-damage
-returns-clause-damage c within memory skips =
+returns-clause-damage c skips within memory =
     (promised (goal.at.returns-clause-damage c).After-answer_of within memory).damage
     (c.expansion_options.ensures ∙ skips)
 

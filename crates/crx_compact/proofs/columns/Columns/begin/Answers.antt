@@ -45,8 +45,12 @@ returns-in-Err-clause-unasked c = λ other.
         rooms = λ name count has. subst (HasRoom name count) c.has_history.ensures.rooms
             (left.0 name count (subst (HasRoom name count) (ap (λ (h : OpenHistory). h.satellites.rooms) c.forget-in-Err.ensures.history) has));
       };
-      lines = omega arith;
-      bytes = omega arith;
+      block = record {
+        lines = omega arith;
+        bytes = omega arith;
+        held_lines = omega arith;
+        held_bytes = omega arith;
+      };
     })
 
 pub returns-in-Ok-begin-clause-room : goal.returns-in-Ok-begin-clause-room

@@ -4,7 +4,8 @@ use Rattle.crx_compact.proofs.Words.{columns_state, OpenHistory, tail_of_history
 use Rattle.crx_compact.proofs.Words.{tail_after, tail_written_after, Tail, Stage, HeldColumns}
 use Rattle.crx_compact.specs.OpenEpochs.ColumnsState.{Idle}
 use Rattle.crx_compact.specs.Coded.{CodedEpoch}
-use Rattle.crx_compact.specs.EncodingRooms.{HasRoomForEpoch, KeepsEncodingRoom, all_free, encoding_room}
+use Rattle.crx_compact.specs.EncodingRooms.{GrowsForEpoch, HasRoomForEpoch, KeepsEncodingRoom}
+use Rattle.crx_compact.specs.EncodingRooms.{all_free, encoding_room, made_room}
 use Rattle.crx_compact.specs.LineLists.{room_of_lines}
 use Rattle.crx_compact.proofs.EncodingRooms.{all-free-room}
 use Rattle.crx_compact.proofs.reading.Stages.{stage-idle, tail-idle}
@@ -61,6 +62,15 @@ returns-in-Ok-clause-kept c =
     (stage-idle c.self.inside.is_kept c.self.inside.stage c.self.inside.count c.self.inside.history
     c.args.self.now.state (ap (λ (held : HeldColumns). held.state) c.self.view_is) c.requires.idle)
     ∙ ap (λ t. Idle (Some t)) (c.in-Ok.ensures.written.tail ∙ ap (λ t. tail_after t c.args.epoch) (after c))
+
+pub returns-in-Ok-clause-only : goal.returns-in-Ok-clause-only
+returns-in-Ok-clause-only c =
+    subst (λ (held : HeldColumns). GrowsForEpoch c.args.epoch held.encoding.rooms
+    c.encode.new.self.satellites.rooms (made_room held.front held.encoding)
+    (room_of_lines c.replace-lines.result)) c.self.view_is
+    (subst (λ (made : PendingLines). GrowsForEpoch c.args.epoch c.self.inside.history.satellites.rooms
+    c.encode.new.self.satellites.rooms (room_of_lines c.self.inside.lines) (room_of_lines made))
+    (sym c.replace-lines.ensures.value) c.in-Ok.ensures.only)
 
 pub returns-in-Ok-clause-left : goal.returns-in-Ok-clause-left
 returns-in-Ok-clause-left c = λ epochs h.

@@ -46,7 +46,7 @@ returns-else-not-is_whole-clause-made c =
     c.print.ensures.head c.print.ensures.block) in
     let P : Tail → Type 0 = λ t.
     HasPrintedLines (step_in c.args.self.now.state (Content c.args.line.now))
-    (Idle (Some t)) true c.exchange.new.self in
+    (Idle (Some t)) true c.exchange.new.self.lines in
     subst P (sym (ap {B = Tail} tail_of_history c.end.ensures.ended))
-    (printed-whole _ tail new.count c.exchange.new.self step (omega (arith, come))
+    (printed-whole _ tail new.count c.exchange.new.self.lines step (omega (arith, come))
     (c.exchange.ensures.lines ∙ block-whole new.history new.count block.lines lines (omega (arith, come))))

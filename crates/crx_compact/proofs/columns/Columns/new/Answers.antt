@@ -4,8 +4,7 @@ pub returns-clause-room : goal.returns-clause-room
 returns-clause-room c = λ j. record {
   text = c.new.ensures.room.1 j;
   rooms = c.new.ensures.room.2 j;
-  lines = c.new-2.ensures.room.0 j;
-  bytes = c.new-2.ensures.room.1 j;
+  block = c.new-2.ensures.room j;
 }
 
 pub returns-clause-encoding : goal.returns-clause-encoding

@@ -1,17 +1,18 @@
 use Rattle.crx_compact.proofs.Words.{◌≡◌, ◌++◌, ◌∷◌, [], ℕ, ℤ, List, Option, true, not, length}
-use Rattle.crx_compact.proofs.Words.{take, sym, ap, ◌∙◌, subst, arith, if◌then◌else◌, is_ok, eqb-true}
-use Rattle.crx_compact.proofs.Words.{length-map, satellites_of, has_satellite, Epoch, Row, HasRoom, HaveRoom}
-use Rattle.crx_compact.proofs.Words.{OpenHistory, row_of_parts, row_room, tail_of_history}
+use Rattle.crx_compact.proofs.Words.{take, sym, ap, ◌∙◌, subst, arith, inl, inr, if◌then◌else◌, is_ok}
+use Rattle.crx_compact.proofs.Words.{eqb-true, length-map, satellites_of, has_satellite, Epoch, Row}
+use Rattle.crx_compact.proofs.Words.{HasRoom, HaveRoom, OpenHistory, row_of_parts, row_room, tail_of_history}
 use Rattle.crx_compact.proofs.Words.{no_tail, row_tail_in, Tail, AreRowsWritten, epoch_by_rows}
 use borrow.Author.Count.{falls}
 use Rattle.crx_compact.specs.EncodingRooms.{HasTakenRow, encoding_room}
+use Rattle.crx_compact.specs.Placing.{GrowsOnly, IsAskedAmong}
 use Rattle.crx_compact.specs.Written.{IsEpochWritten, IsRowWritten}
 use Rattle.crx_compact.proofs.ComeRows.{row-new}
 use Rattle.crx_compact.proofs.Making.{taken_all, taken_more}
 use Rattle.crx_compact.proofs.PlaceByPlace.{some-there}
 use Rattle.crx_compact.proofs.Results.{by_ok, from_ok}
 use Rattle.crx_compact.proofs.EncodingRooms.{room-kept}
-use Rattle.crx_compact.proofs.RowByRow.{all-at, sum-left}
+use Rattle.crx_compact.proofs.RowByRow.{all-at, sum-left, sum-next, sum-to}
 use Rattle.crx_compact.proofs.history.History.encode.Goals.{In_default}
 use Rattle.crx_compact.proofs.history.History.encode.Goals as goal
 
@@ -36,6 +37,10 @@ loop-row-init c =
     let text = ap length c.begin_rows.ensures.texts.next_text in
     let grown = c.make_room.ensures.grown in
     let held = c.make_long.new.text.ok in
+    let unused = c.in_ok-reserve_front.ensures.unused in
+    let front = c.in_ok-reserve_front.ensures.held in
+    let reserved = c.in_ok-reserve_front.ensures.reserved in
+    let asked = c.make_room.ensures.held in
     let both = c.begin_rows.ensures.texts.text_room in
     let before = ap (λ (h : OpenHistory). h.text_room) c.self.view_is in
     let wide = c.in_ok-make_text_room.ensures.room in
@@ -62,6 +67,16 @@ loop-row-init c =
           (c.prepare_rows.ensures.asked.rooms name count
           (subst (HasRoom name count)
           (sym (ap (λ (h : OpenHistory). h.satellites.rooms) c.self.view_is)) has));
+      only = λ name count has. subst (λ (h : OpenHistory). GrowsOnly (IsAskedAmong c.args.epoch.now.rows)
+          h.satellites.rooms c.prepare_rows.new.satellites.rooms)
+          c.self.view_is c.in_ok-room.ensures.only name count
+          (subst (HasRoom name count) c.begin_rows.ensures.rooms has);
+      used_lines = omega (arith, grown.grown_lines, unused.0);
+      used_bytes = omega (arith, grown.grown_bytes, unused.1);
+      held = record {
+        lines = omega (arith, reserved, front.lines, asked.lines, unused.0, many, grown.reserved);
+        bytes = omega (arith, reserved, front.bytes, asked.bytes, unused.1, sized, grown.reserved);
+      };
       text_kept = omega (arith, before, first_kept, next_kept, both);
       lines_kept = λ as_many.
           let dropped = c.reserve_front.ensures.kept as_many in
@@ -140,6 +155,12 @@ loop-row-preserved c =
     let all_bytes = kept.bytes in
     let next = sum-left row_room rows index row here in
     let many : length c.values.result.now ≡ length row.values = ap length c.values.ensures.value in
+    let known = c.loop-row.invariant in
+    let front = c.write_row.ensures.reserved in
+    let grows = c.write_row.ensures.only in
+    let within = some-there rows index row here in
+    let so_many = sum-next row_room rows index row here in
+    let whole = sum-to row_room rows index row here in
     record {
       written = subst (λ (rs : List Row). AreRowsWritten after rs c.write_row.new.self c.write_row.new.lines.lines)
           ((λ j. so_far ++ parts j ∷ []) ∙ sym (taken_more rows index row here)) (written.written is_new);
@@ -150,6 +171,21 @@ loop-row-preserved c =
       front = c.write_row.ensures.front ∙ c.loop-row.invariant.front;
       reserved = c.write_row.ensures.reserved ∙ c.loop-row.invariant.reserved;
       rooms_kept = λ name count has. kept.rooms name count (c.loop-row.invariant.rooms_kept name count has);
+      only = λ name count has. elim (grows.rooms name count has) [
+        | inl before ↦ c.loop-row.invariant.only name count before
+        | inr asked ↦ inr (record {
+          index = index;
+          row = row;
+          there = here;
+          asked = (asked.0 ∙ c.name.ensures.value, omega (arith, asked.1, many));
+        })
+      ];
+      used_lines = omega (arith, known.used_lines, one_line);
+      used_bytes = omega (arith, known.used_bytes, some_bytes, so_many, many);
+      held = record {
+        lines = omega (arith, known.held.lines, known.used_lines, grows.lines, within, front);
+        bytes = omega (arith, known.held.bytes, known.used_bytes, grows.bytes, whole, many, front);
+      };
       text_kept = omega (arith, kept.text, c.loop-row.invariant.text_kept);
       lines_kept = λ as_many.
           let lines = c.loop-row.invariant.lines_kept as_many in
@@ -185,6 +221,23 @@ unwrap-requires-2 c =
     let many = eqb-true (length epoch.rows) (satellites_of epoch.head) c.requires.whole in
     let count = c.head.ensures.count in
     c.end_rows.ensures.known (omega (arith, text, many, count))
+
+pub returns-clause-rooms_kept : goal.returns-clause-rooms_kept
+returns-clause-rooms_kept c = λ name count has.
+    c.end_rows.ensures.memory.rooms.forth name count (c.loop-row.invariant.rooms_kept name count has)
+
+pub returns-clause-only : goal.returns-clause-only
+returns-clause-only c =
+    let memory = c.end_rows.ensures.memory in
+    let held = c.loop-row.invariant.held in
+    let reserved = c.end_rows.ensures.reserved in
+    record {
+      rooms = λ name count has. c.loop-row.invariant.only name count (memory.rooms.back name count has);
+      lines = record {
+        lines = omega (arith, held.lines, reserved, memory.lines, memory.spare_lines);
+        bytes = omega (arith, held.bytes, reserved, memory.bytes, memory.spare_bytes);
+      };
+    }
 
 pub returns-clause-written : goal.returns-clause-written
 returns-clause-written c =

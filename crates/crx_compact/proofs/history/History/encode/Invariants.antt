@@ -1,8 +1,9 @@
 use Rattle.crx_compact.proofs.Words.{◌≡◌, ◌≤◌, ◌+◌, ◌*◌, ◌-◌, drop, if◌then◌else◌, length, map, sum, take}
-use Rattle.crx_compact.proofs.Words.{HEAD_WIDTH, NAME_WIDTH, KeepsRooms, row_room, tail_of_history, no_tail}
-use Rattle.crx_compact.proofs.Words.{AreRowsWritten}
+use Rattle.crx_compact.proofs.Words.{HEAD_WIDTH, LINE_LIMIT, NAME_WIDTH, KeepsRooms, row_room}
+use Rattle.crx_compact.proofs.Words.{AreRowsWritten, tail_of_history, no_tail}
 use Rattle.crx_compact.specs.EncodingRooms.{HasRoomForEpoch, encoding_room}
-use Rattle.crx_compact.specs.LineLists.{KeepsLinesRoom}
+use Rattle.crx_compact.specs.LineLists.{AllAreHeldFor, KeepsLinesRoom, room_of_lines}
+use Rattle.crx_compact.specs.Placing.{GrowsOnly, IsAskedAmong}
 use Rattle.crx_compact.specs.declared.lines.TheConstants.{FIRST_LINES}
 use Rattle.crx_compact.proofs.history.History.encode.Given as goal
 
@@ -19,6 +20,12 @@ invariant-loop-row l = record {
   front : l.lines.front ≡ FIRST_LINES;
   reserved : l.lines.reserved ≡ FIRST_LINES;
   rooms_kept : KeepsRooms l.fn.self.satellites.rooms l.self.satellites.rooms;
+  only : GrowsOnly (IsAskedAmong l.epoch.rows) l.fn.self.satellites.rooms l.self.satellites.rooms;
+  used_lines : l.lines.all_lines ≤ l.lines.free_lines + l.index;
+  used_bytes : l.lines.all_bytes ≤ l.lines.free_bytes + sum (map row_room (take l.index l.epoch.rows));
+  held : AllAreHeldFor (FIRST_LINES + length l.epoch.rows)
+      (FIRST_LINES * (LINE_LIMIT + 1) + sum (map row_room l.epoch.rows))
+      (room_of_lines l.fn.lines) (room_of_lines l.lines);
   text_kept : l.fn.self.text_room ≤ l.self.text_room;
   lines_kept : FIRST_LINES ≡ l.fn.lines.reserved → KeepsLinesRoom l.fn.lines l.lines;
 }

@@ -4,7 +4,10 @@ use Rattle.crx_compact.proofs.Words.{append-nil, is_printable, Fault, patched, p
 use Rattle.crx_compact.proofs.Words.{satellites_of_line, satellites_of_text, Satellite, HasRoom}
 use Rattle.crx_compact.proofs.Words.{HaveTypesRoom, OpenHistory, PlacedRows, padded_among, tail_of_history}
 use Rattle.crx_compact.proofs.Words.{RowTail, Tail}
+use Rattle.crx_compact.proofs.Words.{◌≤◌, HEAD_WIDTH, IsAnnounced, and_parts, satellite_of}
 use Rattle.crx_compact.specs.Refusals.{AnswersRefusal}
+use Rattle.crx_compact.specs.RowsSoFar.{NamesSatellites}
+use Rattle.crx_compact.proofs.NamedAgain.{named-kept}
 use Rattle.crx_compact.proofs.AnnouncedRows.{announced-rows, line-of_text}
 use Rattle.crx_compact.proofs.Results.{by_err, by_ok}
 use Rattle.crx_compact.proofs.history.History.read_epoch_line.Goals.{After-read_satellites}
@@ -29,6 +32,27 @@ same : (c : After-read_satellites)
     ≡ satellites_of_text c.args.types.now c.bytes-text.result.now
 same c = by-line c.args.types.now (tail_of_history c.args.self.now) c.args.line.now c.bytes-text.result.now
     (sym c.patch_bytes.ensures.printable ∙ c.if-is_err.ensures.negation) (text c)
+
+-- where no mark is in the columns of their identifiers, the text names the satellites that are awaited
+pub read_satellites-requires-clause-named : goal.read_satellites-requires-clause-named
+read_satellites-requires-clause-named c both =
+    let line = c.args.line.now in
+    let before = c.args.self.now.text in
+    let parts = and_parts c.args.is_named _ both in
+    let short : length line ≤ HEAD_WIDTH = search (rules, parts.1) in
+    let made : c.bytes-text.result.now ≡ patched before line = c.bytes-text.ensures.value
+    ∙ by_ok c.patch_bytes.result c.if-is_err.ensures.negation c.patch_bytes.ensures.ok
+    ∙ ap (λ (t : List ℕ). patched t line) (c.deref.ensures.value
+    ∙ ap (λ (h : OpenHistory). h.text) c.self.view_is) in
+    let rest : c.begin.new.self.rest ≡ c.args.self.now.satellites.rows =
+    ap (λ (p : PlacedRows). p.rest) c.begin.ensures.begun
+    ∙ ap (λ (h : OpenHistory). h.satellites.rows ++ h.satellites.rest) c.self.view_is
+    ∙ ap (λ (rest : List RowTail). c.args.self.now.satellites.rows ++ rest) c.requires.between
+    ∙ append-nil c.args.self.now.satellites.rows in
+    subst (λ (t : List ℕ). NamesSatellites t (map satellite_of c.begin.new.self.rest)) (sym made)
+    (subst (λ (rows : List RowTail). NamesSatellites (patched before line) (map satellite_of rows)) (sym rest)
+    (named-kept before line (map satellite_of c.args.self.now.satellites.rows) short
+    (IsAnnounced.named (c.requires.named parts.0))))
 
 -- the satellites have the room that they had
 rooms : (c : After-read_satellites) → c.begin.new.self.rooms ≡ c.args.self.now.satellites.rooms

@@ -3,6 +3,7 @@ use Rattle.crx_compact.proofs.Words.{◌∙◌, refl, subst, arith, false≢true
 use Rattle.crx_compact.proofs.Words.{IsSoundRow, HasRoom, KeepsRooms, OpenHistory, row_of_parts, row_or_blank}
 use Rattle.crx_compact.proofs.Words.{row_line_after, row_tail_after, RowTail, Tail, AreRowsWritten}
 use Rattle.std.specs.Prelude.{vec_capacity}
+use Rattle.crx_compact.specs.Placing.{GrowsOnly, IsAskedFor}
 use Rattle.crx_compact.proofs.Results.{on_err}
 use Rattle.crx_compact.proofs.Writing.{come-already, come-last, no-row, written-next}
 use Rattle.crx_compact.proofs.history.History.write_row.Goals.{After-place_or_add, In_ok-place_or_add}
@@ -93,6 +94,48 @@ returns-in_err-make_room-clause-kept c = record {
   held_bytes = c.make_room.ensures.grown.held_bytes;
 }
 
+-- what is asked for is what the row needs
+only : (c : After-place_or_add)
+    → GrowsOnly (IsAskedFor c.args.name (length c.args.values.now)) c.args.self.now.satellites.rooms
+    c.place_or_add.new.self.rooms
+only c = subst (λ (h : OpenHistory). GrowsOnly (IsAskedFor c.args.name (length c.args.values.now))
+    h.satellites.rooms c.place_or_add.new.self.rooms) c.self.view_is c.place_or_add.ensures.only
+
+not-more : (c : After-place_or_add)
+    → min (vec_capacity c.self.inside.text) (vec_capacity c.self.inside.next_text) ≤ c.args.self.now.text_room
+not-more c = let same = ap (λ (h : OpenHistory). h.text_room) c.self.view_is in omega (arith, same)
+
+pub returns-in_err-place_or_add-clause-only : goal.returns-in_err-place_or_add-clause-only
+returns-in_err-place_or_add-clause-only c =
+    let at = (goal.at.returns-in_err-place_or_add-clause-only c).After-place_or_add in
+    record { rooms = only at; text = not-more at; lines = omega arith; bytes = omega arith }
+
+pub returns-then-not-branch-clause-only : goal.returns-then-not-branch-clause-only
+returns-then-not-branch-clause-only c =
+    let at = (goal.at.returns-then-not-branch-clause-only c).After-place_or_add in
+    record { rooms = only at; text = not-more at; lines = omega arith; bytes = omega arith }
+
+pub returns-in_err-make_room-clause-only : goal.returns-in_err-make_room-clause-only
+returns-in_err-make_room-clause-only c =
+    let at = (goal.at.returns-in_err-make_room-clause-only c).After-place_or_add in
+    record {
+      rooms = only at;
+      text = not-more at;
+      lines = c.make_room.ensures.held.lines;
+      bytes = c.make_room.ensures.held.bytes;
+    }
+
+pub returns-clause-only : goal.returns-clause-only
+returns-clause-only c =
+    let at = (goal.at.returns-clause-only c).After-place_or_add in
+    let put = c.put_row.ensures.taken in
+    record {
+      rooms = λ name count has. only at name count (c.put_row.ensures.kept.rooms.back name count has);
+      text = not-more at;
+      lines = omega (arith, c.make_room.ensures.held.lines, put.all_lines, put.spare_lines);
+      bytes = omega (arith, c.make_room.ensures.held.bytes, put.all_bytes, put.spare_bytes);
+    }
+
 pub put_row-requires-clause-sound : goal.put_row-requires-clause-sound
 put_row-requires-clause-sound c = λ old there.
     let name = c.args.name in
@@ -153,7 +196,7 @@ returns-clause-taken c = λ is.
     let all_lines = put.all_lines in
     let all_bytes = put.all_bytes in
     record {
-      satellite = c.put_row.ensures.kept.rooms c.args.name (length c.args.values.now)
+      satellite = c.put_row.ensures.kept.rooms.forth c.args.name (length c.args.values.now)
           (c.in_ok-place_or_add.ensures.ok.room c.if-not-branch.false);
       lines = omega (arith, lines, one, all_lines);
       bytes = omega (arith, bytes, some, all_bytes);
@@ -164,6 +207,7 @@ returns-clause-taken c = λ is.
 
 pub returns-clause-kept : goal.returns-clause-kept
 returns-clause-kept c =
+    let at = (goal.at.returns-clause-kept c).After-place_or_add in
     let grown = c.make_room.ensures.grown in
     let put = c.put_row.ensures.taken in
     let lines = grown.all_lines in
@@ -171,8 +215,8 @@ returns-clause-kept c =
     let all_lines = put.all_lines in
     let all_bytes = put.all_bytes in
     record {
-      rooms = λ name count has. c.put_row.ensures.kept.rooms name count (rooms (goal.at.returns-clause-kept c).After-place_or_add name count has);
-      text = texts (goal.at.returns-clause-kept c).After-place_or_add;
+      rooms = λ name count has. c.put_row.ensures.kept.rooms.forth name count (rooms at name count has);
+      text = texts at;
       lines = omega (arith, lines, all_lines);
       bytes = omega (arith, bytes, all_bytes);
       held_lines = omega (arith, grown.held_lines, all_lines, put.spare_lines);

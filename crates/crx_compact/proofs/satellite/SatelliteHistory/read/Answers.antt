@@ -19,8 +19,8 @@ pub returns-then-is_empty-clause-ok : goal.returns-then-is_empty-clause-ok
 returns-then-is_empty-clause-ok c =
     let inside = c.self.inside in
     let at = c.in_ok-at.at in
-    let arcs = c.read_first_cells.new.arcs in
-    let a = c.read_first_cells.auto.arcs in
+    let arcs = c.read_cells.new.arcs in
+    let a = c.read_cells.auto.arcs in
     let b = c.deref_mut.ensures.len in
     let read = rw (c.deref_mut.ensures.value) at c.in_ok-at.ensures.ok in
     let none : drop at c.args.line.now ≡ [] =
@@ -41,9 +41,9 @@ pub returns-clause-ok : goal.returns-clause-ok
 returns-clause-ok c =
     let inside = c.self.inside in
     let at = c.in_ok-at.at in
-    let arcs = c.read_first_cells.new.arcs in
+    let arcs = c.read_cells.new.arcs in
     let indicators = c.patch_indicators.new.indicators in
-    let a = c.read_first_cells.auto.arcs in
+    let a = c.read_cells.auto.arcs in
     let b = c.deref_mut.ensures.len in
     let e = c.patch_indicators.auto.indicators in
     let d = c.deref_mut-2.ensures.len in

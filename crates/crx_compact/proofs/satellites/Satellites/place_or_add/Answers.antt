@@ -1,8 +1,16 @@
-use Rattle.std.proofs.Common.{refl, subst}
-use Rattle.crx_compact.specs.Placing.{IsPlaced, PlacedRows}
+use Rattle.std.proofs.Common.{ℕ, List, ◌⊎◌, inl, inr, refl, subst}
+use Rattle.crx_compact.specs.Placing.{HasRoom, HasSameRooms, IsPlaced, PlacedRows}
 use Rattle.crx_compact.proofs.Results.{from_some, on_err, some-otherwise}
 use Rattle.crx_compact.proofs.placing.Placed.{placed-asked}
 use Rattle.crx_compact.proofs.satellites.Satellites.place_or_add.Goals as goal
+
+-- what a satellite has once it wasn't placed, it had before
+asked-before : {asked : Type 0} {old new : List (List ℕ × ℕ)} {name : List ℕ} {count : ℕ}
+    → HasSameRooms old new → HasRoom name count new ⊎ asked → HasRoom name count old ⊎ asked
+asked-before {name = name} {count = count} same has = elim has [
+  | inl there ↦ inl (same.back name count there)
+  | inr asked ↦ inr asked
+]
 
 pub returns-in_err-prepare-clause-err : goal.returns-in_err-prepare-clause-err
 returns-in_err-prepare-clause-err c = on_err c.from_residual.result (c.in_default.ensures.unplaced refl).absent
@@ -13,6 +21,10 @@ returns-in_err-prepare-clause-known c = λ has. absurd ((c.in_default.ensures.un
 pub returns-in_err-prepare-clause-rooms : goal.returns-in_err-prepare-clause-rooms
 returns-in_err-prepare-clause-rooms c = λ name count has.
     c.prepare.ensures.asked.rooms name count (c.place.ensures.rooms.forth name count has)
+
+pub returns-in_err-prepare-clause-only : goal.returns-in_err-prepare-clause-only
+returns-in_err-prepare-clause-only c = λ name count has.
+    asked-before c.place.ensures.rooms (c.prepare.ensures.only name count has)
 
 pub unwrap-requires : goal.unwrap-requires
 unwrap-requires c =
@@ -27,6 +39,11 @@ returns-clause-ok c =
     (placed-asked (rw (← none.unchanged) at none.absent) c.prepare.ensures.asked
     (from_some (IsPlaced c.args.name c.args.count c.prepare.new.self c.place-2.new.self)
     c.place-2.result c.unwrap.result c.unwrap.ensures c.place-2.ensures.placed))
+
+pub returns-clause-only : goal.returns-clause-only
+returns-clause-only c = λ name count has.
+    asked-before c.place.ensures.rooms
+    (c.prepare.ensures.only name count (c.place-2.ensures.rooms.back name count has))
 
 pub returns-clause-rooms : goal.returns-clause-rooms
 returns-clause-rooms c = λ name count has.

@@ -2,7 +2,7 @@ use Rattle.std.proofs.Common.{length, ap, ◌∙◌, ◌++◌, ◌∷◌, [], ar
 use Rattle.crx_compact.specs.Entries.{rooms_of}
 use Rattle.crx_compact.specs.Placing.{HasRoom, SatelliteTail, padded, row_tail_of}
 use Rattle.crx_compact.specs.Tails.{RowTail}
-use Rattle.crx_compact.proofs.placing.EntryChanges.{room-there, rooms-changed-back}
+use Rattle.crx_compact.proofs.placing.EntryChanges.{room-there}
 use Rattle.crx_compact.proofs.placing.SteppedRows.{has-last, last-is, order-kept, padded-is}
 use Rattle.crx_compact.proofs.placing.SteppedRows.{rest-kept, row-at, rows-changed, rows-counted, rows_of}
 use Rattle.crx_compact.proofs.satellites.Satellites.resize_last.Goals as goal
@@ -56,6 +56,4 @@ returns c =
           ∙ ap (λ (r : RowTail). padded (record { name = r.name; count = c.args.count }) (Some r)) (at.is row ends.0));
       kept = rest-kept self.known self.placed self.live within there after c.self.invariant
           c.pair_mut-satellite.ensures.unique (omega (arith, same));
-      back = rooms-changed-back self.known (self.placed - 1) _ _ after c.pair_mut-satellite.ensures.unique there
-          (omega (arith, same));
     })

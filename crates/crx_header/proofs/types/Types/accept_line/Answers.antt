@@ -1,15 +1,17 @@
-use Rattle.std.proofs.Common.{◌≡◌, ℕ, List, Some, true, false, ap, sym, subst, inr, ◌∙◌, length, arith}
+use Rattle.std.proofs.lemmas.Grind.{common_steps}
+use Rattle.std.proofs.Common.{◌≡◌, ◌≤◌, ◌+◌, ℕ, List, Some, true, sym, subst, inr, length}
+use Rattle.std.proofs.Common.{arith, rules}
 use Rattle.crx_header.proofs.Counts.{types_of-push, with_line-other, count_in_allowed, AreCounts-with_count}
 use Rattle.crx_header.{proofs.Counts.AreByLetter-with_count, specs.ObservationTypes.{with_line, with_count}}
-use Rattle.crx_header.specs.{ObservationTypes.{AreCounts, AreByLetter}, declared.types.TheConstants.LETTERS}
+use Rattle.crx_header.specs.ObservationTypes.{AreCounts, AreByLetter}
+use Rattle.crx_header.specs.declared.types.TheConstants.{LETTERS, SYSTEMS}
 use Rattle.crx_header.specs.meaning.ObservationTypes.{Count, is_types_line, count_in, types_of}
+use Rattle.indexmap.specs.IndexMap.{spare}
 use Rattle.crx_header.proofs.types.Types.accept_line.Goals as goal
 
 pub returns-then-not-is_types-clause-declared : goal.returns-then-not-is_types-clause-declared
-returns-then-not-is_types-clause-declared c = λ lines h.
-    let other : is_types_line c.args.line.now ≡ false =
-    sym c.is_types.ensures.value ∙ c.if-not-is_types.true in
-    h ∙ sym (types_of-push lines c.args.line.now ∙ with_line-other (types_of lines) c.args.line.now other)
+returns-then-not-is_types-clause-declared c =
+    grind (arith, common_steps, is_types_line, types_of-push, with_line-other, types_of)
 
 -- the map after the insert is the counts after the line
 inserted : (es now old : List Count) (line : List ℕ) (letter count : ℕ)
@@ -21,8 +23,7 @@ pub returns-clause-ok : goal.returns-clause-ok
 returns-clause-ok c = grind arith
 
 pub returns-clause-declared : goal.returns-clause-declared
-returns-clause-declared c = λ lines h. returns-clause-ok c ∙ ap
-    (λ (s : List Count). with_line s c.args.line.now) h ∙ sym (types_of-push lines c.args.line.now)
+returns-clause-declared c = grind (arith, common_steps, returns-clause-ok, with_line, types_of-push)
 
 pub invariant_of-self-2 : goal.invariant_of-self-2
 invariant_of-self-2 c =
@@ -31,12 +32,11 @@ invariant_of-self-2 c =
     let count = c.in-Some.count in
     let allowed = count_in_allowed c.args.line.now letter count (sym c.in-Some.ensures.value) in
     let long : length c.self.inside.by_letter ≡ LETTERS = search in
-    let with : c.put.new.counts.entries ≡ with_count entries letter count =
-    c.put.ensures.entries ∙ ap (λ (s : List Count). with_count s letter count) c.make_room.ensures.entries
-    in (
+    let with : c.put.new.counts.entries ≡ with_count entries letter count = search rules in
+    let room : SYSTEMS ≤ length c.put.new.counts.entries + spare c.put.new.counts = search rules in (
       subst AreCounts (sym with)
           (AreCounts-with_count entries letter count c.self.invariant.0 allowed.0 allowed.1),
       subst (AreByLetter _) (sym with) (AreByLetter-with_count c.self.inside.by_letter entries letter count
           c.self.invariant.1 (omega (arith, long, c.in-Some.ensures.byte))),
-      inr c.put.ensures.room,
+      inr room,
     )

@@ -1,13 +1,11 @@
-use Rattle.std.proofs.Common.{arith, ◌≡◌, ℕ, Option, OnSome, IfSome, true, sym, subst, ap, ◌∙◌, List}
+use Rattle.std.proofs.lemmas.Grind.{common_steps}
+use Rattle.std.proofs.Common.{arith, ◌≡◌, ℕ, Option, OnSome, IfSome, true, subst}
 use Rattle.crx_header.proofs.Counts.{absent_by_letter, present_by_letter, allowed_of, system_of}
-use Rattle.crx_header.specs.meaning.ObservationTypes.{Count, count_of, is_system, IsAllowedCount}
+use Rattle.crx_header.specs.meaning.ObservationTypes.{count_of, is_system, IsAllowedCount}
 use Rattle.crx_header.proofs.types.Types.count.Goals as goal
 
 pub returns-then-count-eq0-clause-value : goal.returns-then-count-eq0-clause-value
-returns-then-count-eq0-clause-value c =
-    sym (ap (λ (es : List Count). count_of es c.args.letter) (sym c.self.view_is)
-    ∙ absent_by_letter c.self.inside.by_letter c.self.inside.counts.entries c.args.letter
-    c.self.invariant.0 c.self.invariant.1 c.ranges.letter.fits c.if-count-eq0.true)
+returns-then-count-eq0-clause-value c = grind (arith, common_steps, count_of, absent_by_letter)
 
 pub returns-clause-value : goal.returns-clause-value
 returns-clause-value c = grind arith

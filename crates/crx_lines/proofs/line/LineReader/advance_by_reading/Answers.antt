@@ -1,11 +1,12 @@
-use Rattle.std.proofs.Common.{◌≡◌, ℕ, false, cond, ◌+◌, ◌-◌, ◌≤◌, ⊎_elim, inl, inr, List, [], ◌∷◌, ◌++◌, Err}
-use Rattle.std.proofs.Common.{length, take, drop, slice_range, subst, sym, ap, ◌∙◌, refl, arith, rules}
+use Rattle.std.proofs.lemmas.Grind.{common_steps}
+use Rattle.std.proofs.Common.{◌≡◌, ℕ, ◌+◌, ◌-◌, ◌≤◌, ⊎_elim, inl, inr, List, [], ◌∷◌, ◌++◌, Err}
+use Rattle.std.proofs.Common.{length, take, drop, slice_range, sym, ap, ◌∙◌, refl, arith, rules}
 use Rattle.std.proofs.lemmas.List.{length-drop}
-use Rattle.crx_lines.proofs.AdvanceLemmas.{EndIs, piece_at, passed-within, takes, some-byte, whole-piece}
-use Rattle.crx_lines.proofs.AdvanceLemmas.{content-long, nothing, over-fault, read-fault, shown-line}
+use Rattle.crx_lines.proofs.AdvanceLemmas.{piece_at, passed-within, takes, some-byte, whole-piece}
+use Rattle.crx_lines.proofs.AdvanceLemmas.{held-is, some-read, too-long, none-passed}
+use Rattle.crx_lines.proofs.AdvanceLemmas.{content-long, over-fault, read-fault, shown-line}
 use Rattle.crx_lines.proofs.{DeviceLemmas.{tally-same, tally-line}, SeekLemmas.Seeking-sum}
-use Rattle.crx_lines.specs.{Readers.reading, Reading.ReaderState, Window.kept}
-use Rattle.crx_lines.specs.{declared.phase.Phase.TheVariants.Ended, meaning.Devices.one_more}
+use Rattle.crx_lines.specs.{Readers.reading, Window.kept}
 use Rattle.crx_base.specs.declared.fault.Fault.TheVariants.{InputTooLong, ReadFailed}
 use Rattle.crx_base.specs.{declared.limits.TheConstants.INPUT_LIMIT, meaning.Lines.without_return}
 use Rattle.crx_base.specs.meaning.Lines.{ends_with_return}
@@ -54,32 +55,8 @@ returns-in-Err-clause-answers g c =
           (tally-same _ _ _ _ (c.in-Err.ensures.counted (ap Err e)) c.in-Err.ensures.no_end),
     )) c.in-Err.ensures.faults
 
-pub returns-then-is_nothing-clause-answers : goal.returns-then-is_nothing-clause-answers
-returns-then-is_nothing-clause-answers g c =
-    let old = c.args.self.now in
-    let same = ap kept c.deref_mut.ensures.value in
-    let none = c.if-is_nothing.ensures.nothing refl in
-    let gave = λ (given : List ℕ). g.R.Source.gave c.args.reader.now given c.seek.new.reader in
-    let start = kept c.deref_mut.result.now in
-    let held = kept c.seek.new.window in
-    let at_end = g.R.Source.at_end c.seek.new.reader in
-    let found = c.in-Ok.found in
-    let s = c.in-Ok.ensures.ok.1 in
-    let end = subst (λ b. EndIs held found.len b at_end) none.2 c.in-Ok.ensures.end in
-    let facts = nothing gave start held _ _ _ _ at_end s none.0 none.1 end.0 in
-    let asked = g.R.Source.ends c.args.reader.now in
-    let now : List ℕ → ReaderState = λ l. record
-    { rest = l; passed = old.passed; number = old.number; phase = Ended } in (
-      s.given,
-      s.lead,
-      (
-        ap (λ l. l ++ s.given) (sym same) ∙ facts.1,
-        end.1,
-        ap now facts.0,
-        tally-line false _ _ _ _ (c.in-Ok.ensures.good (inl (search rules)))
-            (c.in-Ok.ensures.ends ∙ ap (λ b. cond b asked (one_more asked)) none.2),
-      ),
-    )
+pub returns-then-found-clause-answers : goal.returns-then-found-clause-answers
+returns-then-found-clause-answers g c = grind (arith, common_steps)
 
 pub overflow_add-self : goal.overflow_add-self
 overflow_add-self g c =
@@ -88,7 +65,8 @@ overflow_add-self g c =
     let shown = c.as_slice.ensures.value ∙ ap kept c.deref.ensures in
     let found = c.in-Ok.found in
     let bound = passed-within _ _ _ _ c.in-Ok.ensures.ok.0 _ _ _ c.in-Ok.ensures.ok.1 _ _ c.in-Ok.ensures.end
-    c.held-held.ensures old.passed (omega (arith, ap length same, ap length shown, old.limit)) in
+    (held-is found.len _ _ c.from.ensures) old.passed
+    (omega (arith, ap length same, ap length shown, old.limit)) in
     omega (arith, bound)
 
 pub overflow_add-self-2 : goal.overflow_add-self-2
@@ -98,7 +76,8 @@ overflow_add-self-2 g c =
     let shown = c.as_slice.ensures.value ∙ ap kept c.deref.ensures in
     let found = c.in-Ok.found in
     let bound = passed-within _ _ _ _ c.in-Ok.ensures.ok.0 _ _ _ c.in-Ok.ensures.ok.1 _ _ c.in-Ok.ensures.end
-    c.held-held.ensures old.passed (omega (arith, ap length same, ap length shown, old.limit)) in
+    (held-is found.len _ _ c.from.ensures) old.passed
+    (omega (arith, ap length same, ap length shown, old.limit)) in
     omega (arith, bound)
 
 pub invariant_of-self-2 : goal.invariant_of-self-2
@@ -114,18 +93,19 @@ invariant_of-self-2 g c =
     let taken = c.in-Ok.ensures.ok.0 in
     let s = c.in-Ok.ensures.ok.1 in
     let byte = some-byte gave start held _ taken found.passed found.len at_end s found.is_ended _
-    (c.if-is_nothing.ensures.something refl) c.held-held.ensures in
+    (some-read found.passed found.len _ c.if-found.false) (held-is found.len _ _ c.from.ensures) in
     let bound = passed-within gave start held _ taken found.passed found.len at_end s found.is_ended
-    _ c.in-Ok.ensures.end c.held-held.ensures old.passed
+    _ c.in-Ok.ensures.end (held-is found.len _ _ c.from.ensures) old.passed
     (omega (arith, ap length same, ap length shown, old.limit)) in
-    let now = c.skip.ensures.kept ∙ ap (λ w. drop c.held-held.result (kept w)) c.deref_mut-2.ensures.value in
+    let now = c.skip.ensures.kept
+    ∙ ap (λ w. drop (found.len + c.from.result) (kept w)) c.deref_mut-2.ensures.value in
     record {
       counted = omega (arith, byte, old.counted);
-      limit = omega (arith, bound, ap length now, length-drop c.held-held.result held);
+      limit = omega (arith, bound, ap length now, length-drop (found.len + c.from.result) held);
     }
 
-pub returns-then-is_over-clause-answers : goal.returns-then-is_over-clause-answers
-returns-then-is_over-clause-answers g c =
+pub returns-then-found-place-clause-answers : goal.returns-then-found-place-clause-answers
+returns-then-found-place-clause-answers g c =
     let old = c.args.self.now in
     let same = ap kept c.deref_mut.ensures.value in
     let shown = c.as_slice.ensures.value ∙ ap kept c.deref.ensures in
@@ -138,20 +118,21 @@ returns-then-is_over-clause-answers g c =
     let found = c.in-Ok.found in
     let taken = c.in-Ok.ensures.ok.0 in
     let s = c.in-Ok.ensures.ok.1 in
-    let some = c.if-is_nothing.ensures.something refl in
-    let now = c.skip.ensures.kept ∙ ap (λ w. drop c.held-held.result (kept w)) c.deref_mut-2.ensures.value in
+    let some = some-read found.passed found.len found.is_ended c.if-found.false in
+    let now = c.skip.ensures.kept
+    ∙ ap (λ w. drop (found.len + c.from.result) (kept w)) c.deref_mut-2.ensures.value in
     let place = c.content-place.result in
     let content = slice_range c.deref-2.result.now.bytes.items place.from place.to in
     let over = ⊎_elim (λ h. inl h) (λ h. inr (omega (arith, h, c.content-place.ensures.len)))
-    (c.if-is_over.ensures.over refl) in
+    (too-long found.passed (place.to - place.from) c.if-found-place.true) in
     let piece = piece_at s.front held found.len found.is_ended in (
       s.given,
       s.lead,
       (
         piece,
         takes gave start held _ taken found.passed found.len at_end s found.is_ended c.in-Ok.ensures.end some
-            (reading old) _ c.held-held.result (sym same) c.held-held.ensures now refl (omega (arith, limit))
-            refl c.phase_after-self.ensures,
+            (reading old) _ _ (sym same) (held-is found.len _ _ c.from.ensures) now refl
+            (omega (arith, limit)) refl c.phase_after-self.ensures,
         content-long gave start held _ taken found.passed found.len at_end s found.is_ended content
             (c.content-place.ensures.value ∙ ap (λ w. without_return (take found.len (kept w)))
             c.deref-2.ensures) over,
@@ -174,10 +155,11 @@ returns-clause-answers g c =
     let found = c.in-Ok.found in
     let taken = c.in-Ok.ensures.ok.0 in
     let s = c.in-Ok.ensures.ok.1 in
-    let some = c.if-is_nothing.ensures.something refl in
-    let now = c.skip.ensures.kept ∙ ap (λ w. drop c.held-held.result (kept w)) c.deref_mut-2.ensures.value in
+    let some = some-read found.passed found.len found.is_ended c.if-found.false in
+    let now = c.skip.ensures.kept
+    ∙ ap (λ w. drop (found.len + c.from.result) (kept w)) c.deref_mut-2.ensures.value in
     let place = c.content-place.result in
-    let none = (c.if-is_over.ensures.within refl).0 in
+    let none = none-passed found.passed (place.to - place.from) c.if-found-place.false in
     let whole = whole-piece gave start held _ taken found.passed found.len at_end s none in
     let bytes = c.skip.ensures.bytes ∙ ap (λ w. w.bytes.items)
     (c.deref_mut-2.ensures.value ∙ sym c.deref-2.ensures) in
@@ -191,10 +173,10 @@ returns-clause-answers g c =
       (
         piece,
         takes gave start held _ taken found.passed found.len at_end s found.is_ended c.in-Ok.ensures.end some
-            (reading old) _ c.held-held.result (sym same) c.held-held.ensures now refl (omega (arith, limit))
-            refl c.phase_after-self.ensures,
-        shown-line s.front (take found.len held) _ found.is_ended place.has_return c.is_plain.result whole
-            content returns c.is_plain.ensures,
+            (reading old) _ _ (sym same) (held-is found.len _ _ c.from.ensures) now refl
+            (omega (arith, limit)) refl c.phase_after-self.ensures,
+        shown-line s.front (take found.len held) _ found.is_ended place.has_return _ whole
+            content returns refl,
         refl,
         tally-line found.is_ended _ _ _ _ (c.in-Ok.ensures.good (inl (search rules))) c.in-Ok.ensures.ends,
       ),

@@ -1,3 +1,4 @@
+use Rattle.std.proofs.lemmas.Grind.{common_steps}
 use Rattle.std.proofs.Common.{ℕ, ◌+◌, ◌-◌, ◌≤◌, ◌∙◌, sym, ap, get_or, length, arith}
 use Rattle.std.proofs.lemmas.List.{length-take, length-drop}
 use Rattle.crx_lines.proofs.ReturnLemmas.{content-cr, content-other, content-none}
@@ -7,11 +8,7 @@ use Rattle.crx_lines.proofs.window.Window.content.Goals.{else-len-gt0-via-else-l
 
 pub returns-then-bytes-to-eq13-clause-value : goal.returns-then-bytes-to-eq13-clause-value
 returns-then-bytes-to-eq13-clause-value c =
-    let w = c.args.self.now in
-    let inside : w.start + c.args.len ≤ w.end = omega (arith, length-take {A = ℕ}, length-drop {A = ℕ}) in
-    let within : w.end ≤ length w.bytes.items = omega arith in
-    (content-cr w.bytes.items w.start w.end c.args.len c.if-len-gt0.true inside within (ap (λ xs.
-    get_or xs (w.start + c.args.len - 1) 0) (sym c.as_slice-bytes.ensures.value) ∙ c.if-bytes-to-eq13.true)).0
+    grind (arith, common_steps, length-take, length-drop, content-cr, get_or)
 
 pub returns-then-bytes-to-eq13-clause-has_return : goal.returns-then-bytes-to-eq13-clause-has_return
 returns-then-bytes-to-eq13-clause-has_return c =

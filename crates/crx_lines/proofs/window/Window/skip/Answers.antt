@@ -1,8 +1,7 @@
-use Rattle.std.proofs.{Common.{ℕ, arith}, lemmas.List.{length-take, length-drop}}
+use Rattle.std.proofs.lemmas.Grind.{common_steps}
+use Rattle.std.proofs.{Common.{arith}, lemmas.List.{length-take, length-drop}}
 use Rattle.crx_lines.proofs.WindowLemmas.{passed}
 use Rattle.crx_lines.proofs.window.Window.skip.Goals as goal
 
 pub returns-clause-kept : goal.returns-clause-kept
-returns-clause-kept c =
-    let w = c.args.self.now in
-    passed _ w.start w.end _ (omega (arith, length-take {A = ℕ}, length-drop {A = ℕ}))
+returns-clause-kept c = grind (arith, common_steps, passed, length-take, length-drop)

@@ -1,3 +1,5 @@
+use Rattle.std.proofs.lemmas.Grind.{common_steps}
+use Rattle.std.proofs.Common.{arith}
 use Rattle.std.proofs.{Common.{Some, drop, slice_get, refl, ap, sym, ◌∙◌}, lemmas.List.drop-drop}
 use Rattle.crx_rinex.{proofs.Lines.{first_of_rest, no_next}, specs.meaning.Printing.printed_epoch}
 use Rattle.crx_rinex.proofs.printed.Printed.next_line.Goals as goal
@@ -15,10 +17,4 @@ returns-then-print_line c =
     )
 
 pub returns : goal.returns
-returns c =
-    let lines = printed_epoch c.self.inside.epoch in
-    let next = c.self.inside.next in
-    let none = first_of_rest lines next ∙ c.if-print_line.ensures.line in (
-      (refl, λ _. tt, no_next _ none ∙ ap (drop 1) c.self.view_is),
-      record { value = sym none ∙ ap (λ ls. slice_get ls 0) c.self.view_is; after_borrow = tt },
-    )
+returns c = grind (arith, common_steps, printed_epoch, first_of_rest, no_next, slice_get)

@@ -1,4 +1,5 @@
-use Rattle.std.proofs.{Common.{◌≡◌, ◌*◌, ℕ, length, ap, sym, ◌∙◌, arith}, lemmas.List.with_items_is}
+use Rattle.std.proofs.lemmas.Grind.{common_steps}
+use Rattle.std.proofs.{Common.{◌≡◌, ◌*◌, length, ap, ◌∙◌, arith}, lemmas.List.with_items_is}
 use Rattle.std.proofs.lemmas.Result.{IfOk-from_err}
 use Rattle.crx_header.specs.meaning.Satellites.{is_identifier}
 use Rattle.crx_rinex.{proofs.Cells.sound-written, specs.meaning.SatelliteLines.{row_of_types, row_with}}
@@ -22,11 +23,7 @@ pub returns-clause-sound : goal.returns-clause-sound
 returns-clause-sound c = invariant_of-result c
 
 pub read_cells-requires : goal.read_cells-requires
-read_cells-requires c = (
-  c.deref_mut-2.ensures.len ∙ c.in-Ok-vec.ensures.len
-      ∙ ap (λ (m : ℕ). 2 * m) (sym (c.deref_mut.ensures.len ∙ c.in-Ok.ensures.len)),
-  rw (c.deref_mut.ensures.len, c.in-Ok.ensures.len) c.in-Some.ensures.allowed.1,
-)
+read_cells-requires c = grind (arith, common_steps)
 
 pub returns-in_default-vec-clause-err : goal.returns-in_default-vec-clause-err
 returns-in_default-vec-clause-err c = grind arith
@@ -47,12 +44,4 @@ pub returns-in_err-read_cells-clause-err : goal.returns-in_err-read_cells-clause
 returns-in_err-read_cells-clause-err c = grind arith
 
 pub returns-clause-ok : goal.returns-clause-ok
-returns-clause-ok c =
-    let line = c.args.line.now in
-    rw (
-      with_items_is c.in-Ok.values _ (c.read_cells.auto.values ∙ c.deref_mut.ensures.len),
-      with_items_is c.in-Ok-vec.flags _ (c.read_cells.auto.flags ∙ c.deref_mut-2.ensures.len),
-      c.identifier.ensures.value,
-    ) (ap (row_of_types line) (sym c.types_of_satellite.ensures.value ∙ c.in-Some.is) ∙ ap
-    (λ m. row_with m line (values_in m line)) (sym (c.deref_mut.ensures.len ∙ c.in-Ok.ensures.len))
-    ∙ c.in_ok-read_cells.ensures.ok.row)
+returns-clause-ok c = grind (arith, common_steps, with_items_is, row_of_types, row_with, values_in)

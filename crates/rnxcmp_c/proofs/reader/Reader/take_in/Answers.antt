@@ -1,5 +1,7 @@
 use Rattle.rnxcmp_c.proofs.Words.{◌-◌, refl, sym, ap, ◌∙◌, arith, length, length-take, INPUT_LIMIT}
 use Rattle.rnxcmp_c.proofs.FedLemmas.{fed-by, fed-bytes, passed-bytes, runs-where_none}
+use Rattle.rnxcmp_c.proofs.reader.Reader.take_in.Goals.{Then-not-is_empty}
+use Rattle.rnxcmp_c.proofs.{ReaderLemmas.passed-over, Words.{◌≡◌, ◌<◌}}
 use Rattle.rnxcmp_c.proofs.reader.Reader.take_in.Goals as goal
 
 pub feed-used-requires-clause-running : goal.feed-used-requires-clause-running
@@ -19,22 +21,26 @@ feed-used-requires-clause-running c =
       ),
     )
 
-pub returns-then-is_past : goal.returns-then-is_past
-returns-then-is_past c = λ task past stands.
+-- there are bytes, and an input may have none of them
+full : (c : Then-not-is_empty) → (length c.allowed-allowed.result.now ≡ 0) × (0 < length c.args.bytes.now)
+full c = grind arith
+
+pub returns-then-not-is_empty : goal.returns-then-not-is_empty
+returns-then-not-is_empty c = λ task past stands.
     let old = c.args.self.now in
     let none = sym c.is_some.ensures ∙ c.if-is_some.false in
     let runs = runs-where_none task old past _ none stands in
-    let full = c.is_past.ensures.past c.if-is_past.true in
+    let is_full = full (goal.at.returns-then-not-is_empty c).Then-not-is_empty in
     fed-by task old _ past _ 0 _ _ none (passed-bytes task old _ past _ _ 0 _ c.allowed-allowed.ensures
-    c.answer.ensures runs full.1 full.0 refl (c.end_at_limit.ensures task past runs (omega (
+    c.answer.ensures runs is_full.1 is_full.0 refl (passed-over task old _ _ past runs (omega (
       arith,
       runs.counted,
       runs.within,
-      full.0,
-      full.1,
+      is_full.0,
+      is_full.1,
       ap length c.allowed-allowed.ensures,
       length-take (INPUT_LIMIT - old.fed) c.args.bytes.now,
-    ))))
+    )) c.put_down.ensures))
 
 pub returns : goal.returns
 returns c = λ task past stands.
@@ -42,6 +48,6 @@ returns c = λ task past stands.
     let none = sym c.is_some.ensures ∙ c.if-is_some.false in
     let runs = runs-where_none task old past _ none stands in
     fed-by task old _ past _ _ _ _ none (fed-bytes task old _ past _ _ _ _ c.allowed-allowed.ensures
-    c.answer-2.ensures runs (c.is_past.ensures.within c.if-is_past.false)
+    c.answer-2.ensures runs (λ (more : 0 < length c.args.bytes.now). grind arith)
     (c.feed-used.ensures.fed task past runs) c.feed-used.ensures.count (c.feed-used.ensures.soon task past
     runs))

@@ -1,0 +1,64 @@
+-- The satellites of the epoch before come again.
+use Rattle.std.proofs.Common.{◌≡◌, ℕ, ◌+◌, ◌<◌, ◌≤◌, List, [], Some, length, take, option_map, ap, sym}
+use Rattle.std.proofs.Common.{◌∙◌, arith, inl, inr, refl, subst}
+use Rattle.std.specs.Str.{bytes_eq}
+use Rattle.std.proofs.lemmas.Option.{get_or_from_slice_get}
+use Rattle.indexmap.specs.IndexMap.{IndexMap, IsUnique}
+use Rattle.crx_header.specs.meaning.ObservationTypes.{Count}
+use Rattle.crx_compact.specs.Entries.{Entry, KeepsTypes, placed_rows}
+use Rattle.crx_compact.specs.EpochLinesRead.{HaveComeAgain, IsAgain}
+use Rattle.crx_compact.specs.Placing.{SatelliteTail, padded, row_of_entry, row_tail_named, satellite_of}
+use Rattle.crx_compact.specs.Tails.{RowTail}
+use Rattle.crx_compact.proofs.Characters.{within-or_past}
+use Rattle.crx_compact.proofs.placing.EntryChanges.{room-here}
+use Rattle.crx_compact.proofs.placing.Ranges.{found-in_range, named-map}
+use Rattle.crx_compact.proofs.placing.SteppedRows.{among-placed, row-at, rows-counted, rows_of}
+
+-- one more
+pub kept-more : (types : List Count) (count : ℕ) (es : List Entry)
+    → ((index : ℕ) → index < count → KeepsTypes types index es) → KeepsTypes types count es
+    → (index : ℕ) → index < count + 1 → KeepsTypes types index es
+kept-more types count es kept last index less = elim (within-or_past count index) [
+  | inl before ↦ kept index before
+  | inr behind ↦
+      let same : count ≡ index = omega (arith, less, behind) in
+      subst (λ i. KeepsTypes types i es) same last
+]
+
+-- where no row has come, no satellite has
+pub none-placed : (placed live : ℕ) (es : List Entry) → (placed ≤ live) × (live ≤ length es)
+    → rows_of placed es ≡ [] → placed ≡ 0
+none-placed placed live es order none =
+    let few = order.0 in
+    let all = order.1 in
+    omega (arith, ap length none, rows-counted placed es (omega (arith, few, all)))
+
+module _ {S : Type 0} (m : IndexMap (List ℕ) SatelliteTail S) (unique : IsUnique bytes_eq m)
+    (types : List Count) (live : ℕ)
+    (kept : (index : ℕ) → index < live → KeepsTypes types index m.entries) where
+  one-again : (i : ℕ) → i < live → (k : KeepsTypes types i m.entries)
+      → IsAgain types (placed_rows 0 live m.entries) (row_of_entry k.entry)
+  one-again i less k =
+      let e = k.entry in
+      let there : row_tail_named e.0 (rows_of live m.entries) ≡ Some (row_of_entry e) =
+      named-map (λ (row : RowTail). row.name) row_of_entry e.0 (take live m.entries)
+      ∙ ap (option_map row_of_entry)
+      (found-in_range 0 live m.entries i e unique k.there (omega arith) less) in
+      record {
+        typed = k.typed;
+        own = ap (padded (satellite_of (row_of_entry e))) there ∙ k.own;
+        room = room-here m i e.0 e.1 e.1 unique k.there (length e.1.cells) k.room;
+      }
+
+  pub come-again : HaveComeAgain types (placed_rows 0 live m.entries) (placed_rows live live m.entries)
+  come-again = record {
+    rows = refl;
+    rooms = refl;
+    again = λ i d less.
+        let below = among-placed live i m.entries less in
+        let k = kept i below in
+        let at = row-at live less k.there in
+        subst (IsAgain types (placed_rows 0 live m.entries))
+        (sym (get_or_from_slice_get (rows_of live m.entries) i (row_of_entry k.entry) d at.there))
+        (one-again i below k);
+  }

@@ -1,0 +1,31 @@
+use Rattle.std.proofs.Common.{sym, subst, arith, drop, length, map, take, ◌≡◌, ◌∙◌}
+use Rattle.crx_compact.specs.Entries.{placed_rows}
+use Rattle.crx_compact.specs.EpochLinesRead.{HaveComeAgain}
+use Rattle.crx_compact.specs.Placing.{row_of_entry}
+use Rattle.crx_compact.proofs.placing.Again.{come-again, none-placed}
+use Rattle.crx_compact.proofs.placing.SteppedRows.{rows-counted}
+use Rattle.crx_compact.proofs.satellites.Satellites.come_again.Goals as goal
+
+pub returns-clause-again : goal.returns-clause-again
+returns-clause-again c =
+    let self = c.self.inside in
+    let es = self.known.entries in
+    let types = c.args.types.now in
+    let same = c.if-count-self.false in
+    let none = none-placed self.placed self.live es c.self.invariant
+    (rw (← c.self.view_is) at c.requires.none) in
+    let come = come-again self.known c.keep_types.ensures.unique types self.live
+    (λ index less. c.if-not-keep_types.ensures.kept index (omega (arith, less, same))) in
+    rw (← c.self.view_is) (subst (λ n. HaveComeAgain types (placed_rows n self.live es)
+    (placed_rows c.args.count self.live es)) (sym none)
+    (subst (λ n. HaveComeAgain types (placed_rows 0 self.live es) (placed_rows n self.live es)) (sym same)
+    come))
+
+pub returns-clause-counted : goal.returns-clause-counted
+returns-clause-counted c =
+    let self = c.self.inside in
+    let es = self.known.entries in
+    let none = none-placed self.placed self.live es c.self.invariant
+    (rw (← c.self.view_is) at c.requires.none) in
+    rw (← c.self.view_is) (subst (λ n. c.args.count ≡ length (map row_of_entry (drop n (take self.live es))))
+    (sym none) (c.if-count-self.false ∙ sym (rows-counted self.live es c.self.invariant.1)))

@@ -1,0 +1,11 @@
+use Rattle.std.proofs.lemmas.Grind.{common_steps}
+use Rattle.std.proofs.Common.{arith}
+use Rattle.crx_text.proofs.{CodeTexts.code_of-code_text, ReadBack.number_of-number_text}
+use Rattle.crx_text.proofs.laws.numbers_are_read_back.Goals as goal
+
+pub returns : goal.returns
+returns c = record {
+  observation = grind (arith, common_steps, number_of-number_text);
+  clock = grind (arith, common_steps, number_of-number_text);
+  code = code_of-code_text _ c.requires.code;
+}
