@@ -78,6 +78,9 @@ int main(int count, char **words) {
             expand(&compaction, &answer, &expansion);
         }
     }
+    if (ferror(file)) {
+        return 1;
+    }
     demand_good(rnxcmp_end(&compaction, &answer), &answer);
     expand(&compaction, &answer, &expansion);
     demand_good(rnxcmp_end(&expansion, &answer), &answer);

@@ -164,13 +164,14 @@ int rnxcmp_check(const void *input, size_t input_length, void *output, size_t ou
  *             write_what_is_ready(&handle, &answer);
  *         }
  *     }
- *     if (status == RNXCMP_GOOD) {
+ *     if (status == RNXCMP_GOOD && !ferror(input)) {
  *         status = rnxcmp_end(&handle, &answer);
  *         write_what_is_ready(&handle, &answer);
  *     }
  *     rnxcmp_close(&handle);
  *
- * where write_what_is_ready empties both texts, of which the answer says how much is ready:
+ * A read that failed isn't the input's end. What write_what_is_ready does is to empty both texts, of which the answer says how much is
+ * ready:
  *
  *     while (answer->output_length > 0 || answer->messages_length > 0) {
  *         size_t output_length = answer->output_length, messages_length = answer->messages_length;

@@ -66,8 +66,8 @@ _rnxcmp_file() {
     [[ ${COMP_WORDS[1]} == rnx2crx ]] && choices+=' -e --date'
     case ${COMP_WORDS[1]}$2 in
         rnx2crx-* | crx2rnx-*) mapfile -t COMPREPLY < <(compgen -W "$choices" -- "$2") ;;
-        rnx2crx*) _rnxcmp_files '*.@(rnx|RNX|[0-9][0-9][oO])?(.gz)' "$2" ;;
-        crx2rnx*) _rnxcmp_files '*.@(crx|CRX|[0-9][0-9][dD])?(.gz)' "$2" ;;
+        rnx2crx*) _rnxcmp_files '*.@(rnx|RNX|[0-9][0-9][oO])?(.gz|.Z)' "$2" ;;
+        crx2rnx*) _rnxcmp_files '*.@(crx|CRX|[0-9][0-9][dD])?(.gz|.Z)' "$2" ;;
     esac
 }
 

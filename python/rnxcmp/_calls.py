@@ -134,11 +134,16 @@ def _level_outside() -> int:
     return level
 
 
-def _warn_of(lines: bytes) -> None:
-    """Issues the warnings among whole lines of messages."""
+def warn(text: str) -> None:
+    """Issues a warning."""
+    warnings.warn(text, RnxcmpWarning, stacklevel=_level_outside())
+
+
+def _warn_of(lines: bytes, tell: Callable[[str], None] = warn) -> None:
+    """Tells the warnings among whole lines of messages."""
     for line in lines.decode("ascii").splitlines():
         if line.startswith("WARNING "):
-            warnings.warn(line[len("WARNING ") :], RnxcmpWarning, stacklevel=_level_outside())
+            tell(line[len("WARNING ") :])
 
 
 def _error_of(answer: Answer, output: bytes) -> Optional[Exception]:
@@ -294,6 +299,7 @@ class Stream:
         self._rooms = _Rooms(READY, _LINES)
         self._line = b""  # the first part of a message whose rest isn't taken yet
         self._is_given = True  # whether all outputs that were asked for are given
+        self.on_warning: Callable[[str], None] = warn  # what is called with each warning
         answer = Answer()
         opening(ctypes.byref(self._handle), *arguments, ctypes.byref(answer))
         error = _error_of(answer, b"")
@@ -351,7 +357,7 @@ class Stream:
             )
             ready = rooms.answer
             whole, end, self._line = (self._line + lines).rpartition(b"\n")
-            _warn_of(whole + end)
+            _warn_of(whole + end, self.on_warning)
             if output:
                 yield output
         error = _error_of(answer, b"")

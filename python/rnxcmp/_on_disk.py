@@ -1,15 +1,14 @@
 """One file beside the other, as users of the package ``hatanaka`` know the calls."""
 
 import os
-import warnings
 from pathlib import Path
 from typing import Optional, Union
 
-from ._calls import RnxcmpWarning, _level_outside
+from ._calls import warn
 from ._files import ensure_known, is_compact, is_observation
 from ._names import is_named_as_input, other_name, unpacked_name
-from ._packed import UnsupportedError, text_of
-from ._whole import COMPACTION, COPY, EXPANSION, Choices, Whole
+from ._packed import UnsupportedError
+from ._whole import COMPACTION, COPY, EXPANSION, Choices, Input, Whole
 
 PathLike = Union[str, "os.PathLike[str]"]
 
@@ -18,20 +17,16 @@ _FIRST_LINE = 82  # bytes of a file that say what it is
 
 def _start_of(path: str) -> bytes:
     """The first bytes of a file's text."""
-    descriptor = os.open(path, os.O_RDONLY | os.O_CLOEXEC)
+    source = Input(path)
     try:
         start = b""
-        for piece in text_of(descriptor):
+        for piece in source.text():
             start += piece
             if len(start) >= _FIRST_LINE:
                 break
         return start
     finally:
-        os.close(descriptor)
-
-
-def _warn(text: str) -> None:
-    warnings.warn(text, RnxcmpWarning, stacklevel=_level_outside())
+        source.close()
 
 
 def _other_name_of(path: str, direction: str) -> str:
@@ -53,7 +48,7 @@ def _ensure_name(source: str, target: str, is_compact_text: bool, is_rinex: bool
 
 
 def _do(path: str, target: str, choices: Choices) -> Path:
-    return Path(Whole(path, choices, target, _warn).run().output)
+    return Path(Whole(path, choices, target, warn).run().output)
 
 
 def get_decompressed_path(path: PathLike) -> Path:

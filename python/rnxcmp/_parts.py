@@ -27,8 +27,9 @@ class NoLinks(OSError):
 @contextmanager
 def _whole() -> Iterator[None]:
     """Has signals that ask the run to end wait until this is done, so that no part is left."""
-    before = signal.pthread_sigmask(signal.SIG_BLOCK, (signal.SIGHUP, signal.SIGINT, signal.SIGTERM))
+    before = signal.pthread_sigmask(signal.SIG_BLOCK, ())
     try:
+        signal.pthread_sigmask(signal.SIG_BLOCK, (signal.SIGHUP, signal.SIGINT, signal.SIGTERM))
         yield
     finally:
         signal.pthread_sigmask(signal.SIG_SETMASK, before)
@@ -60,11 +61,20 @@ def _has_lock(descriptor: int) -> bool:
     return True
 
 
+def _opened_old(folder: int, name: str) -> int:
+    """An old part. Some network disks lock only what may be written to, and a part of an input that may only be read can't be."""
+    more = os.O_NOFOLLOW | os.O_NONBLOCK | os.O_CLOEXEC
+    try:
+        return os.open(name, os.O_RDWR | more, dir_fd=folder)
+    except PermissionError:
+        return os.open(name, os.O_RDONLY | more, dir_fd=folder)
+
+
 def _remove_old(folder: int) -> None:
     """Removes the parts of runs that were killed: those that nobody has locked."""
     for name in os.listdir(folder):
         try:
-            old = os.open(name, os.O_RDWR | os.O_NOFOLLOW | os.O_NONBLOCK | os.O_CLOEXEC, dir_fd=folder)
+            old = _opened_old(folder, name)
         except OSError:
             continue
         try:
@@ -111,39 +121,39 @@ def _made_part(folder: int, name: str) -> int:
 
 
 class Part:
-    """A file that is being made for a place. It is locked until it is put there, or removed."""
+    """A file that is being made for a place. Whoever begins it has to remove what is left of it, also where that failed."""
 
     def __init__(self, place: str) -> None:
-        head, self._place = os.path.split(place)
+        self._head, self._place = os.path.split(place)
         self._folder_name = f".rnxcmp-file.{os.geteuid()}"
         self._name = f"part.{os.getpid()}.{os.urandom(8).hex()}"
         self._open: List[int] = []
         self._file = -1
-        try:
-            with _whole():
-                self._home = os.open(head or ".", _FOLDER)
-                self._open.append(self._home)
-                self._begin()
-                self._file = os.open(self._name, os.O_WRONLY | os.O_NOFOLLOW | os.O_CLOEXEC, dir_fd=self._folder)
-        except BaseException:
-            self.remove()
-            raise
 
-    def _begin(self) -> None:
+    def begin(self) -> None:
+        """Makes it, empty. It is locked until it is put into place, or removed."""
+        with _whole():
+            self._home = os.open(self._head or ".", _FOLDER)
+            self._open.append(self._home)
+            self._make()
+            self._file = os.open(self._name, os.O_WRONLY | os.O_NOFOLLOW | os.O_CLOEXEC, dir_fd=self._folder)
+
+    def _make(self) -> None:
         """Makes the folder and the part; again, where other runs removed the one or the other meanwhile."""
         for _ in range(_TRIES):
             try:
                 self._folder = _opened_folder(self._home, self._folder_name)
             except FileNotFoundError:
                 continue
+            self._open.append(self._folder)
             try:
                 made = _made_part(self._folder, self._name)
             except FileNotFoundError:
                 made = -1
             if made >= 0:
-                self._open += [self._folder, made]
+                self._open.append(made)
                 return
-            os.close(self._folder)
+            os.close(self._open.pop())
         raise OSError(errno.EBUSY, "other runs remove the folder of parts again and again", self._folder_name)
 
     def write(self, data: bytes) -> None:
@@ -195,6 +205,13 @@ class Part:
 
     def remove(self) -> None:
         """Removes what is left beside the place, and frees all."""
+        try:
+            self._free()
+        except BaseException:  # a signal came right before it had to wait
+            self._free()
+            raise
+
+    def _free(self) -> None:
         with _whole():
             if self._file >= 0:
                 self._open.append(self._file)

@@ -89,7 +89,7 @@ def _parser() -> argparse.ArgumentParser:
         parser.add_argument(flag, action="store_true")
     for flag, name in (("-f", "force"), ("-s", "skip"), ("-q", "quiet"), ("-h", "help"), ("--help", "help")):
         parser.add_argument(flag, dest=name, action="store_true")
-    parser.add_argument("--inputs", dest="more")
+    parser.add_argument("--inputs", dest="more", action="append")
     parser.add_argument("--verified-to", dest="list")
     parser.add_argument("-e", dest="every")
     parser.add_argument("--date")
@@ -109,12 +109,14 @@ def _arguments(words: Sequence[str]) -> argparse.Namespace:
         _refuse(REMOVES_NOTHING)
     if found.direction not in (COMPACTION, EXPANSION):
         _refuse(f"neither rnx2crx nor crx2rnx: {quoted(found.direction)}" if found.direction else "rnx2crx or crx2rnx is missing")
-    if found.more is not None:
-        found.inputs += _listed(found.more)
+    if found.more:
+        found.inputs += [name for one in found.more for name in _listed(one)]
     elif not found.inputs:
         _refuse("the input is missing")
     if "" in (*found.inputs, found.output, found.list):
         _refuse("an empty name")
+    if "-" in (found.output, found.list):
+        _refuse("no file is written to standard output; ./- is the name of a file")
     if found.output is not None and len(found.inputs) > 1:
         _refuse("-o names one output, and there is more than one input")
     if found.direction == EXPANSION and (found.every is not None or found.date is not None):
@@ -243,10 +245,14 @@ class VerifiedList:
         self._place = place
         self._counted = (EXACT, NORMAL_FORM) if normal_form else (EXACT,)
         self._found: List[Tuple[str, Done]] = []
-        if os.path.lexists(place):
+        self._part = Part(place)
+
+    def begin(self) -> None:
+        """Makes the file's part, so that it is known at once where it can't be made."""
+        if os.path.lexists(self._place):
             raise FileError("file exists")
         try:
-            self._part = Part(place)
+            self._part.begin()
         except OSError as error:
             raise FileError(f"cannot write beside it: {error.strerror}") from None
 
@@ -289,7 +295,8 @@ def _done_with(name: str, choices: Choices, output: Optional[str], printer: Prin
     try:
         return Whole(name, choices, output, lambda text: printer.say(name, f"WARNING {text}")).run(), ""
     except (RnxcmpError, MemoryError) as error:
-        return None, f"ERROR {error}" if str(error).startswith("line ") else f"ERROR: {error}"
+        words = str(error) or "out of memory"  # of which Python says nothing
+        return None, f"ERROR {words}" if words.startswith("line ") else f"ERROR: {words}"
     except OSError as error:
         return None, f"ERROR: {error.strerror or error}"
 
@@ -321,16 +328,16 @@ def _run(found: argparse.Namespace) -> int:
     printer = Printer(found)
     if found.list is None:
         return _do_all(found, printer, None)
+    verified = VerifiedList(found.list, found.normal_form)
     try:
-        verified = VerifiedList(found.list, found.normal_form)
-        try:
-            status = _do_all(found, printer, verified)
-            changed = verified.put()
-        finally:
-            verified.remove()
+        verified.begin()
+        status = _do_all(found, printer, verified)
+        changed = verified.put()
     except FileError as error:
         printer.say(found.list, f"ERROR: {error}")
         return FAILED
+    finally:
+        verified.remove()
     if changed:
         printer.say(found.list, f"ERROR: {changed} files changed after they were verified, and aren't in it")
     return FAILED if changed else status

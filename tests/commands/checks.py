@@ -22,7 +22,7 @@ MANUAL = TOP / "packaging/man/rnxcmp.1"
 NAMES = ("rnxcmp", "RNX2CRX", "CRX2RNX", "rnx2crx", "crx2rnx")
 ALL_NAMES = (*NAMES, "rnxcmp-file")  # of which each has a manual page and completions
 WIDTH = 80  # of a terminal, for help and manual
-FILES = ("abcd0010.24o", "a.crx", "b c.rnx", "a.rnx.gz", "a.24d.gz")  # among which completions choose
+FILES = ("abcd0010.24o", "a.crx", "b c.rnx", "a.rnx.gz", "a.24d.gz", "a.24d.Z")  # among which completions choose
 # words so far, and the words that complete them
 COMPLETIONS = (
     ("rnxcmp ", ["rnx2crx", "crx2rnx", "check", "-h", "--help"]),
@@ -44,8 +44,8 @@ COMPLETIONS = (
     ("rnxcmp-file rnx2crx --gzip a", ["abcd0010.24o", "a.rnx.gz"]),
     ("rnxcmp-file rnx2crx -e 30 --verify abc", ["abcd0010.24o"]),
     ("rnxcmp-file rnx2crx -e ", []),
-    ("rnxcmp-file crx2rnx a", ["a.crx", "a.24d.gz"]),
-    ("rnxcmp-file crx2rnx a.crx a", ["a.crx", "a.24d.gz"]),
+    ("rnxcmp-file crx2rnx a", ["a.crx", "a.24d.gz", "a.24d.Z"]),
+    ("rnxcmp-file crx2rnx a.crx a", ["a.crx", "a.24d.gz", "a.24d.Z"]),
     ("rnxcmp-file check a", []),
 )
 # what fish and zsh are to offer among other things, for words so far
@@ -56,7 +56,7 @@ OFFERED = (
     ("rnxcmp-file rnx2crx --", ["--gzip", "--no-gzip", "--verify", "--verified-to", "--json", "--date"]),
     ("rnxcmp-file crx2rnx --", ["--gzip", "--no-gzip", "--verify", "--inputs", "--normal-form"]),
     ("rnxcmp-file rnx2crx a", ["abcd0010.24o", "a.rnx.gz"]),
-    ("rnxcmp-file crx2rnx a", ["a.crx", "a.24d.gz"]),
+    ("rnxcmp-file crx2rnx a", ["a.crx", "a.24d.gz", "a.24d.Z"]),
 )
 
 

@@ -172,8 +172,11 @@ def asked_to_end(texts):
 
 
 def children_of(process):
-    text = Path(f"/proc/{process.pid}/task/{process.pid}/children").read_text()
-    return [int(word) for word in text.split()]
+    """Those that there are. The kernel may leave one out while another process ends."""
+    path = Path(f"/proc/{process.pid}/task/{process.pid}/children")
+    while not (words := path.read_text().split()):
+        time.sleep(0.002)
+    return [int(word) for word in words]
 
 
 def calls_on(place, words, calls):

@@ -5,14 +5,16 @@ import json
 import os
 import pty
 import random
+import re
 import shutil
 import stat
 import subprocess
 import sys
 
-from place import DATE, ENVIRONMENT, GOOD, OLD, SECONDS, TOOL, Place, changed_epoch, marked, padded
+from place import DATE, ENVIRONMENT, GOOD, OLD, SECONDS, TOOL, Place, changed_epoch, is_traced, marked, padded
 
 PACKED = gzip.compress(GOOD)
+ANOTHER_USER = ("setpriv", "--reuid=65534", "--regid=65534", "--clear-groups")
 STRANGE = [b"a b", b"it's", b"$(touch x)", b'"q"', b"new\nline", b"tab\t`id`", b"\xff\xfe", "\u00e9t\u00e9".encode(), b"-f", b"a;b&c", b"#a", b"\x1b[2J"]
 
 
@@ -65,7 +67,8 @@ def refusals(texts):
     wrong = []
     for words, said in (
         ((), "rnx2crx or crx2rnx is missing"), (("pack", "a.rnx"), "neither rnx2crx nor crx2rnx"), (("rnx2crx",), "the input is missing"),
-        (("rnx2crx", ""), "an empty name"), (("rnx2crx", "a.rnx", "-o", ""), "an empty name"), (("rnx2crx", "a.rnx", "b.rnx", "-o", "c"), "-o names one output"),
+        (("rnx2crx", ""), "an empty name"), (("rnx2crx", "a.rnx", "-o", ""), "an empty name"), (("rnx2crx", "a.rnx", "-o", "-"), "no file is written to standard output"),
+        (("rnx2crx", "a.rnx", "--verified-to", "-"), "no file is written to standard output"), (("rnx2crx", "a.rnx", "b.rnx", "-o", "c"), "-o names one output"),
         (("crx2rnx", "a.rnx", "-e", "2"), "belong to rnx2crx"), (("crx2rnx", "a.rnx", "--date", "x"), "belong to rnx2crx"),
         (("rnx2crx", "a.rnx", "-e", "0"), "from 1 to 1000000"), (("rnx2crx", "a.rnx", "-e", "1000001"), "from 1 to 1000000"), (("rnx2crx", "a.rnx", "-e", "x"), "from 1"),
         (("rnx2crx", "a.rnx", "-e", "9" * 5000), "from 1 to 1000000"),
@@ -139,7 +142,7 @@ def lists(texts):
 
 
 def lists_of_inputs(texts):
-    """--inputs: names with everything in them, also from standard input; one without a NUL, and one that isn't there, are refused."""
+    """--inputs: names with everything in them, also from standard input or two lists; one without a NUL, or that isn't there, is refused."""
     wrong = []
     with Place() as place:
         for name in ("a b.rnx", "c\nd.rnx"):
@@ -147,7 +150,10 @@ def lists_of_inputs(texts):
         place.write("list", b"a b.rnx\0c\nd.rnx\0")
         place.write("half", b"a b.rnx\0c\nd.rnx")
         place.write("empty", b"")
+        place.write("e.rnx", GOOD)
+        place.write("another", b"e.rnx\0")
         wrong += differs(place.run_in_child("rnx2crx", "-q", "--inputs", "list"), 0, ["2 files: 2 made"])
+        wrong += differs(place.run_in_child("rnx2crx", "-q", "--inputs", "list", "--inputs", "another"), 0, ["3 files: 1 made, 0 replaced, 2 there already"])
         with open(place.work / "list", "rb") as listed:
             run = subprocess.run([*TOOL, "rnx2crx", "-q", "--inputs", "-"], cwd=place.work, env=ENVIRONMENT, capture_output=True, text=True, stdin=listed)
         wrong += differs(run, 0, ["2 files: 0 made, 0 replaced, 2 there already"])
@@ -311,7 +317,7 @@ def modes(texts):
         os.chown(source, 65534, 23456)
         source.chmod(0o664)
         place.work.chmod(0o777)
-        run = place.run("rnx2crx", "b.rnx", through=("setpriv", "--reuid=65534", "--regid=65534", "--clear-groups"))
+        run = place.run("rnx2crx", "b.rnx", through=ANOTHER_USER)
         other = (place.work / "b.crx").stat() if (place.work / "b.crx").exists() else None
         return wrong + differs(run, 0, ["b.crx"]) + ([] if other and (other.st_uid, other.st_gid, stat.S_IMODE(other.st_mode)) == (65534, 65534, 0o604) else [f"{other}"])
 
@@ -333,6 +339,79 @@ def old_parts(texts):
         wrong += [] if sorted(left) == [folder.name, f"{folder.name}/part.1.used"] else [f"left: {left}"]
         wrong += differs(place.run_in_child("rnx2crx", "a.rnx", "-f"), 0)
         return wrong + ([] if not place.parts() else [f"left: {place.parts()}"])
+
+
+def old_parts_of_readable_inputs(texts):
+    """A part that may only be read, as its input, is removed too, by a user who isn't root."""
+    if os.geteuid() or not shutil.which("setpriv"):
+        return "only root becomes another user"
+    with Place() as place:
+        place.work.chmod(0o777)
+        place.write("a.rnx", GOOD)
+        folder = place.work / ".rnxcmp-file.65534"
+        folder.mkdir(0o700)
+        part = folder / "part.1.old"
+        part.write_bytes(b"half")
+        part.chmod(0o444)
+        for path in (folder, part):
+            os.chown(path, 65534, 65534)
+        run = place.run("rnx2crx", "a.rnx", through=ANOTHER_USER)
+        return differs(run, 0, ["made a.crx"]) + ([] if not place.parts() else [f"left: {place.parts()}"])
+
+
+def no_memory(texts):
+    """Where Python's own memory runs out the message says so."""
+    script = "import rnxcmp.files as it\ndef whole(*_): raise MemoryError\nit.Whole = whole\nit.main(['rnx2crx', 'a.rnx'])"
+    run = subprocess.run([sys.executable, "-S", "-c", script], env=ENVIRONMENT, capture_output=True, text=True, timeout=SECONDS)
+    return [] if run.stderr == "a.rnx: ERROR: out of memory\n" else [f"{run}"]
+
+
+INTERRUPTED = """
+import os, sys
+from rnxcmp._parts import Part
+
+class Signal(BaseException):
+    pass
+
+def traced(frame, event, _):
+    global left
+    if frame.f_code.co_filename.endswith("_parts.py") and event == "line" and frame.f_code.co_name != "remove":
+        left -= 1
+        if left == 0:
+            raise Signal
+    return traced
+
+for number in range(1, 100):
+    left, part = number, Part("a.crx")
+    part.begin()
+    sys.settrace(traced)
+    try:
+        part.remove()
+    except Signal:
+        pass
+    sys.settrace(None)
+    if os.listdir() or left > 0:
+        print(number, os.listdir())
+        break
+"""
+
+
+def interrupted_removal(texts):
+    """No part is left where a signal comes while it is removed, at whatever line."""
+    with Place() as place:
+        run = subprocess.run([sys.executable, "-S", "-c", INTERRUPTED], cwd=place.work, env=ENVIRONMENT, capture_output=True, text=True, timeout=SECONDS)
+        return [] if re.fullmatch(r"[1-9][0-9] \[\]\n", run.stdout) else [f"{run.stdout!r}, {run.stderr!r}"]
+
+
+def no_room_for_a_part(texts):
+    """Where a part can't be made, the folder that was made for it is removed."""
+    if not is_traced():
+        return "strace may not trace here"
+    with Place() as place:
+        place.write("a.rnx", GOOD)
+        through = ("strace", "-f", "-qq", "-o", "/dev/null", "-e", "trace=flock", "-e", "inject=flock:error=EIO:when=2")
+        run = place.run("rnx2crx", "a.rnx", through=through)
+        return differs(run, 1, errors=["cannot write beside a.crx: Input/output error"]) + ([] if not place.parts() else [f"left: {place.parts()}"])
 
 
 FROM_PYTHON = """
@@ -387,6 +466,43 @@ def from_python(texts):
     return wrong
 
 
+def unreadable_from_python(texts):
+    """What can't be read is an RnxcmpError too, which says why; nobody waits for a pipe."""
+    wrong = []
+    for call in ("compress_on_disk", "decompress_on_disk"):
+        for name, said in (("none.rnx", "cannot read this file: No such file or directory"), ("folder.rnx", "this is a folder, not a file"), ("pipe.rnx", "this is no regular file")):
+            with Place() as place:
+                (place.work / "folder.rnx").mkdir()
+                os.mkfifo(place.work / "pipe.rnx")
+                run = subprocess.run([sys.executable, "-S", "-c", FROM_PYTHON, call, name, "{}"], cwd=place.work, env=ENVIRONMENT, capture_output=True, text=True, timeout=SECONDS)
+                wrong += [] if run.stdout.startswith(f"FileError {said}\n") else [f"{call} {name}: {run.stdout!r}, {run.stderr!r}"]
+    return wrong
+
+
+OF_THREADS = """
+import sys, warnings, rnxcmp
+from concurrent.futures import ThreadPoolExecutor
+sys.setswitchinterval(1e-6)
+caught = []
+warnings.showwarning = show = lambda *it: caught.append(it)
+warnings.simplefilter("always", rnxcmp.RnxcmpWarning)
+before = list(warnings.filters)
+with ThreadPoolExecutor(8) as pool:
+    list(pool.map(lambda name: rnxcmp.compress_on_disk(name, skip_strange_epochs=True), sys.argv[1:]))
+print(len(caught), warnings.filters == before, warnings.showwarning is show)
+"""
+
+
+def warnings_of_threads(texts):
+    """Threads that skip epochs of their files warn of each, and leave the process's warnings as they were."""
+    names = [f"{number}.rnx" for number in range(200)]
+    with Place() as place:
+        for name in names:
+            place.write(name, changed_epoch(GOOD))
+        run = subprocess.run([sys.executable, "-S", "-c", OF_THREADS, *names], cwd=place.work, env=ENVIRONMENT, capture_output=True, text=True, timeout=SECONDS)
+        return [] if run.stdout == "200 True True\n" else [f"{run.stdout!r}, {run.stderr!r}"]
+
+
 def quoting(texts):
     """A shell reads a quoted name as the name."""
     sys.path.insert(0, ENVIRONMENT["PYTHONPATH"])
@@ -402,7 +518,8 @@ def quoting(texts):
 
 CHECKS = (
     output_names, choices_of_the_filter, refusals, help_text, names, lists, lists_of_inputs, list_of_replaced_outputs, lines, progress, packs,
-    shorter_and_longer, no_gzip_program, no_epoch, modes, old_parts, from_python, quoting,
+    shorter_and_longer, no_gzip_program, no_epoch, modes, old_parts, old_parts_of_readable_inputs, interrupted_removal, no_room_for_a_part, no_memory,
+    from_python, unreadable_from_python, warnings_of_threads, quoting,
 )  # fmt: skip
 
 

@@ -63,11 +63,14 @@ def check_cases_in_pieces(b, handles, answers):
 
 
 def check_loop(b, answers):
-    """The loop of the header, as a program, gives what the program gives."""
+    """The loop of the header, as a program, gives what the program gives; of an input that can't be read it makes no end."""
     program, lacking = built(b.work, b.library, "loop", COUNTED)
     if program is None:
         return lacking
-    wrong = []
+    folder = os.open("/", os.O_RDONLY)
+    run = subprocess.run([program, "rnx2crx", "0", "0", ""], stdin=folder, capture_output=True, timeout=60)
+    os.close(folder)
+    wrong = [] if (run.returncode, run.stdout, run.stderr) == (9, b"", b"") else [f"a folder: {run}"]
     for call, result in answers:
         if is_dated(call) and call.every == 0:
             words = [KINDS[call.kind], str(int(call.skip)), "0", call.date.decode()]

@@ -1,7 +1,8 @@
 /*
  * The loop of the header, as a program: loop rnx2crx|crx2rnx|check SKIP MAX_OUTPUT DATE < INPUT > OUTPUT, with the messages on standard
- * error. It exits with the status. Where LOOP_FIGURES names a file, it gets two lines: the growths of memory that the handle met up to the
- * byte that LOOP_AFTER gives, and after it up to the last one; and the most bytes that it held up to that byte, and up to the last one.
+ * error. It exits with the status, or with 9 where its input couldn't be read. Where LOOP_FIGURES names a file, it gets two lines: the
+ * growths of memory that the handle met up to the byte that LOOP_AFTER gives, and after it up to the last one; and the most bytes that it
+ * held up to that byte, and up to the last one.
  */
 #define _GNU_SOURCE
 #include "counted.h"
@@ -54,7 +55,7 @@ int main(int count, char **words) {
         }
     }
     growths_after = growths - growths_before, most_after = most_held;
-    if (status == RNXCMP_GOOD) {
+    if (status == RNXCMP_GOOD && !ferror(stdin)) {
         status = rnxcmp_end(&handle, &answer);
         write_what_is_ready(&handle, &answer);
     }
@@ -65,5 +66,5 @@ int main(int count, char **words) {
         fprintf(file, "%llu %llu\n%zu %zu\n", (unsigned long long)growths_before, (unsigned long long)growths_after, most_before - held_before, most_after - held_before);
         fclose(file);
     }
-    return status;
+    return ferror(stdin) ? 9 : status;
 }

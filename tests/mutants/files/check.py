@@ -25,7 +25,7 @@ ABOUT = {  # words in the names of the checks that are about a file
     "_whole.py": ("the input", "another", "damaged", "a folder", "output is", "changed", "part that", "in use", "nothing", "shorter"),
     "_packed.py": ("packs", "output names"),
     "_names.py": ("quoting", "output names", "names"),
-    "_on_disk.py": ("from python",),
+    "_on_disk.py": ("from python", "unreadable"),
     "files.py": ("lists", "lines", "refusals", "asked", "progress", "names", "list"),
 }
 
